@@ -1,0 +1,52 @@
+//! The error numbers of the calls, and want of memory.
+ghost use Rattle.std.specs.Prelude.{◌≡◌};
+ghost use Rattle.tx_base.specs.Errors.{error_number};
+
+use std::alloc::{AllocError, AllocFailed};
+
+/// An error of a call. Its number is the one that the call answers, as a negative number.
+#[derive(Clone, Copy, PartialEq, Eq, Debug, Default)]
+pub enum Errno {
+    /// EPERM
+    #[default]
+    NotPermitted,
+    /// ESRCH
+    NoSuchProcess,
+    /// EAGAIN
+    TryAgain,
+    /// EFAULT
+    BadAddress,
+    /// EINVAL
+    InvalidArgument,
+}
+
+impl Errno {
+    /// The positive number of the error (own numbers, those of Linux).
+    pub fn number(self) -> u8
+        ensures { result ≡ error_number self }
+    {
+        match self {
+            Errno::NotPermitted => 1,
+            Errno::NoSuchProcess => 3,
+            Errno::TryAgain => 11,
+            Errno::BadAddress => 14,
+            Errno::InvalidArgument => 22,
+        }
+    }
+}
+
+/// A growth of memory was refused.
+#[derive(Clone, Copy, PartialEq, Eq, Debug)]
+pub struct NoMemory;
+
+impl From<AllocError> for NoMemory {
+    fn from(_refused: AllocError) -> NoMemory {
+        NoMemory
+    }
+}
+
+impl<T: Drop> From<AllocFailed<T>> for NoMemory {
+    fn from(_refused: AllocFailed<T>) -> NoMemory {
+        NoMemory
+    }
+}

@@ -1,0 +1,162 @@
+//! What a process asks for, and what it is answered.
+ghost use Rattle.std.specs.Prelude.{◌≡◌};
+
+use crate::names::{Missed, Pid};
+use arrayvec::ArrayVec;
+
+/// A call of a process. A number that a program computes is an `i64`; each value out of range
+/// has its stated error.
+#[derive(Debug, Drop)]
+pub enum Call {
+    /// Maps a page of zeros that may be written. Own rule.
+    Map(i64),
+    /// Takes a page out. Own rule.
+    Unmap(i64),
+    /// Says whether a page may be written. Own rule.
+    Protect(i64, bool),
+    /// Stores bytes from an address on. Own rule.
+    Store(i64, ArrayVec<u8, 64>),
+    /// Reads the byte at an address. Own rule.
+    Load(i64),
+    /// Begins a transaction. Own rule.
+    SysXbegin,
+    /// Begins a transaction that defers deliveries to its members. Own rule.
+    SysXbeginDefer,
+    /// Ends the caller's part of its transaction. Own rule.
+    SysXend,
+    /// Aborts the caller's transaction. Own rule.
+    SysXabort,
+}
+
+/// One event of the kernel.
+#[derive(Debug, Drop)]
+pub enum Step {
+    /// A process makes a call.
+    Call(Pid, Call),
+    /// The kernel aborts the live transaction of a starter.
+    KernelAbort(Pid),
+}
+
+/// Why a step was not accepted. A refused step changes nothing.
+#[derive(Clone, Copy, PartialEq, Eq, Debug)]
+pub enum Refusal {
+    /// N1: no process of that number.
+    NoProcess,
+    /// N2: it has ended.
+    NotRunning,
+    /// N3: a chosen number is out of range.
+    BadNumber,
+    /// N4: a chosen number is in use.
+    NumberTaken,
+    /// N5: its transaction is doomed.
+    Doomed,
+    /// N6: it has ended its part of its transaction.
+    Parked,
+    /// N7: SIGKILL is pending at it, and the step does not deliver it.
+    KillPending,
+    /// N8: the transaction of the holder is in the way.
+    Busy { holder: Pid },
+    /// N9: the call waits.
+    Wait,
+    /// N10: the signal can't be delivered now.
+    NotDeliverable,
+    /// N11: a caught delivery with four frames in use.
+    FramesFull,
+    /// N12: the starter has no live transaction.
+    NoTransaction,
+    /// N13: a growth of memory was refused.
+    NoMemory,
+    /// N14: the transaction defers the delivery.
+    Deferred,
+}
+
+/// What a step is answered.
+#[derive(Debug, Drop)]
+pub enum Reply {
+    /// The call's answer; a POSIX error is the negative error number.
+    Done(i64),
+    /// The process ended.
+    Ended,
+    /// The transaction was committed; these held sends could not be delivered.
+    Committed { undelivered: ArrayVec<Missed, 33> },
+    /// The transaction was aborted, with this status.
+    Aborted(u16),
+    /// Bytes for the console.
+    Out(ArrayVec<u8, 64>),
+    /// The step was not accepted.
+    No(Refusal),
+}
+
+/// A step that was accepted, with its reply: what a history holds.
+#[derive(Debug, Drop)]
+pub struct Accepted {
+    pub step: Step,
+    pub reply: Reply,
+}
+
+/// An equal list of bytes.
+fn copy_bytes(bytes: &ArrayVec<u8, 64>) -> ArrayVec<u8, 64>
+    ensures { result ≡ bytes.now }
+{
+    let mut copy = ArrayVec::new();
+    let _fits = copy.try_extend_from_slice(bytes.as_slice());
+    copy
+}
+
+/// An equal list of sends that were not delivered.
+fn copy_missed(missed: &ArrayVec<Missed, 33>) -> ArrayVec<Missed, 33>
+    ensures { result ≡ missed.now }
+{
+    let mut copy = ArrayVec::new();
+    let _fits = copy.try_extend_from_slice(missed.as_slice());
+    copy
+}
+
+impl Call {
+    /// An equal call. It takes no memory.
+    pub fn copy(&self) -> Call
+        ensures { result ≡ self.now }
+    {
+        match self {
+            Call::Map(page) => Call::Map(*page),
+            Call::Unmap(page) => Call::Unmap(*page),
+            Call::Protect(page, writable) => Call::Protect(*page, *writable),
+            Call::Store(address, bytes) => Call::Store(*address, copy_bytes(bytes)),
+            Call::Load(address) => Call::Load(*address),
+            Call::SysXbegin => Call::SysXbegin,
+            Call::SysXbeginDefer => Call::SysXbeginDefer,
+            Call::SysXend => Call::SysXend,
+            Call::SysXabort => Call::SysXabort,
+        }
+    }
+}
+
+impl Step {
+    /// An equal step. It takes no memory.
+    pub fn copy(&self) -> Step
+        ensures { result ≡ self.now }
+    {
+        match self {
+            Step::Call(pid, call) => Step::Call(*pid, call.copy()),
+            Step::KernelAbort(starter) => Step::KernelAbort(*starter),
+        }
+    }
+}
+
+impl Reply {
+    /// An equal reply. It takes no memory.
+    pub fn copy(&self) -> Reply
+        ensures { result ≡ self.now }
+    {
+        match self {
+            Reply::Done(ret) => Reply::Done(*ret),
+            Reply::Ended => Reply::Ended,
+            Reply::Committed { undelivered } => Reply::Committed {
+                undelivered: copy_missed(undelivered),
+            },
+            Reply::Aborted(status) => Reply::Aborted(*status),
+            Reply::Out(bytes) => Reply::Out(copy_bytes(bytes)),
+            Reply::No(refusal) => Reply::No(*refusal),
+        }
+    }
+}

@@ -1,0 +1,243 @@
+-- States that agree at an object agree there after the same writes, posts and closing.
+use Rattle.std.proofs.Common.{◌≡◌, ◌≢◌, ℕ, Bool, true, false, List, [], ◌∷◌, ℤ, Option, Some, None, if◌then◌else◌, ◌==◌, refl, sym, ap, ap₂, ◌∙◌, subst, eqb-true}
+use Rattle.tx_model.specs.State.{Process, Description, State, Sending, Object, Proc, Desc, Pipe, Held, Write, SetProc, SetDesc, SetPipe, SetHeld, put_at, write_one, written, has_parent, names_at, end_of, AgreePart, AgreeFamily, AgreeAt}
+use Rattle.tx_model.specs.Posts.{is_realtime, has_room, may_signal, is_quiet, with_queued, with_pending, with_signal, received, post, posts}
+use Rattle.tx_model.specs.Effects.{Closing, Replies, AnswersPost, ListsFailed, Effect, noted_if, first_answer, closed, applied}
+
+pub part_refl : (S : State) (o : Object) → AgreePart S S o
+part_refl S (Proc n) = refl
+part_refl S (Desc n) = refl
+part_refl S (Pipe n) = refl
+part_refl S (Held n) = refl
+
+pub part_sym : (S R : State) (o : Object) → AgreePart S R o → AgreePart R S o
+part_sym S R (Proc n) h = sym h
+part_sym S R (Desc n) h = sym h
+part_sym S R (Pipe n) h = sym h
+part_sym S R (Held n) h = sym h
+
+pub part_trans : (S R Q : State) (o : Object) → AgreePart S R o → AgreePart R Q o → AgreePart S Q o
+part_trans S R Q (Proc n) h k = h ∙ k
+part_trans S R Q (Desc n) h k = h ∙ k
+part_trans S R Q (Pipe n) h k = h ∙ k
+part_trans S R Q (Held n) h k = h ∙ k
+
+family_refl : (S : State) (o : Object) → AgreeFamily S S o
+family_refl S (Proc n) = λ ne q. refl
+family_refl S (Desc n) = λ q f. refl
+family_refl S (Pipe n) = λ d. refl
+family_refl S (Held n) = tt
+
+family_sym : (S R : State) (o : Object) → AgreeFamily S R o → AgreeFamily R S o
+family_sym S R (Proc n) h = λ ne q. sym (h ne q)
+family_sym S R (Desc n) h = λ q f. sym (h q f)
+family_sym S R (Pipe n) h = λ d. sym (h d)
+family_sym S R (Held n) h = tt
+
+family_trans : (S R Q : State) (o : Object) → AgreeFamily S R o → AgreeFamily R Q o → AgreeFamily S Q o
+family_trans S R Q (Proc n) h k = λ ne q. h ne q ∙ k ne q
+family_trans S R Q (Desc n) h k = λ q f. h q f ∙ k q f
+family_trans S R Q (Pipe n) h k = λ d. h d ∙ k d
+family_trans S R Q (Held n) h k = tt
+
+pub agree_refl : (S : State) (o : Object) → AgreeAt S S o
+agree_refl S o = record { width = refl; part = part_refl S o; family = family_refl S o }
+
+pub agree_sym : (S R : State) (o : Object) → AgreeAt S R o → AgreeAt R S o
+agree_sym S R o h = record { width = sym h.width; part = part_sym S R o h.part; family = family_sym S R o h.family }
+
+pub agree_trans : (S R Q : State) (o : Object) → AgreeAt S R o → AgreeAt R Q o → AgreeAt S Q o
+agree_trans S R Q o h k = record { width = h.width ∙ k.width; part = part_trans S R Q o h.part k.part; family = family_trans S R Q o h.family k.family }
+
+-- states of the same width that have the same at each object are the same
+pub state_ext : (S R : State) → S.width ≡ R.width → ((o : Object) → AgreePart S R o) → S ≡ R
+state_ext S R w h = λ i. record { width = w i; procs = λ n. h (Proc n) i; descs = λ n. h (Desc n) i; pipes = λ n. h (Pipe n) i; held = λ n. h (Held n) i }
+
+-- a value put in both maps, seen through a function
+put_same : {A B : Type 0} (g : A → B) (f k : ℕ → A) (p : ℕ) (v : A) (n : ℕ) → g (f n) ≡ g (k n) → g (put_at f p v n) ≡ g (put_at k p v n)
+put_same {A} {B} g f k p v n h = by (n == p)
+  where
+    by : (b : Bool) → g (if b then v else f n) ≡ g (if b then v else k n)
+    by true = refl
+    by false = h
+
+put_part : {A : Type 0} (f k : ℕ → A) (p : ℕ) (v : A) (n : ℕ) → f n ≡ k n → put_at f p v n ≡ put_at k p v n
+put_part {A} f k p v n h = ap (λ (x : A). if n == p then v else x) h
+
+write_part : (w : Write) (S R : State) (o : Object) → AgreePart S R o → AgreePart (write_one w S) (write_one w R) o
+write_part (SetProc p x) S R (Proc n) h = put_part S.procs R.procs p x n h
+write_part (SetProc p x) S R (Desc n) h = h
+write_part (SetProc p x) S R (Pipe n) h = h
+write_part (SetProc p x) S R (Held n) h = h
+write_part (SetDesc p x) S R (Proc n) h = h
+write_part (SetDesc p x) S R (Desc n) h = put_part S.descs R.descs p x n h
+write_part (SetDesc p x) S R (Pipe n) h = h
+write_part (SetDesc p x) S R (Held n) h = h
+write_part (SetPipe p x) S R (Proc n) h = h
+write_part (SetPipe p x) S R (Desc n) h = h
+write_part (SetPipe p x) S R (Pipe n) h = put_part S.pipes R.pipes p x n h
+write_part (SetPipe p x) S R (Held n) h = h
+write_part (SetHeld p x) S R (Proc n) h = h
+write_part (SetHeld p x) S R (Desc n) h = h
+write_part (SetHeld p x) S R (Pipe n) h = h
+write_part (SetHeld p x) S R (Held n) h = put_part S.held R.held p x n h
+
+write_family : (w : Write) (S R : State) (o : Object) → AgreeFamily S R o → AgreeFamily (write_one w S) (write_one w R) o
+write_family (SetProc p x) S R (Proc n) h = λ ne q. put_same (has_parent n) S.procs R.procs p x q (h ne q)
+write_family (SetProc p x) S R (Desc n) h = λ q f. put_same (names_at n f) S.procs R.procs p x q (h q f)
+write_family (SetProc p x) S R (Pipe n) h = h
+write_family (SetProc p x) S R (Held n) h = tt
+write_family (SetDesc p x) S R (Proc n) h = h
+write_family (SetDesc p x) S R (Desc n) h = h
+write_family (SetDesc p x) S R (Pipe n) h = λ d. put_same (end_of n) S.descs R.descs p x d (h d)
+write_family (SetDesc p x) S R (Held n) h = tt
+write_family (SetPipe p x) S R (Proc n) h = h
+write_family (SetPipe p x) S R (Desc n) h = h
+write_family (SetPipe p x) S R (Pipe n) h = h
+write_family (SetPipe p x) S R (Held n) h = tt
+write_family (SetHeld p x) S R (Proc n) h = h
+write_family (SetHeld p x) S R (Desc n) h = h
+write_family (SetHeld p x) S R (Pipe n) h = h
+write_family (SetHeld p x) S R (Held n) h = tt
+
+pub write_width : (w : Write) (S : State) → (write_one w S).width ≡ S.width
+write_width (SetProc p x) S = refl
+write_width (SetDesc p x) S = refl
+write_width (SetPipe p x) S = refl
+write_width (SetHeld p x) S = refl
+
+pub written_part : (ws : List Write) (S R : State) (o : Object) → AgreePart S R o → AgreePart (written ws S) (written ws R) o
+unfolding written
+written_part [] S R o h = h
+written_part (w ∷ ws) S R o h = written_part ws (write_one w S) (write_one w R) o (write_part w S R o h)
+
+written_family : (ws : List Write) (S R : State) (o : Object) → AgreeFamily S R o → AgreeFamily (written ws S) (written ws R) o
+unfolding written
+written_family [] S R o h = h
+written_family (w ∷ ws) S R o h = written_family ws (write_one w S) (write_one w R) o (write_family w S R o h)
+
+pub written_width : (ws : List Write) (S : State) → (written ws S).width ≡ S.width
+unfolding written
+written_width [] S = refl
+written_width (w ∷ ws) S = written_width ws (write_one w S) ∙ write_width w S
+
+-- an edit of a process in place changes no family
+pub record KeepsFamily (g : Option Process → Option Process) : Type 0 where
+  pub parent : (n : ℕ) (x : Option Process) → has_parent n (g x) ≡ has_parent n x
+  pub names : (d f : ℕ) (x : Option Process) → names_at d f (g x) ≡ names_at d f x
+
+abbrev pub edited_at : (Option Process → Option Process) → ℕ → State → State
+edited_at g t S = write_one (SetProc t (g (S.procs t))) S
+
+pub edit_part : (g : Option Process → Option Process) (t : ℕ) (S R : State) (o : Object) → AgreePart S R o → AgreePart (edited_at g t S) (edited_at g t R) o
+edit_part g t S R (Proc n) h = by (n == t) (λ e. eqb-true n t e)
+  where
+    by : (b : Bool) → (b ≡ true → n ≡ t) → (if b then g (S.procs t) else S.procs n) ≡ (if b then g (R.procs t) else R.procs n)
+    by true e = let h' : S.procs t ≡ R.procs t = subst (λ (x : ℕ). S.procs x ≡ R.procs x) (e refl) h in ap g h'
+    by false e = h
+edit_part g t S R (Desc n) h = h
+edit_part g t S R (Pipe n) h = h
+edit_part g t S R (Held n) h = h
+
+-- what a function that the edit keeps sees after the edit in both
+edit_same : {B : Type 0} (view : Option Process → B) (g : Option Process → Option Process) (t : ℕ) (S R : State) → ((x : Option Process) → view (g x) ≡ view x) →
+    ((q : ℕ) → view (S.procs q) ≡ view (R.procs q)) → (q : ℕ) → view (put_at S.procs t (g (S.procs t)) q) ≡ view (put_at R.procs t (g (R.procs t)) q)
+edit_same {B} view g t S R keeps h q = by (q == t)
+  where
+    by : (b : Bool) → view (if b then g (S.procs t) else S.procs q) ≡ view (if b then g (R.procs t) else R.procs q)
+    by true = keeps (S.procs t) ∙ h t ∙ sym (keeps (R.procs t))
+    by false = h q
+
+edit_family : (g : Option Process → Option Process) → KeepsFamily g → (t : ℕ) (S R : State) (o : Object) → AgreeFamily S R o → AgreeFamily (edited_at g t S) (edited_at g t R) o
+edit_family g k t S R (Proc n) h = λ ne q. edit_same (has_parent n) g t S R (k.parent n) (h ne) q
+edit_family g k t S R (Desc n) h = λ q f. edit_same (names_at n f) g t S R (k.names n f) (λ p. h p f) q
+edit_family g k t S R (Pipe n) h = h
+edit_family g k t S R (Held n) h = tt
+
+-- a choice of processes that a function sees as q
+chosen : {B : Type 0} (view : Process → B) (q : Process) (b : Bool) (x y : Process) → view x ≡ view q → view y ≡ view q → view (if b then x else y) ≡ view q
+chosen view q true x y h k = h
+chosen view q false x y h k = k
+
+received_same : {B : Type 0} (view : Process → B) (m : Sending) (q : Process) → view (with_queued m q) ≡ view q → view (with_pending m.signo q) ≡ view q →
+    view (if may_signal m.from q.ids then (if is_quiet m q then q else with_signal m q) else q) ≡ view q
+received_same view m q h k =
+    chosen view q (may_signal m.from q.ids) (if is_quiet m q then q else with_signal m q) q
+    (chosen view q (is_quiet m q) q (with_signal m q) refl
+    (chosen view q (is_realtime m.signo) (if has_room q then with_queued m q else q) (with_pending m.signo q)
+    (chosen view q (has_room q) (with_queued m q) q h refl) k)) refl
+
+pub received_keeps : (m : Sending) → KeepsFamily (received m)
+received_keeps m = record { parent = parent; names = names }
+  where
+    parent : (n : ℕ) (x : Option Process) → has_parent n (received m x) ≡ has_parent n x
+    parent n None = refl
+    parent n (Some q) = received_same (λ (p : Process). has_parent n (Some p)) m q refl refl
+
+    names : (d f : ℕ) (x : Option Process) → names_at d f (received m x) ≡ names_at d f x
+    names d f None = refl
+    names d f (Some q) = received_same (λ (p : Process). names_at d f (Some p)) m q refl refl
+
+pub noted_keeps : (r : ℤ) → KeepsFamily (noted_if r)
+noted_keeps r = record { parent = parent; names = names }
+  where
+    parent : (n : ℕ) (x : Option Process) → has_parent n (noted_if r x) ≡ has_parent n x
+    parent n None = refl
+    parent n (Some q) = refl
+
+    names : (d f : ℕ) (x : Option Process) → names_at d f (noted_if r x) ≡ names_at d f x
+    names d f None = refl
+    names d f (Some q) = refl
+
+pub post_part : (m : Sending) (S R : State) (o : Object) → AgreePart S R o → AgreePart (post m S) (post m R) o
+post_part m S R o h = edit_part (received m) m.target S R o h
+
+pub posts_part : (ms : List Sending) (S R : State) (o : Object) → AgreePart S R o → AgreePart (posts ms S) (posts ms R) o
+unfolding posts
+posts_part [] S R o h = h
+posts_part (m ∷ ms) S R o h = posts_part ms (post m S) (post m R) o (post_part m S R o h)
+
+posts_family : (ms : List Sending) (S R : State) (o : Object) → AgreeFamily S R o → AgreeFamily (posts ms S) (posts ms R) o
+unfolding posts
+posts_family [] S R o h = h
+posts_family (m ∷ ms) S R o h = posts_family ms (post m S) (post m R) o (edit_family (received m) (received_keeps m) m.target S R o h)
+
+posts_width : (ms : List Sending) (S : State) → (posts ms S).width ≡ S.width
+unfolding posts
+posts_width [] S = refl
+posts_width (m ∷ ms) S = posts_width ms (post m S)
+
+closed_part : (c : Closing) (rs : List ℤ) (S R : State) (o : Object) → AgreePart S R o → AgreePart (closed c rs S) (closed c rs R) o
+closed_part (Replies r) rs S R o h = h
+closed_part (AnswersPost p) rs S R o h = edit_part (noted_if (first_answer rs)) p S R o h
+closed_part ListsFailed rs S R o h = h
+
+closed_family : (c : Closing) (rs : List ℤ) (S R : State) (o : Object) → AgreeFamily S R o → AgreeFamily (closed c rs S) (closed c rs R) o
+closed_family (Replies r) rs S R o h = h
+closed_family (AnswersPost p) rs S R o h = edit_family (noted_if (first_answer rs)) (noted_keeps (first_answer rs)) p S R o h
+closed_family ListsFailed rs S R o h = h
+
+closed_width : (c : Closing) (rs : List ℤ) (S : State) → (closed c rs S).width ≡ S.width
+closed_width (Replies r) rs S = refl
+closed_width (AnswersPost p) rs S = refl
+closed_width ListsFailed rs S = refl
+
+pub applied_part : (f : Effect) (rs : List ℤ) (S R : State) (o : Object) → AgreePart S R o → AgreePart (applied f rs S) (applied f rs R) o
+applied_part f rs S R o h =
+    closed_part f.closing rs (posts f.sends (written f.writes S)) (posts f.sends (written f.writes R)) o
+    (posts_part f.sends (written f.writes S) (written f.writes R) o (written_part f.writes S R o h))
+
+applied_family : (f : Effect) (rs : List ℤ) (S R : State) (o : Object) → AgreeFamily S R o → AgreeFamily (applied f rs S) (applied f rs R) o
+applied_family f rs S R o h =
+    closed_family f.closing rs (posts f.sends (written f.writes S)) (posts f.sends (written f.writes R)) o
+    (posts_family f.sends (written f.writes S) (written f.writes R) o (written_family f.writes S R o h))
+
+pub applied_width : (f : Effect) (rs : List ℤ) (S : State) → (applied f rs S).width ≡ S.width
+applied_width f rs S = closed_width f.closing rs (posts f.sends (written f.writes S)) ∙ posts_width f.sends (written f.writes S) ∙ written_width f.writes S
+
+pub applied_keeps : (f : Effect) (rs : List ℤ) (S R : State) (o : Object) → AgreeAt S R o → AgreeAt (applied f rs S) (applied f rs R) o
+applied_keeps f rs S R o h = record {
+  width = applied_width f rs S ∙ h.width ∙ sym (applied_width f rs R);
+  part = applied_part f rs S R o h.part;
+  family = applied_family f rs S R o h.family;
+}

@@ -1,0 +1,10 @@
+pub mod Agree
+pub mod Local
+pub mod Elsewhere
+pub mod Answered
+pub mod Tables
+pub mod Coherence
+pub mod Taken
+pub mod Erased
+pub mod TwoPartsView
+pub mod StepView

@@ -1,0 +1,107 @@
+-- The answer to a step, and the histories of answered steps.
+use Rattle.std.specs.Prelude.{◌≡◌, ℕ, Bool, true, false, not, List, [], ◌∷◌, Option, Some, None, is_some, is_none, if◌then◌else◌}
+use Rattle.tx_base.specs.declared.marks.Mark.{Mark}
+use Rattle.tx_base.specs.declared.steps.Accepted.{Accepted}
+use Rattle.tx_base.specs.declared.steps.Refusal.{Refusal}
+use Rattle.tx_base.specs.declared.steps.Refusal.TheVariants.{NoProcess, NotRunning, BadNumber, NumberTaken, Doomed, Parked, KillPending, Busy, NoTransaction}
+use Rattle.tx_base.specs.declared.steps.Reply.{Reply}
+use Rattle.tx_base.specs.declared.steps.Reply.TheVariants.{Done, Ended, Committed, Aborted, Out, No}
+use Rattle.tx_base.specs.declared.steps.Step.{Step}
+use Rattle.tx_base.specs.declared.steps.Step.TheVariants.{Call as Calls, KernelAbort}
+use Rattle.tx_model.specs.State.{Process, State, is_between}
+use Rattle.tx_model.specs.Posts.{kill_signo}
+use Rattle.tx_model.specs.Events.{Event, reply_of, process_of}
+use Rattle.tx_model.specs.Membership.{Table, is_live, Role, Outside, Within, Commits, Aborts, role, event}
+use Rattle.tx_model.specs.History.{Starters, nobody, table_of, role_in, event_of, left_out_before, stays, without}
+use Rattle.tx_model.specs.View.{View, view, present, has_pending, is_doomed, kernel_status, abort_status, role_on, event_on, holder, next}
+
+abbrev pub is_running : Option Process → Bool
+is_running None = false
+is_running (Some q) = is_none q.status
+
+-- whether a process of that number is there
+abbrev pub is_there : View → ℕ → Bool
+is_there V p = if is_between V.table.width p then is_some ((present V).procs p) else false
+
+-- whether a number that the step chooses is out of range; no call of this set chooses one
+abbrev pub has_bad_number : State → Step → Bool
+has_bad_number S step = false
+
+-- whether a number that the step chooses is in use
+abbrev pub has_taken_number : State → Step → Bool
+has_taken_number S step = false
+
+-- whether the member's transaction is doomed
+abbrev pub is_doomed_at : View → Option Mark → Bool
+is_doomed_at V None = false
+is_doomed_at V (Some m) = is_doomed V m.starter.0
+
+abbrev pub is_parked : Option Mark → Bool
+is_parked None = false
+is_parked (Some m) = m.ended
+
+-- whether SIGKILL is pending at the process, and the step does not deliver it
+abbrev pub is_held_by_kill : State → ℕ → Step → Bool
+is_held_by_kill S p step = has_pending kill_signo (S.procs p)
+
+abbrev pub busy : Option ℕ → Option Refusal
+busy None = None
+busy (Some s) = Some (Busy (record { 0 = s }))
+
+-- why a step of process p is refused before it is made, the first reason that there is
+abbrev pub refusal : View → ℕ → Step → Option Refusal
+refusal V p step =
+    if not (is_there V p) then Some NoProcess else
+    if not (is_running ((present V).procs p)) then Some NotRunning else
+    if has_bad_number (present V) step then Some BadNumber else
+    if has_taken_number (present V) step then Some NumberTaken else
+    if is_doomed_at V (V.table.marks p) then Some Doomed else
+    if is_parked (V.table.marks p) then Some Parked else
+    if is_held_by_kill (present V) p step then Some KillPending else
+    busy (holder V (event_on V step))
+
+-- the reply to a step that is so to the transactions: at an abort its status, else that of its event.
+-- A call that waits and a delivery that can't be made are refused by their rules
+abbrev pub plain_reply : ℕ → Role → Event → State → Reply
+plain_reply status Outside ev S = reply_of ev S
+plain_reply status (Within s part) ev S = reply_of ev S
+plain_reply status (Commits s) ev S = reply_of ev S
+plain_reply status (Aborts s k) ev S = Aborted status
+
+-- the reply to a step that nothing refuses
+abbrev pub accepted_reply : View → Step → Reply
+accepted_reply V step = plain_reply (abort_status V step) (role_on V step) (event_on V step) (present V)
+
+abbrev pub unless_refused : Option Refusal → Reply → Reply
+unless_refused None r = r
+unless_refused (Some why) r = No why
+
+-- the answer to a step
+unfoldable pub answer : View → Step → Reply
+answer V (Calls p call) = unless_refused (refusal V p.0 (Calls p call)) (accepted_reply V (Calls p call))
+answer V (KernelAbort s) = if is_live V.table s.0 then Aborted (kernel_status V s.0) else No NoTransaction
+
+abbrev pub IsAccepted : Reply → Type 0
+IsAccepted (Done r) = Unit {0}
+IsAccepted Ended = Unit {0}
+IsAccepted (Committed undelivered) = Unit {0}
+IsAccepted (Aborted status) = Unit {0}
+IsAccepted (Out bytes) = Unit {0}
+IsAccepted (No why) = ⊥
+
+-- lawful: each reply is the accepted answer to its step on the view of the entries before it
+unfoldable pub Lawful : State → List Accepted → Type 0
+Lawful S [] = Unit {0}
+Lawful S (e ∷ h) = Lawful S h × (answer (view S h) e.step ≡ e.reply) × IsAccepted e.reply
+
+-- at each place whose step survives without X, the reply is that of its event in the plain run of the survivors
+unfoldable pub AgreesWithout : State → Starters → List Accepted → Type 0
+AgreesWithout S X [] = Unit {0}
+AgreesWithout S X (e ∷ h) =
+    (stays (role_in S e h) X ≡ true
+    → e.reply ≡ plain_reply (abort_status (view S h) e.step) (role_in S e h) (event_of S e h) (without S (left_out_before (role_in S e h) X) h))
+    × AgreesWithout S (left_out_before (role_in S e h) X) h
+
+-- agreement: each surviving step's reply is that of its event in the plain run of the survivors
+abbrev pub Agreement : State → List Accepted → Type 0
+Agreement S h = AgreesWithout S nobody h

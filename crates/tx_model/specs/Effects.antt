@@ -1,0 +1,88 @@
+-- What an event does: its writes, then its posts in order, and how it closes.
+use Rattle.std.specs.Prelude.{ℕ, ◌+◌, List, [], ◌∷◌, ◌++◌, ℤ, pos, negsuc, Option, Some, None, if◌then◌else◌, nat_lt, ◌==◌}
+use Rattle.tx_base.specs.declared.names.Regs.{Regs}
+use Rattle.tx_base.specs.declared.names.Missed.{Missed}
+use Rattle.tx_base.specs.declared.errors.Errno.{Errno}
+use Rattle.tx_base.specs.declared.errors.Errno.TheVariants.{NotPermitted, NoSuchProcess, TryAgain}
+use Rattle.tx_base.specs.declared.steps.Refusal.{Refusal}
+use Rattle.tx_base.specs.declared.steps.Reply.{Reply}
+use Rattle.tx_base.specs.declared.steps.Reply.TheVariants.{Done, Committed, No}
+use Rattle.tx_model.specs.State.{Process, Sending, State, Write, SetProc, SetHeld, write_one, written}
+use Rattle.tx_model.specs.Posts.{posts, answers}
+
+pub data Closing : Type 0 where
+  -- with a reply that is known before the posts
+  Replies : Reply → Closing
+  -- with the answer of the one post, which becomes the process's own
+  AnswersPost : ℕ → Closing
+  -- with the list of the posts that failed
+  ListsFailed : Closing
+
+pub record Effect : Type 0 where
+  pub writes : List Write
+  pub sends : List Sending
+  pub closing : Closing
+
+-- adding one at the last point leaves it there
+abbrev pub next_point : ℕ → ℕ
+next_point point = if nat_lt point 65535 then point + 1 else point
+
+abbrev pub answered : ℤ → Regs → Regs
+answered r registers = record { point = next_point registers.point; ret = r; slots = registers.slots }
+
+-- the process with this answer, at its next point
+abbrev pub noted : ℤ → Process → Process
+noted r q = record q { registers = answered r q.registers }
+
+abbrev pub noted_if : ℤ → Option Process → Option Process
+noted_if r None = None
+noted_if r (Some q) = Some (noted r q)
+
+-- nothing is done
+abbrev pub idle : Refusal → Effect
+idle why = record { writes = []; sends = []; closing = Replies (No why) }
+
+-- the process becomes so, but for its answer and its point
+abbrev pub done : ℕ → ℤ → Process → Effect
+done p r me = record { writes = SetProc p (Some (noted r me)) ∷ []; sends = []; closing = Replies (Done r) }
+
+-- the error that a failed post answered
+abbrev pub failed_errno : ℕ → Errno
+failed_errno n = if n == 0 then NotPermitted else (if n == 2 then NoSuchProcess else TryAgain)
+
+-- the sends whose post answered an error, in order
+abbrev pub failed_sends : List Sending → List ℤ → List Missed
+failed_sends [] rs = []
+failed_sends (m ∷ ms) [] = []
+failed_sends (m ∷ ms) (pos n ∷ rs) = failed_sends ms rs
+failed_sends (m ∷ ms) (negsuc n ∷ rs) = record { target = record { 0 = m.target }; signo = record { 0 = m.signo }; errno = failed_errno n } ∷ failed_sends ms rs
+
+abbrev pub first_answer : List ℤ → ℤ
+first_answer [] = pos 0
+first_answer (r ∷ rs) = r
+
+abbrev pub closed : Closing → List ℤ → State → State
+closed (Replies r) rs S = S
+closed (AnswersPost p) rs S = write_one (SetProc p (noted_if (first_answer rs) (S.procs p))) S
+closed ListsFailed rs S = S
+
+abbrev pub closing_reply : Closing → List Sending → List ℤ → Reply
+closing_reply (Replies r) ms rs = r
+closing_reply (AnswersPost p) ms rs = Done (first_answer rs)
+closing_reply ListsFailed ms rs = Committed (record { items = failed_sends ms rs })
+
+-- the state as the effect's posts find it
+abbrev pub before_sends : Effect → State → State
+before_sends f S = written f.writes S
+
+-- the answers of the effect's posts
+abbrev pub sent : Effect → State → List ℤ
+sent f S = answers f.sends (before_sends f S)
+
+-- the state after the effect, where its posts answer so
+abbrev pub applied : Effect → List ℤ → State → State
+applied f rs S = closed f.closing rs (posts f.sends (written f.writes S))
+
+-- the effect of the step that commits the transaction of s: what was held is posted, and nothing is held any more
+abbrev pub committing : ℕ → Effect → State → Effect
+committing s f S = record { writes = f.writes ++ SetHeld s [] ∷ []; sends = f.sends ++ (written f.writes S).held s; closing = ListsFailed }

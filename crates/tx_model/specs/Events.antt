@@ -1,0 +1,70 @@
+-- The plain kernel's events: it knows no reservation and no abort.
+use Rattle.std.specs.Prelude.{◌≡◌, ℕ, Bool, List, [], ◌∷◌, ℤ, Option, Some, None}
+use Rattle.tx_base.specs.declared.steps.Call.{Call}
+use Rattle.tx_base.specs.declared.steps.Step.{Step}
+use Rattle.tx_base.specs.declared.steps.Step.TheVariants.{Call as Calls, KernelAbort}
+use Rattle.tx_base.specs.declared.steps.Refusal.TheVariants.{NoTransaction}
+use Rattle.tx_base.specs.declared.steps.Reply.{Reply}
+use Rattle.tx_base.specs.declared.steps.Reply.TheVariants.{Done}
+use Rattle.tx_model.specs.State.{Process, State, Sending, Object, Proc, Held, SetProc}
+use Rattle.tx_model.specs.Effects.{Effect, Replies, idle, noted_if, sent, applied, closing_reply, committing}
+use Rattle.tx_model.specs.Calls.{effect_at, call_objects}
+
+-- the transaction that a step is made inside of: its starter, its members, and whether it defers deliveries
+pub record Inside : Type 0 where
+  pub starter : ℕ
+  pub members : ℕ → Bool
+  pub defers : Bool
+
+pub data Event : Type 0 where
+  -- a step, inside a transaction or outside
+  Do : Step → Option Inside → Event
+  -- the process is given an answer
+  Note : ℕ → ℤ → Event
+  -- an event that commits the transaction of the starter
+  Commit : ℕ → Event → Event
+
+-- the process whose step it is
+abbrev pub process_of : Step → ℕ
+process_of (Calls p call) = p.0
+process_of (KernelAbort s) = s.0
+
+-- who makes the event
+abbrev pub actor : Event → ℕ
+actor (Do step inside) = process_of step
+actor (Note p r) = p
+actor (Commit s ev) = actor ev
+
+abbrev pub step_effect : Step → State → Effect
+step_effect (Calls p call) S = effect_at p.0 call (S.procs p.0)
+step_effect (KernelAbort s) S = idle NoTransaction
+
+abbrev pub note_effect : ℕ → ℤ → Option Process → Effect
+note_effect p r q = record { writes = SetProc p (noted_if r q) ∷ []; sends = []; closing = Replies (Done r) }
+
+unfoldable pub effect : Event → State → Effect
+effect (Do step inside) S = step_effect step S
+effect (Note p r) S = note_effect p r (S.procs p)
+effect (Commit s ev) S = committing s (effect ev S) S
+
+-- what an event reads and writes, its posts apart
+abbrev pub step_objects : Step → State → List Object
+step_objects (Calls p call) S = call_objects p.0 call S
+step_objects (KernelAbort s) S = Proc s.0 ∷ []
+
+unfoldable pub objects : Event → State → List Object
+objects (Do step inside) S = step_objects step S
+objects (Note p r) S = Proc p ∷ []
+objects (Commit s ev) S = Held s ∷ objects ev S
+
+-- the state after an event, and the reply to it
+unfoldable pub after : Event → State → State
+after ev S = applied (effect ev S) (sent (effect ev S) S) S
+
+unfoldable pub reply_of : Event → State → Reply
+reply_of ev S = closing_reply (effect ev S).closing (effect ev S).sends (sent (effect ev S) S)
+
+-- a plain run, of the newest event first
+unfoldable pub run : State → List Event → State
+run S [] = S
+run S (ev ∷ evs) = after ev (run S evs)

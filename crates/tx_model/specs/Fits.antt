@@ -1,0 +1,42 @@
+-- How an event goes with what its step is to the transactions.
+use Rattle.std.specs.Prelude.{◌≡◌, ℕ, Bool, true, false, List, [], ◌∷◌, ◌⊎◌, ℤ, Option, None}
+use Rattle.tx_model.specs.State.{State, Sending, Object, Proc, Held, has, is_between}
+use Rattle.tx_model.specs.Effects.{Effect}
+use Rattle.tx_model.specs.Events.{Event, Note, actor, effect, objects}
+use Rattle.tx_model.specs.Membership.{Table, is_member_of, is_live, Part, Continues, Parks, Forks, Begins, Role, Outside, Within, Commits, Aborts}
+use Rattle.tx_model.specs.History.{is_other_starter}
+use Rattle.tx_model.specs.View.{View, present, IsClear}
+
+-- the sending is one of the list
+abbrev pub IsIn : Sending → List Sending → Type 0
+IsIn n [] = ⊥
+IsIn n (m ∷ ms) = (n ≡ m) ⊎ IsIn n ms
+
+-- what a step inside a transaction does to the table is right
+abbrev pub PartFits : View → ℕ → ℕ → Event → Part → Type 0
+PartFits V s p ev Continues = is_member_of V.table s p ≡ true
+PartFits V s p ev Parks = is_member_of V.table s p ≡ true
+PartFits V s p ev (Forks c) = (is_member_of V.table s p ≡ true) × (has (Proc c) (objects ev (present V)) ≡ true) × (is_between V.table.width c ≡ true)
+PartFits V s p ev (Begins defers) = (s ≡ p) × (V.table.marks p ≡ None) × (is_between V.table.width p ≡ true)
+
+-- the event is of a member of the transaction, or of its starter to be; it posts among the members, and holds with its own
+pub record FitsWithin (s : ℕ) (part : Part) (ev : Event) (p : ℕ) (V : View) : Type 0 where
+  pub actor_is : actor ev ≡ p
+  pub mine : (t : ℕ) → is_member_of V.table t p ≡ true → t ≡ s
+  pub part_fits : PartFits V s p ev part
+  pub sends : (S : State) (m : Sending) → IsIn m (effect ev S).sends → is_other_starter V.table (actor ev) m.target ≡ false
+  pub holds : (S : State) (u : ℕ) → has (Held u) (objects ev S) ≡ true → u ≡ s
+
+-- how the event goes with the role
+abbrev pub Fits : Role → Event → ℕ → View → Type 0
+Fits Outside ev p V = (t : ℕ) → is_member_of V.table t (actor ev) ≡ false
+Fits (Within s part) ev p V = FitsWithin s part ev p V
+Fits (Commits s) ev p V = is_member_of V.table s (actor ev) ≡ true
+Fits (Aborts s k) ev p V = (is_live V.table s ≡ true) × ((r : ℤ) × (ev ≡ Note s r))
+
+-- an abort is never in anyone's way, any other event has to be clear
+abbrev pub Passes : Role → Event → View → Type 0
+Passes Outside ev V = IsClear V ev
+Passes (Within s part) ev V = IsClear V ev
+Passes (Commits s) ev V = IsClear V ev
+Passes (Aborts s k) ev V = Unit {0}

@@ -1,0 +1,14 @@
+pub mod Memory
+pub mod State
+pub mod Posts
+pub mod Effects
+pub mod Calls
+pub mod Events
+pub mod Membership
+pub mod History
+pub mod View
+pub mod Answer
+pub mod TwoParts
+pub mod Sound
+pub mod Fits
+pub mod Schedules

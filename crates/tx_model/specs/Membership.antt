@@ -1,0 +1,190 @@
+-- Who is in which transaction, and what a step is to the transactions. Own rules.
+use Rattle.std.specs.Prelude.{ℕ, zero, suc, Bool, true, false, not, ◌&&◌, ◌||◌, ℤ, pos, negsuc, Option, Some, None, is_some, if◌then◌else◌, ◌==◌}
+use Rattle.tx_base.specs.declared.marks.Mark.{Mark}
+use Rattle.tx_base.specs.declared.steps.Call.{Call}
+use Rattle.tx_base.specs.declared.steps.Call.TheVariants.{Map, Unmap, Protect, Store, Load, SysXbegin, SysXbeginDefer, SysXend, SysXabort}
+use Rattle.tx_base.specs.declared.steps.Step.{Step}
+use Rattle.tx_base.specs.declared.steps.Step.TheVariants.{Call as Calls, KernelAbort}
+use Rattle.tx_base.specs.declared.steps.Reply.{Reply}
+use Rattle.tx_base.specs.declared.steps.Reply.TheVariants.{Done, Ended, Committed, Aborted, Out, No}
+use Rattle.tx_model.specs.State.{put_at}
+use Rattle.tx_model.specs.Events.{Inside, Event, Do, Note, Commit}
+
+-- for each process number, its mark if it is a member of a live transaction
+pub record Table : Type 0 where
+  -- the greatest process number
+  pub width : ℕ
+  pub marks : ℕ → Option Mark
+
+abbrev pub empty_table : ℕ → Table
+empty_table width = record { width = width; marks = λ n. None }
+
+abbrev pub is_of : ℕ → Option Mark → Bool
+is_of s None = false
+is_of s (Some m) = m.starter.0 == s
+
+-- whether p is a member of the live transaction of s
+abbrev pub is_member_of : Table → ℕ → ℕ → Bool
+is_member_of t s p = is_of s (t.marks p)
+
+-- whether s is the starter of a live transaction: its starter is a member all along
+abbrev pub is_live : Table → ℕ → Bool
+is_live t s = is_of s (t.marks s)
+
+abbrev pub is_open_of : ℕ → Option Mark → Bool
+is_open_of s None = false
+is_open_of s (Some m) = if m.ended then false else m.starter.0 == s
+
+-- whether the transaction of s has a member other than p, of a number up to n, whose part has not ended
+unfoldable pub others_open : Table → ℕ → ℕ → ℕ → Bool
+others_open t s p zero = false
+others_open t s p (suc n) = if others_open t s p n then true else (if suc n == p then false else is_open_of s (t.marks (suc n)))
+
+abbrev pub inside_by : Table → Option Mark → Option Inside
+inside_by t None = None
+inside_by t (Some m) = Some (record { starter = m.starter.0; members = is_member_of t m.starter.0; defers = m.defers })
+
+-- the transaction that a step of p is made inside of
+abbrev pub inside_of : Table → ℕ → Option Inside
+inside_of t p = inside_by t (t.marks p)
+
+-- what a step inside a transaction does to the table
+pub data Part : Type 0 where
+  Continues : Part
+  -- the member ends its part
+  Parks : Part
+  -- the member forks a child, which joins
+  Forks : ℕ → Part
+  -- it is the first step; whether the transaction defers deliveries
+  Begins : Bool → Part
+
+-- what a step is to the transactions
+pub data Role : Type 0 where
+  Outside : Role
+  -- a step of the transaction of the starter, after which it is live
+  Within : ℕ → Part → Role
+  -- the step that ends the last member's part
+  Commits : ℕ → Role
+  -- the abort of the starter's transaction, with its status
+  Aborts : ℕ → ℕ → Role
+
+pub data Kind : Type 0 where
+  Ordinary : Kind
+  Beginning : Bool → Kind
+  Ending : Kind
+  Aborting : Kind
+
+abbrev pub kind_of : Call → Kind
+kind_of (Map page) = Ordinary
+kind_of (Unmap page) = Ordinary
+kind_of (Protect page writable) = Ordinary
+kind_of (Store address bytes) = Ordinary
+kind_of (Load address) = Ordinary
+kind_of SysXbegin = Beginning false
+kind_of SysXbeginDefer = Beginning true
+kind_of SysXend = Ending
+kind_of SysXabort = Aborting
+
+-- whether the reply says that the process ended
+abbrev pub is_end : Reply → Bool
+is_end (Done r) = false
+is_end Ended = true
+is_end (Committed undelivered) = true
+is_end (Aborted status) = false
+is_end (Out bytes) = false
+is_end (No why) = false
+
+abbrev pub status_in : Reply → ℕ
+status_in (Done r) = 0
+status_in Ended = 0
+status_in (Committed undelivered) = 0
+status_in (Aborted status) = status
+status_in (Out bytes) = 0
+status_in (No why) = 0
+
+-- the member p ends its part: the last one commits
+abbrev pub ending_role : Bool → ℕ → Role
+ending_role true s = Within s Parks
+ending_role false s = Commits s
+
+abbrev pub end_of_part : Table → ℕ → ℕ → Role
+end_of_part t s p = ending_role (others_open t s p t.width) s
+
+abbrev pub ordinary_role : Bool → Table → ℕ → ℕ → Role
+ordinary_role true t s p = end_of_part t s p
+ordinary_role false t s p = Within s Continues
+
+abbrev pub called_by_status : ℕ
+called_by_status = 201
+
+abbrev pub kind_role : Table → ℕ → Kind → Reply → Option Mark → Role
+kind_role t p Ordinary r None = Outside
+kind_role t p Ordinary r (Some m) = ordinary_role (is_end r) t m.starter.0 p
+kind_role t p (Beginning defers) r None = Within p (Begins defers)
+kind_role t p (Beginning defers) r (Some m) = Within m.starter.0 Continues
+kind_role t p Ending r None = Outside
+kind_role t p Ending r (Some m) = end_of_part t m.starter.0 p
+kind_role t p Aborting r None = Outside
+kind_role t p Aborting r (Some m) = Aborts m.starter.0 called_by_status
+
+abbrev pub role : Table → Step → Reply → Role
+role t (Calls p call) r = kind_role t p.0 (kind_of call) r (t.marks p.0)
+role t (KernelAbort s) r = Aborts s.0 (status_in r)
+
+-- a number as its negative
+abbrev pub negative : ℕ → ℤ
+negative zero = pos 0
+negative (suc n) = negsuc n
+
+-- the event that stands for a step, its commit apart: at an abort, the note that its starter is given
+abbrev pub kind_event : Table → ℕ → Step → Kind → Option Mark → Event
+kind_event t p step Ordinary mark = Do step (inside_by t mark)
+kind_event t p step (Beginning defers) None = Note p (pos 0)
+kind_event t p step (Beginning defers) (Some m) = Note p (negsuc 21)
+kind_event t p step Ending None = Note p (negsuc 21)
+kind_event t p step Ending (Some m) = Note p (pos 0)
+kind_event t p step Aborting None = Note p (negsuc 21)
+kind_event t p step Aborting (Some m) = Note m.starter.0 (negative called_by_status)
+
+abbrev pub step_event : Table → Step → Reply → Event
+step_event t (Calls p call) r = kind_event t p.0 (Calls p call) (kind_of call) (t.marks p.0)
+step_event t (KernelAbort s) r = Note s.0 (negative (status_in r))
+
+abbrev pub event_in : Role → Event → Event
+event_in Outside ev = ev
+event_in (Within s part) ev = ev
+event_in (Commits s) ev = Commit s ev
+event_in (Aborts s status) ev = ev
+
+-- the plain event that stands for the step
+abbrev pub event : Table → Step → Reply → Event
+event t step r = event_in (role t step r) (step_event t step r)
+
+abbrev pub parked : Option Mark → Option Mark
+parked None = None
+parked (Some m) = Some (record m { ended = true })
+
+abbrev pub defers_in : Option Mark → Bool
+defers_in None = false
+defers_in (Some m) = m.defers
+
+abbrev pub new_mark : ℕ → Bool → Mark
+new_mark s defers = record { starter = record { 0 = s }; ended = false; defers = defers }
+
+-- the mark, unless it is of the transaction of s
+abbrev pub unmarked : ℕ → Option Mark → Option Mark
+unmarked s None = None
+unmarked s (Some m) = if m.starter.0 == s then None else Some m
+
+-- the marks after a step of process p that is so to the transactions
+abbrev pub marks_after : Role → ℕ → (ℕ → Option Mark) → ℕ → Option Mark
+marks_after Outside p marks = marks
+marks_after (Within s Continues) p marks = marks
+marks_after (Within s Parks) p marks = put_at marks p (parked (marks p))
+marks_after (Within s (Forks c)) p marks = put_at marks c (Some (new_mark s (defers_in (marks s))))
+marks_after (Within s (Begins defers)) p marks = put_at marks s (Some (new_mark s defers))
+marks_after (Commits s) p marks = λ n. unmarked s (marks n)
+marks_after (Aborts s status) p marks = λ n. unmarked s (marks n)
+
+abbrev pub table_after : Role → ℕ → Table → Table
+table_after r p t = record { width = t.width; marks = marks_after r p t.marks }

@@ -1,0 +1,33 @@
+-- What a schedule of steps is answered, and the history that it leaves.
+use Rattle.std.specs.Prelude.{List, [], ◌∷◌}
+use Rattle.tx_base.specs.declared.steps.Accepted.{Accepted}
+use Rattle.tx_base.specs.declared.steps.Reply.{Reply}
+use Rattle.tx_base.specs.declared.steps.Reply.TheVariants.{Done, Ended, Committed, Aborted, Out, No}
+use Rattle.tx_base.specs.declared.steps.Step.{Step}
+use Rattle.tx_model.specs.State.{State, Sending, Object, Proc}
+use Rattle.tx_model.specs.View.{view}
+use Rattle.tx_model.specs.Answer.{answer}
+
+-- the history with the step, if it was accepted
+abbrev pub recorded : List Accepted → Step → Reply → List Accepted
+recorded h step (No why) = h
+recorded h step (Done r) = record { step = step; reply = Done r } ∷ h
+recorded h step Ended = record { step = step; reply = Ended } ∷ h
+recorded h step (Committed undelivered) = record { step = step; reply = Committed undelivered } ∷ h
+recorded h step (Aborted status) = record { step = step; reply = Aborted status } ∷ h
+recorded h step (Out bytes) = record { step = step; reply = Out bytes } ∷ h
+
+-- the history of a schedule that follows one, from a start state
+unfoldable pub history_of : State → List Accepted → List Step → List Accepted
+history_of S h [] = h
+history_of S h (step ∷ steps) = history_of S (recorded h step (answer (view S h) step)) steps
+
+-- the answers to its steps in turn
+unfoldable pub answers_of : State → List Accepted → List Step → List Reply
+answers_of S h [] = []
+answers_of S h (step ∷ steps) = answer (view S h) step ∷ answers_of S (recorded h step (answer (view S h) step)) steps
+
+-- the processes that sends go to
+abbrev pub processes_of : List Sending → List Object
+processes_of [] = []
+processes_of (m ∷ ms) = Proc m.target ∷ processes_of ms

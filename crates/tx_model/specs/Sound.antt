@@ -1,0 +1,16 @@
+-- What is so of the view of every history: what stands at an object without some transactions depends
+-- on those alone that touched it.
+use Rattle.std.specs.Prelude.{◌≡◌, ℕ, Bool, true}
+use Rattle.tx_model.specs.State.{Object, Proc, Held, AgreeAt, is_between}
+use Rattle.tx_model.specs.Membership.{is_live, is_member_of}
+use Rattle.tx_model.specs.History.{Starters}
+use Rattle.tx_model.specs.View.{View}
+
+pub record IsSound (V : View) : Type 0 where
+  pub coherent : (X Y : Starters) (o : Object) → ((s : ℕ) → V.touched s o ≡ true → X s ≡ Y s) → AgreeAt (V.without X) (V.without Y) o
+  pub owned_live : (s : ℕ) (o : Object) → V.touched s o ≡ true → is_live V.table s ≡ true
+  pub single : (s t : ℕ) (o : Object) → V.touched s o ≡ true → V.touched t o ≡ true → s ≡ t
+  pub own_procs : (s p : ℕ) → is_member_of V.table s p ≡ true → V.touched s (Proc p) ≡ true
+  pub own_held : (s : ℕ) → is_live V.table s ≡ true → V.touched s (Held s) ≡ true
+  pub held_own : (s t : ℕ) → V.touched s (Held t) ≡ true → s ≡ t
+  pub bounded : (s p : ℕ) → is_member_of V.table s p ≡ true → is_between V.table.width p ≡ true

@@ -1,0 +1,210 @@
+-- The kernel's state, what is written into it, and what two states have in common.
+use Rattle.std.specs.Prelude.{◌≡◌, ◌≢◌, ℕ, zero, suc, Bool, true, false, List, [], ◌∷◌, Option, Some, None, ℤ, pos, if◌then◌else◌, nat_lt, ◌==◌, replicate, slice_index_or}
+use Rattle.tx_base.specs.declared.names.Regs.{Regs}
+use Rattle.tx_model.specs.Memory.{Memory, no_memory}
+
+-- the real, effective and saved ids of the user and of the group (POSIX.1-2017, XBD 3.296 and 3.400)
+pub record Ids : Type 0 where
+  pub real_user : ℕ
+  pub effective_user : ℕ
+  pub saved_user : ℕ
+  pub real_group : ℕ
+  pub effective_group : ℕ
+  pub saved_group : ℕ
+
+-- what a process does about a signal (POSIX.1-2017, XSH 2.4.3)
+pub data Action : Type 0 where
+  Usual : Action
+  Ignored : Action
+  -- to go on at a point, with these signals blocked too
+  Caught : ℕ → ℕ → Action
+
+-- a realtime signal in the queue, with its value
+pub record Queued : Type 0 where
+  pub signo : ℕ
+  pub value : ℤ
+
+-- what a caught signal saved
+pub record Frame : Type 0 where
+  pub registers : Regs
+  pub mask : ℕ
+
+-- a process. A set of signals is a number: the bit of signal n is 2 ^ n
+pub record Process : Type 0 where
+  pub registers : Regs
+  pub parent : ℕ
+  -- nothing while it runs; else the status that it ended with
+  pub status : Option ℕ
+  pub ids : Ids
+  pub memory : Memory
+  -- the description that each descriptor names
+  pub descriptors : List (Option ℕ)
+  pub mask : ℕ
+  pub actions : List Action
+  pub pending : ℕ
+  pub queued : List Queued
+  pub frames : List Frame
+
+pub data Side : Type 0 where
+  ReadSide : Side
+  WriteSide : Side
+
+-- an open description of a pipe (POSIX.1-2017, XBD 3.258)
+pub record Description : Type 0 where
+  pub pipe : ℕ
+  pub side : Side
+  pub nonblock : Bool
+
+-- the real and effective user id of a sender, at the call
+pub record Sender : Type 0 where
+  pub real : ℕ
+  pub effective : ℕ
+
+-- a signal on its way; the kernel's own have no sender
+pub record Sending : Type 0 where
+  pub target : ℕ
+  pub signo : ℕ
+  pub value : ℤ
+  pub from : Option Sender
+
+-- processes, descriptions and pipes by number; and what the members of each live transaction have
+-- handed out so far, by its starter. A description is there while a descriptor names it, a pipe
+-- while a description does; nothing is counted
+pub record State : Type 0 where
+  -- the greatest process number: 64, or 256 on a wide machine
+  pub width : ℕ
+  pub procs : ℕ → Option Process
+  pub descs : ℕ → Option Description
+  pub pipes : ℕ → Option (List ℕ)
+  pub held : ℕ → List Sending
+
+-- what steps name and transactions reserve
+pub data Object : Type 0 where
+  Proc : ℕ → Object
+  Desc : ℕ → Object
+  Pipe : ℕ → Object
+  -- what the transaction of the starter holds
+  Held : ℕ → Object
+
+-- what is put in the place of an object
+pub data Write : Type 0 where
+  SetProc : ℕ → Option Process → Write
+  SetDesc : ℕ → Option Description → Write
+  SetPipe : ℕ → Option (List ℕ) → Write
+  SetHeld : ℕ → List Sending → Write
+
+abbrev pub put_at : {A : Type 0} → (ℕ → A) → ℕ → A → ℕ → A
+put_at f k v n = if n == k then v else f n
+
+abbrev pub write_one : Write → State → State
+write_one (SetProc n x) S = record { width = S.width; procs = put_at S.procs n x; descs = S.descs; pipes = S.pipes; held = S.held }
+write_one (SetDesc n x) S = record { width = S.width; procs = S.procs; descs = put_at S.descs n x; pipes = S.pipes; held = S.held }
+write_one (SetPipe n x) S = record { width = S.width; procs = S.procs; descs = S.descs; pipes = put_at S.pipes n x; held = S.held }
+write_one (SetHeld n x) S = record { width = S.width; procs = S.procs; descs = S.descs; pipes = S.pipes; held = put_at S.held n x }
+
+unfoldable pub written : List Write → State → State
+written [] S = S
+written (w ∷ ws) S = written ws (write_one w S)
+
+-- whether this is a child of process p
+abbrev pub has_parent : ℕ → Option Process → Bool
+has_parent p None = false
+has_parent p (Some q) = q.parent == p
+
+abbrev pub is_number : ℕ → Option ℕ → Bool
+is_number n None = false
+is_number n (Some m) = m == n
+
+-- whether the process's descriptor f names description d
+abbrev pub names_at : ℕ → ℕ → Option Process → Bool
+names_at d f None = false
+names_at d f (Some q) = is_number d (slice_index_or q.descriptors f None)
+
+-- the side of pipe k that this description is, if it is one of that pipe
+abbrev pub end_of : ℕ → Option Description → Option Side
+end_of k None = None
+end_of k (Some d) = if d.pipe == k then Some d.side else None
+
+-- the two states have the same at the object
+abbrev pub AgreePart : State → State → Object → Type 0
+AgreePart S R (Proc n) = S.procs n ≡ R.procs n
+AgreePart S R (Desc n) = S.descs n ≡ R.descs n
+AgreePart S R (Pipe n) = S.pipes n ≡ R.pipes n
+AgreePart S R (Held n) = S.held n ≡ R.held n
+
+-- the two states have the same family of the object: the children of a process (those of process 1
+-- apart), the descriptors that name a description, the ends of a pipe
+abbrev pub AgreeFamily : State → State → Object → Type 0
+AgreeFamily S R (Proc n) = n ≢ 1 → (q : ℕ) → has_parent n (S.procs q) ≡ has_parent n (R.procs q)
+AgreeFamily S R (Desc n) = (q f : ℕ) → names_at n f (S.procs q) ≡ names_at n f (R.procs q)
+AgreeFamily S R (Pipe n) = (d : ℕ) → end_of n (S.descs d) ≡ end_of n (R.descs d)
+AgreeFamily S R (Held n) = Unit {0}
+
+-- the two states are the same at the object, its family and the width included
+pub record AgreeAt (S R : State) (o : Object) : Type 0 where
+  pub width : S.width ≡ R.width
+  pub part : AgreePart S R o
+  pub family : AgreeFamily S R o
+
+abbrev pub same_object : Object → Object → Bool
+same_object (Proc n) (Proc m) = n == m
+same_object (Proc n) (Desc m) = false
+same_object (Proc n) (Pipe m) = false
+same_object (Proc n) (Held m) = false
+same_object (Desc n) (Proc m) = false
+same_object (Desc n) (Desc m) = n == m
+same_object (Desc n) (Pipe m) = false
+same_object (Desc n) (Held m) = false
+same_object (Pipe n) (Proc m) = false
+same_object (Pipe n) (Desc m) = false
+same_object (Pipe n) (Pipe m) = n == m
+same_object (Pipe n) (Held m) = false
+same_object (Held n) (Proc m) = false
+same_object (Held n) (Desc m) = false
+same_object (Held n) (Pipe m) = false
+same_object (Held n) (Held m) = n == m
+
+unfoldable pub has : Object → List Object → Bool
+has o [] = false
+has o (x ∷ xs) = if same_object o x then true else has o xs
+
+-- the two states are the same at each of the objects
+abbrev pub AgreeOn : List Object → State → State → Type 0
+AgreeOn os S R = (o : Object) → has o os ≡ true → AgreeAt S R o
+
+abbrev pub root_ids : Ids
+root_ids = record { real_user = 0; effective_user = 0; saved_user = 0; real_group = 0; effective_group = 0; saved_group = 0 }
+
+abbrev pub first_registers : Regs
+first_registers = record { point = 0; ret = pos 0; slots = replicate 8 (pos 0) }
+
+-- process 1 is the parent of the others, and has none itself
+abbrev pub booted_process : ℕ → Process
+booted_process n = record {
+  registers = first_registers;
+  parent = if n == 1 then 0 else 1;
+  status = None;
+  ids = root_ids;
+  memory = no_memory;
+  descriptors = replicate 16 None;
+  mask = 0;
+  actions = replicate 40 Usual;
+  pending = 0;
+  queued = [];
+  frames = [];
+}
+
+-- whether a number lies in 1 to the limit
+abbrev pub is_between : ℕ → ℕ → Bool
+is_between limit zero = false
+is_between limit (suc n) = nat_lt n limit
+
+-- processes 1 to count run at point 0, and there is nothing else
+abbrev pub booted : ℕ → ℕ → State
+booted width count = record {
+  width = width;
+  procs = λ n. if is_between count n then Some (booted_process n) else None;
+  descs = λ n. None;
+  pipes = λ n. None;
+  held = λ n. [];
+}

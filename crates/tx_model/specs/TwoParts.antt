@@ -1,0 +1,68 @@
+-- A kernel that keeps two parts and one owner for each object: the part as it is, and the part as it
+-- would be without its owner's transaction.
+use Rattle.std.specs.Prelude.{◌≡◌, ℕ, Bool, true, false, List, ◌∷◌, Option, Some, None, is_none, if◌then◌else◌, ◌==◌}
+use Rattle.tx_model.specs.State.{State, Object, Proc, Desc, Pipe, Held, has}
+use Rattle.tx_model.specs.Effects.{Effect, sent, applied}
+use Rattle.tx_model.specs.Events.{Event, effect}
+use Rattle.tx_model.specs.Membership.{Table, Role, Outside, Within, Commits, Aborts, table_after}
+use Rattle.tx_model.specs.History.{Starters, just, footprint, taken_by}
+use Rattle.tx_model.specs.View.{View}
+
+pub record TwoParts : Type 0 where
+  pub now : State
+  pub kept : State
+  pub owner : Object → Option ℕ
+  pub table : Table
+
+abbrev pub in_set : Starters → Option ℕ → Bool
+in_set X None = false
+in_set X (Some s) = X s
+
+abbrev pub is_owner : ℕ → Option ℕ → Bool
+is_owner s None = false
+is_owner s (Some t) = t == s
+
+-- at each object the first state or the second; the width is that of the second
+abbrev pub pick : (Object → Bool) → State → State → State
+pick P S R = record {
+  width = R.width;
+  procs = λ n. if P (Proc n) then S.procs n else R.procs n;
+  descs = λ n. if P (Desc n) then S.descs n else R.descs n;
+  pipes = λ n. if P (Pipe n) then S.pipes n else R.pipes n;
+  held = λ n. if P (Held n) then S.held n else R.held n;
+}
+
+-- the state without the transactions of X
+abbrev pub parts_without : TwoParts → Starters → State
+parts_without c X = pick (λ o. in_set X (c.owner o)) c.kept c.now
+
+unfoldable pub parts_view : TwoParts → View
+parts_view c = record { without = parts_without c; table = c.table; touched = λ s o. is_owner s (c.owner o) }
+
+abbrev pub freed : ℕ → Option ℕ → Option ℕ
+freed s None = None
+freed s (Some t) = if t == s then None else Some t
+
+-- the event as it is made on a state
+abbrev pub made : Event → State → State → State
+made ev S R = applied (effect ev S) (sent (effect ev S) S) R
+
+-- every object of the list is the starter's from now on, and is kept as it is now if nobody owned it
+abbrev pub reserved : ℕ → List Object → Event → Table → TwoParts → TwoParts
+reserved s F ev table c = record {
+  now = made ev c.now c.now;
+  kept = pick (λ o. if has o F then is_none (c.owner o) else false) c.now c.kept;
+  owner = λ o. if has o F then Some s else c.owner o;
+  table = table;
+}
+
+-- the event is made on both sides, as it is on S
+abbrev pub on_both : Event → State → TwoParts → (Object → Option ℕ) → Table → TwoParts
+on_both ev S c owner table = record { now = made ev S S; kept = made ev S c.kept; owner = owner; table = table }
+
+-- the kernel after a step of process p that is so to the transactions
+unfoldable pub parts_next : Role → Event → ℕ → TwoParts → TwoParts
+parts_next Outside ev p c = on_both ev c.now c c.owner (table_after Outside p c.table)
+parts_next (Within s part) ev p c = reserved s (taken_by part s (footprint c.table ev c.now)) ev (table_after (Within s part) p c.table) c
+parts_next (Commits s) ev p c = on_both ev c.now c (λ o. freed s (c.owner o)) (table_after (Commits s) p c.table)
+parts_next (Aborts s status) ev p c = on_both ev (parts_without c (just s)) c (λ o. freed s (c.owner o)) (table_after (Aborts s status) p c.table)

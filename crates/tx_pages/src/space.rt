@@ -1,0 +1,377 @@
+//! The pages of a process, by their numbers.
+ghost use Rattle.std.specs.Bool.{OnTrue};
+ghost use Rattle.std.specs.Option.{option_copied};
+ghost use Rattle.std.specs.Prelude.{◌≡◌, ◌<◌, ◌≤◌, ◌+◌, ◌/◌, IfOk, OnOk, OnErr, length, slice_set};
+ghost use Rattle.tx_model.specs.Memory.{no_memory, page_at, below, all_good, loaded, byte_or_zero, bytes_from, put_bytes};
+ghost use Rattle.tx_pages.specs.Access.{test_of};
+ghost use Rattle.tx_pages.specs.Frames.{written};
+ghost use Rattle.tx_pages.specs.Outcomes.{Maps, Unmaps, Protects, Stores, Loads, Takes, PlansMap, PlansUnmap, PlansProtect, PlansStore, with_pages, AreNumbered};
+
+use crate::errors::PageError;
+use crate::numbers::{Access, number_below};
+use crate::page::Page;
+use crate::plans::{NewPage, NewPages};
+use std::alloc::Global;
+use std::marker::Model;
+use std::mem;
+use tx_base::{ADDRESSES, NoMemory, PAGE_BYTES, PAGES};
+
+/// The pages of a process: numbers 0 to 15. Contracts see what each number has.
+#[derive(Drop)]
+pub struct Space {
+    pages: [Option<Page>; PAGES],
+}
+
+impl Model for Space {
+    ghost use Rattle.std.specs.Prelude.{◌≡◌, length};
+    ghost use Rattle.tx_model.specs.Memory.{Memory};
+
+    ghost Value = { Memory };
+
+    ghost view = { λ space. space.pages };
+
+    ghost invariant = { λ space. length space.pages ≡ 16 };
+}
+
+impl Space {
+    /// No page is mapped.
+    pub fn new() -> Space
+        ensures { result ≡ no_memory }
+    {
+        Space {
+            pages: [
+                None, None, None, None, None, None, None, None, None, None, None, None, None, None,
+                None, None,
+            ],
+        }
+    }
+
+    /// What a page number has; nothing where there is no such number.
+    pub fn page(&self, number: usize) -> Option<&Page>
+        ensures { option_copied result ≡ page_at self.now number }
+    {
+        match self.pages.get(number) {
+            Some(page) => page.as_ref(),
+            None => None,
+        }
+    }
+
+    /// Exchanges what a page number has.
+    pub fn swap_page(&mut self, number: usize, page: &mut Option<Page>)
+        requires { number < 16 }
+        ensures exchanged { self.new ≡ slice_set self.old number page.old }
+        ensures given { page.new ≡ page_at self.old number }
+    {
+        mem::swap(&mut self.pages[number], page);
+    }
+
+    /// An equal copy of what a page number has, which shares the frame.
+    pub fn copy_page(&self, number: usize) -> Result<Option<Page>, NoMemory>
+        ensures { IfOk result (λ page. page ≡ page_at self.now number) }
+    {
+        match self.page(number) {
+            Some(page) => Ok(Some(page.share()?)),
+            None => Ok(None),
+        }
+    }
+
+    /// Equal pages, which share their frames.
+    pub fn copy(&self) -> Result<Space, NoMemory>
+        ensures { IfOk result (λ space. space ≡ self.now) }
+    {
+        let pages = shared(&self.pages)?;
+        Ok(Space { pages })
+    }
+
+    /// Maps a page of zeros that may be written. Own rule.
+    ///
+    /// Invalid where the number is not 0 to 15 or is mapped; NoMemory where a growth is refused.
+    /// The pages are then as they were.
+    pub fn map(&mut self, alloc: Global, page: i64) -> Result<(), PageError>
+        ensures { Maps self.old (below 16 page) result self.new }
+    {
+        let mut new = self.plan_map(alloc, page)?;
+        self.swap_page(new.number, &mut new.page);
+        Ok(())
+    }
+
+    /// Takes a page out. Own rule.
+    ///
+    /// Invalid where the number is not one of a mapped page. The pages are then as they were.
+    pub fn unmap(&mut self, page: i64) -> Result<(), PageError>
+        ensures { Unmaps self.old (below 16 page) result self.new }
+    {
+        let mut new = self.plan_unmap(page)?;
+        self.swap_page(new.number, &mut new.page);
+        Ok(())
+    }
+
+    /// Says whether a page may be written. Own rule.
+    ///
+    /// Invalid where the number is not one of a mapped page. The pages are then as they were.
+    pub fn protect(&mut self, page: i64, writable: bool) -> Result<(), PageError>
+        ensures { Protects writable self.old (below 16 page) result self.new }
+    {
+        let Some(number) = number_below(PAGES, page) else {
+            return Err(PageError::Invalid);
+        };
+        let slot = &mut self.pages[number];
+        if let Some(page) = slot {
+            page.set_writable(writable);
+            return Ok(());
+        }
+        Err(PageError::Invalid)
+    }
+
+    /// Stores bytes from an address on, all of them or none. Own rule.
+    ///
+    /// Fault where the range is not empty and does not lie in 0 to 1,023 on pages that may be
+    /// written; NoMemory where a growth is refused. The pages are then as they were.
+    pub fn store(&mut self, alloc: Global, address: i64, bytes: &[u8]) -> Result<(), PageError>
+        ensures { Stores self.old address bytes.now result self.new }
+    {
+        let new = self.plan_store(alloc, address, bytes)?;
+        self.put_pages(new);
+        Ok(())
+    }
+
+    /// The byte at an address. Own rule.
+    ///
+    /// Fault where the address is not 0 to 1,023 or lies on a page that is not mapped.
+    pub fn load(&self, address: i64) -> Result<u8, PageError>
+        ensures { Loads self.now address result }
+    {
+        let Some(start) = number_below(ADDRESSES, address) else {
+            return Err(PageError::Fault);
+        };
+        match &self.pages[start / PAGE_BYTES] {
+            Some(page) => Ok(page.bytes()[start % PAGE_BYTES]),
+            None => Err(PageError::Fault),
+        }
+    }
+
+    /// Copies bytes out from an address on, as many as there is room for. Own rule.
+    ///
+    /// Fault where the range is not empty and does not lie in 0 to 1,023 on mapped pages. The room
+    /// is then as it was.
+    pub fn take(&self, address: i64, out: &mut [u8]) -> Result<(), PageError>
+        ensures { Takes self.now address out.old result out.new }
+    {
+        if out.is_empty() {
+            return Ok(());
+        }
+        let Some(start) = number_below(ADDRESSES, address) else {
+            return Err(PageError::Fault);
+        };
+        if !self.is_good_at(Access::Read, start, out.len()) {
+            return Err(PageError::Fault);
+        }
+        self.copy_out(start, out);
+        Ok(())
+    }
+
+    /// The page that a map puts in place. Nothing is changed.
+    ///
+    /// Invalid and NoMemory as at `map`.
+    pub fn plan_map(&self, alloc: Global, page: i64) -> Result<NewPage, PageError>
+        ensures { PlansMap self.now (below 16 page) result }
+    {
+        let Some(number) = number_below(PAGES, page) else {
+            return Err(PageError::Invalid);
+        };
+        if self.pages[number].is_some() {
+            return Err(PageError::Invalid);
+        }
+        let zero = Page::zero(alloc)?;
+        Ok(NewPage {
+            number,
+            page: Some(zero),
+        })
+    }
+
+    /// Which page number is to have nothing, by an unmap. Nothing is changed.
+    ///
+    /// Invalid as at `unmap`.
+    pub fn plan_unmap(&self, page: i64) -> Result<NewPage, PageError>
+        ensures { PlansUnmap self.now (below 16 page) result }
+    {
+        let Some(number) = number_below(PAGES, page) else {
+            return Err(PageError::Invalid);
+        };
+        if self.pages[number].is_none() {
+            return Err(PageError::Invalid);
+        }
+        Ok(NewPage { number, page: None })
+    }
+
+    /// The page with the flag, which shares the frame of the present one. Nothing is changed.
+    ///
+    /// Invalid as at `protect`; NoMemory where the frame can't be shared once more.
+    pub fn plan_protect(&self, page: i64, writable: bool) -> Result<NewPage, PageError>
+        ensures { PlansProtect writable self.now (below 16 page) result }
+    {
+        let Some(number) = number_below(PAGES, page) else {
+            return Err(PageError::Invalid);
+        };
+        let Some(present) = &self.pages[number] else {
+            return Err(PageError::Invalid);
+        };
+        let mut page = present.share()?;
+        page.set_writable(writable);
+        Ok(NewPage {
+            number,
+            page: Some(page),
+        })
+    }
+
+    /// The pages that a store puts in place, each with a frame of its own. Nothing is changed.
+    ///
+    /// Fault and NoMemory as at `store`.
+    pub fn plan_store(
+        &self,
+        alloc: Global,
+        address: i64,
+        bytes: &[u8],
+    ) -> Result<NewPages, PageError>
+        ensures { PlansStore self.now address bytes.now result }
+    {
+        if bytes.is_empty() {
+            return Ok(NewPages {
+                pages: Vec::new(alloc),
+            });
+        }
+        let Some(start) = number_below(ADDRESSES, address) else {
+            return Err(PageError::Fault);
+        };
+        if !self.is_good_at(Access::Write, start, bytes.len()) {
+            return Err(PageError::Fault);
+        }
+        let pages = self.plan_good_store(alloc, start, bytes)?;
+        Ok(NewPages { pages })
+    }
+
+    /// Puts planned pages in place.
+    pub fn put_pages(&mut self, new: NewPages)
+        requires { AreNumbered new.pages.items }
+        ensures { self.new ≡ with_pages self.old new.pages.items }
+    {
+        let mut pages = new.pages;
+        for i in 0..pages.len() {
+            let planned = &mut pages[i];
+            self.swap_page(planned.number, &mut planned.page);
+        }
+    }
+
+    /// The new pages for a range that may be written.
+    fn plan_good_store(
+        &self,
+        alloc: Global,
+        start: usize,
+        bytes: &[u8],
+    ) -> Result<Vec<NewPage>, NoMemory>
+        requires { start + length bytes.now ≤ 1024 }
+        ensures after { IfOk result (λ pages. with_pages self.now pages.items ≡ put_bytes self.now start bytes.now) }
+        ensures numbers { IfOk result (λ pages. AreNumbered pages.items) }
+    {
+        let _ = &self.pages;
+        let mut pages = Vec::new(alloc);
+        let mut number = start / PAGE_BYTES;
+        let mut offset = start % PAGE_BYTES;
+        let mut rest = bytes;
+        while !rest.is_empty() {
+            let (front, back) = rest.split_at(rest.len().min(PAGE_BYTES - offset));
+            let page = self.patched(alloc, number, offset, front)?;
+            pages.push(NewPage { number, page })?;
+            number += 1;
+            offset = 0;
+            rest = back;
+        }
+        Ok(pages)
+    }
+
+    /// A page with some of its bytes replaced, in a frame of its own.
+    fn patched(
+        &self,
+        alloc: Global,
+        number: usize,
+        offset: usize,
+        patch: &[u8],
+    ) -> Result<Option<Page>, NoMemory>
+        requires number { number < 16 }
+        requires fits { offset + length patch.now ≤ 64 }
+        ensures { IfOk result (λ page. page ≡ written self.now number offset patch.now) }
+    {
+        match &self.pages[number] {
+            Some(page) => Ok(Some(page.patched(alloc, offset, patch)?)),
+            None => Ok(None),
+        }
+    }
+
+    /// Whether the page that holds an address serves the purpose.
+    fn serves(&self, access: Access, address: usize) -> bool
+        requires { address < 1024 }
+        ensures { result ≡ test_of access (page_at self.now (address / 64)) }
+    {
+        let slot = &self.pages[address / PAGE_BYTES];
+        match access {
+            Access::Read => slot.is_some(),
+            Access::Write => match slot {
+                Some(page) => page.is_writable(),
+                None => false,
+            },
+        }
+    }
+
+    /// Whether a range of bytes is good for the purpose.
+    #[tactic(auto, using(crate::proofs::Ranges::all_good_more))]
+    fn is_good_at(&self, access: Access, start: usize, count: usize) -> bool
+        requires { start < 1024 }
+        ensures tested { result ≡ all_good (test_of access) self.now start count }
+        ensures inside { OnTrue result (start + count ≤ 1024) }
+    {
+        for i in 0..count {
+            if start + i >= ADDRESSES || !self.serves(access, start + i) {
+                return false;
+            }
+        }
+        true
+    }
+
+    /// The byte at an address, 0 where its page is not mapped.
+    fn byte_at(&self, address: usize) -> u8
+        requires { address < 1024 }
+        ensures { result ≡ byte_or_zero (loaded self.now (Some address)) }
+    {
+        match &self.pages[address / PAGE_BYTES] {
+            Some(page) => page.bytes()[address % PAGE_BYTES],
+            None => 0,
+        }
+    }
+
+    /// Copies the bytes from an address on.
+    #[tactic(auto, using(crate::proofs::Ranges::bytes_from_more))]
+    fn copy_out(&self, start: usize, out: &mut [u8])
+        requires { start + length out.old ≤ 1024 }
+        ensures { out.new ≡ bytes_from self.now start (length out.old) }
+    {
+        for (i, byte) in out.iter_mut().enumerate() {
+            *byte = self.byte_at(start + i);
+        }
+    }
+}
+
+/// Equal pages, which share their frames.
+fn shared(pages: &[Option<Page>; PAGES]) -> Result<[Option<Page>; PAGES], NoMemory>
+    ensures { IfOk result (λ copy. copy ≡ pages.now) }
+{
+    let mut copy = [
+        None, None, None, None, None, None, None, None, None, None, None, None, None, None, None,
+        None,
+    ];
+    for i in 0..PAGES {
+        if let Some(page) = &pages[i] {
+            copy[i] = Some(page.share()?);
+        }
+    }
+    Ok(copy)
+}
