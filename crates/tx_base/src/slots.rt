@@ -64,3 +64,40 @@ impl<T: Drop> Slots<T> {
         mem::swap(&mut self.slots[pid.0 as usize - 1], slot);
     }
 }
+
+#[cfg(test)]
+mod tests {
+    use super::*;
+    use crate::limits::{PROCESSES, WIDE_PROCESSES};
+    use std::test::Fail;
+
+    #[test]
+    fn first_and_last_are_kept_apart(rt: HostRuntime) -> Result<(), Fail> {
+        for width in [PROCESSES, WIDE_PROCESSES] {
+            let mut slots: Slots<u8> = Slots::new(rt.alloc(), width)?;
+            assert_eq!(rt; slots.width(), width as usize);
+            assert!(rt; width > 0);
+            let mut first = Some(7);
+            slots.swap(Pid(1), &mut first);
+            assert_eq!(rt; first, None);
+            let mut last = Some(8);
+            slots.swap(Pid(width), &mut last);
+            slots.swap(Pid(width), &mut first);
+            assert_eq!(rt; first, Some(8), "at {width}");
+            assert_eq!(rt; slots.get(Pid(1)).copied(), Some(7));
+            assert_eq!(rt; slots.get(Pid(width)).copied(), None);
+        }
+        Ok(())
+    }
+
+    #[test]
+    fn no_slot_is_empty(rt: HostRuntime) -> Result<(), Fail> {
+        for width in [PROCESSES, WIDE_PROCESSES] {
+            let slots: Slots<u8> = Slots::new(rt.alloc(), width)?;
+            for past in [Pid(0), Pid(width + 1), Pid(u16::MAX)] {
+                assert_eq!(rt; slots.get(past).copied(), None, "at {past:?}");
+            }
+        }
+        Ok(())
+    }
+}

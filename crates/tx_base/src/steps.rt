@@ -160,3 +160,70 @@ impl Reply {
         }
     }
 }
+
+#[cfg(test)]
+mod tests {
+    use super::*;
+    use crate::errors::Errno;
+    use crate::names::Signo;
+    use std::test::Fail;
+
+    fn bytes(bytes: &[u8]) -> ArrayVec<u8, 64> {
+        let mut all = ArrayVec::new();
+        let _fits = all.try_extend_from_slice(bytes);
+        all
+    }
+
+    #[test]
+    fn copied_steps_read_the_same(rt: HostRuntime) -> Result<(), Fail> {
+        for (call, text) in [
+            (Call::Map(-1), "Map(-1)"),
+            (Call::Unmap(15), "Unmap(15)"),
+            (Call::Protect(3, true), "Protect(3, true)"),
+            (Call::Store(5, bytes(&[65, 0])), "Store(5, [65, 0])"),
+            (Call::Load(1023), "Load(1023)"),
+            (Call::SysXbegin, "SysXbegin"),
+            (Call::SysXbeginDefer, "SysXbeginDefer"),
+            (Call::SysXend, "SysXend"),
+            (Call::SysXabort, "SysXabort"),
+        ] {
+            assert_eq!(rt; format!(in rt.alloc(); "{:?}", call.copy())?.as_str(), text);
+            let step = Step::Call(Pid(64), call).copy();
+            let said = format!(in rt.alloc(); "{:?}", step)?;
+            let want = format!(in rt.alloc(); "Call(Pid(64), {text})")?;
+            assert_eq!(rt; said, want);
+        }
+        Ok(())
+    }
+
+    #[test]
+    fn copied_replies_read_the_same(rt: HostRuntime) -> Result<(), Fail> {
+        let mut undelivered = ArrayVec::new();
+        let missed = Missed {
+            target: Pid(2),
+            signo: Signo(9),
+            errno: Errno::NoSuchProcess,
+        };
+        let _fits = undelivered.try_push(missed);
+        for (reply, text) in [
+            (Reply::Done(-22), "Done(-22)"),
+            (Reply::Ended, "Ended"),
+            (
+                Reply::Committed { undelivered },
+                "Committed { undelivered: [Missed { target: Pid(2), signo: Signo(9), errno: NoSuchProcess }] }",
+            ),
+            (Reply::Aborted(201), "Aborted(201)"),
+            (Reply::Out(bytes(&[10])), "Out([10])"),
+            (
+                Reply::No(Refusal::Busy { holder: Pid(3) }),
+                "No(Busy { holder: Pid(3) })",
+            ),
+        ] {
+            assert_eq!(rt;
+                format!(in rt.alloc(); "{:?}", reply.copy())?.as_str(),
+                text
+            );
+        }
+        Ok(())
+    }
+}

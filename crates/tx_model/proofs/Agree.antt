@@ -1,6 +1,6 @@
 -- States that agree at an object agree there after the same writes, posts and closing.
-use Rattle.std.proofs.Common.{◌≡◌, ◌≢◌, ℕ, Bool, true, false, List, [], ◌∷◌, ℤ, Option, Some, None, if◌then◌else◌, ◌==◌, refl, sym, ap, ap₂, ◌∙◌, subst, eqb-true}
-use Rattle.tx_model.specs.State.{Process, Description, State, Sending, Object, Proc, Desc, Pipe, Held, Write, SetProc, SetDesc, SetPipe, SetHeld, put_at, write_one, written, has_parent, names_at, end_of, AgreePart, AgreeFamily, AgreeAt}
+use Rattle.std.proofs.Common.{◌≡◌, ℕ, Bool, true, false, List, [], ◌∷◌, ℤ, Option, Some, None, if◌then◌else◌, ◌==◌, refl, sym, ap, ◌∙◌, subst, eqb-true}
+use Rattle.tx_model.specs.State.{Process, State, Sending, Object, Proc, Desc, Pipe, Held, Write, SetProc, SetDesc, SetPipe, SetHeld, put_at, write_one, written, has_parent, names_at, end_of, AgreePart, AgreeFamily, AgreeAt}
 use Rattle.tx_model.specs.Posts.{is_realtime, has_room, may_signal, is_quiet, with_queued, with_pending, with_signal, received, post, posts}
 use Rattle.tx_model.specs.Effects.{Closing, Replies, AnswersPost, ListsFailed, Effect, noted_if, first_answer, closed, applied}
 

@@ -1,16 +1,15 @@
 -- What stands at an object in the states without some transactions depends on who touched it.
-use Rattle.std.proofs.Common.{◌≡◌, ◌≢◌, ℕ, Bool, true, false, not, List, [], ◌∷◌, ◌++◌, ℤ, Option, Some, None, if◌then◌else◌, ◌==◌, refl, sym, ap, ap₂, ◌∙◌, subst, inl, inr, ◌⊎◌, eq-eqb, eqb-true}
+use Rattle.std.proofs.Common.{◌≡◌, ℕ, Bool, true, false, not, List, [], ◌∷◌, ◌++◌, ℤ, if◌then◌else◌, ◌==◌, refl, sym, ap, ap₂, ◌∙◌, subst, inl, inr, ◌⊎◌, eq-eqb, eqb-true}
 use Rattle.std.proofs.lemmas.Bool.{both_ways, cases_Bool}
-use Rattle.tx_base.specs.declared.marks.Mark.{Mark}
-use Rattle.tx_model.specs.State.{State, Sending, Object, Proc, Desc, Pipe, Held, AgreePart, AgreeAt, AgreeOn, same_object, has, is_between}
+use Rattle.tx_model.specs.State.{State, Sending, Object, Proc, Held, AgreeAt, AgreeOn, same_object, has, is_between}
 use Rattle.tx_model.specs.Effects.{Effect, before_sends, sent}
 use Rattle.tx_model.specs.Posts.{answers}
-use Rattle.tx_model.specs.Events.{Event, Do, Note, Commit, actor, effect, objects, after, reply_of}
+use Rattle.tx_model.specs.Events.{Event, Note, actor, effect, objects, after, reply_of}
 use Rattle.tx_model.specs.Membership.{Table, is_of, is_member_of, is_live, Part, Continues, Parks, Forks, Begins, Role, Outside, Within, Commits, Aborts, unmarked, table_after}
-use Rattle.tx_model.specs.History.{Starters, nobody, just, with_one, less_one, is_other_starter, targets, footprint, taken_by, touched_after}
-use Rattle.tx_model.specs.View.{View, present, meets, differs_at, blocks, in_way, has_two_answers, meets_touched, IsClear, moved, next_by}
+use Rattle.tx_model.specs.History.{Starters, nobody, just, with_one, less_one, is_other_starter, targets, footprint, taken_by}
+use Rattle.tx_model.specs.View.{View, present, meets, in_way, has_two_answers, meets_touched, IsClear, moved, next_by}
 use Rattle.tx_model.specs.Sound.{IsSound}
-use Rattle.tx_model.proofs.Agree.{agree_refl, agree_sym, agree_trans, written_part}
+use Rattle.tx_model.proofs.Agree.{agree_sym, agree_trans, written_part}
 use Rattle.tx_model.proofs.Local.{has_head, has_tail, after_keeps, reply_same, effect_same, objects_same, actor_in}
 use Rattle.tx_model.proofs.Elsewhere.{TargetsIn, effect_fits, after_else, same_true}
 use Rattle.tx_model.specs.Fits.{IsIn, PartFits, FitsWithin, Fits, Passes}

@@ -1,12 +1,11 @@
 -- An event changes nothing but its objects and its targets.
 use Rattle.std.proofs.Common.{◌≡◌, ◌≢◌, ℕ, Bool, true, false, List, [], ◌∷◌, ◌++◌, ℤ, Option, Some, None, if◌then◌else◌, ◌==◌, refl, sym, ap, ◌∙◌, subst, eqb-true}
-use Rattle.std.proofs.lemmas.Bool.{both_ways, cases_Bool}
 use Rattle.tx_base.specs.declared.steps.Call.{Call}
 use Rattle.tx_base.specs.declared.steps.Step.{Step}
 use Rattle.tx_base.specs.declared.steps.Step.TheVariants.{Call as Calls, KernelAbort}
-use Rattle.tx_model.specs.State.{Process, Description, State, Sending, Object, Proc, Desc, Pipe, Held, Write, SetProc, SetDesc, SetPipe, SetHeld, write_one, written, has_parent, names_at, end_of, AgreePart, AgreeAt, same_object, has}
+use Rattle.tx_model.specs.State.{Process, State, Sending, Object, Proc, Desc, Pipe, Held, Write, SetProc, SetDesc, SetPipe, SetHeld, write_one, written, has_parent, names_at, end_of, AgreeAt, same_object, has}
 use Rattle.tx_model.specs.Posts.{received, post, posts}
-use Rattle.tx_model.specs.Effects.{Closing, Replies, AnswersPost, ListsFailed, Effect, noted_if, first_answer, closed, sent, applied}
+use Rattle.tx_model.specs.Effects.{Closing, Replies, AnswersPost, ListsFailed, Effect, noted_if, first_answer, closed, sent}
 use Rattle.tx_model.specs.Calls.{running_effect, effect_at}
 use Rattle.tx_model.specs.Events.{Event, Do, Note, Commit, step_effect, effect, step_objects, objects, after}
 use Rattle.tx_model.proofs.Agree.{agree_refl, agree_trans, KeepsFamily, edited_at, received_keeps, noted_keeps}

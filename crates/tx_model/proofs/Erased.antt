@@ -1,18 +1,18 @@
 -- Each reply of a lawful history is that of the plain run of its survivors.
 use Rattle.std.proofs.Common.{◌≡◌, ℕ, Bool, true, false, List, [], ◌∷◌, ◌++◌, refl, sym, ap, ap₂, ◌∙◌, subst}
-use Rattle.std.proofs.lemmas.Bool.{both_ways, not-true}
+use Rattle.std.proofs.lemmas.Bool.{not-true}
 use Rattle.tx_base.specs.declared.steps.Accepted.{Accepted}
 use Rattle.tx_base.specs.declared.steps.Reply.{Reply}
 use Rattle.tx_base.specs.declared.steps.Step.{Step}
 use Rattle.tx_model.specs.State.{State}
-use Rattle.tx_model.specs.Events.{Event, process_of, actor, after, run}
+use Rattle.tx_model.specs.Events.{Event, process_of, run}
 use Rattle.tx_model.specs.Membership.{Role, Outside, Within, Commits, Aborts, role, event, is_member_of}
 use Rattle.tx_model.specs.History.{Starters, nobody, less_one, table_of, role_in, event_of, left_out_before, stays, placed, survivors, without, touched_of}
-use Rattle.tx_model.specs.View.{View, view, present, abort_status, role_on, event_on, moved, next_by, next}
-use Rattle.tx_model.specs.Answer.{plain_reply, answer, IsAccepted, Lawful, AgreesWithout, Agreement}
+use Rattle.tx_model.specs.View.{View, view, present, abort_status, moved, next_by, next}
+use Rattle.tx_model.specs.Answer.{plain_reply, Lawful, AgreesWithout, Agreement}
 use Rattle.tx_model.specs.Sound.{IsSound}
 use Rattle.tx_model.proofs.Agree.{agree_refl}
-use Rattle.tx_model.specs.Fits.{FitsWithin, Fits, Passes}
+use Rattle.tx_model.specs.Fits.{Fits, Passes}
 use Rattle.tx_model.proofs.Coherence.{sound_by, quiet_reply, outside_quiet, commits_quiet}
 use Rattle.tx_model.proofs.Taken.{IsTaken, taken}
 

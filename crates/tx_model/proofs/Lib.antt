@@ -8,3 +8,4 @@ pub mod Taken
 pub mod Erased
 pub mod TwoPartsView
 pub mod StepView
+pub mod Computed

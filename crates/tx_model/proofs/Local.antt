@@ -1,9 +1,8 @@
 -- What an event does depends on its objects alone.
-use Rattle.std.proofs.Common.{◌≡◌, ℕ, Bool, true, false, List, [], ◌∷◌, ◌++◌, ℤ, Option, Some, None, if◌then◌else◌, ◌==◌, refl, sym, ap, ap₂, ◌∙◌, subst, inl, inr, ◌⊎◌, eq-eqb}
-use Rattle.tx_base.specs.declared.steps.Call.{Call}
+use Rattle.std.proofs.Common.{◌≡◌, ℕ, Bool, true, false, List, [], ◌∷◌, ◌++◌, ℤ, Option, if◌then◌else◌, refl, ap, ap₂, ◌∙◌, subst, eq-eqb}
 use Rattle.tx_base.specs.declared.steps.Step.{Step}
 use Rattle.tx_base.specs.declared.steps.Step.TheVariants.{Call as Calls, KernelAbort}
-use Rattle.tx_model.specs.State.{Process, State, Sending, Object, Proc, Desc, Pipe, Held, SetHeld, written, AgreePart, AgreeAt, AgreeOn, same_object, has}
+use Rattle.tx_model.specs.State.{State, Sending, Object, Proc, Desc, Pipe, Held, SetHeld, written, AgreePart, AgreeAt, AgreeOn, same_object, has}
 use Rattle.tx_model.specs.Effects.{Effect, ListsFailed, sent, applied, closing_reply, committing}
 use Rattle.tx_model.specs.Calls.{effect_at}
 use Rattle.tx_model.specs.Events.{Inside, Event, Do, Note, Commit, actor, note_effect, step_effect, effect, step_objects, objects, after, reply_of}

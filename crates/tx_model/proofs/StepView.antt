@@ -1,15 +1,15 @@
 -- What an accepted step makes of the view, and what an event leaves alone.
-use Rattle.std.proofs.Common.{◌≡◌, ℕ, Bool, true, false, List, [], ◌∷◌, ◌++◌, refl, sym, ap, ap₂, ◌∙◌, subst}
+use Rattle.std.proofs.Common.{◌≡◌, true, false, List, [], ◌∷◌, ◌++◌, refl, ap₂, subst}
 use Rattle.tx_base.specs.declared.steps.Step.{Step}
 use Rattle.tx_base.specs.declared.steps.Reply.{Reply}
 use Rattle.tx_model.specs.State.{State, Sending, Object, Proc, AgreeAt, has}
 use Rattle.tx_model.specs.Events.{Event, process_of, effect, objects, after}
-use Rattle.tx_model.specs.Membership.{Role, role, event}
-use Rattle.tx_model.specs.View.{View, role_on, event_on, next_by, next}
+use Rattle.tx_model.specs.Membership.{Role}
+use Rattle.tx_model.specs.History.{processes_of}
+use Rattle.tx_model.specs.View.{View, role_on, event_on, next}
 use Rattle.tx_model.specs.Answer.{answer, IsAccepted}
 use Rattle.tx_model.specs.Sound.{IsSound}
 use Rattle.tx_model.specs.Fits.{Fits, Passes}
-use Rattle.tx_model.specs.Schedules.{processes_of}
 use Rattle.tx_model.specs.TwoParts.{TwoParts, parts_view, parts_next}
 use Rattle.tx_model.proofs.Local.{has_head, has_tail}
 use Rattle.tx_model.proofs.Elsewhere.{TargetsIn, effect_fits, after_else}

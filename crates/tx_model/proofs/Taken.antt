@@ -1,21 +1,20 @@
 -- An accepted step goes with what it is to the transactions.
-use Rattle.std.proofs.Common.{◌≡◌, ◌<◌, ◌≤◌, ℕ, zero, suc, Bool, true, false, not, List, [], ◌∷◌, ℤ, pos, negsuc, Option, Some, None, is_some, if◌then◌else◌, ◌==◌, nat_lt, refl, sym, ap, ap₂, ◌∙◌, subst, inl, inr, ◌⊎◌, eq-eqb, arith, ltb-true}
-use Rattle.std.proofs.lemmas.Bool.{both_ways, not-true, not-false, cases_Bool, cases_eq}
+use Rattle.std.proofs.Common.{◌≡◌, ◌<◌, ◌≤◌, ℕ, zero, suc, Bool, true, false, not, List, [], ◌∷◌, ℤ, pos, negsuc, Option, Some, None, is_some, if◌then◌else◌, refl, sym, ap, ap₂, ◌∙◌, subst, inl, inr, eq-eqb, arith, ltb-true}
+use Rattle.std.proofs.lemmas.Bool.{both_ways, not-false, cases_Bool, cases_eq}
 use Rattle.tx_base.specs.declared.marks.Mark.{Mark}
 use Rattle.tx_base.specs.declared.names.Pid.{Pid}
 use Rattle.tx_base.specs.declared.steps.Call.{Call}
 use Rattle.tx_base.specs.declared.steps.Refusal.{Refusal}
 use Rattle.tx_base.specs.declared.steps.Refusal.TheVariants.{NoProcess, NotRunning, BadNumber, NumberTaken, Doomed, Parked, KillPending}
 use Rattle.tx_base.specs.declared.steps.Reply.{Reply}
-use Rattle.tx_base.specs.declared.steps.Reply.TheVariants.{Aborted, No}
+use Rattle.tx_base.specs.declared.steps.Reply.TheVariants.{Aborted}
 use Rattle.tx_base.specs.declared.steps.Step.{Step}
 use Rattle.tx_base.specs.declared.steps.Step.TheVariants.{Call as Calls, KernelAbort}
-use Rattle.tx_model.specs.State.{Process, State, Sending, Object, Proc, Held, has, is_between}
-use Rattle.tx_model.specs.Effects.{Effect}
+use Rattle.tx_model.specs.State.{Process, State, Sending, Proc, Held, has, is_between}
 use Rattle.tx_model.specs.Calls.{running_effect, effect_at}
 use Rattle.tx_model.specs.Events.{Inside, Event, Do, Note, Commit, process_of, actor, effect, objects, step_effect, step_objects, reply_of}
-use Rattle.tx_model.specs.Membership.{Table, is_of, is_member_of, is_live, inside_by, Part, Continues, Parks, Begins, Role, Outside, Within, Commits, Aborts, Kind, Ordinary, Beginning, Ending, Aborting, kind_of, is_end, others_open, ending_role, end_of_part, ordinary_role, called_by_status, kind_role, role, negative, kind_event, step_event, event_in, event}
-use Rattle.tx_model.specs.View.{View, present, is_doomed, kernel_status, abort_status, first_reply, role_on, event_on, in_way, least, holder, IsClear}
+use Rattle.tx_model.specs.Membership.{Table, is_member_of, is_live, inside_by, Part, Continues, Parks, Begins, Role, Outside, Within, Commits, Aborts, Kind, Ordinary, Beginning, Ending, Aborting, kind_of, is_end, others_open, ending_role, ordinary_role, called_by_status, kind_role, role, negative, kind_event, step_event, event_in, event}
+use Rattle.tx_model.specs.View.{View, present, kernel_status, abort_status, first_reply, role_on, event_on, in_way, least, holder, IsClear}
 use Rattle.tx_model.specs.Answer.{is_running, is_there, has_bad_number, has_taken_number, is_doomed_at, is_parked, is_held_by_kill, busy, refusal, plain_reply, accepted_reply, unless_refused, answer, IsAccepted}
 use Rattle.tx_model.specs.Sound.{IsSound}
 use Rattle.tx_model.proofs.Tables.{of_unique, of_none}

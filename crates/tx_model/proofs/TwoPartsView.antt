@@ -1,18 +1,18 @@
 -- A kernel of two parts an object has the view of its history.
-use Rattle.std.proofs.Common.{◌≡◌, ℕ, Bool, true, false, not, List, [], ◌∷◌, ◌++◌, ℤ, Option, Some, None, is_none, if◌then◌else◌, ◌==◌, refl, sym, ap, ap₂, ◌∙◌, subst, inl, inr, ◌⊎◌, eq-eqb, eqb-true, ne_eqb}
+use Rattle.std.proofs.Common.{◌≡◌, ℕ, Bool, true, false, not, List, ℤ, Option, Some, None, is_none, if◌then◌else◌, ◌==◌, refl, sym, ap, ap₂, ◌∙◌, subst, inl, inr, ◌⊎◌, eq-eqb, eqb-true, ne_eqb}
 use Rattle.std.proofs.lemmas.Bool.{both_ways, cases_Bool}
-use Rattle.tx_model.specs.State.{State, Object, Proc, Desc, Pipe, Held, AgreePart, AgreeAt, has}
+use Rattle.tx_model.specs.State.{State, Object, Proc, Desc, Pipe, Held, AgreePart, has}
 use Rattle.tx_model.specs.Posts.{answers}
 use Rattle.tx_model.specs.Effects.{Effect, sent, applied}
-use Rattle.tx_model.specs.Events.{Event, Note, actor, note_effect, effect, after}
+use Rattle.tx_model.specs.Events.{Event, Note, note_effect, effect, after}
 use Rattle.tx_model.specs.Membership.{Table, is_member_of, is_live, Part, Role, Outside, Within, Commits, Aborts, table_after}
 use Rattle.tx_model.specs.History.{Starters, nobody, just, with_one, less_one, footprint, taken_by}
-use Rattle.tx_model.specs.View.{View, present, IsClear, moved, next_by}
+use Rattle.tx_model.specs.View.{View, IsClear, moved, next_by}
 use Rattle.tx_model.specs.Sound.{IsSound}
-use Rattle.tx_model.specs.TwoParts.{TwoParts, in_set, is_owner, pick, parts_without, parts_view, freed, made, reserved, on_both, parts_next}
+use Rattle.tx_model.specs.TwoParts.{TwoParts, in_set, is_owner, pick, parts_without, parts_view, freed, reserved, on_both, parts_next}
 use Rattle.tx_model.proofs.Agree.{part_refl, part_sym, part_trans, state_ext, applied_part, applied_width}
 use Rattle.tx_model.specs.Fits.{FitsWithin, Fits, Passes}
-use Rattle.tx_model.proofs.Coherence.{IsQuiet, quiet_effect, quiet_sent, outside_quiet, commits_quiet, less_self, taken_foot, taken_mine, within_else}
+use Rattle.tx_model.proofs.Coherence.{IsQuiet, quiet_effect, quiet_sent, outside_quiet, commits_quiet, taken_foot, taken_mine, within_else}
 
 pub pick_true : (P : Object → Bool) (S R : State) (o : Object) → P o ≡ true → AgreePart (pick P S R) S o
 pick_true P S R (Proc n) h = rw h refl

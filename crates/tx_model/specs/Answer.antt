@@ -1,4 +1,4 @@
--- The answer to a step, and the histories of answered steps.
+-- The answer to a step, and the histories of answered steps. Own rules.
 use Rattle.std.specs.Prelude.{◌≡◌, ℕ, Bool, true, false, not, List, [], ◌∷◌, Option, Some, None, is_some, is_none, if◌then◌else◌}
 use Rattle.tx_base.specs.declared.marks.Mark.{Mark}
 use Rattle.tx_base.specs.declared.steps.Accepted.{Accepted}
@@ -10,10 +10,10 @@ use Rattle.tx_base.specs.declared.steps.Step.{Step}
 use Rattle.tx_base.specs.declared.steps.Step.TheVariants.{Call as Calls, KernelAbort}
 use Rattle.tx_model.specs.State.{Process, State, is_between}
 use Rattle.tx_model.specs.Posts.{kill_signo}
-use Rattle.tx_model.specs.Events.{Event, reply_of, process_of}
-use Rattle.tx_model.specs.Membership.{Table, is_live, Role, Outside, Within, Commits, Aborts, role, event}
-use Rattle.tx_model.specs.History.{Starters, nobody, table_of, role_in, event_of, left_out_before, stays, without}
-use Rattle.tx_model.specs.View.{View, view, present, has_pending, is_doomed, kernel_status, abort_status, role_on, event_on, holder, next}
+use Rattle.tx_model.specs.Events.{Event, reply_of}
+use Rattle.tx_model.specs.Membership.{is_live, Role, Outside, Within, Commits, Aborts}
+use Rattle.tx_model.specs.History.{Starters, nobody, role_in, event_of, left_out_before, stays, without}
+use Rattle.tx_model.specs.View.{View, view, present, has_pending, is_doomed, kernel_status, abort_status, role_on, event_on, holder}
 
 abbrev pub is_running : Option Process → Bool
 is_running None = false

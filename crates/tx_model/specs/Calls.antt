@@ -1,5 +1,5 @@
 -- The call rules: what a call that a process makes does. Own rules, all of this group.
-use Rattle.std.specs.Prelude.{ℕ, Bool, true, false, List, [], ◌∷◌, length, ℤ, pos, negsuc, Option, Some, None, if◌then◌else◌}
+use Rattle.std.specs.Prelude.{ℕ, Bool, true, false, List, [], ◌∷◌, length, ℤ, pos, negsuc, Option, Some, None}
 use Rattle.tx_base.specs.declared.steps.Call.{Call}
 use Rattle.tx_base.specs.declared.steps.Call.TheVariants.{Map, Unmap, Protect, Store, Load, SysXbegin, SysXbeginDefer, SysXend, SysXabort}
 use Rattle.tx_base.specs.declared.steps.Refusal.TheVariants.{NoProcess, NotRunning}
@@ -35,7 +35,8 @@ abbrev pub loads : Memory → Option ℕ → Local
 loads memory None = fails memory bad_address
 loads memory (Some byte) = record { memory = memory; ret = pos byte }
 
--- a call that concerns the memory of its own process alone
+-- a call that concerns the memory of its own process alone. The cases of the four sys_x calls stand for the
+-- answer EINVAL of a process to which the call means nothing
 abbrev pub memory_call : Memory → Call → Local
 memory_call memory (Map page) = edits (is_vacant memory (below 16 page)) memory (with_page memory (below 16 page) (Some zero_page))
 memory_call memory (Unmap page) = edits (has_page memory (below 16 page)) memory (with_page memory (below 16 page) None)

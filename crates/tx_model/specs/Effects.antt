@@ -1,4 +1,4 @@
--- What an event does: its writes, then its posts in order, and how it closes.
+-- What an event does: its writes, then its posts in order, and how it closes. Own rules.
 use Rattle.std.specs.Prelude.{ℕ, ◌+◌, List, [], ◌∷◌, ◌++◌, ℤ, pos, negsuc, Option, Some, None, if◌then◌else◌, nat_lt, ◌==◌}
 use Rattle.tx_base.specs.declared.names.Regs.{Regs}
 use Rattle.tx_base.specs.declared.names.Missed.{Missed}

@@ -1,12 +1,11 @@
--- The plain kernel's events: it knows no reservation and no abort.
-use Rattle.std.specs.Prelude.{◌≡◌, ℕ, Bool, List, [], ◌∷◌, ℤ, Option, Some, None}
-use Rattle.tx_base.specs.declared.steps.Call.{Call}
+-- The plain kernel's events: it knows no reservation and no abort. Own rules.
+use Rattle.std.specs.Prelude.{ℕ, Bool, List, [], ◌∷◌, ℤ, Option}
 use Rattle.tx_base.specs.declared.steps.Step.{Step}
 use Rattle.tx_base.specs.declared.steps.Step.TheVariants.{Call as Calls, KernelAbort}
 use Rattle.tx_base.specs.declared.steps.Refusal.TheVariants.{NoTransaction}
 use Rattle.tx_base.specs.declared.steps.Reply.{Reply}
 use Rattle.tx_base.specs.declared.steps.Reply.TheVariants.{Done}
-use Rattle.tx_model.specs.State.{Process, State, Sending, Object, Proc, Held, SetProc}
+use Rattle.tx_model.specs.State.{Process, State, Object, Proc, Held, SetProc}
 use Rattle.tx_model.specs.Effects.{Effect, Replies, idle, noted_if, sent, applied, closing_reply, committing}
 use Rattle.tx_model.specs.Calls.{effect_at, call_objects}
 
@@ -17,7 +16,7 @@ pub record Inside : Type 0 where
   pub defers : Bool
 
 pub data Event : Type 0 where
-  -- a step, inside a transaction or outside
+  -- a step, inside a transaction or outside. No history makes one of a KernelAbort, which has a Note in its place
   Do : Step → Option Inside → Event
   -- the process is given an answer
   Note : ℕ → ℤ → Event

@@ -1,9 +1,8 @@
--- How an event goes with what its step is to the transactions.
-use Rattle.std.specs.Prelude.{◌≡◌, ℕ, Bool, true, false, List, [], ◌∷◌, ◌⊎◌, ℤ, Option, None}
-use Rattle.tx_model.specs.State.{State, Sending, Object, Proc, Held, has, is_between}
-use Rattle.tx_model.specs.Effects.{Effect}
+-- How an event goes with what its step is to the transactions. Own rules.
+use Rattle.std.specs.Prelude.{◌≡◌, ℕ, true, false, List, [], ◌∷◌, ◌⊎◌, ℤ, None}
+use Rattle.tx_model.specs.State.{State, Sending, Proc, Held, has, is_between}
 use Rattle.tx_model.specs.Events.{Event, Note, actor, effect, objects}
-use Rattle.tx_model.specs.Membership.{Table, is_member_of, is_live, Part, Continues, Parks, Forks, Begins, Role, Outside, Within, Commits, Aborts}
+use Rattle.tx_model.specs.Membership.{is_member_of, is_live, Part, Continues, Parks, Forks, Begins, Role, Outside, Within, Commits, Aborts}
 use Rattle.tx_model.specs.History.{is_other_starter}
 use Rattle.tx_model.specs.View.{View, present, IsClear}
 

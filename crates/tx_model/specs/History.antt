@@ -1,11 +1,8 @@
--- Histories, the newest accepted step first, and what is left of them without some transactions.
-use Rattle.std.specs.Prelude.{◌≡◌, ℕ, Bool, true, false, not, ◌&&◌, ◌||◌, List, [], ◌∷◌, ◌++◌, Option, Some, None, if◌then◌else◌, ◌==◌}
+-- Histories, the newest accepted step first, and what is left of them without some transactions. Own rules.
+use Rattle.std.specs.Prelude.{ℕ, Bool, true, false, not, List, [], ◌∷◌, ◌++◌, if◌then◌else◌, ◌==◌}
 use Rattle.tx_base.specs.declared.steps.Accepted.{Accepted}
-use Rattle.tx_base.specs.declared.steps.Reply.{Reply}
-use Rattle.tx_base.specs.declared.steps.Reply.TheVariants.{Aborted}
 use Rattle.tx_model.specs.State.{State, Sending, Object, Proc, Held, has}
-use Rattle.tx_model.specs.Effects.{Effect}
-use Rattle.tx_model.specs.Events.{Event, process_of, actor, effect, objects, after, reply_of, run}
+use Rattle.tx_model.specs.Events.{Event, process_of, actor, effect, objects, run}
 use Rattle.tx_model.specs.Membership.{Table, empty_table, is_member_of, is_live, Begins, Continues, Parks, Forks, Part, Role, Outside, Within, Commits, Aborts, role, event, table_after}
 
 -- a set of starters: a live transaction is named by the number of its starter
@@ -72,6 +69,11 @@ is_other_starter t p n = if is_live t n then not (is_member_of t n p) else false
 unfoldable pub targets : Table → ℕ → List Sending → List Object
 targets t p [] = []
 targets t p (m ∷ ms) = if is_other_starter t p m.target then targets t p ms else Proc m.target ∷ targets t p ms
+
+-- the processes that sends go to
+abbrev pub processes_of : List Sending → List Object
+processes_of [] = []
+processes_of (m ∷ ms) = Proc m.target ∷ processes_of ms
 
 -- the footprint: what the event names, and the targets of its posts
 unfoldable pub footprint : Table → Event → State → List Object

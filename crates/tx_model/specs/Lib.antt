@@ -12,3 +12,4 @@ pub mod TwoParts
 pub mod Sound
 pub mod Fits
 pub mod Schedules
+pub mod Worked

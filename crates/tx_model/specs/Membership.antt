@@ -1,5 +1,5 @@
 -- Who is in which transaction, and what a step is to the transactions. Own rules.
-use Rattle.std.specs.Prelude.{ℕ, zero, suc, Bool, true, false, not, ◌&&◌, ◌||◌, ℤ, pos, negsuc, Option, Some, None, is_some, if◌then◌else◌, ◌==◌}
+use Rattle.std.specs.Prelude.{ℕ, zero, suc, Bool, true, false, ℤ, pos, negsuc, Option, Some, None, if◌then◌else◌, ◌==◌}
 use Rattle.tx_base.specs.declared.marks.Mark.{Mark}
 use Rattle.tx_base.specs.declared.steps.Call.{Call}
 use Rattle.tx_base.specs.declared.steps.Call.TheVariants.{Map, Unmap, Protect, Store, Load, SysXbegin, SysXbeginDefer, SysXend, SysXabort}
@@ -53,7 +53,7 @@ pub data Part : Type 0 where
   Continues : Part
   -- the member ends its part
   Parks : Part
-  -- the member forks a child, which joins
+  -- the member forks a child, which joins. No call of this set forks
   Forks : ℕ → Part
   -- it is the first step; whether the transaction defers deliveries
   Begins : Bool → Part

@@ -1,5 +1,5 @@
 -- The memory of a process: sixteen pages of 64 bytes each. Own rules.
-use Rattle.std.specs.Prelude.{ℕ, zero, suc, ◌+◌, ◌/◌, ◌%◌, ℤ, pos, negsuc, Bool, true, false, List, [], ◌∷◌, length, Option, Some, None, is_none, if◌then◌else◌, nat_lt, ◌==◌, replicate, slice_index, slice_index_or, slice_set}
+use Rattle.std.specs.Prelude.{ℕ, zero, suc, ◌+◌, ◌/◌, ◌%◌, ℤ, pos, negsuc, Bool, true, false, List, [], ◌∷◌, Option, Some, None, is_none, if◌then◌else◌, nat_lt, ◌==◌, replicate, slice_index, slice_index_or, slice_set}
 
 -- a page: whether it may be written, and its bytes
 pub record PageView : Type 0 where
@@ -101,11 +101,12 @@ abbrev pub loaded : Memory → Option ℕ → Option ℕ
 loaded memory None = None
 loaded memory (Some address) = byte_in (address % 64) (page_at memory (address / 64))
 
--- the bytes from an address on, 0 where a page is not mapped
+-- the byte, or 0 where there is none
 abbrev pub byte_or_zero : Option ℕ → ℕ
 byte_or_zero None = 0
 byte_or_zero (Some byte) = byte
 
+-- the bytes from an address on, 0 where a page is not mapped
 abbrev pub bytes_from : Memory → ℕ → ℕ → List ℕ
 bytes_from memory address zero = []
 bytes_from memory address (suc n) = byte_or_zero (loaded memory (Some address)) ∷ bytes_from memory (address + 1) n

@@ -1,6 +1,6 @@
--- The posting rule: what a signal that is sent does to its target (POSIX.1-2017, XSH 2.4 and kill()).
-use Rattle.std.specs.Prelude.{ℕ, ◌^◌, Bool, true, false, ◌||◌, List, [], ◌∷◌, ◌++◌, length, ℤ, pos, negsuc, Option, Some, None, is_some, if◌then◌else◌, nat_lt, ◌==◌, bit_or}
-use Rattle.tx_model.specs.State.{Ids, Process, Queued, Sender, Sending, State, SetProc, write_one}
+-- The posting rule: what a signal that is sent does to its target (POSIX.1-2017, XSH, Signal Concepts and kill()).
+use Rattle.std.specs.Prelude.{ℕ, ◌^◌, Bool, true, ◌||◌, List, [], ◌∷◌, ◌++◌, length, ℤ, pos, negsuc, Option, Some, None, is_some, if◌then◌else◌, nat_lt, ◌==◌, bit_or}
+use Rattle.tx_model.specs.State.{Ids, Process, Sender, Sending, State, SetProc, write_one}
 
 -- the realtime signals are 32 to 39 (own numbers)
 abbrev pub is_realtime : ℕ → Bool

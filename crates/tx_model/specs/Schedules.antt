@@ -1,10 +1,10 @@
--- What a schedule of steps is answered, and the history that it leaves.
+-- What a schedule of steps is answered, and the history that it leaves. Own rules.
 use Rattle.std.specs.Prelude.{List, [], ◌∷◌}
 use Rattle.tx_base.specs.declared.steps.Accepted.{Accepted}
 use Rattle.tx_base.specs.declared.steps.Reply.{Reply}
 use Rattle.tx_base.specs.declared.steps.Reply.TheVariants.{Done, Ended, Committed, Aborted, Out, No}
 use Rattle.tx_base.specs.declared.steps.Step.{Step}
-use Rattle.tx_model.specs.State.{State, Sending, Object, Proc}
+use Rattle.tx_model.specs.State.{State}
 use Rattle.tx_model.specs.View.{view}
 use Rattle.tx_model.specs.Answer.{answer}
 
@@ -26,8 +26,3 @@ history_of S h (step ∷ steps) = history_of S (recorded h step (answer (view S 
 unfoldable pub answers_of : State → List Accepted → List Step → List Reply
 answers_of S h [] = []
 answers_of S h (step ∷ steps) = answer (view S h) step ∷ answers_of S (recorded h step (answer (view S h) step)) steps
-
--- the processes that sends go to
-abbrev pub processes_of : List Sending → List Object
-processes_of [] = []
-processes_of (m ∷ ms) = Proc m.target ∷ processes_of ms

@@ -3,7 +3,8 @@ use Rattle.std.specs.Prelude.{◌≡◌, ◌≢◌, ℕ, zero, suc, Bool, true, 
 use Rattle.tx_base.specs.declared.names.Regs.{Regs}
 use Rattle.tx_model.specs.Memory.{Memory, no_memory}
 
--- the real, effective and saved ids of the user and of the group (POSIX.1-2017, XBD 3.296 and 3.400)
+-- the real, effective and saved ids of the user and of the group (POSIX.1-2017, XBD, Real User ID,
+-- Effective User ID and Saved Set-User-ID, and the same of the group)
 pub record Ids : Type 0 where
   pub real_user : ℕ
   pub effective_user : ℕ
@@ -12,7 +13,7 @@ pub record Ids : Type 0 where
   pub effective_group : ℕ
   pub saved_group : ℕ
 
--- what a process does about a signal (POSIX.1-2017, XSH 2.4.3)
+-- what a process does about a signal (POSIX.1-2017, XSH, Signal Actions)
 pub data Action : Type 0 where
   Usual : Action
   Ignored : Action
@@ -49,7 +50,7 @@ pub data Side : Type 0 where
   ReadSide : Side
   WriteSide : Side
 
--- an open description of a pipe (POSIX.1-2017, XBD 3.258)
+-- an open description of a pipe (POSIX.1-2017, XBD, Open File Description)
 pub record Description : Type 0 where
   pub pipe : ℕ
   pub side : Side

@@ -1,8 +1,8 @@
 -- A kernel that keeps two parts and one owner for each object: the part as it is, and the part as it
--- would be without its owner's transaction.
-use Rattle.std.specs.Prelude.{◌≡◌, ℕ, Bool, true, false, List, ◌∷◌, Option, Some, None, is_none, if◌then◌else◌, ◌==◌}
+-- would be without its owner's transaction. Own rules.
+use Rattle.std.specs.Prelude.{ℕ, Bool, false, List, Option, Some, None, is_none, if◌then◌else◌, ◌==◌}
 use Rattle.tx_model.specs.State.{State, Object, Proc, Desc, Pipe, Held, has}
-use Rattle.tx_model.specs.Effects.{Effect, sent, applied}
+use Rattle.tx_model.specs.Effects.{sent, applied}
 use Rattle.tx_model.specs.Events.{Event, effect}
 use Rattle.tx_model.specs.Membership.{Table, Role, Outside, Within, Commits, Aborts, table_after}
 use Rattle.tx_model.specs.History.{Starters, just, footprint, taken_by}

@@ -1,5 +1,5 @@
--- What there is to see of a history, and what one more step makes of it.
-use Rattle.std.specs.Prelude.{◌≡◌, ℕ, zero, suc, ◌<◌, Bool, true, false, not, ◌||◌, List, [], ◌∷◌, ℤ, Option, Some, None, is_some, if◌then◌else◌, ◌==◌}
+-- What there is to see of a history, and what one more step makes of it. Own rules.
+use Rattle.std.specs.Prelude.{◌≡◌, ℕ, zero, suc, Bool, true, false, not, List, [], ◌∷◌, ℤ, Option, Some, None, is_some, if◌then◌else◌, ◌==◌}
 use Rattle.std.specs.Ordering.{int_eq}
 use Rattle.std.specs.Int.{bit_at}
 use Rattle.tx_base.specs.declared.steps.Accepted.{Accepted}
@@ -7,9 +7,9 @@ use Rattle.tx_base.specs.declared.steps.Reply.{Reply}
 use Rattle.tx_base.specs.declared.steps.Reply.TheVariants.{Aborted}
 use Rattle.tx_base.specs.declared.steps.Step.{Step}
 use Rattle.tx_base.specs.declared.steps.Step.TheVariants.{Call as Calls, KernelAbort}
-use Rattle.tx_model.specs.State.{Process, State, Sending, Object, has}
+use Rattle.tx_model.specs.State.{Process, State, Sending, Object}
 use Rattle.tx_model.specs.Posts.{kill_signo}
-use Rattle.tx_model.specs.Effects.{Effect, sent}
+use Rattle.tx_model.specs.Effects.{sent}
 use Rattle.tx_model.specs.Events.{Event, process_of, actor, effect, after, reply_of}
 use Rattle.tx_model.specs.Membership.{Table, is_live, is_member_of, Role, called_by_status, role, step_event, event, table_after}
 use Rattle.tx_model.specs.History.{Starters, nobody, just, table_of, left_out_before, stays, without, footprint, touched_after, touched_of}

@@ -8,12 +8,13 @@ ghost use Rattle.tx_base.specs.declared.steps.Step.{Step};
 ghost use Rattle.tx_model.specs.Answer.{answer, IsAccepted, Lawful, Agreement};
 ghost use Rattle.tx_model.specs.Events.{Event, process_of, effect, objects, after};
 ghost use Rattle.tx_model.specs.Fits.{Fits, Passes};
+ghost use Rattle.tx_model.specs.History.{processes_of};
 ghost use Rattle.tx_model.specs.Membership.{Role};
-ghost use Rattle.tx_model.specs.Schedules.{processes_of};
 ghost use Rattle.tx_model.specs.Sound.{IsSound};
 ghost use Rattle.tx_model.specs.State.{State, Object, AgreeAt, AgreeOn, has};
 ghost use Rattle.tx_model.specs.TwoParts.{TwoParts, parts_view, parts_next};
 ghost use Rattle.tx_model.specs.View.{view, next, next_by, role_on, event_on};
+ghost use Rattle.tx_model.specs.Worked.{TakenBackAnswers, TakenBackState, SideBySideAnswers, SideBySideState};
 
 /// Erasure: in every prefix of a lawful history, from any start state, each surviving step has
 /// the reply that the plain kernel gives when the steps of aborted transactions are left out,
@@ -47,4 +48,13 @@ pub fn locality()
     ensures same { (event : Event) (one other : State) → AgreeOn (objects event one) one other → effect event one ≡ effect event other }
     ensures elsewhere { (event : Event) (state : State) (object : Object) →
         has object (objects event state ++ processes_of (effect event state).sends) ≡ false → AgreeAt (after event state) state object }
+{}
+
+/// Two schedules worked out from the definitions: a transaction that its process takes back,
+/// and two side by side, of which the kernel takes one back and the other commits.
+pub fn worked_schedules()
+    ensures taken_back { TakenBackAnswers }
+    ensures taken_back_state { TakenBackState }
+    ensures side_by_side { SideBySideAnswers }
+    ensures side_by_side_state { SideBySideState }
 {}

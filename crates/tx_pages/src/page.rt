@@ -28,7 +28,9 @@ impl Model for Page {
 }
 
 impl Page {
-    /// A page of zeros that may be written.
+    /// A page of zeros that may be written, in a frame of its own. Own rule.
+    ///
+    /// NoMemory where a growth is refused.
     pub fn zero(alloc: Global) -> Result<Page, NoMemory>
         ensures { IfOk result (λ page. page ≡ zero_page) }
     {
@@ -40,6 +42,8 @@ impl Page {
     }
 
     /// An equal page, which shares the frame.
+    ///
+    /// NoMemory where the frame can't be shared once more.
     pub fn share(&self) -> Result<Page, NoMemory>
         ensures { IfOk result (λ page. page ≡ self.now) }
     {
@@ -72,14 +76,18 @@ impl Page {
         self.writable = writable;
     }
 
-    /// A page with some of the bytes replaced, in a frame of its own.
+    /// A page with the bytes from an offset on replaced, in a frame of its own; the patch must end
+    /// within the page.
+    ///
+    /// NoMemory where a growth is refused.
     pub fn patched(&self, alloc: Global, offset: usize, patch: &[u8]) -> Result<Page, NoMemory>
         requires { offset + length patch.now ≤ 64 }
-        ensures { IfOk result (λ page. page ≡ record self.now { bytes = overlaid self.now.bytes offset patch.now }) }
+        ensures { IfOk result (λ page.
+            page ≡ record self.now { bytes = overlaid self.now.bytes offset patch.now }) }
     {
         let frame = Arc::new(alloc, overlay(*self.bytes(), offset, patch))?;
         Ok(Page {
-            writable: self.writable,
+            writable: self.is_writable(),
             frame,
         })
     }

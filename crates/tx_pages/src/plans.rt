@@ -1,7 +1,8 @@
 //! What a call on pages is to put in place.
 use crate::page::Page;
 
-/// What a page number is to have: a page, or nothing.
+/// What a page number is to have: a page, or nothing. A plan of a call makes it, and
+/// `Space::swap_page` puts it in place.
 #[derive(Drop)]
 pub struct NewPage {
     /// The page number: 0 to 15.
@@ -9,7 +10,8 @@ pub struct NewPage {
     pub page: Option<Page>,
 }
 
-/// What some page numbers are to have, each number once.
+/// What some page numbers are to have, the first to be put in place first. A plan of a store makes
+/// it, and `Space::put_pages` puts all in place.
 #[derive(Drop)]
 pub struct NewPages {
     pub pages: Vec<NewPage>,

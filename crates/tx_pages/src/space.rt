@@ -1,7 +1,7 @@
 //! The pages of a process, by their numbers.
 ghost use Rattle.std.specs.Bool.{OnTrue};
 ghost use Rattle.std.specs.Option.{option_copied};
-ghost use Rattle.std.specs.Prelude.{◌≡◌, ◌<◌, ◌≤◌, ◌+◌, ◌/◌, IfOk, OnOk, OnErr, length, slice_set};
+ghost use Rattle.std.specs.Prelude.{◌≡◌, ◌<◌, ◌≤◌, ◌+◌, ◌/◌, IfOk, length, slice_set};
 ghost use Rattle.tx_model.specs.Memory.{no_memory, page_at, below, all_good, loaded, byte_or_zero, bytes_from, put_bytes};
 ghost use Rattle.tx_pages.specs.Access.{test_of};
 ghost use Rattle.tx_pages.specs.Frames.{written};
@@ -16,7 +16,8 @@ use std::marker::Model;
 use std::mem;
 use tx_base::{ADDRESSES, NoMemory, PAGE_BYTES, PAGES};
 
-/// The pages of a process: numbers 0 to 15. Contracts see what each number has.
+/// The pages of a process: numbers 0 to 15, addresses 0 to 1,023. Contracts see what each number
+/// has.
 #[derive(Drop)]
 pub struct Space {
     pages: [Option<Page>; PAGES],
@@ -38,12 +39,7 @@ impl Space {
     pub fn new() -> Space
         ensures { result ≡ no_memory }
     {
-        Space {
-            pages: [
-                None, None, None, None, None, None, None, None, None, None, None, None, None, None,
-                None, None,
-            ],
-        }
+        Space { pages: vacant() }
     }
 
     /// What a page number has; nothing where there is no such number.
@@ -56,7 +52,7 @@ impl Space {
         }
     }
 
-    /// Exchanges what a page number has.
+    /// Exchanges what a page number has: 0 to 15. It takes no memory.
     pub fn swap_page(&mut self, number: usize, page: &mut Option<Page>)
         requires { number < 16 }
         ensures exchanged { self.new ≡ slice_set self.old number page.old }
@@ -65,7 +61,10 @@ impl Space {
         mem::swap(&mut self.pages[number], page);
     }
 
-    /// An equal copy of what a page number has, which shares the frame.
+    /// An equal copy of what a page number has, which shares the frame; nothing where there is no
+    /// such number.
+    ///
+    /// NoMemory where the frame can't be shared once more.
     pub fn copy_page(&self, number: usize) -> Result<Option<Page>, NoMemory>
         ensures { IfOk result (λ page. page ≡ page_at self.now number) }
     {
@@ -76,6 +75,8 @@ impl Space {
     }
 
     /// Equal pages, which share their frames.
+    ///
+    /// NoMemory where a frame can't be shared once more.
     pub fn copy(&self) -> Result<Space, NoMemory>
         ensures { IfOk result (λ space. space ≡ self.now) }
     {
@@ -116,8 +117,8 @@ impl Space {
             return Err(PageError::Invalid);
         };
         let slot = &mut self.pages[number];
-        if let Some(page) = slot {
-            page.set_writable(writable);
+        if let Some(present) = slot {
+            present.set_writable(writable);
             return Ok(());
         }
         Err(PageError::Invalid)
@@ -250,7 +251,7 @@ impl Space {
         Ok(NewPages { pages })
     }
 
-    /// Puts planned pages in place.
+    /// Puts planned pages in place, the first one first. Each number must be 0 to 15.
     pub fn put_pages(&mut self, new: NewPages)
         requires { AreNumbered new.pages.items }
         ensures { self.new ≡ with_pages self.old new.pages.items }
@@ -360,14 +361,21 @@ impl Space {
     }
 }
 
+/// No page at any number.
+fn vacant() -> [Option<Page>; PAGES]
+    ensures { result ≡ no_memory }
+{
+    [
+        None, None, None, None, None, None, None, None, None, None, None, None, None, None, None,
+        None,
+    ]
+}
+
 /// Equal pages, which share their frames.
 fn shared(pages: &[Option<Page>; PAGES]) -> Result<[Option<Page>; PAGES], NoMemory>
     ensures { IfOk result (λ copy. copy ≡ pages.now) }
 {
-    let mut copy = [
-        None, None, None, None, None, None, None, None, None, None, None, None, None, None, None,
-        None,
-    ];
+    let mut copy = vacant();
     for i in 0..PAGES {
         if let Some(page) = &pages[i] {
             copy[i] = Some(page.share()?);

@@ -1,0 +1,5 @@
+pub mod SlotFacts
+pub mod Twice
+pub mod Applied
+pub mod Own
+pub mod Reverts

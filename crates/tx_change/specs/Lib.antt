@@ -1,0 +1,3 @@
+pub mod Boot
+pub mod Exchange
+pub mod Laws

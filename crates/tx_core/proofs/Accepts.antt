@@ -1,0 +1,161 @@
+-- A running process's step is always accepted, and what a step says of histories.
+use Rattle.std.proofs.Common.{◌≡◌, ℕ, Bool, true, false, List, [], ◌∷◌, ℤ, pos, negsuc, Option, Some, None, is_some, if◌then◌else◌, refl, sym, ap, ◌∙◌, subst, inl, inr, ◌⊎◌}
+use Rattle.tx_base.specs.Slots.{slot_at}
+use Rattle.tx_base.specs.declared.marks.Mark.{Mark}
+use Rattle.tx_base.specs.declared.names.Pid.{Pid}
+use Rattle.tx_base.specs.declared.steps.Accepted.{Accepted}
+use Rattle.tx_base.specs.declared.steps.Call.{Call}
+use Rattle.tx_base.specs.declared.steps.Call.TheVariants.{Map, Unmap, Protect, Store, Load, SysXbegin, SysXbeginDefer, SysXend, SysXabort}
+use Rattle.tx_base.specs.declared.steps.Refusal.TheVariants.{NoMemory, NoTransaction}
+use Rattle.tx_base.specs.declared.steps.Reply.{Reply}
+use Rattle.tx_base.specs.declared.steps.Reply.TheVariants.{Done, Committed, Aborted, No}
+use Rattle.tx_base.specs.declared.steps.Step.{Step}
+use Rattle.tx_base.specs.declared.steps.Step.TheVariants.{Call as Calls, KernelAbort}
+use Rattle.tx_change.specs.declared.proc.Proc.{Proc}
+use Rattle.tx_core.specs.Content.{process_in, view_of, IsContent}
+use Rattle.tx_core.specs.Plans.{proc_after, only_answers, IsPlainCall, IsRunning}
+use Rattle.tx_core.specs.Steps.{IsStep, IsXabort, Steps}
+use Rattle.tx_core.specs.declared.inverse.Inverse.{Inverse}
+use Rattle.tx_core.specs.declared.kernel.Kernel.{Kernel}
+use Rattle.tx_core.proofs.Cases.{plain_role, plain_case, begins_case, commits_case, aborts_case}
+use Rattle.tx_core.proofs.Outcomes.{reply_of_case}
+use Rattle.tx_core.proofs.Replies.{IsPlain, note_plain, plain_reply_is, plain_own, commit_reply_is, commit_own}
+use Rattle.tx_model.specs.Answer.{answer, plain_reply, IsAccepted, Lawful}
+use Rattle.tx_model.specs.Calls.{memory_call}
+use Rattle.tx_model.specs.Events.{Event, Note, Commit, reply_of}
+use Rattle.std.proofs.lemmas.Bool.{both_ways}
+use Rattle.tx_model.specs.Membership.{Begins, Within, Commits, Aborts, Beginning, Aborting, kind_of, called_by_status, is_live}
+use Rattle.tx_model.specs.State.{State}
+use Rattle.tx_model.specs.View.{View, view, present, next, kernel_status}
+use Rattle.tx_model.proofs.Erased.{lawful_next}
+
+module _ (k : Kernel) (pid : Pid) (q : Proc) (i : IsContent k) (here : slot_at k.parts.procs pid.0 ≡ Some q) (runs : q.status ≡ None) where
+  plain_accepted : (call : Call) (mark : Option Mark) → slot_at k.marks pid.0 ≡ mark → IsPlainCall call mark → IsAccepted (answer (view_of k) (Calls pid call))
+  plain_accepted call mark is plain =
+      let pc = plain_case k pid call mark q here runs is plain in
+      let r : ℤ = (memory_call q.space call).ret in
+      let reply = plain_reply_is k pid.0 pc.event (process_in (Some (proc_after q (memory_call q.space call)))) r pc.plain in
+      let own = plain_own k pid.0 pc.event (process_in (Some (proc_after q (memory_call q.space call)))) r pc.plain in
+      subst IsAccepted (sym (reply_of_case k pid call q (plain_role mark) pc.event (Done r) i here runs pc.is_case own (by mark pc.event ∙ reply))) tt
+    where
+      by : (mark : Option Mark) (ev : Event) → plain_reply called_by_status (plain_role mark) ev (present (view_of k)) ≡ reply_of ev (present (view_of k))
+      by None ev = refl
+      by (Some m) ev = refl
+
+  begins_accepted : (call : Call) (defers : Bool) → kind_of call ≡ Beginning defers → slot_at k.marks pid.0 ≡ None → IsAccepted (answer (view_of k) (Calls pid call))
+  begins_accepted call defers kind free =
+      let y = process_in (Some (proc_after q (only_answers q (pos 0)))) in
+      let plain : IsPlain k pid.0 (Note pid.0 (pos 0)) y (pos 0) = note_plain k pid.0 (pos 0) q here in
+      subst IsAccepted (sym (reply_of_case k pid call q (Within pid.0 (Begins defers)) (Note pid.0 (pos 0)) (Done (pos 0)) i here runs (begins_case k pid call defers kind free)
+      (plain_own k pid.0 (Note pid.0 (pos 0)) y (pos 0) plain) (plain_reply_is k pid.0 (Note pid.0 (pos 0)) y (pos 0) plain))) tt
+
+  commit_accepted : (m : Mark) → slot_at k.marks pid.0 ≡ Some m → IsAccepted (answer (view_of k) (Calls pid SysXend))
+  commit_accepted m mark =
+      let y = process_in (Some (proc_after q (only_answers q (pos 0)))) in
+      let plain : IsPlain k pid.0 (Note pid.0 (pos 0)) y (pos 0) = note_plain k pid.0 (pos 0) q here in
+      subst IsAccepted (sym (reply_of_case k pid SysXend q (Commits pid.0) (Commit pid.0 (Note pid.0 (pos 0))) (Committed (record { items = [] })) i here runs (commits_case k pid m i mark)
+      (commit_own k pid.0 (Note pid.0 (pos 0)) y (pos 0) plain) (commit_reply_is k pid.0 (Note pid.0 (pos 0)) y (pos 0) plain))) tt
+
+  abort_accepted : (m : Mark) → slot_at k.marks pid.0 ≡ Some m → IsAccepted (answer (view_of k) (Calls pid SysXabort))
+  abort_accepted m mark =
+      let y = process_in (Some (proc_after q (only_answers q (negsuc 200)))) in
+      let plain : IsPlain k pid.0 (Note pid.0 (negsuc 200)) y (negsuc 200) = note_plain k pid.0 (negsuc 200) q here in
+      subst IsAccepted (sym (reply_of_case k pid SysXabort q (Aborts pid.0 called_by_status) (Note pid.0 (negsuc 200)) (Aborted called_by_status) i here runs (aborts_case k pid m i mark)
+      (plain_own k pid.0 (Note pid.0 (negsuc 200)) y (negsuc 200) plain) refl)) tt
+
+  pub running_accepted : (call : Call) (mark : Option Mark) → slot_at k.marks pid.0 ≡ mark → IsAccepted (answer (view_of k) (Calls pid call))
+  running_accepted (Map page) mark is = plain_accepted (Map page) mark is tt
+  running_accepted (Unmap page) mark is = plain_accepted (Unmap page) mark is tt
+  running_accepted (Protect page w) mark is = plain_accepted (Protect page w) mark is tt
+  running_accepted (Store address bytes) mark is = plain_accepted (Store address bytes) mark is tt
+  running_accepted (Load address) mark is = plain_accepted (Load address) mark is tt
+  running_accepted SysXbegin None is = begins_accepted SysXbegin false refl is
+  running_accepted SysXbegin (Some m) is = plain_accepted SysXbegin (Some m) is tt
+  running_accepted SysXbeginDefer None is = begins_accepted SysXbeginDefer true refl is
+  running_accepted SysXbeginDefer (Some m) is = plain_accepted SysXbeginDefer (Some m) is tt
+  running_accepted SysXend None is = plain_accepted SysXend None is tt
+  running_accepted SysXend (Some m) is = commit_accepted m is
+  running_accepted SysXabort None is = plain_accepted SysXabort None is tt
+  running_accepted SysXabort (Some m) is = abort_accepted m is
+
+pub accepted_at : (k : Kernel) (pid : Pid) (call : Call) → IsContent k → IsRunning (slot_at k.parts.procs pid.0) → IsAccepted (answer (view_of k) (Calls pid call))
+accepted_at k pid call i runs = by (slot_at k.parts.procs pid.0) refl runs
+  where
+    by : (x : Option Proc) → slot_at k.parts.procs pid.0 ≡ x → IsRunning x → IsAccepted (answer (view_of k) (Calls pid call))
+    by None here r = absurd r
+    by (Some q) here r = running_accepted k pid q i here r call (slot_at k.marks pid.0) refl
+
+-- one more entry of a history whose view the machine has
+pub record IsAlong (start : State) (entries : List Accepted) (new : Kernel) : Type 0 where
+  pub lawful : Lawful start entries
+  pub view : view_of new ≡ view start entries
+
+pub along : (old new : Kernel) (step : Step) (reply : Reply) (inverse : Inverse) → IsStep old step reply inverse new → (start : State) (earlier : List Accepted) → IsAlong start earlier old
+    → IsAlong start (record { step = step; reply = reply } ∷ earlier) new
+unfolding Lawful
+along old new step reply inverse made start earlier a =
+    let law : Lawful start (record { step = step; reply = reply } ∷ earlier) = (a.lawful, ap (λ (V : View). answer V step) (sym a.view) ∙ made.answered, made.accepted) in
+    record {
+      lawful = law;
+      view = made.next ∙ ap (λ (V : View). next V step) a.view ∙ sym (lawful_next start (record { step = step; reply = reply }) earlier law);
+    }
+
+not_accepted : (reply : Reply) → reply ≡ No NoMemory → IsAccepted reply → ⊥
+not_accepted reply e a = subst IsAccepted e a
+
+-- what a step's answer and inverse say, clause by clause
+module _ (old new : Kernel) (step : Step) (reply : Reply) where
+  pub steps_answer : (o : Option Inverse) → Steps old step reply o new → (reply ≡ No NoMemory) ⊎ (answer (view_of old) step ≡ reply)
+  steps_answer None h = elim h.1 [ inl a ↦ inl a.0 | inr b ↦ inr b.0 ]
+  steps_answer (Some inverse) h = inr h.answered
+
+  pub steps_memory : (o : Option Inverse) → Steps old step reply o new → reply ≡ No NoMemory → IsAccepted (answer (view_of old) step)
+  steps_memory None h e = elim h.1 [ inl a ↦ a.1 | inr b ↦ absurd (b.2 e) ]
+  steps_memory (Some inverse) h e = absurd (not_accepted reply e h.accepted)
+
+  pub steps_refused : (o : Option Inverse) → Steps old step reply o new → is_some o ≡ false → new ≡ old
+  steps_refused None h e = h.0
+  steps_refused (Some inverse) h e = cc
+
+  pub steps_some : (o : Option Inverse) → Steps old step reply o new → is_some o ≡ true → IsAccepted reply
+  steps_some None h e = cc
+  steps_some (Some inverse) h e = h.accepted
+
+  pub steps_accepted : (o : Option Inverse) → Steps old step reply o new → IsAccepted reply → is_some o ≡ true
+  steps_accepted None h a = elim h.1 [ inl n ↦ absurd (not_accepted reply n.0 a) | inr b ↦ absurd (b.1 a) ]
+  steps_accepted (Some inverse) h a = refl
+
+  pub steps_along : (o : Option Inverse) → Steps old step reply o new → IsAccepted reply → (start : State) (earlier : List Accepted) → Lawful start earlier → view_of old ≡ view start earlier
+      → Lawful start (record { step = step; reply = reply } ∷ earlier) × (view_of new ≡ view start (record { step = step; reply = reply } ∷ earlier))
+  steps_along None h a start earlier l v = elim h.1 [ inl n ↦ absurd (not_accepted reply n.0 a) | inr b ↦ absurd (b.1 a) ]
+  steps_along (Some inverse) h a start earlier l v = let z = along old new step reply inverse h start earlier (record { lawful = l; view = v }) in (z.lawful, z.view)
+
+-- what there is
+pub some_of : (x : Option ℕ) → is_some x ≡ true → (n : ℕ) × (x ≡ Some n)
+some_of None h = cc
+some_of (Some n) h = (n, refl)
+
+-- a call that answers want of memory is no member's sys_xabort
+pub not_xabort : (k : Kernel) (pid : Pid) (call : Call) → (kind_of call ≡ Aborting → slot_at k.marks pid.0 ≡ None) → IsXabort k (Calls pid call) → ⊥
+not_xabort k pid call h (p, same, marked) =
+    let who : pid ≡ p = cc in
+    let what : call ≡ SysXabort = cc in
+    let free : slot_at k.marks p.0 ≡ None = subst (λ (x : Pid). slot_at k.marks x.0 ≡ None) who (h (ap kind_of what)) in
+    both_ways (is_some (slot_at k.marks p.0)) (ap is_some free) marked
+
+pub running_of : (slot : Option Proc) (q : Proc) → slot ≡ Some q → is_some q.status ≡ false → IsRunning slot
+running_of None q here h = cc
+running_of (Some p) q here h = let z : p ≡ q = cc in none_of p.status (ap (λ (x : Proc). is_some x.status) z ∙ h)
+  where
+    none_of : (x : Option ℕ) → is_some x ≡ false → x ≡ None
+    none_of None h = refl
+    none_of (Some n) h = cc
+
+-- the kernel's abort where there is no such transaction
+pub dead_answer : (k : Kernel) (s : Pid) → (is_live (view_of k).table s.0 ≡ true → false ≡ true) → answer (view_of k) (KernelAbort s) ≡ No NoTransaction
+unfolding answer
+dead_answer k s h = by (is_live (view_of k).table s.0) refl
+  where
+    by : (b : Bool) → is_live (view_of k).table s.0 ≡ b → (if b then Aborted (kernel_status (view_of k) s.0) else No NoTransaction) ≡ No NoTransaction
+    by true e = let z : false ≡ true = h e in cc
+    by false e = refl

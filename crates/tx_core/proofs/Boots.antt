@@ -1,0 +1,87 @@
+-- The machine as it boots, and what its readers say.
+use Rattle.std.proofs.Common.{◌≡◌, ℕ, zero, suc, ◌≤◌, Bool, true, false, List, [], length, Option, Some, None, IsSome, if◌then◌else◌, refl, sym, ap, ◌∙◌, subst, get_or, eq-eqb}
+use Rattle.std.specs.Prelude.{replicate}
+use Rattle.std.proofs.lemmas.List.{length-replicate}
+use Rattle.tx_base.specs.Slots.{slot_at}
+use Rattle.tx_base.specs.declared.marks.Mark.{Mark}
+use Rattle.tx_change.specs.Boot.{booted_slot, booted_proc}
+use Rattle.tx_change.specs.Laws.{HasPages}
+use Rattle.tx_core.specs.Content.{process_in, state_of, starter_in, two_parts_of, view_of, IsContent}
+use Rattle.tx_core.specs.declared.kernel.Kernel.{Kernel}
+use Rattle.tx_core.proofs.Cases.{own_mark}
+use Rattle.tx_core.proofs.Replies.{present_is, table_is}
+use Rattle.tx_model.proofs.Agree.{state_ext}
+use Rattle.tx_model.proofs.Erased.{start_sound}
+use Rattle.tx_model.proofs.TwoPartsView.{view_ext}
+use Rattle.tx_model.specs.Events.{run}
+use Rattle.tx_model.specs.History.{Starters, survivors, without, table_of, touched_of}
+use Rattle.tx_model.specs.Membership.{Table, is_of, is_live}
+use Rattle.tx_model.specs.State.{Object, Proc as TheProc, Desc, Pipe, Held, booted, booted_process, is_between, AgreePart}
+use Rattle.tx_model.specs.Sound.{IsSound}
+use Rattle.tx_model.specs.TwoParts.{is_owner, parts_without, parts_view}
+use Rattle.tx_model.specs.View.{view, present}
+
+same_in : {B : Type 0} (w n : ℕ) (x : B) → get_or (replicate w x) n x ≡ x
+same_in zero n x = refl
+same_in (suc w) zero x = refl
+same_in (suc w) (suc n) x = same_in w n x
+
+none_at : {A : Type 0} (slots : List (Option A)) (w n : ℕ) → slots ≡ replicate w None → slot_at slots n ≡ None
+none_at slots w zero h = refl
+none_at {A} slots w (suc n) h = ap (λ (xs : List (Option A)). get_or xs n None) h ∙ same_in w n None
+
+module _ (k : Kernel) (width count : ℕ) (sized : length k.parts.procs ≡ width) (procs : (n : ℕ) → slot_at k.parts.procs n ≡ booted_slot count n)
+    (marks : k.marks ≡ replicate width None) (logs : k.logs ≡ replicate width None) where
+  no_mark : (n : ℕ) → slot_at k.marks n ≡ None
+  no_mark n = none_at k.marks width n marks
+
+  proc_at : (n : ℕ) → process_in (slot_at k.parts.procs n) ≡ (if is_between count n then Some (booted_process n) else None)
+  proc_at n = ap process_in (procs n) ∙ by (is_between count n)
+    where
+      by : (b : Bool) → process_in (if b then Some (booted_proc n) else None) ≡ (if b then Some (booted_process n) else None)
+      by true = refl
+      by false = refl
+
+  part_at : (X : Starters) (o : Object) → AgreePart (parts_without (two_parts_of k) X) (booted width count) o
+  part_at X (TheProc n) = rw (no_mark n) (proc_at n)
+  part_at X (Desc n) = refl
+  part_at X (Pipe n) = refl
+  part_at X (Held n) = rw (no_mark n) refl
+
+  pub booted_view : view_of k ≡ view (booted width count) []
+  unfolding view_of parts_view view without survivors run table_of touched_of
+  booted_view = view_ext (view_of k) (view (booted width count) [])
+      (λ X. state_ext (parts_without (two_parts_of k) X) (booted width count) sized (part_at X))
+      (λ i. record { width = sized i; marks = λ n. no_mark n i })
+      touched
+    where
+      touched : (s : ℕ) (o : Object) → is_owner s ((two_parts_of k).owner o) ≡ false
+      touched s (TheProc n) = ap (λ (x : Option Mark). is_owner s (starter_in x)) (no_mark n)
+      touched s (Desc n) = refl
+      touched s (Pipe n) = refl
+      touched s (Held n) = ap (λ (x : Option Mark). is_owner s (starter_in x)) (no_mark n)
+
+  pub booted_content : width ≤ 256 → IsContent k
+  booted_content few = record {
+    few = subst (λ (w : ℕ). w ≤ 256) (sym sized) few;
+    marks = ap length marks ∙ length-replicate width None ∙ sym sized;
+    logs = ap length logs ∙ length-replicate width None ∙ sym sized;
+    pages = λ n. subst HasPages (sym (procs n)) (pages n (is_between count n));
+    marked = λ n. rw (no_mark n, none_at k.logs width n logs) tt;
+    sound = subst IsSound (sym booted_view) (start_sound (booted width count));
+  }
+    where
+      pages : (n : ℕ) (b : Bool) → HasPages (if b then Some (booted_proc n) else None)
+      pages n true = refl
+      pages n false = tt
+
+-- what the readers say
+pub state_read : (k : Kernel) → state_of k.parts ≡ present (view_of k)
+state_read k = sym (present_is k)
+
+pub marks_read : (k : Kernel) (n : ℕ) → slot_at k.marks n ≡ (view_of k).table.marks n
+marks_read k n = sym (ap (λ (t : Table). t.marks n) (table_is k))
+
+pub live_read : (k : Kernel) → IsContent k → (n : ℕ) (x : Option Mark) → slot_at k.marks n ≡ x → (x ≡ None → is_live (view_of k).table n ≡ false) × (IsSome x → is_live (view_of k).table n ≡ true)
+live_read k i n None e = (λ h. ap (λ (t : Table). is_live t n) (table_is k) ∙ ap (is_of n) e, λ h. cc)
+live_read k i n (Some m) e = (λ h. cc, λ h. ap (λ (t : Table). is_live t n) (table_is k) ∙ ap (is_of n) e ∙ eq-eqb m.starter.0 n (own_mark k i n m e))

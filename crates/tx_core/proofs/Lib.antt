@@ -1,0 +1,11 @@
+pub mod LogFacts
+pub mod Slotted
+pub mod Views
+pub mod Replies
+pub mod Cases
+pub mod Outcomes
+pub mod StepFacts
+pub mod MachineFacts
+pub mod Accepts
+pub mod Boots
+pub mod SoFar

@@ -1,0 +1,273 @@
+-- What the machine answers, and what a step is to its transactions.
+use Rattle.std.proofs.Common.{◌≡◌, ◌<◌, ◌≤◌, ℕ, zero, suc, Bool, true, false, not, List, [], ◌∷◌, ◌++◌, length, ℤ, Option, Some, None, if◌then◌else◌, ◌==◌, get_or, refl, ap, ap₂, ◌∙◌, subst, inl, inr, ◌⊎◌, eqb-true, arith, lt-ltb}
+use Rattle.tx_base.specs.Slots.{slot_at}
+use Rattle.tx_base.specs.declared.marks.Mark.{Mark}
+use Rattle.tx_base.specs.declared.names.Pid.{Pid}
+use Rattle.tx_base.specs.declared.steps.Call.{Call}
+use Rattle.tx_base.specs.declared.steps.Refusal.{Refusal}
+use Rattle.tx_base.specs.declared.steps.Refusal.TheVariants.{NoProcess, NotRunning}
+use Rattle.tx_base.specs.declared.steps.Reply.TheVariants.{Done, Committed, No}
+use Rattle.tx_base.specs.declared.steps.Step.TheVariants.{Call as Calls}
+use Rattle.tx_change.specs.declared.change.Change.{Change}
+use Rattle.tx_change.specs.declared.proc.Proc.{Proc}
+use Rattle.tx_core.specs.Content.{process_of, process_in, state_of, kept_in, starter_in, owner_at, table_in, two_parts_of, view_of, IsMarked, IsContent}
+use Rattle.tx_core.specs.Plans.{proc_after, only_answers}
+use Rattle.tx_core.specs.Undo.{HasSlot}
+use Rattle.tx_core.specs.declared.kernel.Kernel.{Kernel}
+use Rattle.tx_core.proofs.Views.{set_effect}
+use Rattle.tx_model.specs.Answer.{is_running, is_there, is_doomed_at, is_parked, is_held_by_kill, refusal, accepted_reply, unless_refused, answer}
+use Rattle.tx_model.specs.Calls.{memory_call, effect_at}
+use Rattle.tx_model.specs.Effects.{Effect, ListsFailed, sent, closing_reply, committing}
+use Rattle.tx_model.specs.Events.{Inside, Event, Do, Note, Commit, actor, effect, objects, reply_of}
+use Rattle.tx_model.specs.History.{just, targets, footprint}
+use Rattle.tx_model.specs.Membership.{Table, is_of, is_member_of, is_live}
+use Rattle.tx_model.specs.Posts.{answers}
+use Rattle.tx_model.specs.State.{Process, State, Sending, written, Object, Proc as TheProc, Desc, Pipe, Held, is_between, has}
+use Rattle.tx_model.specs.TwoParts.{in_set, is_owner, parts_view}
+use Rattle.tx_model.specs.View.{View, present, has_pending, is_doomed, event_on, meets, differs_at, has_two_answers, meets_touched, blocks, in_way, least, holder}
+use Rattle.tx_model.proofs.Local.{has_head, has_tail}
+use Rattle.tx_model.proofs.TwoPartsView.{parts_nobody}
+
+pub present_is : (k : Kernel) → present (view_of k) ≡ state_of k.parts
+unfolding view_of parts_view
+present_is k = parts_nobody (two_parts_of k)
+
+pub table_is : (k : Kernel) → (view_of k).table ≡ table_in k
+unfolding view_of parts_view
+table_is k = refl
+
+slot_in : {A : Type 0} (slots : List (Option A)) (n : ℕ) (x : A) → get_or slots n None ≡ Some x → n < length slots
+slot_in [] n x h = cc
+slot_in (y ∷ slots) zero x h = omega arith
+slot_in (y ∷ slots) (suc n) x h = let z = slot_in slots n x h in omega arith
+
+-- a number whose slot has something is one that there is
+pub between_is : {A : Type 0} (slots : List (Option A)) (p : ℕ) (x : A) → slot_at slots p ≡ Some x → (1 ≤ p) × (p ≤ length slots) × (is_between (length slots) p ≡ true)
+between_is slots zero x h = cc
+between_is slots (suc n) x h = let z = slot_in slots n x h in (omega arith, omega arith, lt-ltb n (length slots) z)
+
+pub has_slot : (k : Kernel) → IsContent k → (p : ℕ) (q : Proc) → slot_at k.parts.procs p ≡ Some q → HasSlot k p
+has_slot k i p q h = let z = between_is k.parts.procs p q h in record { low = z.0; high = z.1; marks = i.marks; logs = i.logs }
+
+-- no signal is ever pending
+none_pending : (x : Option Proc) → has_pending 9 (process_in x) ≡ false
+none_pending None = refl
+none_pending (Some q) = refl
+
+none_kept : (x : Option Proc) (log : Option (List Change)) → has_pending 9 (kept_in x log) ≡ false
+none_kept None log = refl
+none_kept (Some q) None = refl
+none_kept (Some q) (Some log) = refl
+
+pub not_doomed : (k : Kernel) (s : ℕ) → is_doomed (view_of k) s ≡ false
+unfolding view_of parts_view
+not_doomed k s = by (in_set (just s) (starter_in (slot_at k.marks s)))
+  where
+    by : (b : Bool) → has_pending 9 (if b then kept_in (slot_at k.parts.procs s) (slot_at k.logs s) else process_in (slot_at k.parts.procs s)) ≡ false
+    by true = none_kept (slot_at k.parts.procs s) (slot_at k.logs s)
+    by false = none_pending (slot_at k.parts.procs s)
+
+not_doomed_at : (k : Kernel) (x : Option Mark) → is_doomed_at (view_of k) x ≡ false
+not_doomed_at k None = refl
+not_doomed_at k (Some m) = not_doomed k m.starter.0
+
+not_parked : (n : ℕ) (x : Option Mark) (log : Option (List Change)) (slot : Option Proc) → IsMarked n x log slot → is_parked x ≡ false
+not_parked n None log slot h = refl
+not_parked n (Some m) None slot h = absurd h
+not_parked n (Some m) (Some log) None h = absurd h
+not_parked n (Some m) (Some log) (Some q) h = h.1
+
+owner_of : (s : ℕ) (x : Option Mark) → is_owner s (starter_in x) ≡ is_of s x
+owner_of s None = refl
+owner_of s (Some m) = refl
+
+meets_none : (F : List Object) (P : Object → Bool) → ((o : Object) → has o F ≡ true → P o ≡ false) → meets F P ≡ false
+unfolding has meets
+meets_none [] P h = refl
+meets_none (o ∷ F) P h = rw (h o (has_head o F)) (meets_none F P (λ x e. h x (has_tail x o F e)))
+
+least_all : (P : ℕ → Bool) (n : ℕ) → ((t : ℕ) → P t ≡ false) → least P n ≡ None
+unfolding least
+least_all P zero h = rw (h zero) refl
+least_all P (suc n) h = rw (least_all P n h, h (suc n)) refl
+
+other_parts : (x y : Bool) → (if x then not y else false) ≡ true → y ≡ false
+other_parts true true h = cc
+other_parts true false h = refl
+other_parts false y h = cc
+
+-- an event of process p that names it alone, or what it holds, and posts nothing
+pub record IsOwn (k : Kernel) (p : ℕ) (ev : Event) : Type 0 where
+  pub actor_is : actor ev ≡ p
+  pub objects_are : (o : Object) → has o (footprint (table_in k) ev (present (view_of k))) ≡ true → (o ≡ TheProc p) ⊎ (o ≡ Held p)
+  pub sends_are : (effect ev (present (view_of k))).sends ≡ []
+
+-- nobody is in the way of such an event
+pub no_holder : (k : Kernel) (p : ℕ) (ev : Event) → IsOwn k p ev → holder (view_of k) ev ≡ None
+unfolding in_way view_of parts_view differs_at
+no_holder k p ev own = least_all (in_way (view_of k) ev) (length k.parts.procs) (λ s. by s (if is_live (table_in k) s then not (is_member_of (table_in k) s (actor ev)) else false) refl)
+  where
+    by : (s : ℕ) (b : Bool) → (if is_live (table_in k) s then not (is_member_of (table_in k) s (actor ev)) else false) ≡ b → blocks b (view_of k) ev s ≡ false
+    by s false e = refl
+    by s true e = rw (met, two) refl
+      where
+        out : is_of s (slot_at k.marks p) ≡ false
+        out = subst (λ (q : ℕ). is_of s (slot_at k.marks q) ≡ false) own.actor_is (other_parts (is_live (table_in k) s) (is_member_of (table_in k) s (actor ev)) e)
+
+        at_object : (o : Object) → (o ≡ TheProc p) ⊎ (o ≡ Held p) → is_owner s (owner_at k o) ≡ false
+        at_object o (inl h) = ap (λ (x : Object). is_owner s (owner_at k x)) h ∙ owner_of s (slot_at k.marks p) ∙ out
+        at_object o (inr h) = ap (λ (x : Object). is_owner s (owner_at k x)) h ∙ owner_of s (slot_at k.marks p) ∙ out
+
+        met : meets_touched (view_of k) ev s ≡ false
+        met = meets_none (footprint (table_in k) ev (present (view_of k))) (λ o. is_owner s (owner_at k o)) (λ o h. at_object o (own.objects_are o h))
+
+        two : has_two_answers (view_of k) ev s ≡ false
+        two = ap (λ (ms : List Sending). differs_at s ms (sent (effect ev (present (view_of k))) (present (view_of k))) (sent (effect ev (present (view_of k))) ((view_of k).without (just s)))) own.sends_are
+
+-- a step of a running process that nobody is in the way of is accepted
+pub answer_is : (k : Kernel) (pid : Pid) (call : Call) (q : Proc) → IsContent k → slot_at k.parts.procs pid.0 ≡ Some q → q.status ≡ None → holder (view_of k) (event_on (view_of k) (Calls pid call)) ≡ None
+    → answer (view_of k) (Calls pid call) ≡ accepted_reply (view_of k) (Calls pid call)
+unfolding answer
+answer_is k pid call q i here runs clear = ap (λ (x : Option Refusal). unless_refused x (accepted_reply (view_of k) (Calls pid call))) none
+  where
+    V : View
+    V = view_of k
+
+    at_p : (present V).procs pid.0 ≡ Some (process_of q)
+    at_p = ap (λ (S : State). S.procs pid.0) (present_is k) ∙ ap process_in here
+
+    there : is_there V pid.0 ≡ true
+    there =
+        let b : is_between V.table.width pid.0 ≡ true = ap (λ (t : Table). is_between t.width pid.0) (table_is k) ∙ (between_is k.parts.procs pid.0 q here).2 in
+        rw (b, at_p) refl
+
+    running : is_running ((present V).procs pid.0) ≡ true
+    running = rw (at_p, runs) refl
+
+    marks : V.table.marks pid.0 ≡ slot_at k.marks pid.0
+    marks = ap (λ (t : Table). t.marks pid.0) (table_is k)
+
+    parked : is_parked (V.table.marks pid.0) ≡ false
+    parked = ap is_parked marks ∙ not_parked pid.0 (slot_at k.marks pid.0) (slot_at k.logs pid.0) (slot_at k.parts.procs pid.0) (i.marked pid.0)
+
+    kill : is_held_by_kill (present V) pid.0 (Calls pid call) ≡ false
+    kill = ap (has_pending 9) at_p
+
+    none : refusal V pid.0 (Calls pid call) ≡ None
+    none = rw (there, running, not_doomed_at k (V.table.marks pid.0), parked, kill, clear) refl
+
+pub no_process : (k : Kernel) (pid : Pid) (call : Call) → slot_at k.parts.procs pid.0 ≡ None → answer (view_of k) (Calls pid call) ≡ No NoProcess
+unfolding answer
+no_process k pid call none = rw (gone) refl
+  where
+    V : View
+    V = view_of k
+
+    at_p : (present V).procs pid.0 ≡ None
+    at_p = ap (λ (S : State). S.procs pid.0) (present_is k) ∙ ap process_in none
+
+    gone : is_there V pid.0 ≡ false
+    gone = rw at_p (by (is_between V.table.width pid.0))
+      where
+        by : (b : Bool) → (if b then false else false) ≡ false
+        by true = refl
+        by false = refl
+
+pub not_running : (k : Kernel) (pid : Pid) (call : Call) (q : Proc) (status : ℕ) → slot_at k.parts.procs pid.0 ≡ Some q → q.status ≡ Some status → answer (view_of k) (Calls pid call) ≡ No NotRunning
+unfolding answer
+not_running k pid call q status here ended = rw (there, running) refl
+  where
+    V : View
+    V = view_of k
+
+    at_p : (present V).procs pid.0 ≡ Some (process_of q)
+    at_p = ap (λ (S : State). S.procs pid.0) (present_is k) ∙ ap process_in here
+
+    there : is_there V pid.0 ≡ true
+    there =
+        let b : is_between V.table.width pid.0 ≡ true = ap (λ (t : Table). is_between t.width pid.0) (table_is k) ∙ (between_is k.parts.procs pid.0 q here).2 in
+        rw (b, at_p) refl
+
+    running : is_running ((present V).procs pid.0) ≡ false
+    running = rw (at_p, ended) refl
+
+-- the effects of the events that there are, on the state
+pub do_effect : (k : Kernel) (pid : Pid) (call : Call) (inside : Option Inside) (q : Proc) → slot_at k.parts.procs pid.0 ≡ Some q → q.status ≡ None
+    → effect (Do (Calls pid call) inside) (state_of k.parts) ≡ set_effect pid.0 (process_in (Some (proc_after q (memory_call q.space call)))) (Done (memory_call q.space call).ret)
+unfolding effect
+do_effect k pid call inside q here runs = ap (λ (x : Option Proc). effect_at pid.0 call (process_in x)) here ∙ (rw runs refl)
+
+pub note_effect_is : (k : Kernel) (p : ℕ) (r : ℤ) (q : Proc) → slot_at k.parts.procs p ≡ Some q
+    → effect (Note p r) (state_of k.parts) ≡ set_effect p (process_in (Some (proc_after q (only_answers q r)))) (Done r)
+unfolding effect
+note_effect_is k p r q here = rw here refl
+
+-- an event with such an effect
+pub record IsPlain (k : Kernel) (p : ℕ) (ev : Event) (y : Option Process) (r : ℤ) : Type 0 where
+  pub actor_is : actor ev ≡ p
+  pub objects_are : (S : State) → objects ev S ≡ TheProc p ∷ []
+  pub effect_is : effect ev (state_of k.parts) ≡ set_effect p y (Done r)
+
+pub do_plain : (k : Kernel) (pid : Pid) (call : Call) (inside : Option Inside) (q : Proc) → slot_at k.parts.procs pid.0 ≡ Some q → q.status ≡ None
+    → IsPlain k pid.0 (Do (Calls pid call) inside) (process_in (Some (proc_after q (memory_call q.space call)))) (memory_call q.space call).ret
+unfolding objects
+do_plain k pid call inside q here runs = record { actor_is = refl; objects_are = λ S. refl; effect_is = do_effect k pid call inside q here runs }
+
+pub note_plain : (k : Kernel) (p : ℕ) (r : ℤ) (q : Proc) → slot_at k.parts.procs p ≡ Some q → IsPlain k p (Note p r) (process_in (Some (proc_after q (only_answers q r)))) r
+unfolding objects
+note_plain k p r q here = record { actor_is = refl; objects_are = λ S. refl; effect_is = note_effect_is k p r q here }
+
+module _ (k : Kernel) (p : ℕ) (ev : Event) (y : Option Process) (r : ℤ) (plain : IsPlain k p ev y r) where
+  pub plain_foot : footprint (table_in k) ev (state_of k.parts) ≡ TheProc p ∷ []
+  unfolding footprint targets
+  plain_foot = ap₂ (λ (os : List Object) (f : Effect). os ++ targets (table_in k) (actor ev) f.sends) (plain.objects_are (state_of k.parts)) plain.effect_is
+
+  pub plain_reply_is : reply_of ev (present (view_of k)) ≡ Done r
+  unfolding reply_of
+  plain_reply_is = ap (reply_of ev) (present_is k) ∙ ap (λ (f : Effect). closing_reply f.closing f.sends (sent f (state_of k.parts))) plain.effect_is
+
+  pub plain_own : IsOwn k p ev
+  unfolding has
+  plain_own = record {
+    actor_is = plain.actor_is;
+    objects_are = λ o h. by o (subst (λ (F : List Object). has o F ≡ true) (ap (footprint (table_in k) ev) (present_is k) ∙ plain_foot) h);
+    sends_are = ap (λ (S : State). (effect ev S).sends) (present_is k) ∙ ap (λ (f : Effect). f.sends) plain.effect_is;
+  }
+    where
+      by : (o : Object) → has o (TheProc p ∷ []) ≡ true → (o ≡ TheProc p) ⊎ (o ≡ Held p)
+      by (TheProc n) h = inl (ap TheProc (eqb-true n p (same (n == p) h)))
+        where
+          same : (b : Bool) → (if b then true else false) ≡ true → b ≡ true
+          same true e = refl
+          same false e = e
+      by (Desc n) h = cc
+      by (Pipe n) h = cc
+      by (Held n) h = cc
+
+  -- the same event, where it commits
+  commit_foot : footprint (table_in k) (Commit p ev) (state_of k.parts) ≡ Held p ∷ TheProc p ∷ []
+  unfolding footprint targets objects effect written
+  commit_foot = ap₂ (λ (os : List Object) (f : Effect). (Held p ∷ os) ++ targets (table_in k) (actor ev) (f.sends ++ (written f.writes (state_of k.parts)).held p)) (plain.objects_are (state_of k.parts)) plain.effect_is
+
+  pub commit_reply_is : reply_of (Commit p ev) (present (view_of k)) ≡ Committed (record { items = [] })
+  unfolding reply_of effect written answers
+  commit_reply_is = ap (reply_of (Commit p ev)) (present_is k)
+      ∙ ap (λ (f : Effect). closing_reply ListsFailed (f.sends ++ (written f.writes (state_of k.parts)).held p) (sent (committing p f (state_of k.parts)) (state_of k.parts))) plain.effect_is
+
+  pub commit_own : IsOwn k p (Commit p ev)
+  unfolding has effect written
+  commit_own = record {
+    actor_is = plain.actor_is;
+    objects_are = λ o h. by o (subst (λ (F : List Object). has o F ≡ true) (ap (footprint (table_in k) (Commit p ev)) (present_is k) ∙ commit_foot) h);
+    sends_are = ap (λ (S : State). (effect (Commit p ev) S).sends) (present_is k) ∙ ap (λ (f : Effect). f.sends ++ (written f.writes (state_of k.parts)).held p) plain.effect_is;
+  }
+    where
+      same : (b : Bool) → (if b then true else false) ≡ true → b ≡ true
+      same true e = refl
+      same false e = e
+
+      by : (o : Object) → has o (Held p ∷ TheProc p ∷ []) ≡ true → (o ≡ TheProc p) ⊎ (o ≡ Held p)
+      by (TheProc n) h = inl (ap TheProc (eqb-true n p (same (n == p) h)))
+      by (Desc n) h = cc
+      by (Pipe n) h = cc
+      by (Held n) h = inr (ap Held (eqb-true n p (same (n == p) h)))

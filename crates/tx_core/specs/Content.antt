@@ -1,0 +1,98 @@
+-- What the machine keeps, as a kernel of two parts and one owner for each object.
+use Rattle.std.specs.Prelude.{◌≡◌, ℕ, ◌≤◌, false, List, [], length, Option, Some, None, replicate}
+use Rattle.tx_base.specs.Slots.{slot_at}
+use Rattle.tx_base.specs.declared.marks.Mark.{Mark}
+use Rattle.tx_change.specs.Exchange.{edited_back, AreOf}
+use Rattle.tx_change.specs.Laws.{HasPages}
+use Rattle.tx_change.specs.declared.change.Change.{Change}
+use Rattle.tx_change.specs.declared.parts.Parts.{Parts}
+use Rattle.tx_change.specs.declared.proc.Proc.{Proc}
+use Rattle.tx_core.specs.declared.kernel.Kernel.{Kernel}
+use Rattle.tx_model.specs.Membership.{Table}
+use Rattle.tx_model.specs.Sound.{IsSound}
+use Rattle.tx_model.specs.State.{Process, State, Object, Proc as TheProc, Desc, Pipe, Held, Usual, root_ids}
+use Rattle.tx_model.specs.TwoParts.{TwoParts, parts_view}
+use Rattle.tx_model.specs.View.{View}
+
+-- a process: what no call changes yet is as it was at the start
+abbrev pub process_of : Proc → Process
+process_of p = record {
+  registers = p.regs;
+  parent = p.parent.0;
+  status = p.status;
+  ids = root_ids;
+  memory = p.space;
+  descriptors = replicate 16 None;
+  mask = 0;
+  actions = replicate 40 Usual;
+  pending = 0;
+  queued = [];
+  frames = [];
+}
+
+abbrev pub process_in : Option Proc → Option Process
+process_in None = None
+process_in (Some p) = Some (process_of p)
+
+-- the state that the parts stand for
+abbrev pub state_of : Parts → State
+state_of parts = record {
+  width = length parts.procs;
+  procs = λ n. process_in (slot_at parts.procs n);
+  descs = λ n. None;
+  pipes = λ n. None;
+  held = λ n. [];
+}
+
+-- what a process would be without the transaction whose log this is
+abbrev pub kept_in : Option Proc → Option (List Change) → Option Process
+kept_in None log = None
+kept_in (Some p) None = Some (process_of p)
+kept_in (Some p) (Some log) = Some (process_of (edited_back p log))
+
+abbrev pub kept_of : Kernel → State
+kept_of k = record {
+  width = length k.parts.procs;
+  procs = λ n. kept_in (slot_at k.parts.procs n) (slot_at k.logs n);
+  descs = λ n. None;
+  pipes = λ n. None;
+  held = λ n. [];
+}
+
+abbrev pub starter_in : Option Mark → Option ℕ
+starter_in None = None
+starter_in (Some m) = Some m.starter.0
+
+-- a transaction owns its member, and what it holds
+abbrev pub owner_at : Kernel → Object → Option ℕ
+owner_at k (TheProc n) = starter_in (slot_at k.marks n)
+owner_at k (Desc n) = None
+owner_at k (Pipe n) = None
+owner_at k (Held n) = starter_in (slot_at k.marks n)
+
+abbrev pub table_in : Kernel → Table
+table_in k = record { width = length k.parts.procs; marks = slot_at k.marks }
+
+abbrev pub two_parts_of : Kernel → TwoParts
+two_parts_of k = record { now = state_of k.parts; kept = kept_of k; owner = owner_at k; table = table_in k }
+
+-- the view that the machine has
+unfoldable pub view_of : Kernel → View
+view_of k = parts_view (two_parts_of k)
+
+-- a marked number is the starter and only member of a live transaction, with a log of its own parts
+abbrev pub IsMarked : ℕ → Option Mark → Option (List Change) → Option Proc → Type 0
+IsMarked n None None slot = Unit {0}
+IsMarked n None (Some log) slot = ⊥
+IsMarked n (Some m) None slot = ⊥
+IsMarked n (Some m) (Some log) None = ⊥
+IsMarked n (Some m) (Some log) (Some p) = (m.starter.0 ≡ n) × (m.ended ≡ false) × AreOf n log
+
+-- what is so of every machine
+pub record IsContent (k : Kernel) : Type 0 where
+  pub few : length k.parts.procs ≤ 256
+  pub marks : length k.marks ≡ length k.parts.procs
+  pub logs : length k.logs ≡ length k.parts.procs
+  pub pages : (n : ℕ) → HasPages (slot_at k.parts.procs n)
+  pub marked : (n : ℕ) → IsMarked n (slot_at k.marks n) (slot_at k.logs n) (slot_at k.parts.procs n)
+  pub sound : IsSound (view_of k)

@@ -1,0 +1,5 @@
+pub mod Plans
+pub mod Content
+pub mod Undo
+pub mod Steps
+pub mod Runs

@@ -1,0 +1,66 @@
+-- What a plan makes of the process that it is for.
+use Rattle.std.specs.Prelude.{◌≡◌, ℕ, Option, Some, None, ℤ}
+use Rattle.tx_change.specs.Exchange.{edited, AreOf}
+use Rattle.tx_change.specs.declared.change.Change.{Change}
+use Rattle.tx_change.specs.declared.change.Change.TheVariants.{Page}
+use Rattle.tx_change.specs.declared.proc.Proc.{Proc}
+use Rattle.tx_base.specs.declared.marks.Mark.{Mark}
+use Rattle.tx_base.specs.declared.names.Pid.{Pid}
+use Rattle.tx_base.specs.declared.steps.Call.{Call}
+use Rattle.tx_base.specs.declared.names.Regs.{Regs}
+use Rattle.tx_model.specs.State.{first_registers}
+use Rattle.tx_core.specs.declared.act.CallKind.{CallKind}
+use Rattle.tx_core.specs.declared.act.CallKind.TheVariants.{OfProcess, Begins, Ends, Aborts}
+use Rattle.tx_core.specs.declared.act.Plan.{Plan}
+use Rattle.tx_model.specs.Membership.{Kind, Ordinary, Beginning, Ending, Aborting, kind_of}
+use Rattle.tx_model.specs.Calls.{Local}
+use Rattle.tx_model.specs.Effects.{answered}
+use Rattle.tx_pages.specs.declared.plans.NewPage.{NewPage}
+
+-- the process that the code keeps, as a call leaves it
+abbrev pub proc_after : Proc → Local → Proc
+proc_after p after = record p { regs = answered after.ret p.regs; space = after.memory }
+
+-- a call that answers so, and does nothing else
+abbrev pub only_answers : Proc → ℤ → Local
+only_answers p ret = record { memory = p.space; ret = ret }
+
+-- the plan is for parts of process n, which is p, and gives what the call is to give
+pub record Gives (n : ℕ) (p : Proc) (plan : Plan) (after : Local) : Type 0 where
+  pub own : AreOf n plan.changes.items
+  pub proc : edited p plan.changes.items ≡ proc_after p after
+  pub ret : plan.ret ≡ after.ret
+
+-- the change that puts a new page in place
+abbrev pub page_change : Pid → NewPage → Change
+page_change pid new = Page pid new.number new.page
+
+-- the registers of a slot, those of the start where it has no process
+abbrev pub regs_in : Option Proc → Regs
+regs_in None = first_registers
+regs_in (Some p) = p.regs
+
+-- a call of this kind, by a process with this mark, neither begins, commits nor aborts a transaction
+abbrev pub IsPlainKind : Kind → Option Mark → Type 0
+IsPlainKind Ordinary mark = Unit {0}
+IsPlainKind (Beginning defers) None = ⊥
+IsPlainKind (Beginning defers) (Some m) = Unit {0}
+IsPlainKind Ending None = Unit {0}
+IsPlainKind Ending (Some m) = ⊥
+IsPlainKind Aborting None = Unit {0}
+IsPlainKind Aborting (Some m) = ⊥
+
+abbrev pub IsPlainCall : Call → Option Mark → Type 0
+IsPlainCall call mark = IsPlainKind (kind_of call) mark
+
+-- the process is there and runs
+abbrev pub IsRunning : Option Proc → Type 0
+IsRunning None = ⊥
+IsRunning (Some p) = p.status ≡ None
+
+-- the kind of a call, as the code names it
+abbrev pub named_kind : CallKind → Kind
+named_kind OfProcess = Ordinary
+named_kind (Begins defers) = Beginning defers
+named_kind Ends = Ending
+named_kind Aborts = Aborting

@@ -1,0 +1,51 @@
+-- What a step of the machine is to be.
+use Rattle.std.specs.Prelude.{◌≡◌, ◌≢◌, ◌⊎◌, true, Option, None, Some, IsSome}
+use Rattle.tx_base.specs.declared.steps.Refusal.TheVariants.{NoMemory}
+use Rattle.tx_base.specs.declared.steps.Reply.{Reply}
+use Rattle.tx_base.specs.declared.steps.Reply.TheVariants.{No}
+use Rattle.tx_base.specs.Slots.{slot_at}
+use Rattle.tx_base.specs.declared.names.Pid.{Pid}
+use Rattle.tx_base.specs.declared.steps.Call.TheVariants.{SysXabort}
+use Rattle.tx_base.specs.declared.steps.Step.{Step}
+use Rattle.tx_base.specs.declared.steps.Step.TheVariants.{Call as Calls}
+use Rattle.tx_change.specs.Exchange.{number_of}
+use Rattle.tx_change.specs.declared.change.Change.{Change}
+use Rattle.tx_core.specs.Content.{view_of}
+use Rattle.tx_core.specs.Undo.{changes_of, undone_by, LeadsBack, IsAmong}
+use Rattle.tx_core.specs.declared.inverse.Inverse.{Inverse}
+use Rattle.tx_core.specs.declared.kernel.Kernel.{Kernel}
+use Rattle.tx_model.specs.Answer.{answer, IsAccepted}
+use Rattle.tx_model.specs.History.{footprint}
+use Rattle.tx_model.specs.State.{Proc as TheProc, has}
+use Rattle.tx_model.specs.View.{present, event_on, next}
+
+-- each change of the inverse names an object of the step's footprint
+abbrev pub IsLocal : Kernel → Step → Kernel → Inverse → Type 0
+IsLocal old step new inverse = (change : Change) → IsAmong change (changes_of new inverse)
+    → has (TheProc (number_of change)) (footprint (view_of old).table (event_on (view_of old) step) (present (view_of old))) ≡ true
+
+-- the step was accepted with this reply, and left the kernel so, with this inverse
+pub record IsStep (old : Kernel) (step : Step) (reply : Reply) (inverse : Inverse) (new : Kernel) : Type 0 where
+  pub answered : answer (view_of old) step ≡ reply
+  pub accepted : IsAccepted reply
+  pub next : view_of new ≡ next (view_of old) step
+  pub back : undone_by new inverse ≡ old
+  pub leads_back : LeadsBack new inverse
+  pub local : IsLocal old step new inverse
+
+-- the step is a sys_xabort by a member
+abbrev pub IsXabort : Kernel → Step → Type 0
+IsXabort old step = (pid : Pid) × (step ≡ Calls pid SysXabort) × IsSome (slot_at old.marks pid.0)
+
+-- the step was refused, and changed nothing: for want of memory, where nothing else refused it and it
+-- is no member's sys_xabort; or as the answer says
+abbrev pub IsRefused : Kernel → Step → Reply → Kernel → Type 0
+IsRefused old step reply new =
+    (new ≡ old)
+    × ((reply ≡ No NoMemory) × IsAccepted (answer (view_of old) step) × (IsXabort old step → ⊥)
+    ⊎ (answer (view_of old) step ≡ reply) × (IsAccepted reply → ⊥) × (reply ≢ No NoMemory))
+
+-- what a step answers and leaves: with an inverse exactly where it was accepted
+abbrev pub Steps : Kernel → Step → Reply → Option Inverse → Kernel → Type 0
+Steps old step reply None new = IsRefused old step reply new
+Steps old step reply (Some inverse) new = IsStep old step reply inverse new

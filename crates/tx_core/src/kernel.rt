@@ -1,0 +1,218 @@
+//! The parts of the kernel with the marks and the logs of its live transactions, and the changes
+//! that steps make of them.
+ghost use Rattle.std.specs.Prelude.{◌≡◌, ◌<◌, ◌≤◌, ◌++◌, false, length, Some, None, IfOk, OnOk, OnErr, IsSome};
+ghost use Rattle.tx_base.specs.Slots.{slot_at, with_slot};
+ghost use Rattle.tx_base.specs.declared.names.Regs.{Regs as TheRegs};
+ghost use Rattle.tx_change.specs.Exchange.{applied, exchanged, undone, reverted, parts_after, change_after, AreNamed};
+ghost use Rattle.tx_change.specs.declared.change.Change.TheVariants.{Regs as SetRegs};
+ghost use Rattle.tx_core.specs.Plans.{regs_in};
+ghost use Rattle.tx_core.specs.Undo.{log_in, undone_by, HasSlot, GoesWith};
+ghost use Rattle.tx_core.specs.declared.inverse.Inverse.TheVariants.{Outside, Inside, Begun, Committed, Aborted};
+ghost use Rattle.tx_model.specs.Effects.{answered};
+ghost use Rattle.tx_model.specs.Membership.{new_mark};
+
+use crate::act::answer_in;
+use crate::inverse::Inverse;
+use crate::log::Log;
+use tx_base::{Mark, NoMemory, Pid, Slots};
+use tx_change::{Change, Parts, apply};
+
+/// The parts of the kernel; for each process number its mark, if it is a member of a live
+/// transaction; and for each starter of one the old parts of what it changed.
+#[derive(Drop)]
+pub struct Kernel {
+    pub parts: Parts,
+    pub marks: Slots<Mark>,
+    pub logs: Slots<Log>,
+}
+
+impl Kernel {
+    /// Makes the exchanges of a step outside of transactions.
+    pub fn change_outside(&mut self, mut changes: Vec<Change>) -> Inverse
+        requires { AreNamed self.old.parts changes.items }
+        ensures kernel { self.new ≡ record self.old { parts = applied self.old.parts changes.items } }
+        ensures inverse { result ≡ Outside (exchanged self.old.parts changes.items) }
+    {
+        apply(&mut self.parts, &mut changes);
+        Inverse::Outside {
+            log: Log::of(changes),
+        }
+    }
+
+    /// Makes the exchanges of a step inside the transaction of the starter, and keeps what was
+    /// there in its log. After want of memory all is as it was.
+    #[tactic(auto, using(crate::proofs::Slotted::slot_again, crate::proofs::Slotted::slot_back, crate::proofs::Slotted::named_undone))]
+    pub fn change_inside(&mut self, starter: Pid, changes: Vec<Change>) -> Result<Inverse, NoMemory>
+        requires slot { HasSlot self.old starter.0 }
+        requires log { IsSome (slot_at self.old.logs starter.0) }
+        requires named { AreNamed self.old.parts changes.items }
+        ensures parts { OnOk result (self.new.parts ≡ applied self.old.parts changes.items) }
+        ensures logs { OnOk result (self.new.logs ≡ with_slot self.old.logs starter.0 (Some (log_in (slot_at self.old.logs starter.0) ++ exchanged self.old.parts changes.items))) }
+        ensures marks { self.new.marks ≡ self.old.marks }
+        ensures inverse { IfOk result (λ inverse. inverse ≡ Inside starter (length changes.items)) }
+        ensures refused { OnErr result (self.new ≡ self.old) }
+    {
+        let count = changes.len();
+        let mut slot = None;
+        self.logs.swap(starter, &mut slot);
+        let mut log = slot.unwrap();
+        match log.keep(&mut self.parts, changes) {
+            Ok(()) => {
+                self.logs.swap(starter, &mut Some(log));
+                Ok(Inverse::Inside { starter, count })
+            }
+            Err(refused) => {
+                self.logs.swap(starter, &mut Some(log));
+                Err(refused)
+            }
+        }
+    }
+
+    /// Makes the exchanges of a transaction's first step, which are its log from now on.
+    pub fn begin(&mut self, starter: Pid, defers: bool, mut changes: Vec<Change>) -> Inverse
+        requires slot { HasSlot self.old starter.0 }
+        requires named { AreNamed self.old.parts changes.items }
+        ensures parts { self.new.parts ≡ applied self.old.parts changes.items }
+        ensures marks { self.new.marks ≡ with_slot self.old.marks starter.0 (Some (new_mark starter.0 defers)) }
+        ensures logs { self.new.logs ≡ with_slot self.old.logs starter.0 (Some (exchanged self.old.parts changes.items)) }
+        ensures inverse { result ≡ Begun starter }
+    {
+        apply(&mut self.parts, &mut changes);
+        let mark = Mark {
+            starter,
+            ended: false,
+            defers,
+        };
+        self.marks.swap(starter, &mut Some(mark));
+        self.logs.swap(starter, &mut Some(Log::of(changes)));
+        Inverse::Begun { starter }
+    }
+
+    /// Makes the exchanges of the step that commits the starter's transaction, which is over then.
+    /// After want of memory all is as it was.
+    #[tactic(auto, using(crate::proofs::Slotted::slot_again, crate::proofs::Slotted::slot_back, crate::proofs::Slotted::named_undone))]
+    pub fn commit(
+        &mut self,
+        starter: Pid,
+        mark: Mark,
+        changes: Vec<Change>,
+    ) -> Result<Inverse, NoMemory>
+        requires slot { HasSlot self.old starter.0 }
+        requires log { IsSome (slot_at self.old.logs starter.0) }
+        requires named { AreNamed self.old.parts changes.items }
+        ensures parts { OnOk result (self.new.parts ≡ applied self.old.parts changes.items) }
+        ensures marks { OnOk result (self.new.marks ≡ with_slot self.old.marks starter.0 None) }
+        ensures logs { OnOk result (self.new.logs ≡ with_slot self.old.logs starter.0 None) }
+        ensures inverse { IfOk result (λ inverse. inverse ≡
+            Committed starter mark (log_in (slot_at self.old.logs starter.0) ++ exchanged self.old.parts changes.items) (length changes.items)) }
+        ensures refused { OnErr result (self.new ≡ self.old) }
+    {
+        let count = changes.len();
+        let mut slot = None;
+        self.logs.swap(starter, &mut slot);
+        let mut log = slot.unwrap();
+        match log.keep(&mut self.parts, changes) {
+            Ok(()) => {
+                self.marks.swap(starter, &mut None);
+                Ok(Inverse::Committed {
+                    starter,
+                    mark,
+                    log,
+                    count,
+                })
+            }
+            Err(refused) => {
+                self.logs.swap(starter, &mut Some(log));
+                Err(refused)
+            }
+        }
+    }
+
+    /// Leads the starter's transaction back and gives the starter this answer. It takes no memory.
+    #[tactic(auto, using(crate::proofs::Slotted::slot_again, crate::proofs::Slotted::slot_back, crate::proofs::Slotted::named_undone))]
+    pub fn abort(&mut self, starter: Pid, mark: Mark, ret: i64) -> Inverse
+        requires slot { HasSlot self.old starter.0 }
+        requires log { IsSome (slot_at self.old.logs starter.0) }
+        requires named { AreNamed self.old.parts (log_in (slot_at self.old.logs starter.0)) }
+        ensures parts { let before = undone self.old.parts (log_in (slot_at self.old.logs starter.0)) in
+            self.new.parts ≡ parts_after before (SetRegs starter (answered ret (regs_in (slot_at before.procs starter.0)))) }
+        ensures marks { self.new.marks ≡ with_slot self.old.marks starter.0 None }
+        ensures logs { self.new.logs ≡ with_slot self.old.logs starter.0 None }
+        ensures inverse { let log = log_in (slot_at self.old.logs starter.0) in let before = undone self.old.parts log in
+            result ≡ Aborted starter mark (reverted self.old.parts log) (change_after before (SetRegs starter (answered ret (regs_in (slot_at before.procs starter.0))))) }
+    {
+        let mut slot = None;
+        self.logs.swap(starter, &mut slot);
+        let mut log = slot.unwrap();
+        log.lead_back(&mut self.parts);
+        let mut noted = Change::Regs(starter, answer_in(&self.regs(starter), ret));
+        noted.swap(&mut self.parts);
+        self.marks.swap(starter, &mut None);
+        Inverse::Aborted {
+            starter,
+            mark,
+            log,
+            noted,
+        }
+    }
+
+    /// The registers of a process; those of the start where there is none.
+    fn regs(&self, pid: Pid) -> tx_base::Regs
+        ensures { result ≡ regs_in (slot_at self.now.parts.procs pid.0) }
+    {
+        match self.parts.proc(pid) {
+            Some(proc) => proc.regs,
+            None => tx_base::Regs {
+                point: 0,
+                ret: 0,
+                slots: [0; 8],
+            },
+        }
+    }
+
+    /// Takes the step back whose inverse this is. It takes no memory.
+    #[tactic(auto, using(crate::proofs::Slotted::slot_again, crate::proofs::Slotted::slot_back, crate::proofs::Slotted::named_undone))]
+    pub fn undo(&mut self, inverse: Inverse)
+        requires { GoesWith self.old inverse }
+        ensures { self.new ≡ undone_by self.old inverse }
+    {
+        match inverse {
+            Inverse::Outside { mut log } => log.lead_back(&mut self.parts),
+            Inverse::Inside { starter, count } => {
+                let mut slot = None;
+                self.logs.swap(starter, &mut slot);
+                let mut log = slot.unwrap();
+                log.give_back(&mut self.parts, count);
+                self.logs.swap(starter, &mut Some(log));
+            }
+            Inverse::Begun { starter } => {
+                let mut slot = None;
+                self.logs.swap(starter, &mut slot);
+                let mut log = slot.unwrap();
+                log.lead_back(&mut self.parts);
+                self.marks.swap(starter, &mut None);
+            }
+            Inverse::Committed {
+                starter,
+                mark,
+                mut log,
+                count,
+            } => {
+                log.give_back(&mut self.parts, count);
+                self.marks.swap(starter, &mut Some(mark));
+                self.logs.swap(starter, &mut Some(log));
+            }
+            Inverse::Aborted {
+                starter,
+                mark,
+                mut log,
+                mut noted,
+            } => {
+                noted.swap(&mut self.parts);
+                log.lead_forward(&mut self.parts);
+                self.marks.swap(starter, &mut Some(mark));
+                self.logs.swap(starter, &mut Some(log));
+            }
+        }
+    }
+}

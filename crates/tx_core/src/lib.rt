@@ -1,0 +1,16 @@
+//! The machine: a kernel that takes a schedule of steps, with transactions that live side by
+//! side, a log of old parts for each, and an inverse of every accepted step.
+#![tactic(auto)]
+
+mod act;
+mod inverse;
+mod kernel;
+mod log;
+mod machine;
+mod schedules;
+
+pub use inverse::Inverse;
+pub use kernel::Kernel;
+pub use log::Log;
+pub use machine::{Machine, NoTransaction};
+pub use schedules::{Ran, run, run_wide};

@@ -1,0 +1,316 @@
+//! The machine, as its steps change it.
+ghost use Rattle.std.specs.Prelude.{◌≡◌, ◌≢◌, ◌≤◌, ◌↔◌, ◌⊎◌, ◌∷◌, [], ℕ, List, true, length, pos, Some, None, IfOk, OnOk, OnErr, IsOk, IfSome, IsSome, IsNone, option_map};
+ghost use Rattle.tx_base.specs.Slots.{slot_at};
+ghost use Rattle.tx_base.specs.declared.marks.Mark.{Mark as TheMark};
+ghost use Rattle.tx_base.specs.declared.steps.Call.TheVariants.{SysXend, SysXabort};
+ghost use Rattle.tx_base.specs.declared.steps.Step.TheVariants.{Call as Calls, KernelAbort};
+ghost use Rattle.tx_core.specs.Content.{view_of, state_of};
+ghost use Rattle.tx_core.specs.Plans.{IsRunning, IsPlainCall};
+ghost use Rattle.tx_base.specs.declared.steps.Accepted.{Accepted};
+ghost use Rattle.tx_base.specs.declared.steps.Reply.TheVariants.{Aborted, No};
+ghost use Rattle.tx_core.specs.Steps.{IsStep, Steps, IsXabort};
+ghost use Rattle.tx_core.specs.Undo.{undone_by, LeadsBack};
+ghost use Rattle.tx_model.specs.Answer.{answer, IsAccepted, Lawful};
+ghost use Rattle.tx_model.specs.Membership.{Beginning, Ending, Aborting, kind_of, is_live};
+ghost use Rattle.tx_model.specs.State.{State, booted};
+ghost use Rattle.tx_model.specs.View.{view, present};
+
+use crate::act::{CallKind, call_kind, plan_answer, plan_call};
+use crate::inverse::Inverse;
+use crate::kernel::Kernel;
+use arrayvec::ArrayVec;
+use std::alloc::Global;
+use std::marker::Model;
+use tx_base::{
+    ABORTED_BY_CALL, ABORTED_BY_KERNEL, Call, Mark, NoMemory, PROCESSES, Pid, Refusal, Reply,
+    Slots, Step, WIDE_PROCESSES,
+};
+use tx_change::Parts;
+
+/// There is no live transaction of that starter.
+#[derive(Clone, Copy, PartialEq, Eq, Debug)]
+pub struct NoTransaction;
+
+/// A kernel that takes steps, one after another.
+#[derive(Drop)]
+pub struct Machine {
+    kernel: Kernel,
+}
+
+impl Model for Machine {
+    ghost use Rattle.tx_core.specs.Content.{IsContent};
+    ghost use Rattle.tx_core.specs.declared.kernel.Kernel.{Kernel as TheKernel};
+
+    ghost Value = { TheKernel };
+
+    ghost view = { λ machine. machine.kernel };
+
+    ghost invariant = { λ machine. IsContent machine.kernel };
+}
+
+impl Machine {
+    /// A call that opens and closes no transaction, of a process in none.
+    fn outside(
+        &mut self,
+        alloc: Global,
+        pid: Pid,
+        call: &Call,
+    ) -> Result<(Reply, Inverse), NoMemory>
+        requires running { IsRunning (slot_at self.old.parts.procs pid.0) }
+        requires free { slot_at self.old.marks pid.0 ≡ None }
+        requires plain { IsPlainCall call.now None }
+        ensures ok { IfOk result (λ made. IsStep self.old (Calls pid call.now) made.0 made.1 self.new) }
+        ensures err { OnErr result (self.new ≡ self.old) }
+    {
+        let proc = self.kernel.parts.proc(pid).unwrap();
+        let plan = plan_call(alloc, pid, proc, call)?;
+        let inverse = self.kernel.change_outside(plan.changes);
+        Ok((Reply::Done(plan.ret), inverse))
+    }
+
+    /// A call that opens and closes no transaction, of a member of one.
+    fn inside(
+        &mut self,
+        alloc: Global,
+        pid: Pid,
+        mark: Mark,
+        call: &Call,
+    ) -> Result<(Reply, Inverse), NoMemory>
+        requires running { IsRunning (slot_at self.old.parts.procs pid.0) }
+        requires marked { slot_at self.old.marks pid.0 ≡ Some mark }
+        requires plain { IsPlainCall call.now (Some mark) }
+        ensures ok { IfOk result (λ made. IsStep self.old (Calls pid call.now) made.0 made.1 self.new) }
+        ensures err { OnErr result (self.new ≡ self.old) }
+    {
+        let proc = self.kernel.parts.proc(pid).unwrap();
+        let plan = plan_call(alloc, pid, proc, call)?;
+        let inverse = self.kernel.change_inside(pid, plan.changes)?;
+        Ok((Reply::Done(plan.ret), inverse))
+    }
+
+    /// The first step of a transaction.
+    fn begin(
+        &mut self,
+        alloc: Global,
+        pid: Pid,
+        defers: bool,
+        call: &Call,
+    ) -> Result<(Reply, Inverse), NoMemory>
+        requires running { IsRunning (slot_at self.old.parts.procs pid.0) }
+        requires free { slot_at self.old.marks pid.0 ≡ None }
+        requires kind { kind_of call.now ≡ Beginning defers }
+        ensures ok { IfOk result (λ made. IsStep self.old (Calls pid call.now) made.0 made.1 self.new) }
+        ensures err { OnErr result (self.new ≡ self.old) }
+    {
+        let proc = self.kernel.parts.proc(pid).unwrap();
+        let plan = plan_answer(alloc, pid, proc, 0)?;
+        let inverse = self.kernel.begin(pid, defers, plan.changes);
+        Ok((Reply::Done(0), inverse))
+    }
+
+    /// The step that ends the part of a transaction's only member.
+    fn commit(
+        &mut self,
+        alloc: Global,
+        pid: Pid,
+        mark: Mark,
+        _call: &Call,
+    ) -> Result<(Reply, Inverse), NoMemory>
+        requires running { IsRunning (slot_at self.old.parts.procs pid.0) }
+        requires marked { slot_at self.old.marks pid.0 ≡ Some mark }
+        requires kind { kind_of _call.now ≡ Ending }
+        ensures ok { IfOk result (λ made. IsStep self.old (Calls pid _call.now) made.0 made.1 self.new) }
+        ensures err { OnErr result (self.new ≡ self.old) }
+    {
+        let proc = self.kernel.parts.proc(pid).unwrap();
+        let plan = plan_answer(alloc, pid, proc, 0)?;
+        let inverse = self.kernel.commit(pid, mark, plan.changes)?;
+        let undelivered = ArrayVec::new();
+        Ok((Reply::Committed { undelivered }, inverse))
+    }
+
+    /// A member aborts its transaction. It takes no memory.
+    fn xabort(&mut self, pid: Pid, mark: Mark, _call: &Call) -> (Reply, Inverse)
+        requires running { IsRunning (slot_at self.old.parts.procs pid.0) }
+        requires marked { slot_at self.old.marks pid.0 ≡ Some mark }
+        requires kind { kind_of _call.now ≡ Aborting }
+        ensures { IsStep self.old (Calls pid _call.now) result.0 result.1 self.new }
+    {
+        let inverse = self.kernel.abort(pid, mark, -201);
+        (Reply::Aborted(ABORTED_BY_CALL), inverse)
+    }
+
+    /// A call of a running process.
+    fn make(&mut self, alloc: Global, pid: Pid, call: &Call) -> Result<(Reply, Inverse), NoMemory>
+        requires { IsRunning (slot_at self.old.parts.procs pid.0) }
+        ensures ok { IfOk result (λ made. IsStep self.old (Calls pid call.now) made.0 made.1 self.new) }
+        ensures err { OnErr result (self.new ≡ self.old) }
+        ensures memory { OnErr result (kind_of call.now ≡ Aborting → slot_at self.old.marks pid.0 ≡ None) }
+    {
+        let mark = self.kernel.marks.get(pid).copied();
+        match call_kind(call) {
+            CallKind::OfProcess => match mark {
+                None => self.outside(alloc, pid, call),
+                Some(mark) => self.inside(alloc, pid, mark, call),
+            },
+            CallKind::Begins(defers) => match mark {
+                None => self.begin(alloc, pid, defers, call),
+                Some(mark) => self.inside(alloc, pid, mark, call),
+            },
+            CallKind::Ends => match mark {
+                None => self.outside(alloc, pid, call),
+                Some(mark) => self.commit(alloc, pid, mark, call),
+            },
+            CallKind::Aborts => match mark {
+                None => self.outside(alloc, pid, call),
+                Some(mark) => Ok(self.xabort(pid, mark, call)),
+            },
+        }
+    }
+
+    /// A call, whatever its process.
+    fn call(&mut self, alloc: Global, pid: Pid, call: &Call) -> (Reply, Option<Inverse>)
+        ensures { Steps self.old (Calls pid call.now) result.0 result.1 self.new }
+    {
+        let status = match self.kernel.parts.proc(pid) {
+            Some(proc) => proc.status,
+            None => return (Reply::No(Refusal::NoProcess), None),
+        };
+        if status.is_some() {
+            return (Reply::No(Refusal::NotRunning), None);
+        }
+        match self.make(alloc, pid, call) {
+            Ok((reply, inverse)) => (reply, Some(inverse)),
+            Err(NoMemory) => (Reply::No(Refusal::NoMemory), None),
+        }
+    }
+
+    /// Aborts the live transaction of a starter: all that its members' steps changed is as it
+    /// was, and the starter stands at the point after its sys_xbegin with -202. It takes no
+    /// memory. Own rule.
+    ///
+    /// Answers `NoTransaction` where the starter has no live transaction, with nothing changed.
+    pub fn kernel_abort(&mut self, starter: Pid) -> Result<Inverse, NoTransaction>
+        ensures ok { IfOk result (λ inverse. IsStep self.old (KernelAbort starter) (Aborted 202) inverse self.new) }
+        ensures none { IsOk result ↔ (is_live (view_of self.old).table starter.0 ≡ true) }
+        ensures err { OnErr result (self.new ≡ self.old) }
+        ensures history { OnOk result ((start : State) (earlier : List Accepted) → Lawful start earlier → view_of self.old ≡ view start earlier →
+            Lawful start (record { step = KernelAbort starter; reply = Aborted 202 } ∷ earlier)
+            × (view_of self.new ≡ view start (record { step = KernelAbort starter; reply = Aborted 202 } ∷ earlier))) }
+    {
+        let mark = self.kernel.marks.get(starter).copied();
+        match mark {
+            Some(mark) => Ok(self.kernel.abort(starter, mark, -202)),
+            None => Err(NoTransaction),
+        }
+    }
+
+    /// Any step.
+    fn take(&mut self, alloc: Global, step: &Step) -> (Reply, Option<Inverse>)
+        ensures { Steps self.old step.now result.0 result.1 self.new }
+    {
+        match step {
+            Step::Call(pid, call) => self.call(alloc, *pid, call),
+            Step::KernelAbort(starter) => match self.kernel_abort(*starter) {
+                Ok(inverse) => (Reply::Aborted(ABORTED_BY_KERNEL), Some(inverse)),
+                Err(NoTransaction) => (Reply::No(Refusal::NoTransaction), None),
+            },
+        }
+    }
+
+    /// Makes a step. Answers its reply, and where it was accepted the inverse that takes it back.
+    ///
+    /// A refused step changes nothing. `NoMemory` comes only where nothing else refuses the step,
+    /// and never to a member's sys_xabort.
+    pub fn step(&mut self, alloc: Global, step: Step) -> (Reply, Option<Inverse>)
+        ensures answer { (result.0 ≡ No Refusal.NoMemory) ⊎ (answer (view_of self.old) step ≡ result.0) }
+        ensures memory { result.0 ≡ No Refusal.NoMemory → IsAccepted (answer (view_of self.old) step) }
+        ensures refused { IsNone result.1 → self.new ≡ self.old }
+        ensures inverse { IsSome result.1 ↔ IsAccepted result.0 }
+        ensures accepted { IfSome result.1 (λ inverse. IsStep self.old step result.0 inverse self.new) }
+        ensures history { IsAccepted result.0 → (start : State) (earlier : List Accepted) → Lawful start earlier → view_of self.old ≡ view start earlier →
+            Lawful start (record { step = step; reply = result.0 } ∷ earlier) × (view_of self.new ≡ view start (record { step = step; reply = result.0 } ∷ earlier)) }
+        ensures xabort { IsXabort self.old step → result.0 ≢ No Refusal.NoMemory }
+    {
+        self.take(alloc, &step)
+    }
+
+    /// Takes back the step whose inverse this is, on the machine as that step left it. It takes no
+    /// memory and is never refused.
+    pub fn undo(&mut self, inverse: Inverse)
+        requires { LeadsBack self.old inverse }
+        ensures { self.new ≡ undone_by self.old inverse }
+    {
+        self.kernel.undo(inverse);
+    }
+
+    /// How many process numbers there are: 64, or 256 of a wide machine.
+    pub fn processes(&self) -> u16
+        ensures { result ≡ length self.now.parts.procs }
+    {
+        self.kernel.parts.procs.width() as u16
+    }
+
+    /// The parts, whose state is that of the machine's view.
+    pub fn parts(&self) -> &Parts
+        ensures parts { result.now ≡ self.now.parts }
+        ensures state { state_of result.now ≡ present (view_of self.now) }
+    {
+        &self.kernel.parts
+    }
+
+    /// For each process number its mark, if it is a member of a live transaction.
+    pub fn marks(&self) -> &Slots<Mark>
+        ensures marks { result.now ≡ self.now.marks }
+        ensures table { (n : ℕ) → slot_at result.now n ≡ (view_of self.now).table.marks n }
+    {
+        &self.kernel.marks
+    }
+
+    /// The starter of the live transaction that the process is a member of.
+    pub fn txn_of(&self, pid: Pid) -> Option<Pid>
+        ensures { result ≡ option_map (λ m. m.starter) ((view_of self.now).table.marks pid.0) }
+    {
+        let mark = self.kernel.marks.get(pid).copied();
+        match mark {
+            Some(mark) => Some(mark.starter),
+            None => None,
+        }
+    }
+
+    /// A machine of so many process numbers, of which the first few run.
+    fn booted(alloc: Global, width: u16, count: u16) -> Result<Machine, NoMemory>
+        requires width { width ≤ 256 }
+        requires count { count ≤ width }
+        ensures view { IfOk result (λ machine. view_of machine ≡ view (booted width count) []) }
+        ensures processes { IfOk result (λ machine. length machine.parts.procs ≡ width) }
+    {
+        let parts = Parts::boot(alloc, width, count)?;
+        let marks = Slots::new(alloc, width)?;
+        let logs = Slots::new(alloc, width)?;
+        Ok(Machine {
+            kernel: Kernel { parts, marks, logs },
+        })
+    }
+
+    /// A machine with the processes 1 to count, of 64 that it may have. They run at point 0 with
+    /// nothing else; the parent of 1 is 0, that of the others is 1.
+    pub fn boot(alloc: Global, count: u16) -> Result<Machine, NoMemory>
+        requires low { 1 ≤ count }
+        requires high { count ≤ 64 }
+        ensures view { IfOk result (λ machine. view_of machine ≡ view (booted 64 count) []) }
+        ensures processes { IfOk result (λ machine. length machine.parts.procs ≡ 64) }
+    {
+        Machine::booted(alloc, PROCESSES, count)
+    }
+
+    /// A wide machine: as `boot`, of 256 processes that it may have.
+    pub fn boot_wide(alloc: Global, count: u16) -> Result<Machine, NoMemory>
+        requires low { 1 ≤ count }
+        requires high { count ≤ 256 }
+        ensures view { IfOk result (λ machine. view_of machine ≡ view (booted 256 count) []) }
+        ensures processes { IfOk result (λ machine. length machine.parts.procs ≡ 256) }
+    {
+        Machine::booted(alloc, WIDE_PROCESSES, count)
+    }
+}

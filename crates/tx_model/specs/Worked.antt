@@ -1,0 +1,85 @@
+-- Two schedules that are worked out to the end. Own rules.
+use Rattle.std.specs.Prelude.{◌≡◌, ℕ, true, List, [], ◌∷◌, ℤ, pos, negsuc, Some, None, replicate}
+use Rattle.tx_base.specs.declared.steps.Call.{Call}
+use Rattle.tx_base.specs.declared.steps.Call.TheVariants.{Map, Store, Load, SysXbegin, SysXend, SysXabort}
+use Rattle.tx_base.specs.declared.steps.Refusal.TheVariants.{NoProcess}
+use Rattle.tx_base.specs.declared.steps.Reply.TheVariants.{Done, Committed, Aborted, No}
+use Rattle.tx_base.specs.declared.steps.Step.{Step}
+use Rattle.tx_base.specs.declared.steps.Step.TheVariants.{Call as Calls, KernelAbort}
+use Rattle.tx_model.specs.Memory.{Memory, no_memory}
+use Rattle.tx_model.specs.State.{Process, State, booted_process, booted}
+use Rattle.tx_model.specs.View.{view, present}
+use Rattle.tx_model.specs.Schedules.{history_of, answers_of}
+
+-- process p makes a call
+abbrev pub calls : ℕ → Call → Step
+calls p call = Calls (record { 0 = p }) call
+
+abbrev pub store : ℤ → List ℕ → Call
+store address bytes = Store address (record { items = bytes })
+
+-- the process as it was booted, but for where it stands, its last answer and its memory
+abbrev pub standing : ℕ → ℕ → ℤ → Memory → Process
+standing n point ret memory =
+    record (booted_process n) { registers = record { point = point; ret = ret; slots = replicate 8 (pos 0) }; memory = memory }
+
+-- the state that the schedule leaves
+abbrev pub state_after : State → List Step → State
+state_after S steps = present (view S (history_of S [] steps))
+
+-- a transaction that maps a page and stores into it, and takes itself back
+abbrev pub taken_back : List Step
+taken_back = calls 2 SysXbegin ∷ calls 2 (Map (pos 0)) ∷ calls 2 (store (pos 5) (65 ∷ [])) ∷ calls 2 SysXabort ∷ []
+
+abbrev pub TakenBackAnswers : Type 0
+TakenBackAnswers = answers_of (booted 64 2) [] taken_back ≡ Done (pos 0) ∷ Done (pos 0) ∷ Done (pos 0) ∷ Aborted 201 ∷ []
+
+-- its process stands behind its sys_xbegin with the status as an error, and has no page; the other is as booted
+abbrev pub TakenBackState : Type 0
+TakenBackState =
+    ((state_after (booted 64 2) taken_back).procs 2 ≡ Some (standing 2 1 (negsuc 200) no_memory))
+    × ((state_after (booted 64 2) taken_back).procs 1 ≡ Some (booted_process 1))
+
+-- two transactions side by side: the kernel takes that of process 3 back, and that of process 2 commits
+abbrev pub side_by_side : List Step
+side_by_side =
+    calls 2 SysXbegin
+    ∷ calls 3 SysXbegin
+    ∷ calls 2 (Map (pos 0))
+    ∷ calls 3 (Map (pos 0))
+    ∷ calls 2 SysXbegin
+    ∷ calls 3 (store (pos 0) (10 ∷ []))
+    ∷ KernelAbort (record { 0 = 3 })
+    ∷ calls 2 (store (pos 1) (255 ∷ 0 ∷ []))
+    ∷ calls 2 (Load (pos 1))
+    ∷ calls 2 SysXend
+    ∷ calls 3 SysXend
+    ∷ calls 9 (Map (pos 0))
+    ∷ []
+
+abbrev pub SideBySideAnswers : Type 0
+SideBySideAnswers =
+    answers_of (booted 64 3) [] side_by_side
+    ≡ Done (pos 0)
+    ∷ Done (pos 0)
+    ∷ Done (pos 0)
+    ∷ Done (pos 0)
+    ∷ Done (negsuc 21)
+    ∷ Done (pos 0)
+    ∷ Aborted 202
+    ∷ Done (pos 0)
+    ∷ Done (pos 255)
+    ∷ Committed (record { items = [] })
+    ∷ Done (negsuc 21)
+    ∷ No NoProcess
+    ∷ []
+
+-- one page, which may be written, with 255 in byte 1
+abbrev pub stored_page : Memory
+stored_page = Some (record { writable = true; bytes = 0 ∷ 255 ∷ replicate 62 0 }) ∷ replicate 15 None
+
+abbrev pub SideBySideState : Type 0
+SideBySideState =
+    ((state_after (booted 64 3) side_by_side).procs 1 ≡ Some (booted_process 1))
+    × ((state_after (booted 64 3) side_by_side).procs 2 ≡ Some (standing 2 6 (pos 0) stored_page))
+    × ((state_after (booted 64 3) side_by_side).procs 3 ≡ Some (standing 3 2 (negsuc 21) no_memory))

@@ -1,0 +1,83 @@
+//! The program: reads its words, and then a text.
+#![tactic(auto)]
+
+mod byte_words;
+mod ends;
+mod faults;
+mod header;
+mod heads;
+mod lines;
+mod numbers;
+mod over;
+mod pids;
+mod print;
+mod replays;
+mod replies;
+mod reports;
+mod schedule;
+mod split;
+mod state;
+mod steps;
+mod text;
+mod txns;
+mod whole;
+mod words;
+
+use clap::error::ErrorKind;
+use faults::Fault;
+use over::{OverRead, OverWrite};
+use replays::replay;
+use std::process::ExitCode;
+use std::{env, io};
+use words::{Asked, read_words};
+
+/// The status of a fault.
+const FAULTY: u8 = 1;
+
+/// The status of words that can't be read.
+const UNREAD: u8 = 2;
+
+fn main(rt: HostRuntime) -> ExitCode {
+    let given = match env::args(&rt) {
+        Ok(given) => given,
+        Err(error) => {
+            if error.kind() == io::ErrorKind::OutOfMemory {
+                return out_of_memory(&rt);
+            }
+            return ExitCode::from(UNREAD);
+        }
+    };
+    let Ok(words) = given.collect::<Vec<String>>(rt.alloc()) else {
+        return out_of_memory(&rt);
+    };
+    match read_words(rt.alloc(), words.as_slice()) {
+        Ok(Asked::Replay) => {
+            let mut source = OverRead::new(rt.reader());
+            let mut sink = OverWrite::new(io::writer(&rt));
+            status_of(&rt, replay(rt.alloc(), &mut source, &mut sink))
+        }
+        Err(error) => {
+            if error.kind() == ErrorKind::OutOfMemory {
+                return out_of_memory(&rt);
+            }
+            let _ = eprint!(rt; "{error}");
+            ExitCode::from(UNREAD)
+        }
+    }
+}
+
+/// The status of a command's answer. A fault is printed.
+fn status_of(rt: &impl Eprint, answer: Result<(), Fault>) -> ExitCode {
+    match answer {
+        Ok(()) => ExitCode::SUCCESS,
+        Err(fault) => {
+            let _ = eprintln!(rt; "txos: {fault}");
+            ExitCode::from(FAULTY)
+        }
+    }
+}
+
+/// Says that memory is wanted.
+fn out_of_memory(rt: &impl Eprint) -> ExitCode {
+    status_of(rt, Err(Fault::NoMemory))
+}

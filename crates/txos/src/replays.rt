@@ -1,0 +1,36 @@
+//! Reads a schedule, runs it, and writes the report.
+ghost use Rattle.std.specs.Prelude.{◌≡◌};
+ghost use Rattle.txos.specs.Ends.{IsFresh};
+ghost use Rattle.txos.specs.Replay.{Replays};
+
+use crate::ends::{Sink, Source};
+use crate::faults::Fault;
+use crate::reports::report;
+use crate::text::read_schedule;
+use crate::whole::{read_whole, write_whole};
+use std::alloc::Global;
+
+/// Reads the text of a schedule to its end, runs it, and writes the report. Nothing is written
+/// where the fault is another one than `Writer`.
+pub fn replay<S: Source, W: Sink>(alloc: Global, source: &mut S, sink: &mut W) -> Result<(), Fault>
+    requires source { IsFresh (S.counts source.old) }
+    requires sink { IsFresh (W.counts sink.old) }
+    ensures { Replays (S.left source.old) (S.counts source.old) (W.written sink.old) (W.counts sink.old) result (S.counts source.new) (W.written sink.new) (W.counts sink.new) }
+{
+    let text = match read_whole(alloc, source) {
+        Ok(text) => text,
+        Err(fault) => return Err(fault),
+    };
+    let schedule = match read_schedule(alloc, text.as_slice()) {
+        Ok(schedule) => schedule,
+        Err(fault) => return Err(fault),
+    };
+    let report = match report(alloc, &schedule) {
+        Ok(report) => report,
+        Err(fault) => return Err(fault),
+    };
+    write_whole(sink, report.as_bytes())
+}
+
+#[cfg(test)]
+mod tests;

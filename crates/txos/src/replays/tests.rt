@@ -1,0 +1,112 @@
+use super::replay;
+use crate::faults::Fault;
+use crate::over::{OverRead, OverWrite};
+use std::alloc::Global;
+use std::io::{Error, ErrorKind, Result, Write};
+use std::str;
+
+/// A writer into memory that fails once it has taken so many bytes.
+#[derive(Drop)]
+struct Taking<'a> {
+    room: usize,
+    taken: &'a mut Vec<u8>,
+}
+
+impl Write for Taking<'_> {
+    fn write(&mut self, bytes: &[u8]) -> Result<usize> {
+        if self.room == 0 {
+            return Err(Error::from(ErrorKind::BrokenPipe));
+        }
+        let count = bytes.len().min(self.room);
+        self.taken.extend_from_slice(&bytes[..count])?;
+        self.room -= count;
+        Ok(count)
+    }
+
+    fn flush(&mut self) -> Result<()> {
+        Ok(())
+    }
+}
+
+/// What the replay of a text answers, and what it writes to a writer with so much room.
+fn replay_into(
+    alloc: Global,
+    text: &str,
+    room: usize,
+) -> (std::result::Result<(), Fault>, Vec<u8>) {
+    let mut taken = Vec::new(alloc);
+    let writer = Taking {
+        room,
+        taken: &mut taken,
+    };
+    let answer = replay(
+        alloc,
+        &mut OverRead::new(text.as_bytes()),
+        &mut OverWrite::new(writer),
+    );
+    (answer, taken)
+}
+
+/// A schedule and its report.
+const ROWS: [(&str, &str); 6] = [
+    (
+        "txos 1 schedule 1\n",
+        "state\nproc 1 parent 0 run point 0 ret 0\n",
+    ),
+    (
+        "txos 1 schedule 2\n2 sys_xbegin\n2 map 0\n2 store 5 41\n2 sys_xabort\n",
+        "1 ok 0\n2 ok 0\n3 ok 0\n4 aborted 201\nstate\nproc 1 parent 0 run point 0 ret 0\nproc 2 parent 1 run point 1 ret -201\n",
+    ),
+    (
+        "txos 1 schedule 2\n2 sys_xbegin\n2 map 0\n2 store 5 41\n",
+        "1 ok 0\n2 ok 0\n3 ok 0\nstate\nproc 1 parent 0 run point 0 ret 0\nproc 2 parent 1 run point 3 ret 0\npage 0 rw 5=41\ntxn 2 open 2 ended -\n",
+    ),
+    (
+        "txos 2 schedule 2\n1 sys_xbegin\n2 sys_xbegin defer\n",
+        "1 ok 0\n2 ok 0\nstate\nproc 1 parent 0 run point 1 ret 0\nproc 2 parent 1 run point 1 ret 0\ntxn 1 open 1 ended -\ntxn 2 defer open 2 ended -\n",
+    ),
+    (
+        "txos 1 schedule 1\n1 map 3\n1 store 192 00ff\n1 protect 3 r\n1 store 192 01\n1 load 193\n",
+        "1 ok 0\n2 ok 0\n3 ok 0\n4 ok -14\n5 ok 255\nstate\nproc 1 parent 0 run point 5 ret 255\npage 3 r 1=ff\n",
+    ),
+    (
+        "txos 1 schedule 1\n9 map 0\nkernel 1\n1 sys_xend\n1 map 16\n",
+        "1 no N1\n2 no N12\n3 ok -22\n4 ok -22\nstate\nproc 1 parent 0 run point 2 ret -22\n",
+    ),
+];
+
+#[test]
+fn reports(rt: HostRuntime) {
+    for (text, report) in ROWS {
+        let (answer, taken) = replay_into(rt.alloc(), text, 10_000);
+        assert_eq!(rt; answer, Ok(()), "{text:?}");
+        assert_eq!(rt; str::from_utf8(taken.as_slice()), Ok(report), "{text:?}");
+    }
+}
+
+#[test]
+fn writer_fails(rt: HostRuntime) {
+    let (text, report) = ROWS[1];
+    for room in 0..report.len() {
+        let (answer, taken) = replay_into(rt.alloc(), text, room);
+        assert_eq!(rt; answer, Err(Fault::Writer), "after {room}");
+        assert_eq!(rt; taken.as_slice(), &report.as_bytes()[..room]);
+    }
+}
+
+#[test]
+fn faults_write_nothing(rt: HostRuntime) {
+    let rows: [(&str, Fault); 3] = [
+        ("", Fault::NotALine { line: 1 }),
+        ("txos 1 schedule 1\n1 map 0", Fault::NotALine { line: 2 }),
+        (
+            "txos 1 schedule 1\n1 map 0\n1 getpid\n",
+            Fault::NotALine { line: 3 },
+        ),
+    ];
+    for (text, fault) in rows {
+        let (answer, taken) = replay_into(rt.alloc(), text, 10_000);
+        assert_eq!(rt; answer, Err(fault), "{text:?}");
+        assert!(rt; taken.is_empty());
+    }
+}

@@ -1,0 +1,89 @@
+//! Runs a schedule, and prints what it answers and the state that it leaves.
+ghost use Rattle.std.specs.Prelude.{◌≡◌, ◌++◌, ◌↔◌, [], IfErr, IfOk, IsTrue, OnOk, string_bytes};
+ghost use Rattle.tx_base.specs.declared.steps.Reply.TheVariants.{No};
+ghost use Rattle.tx_base.specs.declared.steps.Refusal.TheVariants as refusals;
+ghost use Rattle.tx_core.specs.Content.{view_of};
+ghost use Rattle.txos.specs.Lines.{FitsHeader};
+ghost use Rattle.txos.specs.Report.{replies_text, report_text, start_of, state_text, view_after};
+ghost use Rattle.txos.specs.declared.faults.Fault.TheVariants.{NoMemory};
+
+use crate::faults::Fault;
+use crate::header::{Header, Version};
+use crate::print::put;
+use crate::replies::put_reply_line;
+use crate::schedule::Schedule;
+use crate::state::put_procs;
+use crate::txns::put_txns;
+use std::alloc::Global;
+use tx_base::{Refusal, Reply, Step};
+use tx_core::Machine;
+
+/// The report of a schedule: a line for each step's reply, and the text of the state after the
+/// last one. The only fault is `NoMemory`.
+pub fn report(alloc: Global, schedule: &Schedule) -> Result<String, Fault>
+    requires { FitsHeader schedule.now.header }
+    ensures text { IfOk result (λ text. string_bytes text ≡ report_text schedule.now.header schedule.now.steps.items) }
+    ensures fault { IfErr result (λ fault. fault ≡ NoMemory) }
+{
+    let mut machine = boot(alloc, schedule.header)?;
+    let mut text = String::new(alloc);
+    put_replies(alloc, &mut text, &mut machine, schedule.steps.as_slice())?;
+    put_state(&mut text, &machine)?;
+    Ok(text)
+}
+
+/// A machine as it is at the start.
+fn boot(alloc: Global, header: Header) -> Result<Machine, Fault>
+    requires { FitsHeader header }
+    ensures view { IfOk result (λ machine. view_of machine ≡ start_of header) }
+    ensures fault { IfErr result (λ fault. fault ≡ NoMemory) }
+{
+    let machine = match header.version {
+        Version::One => Machine::boot(alloc, header.count)?,
+        Version::Two => Machine::boot_wide(alloc, header.count)?,
+    };
+    Ok(machine)
+}
+
+/// Makes the steps, and appends the line of each reply.
+fn put_replies(
+    alloc: Global,
+    text: &mut String,
+    machine: &mut Machine,
+    steps: &[Step],
+) -> Result<(), Fault>
+    ensures text { OnOk result (string_bytes text.new ≡ string_bytes text.old ++ replies_text (view_of machine.old) 1 steps.now) }
+    ensures view { OnOk result (view_of machine.new ≡ view_after (view_of machine.old) steps.now) }
+    ensures fault { IfErr result (λ fault. fault ≡ NoMemory) }
+{
+    for i in 0..steps.len() {
+        let (reply, _inverse) = machine.step(alloc, steps[i].copy());
+        if wants_memory(&reply) {
+            return Err(Fault::NoMemory);
+        }
+        put_reply_line(text, i as u64 + 1, &reply)?;
+    }
+    Ok(())
+}
+
+/// Whether a step was refused for want of memory.
+fn wants_memory(reply: &Reply) -> bool
+    ensures { IsTrue result ↔ (reply.now ≡ No refusals.NoMemory) }
+{
+    match reply {
+        Reply::No(Refusal::NoMemory) => true,
+        _ => false,
+    }
+}
+
+/// Appends the text of the state.
+fn put_state(text: &mut String, machine: &Machine) -> Result<(), Fault>
+    ensures text { OnOk result (string_bytes text.new ≡ string_bytes text.old ++ state_text (view_of machine.now)) }
+    ensures fault { IfErr result (λ fault. fault ≡ NoMemory) }
+{
+    put(text, "state\n")?;
+    let width = machine.processes();
+    put_procs(text, machine.parts(), width)?;
+    put_txns(text, machine.marks(), width)?;
+    Ok(())
+}

@@ -1,0 +1,36 @@
+use super::{Asked, read_words};
+use clap::error::ErrorKind;
+use std::alloc::Global;
+use std::test::Fail;
+
+/// What the words after the program's name are read as.
+fn read(alloc: Global, words: &[&str]) -> Result<Result<Asked, ErrorKind>, Fail> {
+    let mut given = Vec::new(alloc);
+    given.push(String::from_str(alloc, "txos")?)?;
+    for word in words {
+        given.push(String::from_str(alloc, word)?)?;
+    }
+    match read_words(alloc, given.as_slice()) {
+        Ok(asked) => Ok(Ok(asked)),
+        Err(error) => Ok(Err(error.kind())),
+    }
+}
+
+#[test]
+fn words(rt: HostRuntime) -> Result<(), Fail> {
+    assert_eq!(rt; read(rt.alloc(), &["replay"])?, Ok(Asked::Replay));
+    let lists: [&[&str]; 6] = [
+        &[],
+        &["--help"],
+        &["help"],
+        &["undo"],
+        &["replay", "more"],
+        &["replay", "--help"],
+    ];
+    for list in lists {
+        let kind = read(rt.alloc(), list)?.err();
+        assert!(rt; kind.is_some(), "{list:?}");
+        assert_ne!(rt; kind, Some(ErrorKind::OutOfMemory), "{list:?}");
+    }
+    Ok(())
+}
