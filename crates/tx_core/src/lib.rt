@@ -8,6 +8,8 @@ mod kernel;
 mod log;
 mod machine;
 mod schedules;
+#[cfg(test)]
+mod tests;
 
 pub use inverse::Inverse;
 pub use kernel::Kernel;

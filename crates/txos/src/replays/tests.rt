@@ -4,6 +4,7 @@ use crate::over::{OverRead, OverWrite};
 use std::alloc::Global;
 use std::io::{Error, ErrorKind, Result, Write};
 use std::str;
+use std::test::Fail;
 
 /// A writer into memory that fails once it has taken so many bytes.
 #[derive(Drop)]
@@ -48,7 +49,7 @@ fn replay_into(
 }
 
 /// A schedule and its report.
-const ROWS: [(&str, &str); 6] = [
+const ROWS: [(&str, &str); 7] = [
     (
         "txos 1 schedule 1\n",
         "state\nproc 1 parent 0 run point 0 ret 0\n",
@@ -73,6 +74,10 @@ const ROWS: [(&str, &str); 6] = [
         "txos 1 schedule 1\n9 map 0\nkernel 1\n1 sys_xend\n1 map 16\n",
         "1 no N1\n2 no N12\n3 ok -22\n4 ok -22\nstate\nproc 1 parent 0 run point 2 ret -22\n",
     ),
+    (
+        "txos 1 schedule 3\n2 sys_xbegin\n3 sys_xbegin\n2 map 0\n3 map 0\n2 sys_xbegin\n3 store 0 0a\nkernel 3\n2 store 1 ff00\n2 load 1\n2 sys_xend\n3 sys_xend\n9 map 0\n",
+        "1 ok 0\n2 ok 0\n3 ok 0\n4 ok 0\n5 ok -22\n6 ok 0\n7 aborted 202\n8 ok 0\n9 ok 255\n10 committed\n11 ok -22\n12 no N1\nstate\nproc 1 parent 0 run point 0 ret 0\nproc 2 parent 1 run point 6 ret 0\npage 0 rw 1=ff\nproc 3 parent 1 run point 2 ret -22\n",
+    ),
 ];
 
 #[test]
@@ -86,7 +91,7 @@ fn reports(rt: HostRuntime) {
 
 #[test]
 fn writer_fails(rt: HostRuntime) {
-    let (text, report) = ROWS[1];
+    let (text, report) = ROWS[6];
     for room in 0..report.len() {
         let (answer, taken) = replay_into(rt.alloc(), text, room);
         assert_eq!(rt; answer, Err(Fault::Writer), "after {room}");
@@ -96,17 +101,52 @@ fn writer_fails(rt: HostRuntime) {
 
 #[test]
 fn faults_write_nothing(rt: HostRuntime) {
-    let rows: [(&str, Fault); 3] = [
+    let rows: [(&str, Fault); 4] = [
         ("", Fault::NotALine { line: 1 }),
         ("txos 1 schedule 1\n1 map 0", Fault::NotALine { line: 2 }),
         (
             "txos 1 schedule 1\n1 map 0\n1 getpid\n",
             Fault::NotALine { line: 3 },
         ),
+        ("txos 1 schedule 1\n1 getpid", Fault::NotALine { line: 2 }),
     ];
     for (text, fault) in rows {
         let (answer, taken) = replay_into(rt.alloc(), text, 10_000);
         assert_eq!(rt; answer, Err(fault), "{text:?}");
         assert!(rt; taken.is_empty());
     }
+}
+
+/// The steps of a schedule, and its report on a machine of 256 processes up to those that the
+/// steps left alone, of which the first is named.
+const WIDE_ROWS: [(&str, &str, u16); 2] = [
+    (
+        "2 sys_xbegin\n2 map 0\n2 store 5 41\n2 sys_xabort\n",
+        "1 ok 0\n2 ok 0\n3 ok 0\n4 aborted 201\nstate\nproc 1 parent 0 run point 0 ret 0\nproc 2 parent 1 run point 1 ret -201\n",
+        3,
+    ),
+    (
+        "2 sys_xbegin\n3 sys_xbegin\n2 map 0\n3 map 0\n2 sys_xbegin\n3 store 0 0a\nkernel 3\n2 store 1 ff00\n2 load 1\n2 sys_xend\n3 sys_xend\n300 map 0\n",
+        "1 ok 0\n2 ok 0\n3 ok 0\n4 ok 0\n5 ok -22\n6 ok 0\n7 aborted 202\n8 ok 0\n9 ok 255\n10 committed\n11 ok -22\n12 no N1\nstate\nproc 1 parent 0 run point 0 ret 0\nproc 2 parent 1 run point 6 ret 0\npage 0 rw 1=ff\nproc 3 parent 1 run point 2 ret -22\n",
+        4,
+    ),
+];
+
+#[test]
+fn reports_of_wide_machines(rt: HostRuntime) -> std::result::Result<(), Fail> {
+    for (steps, front, rest) in WIDE_ROWS {
+        let text = format!(in rt.alloc(); "txos 2 schedule 256\n{steps}")?;
+        let mut report = format!(in rt.alloc(); "{front}")?;
+        for number in rest..=256 {
+            writeln!(report, "proc {number} parent 1 run point 0 ret 0")?;
+        }
+        let (answer, taken) = replay_into(rt.alloc(), &text, 20_000);
+        assert_eq!(rt; answer, Ok(()), "{steps:?}");
+        assert_eq!(rt;
+            str::from_utf8(taken.as_slice()),
+            Ok(report.as_str()),
+            "{steps:?}"
+        );
+    }
+    Ok(())
 }
