@@ -5,6 +5,7 @@ pub mod Hexed
 pub mod LineEnds
 pub mod Listed
 pub mod OneMore
+pub mod Reported
 pub mod Spelled
 pub mod StateSpelled
 pub mod StepParts

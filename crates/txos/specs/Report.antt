@@ -4,7 +4,8 @@ use Rattle.tx_base.specs.declared.steps.Reply.{Reply}
 use Rattle.tx_base.specs.declared.steps.Reply.TheVariants.{Done, Ended, Committed, Aborted, Out, No}
 use Rattle.tx_base.specs.declared.steps.Step.{Step}
 use Rattle.tx_model.specs.Answer.{answer}
-use Rattle.tx_model.specs.State.{booted}
+use Rattle.tx_model.specs.Schedules.{answers_of, history_of}
+use Rattle.tx_model.specs.State.{State, booted}
 use Rattle.tx_model.specs.View.{View, view, present, next}
 use Rattle.txos.specs.declared.header.Header.{Header}
 use Rattle.txos.specs.Lines.{most_of}
@@ -39,10 +40,20 @@ replies_text V number (step ∷ steps) = line_text number (answer V step) ++ rep
 abbrev pub state_text : View → List ℕ
 state_text V = codes "state\n" ++ (procs_text (present V).width (present V).procs ++ txns_text V.table.width V.table.marks)
 
+-- the state at the start
+abbrev pub start_state : Header → State
+start_state header = booted (most_of header.version) header.count
+
 -- the view at the start
 abbrev pub start_of : Header → View
-start_of header = view (booted (most_of header.version) header.count) []
+start_of header = view (start_state header) []
 
--- the whole report
+-- the lines of some replies, from that number on
+abbrev pub lines_text : ℕ → List Reply → List ℕ
+lines_text number [] = []
+lines_text number (reply ∷ replies) = line_text number reply ++ lines_text (number + 1) replies
+
+-- the whole report: the answer to each step in turn, each on the history before it, and the state of the history that all leave
 abbrev pub report_text : Header → List Step → List ℕ
-report_text header steps = replies_text (start_of header) 1 steps ++ state_text (view_after (start_of header) steps)
+report_text header steps =
+    lines_text 1 (answers_of (start_state header) [] steps) ++ state_text (view (start_state header) (history_of (start_state header) [] steps))
