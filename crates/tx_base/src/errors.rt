@@ -12,12 +12,20 @@ pub enum Errno {
     NotPermitted,
     /// ESRCH
     NoSuchProcess,
+    /// EBADF
+    BadDescriptor,
+    /// ECHILD
+    NoChild,
     /// EAGAIN
     TryAgain,
     /// EFAULT
     BadAddress,
     /// EINVAL
     InvalidArgument,
+    /// EMFILE
+    TooManyDescriptors,
+    /// EPIPE
+    BrokenPipe,
 }
 
 impl Errno {
@@ -28,9 +36,13 @@ impl Errno {
         match self {
             Errno::NotPermitted => 1,
             Errno::NoSuchProcess => 3,
+            Errno::BadDescriptor => 9,
+            Errno::NoChild => 10,
             Errno::TryAgain => 11,
             Errno::BadAddress => 14,
             Errno::InvalidArgument => 22,
+            Errno::TooManyDescriptors => 24,
+            Errno::BrokenPipe => 32,
         }
     }
 }
@@ -60,9 +72,13 @@ mod tests {
         for (error, number) in [
             (Errno::NotPermitted, 1),
             (Errno::NoSuchProcess, 3),
+            (Errno::BadDescriptor, 9),
+            (Errno::NoChild, 10),
             (Errno::TryAgain, 11),
             (Errno::BadAddress, 14),
             (Errno::InvalidArgument, 22),
+            (Errno::TooManyDescriptors, 24),
+            (Errno::BrokenPipe, 32),
         ] {
             assert_eq!(rt; error.number(), number, "of {error:?}");
         }

@@ -5,15 +5,18 @@ mod errors;
 mod limits;
 mod marks;
 mod names;
+mod signals;
 mod slots;
 mod steps;
 
 pub use errors::{Errno, NoMemory};
 pub use limits::{
-    ABORTED_BY_CALL, ABORTED_BY_KERNEL, ABORTED_DOOMED, ADDRESSES, LAST_POINT, PAGE_BYTES, PAGES,
-    PROCESSES, STORE_BYTES, UNDELIVERED, WIDE_PROCESSES,
+    ABORTED_BY_CALL, ABORTED_BY_KERNEL, ABORTED_DOOMED, ADDRESSES, CLOSED_INSIDE, CONSOLE_BYTES,
+    DESCRIPTIONS, DESCRIPTORS, FRAMES, HELD_SENDS, LAST_ID, LAST_POINT, PAGE_BYTES, PAGES,
+    PIPE_BYTES, PIPES, PROCESSES, QUEUED, SLOTS, STORE_BYTES, UNDELIVERED, WIDE_PROCESSES,
 };
 pub use marks::Mark;
-pub use names::{Missed, Pid, Regs, Signo};
+pub use names::{DescNo, Missed, Pid, PipeNo, Regs, Sending, Signo};
+pub use signals::{Action, How, SigSet};
 pub use slots::Slots;
-pub use steps::{Accepted, Call, Refusal, Reply, Step};
+pub use steps::{Accepted, Call, Refusal, Reply, Step, When};

@@ -9,6 +9,14 @@ pub struct Pid(pub u16);
 #[derive(Clone, Copy, PartialEq, Eq, Debug, Default)]
 pub struct Signo(pub u8);
 
+/// The number of an open description: 0 to 63, where a description may have it.
+#[derive(Clone, Copy, PartialEq, Eq, Debug, Default)]
+pub struct DescNo(pub u8);
+
+/// The number of a pipe: 0 to 31, where a pipe may have it.
+#[derive(Clone, Copy, PartialEq, Eq, Debug, Default)]
+pub struct PipeNo(pub u8);
+
 /// Where a process stands in its script, the answer of its last call, and its eight slots.
 #[derive(Clone, Copy, Debug)]
 pub struct Regs {
@@ -25,4 +33,16 @@ pub struct Missed {
     pub target: Pid,
     pub signo: Signo,
     pub errno: Errno,
+}
+
+/// A signal on its way.
+#[derive(Clone, Copy, Debug, Default)]
+pub struct Sending {
+    pub target: Pid,
+    pub signo: Signo,
+    /// What a realtime signal brings; a standard one brings 0.
+    pub value: i64,
+    /// The real and the effective user id of the sender, at the call. The kernel's own signals
+    /// have no sender.
+    pub from: Option<(u16, u16)>,
 }

@@ -1,8 +1,17 @@
 //! What a process asks for, and what it is answered.
-ghost use Rattle.std.specs.Prelude.{◌≡◌};
+ghost use Rattle.std.specs.Prelude.{◌≡◌, ◌↔◌, IsTrue};
 
-use crate::names::{Missed, Pid};
+use crate::names::{DescNo, Missed, Pid, PipeNo, Signo};
+use crate::signals::{Action, How, SigSet};
 use arrayvec::ArrayVec;
+
+/// When a jump is made. Own rule.
+#[derive(Clone, Copy, PartialEq, Eq, Debug)]
+pub enum When {
+    Always,
+    /// Where the last answer is this number.
+    IfRet(i64),
+}
 
 /// A call of a process. A number that a program computes is an `i64`; each value out of range
 /// has its stated error.
@@ -18,6 +27,59 @@ pub enum Call {
     Store(i64, ArrayVec<u8, 64>),
     /// Reads the byte at an address. Own rule.
     Load(i64),
+    /// Makes a child with this number (XSH, `fork()`).
+    Fork(Pid),
+    /// Ends the process with this status modulo 256 (XSH, `_exit()`).
+    Exit(i64),
+    /// Takes the status of the child of this number, and says whether not to wait for it (XSH,
+    /// `waitpid()`).
+    Waitpid(i64, bool),
+    /// Answers the process's number (XSH, `getpid()`).
+    Getpid,
+    /// Answers the parent's number (XSH, `getppid()`).
+    Getppid,
+    /// Sets the user ids (XSH, `setuid()`).
+    Setuid(i64),
+    /// Sets the effective user id (XSH, `seteuid()`).
+    Seteuid(i64),
+    /// Sets the group ids (XSH, `setgid()`).
+    Setgid(i64),
+    /// Sets the effective group id (XSH, `setegid()`).
+    Setegid(i64),
+    /// Makes the pipe of that number with the descriptions of its two sides, the one to read from
+    /// first (XSH, `pipe()`).
+    Pipe(PipeNo, DescNo, DescNo),
+    /// Gives a description the lowest free descriptor too (XSH, `dup()`).
+    Dup(i64),
+    /// Gives the description of the first descriptor the second too (XSH, `dup2()`).
+    Dup2(i64, i64),
+    /// Closes a descriptor (XSH, `close()`).
+    Close(i64),
+    /// Says whether reads and writes are refused where they would wait (XSH, `fcntl()`,
+    /// O_NONBLOCK).
+    SetNonblock(i64, bool),
+    /// Reads from a descriptor to an address up to so many bytes (XSH, `read()`).
+    Read(i64, i64, i64),
+    /// Writes to a descriptor from an address so many bytes (XSH, `write()`).
+    Write(i64, i64, i64),
+    /// Sends the process a signal (XSH, `kill()`).
+    Kill(i64, i64),
+    /// Sends the process a signal with a value (XSH, `sigqueue()`).
+    Sigqueue(i64, i64, i64),
+    /// Says what is done about a signal (XSH, `sigaction()`).
+    Sigaction(i64, Action),
+    /// Changes the mask (XSH, `sigprocmask()`).
+    Sigprocmask(How, SigSet),
+    /// Answers the signals that are pending and blocked, as a number (XSH, `sigpending()`).
+    Sigpending,
+    /// Goes back to where the last caught signal was caught. Own rule.
+    Sigreturn,
+    /// Shows so many bytes at an address. Own rule.
+    ConsoleWrite(i64, i64),
+    /// Goes on at another point. Own rule.
+    Jump(u32, When),
+    /// Keeps the last answer in a slot. Own rule.
+    Keep(i64),
     /// Begins a transaction. Own rule.
     SysXbegin,
     /// Begins a transaction that defers deliveries to its members. Own rule.
@@ -33,6 +95,8 @@ pub enum Call {
 pub enum Step {
     /// A process makes a call.
     Call(Pid, Call),
+    /// A signal that is pending at a process is delivered.
+    Deliver(Pid, Signo),
     /// The kernel aborts the live transaction of a starter.
     KernelAbort(Pid),
 }
@@ -123,6 +187,31 @@ impl Call {
             Call::Protect(page, writable) => Call::Protect(*page, *writable),
             Call::Store(address, bytes) => Call::Store(*address, copy_bytes(bytes)),
             Call::Load(address) => Call::Load(*address),
+            Call::Fork(child) => Call::Fork(*child),
+            Call::Exit(status) => Call::Exit(*status),
+            Call::Waitpid(target, nohang) => Call::Waitpid(*target, *nohang),
+            Call::Getpid => Call::Getpid,
+            Call::Getppid => Call::Getppid,
+            Call::Setuid(id) => Call::Setuid(*id),
+            Call::Seteuid(id) => Call::Seteuid(*id),
+            Call::Setgid(id) => Call::Setgid(*id),
+            Call::Setegid(id) => Call::Setegid(*id),
+            Call::Pipe(pipe, read, write) => Call::Pipe(*pipe, *read, *write),
+            Call::Dup(fd) => Call::Dup(*fd),
+            Call::Dup2(from, to) => Call::Dup2(*from, *to),
+            Call::Close(fd) => Call::Close(*fd),
+            Call::SetNonblock(fd, on) => Call::SetNonblock(*fd, *on),
+            Call::Read(fd, address, count) => Call::Read(*fd, *address, *count),
+            Call::Write(fd, address, count) => Call::Write(*fd, *address, *count),
+            Call::Kill(target, signo) => Call::Kill(*target, *signo),
+            Call::Sigqueue(target, signo, value) => Call::Sigqueue(*target, *signo, *value),
+            Call::Sigaction(signo, action) => Call::Sigaction(*signo, *action),
+            Call::Sigprocmask(how, set) => Call::Sigprocmask(*how, *set),
+            Call::Sigpending => Call::Sigpending,
+            Call::Sigreturn => Call::Sigreturn,
+            Call::ConsoleWrite(address, count) => Call::ConsoleWrite(*address, *count),
+            Call::Jump(point, when) => Call::Jump(*point, *when),
+            Call::Keep(slot) => Call::Keep(*slot),
             Call::SysXbegin => Call::SysXbegin,
             Call::SysXbeginDefer => Call::SysXbeginDefer,
             Call::SysXend => Call::SysXend,
@@ -138,12 +227,26 @@ impl Step {
     {
         match self {
             Step::Call(pid, call) => Step::Call(*pid, call.copy()),
+            Step::Deliver(pid, signo) => Step::Deliver(*pid, *signo),
             Step::KernelAbort(starter) => Step::KernelAbort(*starter),
         }
     }
 }
 
 impl Reply {
+    ghost use Rattle.tx_base.specs.declared.steps.Reply.TheVariants.{No};
+    ghost use Rattle.tx_base.specs.declared.steps.Refusal.TheVariants as refusals;
+
+    /// Whether a growth of memory was refused.
+    pub fn wants_memory(&self) -> bool
+        ensures { IsTrue result ↔ (self.now ≡ No refusals.NoMemory) }
+    {
+        match self {
+            Reply::No(Refusal::NoMemory) => true,
+            _ => false,
+        }
+    }
+
     /// An equal reply. It takes no memory.
     pub fn copy(&self) -> Reply
         ensures { result ≡ self.now }
@@ -182,6 +285,18 @@ mod tests {
             (Call::Protect(3, true), "Protect(3, true)"),
             (Call::Store(5, bytes(&[65, 0])), "Store(5, [65, 0])"),
             (Call::Load(1023), "Load(1023)"),
+            (Call::Fork(Pid(7)), "Fork(Pid(7))"),
+            (Call::Waitpid(7, true), "Waitpid(7, true)"),
+            (
+                Call::Pipe(PipeNo(0), DescNo(1), DescNo(2)),
+                "Pipe(PipeNo(0), DescNo(1), DescNo(2))",
+            ),
+            (Call::Sigqueue(2, 32, -9), "Sigqueue(2, 32, -9)"),
+            (
+                Call::Sigprocmask(How::Block, SigSet::HUP),
+                "Sigprocmask(Block, SigSet(2))",
+            ),
+            (Call::Jump(5, When::IfRet(0)), "Jump(5, IfRet(0))"),
             (Call::SysXbegin, "SysXbegin"),
             (Call::SysXbeginDefer, "SysXbeginDefer"),
             (Call::SysXend, "SysXend"),
@@ -194,6 +309,13 @@ mod tests {
             assert_eq!(rt; said, want);
         }
         Ok(())
+    }
+
+    #[test]
+    fn want_of_memory_is_one_refusal(rt: HostRuntime) {
+        assert!(rt; Reply::No(Refusal::NoMemory).wants_memory());
+        assert!(rt; !Reply::No(Refusal::Wait).wants_memory());
+        assert!(rt; !Reply::Done(0).wants_memory());
     }
 
     #[test]

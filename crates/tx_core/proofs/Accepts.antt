@@ -12,12 +12,14 @@ use Rattle.tx_base.specs.declared.steps.Reply.TheVariants.{Done, Committed, Abor
 use Rattle.tx_base.specs.declared.steps.Step.{Step}
 use Rattle.tx_base.specs.declared.steps.Step.TheVariants.{Call as Calls, KernelAbort}
 use Rattle.tx_change.specs.declared.proc.Proc.{Proc}
+use Rattle.tx_core.specs.Built.{IsBuiltCall}
 use Rattle.tx_core.specs.Content.{process_in, view_of, IsContent}
 use Rattle.tx_core.specs.Plans.{proc_after, only_answers, IsPlainCall, IsRunning}
 use Rattle.tx_core.specs.Steps.{IsStep, IsXabort, Steps}
 use Rattle.tx_core.specs.declared.inverse.Inverse.{Inverse}
 use Rattle.tx_core.specs.declared.kernel.Kernel.{Kernel}
 use Rattle.tx_core.proofs.Cases.{plain_role, plain_case, begins_case, commits_case, aborts_case}
+use Rattle.tx_core.proofs.OfBuilt.{begins_built}
 use Rattle.tx_core.proofs.Outcomes.{reply_of_case}
 use Rattle.tx_core.proofs.Replies.{IsPlain, note_plain, plain_reply_is, plain_own, commit_reply_is, commit_own}
 use Rattle.tx_model.specs.Answer.{answer, plain_reply, IsAccepted, Lawful}
@@ -36,7 +38,7 @@ module _ (k : Kernel) (pid : Pid) (q : Proc) (i : IsContent k) (here : slot_at k
       let r : ℤ = (memory_call q.space call).ret in
       let reply = plain_reply_is k pid.0 pc.event (process_in (Some (proc_after q (memory_call q.space call)))) r pc.plain in
       let own = plain_own k pid.0 pc.event (process_in (Some (proc_after q (memory_call q.space call)))) r pc.plain in
-      subst IsAccepted (sym (reply_of_case k pid call q (plain_role mark) pc.event (Done r) i here runs pc.is_case own (by mark pc.event ∙ reply))) tt
+      subst IsAccepted (sym (reply_of_case k pid call q (plain_role mark) pc.event (Done r) plain.0 i here runs pc.is_case own (by mark pc.event ∙ reply))) tt
     where
       by : (mark : Option Mark) (ev : Event) → plain_reply called_by_status (plain_role mark) ev (present (view_of k)) ≡ reply_of ev (present (view_of k))
       by None ev = refl
@@ -46,44 +48,45 @@ module _ (k : Kernel) (pid : Pid) (q : Proc) (i : IsContent k) (here : slot_at k
   begins_accepted call defers kind free =
       let y = process_in (Some (proc_after q (only_answers q (pos 0)))) in
       let plain : IsPlain k pid.0 (Note pid.0 (pos 0)) y (pos 0) = note_plain k pid.0 (pos 0) q here in
-      subst IsAccepted (sym (reply_of_case k pid call q (Within pid.0 (Begins defers)) (Note pid.0 (pos 0)) (Done (pos 0)) i here runs (begins_case k pid call defers kind free)
+      subst IsAccepted (sym (reply_of_case k pid call q (Within pid.0 (Begins defers)) (Note pid.0 (pos 0)) (Done (pos 0)) (begins_built call defers kind) i here runs (begins_case k pid call defers kind free)
       (plain_own k pid.0 (Note pid.0 (pos 0)) y (pos 0) plain) (plain_reply_is k pid.0 (Note pid.0 (pos 0)) y (pos 0) plain))) tt
 
   commit_accepted : (m : Mark) → slot_at k.marks pid.0 ≡ Some m → IsAccepted (answer (view_of k) (Calls pid SysXend))
   commit_accepted m mark =
       let y = process_in (Some (proc_after q (only_answers q (pos 0)))) in
       let plain : IsPlain k pid.0 (Note pid.0 (pos 0)) y (pos 0) = note_plain k pid.0 (pos 0) q here in
-      subst IsAccepted (sym (reply_of_case k pid SysXend q (Commits pid.0) (Commit pid.0 (Note pid.0 (pos 0))) (Committed (record { items = [] })) i here runs (commits_case k pid m i mark)
+      subst IsAccepted (sym (reply_of_case k pid SysXend q (Commits pid.0) (Commit pid.0 (Note pid.0 (pos 0))) (Committed (record { items = [] })) tt i here runs (commits_case k pid m i mark)
       (commit_own k pid.0 (Note pid.0 (pos 0)) y (pos 0) plain) (commit_reply_is k pid.0 (Note pid.0 (pos 0)) y (pos 0) plain))) tt
 
   abort_accepted : (m : Mark) → slot_at k.marks pid.0 ≡ Some m → IsAccepted (answer (view_of k) (Calls pid SysXabort))
   abort_accepted m mark =
       let y = process_in (Some (proc_after q (only_answers q (negsuc 200)))) in
       let plain : IsPlain k pid.0 (Note pid.0 (negsuc 200)) y (negsuc 200) = note_plain k pid.0 (negsuc 200) q here in
-      subst IsAccepted (sym (reply_of_case k pid SysXabort q (Aborts pid.0 called_by_status) (Note pid.0 (negsuc 200)) (Aborted called_by_status) i here runs (aborts_case k pid m i mark)
+      subst IsAccepted (sym (reply_of_case k pid SysXabort q (Aborts pid.0 called_by_status) (Note pid.0 (negsuc 200)) (Aborted called_by_status) tt i here runs (aborts_case k pid m i mark)
       (plain_own k pid.0 (Note pid.0 (negsuc 200)) y (negsuc 200) plain) refl)) tt
 
-  pub running_accepted : (call : Call) (mark : Option Mark) → slot_at k.marks pid.0 ≡ mark → IsAccepted (answer (view_of k) (Calls pid call))
-  running_accepted (Map page) mark is = plain_accepted (Map page) mark is tt
-  running_accepted (Unmap page) mark is = plain_accepted (Unmap page) mark is tt
-  running_accepted (Protect page w) mark is = plain_accepted (Protect page w) mark is tt
-  running_accepted (Store address bytes) mark is = plain_accepted (Store address bytes) mark is tt
-  running_accepted (Load address) mark is = plain_accepted (Load address) mark is tt
-  running_accepted SysXbegin None is = begins_accepted SysXbegin false refl is
-  running_accepted SysXbegin (Some m) is = plain_accepted SysXbegin (Some m) is tt
-  running_accepted SysXbeginDefer None is = begins_accepted SysXbeginDefer true refl is
-  running_accepted SysXbeginDefer (Some m) is = plain_accepted SysXbeginDefer (Some m) is tt
-  running_accepted SysXend None is = plain_accepted SysXend None is tt
-  running_accepted SysXend (Some m) is = commit_accepted m is
-  running_accepted SysXabort None is = plain_accepted SysXabort None is tt
-  running_accepted SysXabort (Some m) is = abort_accepted m is
+  pub running_accepted : (call : Call) (mark : Option Mark) → slot_at k.marks pid.0 ≡ mark → IsBuiltCall call → IsAccepted (answer (view_of k) (Calls pid call))
+  running_accepted (Map page) mark is b = plain_accepted (Map page) mark is (tt, tt)
+  running_accepted (Unmap page) mark is b = plain_accepted (Unmap page) mark is (tt, tt)
+  running_accepted (Protect page w) mark is b = plain_accepted (Protect page w) mark is (tt, tt)
+  running_accepted (Store address bytes) mark is b = plain_accepted (Store address bytes) mark is (tt, tt)
+  running_accepted (Load address) mark is b = plain_accepted (Load address) mark is (tt, tt)
+  running_accepted SysXbegin None is b = begins_accepted SysXbegin false refl is
+  running_accepted SysXbegin (Some m) is b = plain_accepted SysXbegin (Some m) is (tt, tt)
+  running_accepted SysXbeginDefer None is b = begins_accepted SysXbeginDefer true refl is
+  running_accepted SysXbeginDefer (Some m) is b = plain_accepted SysXbeginDefer (Some m) is (tt, tt)
+  running_accepted SysXend None is b = plain_accepted SysXend None is (tt, tt)
+  running_accepted SysXend (Some m) is b = commit_accepted m is
+  running_accepted SysXabort None is b = plain_accepted SysXabort None is (tt, tt)
+  running_accepted SysXabort (Some m) is b = abort_accepted m is
+  running_accepted call mark is b = absurd b
 
-pub accepted_at : (k : Kernel) (pid : Pid) (call : Call) → IsContent k → IsRunning (slot_at k.parts.procs pid.0) → IsAccepted (answer (view_of k) (Calls pid call))
-accepted_at k pid call i runs = by (slot_at k.parts.procs pid.0) refl runs
+pub accepted_at : (k : Kernel) (pid : Pid) (call : Call) → IsBuiltCall call → IsContent k → IsRunning (slot_at k.parts.procs pid.0) → IsAccepted (answer (view_of k) (Calls pid call))
+accepted_at k pid call built i runs = by (slot_at k.parts.procs pid.0) refl runs
   where
     by : (x : Option Proc) → slot_at k.parts.procs pid.0 ≡ x → IsRunning x → IsAccepted (answer (view_of k) (Calls pid call))
     by None here r = absurd r
-    by (Some q) here r = running_accepted k pid q i here r call (slot_at k.marks pid.0) refl
+    by (Some q) here r = running_accepted k pid q i here r call (slot_at k.marks pid.0) refl built
 
 -- one more entry of a history whose view the machine has
 pub record IsAlong (start : State) (entries : List Accepted) (new : Kernel) : Type 0 where

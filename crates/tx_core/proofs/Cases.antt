@@ -10,13 +10,15 @@ use Rattle.tx_base.specs.declared.steps.Step.{Step}
 use Rattle.tx_base.specs.declared.steps.Step.TheVariants.{Call as Calls}
 use Rattle.tx_change.specs.declared.change.Change.{Change}
 use Rattle.tx_change.specs.declared.proc.Proc.{Proc}
+use Rattle.tx_core.specs.Built.{IsBuiltCall}
 use Rattle.tx_core.specs.Content.{process_in, table_in, view_of, IsMarked, IsContent}
 use Rattle.tx_core.specs.Plans.{proc_after, IsPlainCall}
 use Rattle.tx_core.specs.declared.kernel.Kernel.{Kernel}
 use Rattle.tx_core.proofs.Replies.{IsPlain, do_plain, note_plain, plain_reply_is}
 use Rattle.tx_model.specs.Calls.{memory_call}
 use Rattle.tx_model.specs.Events.{Event, Do, Note, Commit, reply_of}
-use Rattle.tx_model.specs.Membership.{inside_by, Continues, Begins, Role, Outside, Within, Commits, Aborts, Kind, Ordinary, Beginning, Ending, Aborting, kind_of, is_end, others_open, is_open_of, ending_role, ordinary_role, called_by_status, kind_role, kind_event, event_in, negative}
+use Rattle.tx_model.specs.Membership.{inside_by, Continues, Begins, Role, Outside, Within, Commits, Aborts, Kind, Ordinary, Beginning, Ending, Aborting, kind_of, is_end, others_open, is_open_of, ending_role, ordinary_role, called_by_status, kind_role, kind_event, event_in}
+use Rattle.tx_model.specs.Numbers.{negative}
 use Rattle.tx_model.specs.TwoParts.{parts_view}
 use Rattle.tx_model.specs.View.{present, role_on, event_on}
 
@@ -51,15 +53,15 @@ pub record IsPlainCase (k : Kernel) (pid : Pid) (call : Call) (mark : Option Mar
   pub is_case : IsCase k (Calls pid call) (plain_role mark) event
   pub plain : IsPlain k pid.0 event (process_in (Some (proc_after q (memory_call q.space call)))) (memory_call q.space call).ret
 
-ordinary_case : (k : Kernel) (pid : Pid) (call : Call) (mark : Option Mark) (q : Proc) → slot_at k.parts.procs pid.0 ≡ Some q → q.status ≡ None → slot_at k.marks pid.0 ≡ mark → kind_of call ≡ Ordinary → IsPlainCase k pid call mark q
-ordinary_case k pid call None q here runs mark kind = record {
+ordinary_case : (k : Kernel) (pid : Pid) (call : Call) (mark : Option Mark) (q : Proc) → slot_at k.parts.procs pid.0 ≡ Some q → q.status ≡ None → slot_at k.marks pid.0 ≡ mark → IsBuiltCall call → kind_of call ≡ Ordinary → IsPlainCase k pid call mark q
+ordinary_case k pid call None q here runs mark built kind = record {
   event = Do (Calls pid call) None;
   is_case = case_of k pid call Ordinary None kind mark;
-  plain = do_plain k pid call None q here runs;
+  plain = do_plain k pid call None q built here runs;
 }
-ordinary_case k pid call (Some m) q here runs mark kind =
+ordinary_case k pid call (Some m) q here runs mark built kind =
     let ev : Event = Do (Calls pid call) (inside_by (table_in k) (Some m)) in
-    let plain = do_plain k pid call (inside_by (table_in k) (Some m)) q here runs in
+    let plain = do_plain k pid call (inside_by (table_in k) (Some m)) q built here runs in
     let first = plain_reply_is k pid.0 ev (process_in (Some (proc_after q (memory_call q.space call)))) (memory_call q.space call).ret plain in
     let same : ordinary_role (is_end (reply_of ev (present (view_of k)))) (table_in k) m.starter.0 pid.0 ≡ Within m.starter.0 Continues
     = ap (λ (r : Reply). ordinary_role (is_end r) (table_in k) m.starter.0 pid.0) first in
@@ -71,19 +73,20 @@ ordinary_case k pid call (Some m) q here runs mark kind =
     }
 
 pub plain_case : (k : Kernel) (pid : Pid) (call : Call) (mark : Option Mark) (q : Proc) → slot_at k.parts.procs pid.0 ≡ Some q → q.status ≡ None → slot_at k.marks pid.0 ≡ mark → IsPlainCall call mark → IsPlainCase k pid call mark q
-plain_case k pid (Map page) mark q here runs is h = ordinary_case k pid (Map page) mark q here runs is refl
-plain_case k pid (Unmap page) mark q here runs is h = ordinary_case k pid (Unmap page) mark q here runs is refl
-plain_case k pid (Protect page w) mark q here runs is h = ordinary_case k pid (Protect page w) mark q here runs is refl
-plain_case k pid (Store address bytes) mark q here runs is h = ordinary_case k pid (Store address bytes) mark q here runs is refl
-plain_case k pid (Load address) mark q here runs is h = ordinary_case k pid (Load address) mark q here runs is refl
-plain_case k pid SysXbegin None q here runs is h = absurd h
+plain_case k pid (Map page) mark q here runs is h = ordinary_case k pid (Map page) mark q here runs is tt refl
+plain_case k pid (Unmap page) mark q here runs is h = ordinary_case k pid (Unmap page) mark q here runs is tt refl
+plain_case k pid (Protect page w) mark q here runs is h = ordinary_case k pid (Protect page w) mark q here runs is tt refl
+plain_case k pid (Store address bytes) mark q here runs is h = ordinary_case k pid (Store address bytes) mark q here runs is tt refl
+plain_case k pid (Load address) mark q here runs is h = ordinary_case k pid (Load address) mark q here runs is tt refl
+plain_case k pid SysXbegin None q here runs is h = absurd h.1
 plain_case k pid SysXbegin (Some m) q here runs is h = record { event = Note pid.0 (negsuc 21); is_case = case_of k pid SysXbegin (Beginning false) (Some m) refl is; plain = note_plain k pid.0 (negsuc 21) q here }
-plain_case k pid SysXbeginDefer None q here runs is h = absurd h
+plain_case k pid SysXbeginDefer None q here runs is h = absurd h.1
 plain_case k pid SysXbeginDefer (Some m) q here runs is h = record { event = Note pid.0 (negsuc 21); is_case = case_of k pid SysXbeginDefer (Beginning true) (Some m) refl is; plain = note_plain k pid.0 (negsuc 21) q here }
 plain_case k pid SysXend None q here runs is h = record { event = Note pid.0 (negsuc 21); is_case = case_of k pid SysXend Ending None refl is; plain = note_plain k pid.0 (negsuc 21) q here }
-plain_case k pid SysXend (Some m) q here runs is h = absurd h
+plain_case k pid SysXend (Some m) q here runs is h = absurd h.1
 plain_case k pid SysXabort None q here runs is h = record { event = Note pid.0 (negsuc 21); is_case = case_of k pid SysXabort Aborting None refl is; plain = note_plain k pid.0 (negsuc 21) q here }
-plain_case k pid SysXabort (Some m) q here runs is h = absurd h
+plain_case k pid SysXabort (Some m) q here runs is h = absurd h.1
+plain_case k pid call mark q here runs is h = absurd h.0
 
 pub begins_case : (k : Kernel) (pid : Pid) (call : Call) (defers : Bool) → kind_of call ≡ Beginning defers → slot_at k.marks pid.0 ≡ None → IsCase k (Calls pid call) (Within pid.0 (Begins defers)) (Note pid.0 (pos 0))
 begins_case k pid call defers kind free = case_of k pid call (Beginning defers) None kind free

@@ -1,3 +1,4 @@
+pub mod OfBuilt
 pub mod LogFacts
 pub mod Slotted
 pub mod Views

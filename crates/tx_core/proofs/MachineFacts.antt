@@ -4,7 +4,7 @@ use Rattle.tx_base.specs.Slots.{slot_at, with_slot}
 use Rattle.tx_base.specs.declared.marks.Mark.{Mark}
 use Rattle.tx_base.specs.declared.names.Pid.{Pid}
 use Rattle.tx_base.specs.declared.steps.Call.{Call}
-use Rattle.tx_base.specs.declared.steps.Call.TheVariants.{Map, Unmap, Protect, Store, Load, SysXbegin, SysXbeginDefer, SysXend, SysXabort}
+use Rattle.tx_base.specs.declared.steps.Call.TheVariants.{SysXend, SysXabort}
 use Rattle.tx_base.specs.declared.steps.Reply.{Reply}
 use Rattle.tx_base.specs.declared.steps.Reply.TheVariants.{Done, Committed, Aborted}
 use Rattle.tx_base.specs.declared.steps.Step.{Step}
@@ -122,23 +122,9 @@ proc_of k pid m i mark =
     (z.proc, z.is_proc)
 
 pub ending_call : (call : Call) → kind_of call ≡ Ending → call ≡ SysXend
-ending_call (Map page) h = cc
-ending_call (Unmap page) h = cc
-ending_call (Protect page w) h = cc
-ending_call (Store address bytes) h = cc
-ending_call (Load address) h = cc
-ending_call SysXbegin h = cc
-ending_call SysXbeginDefer h = cc
 ending_call SysXend h = refl
-ending_call SysXabort h = cc
+ending_call call h = cc
 
 pub aborting_call : (call : Call) → kind_of call ≡ Aborting → call ≡ SysXabort
-aborting_call (Map page) h = cc
-aborting_call (Unmap page) h = cc
-aborting_call (Protect page w) h = cc
-aborting_call (Store address bytes) h = cc
-aborting_call (Load address) h = cc
-aborting_call SysXbegin h = cc
-aborting_call SysXbeginDefer h = cc
-aborting_call SysXend h = cc
 aborting_call SysXabort h = refl
+aborting_call call h = cc

@@ -23,6 +23,7 @@ use Rattle.tx_core.specs.Undo.{changes_of, IsAmong}
 use Rattle.tx_core.specs.declared.inverse.Inverse.{Inverse}
 use Rattle.tx_core.specs.declared.kernel.Kernel.{Kernel}
 use Rattle.tx_core.proofs.Cases.{IsCase}
+use Rattle.tx_core.specs.Built.{IsBuiltCall}
 use Rattle.tx_core.proofs.Replies.{IsOwn, answer_is, no_holder}
 use Rattle.tx_core.proofs.Slotted.{slot_at-with_slot}
 use Rattle.tx_model.specs.Answer.{plain_reply, answer, IsAccepted}
@@ -63,10 +64,10 @@ next_of k new step R ev i is acc same =
     record { view = all; sound = subst IsSound (sym all) (next_sound V step (answer V step) i.sound (taken V step (answer V step) i.sound refl acc)) }
 
 -- the reply to a step that nobody is in the way of
-pub reply_of_case : (k : Kernel) (pid : Pid) (call : Call) (q : Proc) (R : Role) (ev : Event) (reply : Reply) → IsContent k → slot_at k.parts.procs pid.0 ≡ Some q → q.status ≡ None
+pub reply_of_case : (k : Kernel) (pid : Pid) (call : Call) (q : Proc) (R : Role) (ev : Event) (reply : Reply) → IsBuiltCall call → IsContent k → slot_at k.parts.procs pid.0 ≡ Some q → q.status ≡ None
     → IsCase k (Calls pid call) R ev → IsOwn k pid.0 ev → plain_reply called_by_status R ev (present (view_of k)) ≡ reply → answer (view_of k) (Calls pid call) ≡ reply
-reply_of_case k pid call q R ev reply i here runs is own r =
-    answer_is k pid call q i here runs (subst (λ (x : Event). holder (view_of k) x ≡ None) (sym is.event_is) (no_holder k pid.0 ev own))
+reply_of_case k pid call q R ev reply built i here runs is own r =
+    answer_is k pid call q built i here runs (subst (λ (x : Event). holder (view_of k) x ≡ None) (sym is.event_is) (no_holder k pid.0 ev own))
     ∙ ap₂ (λ (x : Role) (y : Event). plain_reply called_by_status x y (present (view_of k))) is.role_is is.event_is ∙ r
 
 among_own : (n : ℕ) (c : Change) (cs : List Change) → AreOf n cs → IsAmong c cs → number_of c ≡ n

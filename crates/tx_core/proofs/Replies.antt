@@ -13,19 +13,21 @@ use Rattle.tx_change.specs.declared.proc.Proc.{Proc}
 use Rattle.tx_core.specs.Content.{process_of, process_in, state_of, kept_in, starter_in, owner_at, table_in, two_parts_of, view_of, IsMarked, IsContent}
 use Rattle.tx_core.specs.Plans.{proc_after, only_answers}
 use Rattle.tx_core.specs.Undo.{HasSlot}
+use Rattle.tx_core.specs.Built.{IsBuiltCall}
 use Rattle.tx_core.specs.declared.kernel.Kernel.{Kernel}
+use Rattle.tx_core.proofs.OfBuilt.{built_effect, built_objects, built_numbers}
 use Rattle.tx_core.proofs.Views.{set_effect}
-use Rattle.tx_model.specs.Answer.{is_running, is_there, is_doomed_at, is_parked, is_held_by_kill, refusal, accepted_reply, unless_refused, answer}
-use Rattle.tx_model.specs.Calls.{memory_call, effect_at}
-use Rattle.tx_model.specs.Effects.{Effect, ListsFailed, sent, closing_reply, committing}
-use Rattle.tx_model.specs.Events.{Inside, Event, Do, Note, Commit, actor, effect, objects, reply_of}
+use Rattle.tx_model.specs.Answer.{is_running, is_there, is_doomed_at, is_parked, is_held_by_kill, has_bad_number, has_taken_number, refusal, accepted_reply, unless_refused, answer}
+use Rattle.tx_model.specs.Calls.{memory_call, Makes, running_effect, effect_at}
+use Rattle.tx_model.specs.Effects.{Inside, Effect, ListsFailed, sent, closing_reply, committing}
+use Rattle.tx_model.specs.Events.{Event, Do, Note, Commit, actor, effect, objects, reply_of}
 use Rattle.tx_model.specs.History.{just, targets, footprint}
 use Rattle.tx_model.specs.Membership.{Table, is_of, is_member_of, is_live}
 use Rattle.tx_model.specs.Posts.{answers}
 use Rattle.tx_model.specs.State.{Process, State, Sending, written, Object, Proc as TheProc, Desc, Pipe, Held, is_between, has}
 use Rattle.tx_model.specs.TwoParts.{in_set, is_owner, parts_view}
 use Rattle.tx_model.specs.View.{View, present, has_pending, is_doomed, event_on, meets, differs_at, has_two_answers, meets_touched, blocks, in_way, least, holder}
-use Rattle.tx_model.proofs.Local.{has_head, has_tail}
+use Rattle.tx_model.proofs.Objects.{has_head, has_tail}
 use Rattle.tx_model.proofs.TwoPartsView.{parts_nobody}
 
 pub present_is : (k : Kernel) → present (view_of k) ≡ state_of k.parts
@@ -125,10 +127,10 @@ no_holder k p ev own = least_all (in_way (view_of k) ev) (length k.parts.procs) 
         two = ap (λ (ms : List Sending). differs_at s ms (sent (effect ev (present (view_of k))) (present (view_of k))) (sent (effect ev (present (view_of k))) ((view_of k).without (just s)))) own.sends_are
 
 -- a step of a running process that nobody is in the way of is accepted
-pub answer_is : (k : Kernel) (pid : Pid) (call : Call) (q : Proc) → IsContent k → slot_at k.parts.procs pid.0 ≡ Some q → q.status ≡ None → holder (view_of k) (event_on (view_of k) (Calls pid call)) ≡ None
+pub answer_is : (k : Kernel) (pid : Pid) (call : Call) (q : Proc) → IsBuiltCall call → IsContent k → slot_at k.parts.procs pid.0 ≡ Some q → q.status ≡ None → holder (view_of k) (event_on (view_of k) (Calls pid call)) ≡ None
     → answer (view_of k) (Calls pid call) ≡ accepted_reply (view_of k) (Calls pid call)
 unfolding answer
-answer_is k pid call q i here runs clear = ap (λ (x : Option Refusal). unless_refused x (accepted_reply (view_of k) (Calls pid call))) none
+answer_is k pid call q built i here runs clear = ap (λ (x : Option Refusal). unless_refused x (accepted_reply (view_of k) (Calls pid call))) none
   where
     V : View
     V = view_of k
@@ -151,10 +153,13 @@ answer_is k pid call q i here runs clear = ap (λ (x : Option Refusal). unless_r
     parked = ap is_parked marks ∙ not_parked pid.0 (slot_at k.marks pid.0) (slot_at k.logs pid.0) (slot_at k.parts.procs pid.0) (i.marked pid.0)
 
     kill : is_held_by_kill (present V) pid.0 (Calls pid call) ≡ false
-    kill = ap (has_pending 9) at_p
+    kill = rw at_p refl
+
+    numbers : (has_bad_number V.table.width (Calls pid call) ≡ false) × (has_taken_number (present V) (Calls pid call) ≡ false)
+    numbers = built_numbers V.table.width pid call (present V) built
 
     none : refusal V pid.0 (Calls pid call) ≡ None
-    none = rw (there, running, not_doomed_at k (V.table.marks pid.0), parked, kill, clear) refl
+    none = rw (there, running, numbers.0, numbers.1, not_doomed_at k (V.table.marks pid.0), parked, kill, clear) refl
 
 pub no_process : (k : Kernel) (pid : Pid) (call : Call) → slot_at k.parts.procs pid.0 ≡ None → answer (view_of k) (Calls pid call) ≡ No NoProcess
 unfolding answer
@@ -192,10 +197,13 @@ not_running k pid call q status here ended = rw (there, running) refl
     running = rw (at_p, ended) refl
 
 -- the effects of the events that there are, on the state
-pub do_effect : (k : Kernel) (pid : Pid) (call : Call) (inside : Option Inside) (q : Proc) → slot_at k.parts.procs pid.0 ≡ Some q → q.status ≡ None
+pub do_effect : (k : Kernel) (pid : Pid) (call : Call) (inside : Option Inside) (q : Proc) → IsBuiltCall call → slot_at k.parts.procs pid.0 ≡ Some q → q.status ≡ None
     → effect (Do (Calls pid call) inside) (state_of k.parts) ≡ set_effect pid.0 (process_in (Some (proc_after q (memory_call q.space call)))) (Done (memory_call q.space call).ret)
 unfolding effect
-do_effect k pid call inside q here runs = ap (λ (x : Option Proc). effect_at pid.0 call (process_in x)) here ∙ (rw runs refl)
+do_effect k pid call inside q built here runs =
+    ap (λ (x : Option Proc). effect_at inside pid.0 (Makes call) (state_of k.parts) (process_in x)) here
+    ∙ ap (running_effect inside pid.0 (Makes call) (state_of k.parts) (process_of q)) runs
+    ∙ built_effect inside pid.0 call (process_of q) (state_of k.parts) built
 
 pub note_effect_is : (k : Kernel) (p : ℕ) (r : ℤ) (q : Proc) → slot_at k.parts.procs p ≡ Some q
     → effect (Note p r) (state_of k.parts) ≡ set_effect p (process_in (Some (proc_after q (only_answers q r)))) (Done r)
@@ -208,10 +216,14 @@ pub record IsPlain (k : Kernel) (p : ℕ) (ev : Event) (y : Option Process) (r :
   pub objects_are : (S : State) → objects ev S ≡ TheProc p ∷ []
   pub effect_is : effect ev (state_of k.parts) ≡ set_effect p y (Done r)
 
-pub do_plain : (k : Kernel) (pid : Pid) (call : Call) (inside : Option Inside) (q : Proc) → slot_at k.parts.procs pid.0 ≡ Some q → q.status ≡ None
+pub do_plain : (k : Kernel) (pid : Pid) (call : Call) (inside : Option Inside) (q : Proc) → IsBuiltCall call → slot_at k.parts.procs pid.0 ≡ Some q → q.status ≡ None
     → IsPlain k pid.0 (Do (Calls pid call) inside) (process_in (Some (proc_after q (memory_call q.space call)))) (memory_call q.space call).ret
 unfolding objects
-do_plain k pid call inside q here runs = record { actor_is = refl; objects_are = λ S. refl; effect_is = do_effect k pid call inside q here runs }
+do_plain k pid call inside q built here runs = record {
+  actor_is = refl;
+  objects_are = λ S. ap (λ (os : List Object). TheProc pid.0 ∷ os) (built_objects inside pid.0 call S (S.procs pid.0) built);
+  effect_is = do_effect k pid call inside q built here runs;
+}
 
 pub note_plain : (k : Kernel) (p : ℕ) (r : ℤ) (q : Proc) → slot_at k.parts.procs p ≡ Some q → IsPlain k p (Note p r) (process_in (Some (proc_after q (only_answers q r)))) r
 unfolding objects

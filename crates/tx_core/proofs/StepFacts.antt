@@ -29,6 +29,7 @@ use Rattle.tx_core.specs.declared.inverse.Inverse.TheVariants.{Outside as Outsid
 use Rattle.tx_core.specs.declared.kernel.Kernel.{Kernel}
 use Rattle.tx_core.proofs.Cases.{IsCase, plain_case, begins_case, own_mark, commits_case, aborts_case}
 use Rattle.tx_core.proofs.LogFacts.{length_exchanged}
+use Rattle.tx_core.proofs.OfBuilt.{begins_built}
 use Rattle.tx_core.proofs.Outcomes.{if_at, next_of, reply_of_case, local_of, AreOf_append, edited_pages, back_pages, back_append, named, own_exchanged, at_applied, width_applied, led_back, has_pages, content_of, last_is, first_is}
 use Rattle.tx_core.proofs.Replies.{IsPlain, note_plain, plain_foot, plain_reply_is, plain_own, commit_reply_is, commit_own, has_slot, not_doomed, table_is}
 use Rattle.tx_core.proofs.Slotted.{slot_at-with_slot, slot_back}
@@ -37,7 +38,8 @@ use Rattle.tx_model.specs.Answer.{answer, IsAccepted}
 use Rattle.tx_model.specs.Calls.{memory_call}
 use Rattle.tx_model.specs.Effects.{answered, noted_if}
 use Rattle.tx_model.specs.Events.{Event, Note, Commit, effect, process_of as process_of_step}
-use Rattle.tx_model.specs.Membership.{Table, is_of, Continues, Begins, Outside, Within, Commits, Aborts, Beginning, kind_of, new_mark, called_by_status, negative}
+use Rattle.tx_model.specs.Membership.{Table, is_of, Continues, Begins, Outside, Within, Commits, Aborts, Beginning, kind_of, new_mark, called_by_status}
+use Rattle.tx_model.specs.Numbers.{negative}
 use Rattle.tx_model.specs.TwoParts.{parts_view, parts_next}
 use Rattle.tx_model.specs.View.{kernel_status}
 
@@ -117,7 +119,7 @@ module _ (k : Kernel) (pid : Pid) (q : Proc) (cs : List Change) (i : IsContent k
       let is : effect pc.event (state_of k.parts) ≡ set_effect pid.0 (process_in (Some (edited q cs))) (Done r)
       = pc.plain.effect_is ∙ ap (λ (x : Proc). set_effect pid.0 (process_in (Some x)) (Done r)) (sym gives) in
       let answered : answer (view_of k) (Calls pid call) ≡ Done r
-      = reply_of_case k pid call q Outside pc.event (Done r) i here runs pc.is_case (plain_own k pid.0 pc.event y r pc.plain) (plain_reply_is k pid.0 pc.event y r pc.plain) in
+      = reply_of_case k pid call q Outside pc.event (Done r) plain.0 i here runs pc.is_case (plain_own k pid.0 pc.event y r pc.plain) (plain_reply_is k pid.0 pc.event y r pc.plain) in
       let next = next_of k new (Calls pid call) Outside pc.event i pc.is_case (subst IsAccepted (sym answered) tt)
       (outside_next k new pid.0 (Some (edited q cs)) width procs pc.event (Done r) is (λ n. refl) (λ n. refl) free) in
       let back_is : undone_by new (OutsideLog ex) ≡ k = ap (λ (x : Parts). record k { parts = x }) parts_back in
@@ -173,7 +175,7 @@ module _ (k : Kernel) (pid : Pid) (q : Proc) (cs : List Change) (i : IsContent k
         let is : effect pc.event (state_of k.parts) ≡ set_effect pid.0 (process_in (Some (edited q cs))) (Done r)
         = pc.plain.effect_is ∙ ap (λ (x : Proc). set_effect pid.0 (process_in (Some x)) (Done r)) (sym gives) in
         let answered : answer (view_of k) (Calls pid call) ≡ Done r
-        = reply_of_case k pid call q (Within pid.0 Continues) pc.event (Done r) i here runs case (plain_own k pid.0 pc.event y r pc.plain) (plain_reply_is k pid.0 pc.event y r pc.plain) in
+        = reply_of_case k pid call q (Within pid.0 Continues) pc.event (Done r) plain.0 i here runs case (plain_own k pid.0 pc.event y r pc.plain) (plain_reply_is k pid.0 pc.event y r pc.plain) in
         let logs : (n : ℕ) → slot_at new.logs n ≡ (if n == pid.0 then Some (log ++ ex) else slot_at k.logs n) = λ n. slot_at-with_slot k.logs pid.0 (Some (log ++ ex)) n slot.low in_logs in
         let kept : kept_in (Some (edited q cs)) (Some (log ++ ex)) ≡ kept_in (slot_at k.parts.procs pid.0) (slot_at k.logs pid.0)
         = ap (λ (x : Proc). Some (process_of x)) (back_append (edited q cs) log ex ∙ ap (λ (x : Proc). edited_back x log) (led_back k pid.0 q cs slot.low slot.high here own))
@@ -220,7 +222,7 @@ module _ (k : Kernel) (pid : Pid) (q : Proc) (cs : List Change) (i : IsContent k
         let is : effect ev (state_of k.parts) ≡ set_effect pid.0 (process_in (Some (edited q cs))) (Done (pos 0))
         = plain.effect_is ∙ ap (λ (x : Proc). set_effect pid.0 (process_in (Some x)) (Done (pos 0))) (sym gives) in
         let answered : answer (view_of k) (Calls pid SysXend) ≡ Committed (record { items = [] })
-        = reply_of_case k pid SysXend q (Commits pid.0) (Commit pid.0 ev) (Committed (record { items = [] })) i here runs case (commit_own k pid.0 ev y (pos 0) plain) (commit_reply_is k pid.0 ev y (pos 0) plain) in
+        = reply_of_case k pid SysXend q (Commits pid.0) (Commit pid.0 ev) (Committed (record { items = [] })) tt i here runs case (commit_own k pid.0 ev y (pos 0) plain) (commit_reply_is k pid.0 ev y (pos 0) plain) in
         let marks : (n : ℕ) → slot_at new.marks n ≡ (if n == pid.0 then None else slot_at k.marks n) = λ n. slot_at-with_slot k.marks pid.0 None n slot.low in_marks in
         let logs : (n : ℕ) → slot_at new.logs n ≡ (if n == pid.0 then None else slot_at k.logs n) = λ n. slot_at-with_slot k.logs pid.0 None n slot.low in_logs in
         let next = next_of k new (Calls pid SysXend) (Commits pid.0) (Commit pid.0 ev) i case (subst IsAccepted (sym answered) tt)
@@ -258,7 +260,7 @@ module _ (k : Kernel) (pid : Pid) (q : Proc) (cs : List Change) (i : IsContent k
       let is : effect ev (state_of k.parts) ≡ set_effect pid.0 (process_in (Some (edited q cs))) (Done (pos 0))
       = plain.effect_is ∙ ap (λ (x : Proc). set_effect pid.0 (process_in (Some x)) (Done (pos 0))) (sym gives) in
       let answered : answer (view_of k) (Calls pid call) ≡ Done (pos 0)
-      = reply_of_case k pid call q (Within pid.0 (Begins defers)) ev (Done (pos 0)) i here runs case (plain_own k pid.0 ev y (pos 0) plain) (plain_reply_is k pid.0 ev y (pos 0) plain) in
+      = reply_of_case k pid call q (Within pid.0 (Begins defers)) ev (Done (pos 0)) (begins_built call defers kind) i here runs case (plain_own k pid.0 ev y (pos 0) plain) (plain_reply_is k pid.0 ev y (pos 0) plain) in
       let in_logs : pid.0 ≤ length k.logs = subst (λ (w : ℕ). pid.0 ≤ w) (sym i.logs) slot.high in
       let in_marks : pid.0 ≤ length k.marks = subst (λ (w : ℕ). pid.0 ≤ w) (sym i.marks) slot.high in
       let no : slot_at k.logs pid.0 ≡ None = no_log pid.0 (slot_at k.marks pid.0) (slot_at k.logs pid.0) (slot_at k.parts.procs pid.0) (i.marked pid.0) free in
@@ -417,7 +419,7 @@ xabort_done k pid q m i here runs mark =
     let case = aborts_case k pid m i mark in
     let plain : IsPlain k pid.0 (Note pid.0 (negsuc 200)) (process_in (Some (proc_after q (only_answers q (negsuc 200))))) (negsuc 200) = note_plain k pid.0 (negsuc 200) q here in
     let answered : answer (view_of k) (Calls pid SysXabort) ≡ Aborted called_by_status
-    = reply_of_case k pid SysXabort q (Aborts pid.0 called_by_status) (Note pid.0 (negsuc 200)) (Aborted called_by_status) i here runs case
+    = reply_of_case k pid SysXabort q (Aborts pid.0 called_by_status) (Note pid.0 (negsuc 200)) (Aborted called_by_status) tt i here runs case
     (plain_own k pid.0 (Note pid.0 (negsuc 200)) (process_in (Some (proc_after q (only_answers q (negsuc 200))))) (negsuc 200) plain) refl in
     aborted_done k pid m i mark (negsuc 200) (Calls pid SysXabort) called_by_status refl case answered
 

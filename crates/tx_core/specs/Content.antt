@@ -10,7 +10,8 @@ use Rattle.tx_change.specs.declared.proc.Proc.{Proc}
 use Rattle.tx_core.specs.declared.kernel.Kernel.{Kernel}
 use Rattle.tx_model.specs.Membership.{Table}
 use Rattle.tx_model.specs.Sound.{IsSound}
-use Rattle.tx_model.specs.State.{Process, State, Object, Proc as TheProc, Desc, Pipe, Held, Usual, root_ids}
+use Rattle.tx_model.specs.State.{Process, State, Object, Proc as TheProc, Desc, Pipe, Held, root_ids}
+use Rattle.tx_base.specs.declared.signals.Action.TheVariants.{Usual}
 use Rattle.tx_model.specs.TwoParts.{TwoParts, parts_view}
 use Rattle.tx_model.specs.View.{View}
 

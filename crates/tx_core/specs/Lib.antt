@@ -1,3 +1,4 @@
+pub mod Built
 pub mod Plans
 pub mod Content
 pub mod Undo

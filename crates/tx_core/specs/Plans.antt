@@ -9,10 +9,11 @@ use Rattle.tx_base.specs.declared.names.Pid.{Pid}
 use Rattle.tx_base.specs.declared.steps.Call.{Call}
 use Rattle.tx_base.specs.declared.names.Regs.{Regs}
 use Rattle.tx_model.specs.State.{first_registers}
+use Rattle.tx_core.specs.Built.{IsBuiltCall}
 use Rattle.tx_core.specs.declared.act.CallKind.{CallKind}
 use Rattle.tx_core.specs.declared.act.CallKind.TheVariants.{OfProcess, Begins, Ends, Aborts}
 use Rattle.tx_core.specs.declared.act.Plan.{Plan}
-use Rattle.tx_model.specs.Membership.{Kind, Ordinary, Beginning, Ending, Aborting, kind_of}
+use Rattle.tx_model.specs.Membership.{Kind, Ordinary, Forking, Beginning, Ending, Aborting, kind_of}
 use Rattle.tx_model.specs.Calls.{Local}
 use Rattle.tx_model.specs.Effects.{answered}
 use Rattle.tx_pages.specs.declared.plans.NewPage.{NewPage}
@@ -43,6 +44,7 @@ regs_in (Some p) = p.regs
 -- a call of this kind, by a process with this mark, neither begins, commits nor aborts a transaction
 abbrev pub IsPlainKind : Kind → Option Mark → Type 0
 IsPlainKind Ordinary mark = Unit {0}
+IsPlainKind (Forking child) mark = ⊥
 IsPlainKind (Beginning defers) None = ⊥
 IsPlainKind (Beginning defers) (Some m) = Unit {0}
 IsPlainKind Ending None = Unit {0}
@@ -51,7 +53,7 @@ IsPlainKind Aborting None = Unit {0}
 IsPlainKind Aborting (Some m) = ⊥
 
 abbrev pub IsPlainCall : Call → Option Mark → Type 0
-IsPlainCall call mark = IsPlainKind (kind_of call) mark
+IsPlainCall call mark = IsBuiltCall call × IsPlainKind (kind_of call) mark
 
 -- the process is there and runs
 abbrev pub IsRunning : Option Proc → Type 0

@@ -1,6 +1,7 @@
 //! The plan of a call: which parts of its process it exchanges, and its answer.
 ghost use Rattle.std.specs.Prelude.{◌≡◌, ◌<◌, List, map, pos, IfOk, slice_set};
 ghost use Rattle.tx_base.specs.declared.steps.Call.TheVariants.{Map, Unmap, Protect, Store, Load};
+ghost use Rattle.tx_core.specs.Built.{IsBuiltCall};
 ghost use Rattle.tx_core.specs.Plans.{Gives, only_answers, page_change, named_kind};
 ghost use Rattle.tx_model.specs.Calls.{memory_call};
 ghost use Rattle.tx_model.specs.Effects.{answered, next_point};
@@ -32,6 +33,7 @@ pub enum CallKind {
 
 /// What the call asks of the transactions.
 pub fn call_kind(call: &Call) -> CallKind
+    requires { IsBuiltCall call.now }
     ensures { named_kind result ≡ kind_of call.now }
 {
     match call {
@@ -44,6 +46,7 @@ pub fn call_kind(call: &Call) -> CallKind
         Call::SysXbeginDefer => CallKind::Begins(true),
         Call::SysXend => CallKind::Ends,
         Call::SysXabort => CallKind::Aborts,
+        _ => unreachable!(),
     }
 }
 

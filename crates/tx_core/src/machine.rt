@@ -4,6 +4,7 @@ ghost use Rattle.tx_base.specs.Slots.{slot_at};
 ghost use Rattle.tx_base.specs.declared.marks.Mark.{Mark as TheMark};
 ghost use Rattle.tx_base.specs.declared.steps.Call.TheVariants.{SysXend, SysXabort};
 ghost use Rattle.tx_base.specs.declared.steps.Step.TheVariants.{Call as Calls, KernelAbort};
+ghost use Rattle.tx_core.specs.Built.{IsBuilt, IsBuiltCall};
 ghost use Rattle.tx_core.specs.Content.{view_of, state_of};
 ghost use Rattle.tx_core.specs.Plans.{IsRunning, IsPlainCall};
 ghost use Rattle.tx_base.specs.declared.steps.Accepted.{Accepted};
@@ -26,6 +27,12 @@ use tx_base::{
     Slots, Step, WIDE_PROCESSES,
 };
 use tx_change::Parts;
+
+/// The answer of a starter whose transaction a member aborted.
+const BY_CALL: i64 = -(ABORTED_BY_CALL as i64);
+
+/// The answer of a starter whose transaction the kernel aborted.
+const BY_KERNEL: i64 = -(ABORTED_BY_KERNEL as i64);
 
 /// There is no live transaction of that starter.
 #[derive(Clone, Copy, PartialEq, Eq, Debug)]
@@ -136,13 +143,14 @@ impl Machine {
         requires kind { kind_of _call.now ≡ Aborting }
         ensures { IsStep self.old (Calls pid _call.now) result.0 result.1 self.new }
     {
-        let inverse = self.kernel.abort(pid, mark, -201);
+        let inverse = self.kernel.abort(pid, mark, BY_CALL);
         (Reply::Aborted(ABORTED_BY_CALL), inverse)
     }
 
     /// A call of a running process.
     fn make(&mut self, alloc: Global, pid: Pid, call: &Call) -> Result<(Reply, Inverse), NoMemory>
-        requires { IsRunning (slot_at self.old.parts.procs pid.0) }
+        requires running { IsRunning (slot_at self.old.parts.procs pid.0) }
+        requires built { IsBuiltCall call.now }
         ensures ok { IfOk result (λ made. IsStep self.old (Calls pid call.now) made.0 made.1 self.new) }
         ensures err { OnErr result (self.new ≡ self.old) }
         ensures memory { OnErr result (kind_of call.now ≡ Aborting → slot_at self.old.marks pid.0 ≡ None) }
@@ -170,6 +178,7 @@ impl Machine {
 
     /// A call, whatever its process.
     fn call(&mut self, alloc: Global, pid: Pid, call: &Call) -> (Reply, Option<Inverse>)
+        requires { IsBuiltCall call.now }
         ensures { Steps self.old (Calls pid call.now) result.0 result.1 self.new }
     {
         let status = match self.kernel.parts.proc(pid) {
@@ -200,17 +209,19 @@ impl Machine {
     {
         let mark = self.kernel.marks.get(starter).copied();
         match mark {
-            Some(mark) => Ok(self.kernel.abort(starter, mark, -202)),
+            Some(mark) => Ok(self.kernel.abort(starter, mark, BY_KERNEL)),
             None => Err(NoTransaction),
         }
     }
 
     /// Any step.
     fn take(&mut self, alloc: Global, step: &Step) -> (Reply, Option<Inverse>)
+        requires { IsBuilt step.now }
         ensures { Steps self.old step.now result.0 result.1 self.new }
     {
         match step {
             Step::Call(pid, call) => self.call(alloc, *pid, call),
+            Step::Deliver(_, _) => unreachable!(),
             Step::KernelAbort(starter) => match self.kernel_abort(*starter) {
                 Ok(inverse) => (Reply::Aborted(ABORTED_BY_KERNEL), Some(inverse)),
                 Err(NoTransaction) => (Reply::No(Refusal::NoTransaction), None),
@@ -221,8 +232,10 @@ impl Machine {
     /// Makes a step. Answers its reply, and where it was accepted the inverse that takes it back.
     ///
     /// A refused step changes nothing. `NoMemory` comes only where nothing else refuses the step,
-    /// and never to a member's sys_xabort.
+    /// and never to a member's sys_xabort. The step has to be one that the machine makes so far: a
+    /// call on memory, one of a transaction, or the kernel's abort.
     pub fn step(&mut self, alloc: Global, step: Step) -> (Reply, Option<Inverse>)
+        requires { IsBuilt step }
         ensures answer { (result.0 ≡ No Refusal.NoMemory) ⊎ (answer (view_of self.old) step ≡ result.0) }
         ensures memory { result.0 ≡ No Refusal.NoMemory → IsAccepted (answer (view_of self.old) step) }
         ensures refused { IsNone result.1 → self.new ≡ self.old }

@@ -1,7 +1,7 @@
 //! Runs of schedules.
-ghost use Rattle.std.specs.Prelude.{◌≡◌, ◌≤◌, ◌++◌, ◌↔◌, ◌∷◌, [], List, IfOk, OnOk, IsTrue, reverse};
+ghost use Rattle.std.specs.Prelude.{◌≡◌, ◌≤◌, ◌++◌, ◌∷◌, [], List, IfOk, OnOk, reverse};
 ghost use Rattle.tx_base.specs.declared.steps.Accepted.{Accepted as TheAccepted};
-ghost use Rattle.tx_base.specs.declared.steps.Reply.TheVariants.{No};
+ghost use Rattle.tx_core.specs.Built.{AreBuilt, IsBuilt};
 ghost use Rattle.tx_core.specs.Content.{view_of};
 ghost use Rattle.tx_base.specs.declared.steps.Step.{Step as TheStep};
 ghost use Rattle.tx_core.specs.Runs.{RunsFrom, RunsSoFar};
@@ -12,7 +12,7 @@ ghost use Rattle.tx_model.specs.View.{view};
 
 use crate::machine::Machine;
 use std::alloc::Global;
-use tx_base::{Accepted, NoMemory, Refusal, Reply, Step};
+use tx_base::{Accepted, NoMemory, Step};
 
 /// A run: the machine as the schedule leaves it, and the accepted steps with their replies, the
 /// oldest first.
@@ -28,6 +28,7 @@ pub struct Ran {
 pub fn run(alloc: Global, count: u16, steps: &[Step]) -> Result<Ran, NoMemory>
     requires low { 1 ≤ count }
     requires high { count ≤ 64 }
+    requires built { AreBuilt steps.now }
     ensures history { IfOk result (λ ran. reverse ran.history.items ≡ history_of (booted 64 count) [] steps.now) }
     ensures lawful { IfOk result (λ ran. Lawful (booted 64 count) (reverse ran.history.items)) }
     ensures view { IfOk result (λ ran. view_of ran.machine ≡ view (booted 64 count) (reverse ran.history.items)) }
@@ -41,6 +42,7 @@ pub fn run(alloc: Global, count: u16, steps: &[Step]) -> Result<Ran, NoMemory>
 pub fn run_wide(alloc: Global, count: u16, steps: &[Step]) -> Result<Ran, NoMemory>
     requires low { 1 ≤ count }
     requires high { count ≤ 256 }
+    requires built { AreBuilt steps.now }
     ensures history { IfOk result (λ ran. reverse ran.history.items ≡ history_of (booted 256 count) [] steps.now) }
     ensures lawful { IfOk result (λ ran. Lawful (booted 256 count) (reverse ran.history.items)) }
     ensures view { IfOk result (λ ran. view_of ran.machine ≡ view (booted 256 count) (reverse ran.history.items)) }
@@ -52,6 +54,7 @@ pub fn run_wide(alloc: Global, count: u16, steps: &[Step]) -> Result<Ran, NoMemo
 
 /// Runs a schedule on a booted machine.
 fn run_on(alloc: Global, mut machine: Machine, steps: &[Step]) -> Result<Ran, NoMemory>
+    requires { AreBuilt steps.now }
     ensures { IfOk result (λ ran. (start : State) → view_of machine ≡ view start [] → RunsFrom start steps.now ran) }
 {
     let mut history = Vec::new(alloc);
@@ -68,6 +71,7 @@ fn run_step(
     history: &mut Vec<Accepted>,
     step: &Step,
 ) -> Result<(), NoMemory>
+    requires { IsBuilt step.now }
     ensures { OnOk result ((start : State) (all rest : List TheStep) →
         RunsSoFar start all (step.now ∷ rest) machine.old history.old.items → RunsSoFar start all rest machine.new history.new.items) }
 {
@@ -77,18 +81,8 @@ fn run_step(
         history.push(Accepted { step, reply })?;
         return Ok(());
     }
-    if wants_memory(&reply) {
+    if reply.wants_memory() {
         return Err(NoMemory);
     }
     Ok(())
-}
-
-/// Whether a growth of memory was refused.
-fn wants_memory(reply: &Reply) -> bool
-    ensures { IsTrue result ↔ (reply.now ≡ No Refusal.NoMemory) }
-{
-    match reply {
-        Reply::No(Refusal::NoMemory) => true,
-        _ => false,
-    }
 }

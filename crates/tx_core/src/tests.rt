@@ -1,23 +1,33 @@
 //! Each public call on its happy path, and each step of a schedule there and back.
+ghost use Rattle.std.specs.Prelude.{◌≡◌};
+ghost use Rattle.tx_core.specs.Built.{AreBuilt, IsBuiltCall, IsBuilt};
+
 use crate::{Machine, NoTransaction, run, run_wide};
 use arrayvec::ArrayVec;
 use std::test::Fail;
 use tx_base::{Call, Pid, Reply, Step};
 
 /// The call of a process.
-fn call(number: u16, call: Call) -> Step {
+fn call(number: u16, call: Call) -> Step
+    requires { IsBuiltCall call }
+    ensures { IsBuilt result }
+{
     Step::Call(Pid(number), call)
 }
 
 /// A store of these bytes.
-fn store(address: i64, given: &[u8]) -> Call {
+fn store(address: i64, given: &[u8]) -> Call
+    ensures { IsBuiltCall result }
+{
     let mut bytes = ArrayVec::new();
     let _fits = bytes.try_extend_from_slice(given);
     Call::Store(address, bytes)
 }
 
 /// Process 2 begins, maps a page, stores a byte, and aborts.
-fn taken_back() -> [Step; 4] {
+fn taken_back() -> [Step; 4]
+    ensures { AreBuilt result }
+{
     [
         call(2, Call::SysXbegin),
         call(2, Call::Map(0)),
@@ -27,7 +37,9 @@ fn taken_back() -> [Step; 4] {
 }
 
 /// Two transactions side by side, of which one is aborted by the kernel and one commits.
-fn side_by_side() -> [Step; 12] {
+fn side_by_side() -> [Step; 12]
+    ensures { AreBuilt result }
+{
     [
         call(2, Call::SysXbegin),
         call(3, Call::SysXbegin),
@@ -87,14 +99,15 @@ fn runs_side_by_side_on_a_wide_machine(rt: HostRuntime) -> Result<(), Fail> {
 #[test]
 fn takes_each_step_back(rt: HostRuntime) -> Result<(), Fail> {
     let mut machine = Machine::boot(rt.alloc(), 3)?;
-    for step in side_by_side() {
+    let steps = side_by_side();
+    for i in 0..steps.len() {
         let before = [1, 2, 3].map(|number| shown(&machine, number));
-        let (_reply, inverse) = machine.step(rt.alloc(), step.copy());
+        let (_reply, inverse) = machine.step(rt.alloc(), steps[i].copy());
         if let Some(inverse) = inverse {
             machine.undo(inverse);
         }
         assert_eq!(rt; [1, 2, 3].map(|number| shown(&machine, number)), before);
-        let _again = machine.step(rt.alloc(), step);
+        let _again = machine.step(rt.alloc(), steps[i].copy());
     }
     assert_eq!(rt; shown(&machine, 2), (Some((6, 0, Some(255))), None));
     Ok(())

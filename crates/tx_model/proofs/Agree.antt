@@ -121,6 +121,10 @@ unfolding written
 written_width [] S = refl
 written_width (w ∷ ws) S = written_width ws (write_one w S) ∙ write_width w S
 
+-- where two states agree, they agree after the same writes
+pub written_keeps : (ws : List Write) (S R : State) (o : Object) → AgreeAt S R o → AgreeAt (written ws S) (written ws R) o
+written_keeps ws S R o h = record { width = written_width ws S ∙ h.width ∙ sym (written_width ws R); part = written_part ws S R o h.part; family = written_family ws S R o h.family }
+
 -- an edit of a process in place changes no family
 pub record KeepsFamily (g : Option Process → Option Process) : Type 0 where
   pub parent : (n : ℕ) (x : Option Process) → has_parent n (g x) ≡ has_parent n x

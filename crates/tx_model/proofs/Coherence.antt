@@ -10,8 +10,9 @@ use Rattle.tx_model.specs.History.{Starters, nobody, just, with_one, less_one, i
 use Rattle.tx_model.specs.View.{View, present, meets, in_way, has_two_answers, meets_touched, IsClear, moved, next_by}
 use Rattle.tx_model.specs.Sound.{IsSound}
 use Rattle.tx_model.proofs.Agree.{agree_sym, agree_trans, written_part}
-use Rattle.tx_model.proofs.Local.{has_head, has_tail, after_keeps, reply_same, effect_same, objects_same, actor_in}
-use Rattle.tx_model.proofs.Elsewhere.{TargetsIn, effect_fits, after_else, same_true}
+use Rattle.tx_model.proofs.Objects.{TargetsIn, same_true, has_head, has_tail, has_left, has_right}
+use Rattle.tx_model.proofs.Local.{after_keeps, reply_same, effect_same, objects_same, actor_in}
+use Rattle.tx_model.proofs.Elsewhere.{effect_fits, after_else}
 use Rattle.tx_model.specs.Fits.{IsIn, PartFits, FitsWithin, Fits, Passes}
 use Rattle.tx_model.proofs.Answered.{Known, answers_known, or_false_left, or_false_right}
 use Rattle.tx_model.proofs.Tables.{of_unique, of_unmarked, Grows, joins_by, continues_grows, parks_grows, forks_grows, begins_grows}
@@ -27,20 +28,6 @@ or_right false y h = h
 pub not_left : (x y : Bool) → (if x then false else y) ≡ true → (x ≡ false) × (y ≡ true)
 not_left true y h = cc
 not_left false y h = (refl, h)
-
-pub has_left : (o : Object) (xs ys : List Object) → has o xs ≡ true → has o (xs ++ ys) ≡ true
-unfolding has
-has_left o [] ys h = cc
-has_left o (x ∷ xs) ys h = by (same_object o x) h (has_left o xs ys)
-  where
-    by : (b : Bool) → (if b then true else has o xs) ≡ true → (has o xs ≡ true → has o (xs ++ ys) ≡ true) → (if b then true else has o (xs ++ ys)) ≡ true
-    by true k rest = refl
-    by false k rest = rest k
-
-pub has_right : (o : Object) (xs ys : List Object) → has o ys ≡ true → has o (xs ++ ys) ≡ true
-unfolding has
-has_right o [] ys h = h
-has_right o (x ∷ xs) ys h = or_right (same_object o x) (has o (xs ++ ys)) (has_right o xs ys h)
 
 pub has_either : (o : Object) (xs ys : List Object) → has o (xs ++ ys) ≡ true → (has o xs ≡ true) ⊎ (has o ys ≡ true)
 unfolding has

@@ -1,64 +1,15 @@
 -- An event changes nothing but its objects and its targets.
-use Rattle.std.proofs.Common.{◌≡◌, ◌≢◌, ℕ, Bool, true, false, List, [], ◌∷◌, ◌++◌, ℤ, Option, Some, None, if◌then◌else◌, ◌==◌, refl, sym, ap, ◌∙◌, subst, eqb-true}
-use Rattle.tx_base.specs.declared.steps.Call.{Call}
+use Rattle.std.proofs.Common.{◌≡◌, ℕ, Bool, true, false, List, [], ◌∷◌, ◌++◌, ℤ, Option, if◌then◌else◌, ◌==◌, refl, sym, ap, ◌∙◌, eqb-true}
 use Rattle.tx_base.specs.declared.steps.Step.{Step}
-use Rattle.tx_base.specs.declared.steps.Step.TheVariants.{Call as Calls, KernelAbort}
+use Rattle.tx_base.specs.declared.steps.Step.TheVariants.{Call as Calls, Deliver, KernelAbort}
 use Rattle.tx_model.specs.State.{Process, State, Sending, Object, Proc, Desc, Pipe, Held, Write, SetProc, SetDesc, SetPipe, SetHeld, write_one, written, has_parent, names_at, end_of, AgreeAt, same_object, has}
 use Rattle.tx_model.specs.Posts.{received, post, posts}
-use Rattle.tx_model.specs.Effects.{Closing, Replies, AnswersPost, ListsFailed, Effect, noted_if, first_answer, closed, sent}
-use Rattle.tx_model.specs.Calls.{running_effect, effect_at}
+use Rattle.tx_model.specs.Effects.{Inside, Closing, Replies, AnswersPost, ListsFailed, Effect, noted_if, first_answer, closed, sent}
+use Rattle.tx_model.specs.Calls.{Makes, Takes}
 use Rattle.tx_model.specs.Events.{Event, Do, Note, Commit, step_effect, effect, step_objects, objects, after}
 use Rattle.tx_model.proofs.Agree.{agree_refl, agree_trans, KeepsFamily, edited_at, received_keeps, noted_keeps}
-use Rattle.tx_model.proofs.Local.{has_head, has_tail}
-
--- the write is to one of the objects, and changes the family of no other object but process 1
-abbrev pub WriteFits : State → List Object → Write → Type 0
-WriteFits S os (SetProc k x) =
-    (has (Proc k) os ≡ true)
-    × ((n : ℕ) → n ≢ 1 → has (Proc n) os ≡ false → has_parent n x ≡ has_parent n (S.procs k))
-    × ((d f : ℕ) → has (Desc d) os ≡ false → names_at d f x ≡ names_at d f (S.procs k))
-WriteFits S os (SetDesc k x) = (has (Desc k) os ≡ true) × ((n : ℕ) → has (Pipe n) os ≡ false → end_of n x ≡ end_of n (S.descs k))
-WriteFits S os (SetPipe k x) = has (Pipe k) os ≡ true
-WriteFits S os (SetHeld k x) = has (Held k) os ≡ true
-
-abbrev pub WritesFit : State → List Object → List Write → Type 0
-WritesFit S os [] = Unit {0}
-WritesFit S os (w ∷ ws) = WriteFits S os w × WritesFit S os ws
-
-abbrev pub TargetsIn : List Sending → List Object → Type 0
-TargetsIn [] os = Unit {0}
-TargetsIn (m ∷ ms) os = (has (Proc m.target) os ≡ true) × TargetsIn ms os
-
-abbrev pub ClosingIn : Closing → List Object → Type 0
-ClosingIn (Replies r) os = Unit {0}
-ClosingIn (AnswersPost p) os = has (Proc p) os ≡ true
-ClosingIn ListsFailed os = Unit {0}
-
-pub same_true : (o x : Object) → same_object o x ≡ true → o ≡ x
-same_true (Proc n) (Proc m) h = ap Proc (eqb-true n m h)
-same_true (Proc n) (Desc m) h = cc
-same_true (Proc n) (Pipe m) h = cc
-same_true (Proc n) (Held m) h = cc
-same_true (Desc n) (Proc m) h = cc
-same_true (Desc n) (Desc m) h = ap Desc (eqb-true n m h)
-same_true (Desc n) (Pipe m) h = cc
-same_true (Desc n) (Held m) h = cc
-same_true (Pipe n) (Proc m) h = cc
-same_true (Pipe n) (Desc m) h = cc
-same_true (Pipe n) (Pipe m) h = ap Pipe (eqb-true n m h)
-same_true (Pipe n) (Held m) h = cc
-same_true (Held n) (Proc m) h = cc
-same_true (Held n) (Desc m) h = cc
-same_true (Held n) (Pipe m) h = cc
-same_true (Held n) (Held m) h = ap Held (eqb-true n m h)
-
--- an object of the list is none that is not
-pub different : (o x : Object) (os : List Object) → has x os ≡ true → has o os ≡ false → same_object o x ≡ false
-different o x os h k = by (same_object o x) refl
-  where
-    by : (b : Bool) → same_object o x ≡ b → b ≡ false
-    by true e = let z : has x os ≡ false = subst (λ (y : Object). has y os ≡ false) (same_true o x e) k in cc
-    by false e = refl
+use Rattle.tx_model.proofs.OfActs.{act_fits}
+use Rattle.tx_model.proofs.Objects.{WriteFits, WritesFit, TargetsIn, ClosingIn, Covers, has_head, has_tail, different, writes_append}
 
 -- a value put in at k, seen through a function that sees it as what was there at first
 put_seen : {A B : Type 0} (view : A → B) (f g : ℕ → A) (k : ℕ) (x : A) → view x ≡ view (g k) → ((q : ℕ) → view (f q) ≡ view (g q)) → (q : ℕ) → view (if q == k then x else f q) ≡ view (g q)
@@ -145,35 +96,19 @@ after_else ev S os o i h =
     (closed_else f.closing (sent f S) (posts f.sends R) os o i.closing h)
     (agree_trans (posts f.sends R) R S o (posts_else f.sends R os o i.sends h) (written_else f.writes S S os o i.writes h (agree_refl S o)))
 
--- each object of the first list is one of the second
-abbrev pub Covers : List Object → List Object → Type 0
-Covers os xs = (o : Object) → has o xs ≡ true → has o os ≡ true
-
-writes_append : (S : State) (os : List Object) (xs ys : List Write) → WritesFit S os xs → WritesFit S os ys → WritesFit S os (xs ++ ys)
-writes_append S os [] ys f g = g
-writes_append S os (x ∷ xs) ys f g = (f.0, writes_append S os xs ys f.1 g)
-
 targets_left : (xs ys : List Sending) (os : List Object) → TargetsIn (xs ++ ys) os → TargetsIn xs os
 targets_left [] ys os i = tt
 targets_left (x ∷ xs) ys os i = (i.0, targets_left xs ys os i.1)
 
-running_fits : (p : ℕ) (call : Call) (S : State) (os : List Object) (me : Process) → S.procs p ≡ Some me → has (Proc p) os ≡ true → (status : Option ℕ) →
-    WritesFit S os (running_effect p call me status).writes × ClosingIn (running_effect p call me status).closing os
-running_fits p call S os me e h None = (((h, λ n ne k. rw e refl, λ d f k. rw e refl), tt), tt)
-running_fits p call S os me e h (Some status) = (tt, tt)
-
-at_fits : (p : ℕ) (call : Call) (S : State) (os : List Object) → has (Proc p) os ≡ true → (x : Option Process) → S.procs p ≡ x →
-    WritesFit S os (effect_at p call x).writes × ClosingIn (effect_at p call x).closing os
-at_fits p call S os h None e = (tt, tt)
-at_fits p call S os h (Some me) e = running_fits p call S os me e h me.status
-
-step_fits : (step : Step) (S : State) (os : List Object) → Covers os (step_objects step S) → WritesFit S os (step_effect step S).writes × ClosingIn (step_effect step S).closing os
-step_fits (Calls p call) S os c = at_fits p.0 call S os (c (Proc p.0) (has_head (Proc p.0) [])) (S.procs p.0) refl
-step_fits (KernelAbort s) S os c = (tt, tt)
+step_fits : (step : Step) (inside : Option Inside) (S : State) (os : List Object) → Covers os (step_objects step inside S)
+    → WritesFit S os (step_effect step inside S).writes × ClosingIn (step_effect step inside S).closing os
+step_fits (Calls p call) inside S os c = act_fits inside p.0 (Makes call) S os c
+step_fits (Deliver p signo) inside S os c = act_fits inside p.0 (Takes signo.0) S os c
+step_fits (KernelAbort s) inside S os c = (tt, tt)
 
 event_fits : (ev : Event) (S : State) (os : List Object) → Covers os (objects ev S) → WritesFit S os (effect ev S).writes × ClosingIn (effect ev S).closing os
 unfolding effect objects
-event_fits (Do step inside) S os c = step_fits step S os c
+event_fits (Do step inside) S os c = step_fits step inside S os c
 event_fits (Note p r) S os c =
     (((c (Proc p) (has_head (Proc p) []), λ n ne k. (noted_keeps r).parent n (S.procs p), λ d f k. (noted_keeps r).names d f (S.procs p)), tt), tt)
 event_fits (Commit s ev) S os c =

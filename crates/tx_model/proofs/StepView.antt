@@ -11,9 +11,8 @@ use Rattle.tx_model.specs.Answer.{answer, IsAccepted}
 use Rattle.tx_model.specs.Sound.{IsSound}
 use Rattle.tx_model.specs.Fits.{Fits, Passes}
 use Rattle.tx_model.specs.TwoParts.{TwoParts, parts_view, parts_next}
-use Rattle.tx_model.proofs.Local.{has_head, has_tail}
-use Rattle.tx_model.proofs.Elsewhere.{TargetsIn, effect_fits, after_else}
-use Rattle.tx_model.proofs.Coherence.{has_left, has_right}
+use Rattle.tx_model.proofs.Objects.{TargetsIn, has_head, has_tail, has_left, has_right}
+use Rattle.tx_model.proofs.Elsewhere.{effect_fits, after_else}
 use Rattle.tx_model.proofs.Taken.{IsTaken, taken}
 use Rattle.tx_model.proofs.TwoPartsView.{parts_next_view}
 

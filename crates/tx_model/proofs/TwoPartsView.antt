@@ -34,13 +34,13 @@ pick_same P Q S R S' R' o e y n =
       | inr h ↦ part_trans (pick P S R) R (pick Q S' R') o (pick_false P S R o h) (part_trans R R' (pick Q S' R') o (n h) (part_sym (pick Q S' R') R' o (pick_false Q S' R' o (sym e ∙ h))))
     ]
 
-after_part : (ev : Event) (S R : State) → effect ev S ≡ effect ev R → sent (effect ev S) S ≡ sent (effect ev R) R → (o : Object) → AgreePart S R o → AgreePart (after ev S) (after ev R) o
+pub after_part : (ev : Event) (S R : State) → effect ev S ≡ effect ev R → sent (effect ev S) S ≡ sent (effect ev R) R → (o : Object) → AgreePart S R o → AgreePart (after ev S) (after ev R) o
 unfolding after
 after_part ev S R e a o h =
     subst (λ (x : Effect × List ℤ). AgreePart (applied (effect ev S) (sent (effect ev S) S) S) (applied x.0 x.1 R) o)
     (ap₂ (λ (x : Effect) (y : List ℤ). (x, y)) e a) (applied_part (effect ev S) (sent (effect ev S) S) S R o h)
 
-after_width : (ev : Event) (S : State) → (after ev S).width ≡ S.width
+pub after_width : (ev : Event) (S : State) → (after ev S).width ≡ S.width
 unfolding after
 after_width ev S = applied_width (effect ev S) (sent (effect ev S) S) S
 

@@ -1,15 +1,17 @@
 -- The answer to a step, and the histories of answered steps. Own rules.
-use Rattle.std.specs.Prelude.{◌≡◌, ℕ, Bool, true, false, not, List, [], ◌∷◌, Option, Some, None, is_some, is_none, if◌then◌else◌}
+use Rattle.std.specs.Prelude.{◌≡◌, ℕ, Bool, true, false, not, ◌&&◌, ◌||◌, ◌==◌, nat_lt, List, [], ◌∷◌, Option, Some, None, is_some, is_none, if◌then◌else◌}
 use Rattle.tx_base.specs.declared.marks.Mark.{Mark}
 use Rattle.tx_base.specs.declared.steps.Accepted.{Accepted}
 use Rattle.tx_base.specs.declared.steps.Refusal.{Refusal}
 use Rattle.tx_base.specs.declared.steps.Refusal.TheVariants.{NoProcess, NotRunning, BadNumber, NumberTaken, Doomed, Parked, KillPending, Busy, NoTransaction}
 use Rattle.tx_base.specs.declared.steps.Reply.{Reply}
 use Rattle.tx_base.specs.declared.steps.Reply.TheVariants.{Done, Ended, Committed, Aborted, Out, No}
+use Rattle.tx_base.specs.declared.steps.Call.TheVariants.{Fork, Pipe}
 use Rattle.tx_base.specs.declared.steps.Step.{Step}
-use Rattle.tx_base.specs.declared.steps.Step.TheVariants.{Call as Calls, KernelAbort}
+use Rattle.tx_base.specs.declared.steps.Step.TheVariants.{Call as Calls, Deliver, KernelAbort}
 use Rattle.tx_model.specs.State.{Process, State, is_between}
-use Rattle.tx_model.specs.Posts.{kill_signo}
+use Rattle.tx_model.specs.SignalSets.{kill_signo}
+use Rattle.tx_model.specs.Descriptors.{is_pipe_taken}
 use Rattle.tx_model.specs.Events.{Event, reply_of}
 use Rattle.tx_model.specs.Membership.{is_live, Role, Outside, Within, Commits, Aborts}
 use Rattle.tx_model.specs.History.{Starters, nobody, role_in, event_of, left_out_before, stays, without}
@@ -23,12 +25,16 @@ is_running (Some q) = is_none q.status
 abbrev pub is_there : View → ℕ → Bool
 is_there V p = if is_between V.table.width p then is_some ((present V).procs p) else false
 
--- whether a number that the step chooses is out of range; no call of this set chooses one
-abbrev pub has_bad_number : State → Step → Bool
-has_bad_number S step = false
+-- whether a number that the call chooses is out of range, or one number is chosen twice
+abbrev pub has_bad_number : ℕ → Step → Bool
+has_bad_number width (Calls p (Fork child)) = not (is_between width child.0)
+has_bad_number width (Calls p (Pipe q r w)) = not (nat_lt q.0 32 && nat_lt r.0 64 && nat_lt w.0 64) || r.0 == w.0
+has_bad_number width step = false
 
--- whether a number that the step chooses is in use
+-- whether a number that the call chooses is in use
 abbrev pub has_taken_number : State → Step → Bool
+has_taken_number S (Calls p (Fork child)) = is_some (S.procs child.0)
+has_taken_number S (Calls p (Pipe q r w)) = is_pipe_taken q.0 r.0 w.0 S
 has_taken_number S step = false
 
 -- whether the member's transaction is doomed
@@ -40,9 +46,14 @@ abbrev pub is_parked : Option Mark → Bool
 is_parked None = false
 is_parked (Some m) = m.ended
 
+abbrev pub delivers_kill : Step → Bool
+delivers_kill (Calls p call) = false
+delivers_kill (Deliver p signo) = signo.0 == kill_signo
+delivers_kill (KernelAbort s) = false
+
 -- whether SIGKILL is pending at the process, and the step does not deliver it
 abbrev pub is_held_by_kill : State → ℕ → Step → Bool
-is_held_by_kill S p step = has_pending kill_signo (S.procs p)
+is_held_by_kill S p step = has_pending kill_signo (S.procs p) && not (delivers_kill step)
 
 abbrev pub busy : Option ℕ → Option Refusal
 busy None = None
@@ -53,7 +64,7 @@ abbrev pub refusal : View → ℕ → Step → Option Refusal
 refusal V p step =
     if not (is_there V p) then Some NoProcess else
     if not (is_running ((present V).procs p)) then Some NotRunning else
-    if has_bad_number (present V) step then Some BadNumber else
+    if has_bad_number V.table.width step then Some BadNumber else
     if has_taken_number (present V) step then Some NumberTaken else
     if is_doomed_at V (V.table.marks p) then Some Doomed else
     if is_parked (V.table.marks p) then Some Parked else
@@ -79,6 +90,7 @@ unless_refused (Some why) r = No why
 -- the answer to a step
 unfoldable pub answer : View → Step → Reply
 answer V (Calls p call) = unless_refused (refusal V p.0 (Calls p call)) (accepted_reply V (Calls p call))
+answer V (Deliver p signo) = unless_refused (refusal V p.0 (Deliver p signo)) (accepted_reply V (Deliver p signo))
 answer V (KernelAbort s) = if is_live V.table s.0 then Aborted (kernel_status V s.0) else No NoTransaction
 
 abbrev pub IsAccepted : Reply → Type 0

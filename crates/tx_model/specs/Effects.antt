@@ -1,5 +1,5 @@
 -- What an event does: its writes, then its posts in order, and how it closes. Own rules.
-use Rattle.std.specs.Prelude.{ℕ, ◌+◌, List, [], ◌∷◌, ◌++◌, ℤ, pos, negsuc, Option, Some, None, if◌then◌else◌, nat_lt, ◌==◌}
+use Rattle.std.specs.Prelude.{ℕ, ◌+◌, Bool, List, [], ◌∷◌, ◌++◌, ℤ, pos, negsuc, Option, Some, None, if◌then◌else◌, nat_lt, ◌==◌}
 use Rattle.tx_base.specs.declared.names.Regs.{Regs}
 use Rattle.tx_base.specs.declared.names.Missed.{Missed}
 use Rattle.tx_base.specs.declared.errors.Errno.{Errno}
@@ -38,13 +38,35 @@ abbrev pub noted_if : ℤ → Option Process → Option Process
 noted_if r None = None
 noted_if r (Some q) = Some (noted r q)
 
+-- the transaction that a step is made inside of: its starter, its members, and whether it defers deliveries
+pub record Inside : Type 0 where
+  pub starter : ℕ
+  pub members : ℕ → Bool
+  pub defers : Bool
+
 -- nothing is done
 abbrev pub idle : Refusal → Effect
 idle why = record { writes = []; sends = []; closing = Replies (No why) }
 
+-- what a step makes of its own process, and its reply
+pub record Own : Type 0 where
+  pub process : Process
+  pub reply : Reply
+
 -- the process becomes so, but for its answer and its point
+abbrev pub answers_with : ℤ → Process → Own
+answers_with r me = record { process = noted r me; reply = Done r }
+
+-- the step concerns its own process alone
+abbrev pub own_effect : ℕ → Own → Effect
+own_effect p own = record { writes = SetProc p (Some own.process) ∷ []; sends = []; closing = Replies own.reply }
+
 abbrev pub done : ℕ → ℤ → Process → Effect
-done p r me = record { writes = SetProc p (Some (noted r me)) ∷ []; sends = []; closing = Replies (Done r) }
+done p r me = own_effect p (answers_with r me)
+
+-- the same, with more writes
+abbrev pub done_with : List Write → ℕ → ℤ → Process → Effect
+done_with ws p r me = record { writes = SetProc p (Some (noted r me)) ∷ ws; sends = []; closing = Replies (Done r) }
 
 -- the error that a failed post answered
 abbrev pub failed_errno : ℕ → Errno

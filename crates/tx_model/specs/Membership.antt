@@ -1,14 +1,16 @@
 -- Who is in which transaction, and what a step is to the transactions. Own rules.
-use Rattle.std.specs.Prelude.{ℕ, zero, suc, Bool, true, false, ℤ, pos, negsuc, Option, Some, None, if◌then◌else◌, ◌==◌}
+use Rattle.std.specs.Prelude.{ℕ, zero, suc, Bool, true, false, pos, negsuc, Option, Some, None, if◌then◌else◌, ◌==◌}
 use Rattle.tx_base.specs.declared.marks.Mark.{Mark}
 use Rattle.tx_base.specs.declared.steps.Call.{Call}
-use Rattle.tx_base.specs.declared.steps.Call.TheVariants.{Map, Unmap, Protect, Store, Load, SysXbegin, SysXbeginDefer, SysXend, SysXabort}
+use Rattle.tx_base.specs.declared.steps.Call.TheVariants.{Fork, SysXbegin, SysXbeginDefer, SysXend, SysXabort}
 use Rattle.tx_base.specs.declared.steps.Step.{Step}
-use Rattle.tx_base.specs.declared.steps.Step.TheVariants.{Call as Calls, KernelAbort}
+use Rattle.tx_base.specs.declared.steps.Step.TheVariants.{Call as Calls, Deliver, KernelAbort}
 use Rattle.tx_base.specs.declared.steps.Reply.{Reply}
 use Rattle.tx_base.specs.declared.steps.Reply.TheVariants.{Done, Ended, Committed, Aborted, Out, No}
+use Rattle.tx_model.specs.Numbers.{negative}
 use Rattle.tx_model.specs.State.{put_at}
-use Rattle.tx_model.specs.Events.{Inside, Event, Do, Note, Commit}
+use Rattle.tx_model.specs.Effects.{Inside}
+use Rattle.tx_model.specs.Events.{Event, Do, Note, Commit}
 
 -- for each process number, its mark if it is a member of a live transaction
 pub record Table : Type 0 where
@@ -53,7 +55,7 @@ pub data Part : Type 0 where
   Continues : Part
   -- the member ends its part
   Parks : Part
-  -- the member forks a child, which joins. No call of this set forks
+  -- the member forks a child, which joins
   Forks : ℕ → Part
   -- it is the first step; whether the transaction defers deliveries
   Begins : Bool → Part
@@ -70,20 +72,19 @@ pub data Role : Type 0 where
 
 pub data Kind : Type 0 where
   Ordinary : Kind
+  -- the caller has a child of this number, if the call is accepted
+  Forking : ℕ → Kind
   Beginning : Bool → Kind
   Ending : Kind
   Aborting : Kind
 
 abbrev pub kind_of : Call → Kind
-kind_of (Map page) = Ordinary
-kind_of (Unmap page) = Ordinary
-kind_of (Protect page writable) = Ordinary
-kind_of (Store address bytes) = Ordinary
-kind_of (Load address) = Ordinary
+kind_of (Fork child) = Forking child.0
 kind_of SysXbegin = Beginning false
 kind_of SysXbeginDefer = Beginning true
 kind_of SysXend = Ending
 kind_of SysXabort = Aborting
+kind_of call = Ordinary
 
 -- whether the reply says that the process ended
 abbrev pub is_end : Reply → Bool
@@ -120,6 +121,8 @@ called_by_status = 201
 abbrev pub kind_role : Table → ℕ → Kind → Reply → Option Mark → Role
 kind_role t p Ordinary r None = Outside
 kind_role t p Ordinary r (Some m) = ordinary_role (is_end r) t m.starter.0 p
+kind_role t p (Forking c) r None = Outside
+kind_role t p (Forking c) r (Some m) = Within m.starter.0 (Forks c)
 kind_role t p (Beginning defers) r None = Within p (Begins defers)
 kind_role t p (Beginning defers) r (Some m) = Within m.starter.0 Continues
 kind_role t p Ending r None = Outside
@@ -129,16 +132,13 @@ kind_role t p Aborting r (Some m) = Aborts m.starter.0 called_by_status
 
 abbrev pub role : Table → Step → Reply → Role
 role t (Calls p call) r = kind_role t p.0 (kind_of call) r (t.marks p.0)
+role t (Deliver p signo) r = kind_role t p.0 Ordinary r (t.marks p.0)
 role t (KernelAbort s) r = Aborts s.0 (status_in r)
-
--- a number as its negative
-abbrev pub negative : ℕ → ℤ
-negative zero = pos 0
-negative (suc n) = negsuc n
 
 -- the event that stands for a step, its commit apart: at an abort, the note that its starter is given
 abbrev pub kind_event : Table → ℕ → Step → Kind → Option Mark → Event
 kind_event t p step Ordinary mark = Do step (inside_by t mark)
+kind_event t p step (Forking c) mark = Do step (inside_by t mark)
 kind_event t p step (Beginning defers) None = Note p (pos 0)
 kind_event t p step (Beginning defers) (Some m) = Note p (negsuc 21)
 kind_event t p step Ending None = Note p (negsuc 21)
@@ -148,6 +148,7 @@ kind_event t p step Aborting (Some m) = Note m.starter.0 (negative called_by_sta
 
 abbrev pub step_event : Table → Step → Reply → Event
 step_event t (Calls p call) r = kind_event t p.0 (Calls p call) (kind_of call) (t.marks p.0)
+step_event t (Deliver p signo) r = kind_event t p.0 (Deliver p signo) Ordinary (t.marks p.0)
 step_event t (KernelAbort s) r = Note s.0 (negative (status_in r))
 
 abbrev pub event_in : Role → Event → Event

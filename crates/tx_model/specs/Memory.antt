@@ -1,5 +1,6 @@
 -- The memory of a process: sixteen pages of 64 bytes each. Own rules.
-use Rattle.std.specs.Prelude.{ℕ, zero, suc, ◌+◌, ◌/◌, ◌%◌, ℤ, pos, negsuc, Bool, true, false, List, [], ◌∷◌, Option, Some, None, is_none, if◌then◌else◌, nat_lt, ◌==◌, replicate, slice_index, slice_index_or, slice_set}
+use Rattle.std.specs.Prelude.{ℕ, zero, suc, ◌+◌, ◌/◌, ◌%◌, ℤ, Bool, true, false, List, [], ◌∷◌, Option, Some, None, is_none, if◌then◌else◌, nat_lt, ◌==◌, replicate, slice_index, slice_index_or, slice_set}
+pub use Rattle.tx_model.specs.Numbers.{below}
 
 -- a page: whether it may be written, and its bytes
 pub record PageView : Type 0 where
@@ -9,11 +10,6 @@ pub record PageView : Type 0 where
 -- what each page number has
 abbrev pub Memory : Type 0
 Memory = List (Option PageView)
-
--- a number that a program computed, where it lies below the limit
-abbrev pub below : ℕ → ℤ → Option ℕ
-below limit (pos n) = if nat_lt n limit then Some n else None
-below limit (negsuc n) = None
 
 -- what a page number has
 abbrev pub page_at : Memory → ℕ → Option PageView

@@ -1,13 +1,8 @@
 -- The posting rule: what a signal that is sent does to its target (POSIX.1-2017, XSH, Signal Concepts and kill()).
-use Rattle.std.specs.Prelude.{ℕ, ◌^◌, Bool, true, ◌||◌, List, [], ◌∷◌, ◌++◌, length, ℤ, pos, negsuc, Option, Some, None, is_some, if◌then◌else◌, nat_lt, ◌==◌, bit_or}
+use Rattle.std.specs.Prelude.{ℕ, Bool, true, ◌||◌, List, [], ◌∷◌, ◌++◌, length, ℤ, pos, negsuc, Option, Some, None, is_some, if◌then◌else◌, nat_lt, ◌==◌}
+use Rattle.tx_model.specs.SignalSets.{kill_signo, is_realtime, with_one_more}
 use Rattle.tx_model.specs.State.{Ids, Process, Sender, Sending, State, SetProc, write_one}
-
--- the realtime signals are 32 to 39 (own numbers)
-abbrev pub is_realtime : ℕ → Bool
-is_realtime signo = nat_lt 31 signo
-
-abbrev pub kill_signo : ℕ
-kill_signo = 9
+pub use Rattle.tx_model.specs.SignalSets.{kill_signo, is_realtime}
 
 -- how many realtime signals may be queued at a process (own rule)
 abbrev pub queue_limit : ℕ
@@ -30,7 +25,7 @@ abbrev pub with_queued : Sending → Process → Process
 with_queued m q = record q { queued = q.queued ++ record { signo = m.signo; value = m.value } ∷ [] }
 
 abbrev pub with_pending : ℕ → Process → Process
-with_pending signo q = record q { pending = bit_or q.pending (2 ^ signo) }
+with_pending signo q = record q { pending = with_one_more q.pending signo }
 
 -- a standard signal is pending once; a realtime signal is put last in the queue, if there is room
 abbrev pub with_signal : Sending → Process → Process

@@ -1,6 +1,8 @@
 -- The kernel's state, what is written into it, and what two states have in common.
-use Rattle.std.specs.Prelude.{◌≡◌, ◌≢◌, ℕ, zero, suc, Bool, true, false, List, [], ◌∷◌, Option, Some, None, ℤ, pos, if◌then◌else◌, nat_lt, ◌==◌, replicate, slice_index_or}
+use Rattle.std.specs.Prelude.{◌≡◌, ◌≢◌, ℕ, zero, suc, Bool, true, false, List, [], ◌∷◌, Option, Some, None, ℤ, pos, if◌then◌else◌, nat_lt, ◌==◌, is_some, replicate, slice_index_or}
 use Rattle.tx_base.specs.declared.names.Regs.{Regs}
+use Rattle.tx_base.specs.declared.signals.Action.{Action}
+use Rattle.tx_base.specs.declared.signals.Action.TheVariants.{Usual}
 use Rattle.tx_model.specs.Memory.{Memory, no_memory}
 
 -- the real, effective and saved ids of the user and of the group (POSIX.1-2017, XBD, Real User ID,
@@ -12,13 +14,6 @@ pub record Ids : Type 0 where
   pub real_group : ℕ
   pub effective_group : ℕ
   pub saved_group : ℕ
-
--- what a process does about a signal (POSIX.1-2017, XSH, Signal Actions)
-pub data Action : Type 0 where
-  Usual : Action
-  Ignored : Action
-  -- to go on at a point, with these signals blocked too
-  Caught : ℕ → ℕ → Action
 
 -- a realtime signal in the queue, with its value
 pub record Queued : Type 0 where
@@ -38,12 +33,14 @@ pub record Process : Type 0 where
   pub status : Option ℕ
   pub ids : Ids
   pub memory : Memory
-  -- the description that each descriptor names
+  -- the description that each descriptor names, of numbers 0 to 15
   pub descriptors : List (Option ℕ)
   pub mask : ℕ
+  -- what is done about each signal, of numbers 0 to 39
   pub actions : List Action
   pub pending : ℕ
   pub queued : List Queued
+  -- what each caught signal saved, the oldest first
   pub frames : List Frame
 
 pub data Side : Type 0 where
@@ -116,10 +113,10 @@ abbrev pub is_number : ℕ → Option ℕ → Bool
 is_number n None = false
 is_number n (Some m) = m == n
 
--- whether the process's descriptor f names description d
+-- whether the process's descriptor f names description d; one that has ended names nothing
 abbrev pub names_at : ℕ → ℕ → Option Process → Bool
 names_at d f None = false
-names_at d f (Some q) = is_number d (slice_index_or q.descriptors f None)
+names_at d f (Some q) = if is_some q.status then false else is_number d (slice_index_or q.descriptors f None)
 
 -- the side of pipe k that this description is, if it is one of that pipe
 abbrev pub end_of : ℕ → Option Description → Option Side

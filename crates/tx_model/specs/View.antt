@@ -6,9 +6,9 @@ use Rattle.tx_base.specs.declared.steps.Accepted.{Accepted}
 use Rattle.tx_base.specs.declared.steps.Reply.{Reply}
 use Rattle.tx_base.specs.declared.steps.Reply.TheVariants.{Aborted}
 use Rattle.tx_base.specs.declared.steps.Step.{Step}
-use Rattle.tx_base.specs.declared.steps.Step.TheVariants.{Call as Calls, KernelAbort}
+use Rattle.tx_base.specs.declared.steps.Step.TheVariants.{Call as Calls, Deliver, KernelAbort}
 use Rattle.tx_model.specs.State.{Process, State, Sending, Object}
-use Rattle.tx_model.specs.Posts.{kill_signo}
+use Rattle.tx_model.specs.SignalSets.{kill_signo}
 use Rattle.tx_model.specs.Effects.{sent}
 use Rattle.tx_model.specs.Events.{Event, process_of, actor, effect, after, reply_of}
 use Rattle.tx_model.specs.Membership.{Table, is_live, is_member_of, Role, called_by_status, role, step_event, event, table_after}
@@ -42,11 +42,13 @@ kernel_status V s = if is_doomed V s then 203 else 202
 -- the status of the abort that the step is
 abbrev pub abort_status : View → Step → ℕ
 abort_status V (Calls p call) = called_by_status
+abort_status V (Deliver p signo) = called_by_status
 abort_status V (KernelAbort s) = kernel_status V s.0
 
 -- the reply before it is known whether the step commits
 abbrev pub first_reply : View → Step → Reply
 first_reply V (Calls p call) = reply_of (step_event V.table (Calls p call) (Aborted called_by_status)) (present V)
+first_reply V (Deliver p signo) = reply_of (step_event V.table (Deliver p signo) (Aborted called_by_status)) (present V)
 first_reply V (KernelAbort s) = Aborted (kernel_status V s.0)
 
 -- what the step is to the transactions, and its event, on the view

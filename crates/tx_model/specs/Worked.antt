@@ -1,31 +1,14 @@
 -- Two schedules that are worked out to the end. Own rules.
-use Rattle.std.specs.Prelude.{◌≡◌, ℕ, true, List, [], ◌∷◌, ℤ, pos, negsuc, Some, None, replicate}
-use Rattle.tx_base.specs.declared.steps.Call.{Call}
-use Rattle.tx_base.specs.declared.steps.Call.TheVariants.{Map, Store, Load, SysXbegin, SysXend, SysXabort}
+use Rattle.std.specs.Prelude.{◌≡◌, true, List, [], ◌∷◌, pos, negsuc, Some, None, replicate}
+use Rattle.tx_base.specs.declared.steps.Call.TheVariants.{Map, Load, SysXbegin, SysXend, SysXabort}
 use Rattle.tx_base.specs.declared.steps.Refusal.TheVariants.{NoProcess}
 use Rattle.tx_base.specs.declared.steps.Reply.TheVariants.{Done, Committed, Aborted, No}
 use Rattle.tx_base.specs.declared.steps.Step.{Step}
-use Rattle.tx_base.specs.declared.steps.Step.TheVariants.{Call as Calls, KernelAbort}
+use Rattle.tx_base.specs.declared.steps.Step.TheVariants.{KernelAbort}
 use Rattle.tx_model.specs.Memory.{Memory, no_memory}
-use Rattle.tx_model.specs.State.{Process, State, booted_process, booted}
-use Rattle.tx_model.specs.View.{view, present}
-use Rattle.tx_model.specs.Schedules.{history_of, answers_of}
-
--- process p makes a call
-abbrev pub calls : ℕ → Call → Step
-calls p call = Calls (record { 0 = p }) call
-
-abbrev pub store : ℤ → List ℕ → Call
-store address bytes = Store address (record { items = bytes })
-
--- the process as it was booted, but for where it stands, its last answer and its memory
-abbrev pub standing : ℕ → ℕ → ℤ → Memory → Process
-standing n point ret memory =
-    record (booted_process n) { registers = record { point = point; ret = ret; slots = replicate 8 (pos 0) }; memory = memory }
-
--- the state that the schedule leaves
-abbrev pub state_after : State → List Step → State
-state_after S steps = present (view S (history_of S [] steps))
+use Rattle.tx_model.specs.State.{booted_process, booted}
+use Rattle.tx_model.specs.Schedules.{answers_of}
+use Rattle.tx_model.specs.WorkedSteps.{calls, store, state_after, standing}
 
 -- a transaction that maps a page and stores into it, and takes itself back
 abbrev pub taken_back : List Step

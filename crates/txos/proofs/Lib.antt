@@ -1,3 +1,4 @@
+pub mod CommandNamed
 pub mod FirstWord
 pub mod Growing
 pub mod Heading

@@ -17,15 +17,18 @@ use Rattle.txos.proofs.FirstWord.{first_word-word, spaceless_signed}
 -- the first word of a step's line
 abbrev pub first_of : Step → List ℕ
 first_of (steps.Call pid call) = decimal pid.0
+first_of (steps.Deliver pid signo) = []
 first_of (steps.KernelAbort starter) = codes "kernel"
 
 -- what follows it, after a space
 abbrev pub rest_of : Step → List ℕ
 rest_of (steps.Call pid call) = call_text call
+rest_of (steps.Deliver pid signo) = []
 rest_of (steps.KernelAbort starter) = decimal starter.0
 
 pub step_parts : (line : List ℕ) (s : Step) → FitsStep s → line ≡ step_text s → first_word line ≡ Some (first_of s, rest_of s)
 step_parts line (steps.Call pid call) fits e = ap first_word e ∙ first_word-word (decimal pid.0) (call_text call) (spaceless_signed (pos pid.0) (pid_fits pid.0 fits.0))
+step_parts line (steps.Deliver pid signo) fits e = absurd fits
 step_parts line (steps.KernelAbort starter) fits e = ap first_word e
 
 digits_no_kernel : (bytes : List ℕ) → AllDigits 10 bytes → bytes ≡ codes "kernel" → ⊥
@@ -42,10 +45,12 @@ pid_no_kernel n small e = digits_no_kernel (decimal n) (decimal_is_IsNumeral n (
 pub aborts : (s : Step) → FitsStep s → (first rest : List ℕ) (read : Option Step) → first ≡ first_of s → rest ≡ rest_of s → first ≡ codes "kernel" →
     ((p : Pid) → p.0 < 2 ^ 16 → rest ≡ decimal p.0 → read ≡ Some (steps.KernelAbort p)) → read ≡ Some s
 aborts (steps.Call pid call) fits first rest read f r kernel only = absurd (pid_no_kernel pid.0 fits.0 (sym f ∙ kernel))
+aborts (steps.Deliver pid signo) fits first rest read f r kernel only = absurd fits
 aborts (steps.KernelAbort starter) fits first rest read f r kernel only = only starter fits r
 
 -- after another word it is a call
 pub calls : (s : Step) → FitsStep s → (first rest : List ℕ) (read : Option Step) → first ≡ first_of s → rest ≡ rest_of s → first ≢ codes "kernel" →
     ((p : Pid) (c : Call) → FitsStep (steps.Call p c) → first ≡ decimal p.0 → rest ≡ call_text c → read ≡ Some (steps.Call p c)) → read ≡ Some s
 calls (steps.Call pid call) fits first rest read f r other only = only pid call fits f r
+calls (steps.Deliver pid signo) fits first rest read f r other only = absurd fits
 calls (steps.KernelAbort starter) fits first rest read f r other only = absurd (other f)

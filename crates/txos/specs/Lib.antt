@@ -1,3 +1,4 @@
+pub mod CommandLine
 pub mod Each
 pub mod Ends
 pub mod Lines

@@ -1,5 +1,5 @@
 -- The lines of a schedule: one spelling for each header and each step.
-use Rattle.std.specs.Prelude.{ℕ, ◌<◌, ◌≤◌, ◌^◌, Bool, true, false, List, ◌∷◌, ◌++◌, length, codes, FitsSigned}
+use Rattle.std.specs.Prelude.{ℕ, ◌<◌, ◌≤◌, ◌^◌, Bool, true, false, List, [], ◌∷◌, ◌++◌, length, codes, FitsSigned}
 use Rattle.std.specs.Int.{w64}
 use Rattle.std.specs.Fmt.{decimal, signed_decimal}
 use Rattle.hex.specs.Hex.{IsBytes, encode_lower}
@@ -7,6 +7,7 @@ use Rattle.tx_base.specs.declared.steps.Call.{Call}
 use Rattle.tx_base.specs.declared.steps.Call.TheVariants.{Map, Unmap, Protect, Store, Load, SysXbegin, SysXbeginDefer, SysXend, SysXabort}
 use Rattle.tx_base.specs.declared.steps.Step.{Step}
 use Rattle.tx_base.specs.declared.steps.Step.TheVariants as steps
+use Rattle.tx_core.specs.Built.{IsBuilt}
 use Rattle.txos.specs.declared.header.Version.{Version}
 use Rattle.txos.specs.declared.header.Version.TheVariants.{One, Two}
 use Rattle.txos.specs.declared.header.Header.{Header}
@@ -16,7 +17,7 @@ abbrev pub access_text : Bool → List ℕ
 access_text false = codes "r"
 access_text true = codes "rw"
 
--- the spelling of a call
+-- the spelling of a call; one that the machine does not make yet has none
 abbrev pub call_text : Call → List ℕ
 call_text (Map page) = codes "map " ++ signed_decimal page
 call_text (Unmap page) = codes "unmap " ++ signed_decimal page
@@ -27,6 +28,7 @@ call_text SysXbegin = codes "sys_xbegin"
 call_text SysXbeginDefer = codes "sys_xbegin defer"
 call_text SysXend = codes "sys_xend"
 call_text SysXabort = codes "sys_xabort"
+call_text _ = []
 
 -- the arguments of a call are ones that a text can hold
 abbrev pub FitsCall : Call → Type 0
@@ -39,6 +41,7 @@ FitsCall SysXbegin = Unit {0}
 FitsCall SysXbeginDefer = Unit {0}
 FitsCall SysXend = Unit {0}
 FitsCall SysXabort = Unit {0}
+FitsCall _ = ⊥
 
 -- it has no argument
 abbrev pub is_bare : Call → Bool
@@ -64,17 +67,19 @@ is_of_two _ = false
 -- the spelling of a step, without the line's end
 abbrev pub step_text : Step → List ℕ
 step_text (steps.Call pid call) = decimal pid.0 ++ 32 ∷ call_text call
+step_text (steps.Deliver pid signo) = []
 step_text (steps.KernelAbort starter) = codes "kernel" ++ 32 ∷ decimal starter.0
 
 -- the arguments of a step are ones that a text can hold
 abbrev pub FitsStep : Step → Type 0
 FitsStep (steps.Call pid call) = (pid.0 < 2 ^ 16) × FitsCall call
+FitsStep (steps.Deliver pid signo) = ⊥
 FitsStep (steps.KernelAbort starter) = starter.0 < 2 ^ 16
 
--- it stands in the texts of a version: what defers deliveries came with the second
+-- it stands in the texts of a version: what the machine makes, but what defers deliveries came with the second
 abbrev pub IsOf : Version → Step → Type 0
 IsOf One (steps.Call pid SysXbeginDefer) = ⊥
-IsOf version step = Unit {0}
+IsOf version step = IsBuilt step
 
 -- the most processes that a text of a version begins with
 abbrev pub most_of : Version → ℕ

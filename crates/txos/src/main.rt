@@ -1,6 +1,9 @@
 //! The program: reads its words, and then a text.
 #![tactic(auto)]
 
+ghost use Rattle.std.specs.Prelude.{◌≡◌, OnErr, OnOk};
+ghost use Rattle.std.specs.Process.{exit_status};
+
 mod byte_words;
 mod ends;
 mod faults;
@@ -67,7 +70,10 @@ fn main(rt: HostRuntime) -> ExitCode {
 }
 
 /// The status of a command's answer. A fault is printed.
-fn status_of(rt: &impl Eprint, answer: Result<(), Fault>) -> ExitCode {
+fn status_of(rt: &impl Eprint, answer: Result<(), Fault>) -> ExitCode
+    ensures success { OnOk answer (exit_status result ≡ 0) }
+    ensures fault { OnErr answer (exit_status result ≡ FAULTY) }
+{
     match answer {
         Ok(()) => ExitCode::SUCCESS,
         Err(fault) => {
@@ -78,6 +84,8 @@ fn status_of(rt: &impl Eprint, answer: Result<(), Fault>) -> ExitCode {
 }
 
 /// Says that memory is wanted.
-fn out_of_memory(rt: &impl Eprint) -> ExitCode {
+fn out_of_memory(rt: &impl Eprint) -> ExitCode
+    ensures { exit_status result ≡ FAULTY }
+{
     status_of(rt, Err(Fault::NoMemory))
 }

@@ -20,10 +20,11 @@ impl<R: Read + Drop> OverRead<R> {
         ensures reader { result.reader ≡ reader }
         ensures counts { read_counts result ≡ no_counts }
     {
+        let (again, failed) = (0, 0);
         OverRead {
             reader,
-            again: 0,
-            failed: 0,
+            again,
+            failed,
         }
     }
 }

@@ -1,7 +1,6 @@
 //! Runs a schedule, and prints what it answers and the state that it leaves.
-ghost use Rattle.std.specs.Prelude.{◌≡◌, ◌++◌, ◌↔◌, [], IfErr, IfOk, IsTrue, OnOk, string_bytes};
-ghost use Rattle.tx_base.specs.declared.steps.Reply.TheVariants.{No};
-ghost use Rattle.tx_base.specs.declared.steps.Refusal.TheVariants as refusals;
+ghost use Rattle.std.specs.Prelude.{◌≡◌, ◌++◌, [], IfErr, IfOk, OnOk, string_bytes};
+ghost use Rattle.tx_core.specs.Built.{AreBuilt};
 ghost use Rattle.tx_core.specs.Content.{view_of};
 ghost use Rattle.txos.specs.Lines.{FitsHeader};
 ghost use Rattle.txos.specs.Report.{replies_text, report_text, start_of, state_text, view_after};
@@ -15,13 +14,14 @@ use crate::schedule::Schedule;
 use crate::state::put_procs;
 use crate::txns::put_txns;
 use std::alloc::Global;
-use tx_base::{Refusal, Reply, Step};
+use tx_base::Step;
 use tx_core::Machine;
 
 /// The report of a schedule: a line for each step's reply, and the text of the state after the
 /// last one. The only fault is `NoMemory`.
 pub fn report(alloc: Global, schedule: &Schedule) -> Result<String, Fault>
-    requires { FitsHeader schedule.now.header }
+    requires header { FitsHeader schedule.now.header }
+    requires steps { AreBuilt schedule.now.steps.items }
     ensures text { IfOk result (λ text. string_bytes text ≡ report_text schedule.now.header schedule.now.steps.items) }
     ensures fault { IfErr result (λ fault. fault ≡ NoMemory) }
 {
@@ -52,28 +52,19 @@ fn put_replies(
     machine: &mut Machine,
     steps: &[Step],
 ) -> Result<(), Fault>
+    requires { AreBuilt steps.now }
     ensures text { OnOk result (string_bytes text.new ≡ string_bytes text.old ++ replies_text (view_of machine.old) 1 steps.now) }
     ensures view { OnOk result (view_of machine.new ≡ view_after (view_of machine.old) steps.now) }
     ensures fault { IfErr result (λ fault. fault ≡ NoMemory) }
 {
     for i in 0..steps.len() {
         let (reply, _inverse) = machine.step(alloc, steps[i].copy());
-        if wants_memory(&reply) {
+        if reply.wants_memory() {
             return Err(Fault::NoMemory);
         }
         put_reply_line(text, i as u64 + 1, &reply)?;
     }
     Ok(())
-}
-
-/// Whether a step was refused for want of memory.
-fn wants_memory(reply: &Reply) -> bool
-    ensures { IsTrue result ↔ (reply.now ≡ No refusals.NoMemory) }
-{
-    match reply {
-        Reply::No(Refusal::NoMemory) => true,
-        _ => false,
-    }
 }
 
 /// Appends the text of the state.

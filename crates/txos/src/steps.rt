@@ -31,8 +31,24 @@ fn is_of(version: Version, step: &Step) -> bool
     ensures { IsTrue result ↔ IsOf version step.now }
 {
     match step {
-        Step::Call(_, Call::SysXbeginDefer) => version == Version::Two,
-        _ => true,
+        Step::Call(_, call) => is_call_of(version, call),
+        Step::Deliver(_, _) => false,
+        Step::KernelAbort(_) => true,
+    }
+}
+
+/// Whether the call stands in the texts of that version. One that the machine does not make yet
+/// stands in none.
+fn is_call_of(version: Version, call: &Call) -> bool
+    ensures { (pid : Pid) → IsTrue result ↔ IsOf version (Step.Call pid call.now) }
+{
+    match call {
+        Call::Map(_) | Call::Unmap(_) | Call::Protect(_, _) | Call::Store(_, _) | Call::Load(_) => {
+            true
+        }
+        Call::SysXbeginDefer => version == Version::Two,
+        Call::SysXbegin | Call::SysXend | Call::SysXabort => true,
+        _ => false,
     }
 }
 

@@ -1,7 +1,10 @@
 //! The words that the program is given.
+ghost use Rattle.std.specs.Prelude.{◌≡◌, IfOk, Some, map, string_bytes};
+ghost use Rattle.clap.specs.Words.{FailsBy, fault_of};
+ghost use Rattle.txos.specs.CommandLine.{command_line, name_of, named};
 
 use clap::Command;
-use clap::error::{Error, ErrorKind};
+use clap::error::Error;
 use std::alloc::Global;
 
 /// What the program is asked to do.
@@ -12,14 +15,18 @@ pub enum Asked {
 }
 
 /// What the words ask for. The first word is the program's own name.
-pub fn read_words(alloc: Global, words: &[String]) -> Result<Asked, Error> {
-    let mut command = Command::new(alloc, "txos")
+pub fn read_words(alloc: Global, words: &[String]) -> Result<Asked, Error>
+    ensures reads { FailsBy (fault_of command_line (map string_bytes words.now)) result }
+    ensures asked { IfOk result (λ asked. named (map string_bytes words.now) ≡ Some (name_of asked)) }
+{
+    let command = Command::new(alloc, "txos")
         .subcommand_required(true)
         .subcommand(Command::new(alloc, "replay"))?;
-    let matches = command.try_get_matches_from_mut(words)?;
+    let matches = command.try_get_matches_from(words)?;
     match matches.subcommand_name() {
         Some("replay") => Ok(Asked::Replay),
-        _ => Err(command.error(ErrorKind::MissingSubcommand, "no command")?),
+        // Words that name no command, or ask for help, are an `Err` of clap's.
+        _ => unreachable!(),
     }
 }
 

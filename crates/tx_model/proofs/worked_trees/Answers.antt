@@ -1,0 +1,29 @@
+use Rattle.tx_model.proofs.ComputedTrees.{child_undone_answers, child_undone_state, child_parked_state, exit_commits_answers, exit_commits_state, exit_undone_answers, exit_undone_state, forked_again_answers, forked_again_state}
+use Rattle.tx_model.proofs.worked_trees.Goals as goal
+
+pub returns-clause-child_undone : goal.returns-clause-child_undone
+returns-clause-child_undone c = child_undone_answers
+
+pub returns-clause-child_undone_state : goal.returns-clause-child_undone_state
+returns-clause-child_undone_state c = child_undone_state
+
+pub returns-clause-child_parked_state : goal.returns-clause-child_parked_state
+returns-clause-child_parked_state c = child_parked_state
+
+pub returns-clause-exit_commits : goal.returns-clause-exit_commits
+returns-clause-exit_commits c = exit_commits_answers
+
+pub returns-clause-exit_commits_state : goal.returns-clause-exit_commits_state
+returns-clause-exit_commits_state c = exit_commits_state
+
+pub returns-clause-exit_undone : goal.returns-clause-exit_undone
+returns-clause-exit_undone c = exit_undone_answers
+
+pub returns-clause-exit_undone_state : goal.returns-clause-exit_undone_state
+returns-clause-exit_undone_state c = exit_undone_state
+
+pub returns-clause-forked_again : goal.returns-clause-forked_again
+returns-clause-forked_again c = forked_again_answers
+
+pub returns-clause-forked_again_state : goal.returns-clause-forked_again_state
+returns-clause-forked_again_state c = forked_again_state

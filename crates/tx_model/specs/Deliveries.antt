@@ -1,0 +1,105 @@
+-- The delivery of a pending signal (POSIX.1-2017, XSH, Signal Generation and Delivery). Which one is delivered, and
+-- when, is the schedule's choice (own rule).
+use Rattle.std.specs.Prelude.{ℕ, ◌+◌, Bool, false, not, ◌&&◌, ◌||◌, List, [], ◌∷◌, ◌++◌, length, ℤ, pos, Option, Some, None, if◌then◌else◌, nat_lt, ◌==◌, bit_or, slice_index_or}
+use Rattle.tx_base.specs.Signals.{bits_of}
+use Rattle.tx_base.specs.declared.signals.Action.{Action}
+use Rattle.tx_base.specs.declared.signals.Action.TheVariants.{Usual, Ignore, Catch}
+use Rattle.tx_base.specs.declared.signals.SigSet.{SigSet}
+use Rattle.tx_base.specs.declared.steps.Refusal.TheVariants.{NotDeliverable, Deferred, FramesFull}
+use Rattle.tx_base.specs.declared.steps.Reply.TheVariants.{Done}
+use Rattle.tx_model.specs.SignalSets.{kill_signo, child_signo, is_realtime, is_in_set, with_one_more, without_one}
+use Rattle.tx_model.specs.State.{Process, State, Queued, Object}
+use Rattle.tx_model.specs.Effects.{Inside, Effect, idle, own_effect}
+use Rattle.tx_model.specs.Processes.{ending, ending_objects}
+
+-- the value of the first entry of the signal in the queue
+unfoldable pub first_value : ℕ → List Queued → Option ℤ
+first_value signo [] = None
+first_value signo (entry ∷ entries) = if entry.signo == signo then Some entry.value else first_value signo entries
+
+-- the queue without the first entry of the signal
+unfoldable pub less_first : ℕ → List Queued → List Queued
+less_first signo [] = []
+less_first signo (entry ∷ entries) = if entry.signo == signo then entries else entry ∷ less_first signo entries
+
+-- whether a realtime signal of a lower number is pending outside the mask
+unfoldable pub has_lower : ℕ → ℕ → List Queued → Bool
+has_lower signo mask [] = false
+has_lower signo mask (entry ∷ entries) = (nat_lt entry.signo signo && not (is_in_set mask entry.signo)) || has_lower signo mask entries
+
+-- the value that the signal brings, if it is pending
+abbrev pub pending_value : ℕ → Process → Option ℤ
+pending_value signo me =
+    if is_realtime signo then first_value signo me.queued else (if is_in_set me.pending signo then Some (pos 0) else None)
+
+abbrev pub is_blocked : ℕ → Process → Bool
+is_blocked signo me = is_in_set me.mask signo || (is_realtime signo && has_lower signo me.mask me.queued)
+
+-- the value that a delivery now brings, if there may be one
+abbrev pub delivered_value : ℕ → Process → Option ℤ
+delivered_value signo me = if is_blocked signo me then None else pending_value signo me
+
+-- the process without the signal that is delivered
+abbrev pub relieved : ℕ → Process → Process
+relieved signo me = record me {
+  pending = if is_realtime signo then me.pending else without_one me.pending signo;
+  queued = if is_realtime signo then less_first signo me.queued else me.queued;
+}
+
+abbrev pub action_at : ℕ → Process → Action
+action_at signo me = slice_index_or me.actions signo Usual
+
+-- whether a delivery of the signal ends a process with this action
+abbrev pub is_fatal : ℕ → Action → Bool
+is_fatal signo Usual = not (signo == child_signo)
+is_fatal signo Ignore = false
+is_fatal signo (Catch point mask) = false
+
+-- how many caught signals of a process may be unfinished (own rule)
+abbrev pub frame_limit : ℕ
+frame_limit = 4
+
+-- the process at its catch point, with what it goes back to in a new frame
+abbrev pub caught : ℕ → ℤ → ℕ → SigSet → Process → Process
+caught signo value point mask me = record me {
+  registers = record { point = point; ret = value; slots = me.registers.slots };
+  mask = with_one_more (bit_or me.mask (bits_of mask)) signo;
+  frames = me.frames ++ record { registers = me.registers; mask = me.mask } ∷ [];
+}
+
+abbrev pub is_full : Process → Bool
+is_full me = not (nat_lt (length me.frames) frame_limit)
+
+-- the status of a process that a signal ended (own numbers)
+abbrev pub killed_status : ℕ → ℕ
+killed_status signo = 256 + signo
+
+-- what a signal does that is taken from those pending; an ignored one does nothing else
+abbrev pub takes_action : Option Inside → ℕ → ℕ → ℤ → Action → Process → State → Effect
+takes_action inside p signo value Ignore me S = own_effect p (record { process = me; reply = Done me.registers.ret })
+takes_action inside p signo value Usual me S =
+    if signo == child_signo then own_effect p (record { process = me; reply = Done me.registers.ret }) else ending inside p (killed_status signo) me S
+takes_action inside p signo value (Catch point mask) me S =
+    if is_full me then idle FramesFull else own_effect p (record { process = caught signo value point mask me; reply = Done value })
+
+-- whether the transaction defers the delivery: that of SIGKILL never
+abbrev pub is_deferred : Option Inside → ℕ → Bool
+is_deferred None signo = false
+is_deferred (Some inside) signo = inside.defers && not (signo == kill_signo)
+
+abbrev pub delivers : Option Inside → ℕ → ℕ → Process → Option ℤ → State → Effect
+delivers inside p signo me None S = idle NotDeliverable
+delivers inside p signo me (Some value) S =
+    if is_deferred inside signo then idle Deferred else takes_action inside p signo value (action_at signo me) (relieved signo me) S
+
+abbrev pub delivery_effect : Option Inside → ℕ → ℕ → Process → State → Effect
+delivery_effect inside p signo me S = delivers inside p signo me (delivered_value signo me) S
+
+-- beside its process, a delivery names something where it ends the process
+abbrev pub fatal_objects : Option Inside → ℕ → ℕ → Process → State → Option ℤ → List Object
+fatal_objects inside p signo me S None = []
+fatal_objects inside p signo me S (Some value) =
+    if is_deferred inside signo then [] else (if is_fatal signo (action_at signo me) then ending_objects inside p me S else [])
+
+abbrev pub delivery_objects : Option Inside → ℕ → ℕ → Process → State → List Object
+delivery_objects inside p signo me S = fatal_objects inside p signo me S (delivered_value signo me)

@@ -1,0 +1,192 @@
+-- Descriptors, and the descriptions and pipes that are there while something names them (POSIX.1-2017, XBD, File
+-- Descriptor and Open File Description).
+use Rattle.std.specs.Prelude.{ℕ, zero, suc, ◌+◌, Bool, true, false, List, [], ◌∷◌, ◌++◌, ℤ, pos, Option, Some, None, is_some, if◌then◌else◌, ◌==◌, slice_index_or, slice_set}
+use Rattle.tx_base.specs.declared.errors.Errno.TheVariants.{BadDescriptor, TooManyDescriptors}
+use Rattle.tx_base.specs.declared.steps.Refusal.TheVariants.{NumberTaken}
+use Rattle.tx_model.specs.Numbers.{below, failing}
+use Rattle.tx_model.specs.State.{Process, Side, ReadSide, WriteSide, Description, State, Object, Desc, Pipe, Write, SetProc, SetDesc, SetPipe, write_one, written, names_at, end_of}
+use Rattle.tx_model.specs.Effects.{Effect, idle, noted, done, done_with}
+
+-- the description that a descriptor names
+abbrev pub named : Process → Option ℕ → Option ℕ
+named me None = None
+named me (Some f) = slice_index_or me.descriptors f None
+
+-- a descriptor that a program computed: 0 to 15
+abbrev pub descriptor : ℤ → Option ℕ
+descriptor f = below 16 f
+
+abbrev pub with_descriptor : ℕ → Option ℕ → Process → Process
+with_descriptor f d me = record me { descriptors = slice_set me.descriptors f d }
+
+-- the first free place of a list whose first place has this number
+unfoldable pub first_free : ℕ → List (Option ℕ) → Option ℕ
+first_free f [] = None
+first_free f (None ∷ rest) = Some f
+first_free f (Some d ∷ rest) = first_free (f + 1) rest
+
+-- the lowest free descriptor
+abbrev pub lowest_free : Process → Option ℕ
+lowest_free me = first_free 0 me.descriptors
+
+-- the descriptions that the descriptors name
+unfoldable pub open_in : List (Option ℕ) → List ℕ
+open_in [] = []
+open_in (None ∷ rest) = open_in rest
+open_in (Some d ∷ rest) = d ∷ open_in rest
+
+-- whether one of a process's first n descriptors names the description
+unfoldable pub names_below : ℕ → ℕ → Option Process → Bool
+names_below d zero x = false
+names_below d (suc f) x = if names_below d f x then true else names_at d f x
+
+-- whether a process of a number below n names the description
+unfoldable pub is_named_below : ℕ → ℕ → State → Bool
+is_named_below d zero S = false
+is_named_below d (suc q) S = if is_named_below d q S then true else names_below d 16 (S.procs q)
+
+-- whether a descriptor names the description
+abbrev pub is_named : ℕ → State → Bool
+is_named d S = is_named_below d (S.width + 1) S
+
+abbrev pub is_side : (Side → Bool) → Option Side → Bool
+is_side test None = false
+is_side test (Some side) = test side
+
+-- whether one of the first n descriptions is an end of the pipe that passes the test
+unfoldable pub has_end_below : (Side → Bool) → ℕ → ℕ → State → Bool
+has_end_below test k zero S = false
+has_end_below test k (suc d) S = if has_end_below test k d S then true else is_side test (end_of k (S.descs d))
+
+-- whether a description names the pipe
+abbrev pub has_end : ℕ → State → Bool
+has_end k S = has_end_below (λ side. true) k 64 S
+
+abbrev pub pipe_of : Option Description → List ℕ
+pipe_of None = []
+pipe_of (Some x) = x.pipe ∷ []
+
+-- the pipes of descriptions
+unfoldable pub pipes_of : List ℕ → State → List ℕ
+pipes_of [] S = []
+pipes_of (d ∷ ds) S = pipe_of (S.descs d) ++ pipes_of ds S
+
+-- those of the descriptions that no descriptor names go
+unfoldable pub unnamed_go : List ℕ → State → List Write
+unnamed_go [] S = []
+unnamed_go (d ∷ ds) S = if is_named d S then unnamed_go ds S else SetDesc d None ∷ unnamed_go ds S
+
+-- those of the pipes that no description names go, with their bytes
+unfoldable pub endless_go : List ℕ → State → List Write
+endless_go [] S = []
+endless_go (k ∷ ks) S = if has_end k S then endless_go ks S else SetPipe k None ∷ endless_go ks S
+
+-- what goes with names of these descriptions that were given up: the descriptions that nobody names any more, and then
+-- the pipes
+abbrev pub released : List ℕ → State → List Write
+released ds S = unnamed_go ds S ++ endless_go (pipes_of ds S) (written (unnamed_go ds S) S)
+
+-- the process has given up names of these descriptions
+abbrev pub gives_up : List ℕ → ℕ → ℤ → Process → State → Effect
+gives_up ds p r me S = done_with (released ds (write_one (SetProc p (Some (noted r me))) S)) p r me
+
+abbrev pub bad_descriptor : ℕ → Process → Effect
+bad_descriptor p me = done p (failing BadDescriptor) me
+
+abbrev pub listed : Option ℕ → List ℕ
+listed None = []
+listed (Some d) = d ∷ []
+
+-- whether one of the three numbers is in use
+abbrev pub is_pipe_taken : ℕ → ℕ → ℕ → State → Bool
+is_pipe_taken q r w S = if is_some (S.pipes q) then true else (if is_some (S.descs r) then true else is_some (S.descs w))
+
+abbrev pub with_two_slots : ℕ → ℕ → Process → Process
+with_two_slots f g me = record me {
+  registers = record { point = me.registers.point; ret = me.registers.ret; slots = slice_set (slice_set me.registers.slots 0 (pos f)) 1 (pos g) };
+}
+
+abbrev pub side_of : ℕ → Side → Option Description
+side_of q side = Some (record { pipe = q; side = side; nonblock = false })
+
+-- the process has the two sides at these two descriptors
+abbrev pub opens_at : ℕ → ℕ → ℕ → ℕ → Process → ℕ → Option ℕ → Effect
+opens_at p q r w me f None = done p (failing TooManyDescriptors) me
+opens_at p q r w me f (Some g) =
+    done_with (SetPipe q (Some []) ∷ SetDesc r (side_of q ReadSide) ∷ SetDesc w (side_of q WriteSide) ∷ []) p (pos 0)
+    (with_two_slots f g (with_descriptor g (Some w) (with_descriptor f (Some r) me)))
+
+abbrev pub opens_from : ℕ → ℕ → ℕ → ℕ → Process → Option ℕ → Effect
+opens_from p q r w me None = done p (failing TooManyDescriptors) me
+opens_from p q r w me (Some f) = opens_at p q r w me f (lowest_free (with_descriptor f (Some r) me))
+
+-- pipe (POSIX.1-2017, XSH, pipe()): the schedule chooses the numbers of the pipe and of its two descriptions
+abbrev pub pipe_effect : ℕ → ℕ → ℕ → ℕ → Process → State → Effect
+pipe_effect p q r w me S = if is_pipe_taken q r w S then idle NumberTaken else opens_from p q r w me (lowest_free me)
+
+abbrev pub pipe_objects : ℕ → ℕ → ℕ → List Object
+pipe_objects q r w = Pipe q ∷ Desc r ∷ Desc w ∷ []
+
+abbrev pub dups_to : ℕ → Process → ℕ → Option ℕ → Effect
+dups_to p me d None = done p (failing TooManyDescriptors) me
+dups_to p me d (Some f) = done p (pos f) (with_descriptor f (Some d) me)
+
+-- dup (POSIX.1-2017, XSH, dup())
+abbrev pub dup_effect : ℕ → Process → Option ℕ → Effect
+dup_effect p me None = bad_descriptor p me
+dup_effect p me (Some d) = dups_to p me d (lowest_free me)
+
+-- descriptor g, another one than f, names description d
+abbrev pub renames : ℕ → Process → State → ℕ → ℕ → Option ℕ → Effect
+renames p me S f d None = bad_descriptor p me
+renames p me S f d (Some g) =
+    if f == g then done p (pos g) me else gives_up (listed (named me (Some g))) p (pos g) (with_descriptor g (Some d) me) S
+
+abbrev pub dup2_named : ℕ → Process → State → ℕ → Option ℕ → Option ℕ → Effect
+dup2_named p me S f g None = bad_descriptor p me
+dup2_named p me S f g (Some d) = renames p me S f d g
+
+-- dup2 (POSIX.1-2017, XSH, dup2())
+abbrev pub dup2_effect : ℕ → Option ℕ → Option ℕ → Process → State → Effect
+dup2_effect p None g me S = bad_descriptor p me
+dup2_effect p (Some f) g me S = dup2_named p me S f g (named me (Some f))
+
+abbrev pub closes : ℕ → Process → State → ℕ → Option ℕ → Effect
+closes p me S f None = bad_descriptor p me
+closes p me S f (Some d) = gives_up (d ∷ []) p (pos 0) (with_descriptor f None me) S
+
+-- close (POSIX.1-2017, XSH, close())
+abbrev pub close_effect : ℕ → Option ℕ → Process → State → Effect
+close_effect p None me S = bad_descriptor p me
+close_effect p (Some f) me S = closes p me S f (named me (Some f))
+
+abbrev pub flags : ℕ → Process → ℕ → Bool → Option Description → Effect
+flags p me d on None = bad_descriptor p me
+flags p me d on (Some x) = done_with (SetDesc d (Some (record { pipe = x.pipe; side = x.side; nonblock = on })) ∷ []) p (pos 0) me
+
+-- set_nonblock (POSIX.1-2017, XSH, fcntl(), F_SETFL with O_NONBLOCK)
+abbrev pub nonblock_effect : ℕ → Bool → Process → Option ℕ → State → Effect
+nonblock_effect p on me None S = bad_descriptor p me
+nonblock_effect p on me (Some d) S = flags p me d on (S.descs d)
+
+-- the description, where a descriptor is open
+abbrev pub desc_objects : List ℕ → List Object
+desc_objects [] = []
+desc_objects (d ∷ ds) = Desc d ∷ desc_objects ds
+
+abbrev pub pipe_list : List ℕ → List Object
+pipe_list [] = []
+pipe_list (k ∷ ks) = Pipe k ∷ pipe_list ks
+
+-- descriptions and their pipes
+abbrev pub end_objects : List ℕ → State → List Object
+end_objects ds S = desc_objects ds ++ pipe_list (pipes_of ds S)
+
+-- what a dup2 names: the description of the one, and the description and pipe of the other
+abbrev pub other_than : Option ℕ → Option ℕ → Process → List ℕ
+other_than (Some f) (Some g) me = if f == g then [] else listed (named me (Some g))
+other_than None g me = listed (named me g)
+other_than (Some f) None me = []
+
+abbrev pub dup2_objects : Option ℕ → Option ℕ → Process → State → List Object
+dup2_objects f g me S = desc_objects (listed (named me f)) ++ end_objects (other_than f g me) S

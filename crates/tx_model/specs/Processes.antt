@@ -1,0 +1,149 @@
+-- Children, the end of a process, and the wait for it (POSIX.1-2017, XSH, fork(), _exit() and waitpid()).
+use Rattle.std.specs.Prelude.{ℕ, zero, suc, ◌+◌, ◌-◌, ◌%◌, Bool, List, [], ◌∷◌, ◌++◌, ℤ, pos, negsuc, Option, Some, None, if◌then◌else◌, ◌==◌, replicate, slice_set}
+use Rattle.tx_base.specs.declared.errors.Errno.TheVariants.{NotPermitted, NoChild}
+use Rattle.tx_base.specs.declared.signals.Action.TheVariants.{Usual}
+use Rattle.tx_base.specs.declared.steps.Refusal.TheVariants.{NumberTaken, Wait}
+use Rattle.tx_base.specs.declared.steps.Reply.TheVariants.{Ended}
+use Rattle.tx_model.specs.Numbers.{failing}
+use Rattle.tx_model.specs.Memory.{no_memory}
+use Rattle.tx_model.specs.SignalSets.{child_signo}
+use Rattle.tx_model.specs.State.{Process, State, Sending, Object, Proc, Held, Write, SetProc, SetHeld, write_one, has_parent, first_registers, is_between}
+use Rattle.tx_model.specs.Effects.{Inside, Effect, Replies, idle, next_point, done, done_with}
+use Rattle.tx_model.specs.Descriptors.{open_in, released, desc_objects, end_objects}
+
+-- the child: pending signals apart, a copy of its parent, with the answer 0 at the point after the call
+abbrev pub child_of : ℕ → Process → Process
+child_of p me = record me {
+  registers = record { point = next_point me.registers.point; ret = pos 0; slots = me.registers.slots };
+  parent = p;
+  pending = 0;
+  queued = [];
+}
+
+abbrev pub forks : ℕ → ℕ → Process → Option Process → Effect
+forks p c me None = done_with (SetProc c (Some (child_of p me)) ∷ []) p (pos c) me
+forks p c me (Some other) = idle NumberTaken
+
+-- fork: the schedule chooses the child's number
+abbrev pub fork_effect : ℕ → ℕ → Process → State → Effect
+fork_effect p c me S = forks p c me (S.procs c)
+
+abbrev pub fork_objects : ℕ → Process → List Object
+fork_objects c me = Proc c ∷ desc_objects (open_in me.descriptors)
+
+-- an ended process has its parent, its ids and its status, and nothing else
+abbrev pub ended : ℕ → Process → Process
+ended status me = record {
+  registers = first_registers;
+  parent = me.parent;
+  status = Some status;
+  ids = me.ids;
+  memory = no_memory;
+  descriptors = replicate 16 None;
+  mask = 0;
+  actions = replicate 40 Usual;
+  pending = 0;
+  queued = [];
+  frames = [];
+}
+
+-- the children of p up to a number
+unfoldable pub children_below : ℕ → ℕ → State → List ℕ
+children_below p zero S = []
+children_below p (suc q) S = if has_parent p (S.procs q) then q ∷ children_below p q S else children_below p q S
+
+-- the children of a process; those of process 1 are nobody's concern
+abbrev pub children_of : ℕ → State → List ℕ
+children_of p S = if p == 1 then [] else children_below p (S.width + 1) S
+
+abbrev pub with_parent : ℕ → Option Process → Option Process
+with_parent n None = None
+with_parent n (Some q) = Some (record q { parent = n })
+
+-- the processes get parent 1
+unfoldable pub orphaned : List ℕ → State → List Write
+orphaned [] S = []
+orphaned (q ∷ qs) S = SetProc q (with_parent 1 (S.procs q)) ∷ orphaned qs S
+
+-- SIGCHLD with the value 0, the kernel's own signal
+abbrev pub told_to : ℕ → Sending
+told_to parent = record { target = parent; signo = child_signo; value = pos 0; from = None }
+
+-- the parent is told at once, unless it is process 1: outside a transaction, and where it is a member too
+abbrev pub tells : Option Inside → ℕ → List Sending
+tells None parent = if parent == 1 then [] else told_to parent ∷ []
+tells (Some inside) parent = if parent == 1 then [] else (if inside.members parent then told_to parent ∷ [] else [])
+
+-- a parent that is no member is told at the commit
+abbrev pub tells_later : Option Inside → ℕ → State → List Write
+tells_later None parent S = []
+tells_later (Some inside) parent S =
+    if parent == 1 then [] else (if inside.members parent then [] else SetHeld inside.starter (S.held inside.starter ++ told_to parent ∷ []) ∷ [])
+
+-- the end of a process, by its exit or by a signal: its children get parent 1, its descriptors are closed, and its parent is told
+abbrev pub ending : Option Inside → ℕ → ℕ → Process → State → Effect
+ending inside p status me S = record {
+  writes = SetProc p (Some (ended status me))
+      ∷ orphaned (children_of p S) S
+      ++ released (open_in me.descriptors) (write_one (SetProc p (Some (ended status me))) S)
+      ++ tells_later inside me.parent S;
+  sends = tells inside me.parent;
+  closing = Replies Ended;
+}
+
+abbrev pub procs_of : List ℕ → List Object
+procs_of [] = []
+procs_of (q ∷ qs) = Proc q ∷ procs_of qs
+
+abbrev pub held_objects : Option Inside → List Object
+held_objects None = []
+held_objects (Some inside) = Held inside.starter ∷ []
+
+abbrev pub ending_objects : Option Inside → ℕ → Process → State → List Object
+ending_objects inside p me S = end_objects (open_in me.descriptors) S ++ procs_of (children_of p S) ++ held_objects inside
+
+-- the status modulo 256
+abbrev pub exit_status : ℤ → ℕ
+exit_status (pos n) = n % 256
+exit_status (negsuc n) = 255 - n % 256
+
+-- exit: process 1 does not end (own rule)
+abbrev pub exit_effect : Option Inside → ℕ → ℤ → Process → State → Effect
+exit_effect inside p v me S = if p == 1 then done p (failing NotPermitted) me else ending inside p (exit_status v) me S
+
+abbrev pub exit_objects : Option Inside → ℕ → Process → State → List Object
+exit_objects inside p me S = if p == 1 then [] else ending_objects inside p me S
+
+-- a process number that a program computed: 1 to the width
+abbrev pub numbered : ℕ → ℤ → Option ℕ
+numbered width (pos n) = if is_between width n then Some n else None
+numbered width (negsuc n) = None
+
+abbrev pub with_status : ℕ → Process → Process
+with_status status me = record me {
+  registers = record { point = me.registers.point; ret = me.registers.ret; slots = slice_set me.registers.slots 0 (pos status) };
+}
+
+-- the wait for a child that runs, or that ended with a status
+abbrev pub waits_by : ℕ → ℕ → Bool → Process → Option ℕ → Effect
+waits_by p t nohang me None = if nohang then done p (pos 0) me else idle Wait
+waits_by p t nohang me (Some status) = done_with (SetProc t None ∷ []) p (pos t) (with_status status me)
+
+abbrev pub waits_for : ℕ → ℕ → Bool → Process → Option Process → Effect
+waits_for p t nohang me None = done p (failing NoChild) me
+waits_for p t nohang me (Some q) = if q.parent == p then waits_by p t nohang me q.status else done p (failing NoChild) me
+
+abbrev pub waits_at : ℕ → Option ℕ → Bool → Process → State → Effect
+waits_at p None nohang me S = done p (failing NoChild) me
+waits_at p (Some t) nohang me S = waits_for p t nohang me (S.procs t)
+
+-- waitpid: an ended child is removed
+abbrev pub waitpid_effect : ℕ → ℤ → Bool → Process → State → Effect
+waitpid_effect p t nohang me S = waits_at p (numbered S.width t) nohang me S
+
+abbrev pub numbered_objects : Option ℕ → List Object
+numbered_objects None = []
+numbered_objects (Some t) = Proc t ∷ []
+
+abbrev pub waitpid_objects : ℤ → State → List Object
+waitpid_objects t S = numbered_objects (numbered S.width t)

@@ -1,0 +1,100 @@
+-- Short words for the schedules that are worked out: their steps, their answers, and the states that they leave.
+use Rattle.std.specs.Prelude.{ℕ, ◌+◌, ◌^◌, Bool, List, [], ℤ, pos, Option, Some, replicate, slice_set}
+use Rattle.tx_base.specs.declared.marks.Mark.{Mark}
+use Rattle.tx_base.specs.declared.signals.Action.{Action}
+use Rattle.tx_base.specs.declared.signals.Action.TheVariants.{Usual}
+use Rattle.tx_base.specs.declared.steps.Call.{Call}
+use Rattle.tx_base.specs.declared.steps.Call.TheVariants as call
+use Rattle.tx_base.specs.declared.steps.Refusal.TheVariants.{Busy}
+use Rattle.tx_base.specs.declared.steps.Reply.{Reply}
+use Rattle.tx_base.specs.declared.steps.Reply.TheVariants.{Done, Committed, No}
+use Rattle.tx_base.specs.declared.steps.Step.{Step}
+use Rattle.tx_base.specs.declared.steps.Step.TheVariants.{Call as Calls, Deliver, KernelAbort}
+use Rattle.tx_model.specs.Memory.{Memory}
+use Rattle.tx_model.specs.State.{Process, Side, Description, State, booted_process}
+use Rattle.tx_model.specs.View.{View, view, present}
+use Rattle.tx_model.specs.Schedules.{history_of}
+
+-- process p makes a call
+abbrev pub calls : ℕ → Call → Step
+calls p call = Calls (record { 0 = p }) call
+
+-- process p gets a signal that is pending at it
+abbrev pub delivery : ℕ → ℕ → Step
+delivery p signo = Deliver (record { 0 = p }) (record { 0 = signo })
+
+-- the kernel aborts the transaction of the starter
+abbrev pub kernel : ℕ → Step
+kernel s = KernelAbort (record { 0 = s })
+
+abbrev pub store : ℤ → List ℕ → Call
+store address bytes = call.Store address (record { items = bytes })
+
+abbrev pub fork : ℕ → Call
+fork child = call.Fork (record { 0 = child })
+
+abbrev pub pipe : ℕ → ℕ → ℕ → Call
+pipe k r w = call.Pipe (record { 0 = k }) (record { 0 = r }) (record { 0 = w })
+
+abbrev pub kill : ℕ → ℕ → Call
+kill t signo = call.Kill (pos t) (pos signo)
+
+-- the call answered this number
+abbrev pub ok : ℕ → Reply
+ok n = Done (pos n)
+
+-- the transaction was committed, and every held send was delivered
+abbrev pub committed : Reply
+committed = Committed (record { items = [] })
+
+-- the transaction of the holder is in the way
+abbrev pub busy_with : ℕ → Reply
+busy_with holder = No (Busy (record { 0 = holder }))
+
+-- the view that the schedule leaves, and the state
+abbrev pub view_after : State → List Step → View
+view_after S steps = view S (history_of S [] steps)
+
+abbrev pub state_after : State → List Step → State
+state_after S steps = present (view_after S steps)
+
+-- the mark of a member: its starter, whether its part has ended, and whether deliveries are deferred
+abbrev pub marked : ℕ → Bool → Bool → Option Mark
+marked starter ended defers = Some (record { starter = record { 0 = starter }; ended = ended; defers = defers })
+
+-- the process as it was booted, but for where it stands, its last answer and its memory
+abbrev pub standing : ℕ → ℕ → ℤ → Memory → Process
+standing n point ret memory =
+    record (booted_process n) { registers = record { point = point; ret = ret; slots = replicate 8 (pos 0) }; memory = memory }
+
+-- the child of process 1 that ended with this status
+abbrev pub exited : ℕ → Process
+exited status = record (booted_process 2) { status = Some status }
+
+-- the child of process 1 that the signal ended
+abbrev pub killed_by : ℕ → Process
+killed_by signo = exited (256 + signo)
+
+-- the process, but for its parent
+abbrev pub of_parent : ℕ → Process → Process
+of_parent n q = record q { parent = n }
+
+-- the process, but for its slots
+abbrev pub with_slots : List ℤ → Process → Process
+with_slots slots q = record q { registers = record { point = q.registers.point; ret = q.registers.ret; slots = slots } }
+
+-- the process, but for what its descriptors name
+abbrev pub with_open : List (Option ℕ) → Process → Process
+with_open descriptors q = record q { descriptors = descriptors }
+
+-- the process, but for its actions: this one, and else the usual ones
+abbrev pub with_one_action : ℕ → Action → Process → Process
+with_one_action signo action q = record q { actions = slice_set (replicate 40 Usual) signo action }
+
+-- the process, but for what is pending: this standard signal alone
+abbrev pub with_one_pending : ℕ → Process → Process
+with_one_pending signo q = record q { pending = 2 ^ signo }
+
+-- a description of a pipe, whose reads and writes may wait or not
+abbrev pub described : ℕ → Side → Bool → Option Description
+described k side nonblock = Some (record { pipe = k; side = side; nonblock = nonblock })

@@ -1,0 +1,103 @@
+-- Schedules of children, exits and waits that are worked out to the end. Own rules.
+use Rattle.std.specs.Prelude.{◌≡◌, true, false, List, [], ◌∷◌, ◌++◌, pos, negsuc, Some, None, replicate}
+use Rattle.tx_base.specs.declared.steps.Call.TheVariants.{Map, Exit, Waitpid, Getpid, SysXbegin, SysXend, SysXabort}
+use Rattle.tx_base.specs.declared.steps.Refusal.TheVariants.{Parked}
+use Rattle.tx_base.specs.declared.steps.Reply.TheVariants.{Ended, Aborted, No}
+use Rattle.tx_base.specs.declared.steps.Step.{Step}
+use Rattle.tx_model.specs.Memory.{no_memory}
+use Rattle.tx_model.specs.State.{State, booted_process, booted}
+use Rattle.tx_model.specs.View.{View}
+use Rattle.tx_model.specs.Schedules.{answers_of}
+use Rattle.tx_model.specs.WorkedSteps.{calls, store, fork, ok, committed, busy_with, marked, view_after, state_after, standing, exited, of_parent, with_slots, with_one_pending}
+
+-- a child that was forked inside goes with the abort, though it has ended, and its number is free again
+abbrev pub child_undone : List Step
+child_undone =
+    calls 2 SysXbegin
+    ∷ calls 2 (fork 7)
+    ∷ calls 7 (Map (pos 0))
+    ∷ calls 7 (store (pos 0) (255 ∷ []))
+    ∷ calls 7 (Exit (pos 3))
+    ∷ calls 2 SysXabort
+    ∷ calls 1 (fork 7)
+    ∷ []
+
+abbrev pub ChildUndoneAnswers : Type 0
+ChildUndoneAnswers = answers_of (booted 64 2) [] child_undone ≡ ok 0 ∷ ok 7 ∷ ok 0 ∷ ok 0 ∷ Ended ∷ Aborted 201 ∷ ok 7 ∷ []
+
+abbrev pub ChildUndoneState : Type 0
+ChildUndoneState =
+    let S : State = state_after (booted 64 2) child_undone in
+    (S.procs 1 ≡ Some (standing 1 1 (pos 7) no_memory))
+    × (S.procs 2 ≡ Some (standing 2 1 (negsuc 200) no_memory))
+    × (S.procs 7 ≡ Some (standing 7 1 (pos 0) no_memory))
+
+-- a child that was forked inside is a member, and ends its part
+abbrev pub child_parked : List Step
+child_parked = calls 2 SysXbegin ∷ calls 2 (fork 7) ∷ calls 7 SysXend ∷ []
+
+abbrev pub ChildParkedState : Type 0
+ChildParkedState =
+    let V : View = view_after (booted 64 2) child_parked in
+    (V.table.marks 1 ≡ None) × (V.table.marks 2 ≡ marked 2 false false) × (V.table.marks 7 ≡ marked 2 true false)
+
+-- it waits for its starter, whose exit commits
+abbrev pub exit_commits : List Step
+exit_commits = child_parked ++ calls 7 Getpid ∷ calls 2 (Exit (pos 5)) ∷ calls 7 Getpid ∷ []
+
+abbrev pub ExitCommitsAnswers : Type 0
+ExitCommitsAnswers = answers_of (booted 64 2) [] exit_commits ≡ ok 0 ∷ ok 7 ∷ ok 0 ∷ No Parked ∷ committed ∷ ok 7 ∷ []
+
+abbrev pub ExitCommitsState : Type 0
+ExitCommitsState =
+    let S : State = state_after (booted 64 2) exit_commits in
+    (S.procs 1 ≡ Some (booted_process 1))
+    × (S.procs 2 ≡ Some (exited 5))
+    × (S.procs 7 ≡ Some (standing 7 4 (pos 7) no_memory))
+    × ((view_after (booted 64 2) exit_commits).table.marks 7 ≡ None)
+
+-- a starter that ended is not waited for while its child may still abort, which brings it back
+abbrev pub exit_undone : List Step
+exit_undone =
+    calls 2 SysXbegin
+    ∷ calls 2 (fork 7)
+    ∷ calls 2 (Exit (pos 4))
+    ∷ calls 1 (Waitpid (pos 2) false)
+    ∷ calls 7 SysXabort
+    ∷ calls 1 (Waitpid (pos 2) true)
+    ∷ []
+
+abbrev pub ExitUndoneAnswers : Type 0
+ExitUndoneAnswers = answers_of (booted 64 2) [] exit_undone ≡ ok 0 ∷ ok 7 ∷ Ended ∷ busy_with 2 ∷ Aborted 201 ∷ ok 0 ∷ []
+
+abbrev pub ExitUndoneState : Type 0
+ExitUndoneState =
+    let S : State = state_after (booted 64 2) exit_undone in
+    (S.procs 1 ≡ Some (standing 1 1 (pos 0) no_memory))
+    × (S.procs 2 ≡ Some (standing 2 1 (negsuc 200) no_memory))
+    × (S.procs 7 ≡ None)
+
+-- a number is forked, waited for and forked again inside: the second child is a member whose part has not ended
+abbrev pub forked_again : List Step
+forked_again =
+    calls 2 SysXbegin
+    ∷ calls 2 (fork 7)
+    ∷ calls 7 (Exit (pos 1))
+    ∷ calls 2 (Waitpid (pos 7) false)
+    ∷ calls 2 (fork 7)
+    ∷ calls 2 SysXend
+    ∷ calls 2 Getpid
+    ∷ calls 7 SysXend
+    ∷ []
+
+abbrev pub ForkedAgainAnswers : Type 0
+ForkedAgainAnswers =
+    answers_of (booted 64 2) [] forked_again ≡ ok 0 ∷ ok 7 ∷ Ended ∷ ok 7 ∷ ok 7 ∷ ok 0 ∷ No Parked ∷ committed ∷ []
+
+-- both have the status in slot 0, and SIGCHLD of the first child is pending
+abbrev pub ForkedAgainState : Type 0
+ForkedAgainState =
+    let S : State = state_after (booted 64 2) forked_again in
+    (S.procs 1 ≡ Some (booted_process 1))
+    × (S.procs 2 ≡ Some (with_one_pending 17 (with_slots (pos 1 ∷ replicate 7 (pos 0)) (standing 2 5 (pos 0) no_memory))))
+    × (S.procs 7 ≡ Some (of_parent 2 (with_slots (pos 1 ∷ replicate 7 (pos 0)) (standing 7 5 (pos 0) no_memory))))
