@@ -28,3 +28,14 @@ pub mod ComputedSignals
 pub mod ComputedKills
 pub mod ComputedPipes
 pub mod ComputedConflicts
+pub mod KeepsFormParts
+pub mod KeepsFormOwn
+pub mod KeepsFormReleased
+pub mod KeepsFormNames
+pub mod KeepsFormTransfers
+pub mod KeepsFormPipe
+pub mod KeepsFormProcesses
+pub mod KeepsFormEnding
+pub mod KeepsFormDeliveries
+pub mod KeepsFormEvents
+pub mod FormHistory

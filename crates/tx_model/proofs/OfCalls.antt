@@ -1,18 +1,17 @@
 -- The calls that concern their own process alone keep its place among the others.
-use Rattle.std.proofs.Common.{◌≡◌, ℕ, Bool, true, false, ◌||◌, List, [], ℤ, pos, Option, Some, None, is_some, if◌then◌else◌, nat_lt, ◌==◌, slice_index_or, refl, ap, ap₂}
+use Rattle.std.proofs.Common.{ℕ, Bool, true, false, ◌||◌, [], ℤ, pos, Option, Some, None, if◌then◌else◌, nat_lt, ◌==◌, refl}
 use Rattle.tx_base.specs.declared.signals.Action.{Action}
 use Rattle.tx_base.specs.declared.steps.Call.{Call}
 use Rattle.tx_base.specs.declared.steps.Call.TheVariants as call
 use Rattle.tx_base.specs.declared.steps.When.{When}
 use Rattle.tx_model.specs.Numbers.{below}
 use Rattle.tx_model.specs.Memory.{is_good, is_mapped}
-use Rattle.tx_model.specs.State.{Process, Frame, Proc, has, has_parent, names_at, is_number}
+use Rattle.tx_model.specs.State.{Process, Frame}
 use Rattle.tx_model.specs.Effects.{Inside, Own, answers_with, own_effect}
 use Rattle.tx_model.specs.Scripts.{jumps, is_taken, last_ret, keeps_at, shows, writes_console}
 use Rattle.tx_model.specs.Signals.{known, acts, is_bad_action, is_ignored, with_action, discarded, newest, returns}
 use Rattle.tx_model.specs.SignalSets.{kill_signo}
 use Rattle.tx_model.specs.Calls.{own_call}
-use Rattle.tx_model.proofs.Objects.{has_head}
 use Rattle.tx_model.proofs.Owed.{IsLocal}
 use Rattle.tx_model.proofs.InPlace.{KeepsPlace, in_place, own_local}
 
@@ -56,7 +55,7 @@ returns_keeps : (frame : Option Frame) (me : Process) → KeepsPlace me (returns
 returns_keeps None me = in_place me _ refl refl refl
 returns_keeps (Some frame) me = in_place me _ refl refl refl
 
-own_keeps : (inside : Option Inside) (p : ℕ) (c : Call) (me : Process) → KeepsPlace me (own_call inside p c me).process
+pub own_keeps : (inside : Option Inside) (p : ℕ) (c : Call) (me : Process) → KeepsPlace me (own_call inside p c me).process
 own_keeps inside p (call.Sigaction signo action) me = acts_keeps (known signo) action me
 own_keeps inside p call.Sigreturn me = returns_keeps (newest me.frames) me
 own_keeps inside p (call.ConsoleWrite address n) me = console_keeps inside address n me

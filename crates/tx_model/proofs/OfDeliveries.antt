@@ -1,17 +1,15 @@
 -- What deliveries owe.
-use Rattle.std.proofs.Common.{◌≡◌, ℕ, Bool, true, false, not, [], ℤ, Option, Some, None, if◌then◌else◌, ◌==◌, refl}
+use Rattle.std.proofs.Common.{ℕ, Bool, true, false, not, [], ℤ, Option, Some, None, if◌then◌else◌, ◌==◌, refl}
 use Rattle.tx_base.specs.declared.signals.Action.{Action}
 use Rattle.tx_base.specs.declared.signals.Action.TheVariants.{Usual, Ignore, Catch}
-use Rattle.tx_base.specs.declared.steps.Refusal.{Refusal}
 use Rattle.tx_base.specs.declared.steps.Refusal.TheVariants.{NotDeliverable, Deferred, FramesFull}
 use Rattle.tx_base.specs.declared.steps.Reply.TheVariants.{Done}
 use Rattle.tx_model.specs.SignalSets.{child_signo}
-use Rattle.tx_model.specs.State.{Process, Proc, has_parent, names_at}
+use Rattle.tx_model.specs.State.{Process}
 use Rattle.tx_model.specs.Effects.{Inside, Own, idle, own_effect}
 use Rattle.tx_model.specs.Processes.{ending, ending_objects}
 use Rattle.tx_model.specs.Deliveries.{delivered_value, relieved, action_at, is_fatal, caught, is_full, killed_status, takes_action, is_deferred, delivers, delivery_effect, fatal_objects, delivery_objects}
 use Rattle.tx_model.proofs.Owed.{IsLocal}
-use Rattle.tx_model.proofs.Released.{covers_head}
 use Rattle.tx_model.proofs.InPlace.{in_place, idle_local, own_local}
 use Rattle.tx_model.proofs.OfProcesses.{ending_local}
 

@@ -1,14 +1,14 @@
 -- What the calls on descriptors owe to the laws.
-use Rattle.std.proofs.Common.{◌≡◌, ℕ, zero, suc, ◌+◌, Bool, true, false, List, [], ◌∷◌, ◌++◌, ℤ, pos, Option, Some, None, is_some, if◌then◌else◌, ◌==◌, slice_index_or, slice_set, refl, sym, ap, ap₂, ◌∙◌, subst, eqb-true, arith}
+use Rattle.std.proofs.Common.{◌≡◌, ℕ, zero, suc, ◌+◌, Bool, true, false, List, [], ◌∷◌, ◌++◌, pos, Option, Some, None, is_some, if◌then◌else◌, ◌==◌, slice_index_or, slice_set, refl, sym, ap, ap₂, ◌∙◌, subst, eqb-true, arith}
 use Rattle.std.proofs.lemmas.Bool.{both_ways}
 use Rattle.tx_base.specs.declared.errors.Errno.TheVariants.{BadDescriptor, TooManyDescriptors}
 use Rattle.tx_base.specs.declared.steps.Refusal.TheVariants.{NumberTaken}
 use Rattle.tx_model.specs.Numbers.{failing}
-use Rattle.tx_model.specs.State.{Process, ReadSide, WriteSide, Side, Description, State, Sending, Object, Proc, Desc, Pipe, Held, SetProc, SetDesc, is_number, names_at, end_of, AgreeOn, same_object, has}
+use Rattle.tx_model.specs.State.{Process, ReadSide, WriteSide, Side, Description, State, Sending, Object, Proc, Desc, Pipe, Held, SetDesc, is_number, end_of, AgreeOn, same_object, has}
 use Rattle.tx_model.specs.Effects.{Inside, Effect, idle, noted, done}
 use Rattle.tx_model.specs.Fits.{IsIn}
 use Rattle.tx_model.specs.Descriptors.{named, with_descriptor, first_free, lowest_free, bad_descriptor, listed, pipes_of, pipe_list, with_two_slots, is_pipe_taken, side_of, opens_at, opens_from, pipe_effect, pipe_objects, dups_to, dup_effect, renames, dup2_named, dup2_effect, dup2_objects, other_than, closes, close_effect, flags, nonblock_effect, gives_up, desc_objects, end_objects}
-use Rattle.tx_model.proofs.Objects.{WriteFits, WritesFit, ClosingIn, Covers, has_head, has_tail, same_true}
+use Rattle.tx_model.proofs.Objects.{WriteFits, Covers, has_head, has_tail, same_true}
 use Rattle.tx_model.proofs.Owed.{IsLocal}
 use Rattle.tx_model.proofs.InPlace.{StaysIn, self_fits, noted_fits, done_fits}
 use Rattle.tx_model.proofs.Released.{agree_right, agree_rest, covers_left, covers_right, covers_rest, covers_head, lacks_both, descs_held, ends_held, ends_same, gives_up_same, gives_up_fits}

@@ -5,13 +5,13 @@ use Rattle.tx_base.specs.declared.errors.Errno.TheVariants.{NotPermitted, NoChil
 use Rattle.tx_base.specs.declared.steps.Reply.TheVariants.{Ended}
 use Rattle.tx_model.specs.Numbers.{failing}
 use Rattle.tx_model.specs.State.{Process, State, Sending, Object, Proc, Desc, Held, Write, SetProc, SetHeld, write_one, has_parent, is_number, names_at, AgreeAt, AgreeOn, has}
-use Rattle.tx_model.specs.Effects.{Inside, Effect, Replies, noted, done}
+use Rattle.tx_model.specs.Effects.{Inside, Replies, noted, done}
 use Rattle.tx_model.specs.Fits.{IsIn}
 use Rattle.tx_model.specs.Descriptors.{open_in, pipes_of, released, desc_objects, pipe_list, end_objects}
 use Rattle.tx_model.specs.Processes.{child_of, forks, fork_effect, fork_objects, ended, children_below, children_of, with_parent, orphaned, told_to, tells, tells_later, ending, procs_of, held_objects, ending_objects, exit_status, exit_effect, exit_objects, numbered, with_status, waits_by, waits_for, waits_at, waitpid_effect, numbered_objects, waitpid_objects}
-use Rattle.tx_model.proofs.Objects.{WriteFits, WritesFit, ClosingIn, Covers, has_head, has_tail, writes_append}
+use Rattle.tx_model.proofs.Objects.{WriteFits, WritesFit, Covers, has_head, has_tail, writes_append}
 use Rattle.tx_model.proofs.Owed.{IsLocal}
-use Rattle.tx_model.proofs.InPlace.{StaysIn, in_place, kept_fits, done_fits, held_nowhere, done_local}
+use Rattle.tx_model.proofs.InPlace.{StaysIn, in_place, kept_fits, done_fits, done_local}
 use Rattle.tx_model.proofs.Released.{lacks_both, agree_left, agree_right, agree_rest, ends_same, released_fits, released_after, descs_held, ends_held, covers_left, covers_right, covers_rest, covers_head}
 
 -- processes are nothing held

@@ -263,7 +263,7 @@ taken_from V step r t x y =
     let z = moved_taken V step r t (role V.table step r) (event V.table step r) x same in
     record { fits = z.0; passes = z.1; reply = z.2; role_is = x; event_is = same }
 
-unless_accepted : (o : Option Refusal) (a r : Reply) → unless_refused o a ≡ r → IsAccepted r → (o ≡ None) × (a ≡ r)
+pub unless_accepted : (o : Option Refusal) (a r : Reply) → unless_refused o a ≡ r → IsAccepted r → (o ≡ None) × (a ≡ r)
 unless_accepted None a r e h = (refl, e)
 unless_accepted (Some why) a r e h = absurd (subst IsAccepted (sym e) h)
 

@@ -2,7 +2,7 @@
 //! the contracts of functions that do nothing.
 #![tactic(auto)]
 
-ghost use Rattle.std.specs.Prelude.{◌≡◌, ℕ, true, false, List, [], ◌∷◌, ◌++◌, Some};
+ghost use Rattle.std.specs.Prelude.{◌≡◌, ◌≤◌, ℕ, true, false, List, [], ◌∷◌, ◌++◌, Some};
 ghost use Rattle.tx_base.specs.declared.marks.Mark.{Mark};
 ghost use Rattle.tx_base.specs.declared.names.Pid.{Pid};
 ghost use Rattle.tx_base.specs.declared.names.Signo.{Signo};
@@ -15,13 +15,14 @@ ghost use Rattle.tx_model.specs.Answer.{answer, IsAccepted, Lawful, Agreement};
 ghost use Rattle.tx_model.specs.Commuting.{AreApart};
 ghost use Rattle.tx_model.specs.Events.{Event, process_of, effect, objects, after, reply_of};
 ghost use Rattle.tx_model.specs.Fits.{Fits, Passes};
-ghost use Rattle.tx_model.specs.History.{Starters, processes_of, survivors};
+ghost use Rattle.tx_model.specs.History.{Starters, processes_of, survivors, without};
 ghost use Rattle.tx_model.specs.Membership.{is_live, Part, Role, Within};
 ghost use Rattle.tx_model.specs.Places.{survivors_by_place};
 ghost use Rattle.tx_model.specs.Sound.{IsSound};
-ghost use Rattle.tx_model.specs.State.{State, Object, AgreeAt, AgreeOn, has};
+ghost use Rattle.tx_model.specs.State.{State, Object, AgreeAt, AgreeOn, booted, has};
 ghost use Rattle.tx_model.specs.TwoParts.{TwoParts, parts_view, parts_next};
 ghost use Rattle.tx_model.specs.View.{View, view, is_doomed, next, next_by, role_on, event_on};
+ghost use Rattle.tx_model.specs.WellFormed.{IsWellFormed, HasGoodNumbers};
 ghost use Rattle.tx_model.specs.WorkedTrees.{ChildUndoneAnswers, ChildUndoneState, ChildParkedState, ExitCommitsAnswers, ExitCommitsState, ExitUndoneAnswers, ExitUndoneState, ForkedAgainAnswers, ForkedAgainState};
 ghost use Rattle.tx_model.specs.WorkedSignals.{GivenBackAnswers, GivenBackState, TakenForGoodAnswers, TakenForGoodState, SentTwiceUndoneAnswers, SentTwiceUndoneState, SentTwiceAnswers, SentTwiceState, HeldInsideState, HeldSignalAnswers, HeldUndoneAnswers, TargetGoneAnswers, TargetGoneState, ClosedCallsAnswers};
 ghost use Rattle.tx_model.specs.WorkedKills.{DoomedAnswers, DoomedState, EndedThenDoomedAnswers, EndedThenDoomedState, MemberKillsAnswers, MemberKillsState, KillUndoneAnswers, KillUndoneState, DeferredAnswers, DeferredState, PastWidthAnswers};
@@ -93,6 +94,17 @@ pub fn doom()
         is_live view.table starter.0 ≡ true → is_doomed view starter.0 ≡ false → answer view (KernelAbort starter) ≡ Aborted 202 }
     ensures members { (view : View) (step : Step) (starter : ℕ) (part : Part) →
         role_on view step ≡ Within starter part → is_doomed (next view step) starter ≡ is_doomed view starter }
+{}
+
+/// Well-formed states: process 1 runs, the parent of any other process runs too, what descriptors
+/// name is there and nothing else is, and numbers and sizes are within their limits. The booted
+/// state is well formed, every event with numbers in range leaves a well-formed state so, and so
+/// each state of a lawful history is well formed, whichever transactions are left out.
+pub fn well_formed()
+    ensures booted { (width count : ℕ) → 1 ≤ count → count ≤ width → IsWellFormed (booted width count) }
+    ensures kept { (event : Event) (state : State) → IsWellFormed state → HasGoodNumbers state.width event → IsWellFormed (after event state) }
+    ensures history { (start : State) (history : List Accepted) (left_out : Starters) →
+        IsWellFormed start → Lawful start history → IsWellFormed (without start left_out history) }
 {}
 
 /// Two schedules worked out from the definitions: a transaction that its process takes back,
