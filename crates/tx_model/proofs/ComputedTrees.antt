@@ -12,7 +12,7 @@ use Rattle.tx_model.specs.History.{table_of, survivors, without, targets, footpr
 use Rattle.tx_model.specs.View.{view, meets, differs_at, in_way, least}
 use Rattle.tx_model.specs.Answer.{answer}
 use Rattle.tx_model.specs.Schedules.{history_of, answers_of}
-use Rattle.tx_model.specs.WorkedTrees.{ChildUndoneAnswers, ChildUndoneState, ChildParkedState, ExitCommitsAnswers, ExitCommitsState, ExitUndoneAnswers, ExitUndoneState, ForkedAgainAnswers, ForkedAgainState}
+use Rattle.tx_model.specs.WorkedTrees.{ChildUndoneAnswers, ChildUndoneState, ChildParkedState, ExitCommitsAnswers, ExitCommitsState, ExitUndoneAnswers, ExitUndoneState, ForkedAgainAnswers, ForkedAgainState, FirstNotToldAnswers, FirstNotToldState, ToldInsideAnswers, ChildStartsClearAnswers, IdsAnswers, IdsState, WaitsAnswers, WaitsState}
 
 pub child_undone_answers : ChildUndoneAnswers
 unfolding written posts answers effect objects after reply_of run others_open table_of survivors without targets footprint touched_of view meets differs_at in_way least answer has first_free open_in names_below is_named_below has_end_below pipes_of unnamed_go endless_go children_below orphaned sent_by_members first_value less_first has_lower answers_of
@@ -49,3 +49,35 @@ forked_again_answers = refl
 pub forked_again_state : ForkedAgainState
 unfolding written posts answers effect objects after reply_of run others_open table_of survivors without targets footprint touched_of view meets differs_at in_way least answer has first_free open_in names_below is_named_below has_end_below pipes_of unnamed_go endless_go children_below orphaned sent_by_members first_value less_first has_lower history_of
 forked_again_state = (refl, refl, refl)
+
+pub first_not_told_answers : FirstNotToldAnswers
+unfolding written posts answers effect objects after reply_of run others_open table_of survivors without targets footprint touched_of view meets differs_at in_way least answer has first_free open_in names_below is_named_below has_end_below pipes_of unnamed_go endless_go children_below orphaned sent_by_members first_value less_first has_lower answers_of
+first_not_told_answers = refl
+
+pub first_not_told_state : FirstNotToldState
+unfolding written posts answers effect objects after reply_of run others_open table_of survivors without targets footprint touched_of view meets differs_at in_way least answer has first_free open_in names_below is_named_below has_end_below pipes_of unnamed_go endless_go children_below orphaned sent_by_members first_value less_first has_lower history_of
+first_not_told_state = (refl, refl, refl, refl, refl)
+
+pub told_inside_answers : ToldInsideAnswers
+unfolding written posts answers effect objects after reply_of run others_open table_of survivors without targets footprint touched_of view meets differs_at in_way least answer has first_free open_in names_below is_named_below has_end_below pipes_of unnamed_go endless_go children_below orphaned sent_by_members first_value less_first has_lower answers_of
+told_inside_answers = refl
+
+pub child_starts_clear_answers : ChildStartsClearAnswers
+unfolding written posts answers effect objects after reply_of run others_open table_of survivors without targets footprint touched_of view meets differs_at in_way least answer has first_free open_in names_below is_named_below has_end_below pipes_of unnamed_go endless_go children_below orphaned sent_by_members first_value less_first has_lower answers_of
+child_starts_clear_answers = refl
+
+pub ids_answers : IdsAnswers
+unfolding written posts answers effect objects after reply_of run others_open table_of survivors without targets footprint touched_of view meets differs_at in_way least answer has first_free open_in names_below is_named_below has_end_below pipes_of unnamed_go endless_go children_below orphaned sent_by_members first_value less_first has_lower answers_of
+ids_answers = refl
+
+pub ids_state : IdsState
+unfolding written posts answers effect objects after reply_of run others_open table_of survivors without targets footprint touched_of view meets differs_at in_way least answer has first_free open_in names_below is_named_below has_end_below pipes_of unnamed_go endless_go children_below orphaned sent_by_members first_value less_first has_lower history_of
+ids_state = (refl, refl)
+
+pub waits_answers : WaitsAnswers
+unfolding written posts answers effect objects after reply_of run others_open table_of survivors without targets footprint touched_of view meets differs_at in_way least answer has first_free open_in names_below is_named_below has_end_below pipes_of unnamed_go endless_go children_below orphaned sent_by_members first_value less_first has_lower answers_of
+waits_answers = refl
+
+pub waits_state : WaitsState
+unfolding written posts answers effect objects after reply_of run others_open table_of survivors without targets footprint touched_of view meets differs_at in_way least answer has first_free open_in names_below is_named_below has_end_below pipes_of unnamed_go endless_go children_below orphaned sent_by_members first_value less_first has_lower history_of
+waits_state = (refl, refl, refl)

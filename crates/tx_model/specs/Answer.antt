@@ -25,7 +25,8 @@ is_running (Some q) = is_none q.status
 abbrev pub is_there : View → ℕ → Bool
 is_there V p = if is_between V.table.width p then is_some ((present V).procs p) else false
 
--- whether a number that the call chooses is out of range, or one number is chosen twice
+-- whether a number that the call chooses is out of range, or one number is chosen twice: processes are 1 to the width,
+-- pipes 0 to 31, descriptions 0 to 63
 abbrev pub has_bad_number : ℕ → Step → Bool
 has_bad_number width (Calls p (Fork child)) = not (is_between width child.0)
 has_bad_number width (Calls p (Pipe q r w)) = not (nat_lt q.0 32 && nat_lt r.0 64 && nat_lt w.0 64) || r.0 == w.0

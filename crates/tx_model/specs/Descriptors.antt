@@ -58,7 +58,7 @@ unfoldable pub has_end_below : (Side → Bool) → ℕ → ℕ → State → Boo
 has_end_below test k zero S = false
 has_end_below test k (suc d) S = if has_end_below test k d S then true else is_side test (end_of k (S.descs d))
 
--- whether a description names the pipe
+-- whether one of the 64 descriptions names the pipe
 abbrev pub has_end : ℕ → State → Bool
 has_end k S = has_end_below (λ side. true) k 64 S
 

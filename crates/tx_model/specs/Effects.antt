@@ -23,7 +23,7 @@ pub record Effect : Type 0 where
   pub sends : List Sending
   pub closing : Closing
 
--- adding one at the last point leaves it there
+-- adding one at the last point, 65,535, leaves it there
 abbrev pub next_point : ℕ → ℕ
 next_point point = if nat_lt point 65535 then point + 1 else point
 

@@ -31,7 +31,7 @@ is_other_than (Some m) n = not (n == m)
 abbrev pub least_two : (ℕ → Bool) → ℕ → Option (ℕ × ℕ)
 least_two P last = with_second (least P last) (least (λ n. P n && is_other_than (least P last) n) last)
 
--- the least numbers that are free, and reserved by no transaction of others: a process, a pipe, and two descriptions
+-- the least numbers that are free (pipes are 0 to 31, descriptions 0 to 63), and reserved by no transaction of others: a process, a pipe, and two descriptions
 pub record Free : Type 0 where
   pub proc : Option ℕ
   pub pipe : Option ℕ

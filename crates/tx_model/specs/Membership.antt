@@ -115,6 +115,7 @@ abbrev pub ordinary_role : Bool → Table → ℕ → ℕ → Role
 ordinary_role true t s p = end_of_part t s p
 ordinary_role false t s p = Within s Continues
 
+-- the status of an abort by a member (own number)
 abbrev pub called_by_status : ℕ
 called_by_status = 201
 
@@ -135,7 +136,8 @@ role t (Calls p call) r = kind_role t p.0 (kind_of call) r (t.marks p.0)
 role t (Deliver p signo) r = kind_role t p.0 Ordinary r (t.marks p.0)
 role t (KernelAbort s) r = Aborts s.0 (status_in r)
 
--- the event that stands for a step, its commit apart: at an abort, the note that its starter is given
+-- the event that stands for a step, its commit apart: at an abort, the note that its starter is given. Where the call
+-- means nothing its process is given -22 (EINVAL)
 abbrev pub kind_event : Table → ℕ → Step → Kind → Option Mark → Event
 kind_event t p step Ordinary mark = Do step (inside_by t mark)
 kind_event t p step (Forking c) mark = Do step (inside_by t mark)

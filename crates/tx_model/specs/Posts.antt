@@ -14,7 +14,8 @@ may_signal None ids = true
 may_signal (Some from) ids =
     from.effective == 0 || (from.real == ids.real_user || (from.real == ids.saved_user || (from.effective == ids.real_user || from.effective == ids.saved_user)))
 
--- signal 0, a signal to process 1 and one to an ended process change nothing (the second is an own rule)
+-- signal 0, a signal to process 1 and one to an ended process change nothing. Own rules: process 1, and that an ended
+-- process needs no room in its queue
 abbrev pub is_quiet : Sending → Process → Bool
 is_quiet m q = m.signo == 0 || (m.target == 1 || is_some q.status)
 

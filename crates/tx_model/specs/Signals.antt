@@ -33,7 +33,7 @@ kept_action Usual = Usual
 kept_action Ignore = Ignore
 kept_action (Catch point mask) = Catch point (set_of_bits (maskable (bits_of mask)))
 
--- whether a catch point is out of range
+-- whether a catch point is out of range: over 65,535
 abbrev pub is_bad_action : Action → Bool
 is_bad_action Usual = false
 is_bad_action Ignore = false

@@ -1,5 +1,5 @@
--- Reads from pipes and writes to them (POSIX.1-2017, XSH, read() and write()). Where POSIX has a choice: a write is done
--- whole or not at all, and EFAULT is tested before an empty pipe, EPIPE and EAGAIN (own rules).
+-- Reads from pipes and writes to them (POSIX.1-2017, XSH, read() and write()). Own rules where POSIX has a choice: a
+-- write that blocks is done whole or not at all too, and EFAULT is tested before an empty pipe, EPIPE and EAGAIN.
 use Rattle.std.specs.Prelude.{ℕ, zero, suc, ◌+◌, Bool, true, false, List, [], ◌∷◌, ◌++◌, length, ℤ, pos, Option, Some, None, if◌then◌else◌, nat_lt, min, take, drop}
 use Rattle.tx_base.specs.declared.errors.Errno.TheVariants.{TryAgain, BadAddress, InvalidArgument, BrokenPipe}
 use Rattle.tx_base.specs.declared.steps.Refusal.TheVariants.{Wait}

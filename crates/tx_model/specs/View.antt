@@ -35,7 +35,7 @@ has_pending signo (Some q) = bit_at q.pending signo == 1
 abbrev pub is_doomed : View → ℕ → Bool
 is_doomed V s = has_pending kill_signo ((V.without (just s)).procs s)
 
--- the status with which the kernel aborts
+-- the status with which the kernel aborts: 203 where the transaction is doomed, else 202 (own numbers)
 abbrev pub kernel_status : View → ℕ → ℕ
 kernel_status V s = if is_doomed V s then 203 else 202
 

@@ -13,7 +13,7 @@ abbrev pub AllSaved : List Frame → Type 0
 AllSaved [] = Unit {0}
 AllSaved (frame ∷ frames) = (length frame.registers.slots ≡ 8) × AllSaved frames
 
--- the sizes of what a process has
+-- the sizes of what a process has: 8 slots, 16 pages and descriptors, actions for the signals 0 to 39
 pub record HasSizes (q : Process) : Type 0 where
   pub slots : length q.registers.slots ≡ 8
   pub pages : length q.memory ≡ 16
@@ -38,7 +38,8 @@ pub record IsFirst (q : Process) : Type 0 where
   pub queued : length q.queued ≡ 0
 
 -- process 1 is there; each process has its place; a description is there exactly while a descriptor names it, and a
--- pipe exactly while a description does; and the numbers and sizes are within their limits
+-- pipe exactly while a description does; and the numbers (descriptions 0 to 63, pipes 0 to 31) and sizes are within
+-- their limits
 pub record IsWellFormed (S : State) : Type 0 where
   pub first : (q : Process) × (S.procs 1 ≡ Some q) × IsFirst q
   pub placed : (n : ℕ) (q : Process) → S.procs n ≡ Some q → IsPlaced S n q

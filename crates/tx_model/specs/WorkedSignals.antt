@@ -1,16 +1,16 @@
--- Schedules of signals that are worked out to the end. Own rules.
-use Rattle.std.specs.Prelude.{◌≡◌, false, List, [], ◌∷◌, ◌++◌, pos, negsuc, Some, None}
+-- Schedules of signals that are sent, held and given back, worked out to the end. Own rules.
+use Rattle.std.specs.Prelude.{◌≡◌, ℕ, false, List, [], ◌∷◌, ◌++◌, pos, negsuc, Some, None, replicate}
 use Rattle.tx_base.specs.declared.errors.Errno.TheVariants.{NoSuchProcess}
 use Rattle.tx_base.specs.declared.signals.Action.TheVariants.{Ignore}
 use Rattle.tx_base.specs.declared.signals.How.TheVariants.{Block}
-use Rattle.tx_base.specs.declared.steps.Call.TheVariants.{Map, Exit, Waitpid, Sigaction, Sigprocmask, Sigpending, ConsoleWrite, SysXbegin, SysXend, SysXabort}
+use Rattle.tx_base.specs.declared.steps.Call.TheVariants.{Map, Exit, Waitpid, Sigaction, Sigprocmask, Sigpending, Getpid, ConsoleWrite, SysXbegin, SysXend, SysXabort}
 use Rattle.tx_base.specs.declared.steps.Reply.TheVariants.{Done, Ended, Committed, Aborted, Out}
 use Rattle.tx_base.specs.declared.steps.Step.{Step}
 use Rattle.tx_model.specs.Memory.{no_memory}
-use Rattle.tx_model.specs.State.{State, booted_process, booted}
+use Rattle.tx_model.specs.State.{Queued, State, booted_process, booted}
 use Rattle.tx_model.specs.View.{View}
 use Rattle.tx_model.specs.Schedules.{answers_of}
-use Rattle.tx_model.specs.WorkedSteps.{calls, delivery, store, kill, ok, committed, marked, view_after, state_after, standing, with_one_action, with_one_pending}
+use Rattle.tx_model.specs.WorkedSteps.{calls, delivery, store, fork, kill, sigqueue, block, ok, committed, marked, view_after, state_after, standing, with_one_action, with_one_pending, with_queue}
 
 -- an outsider's signal is delivered to a starter inside, where it is ignored
 abbrev pub taken_inside : List Step
@@ -157,3 +157,75 @@ ClosedCallsAnswers =
     ∷ Done (negsuc 199)
     ∷ committed
     ∷ []
+
+-- a transaction holds 32 signals of its members, and no more; the SIGCHLD for the parent of its starter, which is held
+-- before them, is none of these
+abbrev pub full_hold : List Step
+full_hold =
+    calls 2 (block 131072)
+    ∷ calls 2 (fork 4)
+    ∷ calls 4 SysXbegin
+    ∷ calls 4 (fork 5)
+    ∷ calls 4 (Exit (pos 0))
+    ∷ replicate 32 (calls 5 (kill 3 10))
+    ++ calls 5 (kill 3 10)
+    ∷ calls 2 Sigpending
+    ∷ calls 5 SysXend
+    ∷ calls 2 Sigpending
+    ∷ []
+
+abbrev pub FullHoldAnswers : Type 0
+FullHoldAnswers =
+    answers_of (booted 64 3) [] full_hold
+    ≡ ok 0
+    ∷ ok 4
+    ∷ ok 0
+    ∷ ok 5
+    ∷ Ended
+    ∷ replicate 32 (ok 0)
+    ++ Done (negsuc 10)
+    ∷ ok 0
+    ∷ committed
+    ∷ ok 131072
+    ∷ []
+
+-- an entry of a queue
+abbrev pub entry : ℕ → ℕ → Queued
+entry signo value = record { signo = signo; value = pos value }
+
+-- held signals go out in their order
+abbrev pub held_in_turn : List Step
+held_in_turn = calls 2 SysXbegin ∷ calls 2 (sigqueue 3 34 1) ∷ calls 2 (sigqueue 3 34 2) ∷ calls 2 SysXend ∷ []
+
+abbrev pub HeldInTurnState : Type 0
+HeldInTurnState =
+    (state_after (booted 64 3) held_in_turn).procs 3 ≡ Some (with_queue (entry 34 1 ∷ entry 34 2 ∷ []) (booted_process 3))
+
+-- a queue has room for sixteen realtime signals; a standard one needs none
+abbrev pub full_queue : List Step
+full_queue = replicate 16 (calls 3 (sigqueue 2 34 7)) ++ calls 3 (sigqueue 2 35 7) ∷ calls 3 (kill 2 10) ∷ []
+
+abbrev pub FullQueueAnswers : Type 0
+FullQueueAnswers = answers_of (booted 64 3) [] full_queue ≡ replicate 16 (ok 0) ++ Done (negsuc 10) ∷ ok 0 ∷ []
+
+abbrev pub FullQueueState : Type 0
+FullQueueState =
+    (state_after (booted 64 3) full_queue).procs 2
+    ≡ Some (with_one_pending 10 (with_queue (replicate 16 (entry 34 7)) (booted_process 2)))
+
+-- an unknown signal is an error before a number of no process is, and process 1 takes no signal
+abbrev pub wrong_sends : List Step
+wrong_sends =
+    calls 2 (kill 0 99)
+    ∷ calls 2 (kill 0 10)
+    ∷ calls 2 (kill 65 10)
+    ∷ calls 2 (kill 5 10)
+    ∷ calls 2 (kill 1 0)
+    ∷ calls 2 (kill 1 9)
+    ∷ calls 1 Getpid
+    ∷ []
+
+abbrev pub WrongSendsAnswers : Type 0
+WrongSendsAnswers =
+    answers_of (booted 64 2) [] wrong_sends
+    ≡ Done (negsuc 21) ∷ Done (negsuc 2) ∷ Done (negsuc 2) ∷ Done (negsuc 2) ∷ ok 0 ∷ ok 0 ∷ ok 1 ∷ []

@@ -2,7 +2,8 @@
 use Rattle.std.specs.Prelude.{ℕ, ◌+◌, ◌^◌, Bool, List, [], ℤ, pos, Option, Some, replicate, slice_set}
 use Rattle.tx_base.specs.declared.marks.Mark.{Mark}
 use Rattle.tx_base.specs.declared.signals.Action.{Action}
-use Rattle.tx_base.specs.declared.signals.Action.TheVariants.{Usual}
+use Rattle.tx_base.specs.declared.signals.Action.TheVariants.{Usual, Catch}
+use Rattle.tx_base.specs.declared.signals.How.TheVariants.{Block}
 use Rattle.tx_base.specs.declared.steps.Call.{Call}
 use Rattle.tx_base.specs.declared.steps.Call.TheVariants as call
 use Rattle.tx_base.specs.declared.steps.Refusal.TheVariants.{Busy}
@@ -11,7 +12,7 @@ use Rattle.tx_base.specs.declared.steps.Reply.TheVariants.{Done, Committed, No}
 use Rattle.tx_base.specs.declared.steps.Step.{Step}
 use Rattle.tx_base.specs.declared.steps.Step.TheVariants.{Call as Calls, Deliver, KernelAbort}
 use Rattle.tx_model.specs.Memory.{Memory}
-use Rattle.tx_model.specs.State.{Process, Side, Description, State, booted_process}
+use Rattle.tx_model.specs.State.{Ids, Queued, Frame, Process, Side, Description, State, booted_process}
 use Rattle.tx_model.specs.View.{View, view, present}
 use Rattle.tx_model.specs.Schedules.{history_of}
 
@@ -38,6 +39,18 @@ pipe k r w = call.Pipe (record { 0 = k }) (record { 0 = r }) (record { 0 = w })
 
 abbrev pub kill : ℕ → ℕ → Call
 kill t signo = call.Kill (pos t) (pos signo)
+
+-- a signal with a value
+abbrev pub sigqueue : ℕ → ℕ → ℕ → Call
+sigqueue t signo value = call.Sigqueue (pos t) (pos signo) (pos value)
+
+-- these signals are blocked too
+abbrev pub block : ℕ → Call
+block set = call.Sigprocmask Block (record { 0 = set })
+
+-- the signal is caught at a point, where these are blocked too
+abbrev pub catch : ℕ → ℕ → ℕ → Call
+catch signo point mask = call.Sigaction (pos signo) (Catch point (record { 0 = mask }))
 
 -- the call answered this number
 abbrev pub ok : ℕ → Reply
@@ -90,6 +103,22 @@ with_open descriptors q = record q { descriptors = descriptors }
 -- the process, but for its actions: this one, and else the usual ones
 abbrev pub with_one_action : ℕ → Action → Process → Process
 with_one_action signo action q = record q { actions = slice_set (replicate 40 Usual) signo action }
+
+-- the process, but for its mask
+abbrev pub with_mask : ℕ → Process → Process
+with_mask mask q = record q { mask = mask }
+
+-- the process, but for its ids
+abbrev pub with_ids : Ids → Process → Process
+with_ids ids q = record q { ids = ids }
+
+-- the process, but for its queue of realtime signals
+abbrev pub with_queue : List Queued → Process → Process
+with_queue queued q = record q { queued = queued }
+
+-- the process, but for what its caught signals saved
+abbrev pub with_frames : List Frame → Process → Process
+with_frames frames q = record q { frames = frames }
 
 -- the process, but for what is pending: this standard signal alone
 abbrev pub with_one_pending : ℕ → Process → Process

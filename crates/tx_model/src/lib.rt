@@ -23,10 +23,11 @@ ghost use Rattle.tx_model.specs.State.{State, Object, AgreeAt, AgreeOn, booted, 
 ghost use Rattle.tx_model.specs.TwoParts.{TwoParts, parts_view, parts_next};
 ghost use Rattle.tx_model.specs.View.{View, view, is_doomed, next, next_by, role_on, event_on};
 ghost use Rattle.tx_model.specs.WellFormed.{IsWellFormed, HasGoodNumbers};
-ghost use Rattle.tx_model.specs.WorkedTrees.{ChildUndoneAnswers, ChildUndoneState, ChildParkedState, ExitCommitsAnswers, ExitCommitsState, ExitUndoneAnswers, ExitUndoneState, ForkedAgainAnswers, ForkedAgainState};
-ghost use Rattle.tx_model.specs.WorkedSignals.{GivenBackAnswers, GivenBackState, TakenForGoodAnswers, TakenForGoodState, SentTwiceUndoneAnswers, SentTwiceUndoneState, SentTwiceAnswers, SentTwiceState, HeldInsideState, HeldSignalAnswers, HeldUndoneAnswers, TargetGoneAnswers, TargetGoneState, ClosedCallsAnswers};
+ghost use Rattle.tx_model.specs.WorkedTrees.{ChildUndoneAnswers, ChildUndoneState, ChildParkedState, ExitCommitsAnswers, ExitCommitsState, ExitUndoneAnswers, ExitUndoneState, ForkedAgainAnswers, ForkedAgainState, FirstNotToldAnswers, FirstNotToldState, ToldInsideAnswers, ChildStartsClearAnswers, IdsAnswers, IdsState, WaitsAnswers, WaitsState};
+ghost use Rattle.tx_model.specs.WorkedSignals.{GivenBackAnswers, GivenBackState, TakenForGoodAnswers, TakenForGoodState, SentTwiceUndoneAnswers, SentTwiceUndoneState, SentTwiceAnswers, SentTwiceState, HeldInsideState, HeldSignalAnswers, HeldUndoneAnswers, TargetGoneAnswers, TargetGoneState, ClosedCallsAnswers, FullHoldAnswers, HeldInTurnState, FullQueueAnswers, FullQueueState, WrongSendsAnswers};
+ghost use Rattle.tx_model.specs.WorkedActions.{CaughtState, CaughtBackAnswers, CaughtBackState, FullFramesAnswers, RealtimeInTurnAnswers, IgnoredAnswers, IgnoredState, EndedTargetAnswers, EndedTargetState};
 ghost use Rattle.tx_model.specs.WorkedKills.{DoomedAnswers, DoomedState, EndedThenDoomedAnswers, EndedThenDoomedState, MemberKillsAnswers, MemberKillsState, KillUndoneAnswers, KillUndoneState, DeferredAnswers, DeferredState, PastWidthAnswers};
-ghost use Rattle.tx_model.specs.WorkedPipes.{WriterBackAnswers, WriterGoneAnswers, WriterClosesAnswers, FlagUndoneAnswers, FlagUndoneState};
+ghost use Rattle.tx_model.specs.WorkedPipes.{WriterBackAnswers, WriterGoneAnswers, WriterClosesAnswers, FlagUndoneAnswers, FlagUndoneState, FullPipeAnswers, BytesInTurnAnswers, NoReaderAnswers, NoReaderState, MoreNamesAnswers, MoreNamesState};
 ghost use Rattle.tx_model.specs.WorkedConflicts.{UndecidedKillAnswers, CrossedAnswers, CrossedState, ChildInsideAnswers};
 ghost use Rattle.tx_model.specs.Worked.{TakenBackAnswers, TakenBackState, SideBySideAnswers, SideBySideState};
 
@@ -117,7 +118,8 @@ pub fn worked_schedules()
 {}
 
 /// Worked schedules of children, exits and waits in transactions: a child that an abort takes back,
-/// an exit that commits, a starter that ended and is brought back, a number that is forked again.
+/// an exit that commits, a starter that ended and is brought back, a number that is forked again;
+/// and who is told of an end, what a child starts with, ids that are given up, and waits.
 pub fn worked_trees()
     ensures child_undone { ChildUndoneAnswers }
     ensures child_undone_state { ChildUndoneState }
@@ -128,10 +130,19 @@ pub fn worked_trees()
     ensures exit_undone_state { ExitUndoneState }
     ensures forked_again { ForkedAgainAnswers }
     ensures forked_again_state { ForkedAgainState }
+    ensures first_not_told { FirstNotToldAnswers }
+    ensures first_not_told_state { FirstNotToldState }
+    ensures told_inside { ToldInsideAnswers }
+    ensures child_starts_clear { ChildStartsClearAnswers }
+    ensures ids { IdsAnswers }
+    ensures ids_state { IdsState }
+    ensures waits { WaitsAnswers }
+    ensures waits_state { WaitsState }
 {}
 
 /// Worked schedules of signals: an outsider's, taken inside and given back by an abort; a member's,
-/// held until the commit; and the calls that are closed inside.
+/// held until the commit; the calls that are closed inside; how many signals are held, queued and
+/// caught at most; and signals that are caught, blocked, ignored, or sent to nobody.
 pub fn worked_signals()
     ensures given_back { GivenBackAnswers }
     ensures given_back_state { GivenBackState }
@@ -147,6 +158,20 @@ pub fn worked_signals()
     ensures target_gone { TargetGoneAnswers }
     ensures target_gone_state { TargetGoneState }
     ensures closed_calls { ClosedCallsAnswers }
+    ensures full_hold { FullHoldAnswers }
+    ensures held_in_turn_state { HeldInTurnState }
+    ensures full_queue { FullQueueAnswers }
+    ensures full_queue_state { FullQueueState }
+    ensures wrong_sends { WrongSendsAnswers }
+    ensures caught_state { CaughtState }
+    ensures caught_back { CaughtBackAnswers }
+    ensures caught_back_state { CaughtBackState }
+    ensures full_frames { FullFramesAnswers }
+    ensures realtime_in_turn { RealtimeInTurnAnswers }
+    ensures ignored { IgnoredAnswers }
+    ensures ignored_state { IgnoredState }
+    ensures ended_target { EndedTargetAnswers }
+    ensures ended_target_state { EndedTargetState }
 {}
 
 /// Worked schedules of SIGKILL: an outsider's dooms the transaction of a starter, a member's does not,
@@ -165,14 +190,20 @@ pub fn worked_kills()
     ensures past_width { PastWidthAnswers }
 {}
 
-/// Worked schedules of pipes that two processes have: a last writer that may come back, and a flag
-/// that a member changed.
+/// Worked schedules of pipes: of two processes, a last writer that may come back, and a flag that a
+/// member changed; and a full pipe, the order of its bytes, a write without a reader, more names.
 pub fn worked_pipes()
     ensures writer_back { WriterBackAnswers }
     ensures writer_gone { WriterGoneAnswers }
     ensures writer_closes { WriterClosesAnswers }
     ensures flag_undone { FlagUndoneAnswers }
     ensures flag_undone_state { FlagUndoneState }
+    ensures full_pipe { FullPipeAnswers }
+    ensures bytes_in_turn { BytesInTurnAnswers }
+    ensures no_reader { NoReaderAnswers }
+    ensures no_reader_state { NoReaderState }
+    ensures more_names { MoreNamesAnswers }
+    ensures more_names_state { MoreNamesState }
 {}
 
 /// Worked schedules of steps that another transaction is in the way of: two answers to one signal,
