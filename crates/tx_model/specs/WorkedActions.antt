@@ -10,7 +10,8 @@ use Rattle.tx_model.specs.State.{booted, first_registers}
 use Rattle.tx_model.specs.Schedules.{answers_of}
 use Rattle.tx_model.specs.WorkedSteps.{calls, delivery, kill, sigqueue, block, catch, ok, state_after, standing, exited, killed_by, with_one_action, with_mask, with_frames}
 
--- a signal is caught: it is blocked meanwhile, with those of its action
+-- a signal is caught: it is blocked meanwhile, with those of its action (4,096 is the set of signal 12, 5,120 that of 10
+-- and 12)
 abbrev pub caught : List Step
 caught = calls 2 (catch 10 40 4096) ∷ calls 3 (kill 2 10) ∷ delivery 2 10 ∷ calls 2 Getpid ∷ []
 
