@@ -1,0 +1,2 @@
+pub mod Cred
+pub mod Outcomes

@@ -1,0 +1,8 @@
+//! The user and group ids of a process, the calls that change them, and who may signal whom.
+#![tactic(auto)]
+
+mod cred;
+#[cfg(test)]
+mod tests;
+
+pub use cred::{Cred, may_signal};

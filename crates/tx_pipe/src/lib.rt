@@ -1,0 +1,10 @@
+//! The bytes of a pipe, kept in the value itself. No call takes memory.
+#![tactic(auto)]
+
+mod laws;
+mod pipe;
+#[cfg(test)]
+mod tests;
+
+pub use laws::{put_back_undoes_read, take_back_undoes_write};
+pub use pipe::Pipe;

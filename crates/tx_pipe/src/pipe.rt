@@ -1,0 +1,137 @@
+//! The bytes of a pipe: at most 512, the oldest first.
+ghost use Rattle.std.specs.Bool.{OnTrue, OnFalse};
+ghost use Rattle.std.specs.Prelude.{◌≡◌, ◌+◌, ◌-◌, ◌≤◌, ◌↔◌, [], ◌++◌, IsTrue, length, min, take, drop};
+ghost use Rattle.tx_model.specs.Transfers.{pipe_room};
+
+use arrayvec::ArrayVec;
+use std::marker::Model;
+use std::mem;
+use tx_base::PIPE_BYTES;
+
+/// The bytes that were written to a pipe and are not read yet, the oldest first: 0 to 512 of them.
+/// Contracts see the list of these bytes.
+#[derive(Drop)]
+pub struct Pipe {
+    bytes: ArrayVec<u8, PIPE_BYTES>,
+}
+
+impl Model for Pipe {
+    ghost use Rattle.std.specs.Prelude.{ℕ, List};
+
+    ghost Value = { List ℕ };
+
+    ghost view = { λ pipe. pipe.bytes.items };
+}
+
+impl Pipe {
+    /// An empty pipe. POSIX.1-2017, XSH, pipe().
+    pub fn new() -> Pipe
+        ensures { result ≡ [] }
+    {
+        Pipe {
+            bytes: ArrayVec::new(),
+        }
+    }
+
+    /// How many bytes it holds: 0 to 512.
+    pub fn len(&self) -> usize
+        ensures held { result ≡ length self.now }
+        ensures fits { length self.now ≤ pipe_room }
+    {
+        self.bytes.len()
+    }
+
+    /// Whether it holds nothing.
+    pub fn is_empty(&self) -> bool
+        ensures { IsTrue result ↔ (self.now ≡ []) }
+    {
+        self.bytes.is_empty()
+    }
+
+    /// How many bytes it has room for: 0 to 512.
+    pub fn room(&self) -> usize
+        ensures { length self.now + result ≡ pipe_room }
+    {
+        self.bytes.remaining_capacity()
+    }
+
+    /// All its bytes, the oldest first.
+    pub fn bytes(&self) -> &[u8]
+        ensures whole { result.now ≡ self.now }
+        ensures fits { length self.now ≤ pipe_room }
+    {
+        self.bytes.as_slice()
+    }
+
+    /// Appends all the bytes, or none of them: false where there is less room than that, and the
+    /// pipe is then as it was. POSIX.1-2017, XSH, write(), of up to PIPE_BUF bytes to a pipe. More
+    /// bytes than that never fit: own rule.
+    pub fn write(&mut self, bytes: &[u8]) -> bool
+        ensures fits { IsTrue result ↔ (length self.old + length bytes.now ≤ pipe_room) }
+        ensures appended { OnTrue result (self.new ≡ self.old ++ bytes.now) }
+        ensures unchanged { OnFalse result (self.new ≡ self.old) }
+    {
+        self.bytes.try_extend_from_slice(bytes).is_ok()
+    }
+
+    /// Takes bytes from the front, as many as are held and there is room for, and says how many.
+    /// They are written to the front of the room, and the rest of it stays as it was. It takes 0
+    /// where the pipe is empty or there is no room. POSIX.1-2017, XSH, read(), from a pipe.
+    pub fn read(&mut self, into: &mut [u8]) -> usize
+        ensures count { result ≡ min (length into.old) (length self.old) }
+        ensures taken { into.new ≡ take result self.old ++ drop result into.old }
+        ensures left { self.new ≡ drop result self.old }
+        ensures fits { length self.old ≤ pipe_room }
+    {
+        let count = into.len().min(self.len());
+        into[..count].copy_from_slice(&self.bytes[..count]);
+        drop_front(&mut self.bytes, count);
+        count
+    }
+
+    /// Puts bytes at the front, before those that are held; they must fit. It undoes a read that
+    /// took them. Own rule.
+    pub fn put_back(&mut self, bytes: &[u8])
+        requires { length bytes.now + length self.old ≤ pipe_room }
+        ensures { self.new ≡ bytes.now ++ self.old }
+    {
+        put_front(&mut self.bytes, bytes);
+    }
+
+    /// Removes so many of the last bytes; so many must be held. It undoes a write of so many. Own
+    /// rule.
+    pub fn take_back(&mut self, count: usize)
+        requires { count ≤ length self.old }
+        ensures { self.new ≡ take (length self.old - count) self.old }
+    {
+        let kept = self.len() - count;
+        self.bytes.truncate(kept);
+    }
+
+    /// Exchanges the bytes of two pipes. A second exchange takes the first one back. Own rule.
+    pub fn swap(&mut self, other: &mut Pipe)
+        ensures exchanged { self.new ≡ other.old }
+        ensures given { other.new ≡ self.old }
+    {
+        mem::swap(&mut self.bytes, &mut other.bytes);
+    }
+}
+
+/// Removes so many of the first bytes.
+fn drop_front(bytes: &mut ArrayVec<u8, PIPE_BYTES>, count: usize)
+    requires { count ≤ length bytes.old.items }
+    ensures { bytes.new.items ≡ drop count bytes.old.items }
+{
+    let kept = bytes.len() - count;
+    bytes.as_mut_slice().rotate_left(count);
+    bytes.truncate(kept);
+}
+
+/// Puts bytes in front of those that are there.
+fn put_front(bytes: &mut ArrayVec<u8, PIPE_BYTES>, front: &[u8])
+    requires { length front.now + length bytes.old.items ≤ pipe_room }
+    ensures { bytes.new.items ≡ front.now ++ bytes.old.items }
+{
+    let _fits = bytes.try_extend_from_slice(front);
+    bytes.as_mut_slice().rotate_right(front.len());
+}
