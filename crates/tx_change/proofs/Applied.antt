@@ -1,61 +1,68 @@
 -- Exchanges one after another, and back.
-use Rattle.std.proofs.Common.{◌≡◌, ℕ, List, [], ◌∷◌, ◌++◌, Option, Some, None, length, ap, refl, ◌∙◌, sym, subst}
-use Rattle.tx_base.specs.Slots.{slot_at}
-use Rattle.tx_change.proofs.SlotFacts.{length-with_slot}
-use Rattle.tx_change.proofs.Twice.{back, number_after}
+use Rattle.std.proofs.Common.{◌≡◌, ℕ, List, [], ◌∷◌, ◌++◌, Option, Some, None, length, ap, refl, ◌∙◌, sym, subst, length-set}
+use Rattle.tx_base.proofs.SlotFacts.{length-with_slot}
+use Rattle.tx_change.proofs.Twice.{back}
 use Rattle.tx_change.specs.declared.change.Change.{Change}
-use Rattle.tx_change.specs.declared.change.Change.TheVariants.{Page, Regs, Status}
+use Rattle.tx_change.specs.declared.change.Change.TheVariants.{Slot, Part, Description, Pipe}
 use Rattle.tx_change.specs.declared.parts.Parts.{Parts}
-use Rattle.tx_change.specs.declared.proc.Proc.{Proc}
-use Rattle.tx_change.specs.Exchange.{number_of, change_of, change_at, parts_after, change_after, HasPage, IsWithin, IsNamed, AreWithin, AreNamed, applied, exchanged, undone, reverted}
+use Rattle.tx_change.specs.Exchange.{parts_after, change_after, Sizes, sizes_of, IsWithin, IsNamed, AreWithin, AreNamed, applied, exchanged, undone, reverted}
+use Rattle.tx_proc.specs.Parts.{part_in, HasPlace}
+use Rattle.tx_proc.specs.declared.part.Part.{Part as ProcPart}
+use Rattle.tx_proc.specs.declared.proc.Proc.{Proc}
+use Rattle.tx_proc.proofs.Twice.{place_of_part}
 
--- there are as many process numbers as before
-pub still_sized : (parts : Parts) (change : Change) → length (parts_after parts change).procs ≡ length parts.procs
-still_sized parts change = length-with_slot parts.procs (number_of change) _
+-- there are as many numbers as before
+pub still_sized : (parts : Parts) (change : Change) → sizes_of (parts_after parts change) ≡ sizes_of parts
+still_sized parts (Slot pid slot) = ap (λ (n : ℕ). record { procs = n; descs = length parts.descs; pipes = length parts.pipes }) (length-with_slot parts.procs pid.0 slot)
+still_sized parts (Part pid part) = ap (λ (n : ℕ). record { procs = n; descs = length parts.descs; pipes = length parts.pipes }) (length-with_slot parts.procs pid.0 _)
+still_sized parts (Description number opened) = ap (λ (n : ℕ). record { procs = length parts.procs; descs = n; pipes = length parts.pipes }) (length-set parts.descs number.0 opened)
+still_sized parts (Pipe number part) = ap (λ (n : ℕ). record { procs = length parts.procs; descs = length parts.descs; pipes = n }) (length-set parts.pipes number.0 _)
+
+pub sizes-applied : (parts : Parts) (changes : List Change) → sizes_of (applied parts changes) ≡ sizes_of parts
+sizes-applied parts [] = refl
+sizes-applied parts (change ∷ changes) = sizes-applied (parts_after parts change) changes ∙ still_sized parts change
+
+pub sizes-undone : (parts : Parts) (changes : List Change) → sizes_of (undone parts changes) ≡ sizes_of parts
+sizes-undone parts [] = refl
+sizes-undone parts (change ∷ changes) = still_sized (undone parts changes) change ∙ sizes-undone parts changes
 
 pub length-applied : (parts : Parts) (changes : List Change) → length (applied parts changes).procs ≡ length parts.procs
-length-applied parts [] = refl
-length-applied parts (change ∷ changes) = length-applied (parts_after parts change) changes ∙ still_sized parts change
+length-applied parts changes = ap (λ (sizes : Sizes). sizes.procs) (sizes-applied parts changes)
 
 pub length-undone : (parts : Parts) (changes : List Change) → length (undone parts changes).procs ≡ length parts.procs
-length-undone parts [] = refl
-length-undone parts (change ∷ changes) = still_sized (undone parts changes) change ∙ length-undone parts changes
+length-undone parts changes = ap (λ (sizes : Sizes). sizes.procs) (sizes-undone parts changes)
 
--- what is named depends on how many process numbers there are alone
-pub IsNamed-sized : (parts other : Parts) (change : Change) → length other.procs ≡ length parts.procs → IsNamed parts change → IsNamed other change
-IsNamed-sized parts other change sized named = subst (λ (width : ℕ). IsWithin width change) (sym sized) named
+-- what is named depends on how many numbers there are alone
+pub IsNamed-sized : (parts other : Parts) (change : Change) → sizes_of other ≡ sizes_of parts → IsNamed parts change → IsNamed other change
+IsNamed-sized parts other change sized named = subst (λ (sizes : Sizes). IsWithin sizes change) (sym sized) named
 
-pub AreNamed-sized : (parts other : Parts) (changes : List Change) → length other.procs ≡ length parts.procs → AreNamed parts changes → AreNamed other changes
-AreNamed-sized parts other changes sized named = subst (λ (width : ℕ). AreWithin width changes) (sym sized) named
+pub AreNamed-sized : (parts other : Parts) (changes : List Change) → sizes_of other ≡ sizes_of parts → AreNamed parts changes → AreNamed other changes
+AreNamed-sized parts other changes sized named = subst (λ (sizes : Sizes). AreWithin sizes changes) (sym sized) named
 
-pub AreWithin-append : (width : ℕ) (front behind : List Change) → AreWithin width front → AreWithin width behind → AreWithin width (front ++ behind)
-AreWithin-append width [] behind first last = last
-AreWithin-append width (change ∷ front) behind first last = (first.0, AreWithin-append width front behind first.1 last)
+pub AreWithin-append : (sizes : Sizes) (front behind : List Change) → AreWithin sizes front → AreWithin sizes behind → AreWithin sizes (front ++ behind)
+AreWithin-append sizes [] behind first last = last
+AreWithin-append sizes (change ∷ front) behind first last = (first.0, AreWithin-append sizes front behind first.1 last)
 
 -- an exchanged change names the same part
-HasPage_of : (proc : Proc) (change : Change) → HasPage change → HasPage (change_of proc change)
-HasPage_of proc (Page pid number page) below = below
-HasPage_of proc (Regs pid regs) below = tt
-HasPage_of proc (Status pid status) below = tt
+pub place_in_part : (slot : Option Proc) (part : ProcPart) → HasPlace part → HasPlace (part_in slot part)
+place_in_part None part place = place
+place_in_part (Some proc) part place = place_of_part proc part place
 
-pub HasPage_at : (slot : Option Proc) (change : Change) → HasPage change → HasPage (change_at slot change)
-HasPage_at None change below = below
-HasPage_at (Some proc) change below = HasPage_of proc change below
+pub IsWithin-exchanged : (sizes : Sizes) (parts : Parts) (change : Change) → IsWithin sizes change → IsWithin sizes (change_after parts change)
+IsWithin-exchanged sizes parts (Slot pid slot) named = named
+IsWithin-exchanged sizes parts (Part pid part) named = (named.0, place_in_part _ part named.1)
+IsWithin-exchanged sizes parts (Description number opened) named = named
+IsWithin-exchanged sizes parts (Pipe number part) named = named
 
-pub IsWithin-exchanged : (width : ℕ) (slot : Option Proc) (change : Change) → IsWithin width change → IsWithin width (change_at slot change)
-IsWithin-exchanged width slot change named =
-    let same : number_of (change_at slot change) ≡ number_of change = number_after slot change in
-    record { low = rw same named.low; high = rw same named.high; page = HasPage_at slot change named.page }
+pub AreWithin-exchanged : (sizes : Sizes) (parts : Parts) (changes : List Change) → AreWithin sizes changes → AreWithin sizes (exchanged parts changes)
+AreWithin-exchanged sizes parts [] named = tt
+AreWithin-exchanged sizes parts (change ∷ changes) named =
+    (IsWithin-exchanged sizes parts change named.0, AreWithin-exchanged sizes (parts_after parts change) changes named.1)
 
-pub AreWithin-exchanged : (width : ℕ) (parts : Parts) (changes : List Change) → AreWithin width changes → AreWithin width (exchanged parts changes)
-AreWithin-exchanged width parts [] named = tt
-AreWithin-exchanged width parts (change ∷ changes) named =
-    (IsWithin-exchanged width (slot_at parts.procs (number_of change)) change named.0, AreWithin-exchanged width (parts_after parts change) changes named.1)
-
-pub AreWithin-reverted : (width : ℕ) (parts : Parts) (changes : List Change) → AreWithin width changes → AreWithin width (reverted parts changes)
-AreWithin-reverted width parts [] named = tt
-AreWithin-reverted width parts (change ∷ changes) named =
-    (IsWithin-exchanged width (slot_at (undone parts changes).procs (number_of change)) change named.0, AreWithin-reverted width parts changes named.1)
+pub AreWithin-reverted : (sizes : Sizes) (parts : Parts) (changes : List Change) → AreWithin sizes changes → AreWithin sizes (reverted parts changes)
+AreWithin-reverted sizes parts [] named = tt
+AreWithin-reverted sizes parts (change ∷ changes) named =
+    (IsWithin-exchanged sizes (undone parts changes) change named.0, AreWithin-reverted sizes parts changes named.1)
 
 -- to exchange all again, the last one first, puts the parts back
 pub undone_exchanged : (parts : Parts) (changes : List Change) → AreNamed parts changes → undone (applied parts changes) (exchanged parts changes) ≡ parts
@@ -70,7 +77,7 @@ pub applied_reverted : (parts : Parts) (changes : List Change) → AreNamed part
 applied_reverted parts [] named = refl
 applied_reverted parts (change ∷ changes) named =
     let before : Parts = undone parts changes in
-    ap (λ (p : Parts). applied p (reverted parts changes)) (back before change (IsNamed-sized parts before change (length-undone parts changes) named.0))
+    ap (λ (p : Parts). applied p (reverted parts changes)) (back before change (IsNamed-sized parts before change (sizes-undone parts changes) named.0))
     ∙ applied_reverted parts changes named.1
 
 pub applied-append : (parts : Parts) (front behind : List Change) → applied parts (front ++ behind) ≡ applied (applied parts front) behind

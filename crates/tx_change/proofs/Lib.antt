@@ -1,5 +1,9 @@
-pub mod SlotFacts
+pub mod Piped
 pub mod Twice
 pub mod Applied
-pub mod Own
 pub mod Reverts
+pub mod Stated
+pub mod Booted
+pub mod Own
+pub mod Tables
+pub mod Counted

@@ -5,18 +5,18 @@ use Rattle.std.proofs.Math.ListN.{set}
 use Rattle.tx_change.proofs.Applied.{undone_last, reverted_last}
 use Rattle.tx_change.specs.declared.change.Change.{Change}
 use Rattle.tx_change.specs.declared.parts.Parts.{Parts}
-use Rattle.tx_change.specs.Exchange.{parts_after, change_after, IsWithin, AreWithin, undone, reverted}
+use Rattle.tx_change.specs.Exchange.{parts_after, change_after, Sizes, IsWithin, AreWithin, undone, reverted}
 
-AreWithin_last : (width : ℕ) (front : List Change) (change : Change) → AreWithin width (front ++ (change ∷ [])) → AreWithin width front × IsWithin width change
-AreWithin_last width [] change named = (tt, named.0)
-AreWithin_last width (first ∷ front) change named =
-    let rest = AreWithin_last width front change named.1 in
+AreWithin_last : (sizes : Sizes) (front : List Change) (change : Change) → AreWithin sizes (front ++ (change ∷ [])) → AreWithin sizes front × IsWithin sizes change
+AreWithin_last sizes [] change named = (tt, named.0)
+AreWithin_last sizes (first ∷ front) change named =
+    let rest = AreWithin_last sizes front change named.1 in
     ((named.0, rest.0), rest.1)
 
 -- the change at i is the last one that is left
-pub named_cut : (width : ℕ) (items : List Change) (i : ℕ) (change : Change) → i < length items → AreWithin width (take (i + 1) items) →
-    AreWithin width (take i items) × IsWithin width (get_or items i change)
-named_cut width items i change there named = AreWithin_last width (take i items) (get_or items i change) (rw (take_more items i change there) at named)
+pub named_cut : (sizes : Sizes) (items : List Change) (i : ℕ) (change : Change) → i < length items → AreWithin sizes (take (i + 1) items) →
+    AreWithin sizes (take i items) × IsWithin sizes (get_or items i change)
+named_cut sizes items i change there named = AreWithin_last sizes (take i items) (get_or items i change) (rw (take_more items i change there) at named)
 
 pub undone_cut : (parts : Parts) (items : List Change) (i : ℕ) (change other : Change) → i < length items → change ≡ get_or items i change →
     undone (parts_after parts change) (take i (set items i other)) ≡ undone parts (take (i + 1) items)

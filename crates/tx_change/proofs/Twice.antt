@@ -1,91 +1,203 @@
--- Two exchanges of one part are nothing, and one leaves all else.
-use Rattle.std.proofs.Common.{◌≡◌, ℕ, List, Option, Some, None, option_map, get_or, length, arith, ap, refl, ◌∙◌}
-use Rattle.std.proofs.lemmas.List.{set-set, set-get_or, get_or-set_same, get_or-set_other}
+-- Two exchanges of one part are nothing, one leaves all else, and those of two parts commute.
+use Rattle.std.proofs.Common.{◌≡◌, ◌≢◌, ℕ, ◌-◌, ◌≤◌, Bool, true, false, not, List, Option, Some, None, option_map, if◌then◌else◌, ◌==◌, slice_index_or, slice_set, arith, ap, refl, sym, ◌∙◌, eqb-true}
+use Rattle.std.proofs.lemmas.Bool.{eqb-false}
+use Rattle.std.proofs.lemmas.List.{set-set, set_comm, set-get_or, get_or-set_same, get_or-set_other}
 use Rattle.tx_base.specs.Slots.{slot_at, with_slot}
-use Rattle.tx_change.proofs.SlotFacts.{slot_twice, slot_same, slot_now, slot_other}
+use Rattle.tx_base.proofs.SlotFacts.{slot_twice, slot_same, slot_now, slot_other}
+use Rattle.tx_desc.specs.declared.opened.Opened.{Opened}
+use Rattle.tx_change.proofs.Piped.{piped_twice, pipe_part_twice}
+use Rattle.tx_change.specs.Exchange.{parts_after, change_after, pipe_at, sizes_of, IsPid, IsNamed}
+use Rattle.tx_change.specs.Laws.{HasPlaces, HasPlacesFor, are_apart}
+use Rattle.tx_change.specs.Pipes.{piped_in, part_in as pipe_part_in}
 use Rattle.tx_change.specs.declared.change.Change.{Change}
-use Rattle.tx_change.specs.declared.change.Change.TheVariants.{Page, Regs, Status}
+use Rattle.tx_change.specs.declared.change.Change.TheVariants.{Slot, Part as PartOf, Description, Pipe}
 use Rattle.tx_change.specs.declared.parts.Parts.{Parts}
-use Rattle.tx_change.specs.declared.proc.Proc.{Proc}
-use Rattle.tx_change.specs.Exchange.{number_of, edited_once, change_of, change_at, parts_after, change_after, HasPage, IsNamed}
-use Rattle.tx_change.specs.Laws.{HasPages, TwiceIsNothing, ExchangesBack, SameElsewhere, SlotSameElsewhere, NothingElse}
-use Rattle.tx_model.specs.Memory.{PageView}
+use Rattle.tx_change.specs.declared.pipes.PipePart.{PipePart}
+use Rattle.tx_proc.proofs.Twice.{edited_twice, part_twice, nothing_else, commute}
+use Rattle.tx_proc.specs.Laws.{is_same_part}
+use Rattle.tx_proc.specs.Parts.{edited_once, part_in, HasPlace}
+use Rattle.tx_proc.specs.declared.part.Part.{Part}
+use Rattle.tx_proc.specs.declared.proc.Proc.{Proc}
 
-edited_twice : (proc : Proc) (change : Change) → edited_once (edited_once proc change) (change_of proc change) ≡ proc
-edited_twice proc (Page pid number page) =
-    ap (λ (space : List (Option PageView)). record proc { space = space }) (set-set proc.space number page (get_or proc.space number None) ∙ set-get_or proc.space number None)
-edited_twice proc (Regs pid regs) = refl
-edited_twice proc (Status pid status) = refl
+-- a process number's slot after an exchange of a part
+abbrev edit : Part → Option Proc → Option Proc
+edit part slot = option_map (λ proc. edited_once proc part) slot
 
-slot_edited_twice : (slot : Option Proc) (change : Change) →
-    option_map (λ proc. edited_once proc (change_at slot change)) (option_map (λ proc. edited_once proc change) slot) ≡ slot
-slot_edited_twice None change = refl
-slot_edited_twice (Some proc) change = ap Some (edited_twice proc change)
+edit_twice : (slot : Option Proc) (part : Part) → edit (part_in slot part) (edit part slot) ≡ slot
+edit_twice None part = refl
+edit_twice (Some proc) part = ap Some (edited_twice proc part)
 
-change_twice : (proc : Proc) (change : Change) → length proc.space ≡ 16 → HasPage change → change_of (edited_once proc change) (change_of proc change) ≡ change
-change_twice proc (Page pid number page) sized below = ap (Page pid number) (get_or-set_same proc.space number page None (omega arith))
-change_twice proc (Regs pid regs) sized below = refl
-change_twice proc (Status pid status) sized below = refl
+held_twice : (slot : Option Proc) (part : Part) → HasPlaces slot → HasPlace part → part_in (edit part slot) (part_in slot part) ≡ part
+held_twice None part sized place = refl
+held_twice (Some proc) part sized place = part_twice proc part sized place
 
-slot_change_twice : (slot : Option Proc) (change : Change) → HasPages slot → HasPage change →
-    change_at (option_map (λ proc. edited_once proc change) slot) (change_at slot change) ≡ change
-slot_change_twice None change sized below = refl
-slot_change_twice (Some proc) change sized below = change_twice proc change sized below
+held_other : (slot : Option Proc) (part other : Part) → is_same_part part other ≡ false → part_in (edit part slot) other ≡ part_in slot other
+held_other None part other apart = refl
+held_other (Some proc) part other apart = nothing_else proc part other apart
 
-number_of_change : (proc : Proc) (change : Change) → number_of (change_of proc change) ≡ number_of change
-number_of_change proc (Page pid number page) = refl
-number_of_change proc (Regs pid regs) = refl
-number_of_change proc (Status pid status) = refl
+edit_commute : (slot : Option Proc) (part other : Part) → is_same_part part other ≡ false → edit other (edit part slot) ≡ edit part (edit other slot)
+edit_commute None part other apart = refl
+edit_commute (Some proc) part other apart = ap Some (commute proc part other apart)
 
-pub number_after : (slot : Option Proc) (change : Change) → number_of (change_at slot change) ≡ number_of change
-number_after None change = refl
-number_after (Some proc) change = number_of_change proc change
+with_procs : (parts : Parts) (one other : List (Option Proc)) → one ≡ other → record parts { procs = one } ≡ record parts { procs = other }
+with_procs parts one other same = ap (λ (procs : List (Option Proc)). record parts { procs = procs }) same
 
-module _ (parts : Parts) where
-  pub in_procs : {slots others : List (Option Proc)} → slots ≡ others → record parts { procs = slots } ≡ record parts { procs = others }
-  in_procs same = ap (λ (slots : List (Option Proc)). record parts { procs = slots }) same
+with_descs : (parts : Parts) (one other : List (Option Opened)) → one ≡ other → record parts { descs = one } ≡ record parts { descs = other }
+with_descs parts one other same = ap (λ (descs : List (Option Opened)). record parts { descs = descs }) same
 
--- what the exchanged slot has
-pub slot_after : (parts : Parts) (change : Change) → IsNamed parts change →
-    slot_at (parts_after parts change).procs (number_of change) ≡ option_map (λ proc. edited_once proc change) (slot_at parts.procs (number_of change))
-slot_after parts change named = slot_now parts.procs (number_of change) _ named.low named.high
+with_pipes : (parts : Parts) (one other : List (Option (List ℕ))) → one ≡ other → record parts { pipes = one } ≡ record parts { pipes = other }
+with_pipes parts one other same = ap (λ (pipes : List (Option (List ℕ))). record parts { pipes = pipes }) same
 
-pub back : ExchangesBack
-back parts change named =
-    let n : ℕ = number_of change in
-    let slot : Option Proc = slot_at parts.procs n in
-    let now : Option Proc = option_map (λ proc. edited_once proc change) slot in
-    let next : List (Option Proc) = with_slot parts.procs n now in
-    let change' : Change = change_at slot change in
-    ap (λ (k : ℕ). record parts { procs = with_slot next k (option_map (λ proc. edited_once proc change') (slot_at next k)) }) (number_after slot change)
-    ∙ ap (λ (s : Option Proc). record parts { procs = with_slot next n (option_map (λ proc. edited_once proc change') s) }) (slot_after parts change named)
-    ∙ in_procs parts
-    (slot_twice parts.procs n now (option_map (λ proc. edited_once proc change') now) ∙ ap (with_slot parts.procs n) (slot_edited_twice slot change)
-    ∙ slot_same parts.procs n named.low)
+pub back : (parts : Parts) (change : Change) → IsNamed parts change → parts_after (parts_after parts change) (change_after parts change) ≡ parts
+back parts (Slot pid slot) named =
+    with_procs parts _ parts.procs (slot_twice parts.procs pid.0 slot (slot_at parts.procs pid.0) ∙ slot_same parts.procs pid.0 named.low)
+back parts (PartOf pid part) named =
+    let slot : Option Proc = slot_at parts.procs pid.0 in
+    let next : List (Option Proc) = with_slot parts.procs pid.0 (edit part slot) in
+    with_procs parts _ parts.procs
+    (ap (λ (s : Option Proc). with_slot next pid.0 (edit (part_in slot part) s)) (slot_now parts.procs pid.0 (edit part slot) named.0.low named.0.high)
+    ∙ ap (with_slot next pid.0) (edit_twice slot part) ∙ slot_twice parts.procs pid.0 (edit part slot) slot ∙ slot_same parts.procs pid.0 named.0.low)
+back parts (Description number opened) named =
+    with_descs parts _ parts.descs (set-set parts.descs number.0 opened (slice_index_or parts.descs number.0 None) ∙ set-get_or parts.descs number.0 None)
+back parts (Pipe number part) named =
+    let pipe : Option (List ℕ) = pipe_at parts.pipes number.0 in
+    let next : List (Option (List ℕ)) = slice_set parts.pipes number.0 (piped_in pipe part) in
+    with_pipes parts _ parts.pipes
+    (ap (λ (x : Option (List ℕ)). slice_set next number.0 (piped_in x (pipe_part_in pipe part))) (get_or-set_same parts.pipes number.0 (piped_in pipe part) None named)
+    ∙ ap (slice_set next number.0) (piped_twice pipe part) ∙ set-set parts.pipes number.0 (piped_in pipe part) pipe ∙ set-get_or parts.pipes number.0 None)
 
-forth : (parts : Parts) (change : Change) → IsNamed parts change → HasPages (slot_at parts.procs (number_of change)) →
-    change_after (parts_after parts change) (change_after parts change) ≡ change
-forth parts change named sized =
-    let n : ℕ = number_of change in
-    let slot : Option Proc = slot_at parts.procs n in
-    let change' : Change = change_at slot change in
-    ap (λ (k : ℕ). change_at (slot_at (parts_after parts change).procs k) change') (number_after slot change)
-    ∙ ap (λ (s : Option Proc). change_at s change') (slot_after parts change named) ∙ slot_change_twice slot change sized named.page
+pub twice : (parts : Parts) (change : Change) → IsNamed parts change → HasPlacesFor parts change → change_after (parts_after parts change) (change_after parts change) ≡ change
+twice parts (Slot pid slot) named places = ap (Slot pid) (slot_now parts.procs pid.0 slot named.low named.high)
+twice parts (PartOf pid part) named places =
+    let slot : Option Proc = slot_at parts.procs pid.0 in
+    ap (λ (s : Option Proc). PartOf pid (part_in s (part_in slot part))) (slot_now parts.procs pid.0 (edit part slot) named.0.low named.0.high)
+    ∙ ap (PartOf pid) (held_twice slot part places named.1)
+twice parts (Description number opened) named places = ap (Description number) (get_or-set_same parts.descs number.0 opened None named)
+twice parts (Pipe number part) named places =
+    let pipe : Option (List ℕ) = pipe_at parts.pipes number.0 in
+    ap (λ (x : Option (List ℕ)). Pipe number (pipe_part_in x (pipe_part_in pipe part))) (get_or-set_same parts.pipes number.0 (piped_in pipe part) None named)
+    ∙ ap (Pipe number) (pipe_part_twice pipe part)
 
-pub twice : TwiceIsNothing
-twice parts change named sized = (back parts change named, forth parts change named sized)
+differ : (n m : ℕ) → not (n == m) ≡ true → m ≢ n
+differ n m apart same = by (n == m) (λ e. eqb-false n m e (sym same)) apart
+  where
+    by : (b : Bool) → (b ≡ false → ⊥) → not b ≡ true → ⊥
+    by true e h = cc
+    by false e h = e refl
 
-same_elsewhere : (proc : Proc) (change : Change) → SameElsewhere change proc (edited_once proc change)
-same_elsewhere proc (Page pid number page) = (refl, refl, refl, λ k apart. get_or-set_other proc.space number k page None apart)
-same_elsewhere proc (Regs pid regs) = (refl, refl, refl)
-same_elsewhere proc (Status pid status) = (refl, refl, refl)
+not_true : (b : Bool) → not b ≡ true → b ≡ false
+not_true true h = sym h
+not_true false h = refl
 
-slot_same_elsewhere : (slot : Option Proc) (change : Change) → SlotSameElsewhere change slot (option_map (λ proc. edited_once proc change) slot)
-slot_same_elsewhere None change = tt
-slot_same_elsewhere (Some proc) change = same_elsewhere proc change
+-- what another slot has, or another pipe
+other_slot : (parts : Parts) (n m : ℕ) (slot : Option Proc) → 1 ≤ n → not (n == m) ≡ true → slot_at (with_slot parts.procs n slot) m ≡ slot_at parts.procs m
+other_slot parts n m slot low apart = slot_other parts.procs n m slot low (differ n m apart)
 
-pub nothing_else_lem : NothingElse
-nothing_else_lem parts change named = (
-  λ n apart. slot_other parts.procs (number_of change) n _ named.low apart,
-  rw (slot_after parts change named) (slot_same_elsewhere (slot_at parts.procs (number_of change)) change),
-)
+other_pipe : (parts : Parts) (n m : ℕ) (pipe : Option (List ℕ)) → not (n == m) ≡ true → pipe_at (slice_set parts.pipes n pipe) m ≡ pipe_at parts.pipes m
+other_pipe parts n m pipe apart = get_or-set_other parts.pipes n m pipe None (differ n m apart)
+
+-- one process's parts, by whether the numbers are the same
+parts_apart : (parts : Parts) (n m : ℕ) (part other : Part) → IsPid (sizes_of parts) n → (if n == m then not (is_same_part part other) else true) ≡ true →
+    part_in (slot_at (with_slot parts.procs n (edit part (slot_at parts.procs n))) m) other ≡ part_in (slot_at parts.procs m) other
+parts_apart parts n m part other there apart = by (n == m) refl apart
+  where
+    by : (b : Bool) → (n == m) ≡ b → (if b then not (is_same_part part other) else true) ≡ true →
+        part_in (slot_at (with_slot parts.procs n (edit part (slot_at parts.procs n))) m) other ≡ part_in (slot_at parts.procs m) other
+    by true e h =
+        let same : n ≡ m = eqb-true n m e in
+        rw (← same)
+        (ap (λ (s : Option Proc). part_in s other) (slot_now parts.procs n (edit part (slot_at parts.procs n)) there.low there.high)
+        ∙ held_other (slot_at parts.procs n) part other (not_true (is_same_part part other) h))
+    by false e h = ap (λ (s : Option Proc). part_in s other) (other_slot parts n m (edit part (slot_at parts.procs n)) there.low (ap not e))
+
+pub change_else : (parts : Parts) (change other : Change) → IsNamed parts change → are_apart change other ≡ true → change_after (parts_after parts change) other ≡ change_after parts other
+change_else parts (Slot pid slot) (Slot p new) named apart = ap (Slot p) (other_slot parts pid.0 p.0 slot named.low apart)
+change_else parts (Slot pid slot) (PartOf p new) named apart = ap (λ (s : Option Proc). PartOf p (part_in s new)) (other_slot parts pid.0 p.0 slot named.low apart)
+change_else parts (Slot pid slot) (Description k new) named apart = refl
+change_else parts (Slot pid slot) (Pipe k new) named apart = refl
+change_else parts (PartOf pid part) (Slot p new) named apart = ap (Slot p) (other_slot parts pid.0 p.0 _ named.0.low apart)
+change_else parts (PartOf pid part) (PartOf p new) named apart = ap (PartOf p) (parts_apart parts pid.0 p.0 part new named.0 apart)
+change_else parts (PartOf pid part) (Description k new) named apart = refl
+change_else parts (PartOf pid part) (Pipe k new) named apart = refl
+change_else parts (Description number opened) (Description k new) named apart = ap (Description k) (get_or-set_other parts.descs number.0 k.0 opened None (differ number.0 k.0 apart))
+change_else parts (Description number opened) other named apart = refl
+change_else parts (Pipe number part) (Pipe k new) named apart = ap (λ (x : Option (List ℕ)). Pipe k (pipe_part_in x new)) (other_pipe parts number.0 k.0 _ apart)
+change_else parts (Pipe number part) other named apart = refl
+
+slots_commute : (procs : List (Option Proc)) (n m : ℕ) (slot other : Option Proc) → 1 ≤ n → 1 ≤ m → m ≢ n →
+    with_slot (with_slot procs n slot) m other ≡ with_slot (with_slot procs m other) n slot
+slots_commute procs n m slot other first second apart =
+    let elsewhere : n - 1 ≢ m - 1 = omega arith in
+    set_comm procs (n - 1) (m - 1) slot other elsewhere
+
+-- the slot of a number changed in this way
+abbrev slot_changed : ℕ → (Option Proc → Option Proc) → List (Option Proc) → List (Option Proc)
+slot_changed n change procs = with_slot procs n (change (slot_at procs n))
+
+apart_commute : (parts : Parts) (n m : ℕ) (change other : Option Proc → Option Proc) → 1 ≤ n → 1 ≤ m → not (n == m) ≡ true →
+    slot_changed m other (slot_changed n change parts.procs) ≡ slot_changed n change (slot_changed m other parts.procs)
+apart_commute parts n m change other first second apart =
+    let procs : List (Option Proc) = parts.procs in
+    let one : List (Option Proc) = slot_changed n change procs in
+    let two : List (Option Proc) = slot_changed m other procs in
+    let differs : m ≢ n = differ n m apart in
+    ap (λ (s : Option Proc). with_slot one m (other s)) (slot_other procs n m (change (slot_at procs n)) first differs)
+    ∙ slots_commute procs n m (change (slot_at procs n)) (other (slot_at procs m)) first second differs
+    ∙ sym (ap (λ (s : Option Proc). with_slot two n (change s)) (slot_other procs m n (other (slot_at procs m)) second (λ same. differs (sym same))))
+
+-- one slot changed twice
+slot_again : (parts : Parts) (n : ℕ) (change other : Option Proc → Option Proc) → IsPid (sizes_of parts) n →
+    slot_changed n other (slot_changed n change parts.procs) ≡ with_slot parts.procs n (other (change (slot_at parts.procs n)))
+slot_again parts n change other there =
+    let procs : List (Option Proc) = parts.procs in
+    ap (λ (s : Option Proc). with_slot (slot_changed n change procs) n (other s)) (slot_now procs n (change (slot_at procs n)) there.low there.high)
+    ∙ slot_twice procs n (change (slot_at procs n)) (other (change (slot_at procs n)))
+
+parts_commute : (parts : Parts) (n m : ℕ) (part other : Part) → IsPid (sizes_of parts) n → IsPid (sizes_of parts) m →
+    (if n == m then not (is_same_part part other) else true) ≡ true →
+    slot_changed m (edit other) (slot_changed n (edit part) parts.procs) ≡ slot_changed n (edit part) (slot_changed m (edit other) parts.procs)
+parts_commute parts n m part other here there apart = by (n == m) refl apart
+  where
+    by : (b : Bool) → (n == m) ≡ b → (if b then not (is_same_part part other) else true) ≡ true →
+        slot_changed m (edit other) (slot_changed n (edit part) parts.procs) ≡ slot_changed n (edit part) (slot_changed m (edit other) parts.procs)
+    by true e h =
+        rw (← eqb-true n m e)
+        (slot_again parts n (edit part) (edit other) here
+        ∙ ap (with_slot parts.procs n) (edit_commute (slot_at parts.procs n) part other (not_true (is_same_part part other) h))
+        ∙ sym (slot_again parts n (edit other) (edit part) here))
+    by false e h = apart_commute parts n m (edit part) (edit other) here.low there.low (ap not e)
+
+-- what a pipe number has changed in this way
+abbrev pipe_changed : ℕ → PipePart → List (Option (List ℕ)) → List (Option (List ℕ))
+pipe_changed n part pipes = slice_set pipes n (piped_in (pipe_at pipes n) part)
+
+pipes_commute : (parts : Parts) (n m : ℕ) (part other : PipePart) → not (n == m) ≡ true →
+    pipe_changed m other (pipe_changed n part parts.pipes) ≡ pipe_changed n part (pipe_changed m other parts.pipes)
+pipes_commute parts n m part other apart =
+    let pipes : List (Option (List ℕ)) = parts.pipes in
+    let one : List (Option (List ℕ)) = pipe_changed n part pipes in
+    let two : List (Option (List ℕ)) = pipe_changed m other pipes in
+    let differs : m ≢ n = differ n m apart in
+    ap (λ (x : Option (List ℕ)). slice_set one m (piped_in x other)) (get_or-set_other pipes n m (piped_in (pipe_at pipes n) part) None differs)
+    ∙ set_comm pipes n m (piped_in (pipe_at pipes n) part) (piped_in (pipe_at pipes m) other) (λ same. differs (sym same))
+    ∙ sym (ap (λ (x : Option (List ℕ)). slice_set two n (piped_in x part)) (get_or-set_other pipes m n (piped_in (pipe_at pipes m) other) None (λ same. differs (sym same))))
+
+pub changes_commute : (parts : Parts) (change other : Change) → IsNamed parts change → IsNamed parts other → are_apart change other ≡ true →
+    parts_after (parts_after parts change) other ≡ parts_after (parts_after parts other) change
+changes_commute parts (Slot pid slot) (Slot p new) named there apart =
+    with_procs parts _ _ (apart_commute parts pid.0 p.0 (λ s. slot) (λ s. new) named.low there.low apart)
+changes_commute parts (Slot pid slot) (PartOf p new) named there apart =
+    with_procs parts _ _ (apart_commute parts pid.0 p.0 (λ s. slot) (edit new) named.low there.0.low apart)
+changes_commute parts (Slot pid slot) (Description k new) named there apart = refl
+changes_commute parts (Slot pid slot) (Pipe k new) named there apart = refl
+changes_commute parts (PartOf pid part) (Slot p new) named there apart =
+    with_procs parts _ _ (apart_commute parts pid.0 p.0 (edit part) (λ s. new) named.0.low there.low apart)
+changes_commute parts (PartOf pid part) (PartOf p new) named there apart =
+    with_procs parts _ _ (parts_commute parts pid.0 p.0 part new named.0 there.0 apart)
+changes_commute parts (PartOf pid part) (Description k new) named there apart = refl
+changes_commute parts (PartOf pid part) (Pipe k new) named there apart = refl
+changes_commute parts (Description number opened) (Description k new) named there apart =
+    with_descs parts _ _ (set_comm parts.descs number.0 k.0 opened new (λ same. differ number.0 k.0 apart (sym same)))
+changes_commute parts (Description number opened) other named there apart = refl
+changes_commute parts (Pipe number part) (Pipe k new) named there apart = with_pipes parts _ _ (pipes_commute parts number.0 k.0 part new apart)
+changes_commute parts (Pipe number part) other named there apart = refl

@@ -1,66 +1,70 @@
--- What exchanges of parts of processes leave.
-use Rattle.std.specs.Prelude.{◌≡◌, ℕ, ◌<◌, ◌≤◌, List, [], ◌∷◌, Option, Some, None, option_map, length, slice_set}
+-- What exchanges of parts of the kernel leave.
+use Rattle.std.specs.Prelude.{ℕ, ◌<◌, ◌≤◌, List, [], ◌∷◌, Option, None, option_map, length, slice_index_or, slice_set}
 use Rattle.tx_base.specs.Slots.{slot_at, with_slot}
+use Rattle.tx_change.specs.Pipes.{piped_in, part_in as pipe_part_in}
 use Rattle.tx_change.specs.declared.change.Change.{Change}
-use Rattle.tx_change.specs.declared.change.Change.TheVariants.{Page, Regs, Status}
+use Rattle.tx_change.specs.declared.change.Change.TheVariants.{Slot, Part, Description, Pipe}
 use Rattle.tx_change.specs.declared.parts.Parts.{Parts}
-use Rattle.tx_change.specs.declared.proc.Proc.{Proc}
-use Rattle.tx_model.specs.Memory.{page_at}
+use Rattle.tx_model.specs.State.{Object, Proc as TheProc, Desc as TheDesc, Pipe as ThePipe}
+use Rattle.tx_proc.specs.Parts.{edited_once, part_in, HasPlace}
 
--- the number of the process that the part is of
-abbrev pub number_of : Change → ℕ
-number_of (Page pid number page) = pid.0
-number_of (Regs pid regs) = pid.0
-number_of (Status pid status) = pid.0
+-- the object that the part is of
+abbrev pub object_of : Change → Object
+object_of (Slot pid slot) = TheProc pid.0
+object_of (Part pid part) = TheProc pid.0
+object_of (Description number opened) = TheDesc number.0
+object_of (Pipe number part) = ThePipe number.0
 
--- a process with one of its parts replaced by that of the change
-abbrev pub edited_once : Proc → Change → Proc
-edited_once proc (Page pid number page) = record proc { space = slice_set proc.space number page }
-edited_once proc (Regs pid regs) = record proc { regs = regs }
-edited_once proc (Status pid status) = record proc { status = status }
-
--- the change with the part of a process in place of its own
-abbrev pub change_of : Proc → Change → Change
-change_of proc (Page pid number page) = Page pid number (page_at proc.space number)
-change_of proc (Regs pid regs) = Regs pid proc.regs
-change_of proc (Status pid status) = Status pid proc.status
-
-abbrev pub change_at : Option Proc → Change → Change
-change_at None change = change
-change_at (Some proc) change = change_of proc change
+-- what a pipe number has
+abbrev pub pipe_at : List (Option (List ℕ)) → ℕ → Option (List ℕ)
+pipe_at pipes number = slice_index_or pipes number None
 
 -- the parts after the exchange
 abbrev pub parts_after : Parts → Change → Parts
-parts_after parts change =
-    record parts { procs = with_slot parts.procs (number_of change) (option_map (λ proc. edited_once proc change) (slot_at parts.procs (number_of change))) }
+parts_after parts (Slot pid slot) = record parts { procs = with_slot parts.procs pid.0 slot }
+parts_after parts (Part pid part) =
+    record parts { procs = with_slot parts.procs pid.0 (option_map (λ proc. edited_once proc part) (slot_at parts.procs pid.0)) }
+parts_after parts (Description number opened) = record parts { descs = slice_set parts.descs number.0 opened }
+parts_after parts (Pipe number part) = record parts { pipes = slice_set parts.pipes number.0 (piped_in (pipe_at parts.pipes number.0) part) }
 
 -- the change after the exchange: it has the part that was there
 abbrev pub change_after : Parts → Change → Change
-change_after parts change = change_at (slot_at parts.procs (number_of change)) change
+change_after parts (Slot pid slot) = Slot pid (slot_at parts.procs pid.0)
+change_after parts (Part pid part) = Part pid (part_in (slot_at parts.procs pid.0) part)
+change_after parts (Description number opened) = Description number (slice_index_or parts.descs number.0 None)
+change_after parts (Pipe number part) = Pipe number (pipe_part_in (pipe_at parts.pipes number.0) part)
 
--- a page number is one that there is
-abbrev pub HasPage : Change → Type 0
-HasPage (Page pid number page) = number < 16
-HasPage (Regs pid regs) = Unit {0}
-HasPage (Status pid status) = Unit {0}
+-- how many numbers there are of each kind
+pub record Sizes : Type 0 where
+  pub procs : ℕ
+  pub descs : ℕ
+  pub pipes : ℕ
 
--- the change names a part that a process of so many numbers can have
-pub record IsWithin (width : ℕ) (change : Change) : Type 0 where
-  pub low : 1 ≤ number_of change
-  pub high : number_of change ≤ width
-  pub page : HasPage change
+abbrev pub sizes_of : Parts → Sizes
+sizes_of parts = record { procs = length parts.procs; descs = length parts.descs; pipes = length parts.pipes }
 
--- the change names a part that there may be
+-- a process number is one that there is
+pub record IsPid (sizes : Sizes) (n : ℕ) : Type 0 where
+  pub low : 1 ≤ n
+  pub high : n ≤ sizes.procs
+
+-- where there are so many numbers, those of the change are among them
+abbrev pub IsWithin : Sizes → Change → Type 0
+IsWithin sizes (Slot pid slot) = IsPid sizes pid.0
+IsWithin sizes (Part pid part) = IsPid sizes pid.0 × HasPlace part
+IsWithin sizes (Description number opened) = number.0 < sizes.descs
+IsWithin sizes (Pipe number part) = number.0 < sizes.pipes
+
+abbrev pub AreWithin : Sizes → List Change → Type 0
+AreWithin sizes [] = Unit {0}
+AreWithin sizes (change ∷ changes) = IsWithin sizes change × AreWithin sizes changes
+
+-- the numbers of the change are ones that there are
 abbrev pub IsNamed : Parts → Change → Type 0
-IsNamed parts change = IsWithin (length parts.procs) change
+IsNamed parts change = IsWithin (sizes_of parts) change
 
-abbrev pub AreWithin : ℕ → List Change → Type 0
-AreWithin width [] = Unit {0}
-AreWithin width (change ∷ changes) = IsWithin width change × AreWithin width changes
-
--- each change names a part that there may be
 abbrev pub AreNamed : Parts → List Change → Type 0
-AreNamed parts changes = AreWithin (length parts.procs) changes
+AreNamed parts changes = AreWithin (sizes_of parts) changes
 
 -- the parts after each change was exchanged, the first one first
 abbrev pub applied : Parts → List Change → Parts
@@ -81,22 +85,3 @@ undone parts (change ∷ changes) = parts_after (undone parts changes) change
 abbrev pub reverted : Parts → List Change → List Change
 reverted parts [] = []
 reverted parts (change ∷ changes) = change_after (undone parts changes) change ∷ reverted parts changes
-
--- a process with each part replaced by that of a change, the first one first
-abbrev pub edited : Proc → List Change → Proc
-edited proc [] = proc
-edited proc (change ∷ changes) = edited (edited_once proc change) changes
-
--- the same, the last one first
-abbrev pub edited_back : Proc → List Change → Proc
-edited_back proc [] = proc
-edited_back proc (change ∷ changes) = edited_once (edited_back proc changes) change
-
--- the change names a part of process n
-pub record IsOf (n : ℕ) (change : Change) : Type 0 where
-  pub number : number_of change ≡ n
-  pub page : HasPage change
-
-abbrev pub AreOf : ℕ → List Change → Type 0
-AreOf n [] = Unit {0}
-AreOf n (change ∷ changes) = IsOf n change × AreOf n changes

@@ -1,5 +1,6 @@
-//! The laws of exchanges.
-ghost use Rattle.tx_change.specs.Laws.{ApplyThenRevert, RevertThenApply, TwiceIsNothing, ExchangesBack, NothingElse};
+//! The laws of exchanges, as the contracts of functions that do nothing.
+ghost use Rattle.tx_change.specs.Counts.{CountsKept, CountsForked, CountsEnded, CountsRemoved, CountsElsewhere, RoomForNames};
+ghost use Rattle.tx_change.specs.Laws.{ApplyThenRevert, RevertThenApply, TwiceIsNothing, ExchangesBack, NothingElse, Commute, ChangesState, ChangesStateInTurn, NamesItsObject};
 
 /// Two exchanges of one part are nothing: the parts and the change come back.
 pub fn twice_is_nothing()
@@ -11,9 +12,15 @@ pub fn exchanges_back()
     ensures { ExchangesBack }
 {}
 
-/// An exchange leaves every other process, and every other part of that process, as it was.
+/// An exchange leaves every part as it was that is another one: that is, what a change of such a
+/// part would find there. A process number holds all parts of its process.
 pub fn nothing_else()
     ensures { NothingElse }
+{}
+
+/// It makes no difference which of two parts is exchanged first, where neither holds the other.
+pub fn commute()
+    ensures { Commute }
 {}
 
 /// To revert changes that were applied puts the parts back.
@@ -24,4 +31,32 @@ pub fn apply_then_revert()
 /// To apply changes that were reverted puts the parts back.
 pub fn revert_then_apply()
     ensures { RevertThenApply }
+{}
+
+/// What exchanges make of the state that the parts mean, in words of that state alone.
+pub fn changes_state()
+    ensures one { ChangesState }
+    ensures in_turn { ChangesStateInTurn }
+{}
+
+/// A change names its object: an exchange leaves the state as it was at all others.
+pub fn names_its_object()
+    ensures { NamesItsObject }
+{}
+
+/// What changes do to the counts of names, where each description has that of the descriptors that
+/// name it: a call on the descriptors of a process, a fork, an end, the removal of a process that
+/// has ended, and a change of anything else.
+pub fn counts_agree()
+    ensures call { CountsKept }
+    ensures fork { CountsForked }
+    ensures end { CountsEnded }
+    ensures removal { CountsRemoved }
+    ensures elsewhere { CountsElsewhere }
+{}
+
+/// Where the counts agree, what the calls on the descriptors of a process ask holds of those of
+/// every process that runs.
+pub fn room_for_names()
+    ensures { RoomForNames }
 {}

@@ -5,15 +5,16 @@
 mod change;
 mod laws;
 mod parts;
-mod proc;
+mod pipes;
 mod run;
 #[cfg(test)]
 mod tests;
 
 pub use change::Change;
 pub use laws::{
-    apply_then_revert, exchanges_back, nothing_else, revert_then_apply, twice_is_nothing,
+    apply_then_revert, changes_state, commute, counts_agree, exchanges_back, names_its_object,
+    nothing_else, revert_then_apply, room_for_names, twice_is_nothing,
 };
 pub use parts::Parts;
-pub use proc::Proc;
+pub use pipes::{BoxedPipe, PipePart, PipeTable};
 pub use run::{apply, revert};

@@ -1,54 +1,49 @@
 //! The parts of the kernel.
 ghost use Rattle.std.specs.Option.{option_copied};
-ghost use Rattle.std.specs.Prelude.{◌≡◌, ◌≤◌, ℕ, Some, IfOk, length};
+ghost use Rattle.std.specs.Prelude.{◌≡◌, ◌≤◌, [], IfOk};
 ghost use Rattle.tx_base.specs.Slots.{slot_at};
-ghost use Rattle.tx_change.specs.Boot.{booted_proc};
+ghost use Rattle.tx_model.specs.State.{booted};
 
-use crate::proc::Proc;
+use crate::pipes::PipeTable;
 use std::alloc::Global;
-use tx_base::{NoMemory, Pid, Regs, Slots};
-use tx_pages::Space;
+use tx_base::{NoMemory, Pid};
+use tx_desc::Descs;
+use tx_proc::{BoxedProc, Proc, ProcTable};
 
-/// The parts of the kernel: what each process number has.
+/// The parts of the kernel: what each number of a process, of a description and of
+/// a pipe has.
 #[derive(Drop)]
 pub struct Parts {
-    pub procs: Slots<Proc>,
-}
-
-/// A process as it is at the start.
-fn booted(number: u16) -> Proc
-    ensures { result ≡ booted_proc number }
-{
-    Proc {
-        regs: Regs {
-            point: 0,
-            ret: 0,
-            slots: [0; 8],
-        },
-        parent: Pid(if number == 1 { 0 } else { 1 }),
-        status: None,
-        space: Space::new(),
-    }
+    pub procs: ProcTable,
+    pub descs: Descs,
+    pub pipes: PipeTable,
 }
 
 impl Parts {
-    ghost use Rattle.tx_change.specs.Boot.{booted_slot};
+    ghost use Rattle.tx_change.specs.Counts.{CountsAgree};
+    ghost use Rattle.tx_change.specs.Laws.{HaveAllPlaces};
+    ghost use Rattle.tx_change.specs.States.{state_of};
 
-    /// So many process numbers, of which the first few have processes that run at point 0, with no
-    /// pages. Process 1 is the parent of the others. Own rule.
+    /// So many process numbers, of which the first few have processes that run at point 0, and
+    /// nothing else. Process 1 is the parent of the others. Own rule.
     ///
     /// There must be as many numbers as processes. NoMemory where a growth is refused.
     pub fn boot(alloc: Global, width: u16, count: u16) -> Result<Parts, NoMemory>
         requires { count ≤ width }
-        ensures width { IfOk result (λ parts. length parts.procs ≡ width) }
-        ensures procs { IfOk result (λ parts. (n : ℕ) → slot_at parts.procs n ≡ booted_slot count n) }
+        ensures state { IfOk result (λ parts. state_of (λ starter. []) parts ≡ booted width count) }
+        ensures places { IfOk result (λ parts. HaveAllPlaces parts) }
+        ensures counts { IfOk result (λ parts. CountsAgree parts) }
     {
-        let mut procs = Slots::new(alloc, width)?;
+        let mut procs = ProcTable::new(alloc, width)?;
         for done in 0..count {
-            let mut slot = Some(booted(done + 1));
-            procs.swap(Pid(done + 1), &mut slot);
+            let boxed = BoxedProc::new(alloc, Proc::booted(Pid(done + 1)))?;
+            procs.put(Pid(done + 1), boxed);
         }
-        Ok(Parts { procs })
+        Ok(Parts {
+            procs,
+            descs: Descs::new(),
+            pipes: PipeTable::new(),
+        })
     }
 
     /// The process of a number; nothing where there is none, or no such number.

@@ -11,9 +11,10 @@ use Rattle.tx_base.specs.declared.steps.Reply.{Reply}
 use Rattle.tx_base.specs.declared.steps.Reply.TheVariants.{Done, Committed, Aborted, No}
 use Rattle.tx_base.specs.declared.steps.Step.{Step}
 use Rattle.tx_base.specs.declared.steps.Step.TheVariants.{Call as Calls, KernelAbort}
-use Rattle.tx_change.specs.declared.proc.Proc.{Proc}
+use Rattle.tx_proc.specs.declared.proc.Proc.{Proc}
 use Rattle.tx_core.specs.Built.{IsBuiltCall}
-use Rattle.tx_core.specs.Content.{process_in, view_of, IsContent}
+use Rattle.tx_proc.specs.Processes.{process_in}
+use Rattle.tx_core.specs.Content.{view_of, IsContent}
 use Rattle.tx_core.specs.Plans.{proc_after, only_answers, IsPlainCall, IsRunning}
 use Rattle.tx_core.specs.Steps.{IsStep, IsXabort, Steps}
 use Rattle.tx_core.specs.declared.inverse.Inverse.{Inverse}

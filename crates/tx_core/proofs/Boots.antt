@@ -4,9 +4,9 @@ use Rattle.std.specs.Prelude.{replicate}
 use Rattle.std.proofs.lemmas.List.{length-replicate}
 use Rattle.tx_base.specs.Slots.{slot_at}
 use Rattle.tx_base.specs.declared.marks.Mark.{Mark}
-use Rattle.tx_change.specs.Boot.{booted_slot, booted_proc}
-use Rattle.tx_change.specs.Laws.{HasPages}
-use Rattle.tx_core.specs.Content.{process_in, state_of, starter_in, two_parts_of, view_of, IsContent}
+use Rattle.tx_change.specs.Laws.{HaveAllPlaces}
+use Rattle.tx_change.specs.declared.change.Change.{Change}
+use Rattle.tx_core.specs.Content.{kept_in, state_of, starter_in, two_parts_of, view_of, IsContent}
 use Rattle.tx_core.specs.declared.kernel.Kernel.{Kernel}
 use Rattle.tx_core.proofs.Cases.{own_mark}
 use Rattle.tx_core.proofs.Replies.{present_is, table_is}
@@ -16,10 +16,13 @@ use Rattle.tx_model.proofs.TwoPartsView.{view_ext}
 use Rattle.tx_model.specs.Events.{run}
 use Rattle.tx_model.specs.History.{Starters, survivors, without, table_of, touched_of}
 use Rattle.tx_model.specs.Membership.{Table, is_of, is_live}
-use Rattle.tx_model.specs.State.{Object, Proc as TheProc, Desc, Pipe, Held, booted, booted_process, is_between, AgreePart}
+use Rattle.tx_model.specs.State.{State, Object, Proc as TheProc, Desc, Pipe, Held, booted, booted_process, is_between, AgreePart}
 use Rattle.tx_model.specs.Sound.{IsSound}
 use Rattle.tx_model.specs.TwoParts.{is_owner, parts_without, parts_view}
-use Rattle.tx_model.specs.View.{view, present}
+use Rattle.tx_model.specs.View.{view, present, has_pending}
+use Rattle.tx_model.specs.SignalSets.{kill_signo}
+use Rattle.tx_proc.specs.Processes.{process_in}
+use Rattle.tx_proc.specs.declared.proc.Proc.{Proc}
 
 same_in : {B : Type 0} (w n : ℕ) (x : B) → get_or (replicate w x) n x ≡ x
 same_in zero n x = refl
@@ -30,23 +33,27 @@ none_at : {A : Type 0} (slots : List (Option A)) (w n : ℕ) → slots ≡ repli
 none_at slots w zero h = refl
 none_at {A} slots w (suc n) h = ap (λ (xs : List (Option A)). get_or xs n None) h ∙ same_in w n None
 
-module _ (k : Kernel) (width count : ℕ) (sized : length k.parts.procs ≡ width) (procs : (n : ℕ) → slot_at k.parts.procs n ≡ booted_slot count n)
+module _ (k : Kernel) (width count : ℕ) (state : state_of k.parts ≡ booted width count) (places : HaveAllPlaces k.parts)
     (marks : k.marks ≡ replicate width None) (logs : k.logs ≡ replicate width None) where
   no_mark : (n : ℕ) → slot_at k.marks n ≡ None
   no_mark n = none_at k.marks width n marks
 
-  proc_at : (n : ℕ) → process_in (slot_at k.parts.procs n) ≡ (if is_between count n then Some (booted_process n) else None)
-  proc_at n = ap process_in (procs n) ∙ by (is_between count n)
-    where
-      by : (b : Bool) → process_in (if b then Some (booted_proc n) else None) ≡ (if b then Some (booted_process n) else None)
-      by true = refl
-      by false = refl
+  sized : length k.parts.procs ≡ width
+  sized = ap (λ (S : State). S.width) state
 
   part_at : (X : Starters) (o : Object) → AgreePart (parts_without (two_parts_of k) X) (booted width count) o
-  part_at X (TheProc n) = rw (no_mark n) (proc_at n)
-  part_at X (Desc n) = refl
-  part_at X (Pipe n) = refl
+  part_at X (TheProc n) = rw (no_mark n) (ap (λ (S : State). S.procs n) state)
+  part_at X (Desc n) = ap (λ (S : State). S.descs n) state
+  part_at X (Pipe n) = ap (λ (S : State). S.pipes n) state
   part_at X (Held n) = rw (no_mark n) refl
+
+  -- no signal is pending at a booted process
+  calm : (n : ℕ) → has_pending kill_signo ((state_of k.parts).procs n) ≡ false
+  calm n = ap (λ (S : State). has_pending kill_signo (S.procs n)) state ∙ by (is_between count n)
+    where
+      by : (b : Bool) → has_pending kill_signo (if b then Some (booted_process n) else None) ≡ false
+      by true = refl
+      by false = refl
 
   pub booted_view : view_of k ≡ view (booted width count) []
   unfolding view_of parts_view view without survivors run table_of touched_of
@@ -66,14 +73,17 @@ module _ (k : Kernel) (width count : ℕ) (sized : length k.parts.procs ≡ widt
     few = subst (λ (w : ℕ). w ≤ 256) (sym sized) few;
     marks = ap length marks ∙ length-replicate width None ∙ sym sized;
     logs = ap length logs ∙ length-replicate width None ∙ sym sized;
-    pages = λ n. subst HasPages (sym (procs n)) (pages n (is_between count n));
+    places = places;
+    calm = calm;
+    calm_kept = λ n. calm_kept (slot_at k.parts.procs n) (slot_at k.logs n) (none_at k.logs width n logs) (calm n);
     marked = λ n. rw (no_mark n, none_at k.logs width n logs) tt;
     sound = subst IsSound (sym booted_view) (start_sound (booted width count));
   }
     where
-      pages : (n : ℕ) (b : Bool) → HasPages (if b then Some (booted_proc n) else None)
-      pages n true = refl
-      pages n false = tt
+      calm_kept : (slot : Option Proc) (log : Option (List Change)) → log ≡ None → has_pending kill_signo (process_in slot) ≡ false → has_pending kill_signo (kept_in slot log) ≡ false
+      calm_kept None log e h = refl
+      calm_kept (Some proc) None e h = h
+      calm_kept (Some proc) (Some log) e h = cc
 
 -- what the readers say
 pub state_read : (k : Kernel) → state_of k.parts ≡ present (view_of k)

@@ -9,9 +9,10 @@ use Rattle.tx_base.specs.declared.steps.Reply.{Reply}
 use Rattle.tx_base.specs.declared.steps.Step.{Step}
 use Rattle.tx_base.specs.declared.steps.Step.TheVariants.{Call as Calls}
 use Rattle.tx_change.specs.declared.change.Change.{Change}
-use Rattle.tx_change.specs.declared.proc.Proc.{Proc}
+use Rattle.tx_proc.specs.declared.proc.Proc.{Proc}
 use Rattle.tx_core.specs.Built.{IsBuiltCall}
-use Rattle.tx_core.specs.Content.{process_in, table_in, view_of, IsMarked, IsContent}
+use Rattle.tx_proc.specs.Processes.{process_in}
+use Rattle.tx_core.specs.Content.{table_in, view_of, IsMarked, IsContent}
 use Rattle.tx_core.specs.Plans.{proc_after, IsPlainCall}
 use Rattle.tx_core.specs.declared.kernel.Kernel.{Kernel}
 use Rattle.tx_core.proofs.Replies.{IsPlain, do_plain, note_plain, plain_reply_is}

@@ -11,9 +11,10 @@ use Rattle.tx_base.specs.declared.steps.Step.{Step}
 use Rattle.tx_base.specs.declared.steps.Step.TheVariants.{Call as Calls, KernelAbort}
 use Rattle.tx_change.specs.Exchange.{parts_after, change_after, applied, exchanged, undone, reverted, AreNamed}
 use Rattle.tx_change.specs.declared.change.Change.{Change}
-use Rattle.tx_change.specs.declared.change.Change.TheVariants.{Regs as SetRegs}
+use Rattle.tx_change.specs.declared.change.Change.TheVariants.{Part as SetPart}
+use Rattle.tx_proc.specs.declared.part.Part.TheVariants.{Regs as SetRegs}
 use Rattle.tx_change.specs.declared.parts.Parts.{Parts}
-use Rattle.tx_change.specs.declared.proc.Proc.{Proc}
+use Rattle.tx_proc.specs.declared.proc.Proc.{Proc}
 use Rattle.tx_core.specs.Content.{IsContent}
 use Rattle.tx_core.specs.Plans.{Gives, only_answers, regs_in, IsPlainCall, IsRunning}
 use Rattle.tx_core.specs.Undo.{log_in, HasSlot}
@@ -93,7 +94,7 @@ abbrev pub led_parts : Kernel → Pid → Parts
 led_parts k pid = undone k.parts (log_in (slot_at k.logs pid.0))
 
 abbrev pub note_of : Kernel → Pid → ℤ → Change
-note_of k pid ret = SetRegs pid (answered ret (regs_in (slot_at (led_parts k pid).procs pid.0)))
+note_of k pid ret = SetPart pid (SetRegs (answered ret (regs_in (slot_at (led_parts k pid).procs pid.0))))
 
 abbrev pub aborted : Kernel → Pid → ℤ → Kernel
 aborted k pid ret = record { parts = parts_after (led_parts k pid) (note_of k pid ret); marks = with_slot k.marks pid.0 None; logs = with_slot k.logs pid.0 None }

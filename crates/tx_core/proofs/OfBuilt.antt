@@ -1,15 +1,15 @@
 -- What the calls that the machine makes so far are by the rules.
-use Rattle.std.proofs.Common.{◌≡◌, ℕ, Bool, false, List, [], ◌∷◌, Option, Some, None, refl, ap, ◌∙◌}
+use Rattle.std.proofs.Common.{◌≡◌, ℕ, Bool, false, [], Option, Some, None, refl}
 use Rattle.tx_base.specs.declared.names.Pid.{Pid}
 use Rattle.tx_base.specs.declared.steps.Call.{Call}
 use Rattle.tx_base.specs.declared.steps.Call.TheVariants.{Map, Unmap, Protect, Store, Load, SysXbegin, SysXbeginDefer, SysXend, SysXabort}
 use Rattle.tx_base.specs.declared.steps.Step.TheVariants.{Call as Calls}
 use Rattle.tx_core.specs.Built.{IsBuiltCall}
 use Rattle.tx_model.specs.Answer.{has_bad_number, has_taken_number}
-use Rattle.tx_model.specs.Calls.{memory_call, remembers, call_effect, call_objects, Makes, objects_at}
+use Rattle.tx_model.specs.Calls.{memory_call, remembers, call_effect, Makes, objects_at}
 use Rattle.tx_model.specs.Effects.{Inside, own_effect}
 use Rattle.tx_model.specs.Membership.{Beginning, kind_of}
-use Rattle.tx_model.specs.State.{Process, State, Object}
+use Rattle.tx_model.specs.State.{Process, State}
 
 -- such a call changes the memory of its process and nothing else
 pub built_effect : (inside : Option Inside) (p : ℕ) (call : Call) (me : Process) (S : State) → IsBuiltCall call

@@ -1,5 +1,5 @@
 -- What a step leaves of the machine is what a machine may keep, and its inverse leads back.
-use Rattle.std.proofs.Common.{◌≡◌, ℕ, ◌-◌, ◌≤◌, Bool, true, false, List, [], ◌∷◌, ◌++◌, take, drop, length, Option, Some, None, option_map, if◌then◌else◌, ◌==◌, refl, sym, ap, ap₂, ◌∙◌, subst, inl, inr, eqb-true, arith, length-append, length-set}
+use Rattle.std.proofs.Common.{◌≡◌, ℕ, ◌-◌, ◌≤◌, Bool, true, false, List, [], ◌∷◌, ◌++◌, take, drop, length, Option, Some, None, option_map, if◌then◌else◌, ◌==◌, refl, sym, ap, ap₂, ◌∙◌, subst, inl, inr, eqb-true, arith, length-append}
 use Rattle.std.proofs.lemmas.List.{drop_at, take_at}
 use Rattle.tx_base.specs.Slots.{slot_at}
 use Rattle.tx_base.specs.declared.marks.Mark.{Mark}
@@ -9,15 +9,18 @@ use Rattle.tx_base.specs.declared.steps.Reply.{Reply}
 use Rattle.tx_base.specs.declared.steps.Step.{Step}
 use Rattle.tx_base.specs.declared.steps.Step.TheVariants.{Call as Calls}
 use Rattle.tx_change.proofs.Applied.{length-applied, undone_exchanged}
-use Rattle.tx_change.proofs.Own.{AreNamed-own, AreOf-exchanged, slot_at-applied-own, applied-own, undone-own}
-use Rattle.tx_change.proofs.SlotFacts.{slot_now}
-use Rattle.tx_change.specs.Exchange.{number_of, edited_once, edited, edited_back, applied, exchanged, undone, AreNamed, AreOf}
-use Rattle.tx_change.specs.Laws.{HasPages}
+use Rattle.tx_change.proofs.Own.{object-own, AreNamed-own, AreOf-exchanged, slot_at-applied-own, applied-own, undone-own}
+use Rattle.tx_base.proofs.SlotFacts.{slot_now}
+use Rattle.tx_change.specs.Exchange.{object_of, applied, exchanged, undone, AreNamed}
+use Rattle.tx_change.specs.Laws.{HasPlaces}
+use Rattle.tx_change.specs.Own.{edited_by, edited, edited_back, AreOf}
 use Rattle.tx_change.specs.declared.change.Change.{Change}
-use Rattle.tx_change.specs.declared.change.Change.TheVariants.{Page, Regs as SetRegs, Status}
 use Rattle.tx_change.specs.declared.parts.Parts.{Parts}
-use Rattle.tx_change.specs.declared.proc.Proc.{Proc}
-use Rattle.tx_core.specs.Content.{two_parts_of, view_of, IsMarked, IsContent}
+use Rattle.tx_proc.specs.declared.proc.Proc.{Proc}
+use Rattle.tx_core.specs.Content.{kept_in, two_parts_of, view_of, IsMarked, IsContent}
+use Rattle.tx_model.specs.SignalSets.{kill_signo}
+use Rattle.tx_proc.specs.Laws.{IsSized}
+use Rattle.tx_proc.specs.Processes.{process_in}
 use Rattle.tx_core.specs.Steps.{IsLocal}
 use Rattle.tx_core.specs.Undo.{changes_of, IsAmong}
 use Rattle.tx_core.specs.declared.inverse.Inverse.{Inverse}
@@ -25,15 +28,15 @@ use Rattle.tx_core.specs.declared.kernel.Kernel.{Kernel}
 use Rattle.tx_core.proofs.Cases.{IsCase}
 use Rattle.tx_core.specs.Built.{IsBuiltCall}
 use Rattle.tx_core.proofs.Replies.{IsOwn, answer_is, no_holder}
-use Rattle.tx_core.proofs.Slotted.{slot_at-with_slot}
+use Rattle.tx_base.proofs.SlotFacts.{slot_at-with_slot}
 use Rattle.tx_model.specs.Answer.{plain_reply, answer, IsAccepted}
 use Rattle.tx_model.specs.Events.{Event, process_of, actor}
 use Rattle.tx_model.specs.History.{footprint}
 use Rattle.tx_model.specs.Membership.{Role, called_by_status}
 use Rattle.tx_model.specs.Sound.{IsSound}
-use Rattle.tx_model.specs.State.{Proc as TheProc, has}
+use Rattle.tx_model.specs.State.{Object, Proc as TheProc, has}
 use Rattle.tx_model.specs.TwoParts.{parts_view, parts_next}
-use Rattle.tx_model.specs.View.{View, present, event_on, holder, next}
+use Rattle.tx_model.specs.View.{View, present, has_pending, event_on, holder, next}
 use Rattle.tx_model.proofs.Coherence.{actor_foot}
 use Rattle.tx_model.proofs.Erased.{next_sound}
 use Rattle.tx_model.proofs.StepView.{parts_step_view}
@@ -70,39 +73,25 @@ reply_of_case k pid call q R ev reply built i here runs is own r =
     answer_is k pid call q built i here runs (subst (λ (x : Event). holder (view_of k) x ≡ None) (sym is.event_is) (no_holder k pid.0 ev own))
     ∙ ap₂ (λ (x : Role) (y : Event). plain_reply called_by_status x y (present (view_of k))) is.role_is is.event_is ∙ r
 
-among_own : (n : ℕ) (c : Change) (cs : List Change) → AreOf n cs → IsAmong c cs → number_of c ≡ n
+among_own : (n : ℕ) (c : Change) (cs : List Change) → AreOf n cs → IsAmong c cs → object_of c ≡ TheProc n
 among_own n c [] own h = absurd h
-among_own n c (x ∷ cs) own (inl h) = ap number_of h ∙ own.0.number
+among_own n c (x ∷ cs) own (inl h) = ap object_of h ∙ object-own n x own.0
 among_own n c (x ∷ cs) own (inr h) = among_own n c cs own.1 h
 
 -- an inverse that names process p alone, of a step whose event p makes
 pub local_of : (k new : Kernel) (step : Step) (R : Role) (ev : Event) (p : ℕ) (inverse : Inverse) → IsCase k step R ev → actor ev ≡ p → AreOf p (changes_of new inverse) → IsLocal k step new inverse
 local_of k new step R ev p inverse is who own change among =
     let V : View = view_of k in
-    let who' : actor (event_on V step) ≡ number_of change = ap actor is.event_is ∙ who ∙ sym (among_own p change (changes_of new inverse) own among) in
-    subst (λ (n : ℕ). has (TheProc n) (footprint V.table (event_on V step) (present V)) ≡ true) who' (actor_foot V.table (event_on V step) (present V))
+    let who' : TheProc (actor (event_on V step)) ≡ object_of change = ap TheProc (ap actor is.event_is ∙ who) ∙ sym (among_own p change (changes_of new inverse) own among) in
+    subst (λ (o : Object). has o (footprint V.table (event_on V step) (present V)) ≡ true) who' (actor_foot V.table (event_on V step) (present V))
 
 pub AreOf_append : (n : ℕ) (front behind : List Change) → AreOf n front → AreOf n behind → AreOf n (front ++ behind)
 AreOf_append n [] behind f b = b
 AreOf_append n (change ∷ front) behind f b = (f.0, AreOf_append n front behind f.1 b)
 
--- edits keep the number of pages
-once_pages : (q : Proc) (c : Change) → length (edited_once q c).space ≡ length q.space
-once_pages q (Page pid number page) = length-set q.space number page
-once_pages q (SetRegs pid regs) = refl
-once_pages q (Status pid status) = refl
-
-pub edited_pages : (q : Proc) (cs : List Change) → length (edited q cs).space ≡ length q.space
-edited_pages q [] = refl
-edited_pages q (c ∷ cs) = edited_pages (edited_once q c) cs ∙ once_pages q c
-
-pub back_pages : (q : Proc) (cs : List Change) → length (edited_back q cs).space ≡ length q.space
-back_pages q [] = refl
-back_pages q (c ∷ cs) = once_pages (edited_back q cs) c ∙ back_pages q cs
-
 pub back_append : (q : Proc) (front behind : List Change) → edited_back q (front ++ behind) ≡ edited_back (edited_back q behind) front
 back_append q [] behind = refl
-back_append q (c ∷ front) behind = ap (λ (x : Proc). edited_once x c) (back_append q front behind)
+back_append q (c ∷ front) behind = ap (λ (x : Proc). edited_by x c) (back_append q front behind)
 
 -- the exchanges of a plan of process p, which is q
 module _ (k : Kernel) (p : ℕ) (q : Proc) (cs : List Change) (low : 1 ≤ p) (high : p ≤ length k.parts.procs) (here : slot_at k.parts.procs p ≡ Some q) (own : AreOf p cs) where
@@ -135,15 +124,20 @@ module _ (k : Kernel) (p : ℕ) (q : Proc) (cs : List Change) (low : 1 ≤ p) (h
       let both : Some (edited_back (edited q cs) log) ≡ Some q = sym one ∙ two in
       cc
 
-pub pages_if : (procs : List (Option Proc)) (p : ℕ) (q : Proc) → length q.space ≡ 16 → ((n : ℕ) → HasPages (slot_at procs n)) → (n : ℕ) → HasPages (if n == p then Some q else slot_at procs n)
-pages_if procs p q long pages n = by (n == p)
+pub places_if : (procs : List (Option Proc)) (p : ℕ) (q : Proc) → IsSized q → ((n : ℕ) → HasPlaces (slot_at procs n)) → (n : ℕ) → HasPlaces (if n == p then Some q else slot_at procs n)
+places_if procs p q sized places n = by (n == p)
   where
-    by : (b : Bool) → HasPages (if b then Some q else slot_at procs n)
-    by true = long
-    by false = pages n
+    by : (b : Bool) → HasPlaces (if b then Some q else slot_at procs n)
+    by true = sized
+    by false = places n
 
-pub has_pages : (k : Kernel) → IsContent k → (p : ℕ) (q : Proc) → slot_at k.parts.procs p ≡ Some q → length q.space ≡ 16
-has_pages k i p q here = let z : HasPages (slot_at k.parts.procs p) = i.pages p in rw here at z
+pub has_places : (k : Kernel) → IsContent k → (p : ℕ) (q : Proc) → slot_at k.parts.procs p ≡ Some q → IsSized q
+has_places k i p q here = let z : HasPlaces (slot_at k.parts.procs p) = i.places p in rw here at z
+
+-- no signal is pending at a process, also without its transaction
+pub record IsCalm (slot : Option Proc) (log : Option (List Change)) : Type 0 where
+  pub now : has_pending kill_signo (process_in slot) ≡ false
+  pub kept : has_pending kill_signo (kept_in slot log) ≡ false
 
 pub marked_if : (k : Kernel) (p : ℕ) (mark : Option Mark) (log : Option (List Change)) (slot : Option Proc) → IsContent k → IsMarked p mark log slot
     → (n : ℕ) → IsMarked n (if n == p then mark else slot_at k.marks n) (if n == p then log else slot_at k.logs n) (if n == p then slot else slot_at k.parts.procs n)
@@ -154,21 +148,30 @@ marked_if k p mark log slot i h n = by (n == p) (λ e. eqb-true n p e)
     by false e = i.marked n
 
 -- what the machine keeps after number p's slot, mark and log were replaced
-pub content_of : (k new : Kernel) (p : ℕ) (q : Proc) (mark : Option Mark) (log : Option (List Change)) → IsContent k → length q.space ≡ 16 → IsMarked p mark log (Some q)
+pub content_of : (k new : Kernel) (p : ℕ) (q : Proc) (mark : Option Mark) (log : Option (List Change)) → IsContent k → IsSized q → IsCalm (Some q) log → IsMarked p mark log (Some q)
     → length new.parts.procs ≡ length k.parts.procs → length new.marks ≡ length k.marks → length new.logs ≡ length k.logs
     → ((n : ℕ) → slot_at new.parts.procs n ≡ (if n == p then Some q else slot_at k.parts.procs n))
     → ((n : ℕ) → slot_at new.marks n ≡ (if n == p then mark else slot_at k.marks n))
     → ((n : ℕ) → slot_at new.logs n ≡ (if n == p then log else slot_at k.logs n))
     → IsSound (view_of new) → IsContent new
-content_of k new p q mark log i long marked width marks_width logs_width procs marks logs sound = record {
+content_of k new p q mark log i sized calm marked width marks_width logs_width procs marks logs sound = record {
   few = subst (λ (w : ℕ). w ≤ 256) (sym width) i.few;
   marks = marks_width ∙ i.marks ∙ sym width;
   logs = logs_width ∙ i.logs ∙ sym width;
-  pages = λ n. subst HasPages (sym (procs n)) (pages_if k.parts.procs p q long i.pages n);
+  places = λ n. subst HasPlaces (sym (procs n)) (places_if k.parts.procs p q sized i.places n);
+  calm = λ n. (calm_at n).now;
+  calm_kept = λ n. (calm_at n).kept;
   marked = λ n. subst (λ (x : Option Mark × Option (List Change) × Option Proc). IsMarked n x.0 x.1 x.2)
       (λ j. (sym (marks n) j, sym (logs n) j, sym (procs n) j)) (marked_if k p mark log (Some q) i marked n);
   sound = sound;
 }
+  where
+    by : (n : ℕ) (b : Bool) → IsCalm (if b then Some q else slot_at k.parts.procs n) (if b then log else slot_at k.logs n)
+    by n true = calm
+    by n false = record { now = i.calm n; kept = i.calm_kept n }
+
+    calm_at : (n : ℕ) → IsCalm (slot_at new.parts.procs n) (slot_at new.logs n)
+    calm_at n = subst (λ (x : Option Proc × Option (List Change)). IsCalm x.0 x.1) (λ j. (sym (procs n) j, sym (logs n) j)) (by n (n == p))
 
 -- the last few of a log, and those before them
 pub last_is : (front behind : List Change) (count : ℕ) → length behind ≡ count → drop (length (front ++ behind) - count) (front ++ behind) ≡ behind

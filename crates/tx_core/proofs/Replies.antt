@@ -9,8 +9,10 @@ use Rattle.tx_base.specs.declared.steps.Refusal.TheVariants.{NoProcess, NotRunni
 use Rattle.tx_base.specs.declared.steps.Reply.TheVariants.{Done, Committed, No}
 use Rattle.tx_base.specs.declared.steps.Step.TheVariants.{Call as Calls}
 use Rattle.tx_change.specs.declared.change.Change.{Change}
-use Rattle.tx_change.specs.declared.proc.Proc.{Proc}
-use Rattle.tx_core.specs.Content.{process_of, process_in, state_of, kept_in, starter_in, owner_at, table_in, two_parts_of, view_of, IsMarked, IsContent}
+use Rattle.tx_proc.specs.declared.proc.Proc.{Proc}
+use Rattle.tx_proc.specs.Processes.{process_of, process_in}
+use Rattle.tx_model.specs.SignalSets.{kill_signo}
+use Rattle.tx_core.specs.Content.{state_of, kept_in, starter_in, owner_at, table_in, two_parts_of, view_of, IsMarked, IsContent}
 use Rattle.tx_core.specs.Plans.{proc_after, only_answers}
 use Rattle.tx_core.specs.Undo.{HasSlot}
 use Rattle.tx_core.specs.Built.{IsBuiltCall}
@@ -52,26 +54,17 @@ pub has_slot : (k : Kernel) → IsContent k → (p : ℕ) (q : Proc) → slot_at
 has_slot k i p q h = let z = between_is k.parts.procs p q h in record { low = z.0; high = z.1; marks = i.marks; logs = i.logs }
 
 -- no signal is ever pending
-none_pending : (x : Option Proc) → has_pending 9 (process_in x) ≡ false
-none_pending None = refl
-none_pending (Some q) = refl
-
-none_kept : (x : Option Proc) (log : Option (List Change)) → has_pending 9 (kept_in x log) ≡ false
-none_kept None log = refl
-none_kept (Some q) None = refl
-none_kept (Some q) (Some log) = refl
-
-pub not_doomed : (k : Kernel) (s : ℕ) → is_doomed (view_of k) s ≡ false
+pub not_doomed : (k : Kernel) → IsContent k → (s : ℕ) → is_doomed (view_of k) s ≡ false
 unfolding view_of parts_view
-not_doomed k s = by (in_set (just s) (starter_in (slot_at k.marks s)))
+not_doomed k i s = by (in_set (just s) (starter_in (slot_at k.marks s)))
   where
     by : (b : Bool) → has_pending 9 (if b then kept_in (slot_at k.parts.procs s) (slot_at k.logs s) else process_in (slot_at k.parts.procs s)) ≡ false
-    by true = none_kept (slot_at k.parts.procs s) (slot_at k.logs s)
-    by false = none_pending (slot_at k.parts.procs s)
+    by true = i.calm_kept s
+    by false = i.calm s
 
-not_doomed_at : (k : Kernel) (x : Option Mark) → is_doomed_at (view_of k) x ≡ false
-not_doomed_at k None = refl
-not_doomed_at k (Some m) = not_doomed k m.starter.0
+not_doomed_at : (k : Kernel) → IsContent k → (x : Option Mark) → is_doomed_at (view_of k) x ≡ false
+not_doomed_at k i None = refl
+not_doomed_at k i (Some m) = not_doomed k i m.starter.0
 
 not_parked : (n : ℕ) (x : Option Mark) (log : Option (List Change)) (slot : Option Proc) → IsMarked n x log slot → is_parked x ≡ false
 not_parked n None log slot h = refl
@@ -153,13 +146,16 @@ answer_is k pid call q built i here runs clear = ap (λ (x : Option Refusal). un
     parked = ap is_parked marks ∙ not_parked pid.0 (slot_at k.marks pid.0) (slot_at k.logs pid.0) (slot_at k.parts.procs pid.0) (i.marked pid.0)
 
     kill : is_held_by_kill (present V) pid.0 (Calls pid call) ≡ false
-    kill = rw at_p refl
+    kill = rw calm refl
+      where
+        calm : has_pending kill_signo ((present V).procs pid.0) ≡ false
+        calm = ap (λ (S : State). has_pending kill_signo (S.procs pid.0)) (present_is k) ∙ i.calm pid.0
 
     numbers : (has_bad_number V.table.width (Calls pid call) ≡ false) × (has_taken_number (present V) (Calls pid call) ≡ false)
     numbers = built_numbers V.table.width pid call (present V) built
 
     none : refusal V pid.0 (Calls pid call) ≡ None
-    none = rw (there, running, numbers.0, numbers.1, not_doomed_at k (V.table.marks pid.0), parked, kill, clear) refl
+    none = rw (there, running, numbers.0, numbers.1, not_doomed_at k i (V.table.marks pid.0), parked, kill, clear) refl
 
 pub no_process : (k : Kernel) (pid : Pid) (call : Call) → slot_at k.parts.procs pid.0 ≡ None → answer (view_of k) (Calls pid call) ≡ No NoProcess
 unfolding answer

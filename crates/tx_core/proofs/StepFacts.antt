@@ -11,16 +11,20 @@ use Rattle.tx_base.specs.declared.steps.Refusal.TheVariants.{NoTransaction}
 use Rattle.tx_base.specs.declared.steps.Step.{Step}
 use Rattle.tx_base.specs.declared.steps.Step.TheVariants.{Call as Calls, KernelAbort}
 use Rattle.tx_change.proofs.Applied.{length-undone, undone_exchanged, applied_reverted}
-use Rattle.tx_change.proofs.Own.{AreNamed-own, AreOf-reverted, AreOf-exchanged, undone-own}
-use Rattle.tx_change.proofs.SlotFacts.{slot_now, length-with_slot}
+use Rattle.tx_change.proofs.Own.{with_edit, AreNamed-own, AreOf-reverted, AreOf-exchanged, applied-own, undone-own, edited_sized, back_sized}
+use Rattle.tx_base.proofs.SlotFacts.{slot_now, slot_at-with_slot, length-with_slot}
 use Rattle.tx_change.proofs.Twice.{back, twice}
-use Rattle.tx_change.specs.Exchange.{number_of, edited_once, edited, edited_back, parts_after, change_after, applied, exchanged, undone, reverted, IsNamed, AreNamed, AreOf}
-use Rattle.tx_change.specs.Laws.{HasPages}
+use Rattle.tx_change.specs.Exchange.{parts_after, change_after, applied, exchanged, undone, reverted, IsNamed, AreNamed}
+use Rattle.tx_change.specs.Laws.{HasPlaces, HasPlacesFor}
+use Rattle.tx_change.specs.Own.{edited_by, edited, edited_back, IsOf, AreOf}
 use Rattle.tx_change.specs.declared.change.Change.{Change}
-use Rattle.tx_change.specs.declared.change.Change.TheVariants.{Regs as SetRegs}
+use Rattle.tx_change.specs.declared.change.Change.TheVariants.{Slot, Part as SetPart, Description, Pipe}
+use Rattle.tx_proc.specs.declared.part.Part.TheVariants.{Regs as SetRegs}
+use Rattle.tx_proc.specs.Laws.{IsSized}
+use Rattle.tx_proc.specs.Processes.{process_of, process_in}
 use Rattle.tx_change.specs.declared.parts.Parts.{Parts}
-use Rattle.tx_change.specs.declared.proc.Proc.{Proc}
-use Rattle.tx_core.specs.Content.{process_of, process_in, state_of, kept_in, starter_in, two_parts_of, view_of, IsMarked, IsContent}
+use Rattle.tx_proc.specs.declared.proc.Proc.{Proc}
+use Rattle.tx_core.specs.Content.{state_of, kept_in, starter_in, two_parts_of, view_of, IsMarked, IsContent}
 use Rattle.tx_core.specs.Plans.{proc_after, only_answers, regs_in, IsPlainCall}
 use Rattle.tx_core.specs.Steps.{IsStep}
 use Rattle.tx_core.specs.Undo.{log_in, last_of, first_of, undone_by, HasSlot}
@@ -30,18 +34,20 @@ use Rattle.tx_core.specs.declared.kernel.Kernel.{Kernel}
 use Rattle.tx_core.proofs.Cases.{IsCase, plain_case, begins_case, own_mark, commits_case, aborts_case}
 use Rattle.tx_core.proofs.LogFacts.{length_exchanged}
 use Rattle.tx_core.proofs.OfBuilt.{begins_built}
-use Rattle.tx_core.proofs.Outcomes.{if_at, next_of, reply_of_case, local_of, AreOf_append, edited_pages, back_pages, back_append, named, own_exchanged, at_applied, width_applied, led_back, has_pages, content_of, last_is, first_is}
+use Rattle.tx_core.proofs.Outcomes.{if_at, next_of, reply_of_case, local_of, AreOf_append, back_append, named, own_exchanged, at_applied, width_applied, led_back, has_places, content_of, last_is, first_is}
 use Rattle.tx_core.proofs.Replies.{IsPlain, note_plain, plain_foot, plain_reply_is, plain_own, commit_reply_is, commit_own, has_slot, not_doomed, table_is}
-use Rattle.tx_core.proofs.Slotted.{slot_at-with_slot, slot_back}
+use Rattle.tx_core.proofs.Slotted.{slot_back}
 use Rattle.tx_core.proofs.Views.{set_effect, outside_next, inside_next, begins_next, commits_next, aborts_next}
 use Rattle.tx_model.specs.Answer.{answer, IsAccepted}
-use Rattle.tx_model.specs.Calls.{memory_call}
+use Rattle.tx_model.specs.Calls.{Local, memory_call}
 use Rattle.tx_model.specs.Effects.{answered, noted_if}
 use Rattle.tx_model.specs.Events.{Event, Note, Commit, effect, process_of as process_of_step}
 use Rattle.tx_model.specs.Membership.{Table, is_of, Continues, Begins, Outside, Within, Commits, Aborts, Beginning, kind_of, new_mark, called_by_status}
 use Rattle.tx_model.specs.Numbers.{negative}
 use Rattle.tx_model.specs.TwoParts.{parts_view, parts_next}
-use Rattle.tx_model.specs.View.{kernel_status}
+use Rattle.tx_model.specs.View.{has_pending, kernel_status}
+use Rattle.tx_model.specs.SignalSets.{kill_signo}
+use Rattle.tx_proc.proofs.Twice.{still_sized}
 
 -- a step, and that what it leaves is what a machine may keep
 pub record IsDone (k : Kernel) (step : Step) (reply : Reply) (inverse : Inverse) (new : Kernel) : Type 0 where
@@ -67,21 +73,27 @@ logged n (Some y) None slot m h e = absurd h
 logged n (Some y) (Some log) None m h e = absurd h
 logged n (Some y) (Some log) (Some q) m h e = let z : y ≡ m = cc in record { there = refl; own = h.2; ended = ap (λ (x : Mark). x.ended) (sym z) ∙ h.1; proc = q; is_proc = refl }
 
+-- the process that a change is of has a place for each number
+places_for : (parts : Parts) (p : ℕ) (c : Change) → IsOf p c → HasPlaces (slot_at parts.procs p) → HasPlacesFor parts c
+places_for parts p (SetPart pid part) own places = subst (λ (n : ℕ). HasPlaces (slot_at parts.procs n)) (sym own.0) places
+places_for parts p (Slot pid slot) own places = tt
+places_for parts p (Description number opened) own places = tt
+places_for parts p (Pipe number part) own places = tt
+
 -- a log that was led back, led forward again, is as it was
-pub log_again : (parts : Parts) (p : ℕ) (q : Proc) (cs : List Change) → 1 ≤ p → p ≤ length parts.procs → slot_at parts.procs p ≡ Some q → length q.space ≡ 16 → AreOf p cs
+pub log_again : (parts : Parts) (p : ℕ) (q : Proc) (cs : List Change) → 1 ≤ p → p ≤ length parts.procs → slot_at parts.procs p ≡ Some q → IsSized q → AreOf p cs
     → exchanged (undone parts cs) (reverted parts cs) ≡ cs
-log_again parts p q [] low high here long own = refl
-log_again parts p q (c ∷ cs) low high here long own =
+log_again parts p q [] low high here sized own = refl
+log_again parts p q (c ∷ cs) low high here sized own =
     let U : Parts = undone parts cs in
     let slot : slot_at U.procs p ≡ Some (edited_back q cs)
     = ap (λ (x : Parts). slot_at x.procs p) (undone-own p parts cs low high own.1)
     ∙ slot_now parts.procs p (option_map (λ proc. edited_back proc cs) (slot_at parts.procs p)) low high ∙ ap (option_map (λ proc. edited_back proc cs)) here in
-    let slot_c : slot_at U.procs (number_of c) ≡ Some (edited_back q cs) = ap (slot_at U.procs) own.0.number ∙ slot in
-    let pages : HasPages (slot_at U.procs (number_of c)) = subst HasPages (sym slot_c) (back_pages q cs ∙ long) in
+    let places : HasPlacesFor U c = places_for U p c own.0 (subst HasPlaces (sym slot) (back_sized q cs sized)) in
     let wide : p ≤ length U.procs = subst (λ (w : ℕ). p ≤ w) (sym (length-undone parts cs)) high in
     let name : IsNamed U c = (AreNamed-own p U (c ∷ []) low wide (own.0, tt)).0 in
-    (λ j. (twice U c name pages).1 j ∷ exchanged ((back U c name) j) (reverted parts cs))
-    ∙ ap (λ (xs : List Change). c ∷ xs) (log_again parts p q cs low high here long own.1)
+    (λ j. (twice U c name places) j ∷ exchanged ((back U c name) j) (reverted parts cs))
+    ∙ ap (λ (xs : List Change). c ∷ xs) (log_again parts p q cs low high here sized own.1)
 
 module _ (k : Kernel) (pid : Pid) (q : Proc) (cs : List Change) (i : IsContent k) (here : slot_at k.parts.procs pid.0 ≡ Some q) (own : AreOf pid.0 cs) where
   abbrev slot : HasSlot k pid.0
@@ -102,8 +114,20 @@ module _ (k : Kernel) (pid : Pid) (q : Proc) (cs : List Change) (i : IsContent k
   wide : pid.0 ≤ length (applied k.parts cs).procs
   wide = subst (λ (w : ℕ). pid.0 ≤ w) (sym width) slot.high
 
-  long : length (edited q cs).space ≡ 16
-  long = edited_pages q cs ∙ has_pages k i pid.0 q here
+  sized : IsSized (edited q cs)
+  sized = edited_sized q cs (has_places k i pid.0 q here)
+
+  -- descriptions and pipes stay
+  descs : (n : ℕ) → (state_of (applied k.parts cs)).descs n ≡ (state_of k.parts).descs n
+  descs n = ap (λ (x : Parts). (state_of x).descs n) (applied-own pid.0 k.parts cs slot.low slot.high own)
+
+  pipes : (n : ℕ) → (state_of (applied k.parts cs)).pipes n ≡ (state_of k.parts).pipes n
+  pipes n = ap (λ (x : Parts). (state_of x).pipes n) (applied-own pid.0 k.parts cs slot.low slot.high own)
+
+  -- no signal is pending at the process that the exchanges leave
+  calm : (after : Local) → edited q cs ≡ proc_after q after → has_pending kill_signo (process_in (Some (edited q cs))) ≡ false
+  calm after gives =
+      ap (λ (x : Proc). has_pending kill_signo (process_in (Some x))) gives ∙ ap (λ (x : Option Proc). has_pending kill_signo (process_in x)) (sym here) ∙ i.calm pid.0
 
   parts_back : undone (applied k.parts cs) (exchanged k.parts cs) ≡ k.parts
   parts_back = undone_exchanged k.parts cs (named k pid.0 q cs slot.low slot.high here own)
@@ -121,7 +145,7 @@ module _ (k : Kernel) (pid : Pid) (q : Proc) (cs : List Change) (i : IsContent k
       let answered : answer (view_of k) (Calls pid call) ≡ Done r
       = reply_of_case k pid call q Outside pc.event (Done r) plain.0 i here runs pc.is_case (plain_own k pid.0 pc.event y r pc.plain) (plain_reply_is k pid.0 pc.event y r pc.plain) in
       let next = next_of k new (Calls pid call) Outside pc.event i pc.is_case (subst IsAccepted (sym answered) tt)
-      (outside_next k new pid.0 (Some (edited q cs)) width procs pc.event (Done r) is (λ n. refl) (λ n. refl) free) in
+      (outside_next k new pid.0 (Some (edited q cs)) width procs descs pipes pc.event (Done r) is (λ n. refl) (λ n. refl) free) in
       let back_is : undone_by new (OutsideLog ex) ≡ k = ap (λ (x : Parts). record k { parts = x }) parts_back in
       record {
         made = record {
@@ -132,7 +156,7 @@ module _ (k : Kernel) (pid : Pid) (q : Proc) (cs : List Change) (i : IsContent k
           leads_back = record { goes = AreNamed-own pid.0 new.parts ex slot.low wide ex_own; content = subst IsContent (sym back_is) i };
           local = local_of k new (Calls pid call) Outside pc.event pid.0 (OutsideLog ex) pc.is_case pc.plain.actor_is ex_own;
         };
-        content = content_of k new pid.0 (edited q cs) None None i long tt width refl refl procs
+        content = content_of k new pid.0 (edited q cs) None None i sized (record { now = calm (memory_call q.space call) gives; kept = calm (memory_call q.space call) gives }) tt width refl refl procs
             (λ n. if_at k.marks pid.0 None n free)
             (λ n. if_at k.logs pid.0 None n (no_log pid.0 (slot_at k.marks pid.0) (slot_at k.logs pid.0) (slot_at k.parts.procs pid.0) (i.marked pid.0) free)) next.sound;
       }
@@ -181,7 +205,7 @@ module _ (k : Kernel) (pid : Pid) (q : Proc) (cs : List Change) (i : IsContent k
         = ap (λ (x : Proc). Some (process_of x)) (back_append (edited q cs) log ex ∙ ap (λ (x : Proc). edited_back x log) (led_back k pid.0 q cs slot.low slot.high here own))
         ∙ ap₂ kept_in (sym here) (sym facts.there) in
         let next = next_of k new (Calls pid call) (Within pid.0 Continues) pc.event i case (subst IsAccepted (sym answered) tt)
-        (inside_next k new pid.0 (Some (edited q cs)) width procs pc.event (Done r) is (λ n. refl) (Some (log ++ ex)) logs kept mine (plain_foot k pid.0 pc.event y r pc.plain)) in
+        (inside_next k new pid.0 (Some (edited q cs)) width procs descs pipes pc.event (Done r) is (λ n. refl) (Some (log ++ ex)) logs kept mine (plain_foot k pid.0 pc.event y r pc.plain)) in
         let now : slot_at new.logs pid.0 ≡ Some (log ++ ex) = slot_now k.logs pid.0 (Some (log ++ ex)) slot.low in_logs in
         let last : last_of (length cs) (log_in (slot_at new.logs pid.0)) ≡ ex = ap (λ (x : Option (List Change)). last_of (length cs) (log_in x)) now ∙ last_is log ex (length cs) long_ex in
         let first : first_of (length cs) (log_in (slot_at new.logs pid.0)) ≡ log = ap (λ (x : Option (List Change)). first_of (length cs) (log_in x)) now ∙ first_is log ex (length cs) long_ex in
@@ -204,7 +228,8 @@ module _ (k : Kernel) (pid : Pid) (q : Proc) (cs : List Change) (i : IsContent k
             };
             local = local_of k new (Calls pid call) (Within pid.0 Continues) pc.event pid.0 (Inside pid (length cs)) case pc.plain.actor_is (subst (AreOf pid.0) (sym last) ex_own);
           };
-          content = content_of k new pid.0 (edited q cs) (Some m) (Some (log ++ ex)) i long (starter, facts.ended, all_own) width refl (length-with_slot k.logs pid.0 (Some (log ++ ex))) procs
+          content = content_of k new pid.0 (edited q cs) (Some m) (Some (log ++ ex)) i sized
+              (record { now = calm (memory_call q.space call) gives; kept = ap (has_pending kill_signo) kept ∙ i.calm_kept pid.0 }) (starter, facts.ended, all_own) width refl (length-with_slot k.logs pid.0 (Some (log ++ ex))) procs
               (λ n. if_at k.marks pid.0 (Some m) n mark) logs next.sound;
         }
 
@@ -226,7 +251,7 @@ module _ (k : Kernel) (pid : Pid) (q : Proc) (cs : List Change) (i : IsContent k
         let marks : (n : ℕ) → slot_at new.marks n ≡ (if n == pid.0 then None else slot_at k.marks n) = λ n. slot_at-with_slot k.marks pid.0 None n slot.low in_marks in
         let logs : (n : ℕ) → slot_at new.logs n ≡ (if n == pid.0 then None else slot_at k.logs n) = λ n. slot_at-with_slot k.logs pid.0 None n slot.low in_logs in
         let next = next_of k new (Calls pid SysXend) (Commits pid.0) (Commit pid.0 ev) i case (subst IsAccepted (sym answered) tt)
-        (commits_next k new pid.0 (Some (edited q cs)) width procs (own_mark k i) marks logs ev (Done (pos 0)) is) in
+        (commits_next k new pid.0 (Some (edited q cs)) width procs descs pipes (own_mark k i) marks logs ev (Done (pos 0)) is) in
         let parts_is : undone new.parts (last_of (length cs) (log ++ ex)) ≡ k.parts = ap (undone new.parts) (last_is log ex (length cs) long_ex) ∙ parts_back in
         let marks_is : with_slot new.marks pid.0 (Some m) ≡ k.marks = slot_back k.marks pid.0 None (Some m) slot.low (sym mark) in
         let logs_is : with_slot new.logs pid.0 (Some (first_of (length cs) (log ++ ex))) ≡ k.logs
@@ -243,7 +268,7 @@ module _ (k : Kernel) (pid : Pid) (q : Proc) (cs : List Change) (i : IsContent k
             leads_back = record { goes = (new_slot, few, AreNamed-own pid.0 new.parts (log ++ ex) slot.low wide all_own); content = subst IsContent (sym back_is) i };
             local = local_of k new (Calls pid SysXend) (Commits pid.0) (Commit pid.0 ev) pid.0 inverse case refl (subst (AreOf pid.0) (sym (last_is log ex (length cs) long_ex)) ex_own);
           };
-          content = content_of k new pid.0 (edited q cs) None None i long tt width (length-with_slot k.marks pid.0 None) (length-with_slot k.logs pid.0 None) procs marks logs next.sound;
+          content = content_of k new pid.0 (edited q cs) None None i sized (record { now = calm (only_answers q (pos 0)) gives; kept = calm (only_answers q (pos 0)) gives }) tt width (length-with_slot k.marks pid.0 None) (length-with_slot k.logs pid.0 None) procs marks logs next.sound;
         }
 
   -- a transaction's first step
@@ -269,7 +294,7 @@ module _ (k : Kernel) (pid : Pid) (q : Proc) (cs : List Change) (i : IsContent k
       let kept : kept_in (Some (edited q cs)) (Some ex) ≡ process_in (slot_at k.parts.procs pid.0)
       = ap (λ (x : Proc). Some (process_of x)) (led_back k pid.0 q cs slot.low slot.high here own) ∙ ap process_in (sym here) in
       let next = next_of k new (Calls pid call) (Within pid.0 (Begins defers)) ev i case (subst IsAccepted (sym answered) tt)
-      (begins_next k new pid.0 (Some (edited q cs)) width procs ev (Done (pos 0)) is defers marks (Some ex) logs kept free (plain_foot k pid.0 ev y (pos 0) plain)) in
+      (begins_next k new pid.0 (Some (edited q cs)) width procs descs pipes ev (Done (pos 0)) is defers marks (Some ex) logs kept free (plain_foot k pid.0 ev y (pos 0) plain)) in
       let now : slot_at new.logs pid.0 ≡ Some ex = slot_now k.logs pid.0 (Some ex) slot.low in_logs in
       let all : log_in (slot_at new.logs pid.0) ≡ ex = ap log_in now in
       let parts_is : undone new.parts (log_in (slot_at new.logs pid.0)) ≡ k.parts = ap (undone new.parts) all ∙ parts_back in
@@ -290,7 +315,8 @@ module _ (k : Kernel) (pid : Pid) (q : Proc) (cs : List Change) (i : IsContent k
           };
           local = local_of k new (Calls pid call) (Within pid.0 (Begins defers)) ev pid.0 (Begun pid) case refl own_now;
         };
-        content = content_of k new pid.0 (edited q cs) (Some mark) (Some ex) i long (refl, refl, ex_own) width (length-with_slot k.marks pid.0 (Some mark)) (length-with_slot k.logs pid.0 (Some ex)) procs marks logs next.sound;
+        content = content_of k new pid.0 (edited q cs) (Some mark) (Some ex) i sized
+            (record { now = calm (only_answers q (pos 0)) gives; kept = ap (has_pending kill_signo) kept ∙ i.calm pid.0 }) (refl, refl, ex_own) width (length-with_slot k.marks pid.0 (Some mark)) (length-with_slot k.logs pid.0 (Some ex)) procs marks logs next.sound;
       }
 
 -- the abort of the transaction of p
@@ -302,7 +328,7 @@ module _ (k : Kernel) (pid : Pid) (m : Mark) (i : IsContent k) (mark : slot_at k
   before = undone k.parts (log_in (slot_at k.logs pid.0))
 
   abbrev note : Change
-  note = SetRegs pid (answered ret (regs_in (slot_at (undone k.parts (log_in (slot_at k.logs pid.0))).procs pid.0)))
+  note = SetPart pid (SetRegs (answered ret (regs_in (slot_at (undone k.parts (log_in (slot_at k.logs pid.0))).procs pid.0))))
 
   abort_facts : IsLogged pid.0 m (slot_at k.logs pid.0) (slot_at k.parts.procs pid.0)
   abort_facts = logged pid.0 (slot_at k.marks pid.0) (slot_at k.logs pid.0) (slot_at k.parts.procs pid.0) m (i.marked pid.0) mark
@@ -341,21 +367,37 @@ module _ (k : Kernel) (pid : Pid) (m : Mark) (i : IsContent k) (mark : slot_at k
   after_at : (n : ℕ) → slot_at (parts_after before note).procs n ≡ (if n == pid.0 then Some stands else slot_at k.parts.procs n)
   after_at n =
       let wide : pid.0 ≤ length before.procs = subst (λ (w : ℕ). pid.0 ≤ w) (sym before_width) abort_slot.high in
-      slot_at-with_slot before.procs pid.0 (option_map (λ proc. edited_once proc note) (slot_at before.procs pid.0)) n abort_slot.low wide
+      slot_at-with_slot before.procs pid.0 (option_map (λ proc. edited_by proc note) (slot_at before.procs pid.0)) n abort_slot.low wide
       ∙ (λ j. if n == pid.0 then at_p j else before_other n j)
       ∙ by (n == pid.0)
     where
-      at_p : option_map (λ proc. edited_once proc note) (slot_at before.procs pid.0) ≡ Some stands
-      at_p = ap (λ (x : Option Proc). option_map (λ proc. edited_once proc (SetRegs pid (answered ret (regs_in x)))) x) before_at
+      at_p : option_map (λ proc. edited_by proc note) (slot_at before.procs pid.0) ≡ Some stands
+      at_p = ap (λ (x : Option Proc). option_map (λ proc. edited_by proc (SetPart pid (SetRegs (answered ret (regs_in x))))) x) before_at
 
       by : (b : Bool) → (if b then Some stands else (if b then Some (edited_back abort_facts.proc old_log) else slot_at k.parts.procs n)) ≡ (if b then Some stands else slot_at k.parts.procs n)
       by true = refl
       by false = refl
 
+  answered_sized : IsSized (edited_back abort_facts.proc old_log) → IsSized stands
+  answered_sized sized = still_sized (edited_back abort_facts.proc old_log) (SetRegs (answered ret (edited_back abort_facts.proc old_log).regs)) sized
+
+  stands_calm : has_pending kill_signo (process_in (Some stands)) ≡ false
+  stands_calm =
+      ap₂ (λ (x : Option Proc) (l : Option (List Change)). has_pending kill_signo (kept_in x l)) (sym abort_facts.is_proc) (sym abort_facts.there) ∙ i.calm_kept pid.0
+
+  after_parts : parts_after before note ≡ with_edit pid.0 (λ proc. edited_by proc note) (with_edit pid.0 (λ proc. edited_back proc old_log) k.parts)
+  after_parts = ap (λ (x : Parts). with_edit pid.0 (λ proc. edited_by proc note) x) (undone-own pid.0 k.parts old_log abort_slot.low abort_slot.high abort_facts.own)
+
+  after_descs : (n : ℕ) → (state_of (parts_after before note)).descs n ≡ (state_of k.parts).descs n
+  after_descs n = ap (λ (x : Parts). (state_of x).descs n) after_parts
+
+  after_pipes : (n : ℕ) → (state_of (parts_after before note)).pipes n ≡ (state_of k.parts).pipes n
+  after_pipes n = ap (λ (x : Parts). (state_of x).pipes n) after_parts
+
   pub aborted_done : (step : Step) (status : ℕ) → process_of_step step ≡ pid.0 → IsCase k step (Aborts pid.0 status) (Note pid.0 ret) → answer (view_of k) step ≡ Aborted status
-      → IsDone k step (Aborted status) (AbortedLog pid m (reverted k.parts (log_in (slot_at k.logs pid.0))) (change_after (undone k.parts (log_in (slot_at k.logs pid.0))) (SetRegs pid (answered ret (regs_in (slot_at (undone k.parts (log_in (slot_at k.logs pid.0))).procs pid.0))))))
+      → IsDone k step (Aborted status) (AbortedLog pid m (reverted k.parts (log_in (slot_at k.logs pid.0))) (change_after (undone k.parts (log_in (slot_at k.logs pid.0))) (SetPart pid (SetRegs (answered ret (regs_in (slot_at (undone k.parts (log_in (slot_at k.logs pid.0))).procs pid.0)))))))
       (record {
-        parts = parts_after (undone k.parts (log_in (slot_at k.logs pid.0))) (SetRegs pid (answered ret (regs_in (slot_at (undone k.parts (log_in (slot_at k.logs pid.0))).procs pid.0))));
+        parts = parts_after (undone k.parts (log_in (slot_at k.logs pid.0))) (SetPart pid (SetRegs (answered ret (regs_in (slot_at (undone k.parts (log_in (slot_at k.logs pid.0))).procs pid.0)))));
         marks = with_slot k.marks pid.0 None;
         logs = with_slot k.logs pid.0 None;
       })
@@ -366,23 +408,23 @@ module _ (k : Kernel) (pid : Pid) (m : Mark) (i : IsContent k) (mark : slot_at k
       let inverse : Inverse = AbortedLog pid m redo noted in
       let in_logs : pid.0 ≤ length k.logs = subst (λ (w : ℕ). pid.0 ≤ w) (sym i.logs) abort_slot.high in
       let in_marks : pid.0 ≤ length k.marks = subst (λ (w : ℕ). pid.0 ≤ w) (sym i.marks) abort_slot.high in
-      let width : length new.parts.procs ≡ length k.parts.procs = length-with_slot before.procs pid.0 (option_map (λ proc. edited_once proc note) (slot_at before.procs pid.0)) ∙ before_width in
+      let width : length new.parts.procs ≡ length k.parts.procs = length-with_slot before.procs pid.0 (option_map (λ proc. edited_by proc note) (slot_at before.procs pid.0)) ∙ before_width in
       let marks : (n : ℕ) → slot_at new.marks n ≡ (if n == pid.0 then None else slot_at k.marks n) = λ n. slot_at-with_slot k.marks pid.0 None n abort_slot.low in_marks in
       let logs : (n : ℕ) → slot_at new.logs n ≡ (if n == pid.0 then None else slot_at k.logs n) = λ n. slot_at-with_slot k.logs pid.0 None n abort_slot.low in_logs in
       let mine : starter_in (slot_at k.marks pid.0) ≡ Some pid.0 = ap starter_in mark ∙ ap Some (own_mark k i pid.0 m mark) in
       let is : process_in (Some stands) ≡ noted_if ret (kept_in (slot_at k.parts.procs pid.0) (slot_at k.logs pid.0))
       = ap₂ (λ (x : Option Proc) (l : Option (List Change)). noted_if ret (kept_in x l)) (sym abort_facts.is_proc) (sym abort_facts.there) in
-      let same = aborts_next k new pid.0 (Some stands) width after_at (own_mark k i) marks logs ret status mine is in
+      let same = aborts_next k new pid.0 (Some stands) width after_at after_descs after_pipes (own_mark k i) marks logs ret status mine is in
       let next = next_of k new step (Aborts pid.0 status) (Note pid.0 ret) i case (subst IsAccepted (sym answered) tt)
       (subst (λ (p : ℕ). view_of new ≡ parts_view (parts_next (Aborts pid.0 status) (Note pid.0 ret) p (two_parts_of k))) (sym who) same) in
       let wide : pid.0 ≤ length new.parts.procs = subst (λ (w : ℕ). pid.0 ≤ w) (sym width) abort_slot.high in
-      let name : IsNamed before note = record { low = abort_slot.low; high = subst (λ (w : ℕ). pid.0 ≤ w) (sym before_width) abort_slot.high; page = tt } in
+      let name : IsNamed before note = (record { low = abort_slot.low; high = subst (λ (w : ℕ). pid.0 ≤ w) (sym before_width) abort_slot.high }, tt) in
       let unnoted : parts_after new.parts noted ≡ before = back before note name in
       let redo_own : AreOf pid.0 redo = AreOf-reverted pid.0 k.parts old_log abort_facts.own in
       let noted_own : AreOf pid.0 (noted ∷ []) = own_exchanged_one before in
       let parts_is : applied (parts_after new.parts noted) redo ≡ k.parts = ap (λ (x : Parts). applied x redo) unnoted ∙ applied_reverted k.parts old_log abort_named in
       let log_is : exchanged (parts_after new.parts noted) redo ≡ old_log
-      = ap (λ (x : Parts). exchanged x redo) unnoted ∙ log_again k.parts pid.0 abort_facts.proc old_log abort_slot.low abort_slot.high abort_facts.is_proc (has_pages k i pid.0 abort_facts.proc abort_facts.is_proc) abort_facts.own in
+      = ap (λ (x : Parts). exchanged x redo) unnoted ∙ log_again k.parts pid.0 abort_facts.proc old_log abort_slot.low abort_slot.high abort_facts.is_proc (has_places k i pid.0 abort_facts.proc abort_facts.is_proc) abort_facts.own in
       let marks_is : with_slot new.marks pid.0 (Some m) ≡ k.marks = slot_back k.marks pid.0 None (Some m) abort_slot.low (sym mark) in
       let logs_is : with_slot new.logs pid.0 (Some (exchanged (parts_after new.parts noted) redo)) ≡ k.logs
       = ap (λ (x : List Change). with_slot new.logs pid.0 (Some x)) log_is ∙ slot_back k.logs pid.0 None (Some old_log) abort_slot.low (sym abort_facts.there) in
@@ -400,18 +442,18 @@ module _ (k : Kernel) (pid : Pid) (m : Mark) (i : IsContent k) (mark : slot_at k
           };
           local = local_of k new step (Aborts pid.0 status) (Note pid.0 ret) pid.0 inverse case refl (noted_own.0, redo_own);
         };
-        content = content_of k new pid.0 stands None None i (back_pages abort_facts.proc old_log ∙ has_pages k i pid.0 abort_facts.proc abort_facts.is_proc) tt width
+        content = content_of k new pid.0 stands None None i (answered_sized (back_sized abort_facts.proc old_log (has_places k i pid.0 abort_facts.proc abort_facts.is_proc))) (record { now = stands_calm; kept = stands_calm }) tt width
             (length-with_slot k.marks pid.0 None) (length-with_slot k.logs pid.0 None) after_at marks logs next.sound;
       }
     where
       own_exchanged_one : (parts : Parts) → AreOf pid.0 (change_after parts note ∷ [])
-      own_exchanged_one parts = AreOf-exchanged pid.0 parts (note ∷ []) (record { number = refl; page = tt }, tt)
+      own_exchanged_one parts = AreOf-exchanged pid.0 parts (note ∷ []) ((refl, tt), tt)
 
 -- a member's sys_xabort
 pub xabort_done : (k : Kernel) (pid : Pid) (q : Proc) (m : Mark) (i : IsContent k) → slot_at k.parts.procs pid.0 ≡ Some q → q.status ≡ None → (mark : slot_at k.marks pid.0 ≡ Some m)
-    → IsDone k (Calls pid SysXabort) (Aborted called_by_status) (AbortedLog pid m (reverted k.parts (log_in (slot_at k.logs pid.0))) (change_after (undone k.parts (log_in (slot_at k.logs pid.0))) (SetRegs pid (answered (negsuc 200) (regs_in (slot_at (undone k.parts (log_in (slot_at k.logs pid.0))).procs pid.0))))))
+    → IsDone k (Calls pid SysXabort) (Aborted called_by_status) (AbortedLog pid m (reverted k.parts (log_in (slot_at k.logs pid.0))) (change_after (undone k.parts (log_in (slot_at k.logs pid.0))) (SetPart pid (SetRegs (answered (negsuc 200) (regs_in (slot_at (undone k.parts (log_in (slot_at k.logs pid.0))).procs pid.0)))))))
     (record {
-      parts = parts_after (undone k.parts (log_in (slot_at k.logs pid.0))) (SetRegs pid (answered (negsuc 200) (regs_in (slot_at (undone k.parts (log_in (slot_at k.logs pid.0))).procs pid.0))));
+      parts = parts_after (undone k.parts (log_in (slot_at k.logs pid.0))) (SetPart pid (SetRegs (answered (negsuc 200) (regs_in (slot_at (undone k.parts (log_in (slot_at k.logs pid.0))).procs pid.0)))));
       marks = with_slot k.marks pid.0 None;
       logs = with_slot k.logs pid.0 None;
     })
@@ -424,13 +466,13 @@ xabort_done k pid q m i here runs mark =
     aborted_done k pid m i mark (negsuc 200) (Calls pid SysXabort) called_by_status refl case answered
 
 -- the kernel's abort
-kernel_is : (k : Kernel) (s : ℕ) → kernel_status (view_of k) s ≡ 202
-kernel_is k s = ap (λ (b : Bool). if b then 203 else 202) (not_doomed k s)
+kernel_is : (k : Kernel) → IsContent k → (s : ℕ) → kernel_status (view_of k) s ≡ 202
+kernel_is k i s = ap (λ (b : Bool). if b then 203 else 202) (not_doomed k i s)
 
 pub kernel_done : (k : Kernel) (pid : Pid) (m : Mark) (i : IsContent k) → (mark : slot_at k.marks pid.0 ≡ Some m)
-    → IsDone k (KernelAbort pid) (Aborted 202) (AbortedLog pid m (reverted k.parts (log_in (slot_at k.logs pid.0))) (change_after (undone k.parts (log_in (slot_at k.logs pid.0))) (SetRegs pid (answered (negsuc 201) (regs_in (slot_at (undone k.parts (log_in (slot_at k.logs pid.0))).procs pid.0))))))
+    → IsDone k (KernelAbort pid) (Aborted 202) (AbortedLog pid m (reverted k.parts (log_in (slot_at k.logs pid.0))) (change_after (undone k.parts (log_in (slot_at k.logs pid.0))) (SetPart pid (SetRegs (answered (negsuc 201) (regs_in (slot_at (undone k.parts (log_in (slot_at k.logs pid.0))).procs pid.0)))))))
     (record {
-      parts = parts_after (undone k.parts (log_in (slot_at k.logs pid.0))) (SetRegs pid (answered (negsuc 201) (regs_in (slot_at (undone k.parts (log_in (slot_at k.logs pid.0))).procs pid.0))));
+      parts = parts_after (undone k.parts (log_in (slot_at k.logs pid.0))) (SetPart pid (SetRegs (answered (negsuc 201) (regs_in (slot_at (undone k.parts (log_in (slot_at k.logs pid.0))).procs pid.0)))));
       marks = with_slot k.marks pid.0 None;
       logs = with_slot k.logs pid.0 None;
     })
@@ -438,10 +480,10 @@ unfolding answer
 kernel_done k pid m i mark =
     let live : is_of pid.0 ((view_of k).table.marks pid.0) ≡ true
     = ap (λ (t : Table). is_of pid.0 (t.marks pid.0)) (table_is k) ∙ ap (is_of pid.0) mark ∙ eq-eqb m.starter.0 pid.0 (own_mark k i pid.0 m mark) in
-    let answered : answer (view_of k) (KernelAbort pid) ≡ Aborted 202 = rw (live, kernel_is k pid.0) refl in
+    let answered : answer (view_of k) (KernelAbort pid) ≡ Aborted 202 = rw (live, kernel_is k i pid.0) refl in
     let case : IsCase k (KernelAbort pid) (Aborts pid.0 202) (Note pid.0 (negsuc 201)) = record {
-      role_is = ap (λ (n : ℕ). Aborts pid.0 n) (kernel_is k pid.0);
-      event_is = ap (λ (n : ℕ). Note pid.0 (negative n)) (kernel_is k pid.0);
+      role_is = ap (λ (n : ℕ). Aborts pid.0 n) (kernel_is k i pid.0);
+      event_is = ap (λ (n : ℕ). Note pid.0 (negative n)) (kernel_is k i pid.0);
     } in
     aborted_done k pid m i mark (negsuc 201) (KernelAbort pid) 202 refl case answered
 

@@ -5,8 +5,9 @@ use Rattle.tx_base.specs.declared.marks.Mark.{Mark}
 use Rattle.tx_base.specs.declared.steps.Reply.{Reply}
 use Rattle.tx_base.specs.declared.steps.Reply.TheVariants.{Done}
 use Rattle.tx_change.specs.declared.change.Change.{Change}
-use Rattle.tx_change.specs.declared.proc.Proc.{Proc}
-use Rattle.tx_core.specs.Content.{process_in, state_of, kept_in, kept_of, starter_in, owner_at, table_in, two_parts_of, view_of}
+use Rattle.tx_proc.specs.declared.proc.Proc.{Proc}
+use Rattle.tx_proc.specs.Processes.{process_in}
+use Rattle.tx_core.specs.Content.{state_of, kept_in, kept_of, starter_in, owner_at, table_in, two_parts_of, view_of}
 use Rattle.tx_core.specs.declared.kernel.Kernel.{Kernel}
 use Rattle.tx_model.specs.Effects.{Effect, Replies, sent, applied, noted_if, committing}
 use Rattle.tx_model.specs.Events.{Event, Note, Commit, effect}
@@ -57,7 +58,8 @@ just_mark n p (Some m) own e = ap (λ (s : ℕ). s == p) (own m refl) ∙ e
 
 -- what number p has is replaced, and no other
 module _ (k new : Kernel) (p : ℕ) (slot : Option Proc) (width : length new.parts.procs ≡ length k.parts.procs)
-    (procs : (n : ℕ) → slot_at new.parts.procs n ≡ (if n == p then slot else slot_at k.parts.procs n)) where
+    (procs : (n : ℕ) → slot_at new.parts.procs n ≡ (if n == p then slot else slot_at k.parts.procs n))
+    (descs : (n : ℕ) → (state_of new.parts).descs n ≡ (state_of k.parts).descs n) (pipes : (n : ℕ) → (state_of new.parts).pipes n ≡ (state_of k.parts).pipes n) where
   procs_at : (n : ℕ) → process_in (slot_at new.parts.procs n) ≡ (if n == p then process_in slot else process_in (slot_at k.parts.procs n))
   procs_at n = ap process_in (procs n) ∙ by (n == p)
     where
@@ -67,8 +69,8 @@ module _ (k new : Kernel) (p : ℕ) (slot : Option Proc) (width : length new.par
 
   now_part : (o : Object) → AgreePart (state_of new.parts) (write_one (SetProc p (process_in slot)) (state_of k.parts)) o
   now_part (TheProc n) = procs_at n
-  now_part (Desc n) = refl
-  now_part (Pipe n) = refl
+  now_part (Desc n) = descs n
+  now_part (Pipe n) = pipes n
   now_part (Held n) = refl
 
   -- what is kept of another number is as it was
@@ -105,8 +107,8 @@ module _ (k new : Kernel) (p : ℕ) (slot : Option Proc) (width : length new.par
 
         kept : (o : Object) (s : ℕ) → owner_at new o ≡ Some s → AgreePart (kept_of new) (write_one (SetProc p (process_in slot)) (kept_of k)) o
         kept (TheProc n) s h = at_proc n s h (n == p) refl
-        kept (Desc n) s h = refl
-        kept (Pipe n) s h = refl
+        kept (Desc n) s h = descs n
+        kept (Pipe n) s h = pipes n
         kept (Held n) s h = refl
 
     -- a step of a transaction's member, after which it is live
@@ -154,8 +156,8 @@ module _ (k new : Kernel) (p : ℕ) (slot : Option Proc) (width : length new.par
 
         kept : (o : Object) (s : ℕ) → owner_at new o ≡ Some s → AgreePart (kept_of new) (pick (λ o. if has o (TheProc p ∷ []) then is_none (owner_at k o) else false) (state_of k.parts) (kept_of k)) o
         kept (TheProc n) s h = at_proc n (n == p) refl
-        kept (Desc n) s h = refl
-        kept (Pipe n) s h = refl
+        kept (Desc n) s h = descs n
+        kept (Pipe n) s h = pipes n
         kept (Held n) s h = refl
 
     -- a transaction's first step
@@ -216,8 +218,8 @@ module _ (k new : Kernel) (p : ℕ) (slot : Option Proc) (width : length new.par
 
         kept : (o : Object) (s : ℕ) → owner_at new o ≡ Some s → AgreePart (kept_of new) (pick (λ o. if has o (Held p ∷ TheProc p ∷ []) then is_none (owner_at k o) else false) (state_of k.parts) (kept_of k)) o
         kept (TheProc n) s h = at_proc n (n == p) refl
-        kept (Desc n) s h = refl
-        kept (Pipe n) s h = refl
+        kept (Desc n) s h = descs n
+        kept (Pipe n) s h = pipes n
         kept (Held n) s h = if_same (if (if n == p then true else (if false then true else false)) then is_none (starter_in (slot_at k.marks n)) else false) []
 
   -- the step that ends a transaction clears its mark and its log
@@ -261,14 +263,14 @@ module _ (k new : Kernel) (p : ℕ) (slot : Option Proc) (width : length new.par
       where
         now : (o : Object) → AgreePart (state_of new.parts) (write_one (SetHeld p []) (write_one (SetProc p (process_in slot)) (state_of k.parts))) o
         now (TheProc n) = procs_at n
-        now (Desc n) = refl
-        now (Pipe n) = refl
+        now (Desc n) = descs n
+        now (Pipe n) = pipes n
         now (Held n) = if_same (n == p) []
 
         kept : (o : Object) (s : ℕ) → owner_at new o ≡ Some s → AgreePart (kept_of new) (write_one (SetHeld p []) (write_one (SetProc p (process_in slot)) (kept_of k))) o
         kept (TheProc n) s h = over_kept n s h (n == p) refl
-        kept (Desc n) s h = refl
-        kept (Pipe n) s h = refl
+        kept (Desc n) s h = descs n
+        kept (Pipe n) s h = pipes n
         kept (Held n) s h = if_same (n == p) []
 
     pub aborts_next : (r : ℤ) (status : ℕ) → starter_in (slot_at k.marks p) ≡ Some p → process_in slot ≡ noted_if r (kept_in (slot_at k.parts.procs p) (slot_at k.logs p))
@@ -296,12 +298,12 @@ module _ (k new : Kernel) (p : ℕ) (slot : Option Proc) (width : length new.par
 
         now : (o : Object) → AgreePart (state_of new.parts) (write_one (SetProc p (process_in slot)) (parts_without (two_parts_of k) (just p))) o
         now (TheProc n) = at_proc n (n == p) refl
-        now (Desc n) = refl
-        now (Pipe n) = refl
+        now (Desc n) = descs n
+        now (Pipe n) = pipes n
         now (Held n) = if_same (in_set (just p) (starter_in (slot_at k.marks n))) []
 
         kept : (o : Object) (s : ℕ) → owner_at new o ≡ Some s → AgreePart (kept_of new) (write_one (SetProc p (process_in slot)) (kept_of k)) o
         kept (TheProc n) s h = over_kept n s h (n == p) refl
-        kept (Desc n) s h = refl
-        kept (Pipe n) s h = refl
+        kept (Desc n) s h = descs n
+        kept (Pipe n) s h = pipes n
         kept (Held n) s h = refl

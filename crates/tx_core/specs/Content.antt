@@ -1,49 +1,25 @@
 -- What the machine keeps, as a kernel of two parts and one owner for each object.
-use Rattle.std.specs.Prelude.{◌≡◌, ℕ, ◌≤◌, false, List, [], length, Option, Some, None, replicate}
+use Rattle.std.specs.Prelude.{◌≡◌, ℕ, ◌≤◌, false, List, [], length, Option, Some, None}
 use Rattle.tx_base.specs.Slots.{slot_at}
 use Rattle.tx_base.specs.declared.marks.Mark.{Mark}
-use Rattle.tx_change.specs.Exchange.{edited_back, AreOf}
-use Rattle.tx_change.specs.Laws.{HasPages}
+use Rattle.tx_change.specs.Laws.{HasPlaces}
+use Rattle.tx_change.specs.Own.{edited_back, AreOf}
+use Rattle.tx_change.specs.States.{state_of as state_with}
 use Rattle.tx_change.specs.declared.change.Change.{Change}
 use Rattle.tx_change.specs.declared.parts.Parts.{Parts}
-use Rattle.tx_change.specs.declared.proc.Proc.{Proc}
+use Rattle.tx_proc.specs.Processes.{process_of}
+use Rattle.tx_proc.specs.declared.proc.Proc.{Proc}
 use Rattle.tx_core.specs.declared.kernel.Kernel.{Kernel}
 use Rattle.tx_model.specs.Membership.{Table}
 use Rattle.tx_model.specs.Sound.{IsSound}
-use Rattle.tx_model.specs.State.{Process, State, Object, Proc as TheProc, Desc, Pipe, Held, root_ids}
-use Rattle.tx_base.specs.declared.signals.Action.TheVariants.{Usual}
+use Rattle.tx_model.specs.State.{Process, State, Object, Proc as TheProc, Desc, Pipe, Held}
 use Rattle.tx_model.specs.TwoParts.{TwoParts, parts_view}
-use Rattle.tx_model.specs.View.{View}
+use Rattle.tx_model.specs.SignalSets.{kill_signo}
+use Rattle.tx_model.specs.View.{View, has_pending}
 
--- a process: what no call changes yet is as it was at the start
-abbrev pub process_of : Proc → Process
-process_of p = record {
-  registers = p.regs;
-  parent = p.parent.0;
-  status = p.status;
-  ids = root_ids;
-  memory = p.space;
-  descriptors = replicate 16 None;
-  mask = 0;
-  actions = replicate 40 Usual;
-  pending = 0;
-  queued = [];
-  frames = [];
-}
-
-abbrev pub process_in : Option Proc → Option Process
-process_in None = None
-process_in (Some p) = Some (process_of p)
-
--- the state that the parts stand for
+-- the state that the parts mean: nothing is held so far
 abbrev pub state_of : Parts → State
-state_of parts = record {
-  width = length parts.procs;
-  procs = λ n. process_in (slot_at parts.procs n);
-  descs = λ n. None;
-  pipes = λ n. None;
-  held = λ n. [];
-}
+state_of parts = state_with (λ starter. []) parts
 
 -- what a process would be without the transaction whose log this is
 abbrev pub kept_in : Option Proc → Option (List Change) → Option Process
@@ -52,13 +28,7 @@ kept_in (Some p) None = Some (process_of p)
 kept_in (Some p) (Some log) = Some (process_of (edited_back p log))
 
 abbrev pub kept_of : Kernel → State
-kept_of k = record {
-  width = length k.parts.procs;
-  procs = λ n. kept_in (slot_at k.parts.procs n) (slot_at k.logs n);
-  descs = λ n. None;
-  pipes = λ n. None;
-  held = λ n. [];
-}
+kept_of k = record (state_of k.parts) { procs = λ n. kept_in (slot_at k.parts.procs n) (slot_at k.logs n) }
 
 abbrev pub starter_in : Option Mark → Option ℕ
 starter_in None = None
@@ -94,6 +64,9 @@ pub record IsContent (k : Kernel) : Type 0 where
   pub few : length k.parts.procs ≤ 256
   pub marks : length k.marks ≡ length k.parts.procs
   pub logs : length k.logs ≡ length k.parts.procs
-  pub pages : (n : ℕ) → HasPages (slot_at k.parts.procs n)
+  pub places : (n : ℕ) → HasPlaces (slot_at k.parts.procs n)
+  -- no signal is sent so far
+  pub calm : (n : ℕ) → has_pending kill_signo ((state_of k.parts).procs n) ≡ false
+  pub calm_kept : (n : ℕ) → has_pending kill_signo ((kept_of k).procs n) ≡ false
   pub marked : (n : ℕ) → IsMarked n (slot_at k.marks n) (slot_at k.logs n) (slot_at k.parts.procs n)
   pub sound : IsSound (view_of k)

@@ -1,9 +1,10 @@
 -- What a plan makes of the process that it is for.
 use Rattle.std.specs.Prelude.{◌≡◌, ℕ, Option, Some, None, ℤ}
-use Rattle.tx_change.specs.Exchange.{edited, AreOf}
+use Rattle.tx_change.specs.Own.{edited, AreOf}
 use Rattle.tx_change.specs.declared.change.Change.{Change}
-use Rattle.tx_change.specs.declared.change.Change.TheVariants.{Page}
-use Rattle.tx_change.specs.declared.proc.Proc.{Proc}
+use Rattle.tx_change.specs.declared.change.Change.TheVariants.{Part}
+use Rattle.tx_proc.specs.declared.part.Part.TheVariants.{Page}
+use Rattle.tx_proc.specs.declared.proc.Proc.{Proc}
 use Rattle.tx_base.specs.declared.marks.Mark.{Mark}
 use Rattle.tx_base.specs.declared.names.Pid.{Pid}
 use Rattle.tx_base.specs.declared.steps.Call.{Call}
@@ -34,7 +35,7 @@ pub record Gives (n : ℕ) (p : Proc) (plan : Plan) (after : Local) : Type 0 whe
 
 -- the change that puts a new page in place
 abbrev pub page_change : Pid → NewPage → Change
-page_change pid new = Page pid new.number new.page
+page_change pid new = Part pid (Page new.number new.page)
 
 -- the registers of a slot, those of the start where it has no process
 abbrev pub regs_in : Option Proc → Regs

@@ -10,8 +10,9 @@ ghost use Rattle.tx_pages.specs.Outcomes.{with_pages, AreNumbered};
 
 use std::alloc::Global;
 use tx_base::{Call, LAST_POINT, NoMemory, Pid, Regs};
-use tx_change::{Change, Proc};
+use tx_change::Change;
 use tx_pages::{NewPage, NewPages, PageError};
+use tx_proc::{Part, Proc};
 
 /// The answers of a page number and of an address that are not good: EINVAL and EFAULT.
 pub const INVALID: i64 = -22;
@@ -77,7 +78,7 @@ pub fn plan_answer(alloc: Global, pid: Pid, proc: &Proc, ret: i64) -> Result<Pla
     ensures { IfOk result (λ plan. Gives pid.0 proc.now plan (only_answers proc.now ret)) }
 {
     let mut changes = Vec::new(alloc);
-    changes.push(Change::Regs(pid, answer_in(&proc.regs, ret)))?;
+    changes.push(Change::Part(pid, Part::Regs(answer_in(&proc.regs, ret))))?;
     Ok(Plan { changes, ret })
 }
 
@@ -87,8 +88,8 @@ fn plan_page(alloc: Global, pid: Pid, proc: &Proc, new: NewPage) -> Result<Plan,
     ensures { IfOk result (λ plan. Gives pid.0 proc.now plan (record { memory = slice_set proc.now.space new.number new.page; ret = pos 0 })) }
 {
     let mut changes = Vec::new(alloc);
-    changes.push(Change::Page(pid, new.number, new.page))?;
-    changes.push(Change::Regs(pid, answer_in(&proc.regs, 0)))?;
+    changes.push(Change::Part(pid, Part::Page(new.number, new.page)))?;
+    changes.push(Change::Part(pid, Part::Regs(answer_in(&proc.regs, 0))))?;
     Ok(Plan { changes, ret: 0 })
 }
 
@@ -137,7 +138,7 @@ fn page_changes(alloc: Global, pid: Pid, new: NewPages) -> Result<Vec<Change>, N
     let changes = new
         .pages
         .into_iter()
-        .map(|page| Change::Page(pid, page.number, page.page))
+        .map(|page| Change::Part(pid, Part::Page(page.number, page.page)))
         .collect(alloc)?;
     Ok(changes)
 }
@@ -148,7 +149,7 @@ fn plan_pages(alloc: Global, pid: Pid, proc: &Proc, new: NewPages) -> Result<Pla
     ensures { IfOk result (λ plan. Gives pid.0 proc.now plan (record { memory = with_pages proc.now.space new.pages.items; ret = pos 0 })) }
 {
     let mut changes = page_changes(alloc, pid, new)?;
-    changes.push(Change::Regs(pid, answer_in(&proc.regs, 0)))?;
+    changes.push(Change::Part(pid, Part::Regs(answer_in(&proc.regs, 0))))?;
     Ok(Plan { changes, ret: 0 })
 }
 

@@ -4,7 +4,8 @@ ghost use Rattle.std.specs.Prelude.{◌≡◌, ◌<◌, ◌≤◌, ◌++◌, fal
 ghost use Rattle.tx_base.specs.Slots.{slot_at, with_slot};
 ghost use Rattle.tx_base.specs.declared.names.Regs.{Regs as TheRegs};
 ghost use Rattle.tx_change.specs.Exchange.{applied, exchanged, undone, reverted, parts_after, change_after, AreNamed};
-ghost use Rattle.tx_change.specs.declared.change.Change.TheVariants.{Regs as SetRegs};
+ghost use Rattle.tx_change.specs.declared.change.Change.TheVariants.{Part as SetPart};
+ghost use Rattle.tx_proc.specs.declared.part.Part.TheVariants.{Regs as SetRegs};
 ghost use Rattle.tx_core.specs.Plans.{regs_in};
 ghost use Rattle.tx_core.specs.Undo.{log_in, undone_by, HasSlot, GoesWith};
 ghost use Rattle.tx_core.specs.declared.inverse.Inverse.TheVariants.{Outside, Inside, Begun, Committed, Aborted};
@@ -16,6 +17,7 @@ use crate::inverse::Inverse;
 use crate::log::Log;
 use tx_base::{Mark, NoMemory, Pid, Slots};
 use tx_change::{Change, Parts, apply};
+use tx_proc::Part;
 
 /// The parts of the kernel; for each process number its mark, if it is a member of a live
 /// transaction; and for each starter of one the old parts of what it changed.
@@ -135,17 +137,17 @@ impl Kernel {
         requires log { IsSome (slot_at self.old.logs starter.0) }
         requires named { AreNamed self.old.parts (log_in (slot_at self.old.logs starter.0)) }
         ensures parts { let before = undone self.old.parts (log_in (slot_at self.old.logs starter.0)) in
-            self.new.parts ≡ parts_after before (SetRegs starter (answered ret (regs_in (slot_at before.procs starter.0)))) }
+            self.new.parts ≡ parts_after before (SetPart starter (SetRegs (answered ret (regs_in (slot_at before.procs starter.0))))) }
         ensures marks { self.new.marks ≡ with_slot self.old.marks starter.0 None }
         ensures logs { self.new.logs ≡ with_slot self.old.logs starter.0 None }
         ensures inverse { let log = log_in (slot_at self.old.logs starter.0) in let before = undone self.old.parts log in
-            result ≡ Aborted starter mark (reverted self.old.parts log) (change_after before (SetRegs starter (answered ret (regs_in (slot_at before.procs starter.0))))) }
+            result ≡ Aborted starter mark (reverted self.old.parts log) (change_after before (SetPart starter (SetRegs (answered ret (regs_in (slot_at before.procs starter.0)))))) }
     {
         let mut slot = None;
         self.logs.swap(starter, &mut slot);
         let mut log = slot.unwrap();
         log.lead_back(&mut self.parts);
-        let mut noted = Change::Regs(starter, answer_in(&self.regs(starter), ret));
+        let mut noted = Change::Part(starter, Part::Regs(answer_in(&self.regs(starter), ret)));
         noted.swap(&mut self.parts);
         self.marks.swap(starter, &mut None);
         Inverse::Aborted {

@@ -1,6 +1,7 @@
-//! What undoes a read and a write, as the contracts of functions that do nothing.
+//! What undoes a read, a write and an exchange, as the contracts of functions that do nothing.
 ghost use Rattle.std.specs.Prelude.{◌≡◌, ◌-◌, ◌+◌, ◌≤◌, ℕ, List, ◌++◌, length, min, take, drop};
 ghost use Rattle.tx_model.specs.Transfers.{pipe_room};
+ghost use Rattle.tx_pipe.specs.Exchanges.{front_exchanged, back_exchanged, front_given, back_given, count_given};
 
 /// Putting back the bytes that a read took gives the pipe from before it: the bytes at the front
 /// and what is left are the whole, also where the room of the read was longer than what it took.
@@ -20,4 +21,24 @@ pub fn take_back_undoes_write()
     ensures whole { (held bytes : List ℕ) →
         take (length (held ++ bytes) - length bytes) (held ++ bytes) ≡ held }
     ensures enough { (held bytes : List ℕ) → length bytes ≤ length (held ++ bytes) }
+{}
+
+/// Two exchanges of bytes at the front are nothing: the pipe, the other bytes and the number come
+/// back.
+pub fn front_twice()
+    ensures { (count : ℕ) (bytes held : List ℕ) →
+        let now = front_exchanged count bytes held in
+        let given = front_given count bytes held in
+        let next = count_given count bytes held in
+        (front_exchanged next given now ≡ held) × (front_given next given now ≡ bytes) × (count_given next given now ≡ count) }
+{}
+
+/// Two exchanges of bytes at the back are nothing: the pipe, the other bytes and the number come
+/// back.
+pub fn back_twice()
+    ensures { (count : ℕ) (bytes held : List ℕ) →
+        let now = back_exchanged count bytes held in
+        let given = back_given count bytes held in
+        let next = count_given count bytes held in
+        (back_exchanged next given now ≡ held) × (back_given next given now ≡ bytes) × (count_given next given now ≡ count) }
 {}

@@ -2,6 +2,7 @@
 ghost use Rattle.std.specs.Bool.{OnTrue, OnFalse};
 ghost use Rattle.std.specs.Prelude.{◌≡◌, ◌+◌, ◌-◌, ◌≤◌, ◌↔◌, [], ◌++◌, IsTrue, length, min, take, drop};
 ghost use Rattle.tx_model.specs.Transfers.{pipe_room};
+ghost use Rattle.tx_pipe.specs.Exchanges.{can_exchange, front_exchanged, back_exchanged, front_given, back_given, count_given};
 
 use arrayvec::ArrayVec;
 use std::marker::Model;
@@ -114,6 +115,62 @@ impl Pipe {
         ensures given { other.new ≡ self.old }
     {
         mem::swap(&mut self.bytes, &mut other.bytes);
+    }
+
+    /// Exchanges the first so many bytes for those of the other pipe. The number is then that of
+    /// the bytes that came in, so a second exchange takes the first one back. Nothing happens where
+    /// fewer bytes are held, or those that would come in don't fit. Own rule.
+    pub fn swap_front(&mut self, count: &mut usize, other: &mut Pipe)
+        ensures exchanged { self.new ≡ front_exchanged count.old other.old self.old }
+        ensures given { other.new ≡ front_given count.old other.old self.old }
+        ensures count { count.new ≡ count_given count.old other.old self.old }
+    {
+        if !self.can_exchange(*count, other) {
+            return;
+        }
+        let coming = other.len();
+        let mut front = Pipe::of(&self.bytes[..*count]);
+        drop_front(&mut self.bytes, *count);
+        put_front(&mut self.bytes, other.bytes());
+        other.swap(&mut front);
+        *count = coming;
+    }
+
+    /// Exchanges the last so many bytes for those of the other pipe. The number is then that of
+    /// the bytes that came in, so a second exchange takes the first one back. Nothing happens where
+    /// fewer bytes are held, or those that would come in don't fit. Own rule.
+    pub fn swap_back(&mut self, count: &mut usize, other: &mut Pipe)
+        ensures exchanged { self.new ≡ back_exchanged count.old other.old self.old }
+        ensures given { other.new ≡ back_given count.old other.old self.old }
+        ensures count { count.new ≡ count_given count.old other.old self.old }
+    {
+        if !self.can_exchange(*count, other) {
+            return;
+        }
+        let coming = other.len();
+        let front = self.len() - *count;
+        let mut back = Pipe::of(&self.bytes[front..]);
+        self.bytes.truncate(front);
+        let _fits = self.bytes.try_extend_from_slice(other.bytes());
+        other.swap(&mut back);
+        *count = coming;
+    }
+
+    /// Whether so many bytes are held, and the others fit in their place.
+    fn can_exchange(&self, count: usize, other: &Pipe) -> bool
+        ensures { result ≡ can_exchange count other.now self.now }
+    {
+        count <= self.len() && other.len() <= self.room() + count
+    }
+
+    /// A pipe that holds these bytes, which must fit.
+    fn of(bytes: &[u8]) -> Pipe
+        requires { length bytes.now ≤ pipe_room }
+        ensures { result ≡ bytes.now }
+    {
+        let mut pipe = Pipe::new();
+        let _fits = pipe.write(bytes);
+        pipe
     }
 }
 

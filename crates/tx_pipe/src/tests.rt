@@ -1,5 +1,5 @@
 //! Each public call on its happy path, and the edges of the room.
-use crate::{Pipe, put_back_undoes_read, take_back_undoes_write};
+use crate::{Pipe, back_twice, front_twice, put_back_undoes_read, take_back_undoes_write};
 use std::test::Fail;
 
 /// A pipe that holds these bytes.
@@ -129,5 +129,68 @@ fn exchanges_two_pipes(rt: HostRuntime) -> Result<(), Fail> {
     one.swap(&mut other);
     assert!(rt; one.is_empty());
     assert_eq!(rt; other.bytes(), [1, 2].as_slice());
+    Ok(())
+}
+
+#[test]
+fn exchanges_bytes_at_the_front(rt: HostRuntime) -> Result<(), Fail> {
+    front_twice();
+    let mut pipe = holding(&[1, 2, 3, 4])?;
+    let mut other = holding(&[7, 8, 9])?;
+    let mut count = 1;
+    pipe.swap_front(&mut count, &mut other);
+    assert_eq!(rt; pipe.bytes(), [7, 8, 9, 2, 3, 4].as_slice());
+    assert_eq!(rt; other.bytes(), [1].as_slice());
+    assert_eq!(rt; count, 3);
+    pipe.swap_front(&mut count, &mut other);
+    assert_eq!(rt; pipe.bytes(), [1, 2, 3, 4].as_slice());
+    assert_eq!(rt; other.bytes(), [7, 8, 9].as_slice());
+    assert_eq!(rt; count, 1);
+    Ok(())
+}
+
+#[test]
+fn exchanges_bytes_at_the_back(rt: HostRuntime) -> Result<(), Fail> {
+    back_twice();
+    let mut pipe = holding(&[1, 2, 3, 4])?;
+    let mut other = holding(&[7, 8, 9])?;
+    let mut count = 1;
+    pipe.swap_back(&mut count, &mut other);
+    assert_eq!(rt; pipe.bytes(), [1, 2, 3, 7, 8, 9].as_slice());
+    assert_eq!(rt; other.bytes(), [4].as_slice());
+    assert_eq!(rt; count, 3);
+    pipe.swap_back(&mut count, &mut other);
+    assert_eq!(rt; pipe.bytes(), [1, 2, 3, 4].as_slice());
+    assert_eq!(rt; other.bytes(), [7, 8, 9].as_slice());
+    assert_eq!(rt; count, 1);
+    Ok(())
+}
+
+#[test]
+fn exchanges_nothing_without_room(rt: HostRuntime) -> Result<(), Fail> {
+    for (held, count, coming, happens) in [
+        (2, 3, 0, false),
+        (512, 0, 1, false),
+        (512, 1, 1, true),
+        (510, 0, 2, true),
+        (510, 0, 3, false),
+        (510, 2, 512, false),
+    ] {
+        let held = vec![in rt.alloc(); 7; held]?;
+        let coming = vec![in rt.alloc(); 8; coming]?;
+        let (mut front, mut back) = (holding(&held)?, holding(&held)?);
+        let (mut before, mut behind) = (holding(&coming)?, holding(&coming)?);
+        let (mut first, mut last) = (count, count);
+        front.swap_front(&mut first, &mut before);
+        back.swap_back(&mut last, &mut behind);
+        let left = if happens { coming.len() } else { count };
+        assert_eq!(rt; (first, last), (left, left), "at {count}");
+        assert_eq!(rt;
+            before.len(),
+            if happens { count } else { coming.len() },
+            "at {count}"
+        );
+        assert_eq!(rt; front.len(), back.len(), "at {count}");
+    }
     Ok(())
 }

@@ -1,9 +1,10 @@
 //! Runs a schedule, and prints what it answers and the state that it leaves.
 ghost use Rattle.std.specs.Prelude.{◌≡◌, ◌++◌, [], IfErr, IfOk, OnOk, string_bytes};
-ghost use Rattle.tx_core.specs.Built.{AreBuilt};
+ghost use Rattle.tx_core.specs.Built.{AreBuilt, IsBuilt};
 ghost use Rattle.tx_core.specs.Content.{view_of};
+ghost use Rattle.tx_model.specs.Answer.{answer};
 ghost use Rattle.txos.specs.Lines.{FitsHeader};
-ghost use Rattle.txos.specs.Report.{replies_text, report_text, start_of, state_text, view_after};
+ghost use Rattle.txos.specs.Report.{replies_text, report_text, start_of, state_text, view_after, view_left};
 ghost use Rattle.txos.specs.declared.faults.Fault.TheVariants.{NoMemory};
 
 use crate::faults::Fault;
@@ -14,7 +15,7 @@ use crate::schedule::Schedule;
 use crate::state::put_procs;
 use crate::txns::put_txns;
 use std::alloc::Global;
-use tx_base::Step;
+use tx_base::{Reply, Step};
 use tx_core::Machine;
 
 /// The report of a schedule: a line for each step's reply, and the text of the state after the
@@ -58,13 +59,24 @@ fn put_replies(
     ensures fault { IfErr result (λ fault. fault ≡ NoMemory) }
 {
     for i in 0..steps.len() {
-        let (reply, _inverse) = machine.step(alloc, steps[i].copy());
-        if reply.wants_memory() {
-            return Err(Fault::NoMemory);
-        }
+        let reply = make_step(alloc, machine, steps[i].copy())?;
         put_reply_line(text, i as u64 + 1, &reply)?;
     }
     Ok(())
+}
+
+/// Makes a step, which is never taken back, and answers its reply.
+fn make_step(alloc: Global, machine: &mut Machine, step: Step) -> Result<Reply, Fault>
+    requires { IsBuilt step }
+    ensures reply { IfOk result (λ reply. reply ≡ answer (view_of machine.old) step) }
+    ensures view { OnOk result (view_of machine.new ≡ view_left (view_of machine.old) step) }
+    ensures fault { IfErr result (λ fault. fault ≡ NoMemory) }
+{
+    let (reply, _inverse) = machine.step(alloc, step);
+    if reply.wants_memory() {
+        return Err(Fault::NoMemory);
+    }
+    Ok(reply)
 }
 
 /// Appends the text of the state.

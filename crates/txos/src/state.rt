@@ -1,14 +1,16 @@
 //! Prints the state of a machine.
 ghost use Rattle.std.specs.Prelude.{◌≡◌, ◌++◌, OnOk, string_bytes};
 ghost use Rattle.std.specs.Option.{option_copied};
-ghost use Rattle.tx_core.specs.Content.{process_in, process_of, state_of};
+ghost use Rattle.tx_core.specs.Content.{state_of};
+ghost use Rattle.tx_proc.specs.Processes.{process_in, process_of};
 ghost use Rattle.txos.specs.State.{byte_text, flag_text, is_blank_of, page_line, page_text, pages_text, process_lines, process_text, procs_text, regs_text, rest_text, slot_text, slots_text, status_text};
 
 use crate::print::{put, put_byte, put_count, put_number};
 use std::alloc::AllocError;
 use tx_base::{PAGE_BYTES, PAGES, Pid, Regs};
-use tx_change::{Parts, Proc};
+use tx_change::Parts;
 use tx_pages::{Page, Space};
+use tx_proc::Proc;
 
 /// Appends the lines of the processes of the numbers up to a width, by rising number.
 pub fn put_procs(text: &mut String, parts: &Parts, width: u16) -> Result<(), AllocError>

@@ -1,5 +1,5 @@
-use Rattle.tx_change.proofs.Twice.{nothing_else_lem}
+use Rattle.tx_change.proofs.Twice.{change_else}
 use Rattle.tx_change.proofs.laws.nothing_else.Goals as goal
 
 pub returns : goal.returns
-returns c = nothing_else_lem
+returns c = change_else

@@ -1,5 +1,5 @@
-use Rattle.tx_change.proofs.Twice.{twice}
+use Rattle.tx_change.proofs.Twice.{back, twice}
 use Rattle.tx_change.proofs.laws.twice_is_nothing.Goals as goal
 
 pub returns : goal.returns
-returns c = twice
+returns c = λ parts change named places. (back parts change named, twice parts change named places)

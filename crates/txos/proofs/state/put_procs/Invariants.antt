@@ -1,7 +1,7 @@
 use Rattle.std.proofs.Common.{◌≡◌, ◌+◌, ◌++◌, string_bytes}
 use Rattle.tx_base.specs.Slots.{slot_at}
 use Rattle.txos.specs.Each.{upto}
-use Rattle.tx_core.specs.Content.{process_in}
+use Rattle.tx_proc.specs.Processes.{process_in}
 use Rattle.txos.specs.State.{process_lines}
 use Rattle.txos.proofs.state.put_procs.Given as goal
 

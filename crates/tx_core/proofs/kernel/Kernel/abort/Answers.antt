@@ -7,4 +7,4 @@ pub swap-requires-2 : goal.swap-requires-2
 swap-requires-2 c =
     let width : length c.lead_back.new.parts.procs ≡ length c.args.self.now.parts.procs
     = ap (λ (p : Parts). length p.procs) c.lead_back.ensures.parts ∙ length-undone c.args.self.now.parts c.unwrap-log.result in
-    record { low = c.requires.slot.low; high = subst (λ (w : ℕ). c.args.starter.0 ≤ w) (sym width) c.requires.slot.high; page = tt }
+    (record { low = c.requires.slot.low; high = subst (λ (w : ℕ). c.args.starter.0 ≤ w) (sym width) c.requires.slot.high }, tt)

@@ -4,7 +4,7 @@ use Rattle.tx_base.specs.declared.steps.Call.{Call}
 use Rattle.tx_base.specs.declared.steps.Call.TheVariants.{SysXend}
 use Rattle.tx_base.specs.declared.steps.Reply.TheVariants.{Committed}
 use Rattle.tx_base.specs.declared.steps.Step.TheVariants.{Call as Calls}
-use Rattle.tx_change.specs.declared.proc.Proc.{Proc}
+use Rattle.tx_proc.specs.declared.proc.Proc.{Proc}
 use Rattle.tx_core.specs.Content.{IsContent}
 use Rattle.tx_core.specs.Plans.{IsRunning, only_answers}
 use Rattle.tx_core.specs.Steps.{IsStep}

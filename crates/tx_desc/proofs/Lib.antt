@@ -1,0 +1,11 @@
+pub mod Counting
+pub mod Totals
+pub mod Free
+pub mod Ends
+pub mod Gone
+pub mod Named
+pub mod Running
+pub mod Whole
+pub mod Effects
+pub mod Moves
+pub mod Pipes

@@ -1,0 +1,41 @@
+-- What a call makes of the descriptions, where its process runs in a well-formed state.
+use Rattle.std.proofs.Common.{◌≡◌, ℕ, zero, suc, ◌≤◌, true, List, ◌∷◌, length, ℤ, Option, Some, None, is_some, arith}
+use Rattle.std.proofs.lemmas.Bool.{ltb-true}
+use Rattle.tx_model.specs.State.{Process, State, SetProc, write_one, is_between}
+use Rattle.tx_model.specs.Effects.{noted, before_sends}
+use Rattle.tx_model.specs.Descriptors.{gives_up}
+use Rattle.tx_desc.specs.declared.opened.Opened.{Opened}
+use Rattle.tx_desc.specs.Places.{Descriptors}
+use Rattle.tx_desc.specs.Descriptions.{HasDescs}
+use Rattle.tx_desc.specs.Counts.{Agrees, HasNamed, others_of}
+use Rattle.tx_desc.specs.Outcomes.{RunsWith, with_table}
+use Rattle.tx_desc.proofs.Gone.{Sheds, shed_descs, gives_descs}
+use Rattle.tx_desc.proofs.Named.{named_running, named_ended}
+
+number-le : (width n : ℕ) → is_between width n ≡ true → n ≤ width
+number-le width zero h = omega arith
+number-le width (suc n) h = let below = ltb-true n width h in omega arith
+
+pub running_named : (p : ℕ) (r : ℤ) (me : Process) (S : State) (table new : Descriptors) → RunsWith p me S table → length new ≡ 16 →
+    HasNamed (write_one (SetProc p (Some (noted r (with_table new me)))) S) (new ∷ others_of p S)
+running_named p r me S table new w full =
+    named_running p (noted r (with_table new me)) S (λ n x e. (w.form.placed n x e).sizes.descriptors) full
+    (number-le S.width p (w.form.placed p me w.there).number) w.runs
+
+pub running_gives : (ds : List ℕ) (p : ℕ) (r : ℤ) (me : Process) (S : State) (table new : Descriptors) (before after : List (Option Opened)) →
+    RunsWith p me S table → length new ≡ 16 → HasDescs S before → Agrees (new ∷ others_of p S) after → Sheds ds before after →
+    HasDescs (before_sends (gives_up ds p r (with_table new me) S) S) after
+running_gives ds p r me S table new before after w full has a sheds =
+    gives_descs ds p r (with_table new me) S after
+    (shed_descs ds (new ∷ others_of p S) (write_one (SetProc p (Some (noted r (with_table new me)))) S) before after a
+    (running_named p r me S table new w full) has sheds)
+
+pub any_running : (p : ℕ) (me new : Process) (S : State) (table : Descriptors) → RunsWith p me S table → length new.descriptors ≡ 16 → new.status ≡ None →
+    HasNamed (write_one (SetProc p (Some new)) S) (new.descriptors ∷ others_of p S)
+any_running p me new S table w full runs =
+    named_running p new S (λ n x e. (w.form.placed n x e).sizes.descriptors) full (number-le S.width p (w.form.placed p me w.there).number) runs
+
+pub any_ended : (p : ℕ) (me new : Process) (S : State) (table : Descriptors) → RunsWith p me S table → length new.descriptors ≡ 16 → is_some new.status ≡ true →
+    HasNamed (write_one (SetProc p (Some new)) S) (others_of p S)
+any_ended p me new S table w full ended =
+    named_ended p new S (λ n x e. (w.form.placed n x e).sizes.descriptors) full (number-le S.width p (w.form.placed p me w.there).number) ended

@@ -1,0 +1,4 @@
+pub mod Places
+pub mod Descriptions
+pub mod Counts
+pub mod Outcomes

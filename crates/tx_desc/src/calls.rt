@@ -1,0 +1,178 @@
+//! The calls that change what descriptors name, and the counts of names with them.
+ghost use Rattle.std.specs.Prelude.{◌≡◌, ◌≢◌, ◌<◌, ℕ, List, [], ◌∷◌, None, Some, IfOk, OnErr, slice_index_or};
+ghost use Rattle.tx_model.specs.Descriptors.{named, descriptor, pipe_effect, dup_effect, dup2_effect, close_effect, nonblock_effect};
+ghost use Rattle.tx_model.specs.Effects.{before_sends};
+ghost use Rattle.tx_model.specs.State.{Process, State};
+ghost use Rattle.tx_desc.specs.Counts.{Agrees, IsBacked, others_of};
+ghost use Rattle.tx_desc.specs.Descriptions.{HasDescs, IsGone};
+ghost use Rattle.tx_desc.specs.Outcomes.{RunsWith, pipe_outcome, dup_outcome, dup2_outcome, close_outcome, nonblock_outcome};
+ghost use Rattle.tx_desc.specs.Places.{Descriptors};
+
+use crate::descs::Descs;
+use crate::given::{Given, Renamed};
+use crate::numbers::descriptor_at;
+use crate::opened::Side;
+use crate::table::FdTable;
+use tx_base::{DescNo, Errno, PipeNo};
+
+impl FdTable {
+    /// The two lowest free descriptors name the two sides of a new pipe, the reading side first
+    /// (POSIX.1-2017, XSH, pipe()). The numbers of the pipe and of its two descriptions are the
+    /// caller's choice.
+    ///
+    /// TooManyDescriptors where fewer than two descriptors are free. All is then as it was.
+    pub fn pipe_pair(
+        &mut self,
+        descs: &mut Descs,
+        pipe: PipeNo,
+        read: DescNo,
+        write: DescNo,
+    ) -> Result<(usize, usize), Errno>
+        requires apart { read.0 ≢ write.0 }
+        requires read_free { (read.0 < 64) × (slice_index_or descs.old read.0 None ≡ None) }
+        requires write_free { (write.0 < 64) × (slice_index_or descs.old write.0 None ≡ None) }
+
+        ensures answer { (p : ℕ) (me : Process) (S : State) →
+            me.descriptors ≡ self.old → HasDescs S descs.old → S.pipes pipe.0 ≡ None →
+            pipe_effect p pipe.0 read.0 write.0 me S ≡ pipe_outcome p pipe.0 read.0 write.0 me result self.new descs.new }
+        ensures descriptions { (p : ℕ) (me : Process) (S : State) →
+            me.descriptors ≡ self.old → HasDescs S descs.old → S.pipes pipe.0 ≡ None →
+            HasDescs (before_sends (pipe_effect p pipe.0 read.0 write.0 me S) S) descs.new }
+        ensures counts { (others : List Descriptors) →
+            Agrees (self.old ∷ others) descs.old → Agrees (self.new ∷ others) descs.new }
+        ensures err_table { OnErr result (self.new ≡ self.old) }
+        ensures err_descs { OnErr result (descs.new ≡ descs.old) }
+    {
+        self.sized();
+        descs.sized();
+        let Some((first, second)) = self.two_lowest_free() else {
+            return Err(Errno::TooManyDescriptors);
+        };
+        descs.open(read, pipe, Side::Read);
+        descs.open(write, pipe, Side::Write);
+        self.swap(first, &mut Some(read));
+        self.swap(second, &mut Some(write));
+        Ok((first, second))
+    }
+
+    /// The lowest free descriptor names what this one names, and is answered (POSIX.1-2017, XSH,
+    /// dup()).
+    ///
+    /// BadDescriptor where the number is not one of an open descriptor; TooManyDescriptors where all
+    /// 16 are open. All is then as it was.
+    pub fn dup(&mut self, descs: &mut Descs, fd: i64) -> Result<usize, Errno>
+        requires { IsBacked 16 self.old descs.old }
+
+        ensures answer { (p : ℕ) (me : Process) → me.descriptors ≡ self.old →
+            dup_effect p me (named me (descriptor fd)) ≡ dup_outcome p me result self.new }
+        ensures descriptions { (p : ℕ) (me : Process) (S : State) → me.descriptors ≡ self.old → HasDescs S descs.old →
+            HasDescs (before_sends (dup_effect p me (named me (descriptor fd))) S) descs.new }
+        ensures counts { (others : List Descriptors) →
+            Agrees (self.old ∷ others) descs.old → Agrees (self.new ∷ others) descs.new }
+        ensures err_table { OnErr result (self.new ≡ self.old) }
+        ensures err_descs { OnErr result (descs.new ≡ descs.old) }
+    {
+        self.sized();
+        let Ok(d) = self.look(fd) else {
+            return Err(Errno::BadDescriptor);
+        };
+        let Some(free) = self.lowest_free() else {
+            return Err(Errno::TooManyDescriptors);
+        };
+        descs.raise(d);
+        self.swap(free, &mut Some(d));
+        Ok(free)
+    }
+
+    /// The other descriptor gives up what it names, if it names anything, and names what this one
+    /// names (POSIX.1-2017, XSH, dup2()). Where the two are the same nothing changes.
+    ///
+    /// BadDescriptor where the first number is not one of an open descriptor, or the second is not 0
+    /// to 15. All is then as it was.
+    pub fn dup2(&mut self, descs: &mut Descs, fd: i64, other: i64) -> Result<Renamed, Errno>
+        requires { IsBacked 16 self.old descs.old }
+
+        ensures answer { (p : ℕ) (me : Process) (S : State) → me.descriptors ≡ self.old →
+            dup2_effect p (descriptor fd) (descriptor other) me S ≡ dup2_outcome p me S result self.new }
+        ensures descriptions { (p : ℕ) (me : Process) (S : State) →
+            RunsWith p me S self.old → HasDescs S descs.old → Agrees (self.old ∷ others_of p S) descs.old →
+            HasDescs (before_sends (dup2_effect p (descriptor fd) (descriptor other) me S) S) descs.new }
+        ensures counts { (others : List Descriptors) →
+            Agrees (self.old ∷ others) descs.old → Agrees (self.new ∷ others) descs.new }
+        ensures gone { IfOk result (λ renamed. IsGone renamed.given descs.old descs.new) }
+        ensures err_table { OnErr result (self.new ≡ self.old) }
+        ensures err_descs { OnErr result (descs.new ≡ descs.old) }
+    {
+        self.sized();
+        let Some(place) = descriptor_at(fd) else {
+            return Err(Errno::BadDescriptor);
+        };
+        let Some(d) = self.get(place) else {
+            return Err(Errno::BadDescriptor);
+        };
+        let Some(target) = descriptor_at(other) else {
+            return Err(Errno::BadDescriptor);
+        };
+        if place == target {
+            return Ok(Renamed {
+                fd: target,
+                given: None,
+            });
+        }
+        descs.raise(d);
+        let mut name = Some(d);
+        self.swap(target, &mut name);
+        let given = descs.give_up(name);
+        Ok(Renamed { fd: target, given })
+    }
+
+    /// The descriptor is free, and the description that it named goes with its last name
+    /// (POSIX.1-2017, XSH, close()).
+    ///
+    /// BadDescriptor where the number is not one of an open descriptor. All is then as it was.
+    pub fn close(&mut self, descs: &mut Descs, fd: i64) -> Result<Given, Errno>
+        requires { IsBacked 16 self.old descs.old }
+
+        ensures answer { (p : ℕ) (me : Process) (S : State) → me.descriptors ≡ self.old →
+            close_effect p (descriptor fd) me S ≡ close_outcome p me S result self.new }
+        ensures descriptions { (p : ℕ) (me : Process) (S : State) →
+            RunsWith p me S self.old → HasDescs S descs.old → Agrees (self.old ∷ others_of p S) descs.old →
+            HasDescs (before_sends (close_effect p (descriptor fd) me S) S) descs.new }
+        ensures counts { (others : List Descriptors) →
+            Agrees (self.old ∷ others) descs.old → Agrees (self.new ∷ others) descs.new }
+        ensures gone { IfOk result (λ given. IsGone (Some given) descs.old descs.new) }
+        ensures err_table { OnErr result (self.new ≡ self.old) }
+        ensures err_descs { OnErr result (descs.new ≡ descs.old) }
+    {
+        self.sized();
+        let Some(place) = descriptor_at(fd) else {
+            return Err(Errno::BadDescriptor);
+        };
+        let Some(d) = self.get(place) else {
+            return Err(Errno::BadDescriptor);
+        };
+        self.swap(place, &mut None);
+        Ok(descs.lower(d))
+    }
+
+    /// Sets O_NONBLOCK of the description that the descriptor names, or clears it (POSIX.1-2017, XSH,
+    /// fcntl(), F_SETFL).
+    ///
+    /// BadDescriptor where the number is not one of an open descriptor. All is then as it was.
+    pub fn set_nonblock(&self, descs: &mut Descs, fd: i64, on: bool) -> Result<(), Errno>
+        requires { IsBacked 16 self.now descs.old }
+
+        ensures answer { (p : ℕ) (me : Process) (S : State) → me.descriptors ≡ self.now → HasDescs S descs.old →
+            nonblock_effect p on me (named me (descriptor fd)) S ≡ nonblock_outcome p me (named me (descriptor fd)) result descs.new }
+        ensures descriptions { (p : ℕ) (me : Process) (S : State) → me.descriptors ≡ self.now → HasDescs S descs.old →
+            HasDescs (before_sends (nonblock_effect p on me (named me (descriptor fd)) S) S) descs.new }
+        ensures counts { (tables : List Descriptors) → Agrees tables descs.old → Agrees tables descs.new }
+        ensures err_descs { OnErr result (descs.new ≡ descs.old) }
+    {
+        let Ok(d) = self.look(fd) else {
+            return Err(Errno::BadDescriptor);
+        };
+        descs.flag(d, on);
+        Ok(())
+    }
+}

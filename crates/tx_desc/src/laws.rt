@@ -1,0 +1,44 @@
+//! What holds of the counts, as the contracts of functions that do nothing.
+ghost use Rattle.std.specs.Prelude.{◌≡◌, ◌<◌, ◌≤◌, ◌↔◌, ℕ, List, [], ◌∷◌, Option, Some, None, All, Contains, IsSome, IsPermutation, length, replicate, slice_index_or};
+ghost use Rattle.tx_desc.specs.declared.opened.Opened.{Opened};
+ghost use Rattle.tx_model.specs.State.{Process, State, SetProc, write_one};
+ghost use Rattle.tx_desc.specs.Counts.{Agrees, HasNamed, IsBacked, names_in, others_of};
+ghost use Rattle.tx_desc.specs.Outcomes.{RunsWith};
+ghost use Rattle.tx_desc.specs.Places.{Descriptors};
+
+/// With no description, the counts are right where there is no process, and where each one has its
+/// descriptors free.
+pub fn none_named_at_first()
+    ensures none { Agrees [] (replicate 64 None) }
+    ensures empty { (count : ℕ) → Agrees (replicate count (replicate 16 None)) (replicate 64 None) }
+{}
+
+/// Where the counts are right, a description is there exactly while a descriptor names it.
+pub fn there_while_named()
+    ensures { (tables : List Descriptors) (descs : List (Option Opened)) (d : ℕ) → Agrees tables descs →
+        IsSome (slice_index_or descs d None) ↔ (0 < names_in d tables) }
+{}
+
+/// Where the counts are right, for 256 processes of 16 descriptors at most, what a call on the
+/// descriptors of one of them requires holds, with room for those of one process more.
+pub fn room_for_names()
+    ensures { (tables : List Descriptors) (descs : List (Option Opened)) (table : Descriptors) → Agrees tables descs →
+        length tables ≤ 256 → All (λ each. length each ≡ 16) tables → Contains tables table → IsBacked 16 table descs }
+{}
+
+/// Whether the counts are right does not depend on the order of the processes.
+pub fn any_order()
+    ensures { (tables others : List Descriptors) (descs : List (Option Opened)) →
+        IsPermutation tables others → Agrees tables descs → Agrees others descs }
+{}
+
+/// Which descriptions a state names is said by the descriptors of a process and of all others: of a
+/// process that runs, and comes to have these descriptors, and of one that ends.
+pub fn named_by_processes()
+    ensures running { (p : ℕ) (me new : Process) (S : State) (table : Descriptors) → RunsWith p me S table →
+        length new.descriptors ≡ 16 → new.status ≡ None →
+        HasNamed (write_one (SetProc p (Some new)) S) (new.descriptors ∷ others_of p S) }
+    ensures ended { (p : ℕ) (me new : Process) (S : State) (table : Descriptors) → RunsWith p me S table →
+        length new.descriptors ≡ 16 → IsSome new.status →
+        HasNamed (write_one (SetProc p (Some new)) S) (others_of p S) }
+{}

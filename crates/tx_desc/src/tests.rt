@@ -1,0 +1,311 @@
+//! Each public call on its happy path, and the edges: all descriptors open, a dup2 to itself, and a last
+//! close. What the calls require is had from right counts alone.
+ghost use Rattle.std.specs.Prelude.{[], ◌∷◌, IfOk};
+ghost use Rattle.tx_desc.specs.Counts.{Agrees};
+
+use crate::{
+    Desc, Descs, FdTable, Given, Opened, Renamed, Side, any_order, named_by_processes,
+    none_named_at_first, room_for_names, there_while_named,
+};
+use std::test::Fail;
+use tx_base::Errno::{BadDescriptor, TooManyDescriptors};
+use tx_base::{DescNo, Errno, PipeNo};
+
+const READ: Desc = Desc {
+    pipe: PipeNo(3),
+    side: Side::Read,
+    nonblock: false,
+};
+
+const WRITE: Desc = Desc {
+    pipe: PipeNo(3),
+    side: Side::Write,
+    nonblock: false,
+};
+
+/// What is there of the reading side, under so many names.
+fn reading(names: u16) -> Option<Opened> {
+    Some(Opened { desc: READ, names })
+}
+
+/// What is there of the writing side, under so many names.
+fn writing(names: u16) -> Option<Opened> {
+    Some(Opened { desc: WRITE, names })
+}
+
+/// A name of the reading side, given up.
+fn gave_reading(gone: Option<Desc>) -> Given {
+    Given {
+        number: DescNo(5),
+        gone,
+    }
+}
+
+/// A name of the writing side, given up.
+fn gave_writing(gone: Option<Desc>) -> Given {
+    Given {
+        number: DescNo(9),
+        gone,
+    }
+}
+
+/// A process that opened pipe 3, with descriptions 5 and 9 at descriptors 0 and 1.
+#[tactic(auto, using(crate::proofs::Totals::first_agrees))]
+fn opened() -> Result<(FdTable, Descs), Fail>
+    ensures { IfOk result (λ pair. Agrees (pair.0 ∷ []) pair.1) }
+{
+    let mut table = FdTable::new();
+    let mut descs = Descs::new();
+    match table.pipe_pair(&mut descs, PipeNo(3), DescNo(5), DescNo(9)) {
+        Ok((0, 1)) => Ok((table, descs)),
+        _ => Err("the pipe is at other descriptors")?,
+    }
+}
+
+/// The call, in a process that is alone.
+#[tactic(auto, using(crate::proofs::Totals::one_backed))]
+fn dup(table: &mut FdTable, descs: &mut Descs, fd: i64) -> Result<usize, Errno>
+    requires { Agrees (table.old ∷ []) descs.old }
+    ensures { Agrees (table.new ∷ []) descs.new }
+{
+    table.sized();
+    table.dup(descs, fd)
+}
+
+/// The call, in a process that is alone.
+#[tactic(auto, using(crate::proofs::Totals::one_backed))]
+fn dup2(table: &mut FdTable, descs: &mut Descs, fd: i64, other: i64) -> Result<Renamed, Errno>
+    requires { Agrees (table.old ∷ []) descs.old }
+    ensures { Agrees (table.new ∷ []) descs.new }
+{
+    table.sized();
+    table.dup2(descs, fd, other)
+}
+
+/// The call, in a process that is alone.
+#[tactic(auto, using(crate::proofs::Totals::one_backed))]
+fn close(table: &mut FdTable, descs: &mut Descs, fd: i64) -> Result<Given, Errno>
+    requires { Agrees (table.old ∷ []) descs.old }
+    ensures { Agrees (table.new ∷ []) descs.new }
+{
+    table.sized();
+    table.close(descs, fd)
+}
+
+/// The call, in a process that is alone.
+#[tactic(auto, using(crate::proofs::Totals::one_backed))]
+fn set_nonblock(table: &FdTable, descs: &mut Descs, fd: i64, on: bool) -> Result<(), Errno>
+    requires { Agrees (table.now ∷ []) descs.old }
+    ensures { Agrees (table.now ∷ []) descs.new }
+{
+    table.sized();
+    table.set_nonblock(descs, fd, on)
+}
+
+/// The descriptors of a child of a process that is alone.
+#[tactic(auto, using(crate::proofs::Totals::one_backed))]
+fn fork(table: &FdTable, descs: &mut Descs) -> FdTable
+    requires { Agrees (table.now ∷ []) descs.old }
+    ensures { Agrees (result ∷ table.now ∷ []) descs.new }
+{
+    table.sized();
+    let child = table.copy();
+    descs.raise_all(&child);
+    child
+}
+
+/// The end of a child, which leaves its parent alone.
+#[tactic(auto, using(crate::proofs::Totals::two_backed))]
+fn end_child(child: &FdTable, table: &FdTable, descs: &mut Descs)
+    requires { Agrees (child.now ∷ table.now ∷ []) descs.old }
+    ensures { Agrees (table.now ∷ []) descs.new }
+{
+    child.sized();
+    table.sized();
+    descs.drop_all(child);
+}
+
+#[test]
+fn begins_with_nothing(rt: HostRuntime) {
+    let table = FdTable::new();
+    let descs = Descs::new();
+    for fd in 0..17 {
+        assert_eq!(rt; table.get(fd), None, "at {fd}");
+    }
+    assert_eq!(rt; table.lowest_free(), Some(0));
+    assert_eq!(rt; table.two_lowest_free(), Some((0, 1)));
+    assert_eq!(rt; table.look(0), Err(BadDescriptor));
+    assert_eq!(rt; descs.get(DescNo(0)), None);
+    assert_eq!(rt; descs.get(DescNo(64)), None);
+}
+
+#[test]
+fn opens_a_pipe(rt: HostRuntime) -> Result<(), Fail> {
+    let (table, descs) = opened()?;
+    assert_eq!(rt; table.get(0), Some(DescNo(5)));
+    assert_eq!(rt; table.look(1), Ok(DescNo(9)));
+    for fd in [-1, 2, 15, 16, 1 << 40] {
+        assert_eq!(rt; table.look(fd), Err(BadDescriptor), "at {fd}");
+    }
+    assert_eq!(rt; descs.get(DescNo(5)), reading(1));
+    assert_eq!(rt; descs.get(DescNo(9)), writing(1));
+    assert!(rt; descs.has_end(PipeNo(3), Side::Read));
+    assert!(rt; descs.has_end(PipeNo(3), Side::Write));
+    assert!(rt; descs.names_pipe(PipeNo(3)));
+    assert!(rt; !descs.names_pipe(PipeNo(4)));
+    Ok(())
+}
+
+#[test]
+fn opens_while_one_is_free(rt: HostRuntime) -> Result<(), Fail> {
+    let (mut table, mut descs) = opened()?;
+    for fd in 2..15 {
+        assert_eq!(rt; dup(&mut table, &mut descs, 0), Ok(fd));
+    }
+    assert_eq!(rt; table.two_lowest_free(), None);
+    assert_eq!(rt; dup(&mut table, &mut descs, 0), Ok(15));
+    assert_eq!(rt; table.lowest_free(), None);
+    assert_eq!(rt; dup(&mut table, &mut descs, 0), Err(TooManyDescriptors));
+    assert_eq!(rt; dup(&mut table, &mut descs, 16), Err(BadDescriptor));
+    assert_eq!(rt; table.names_of(DescNo(5)), 15);
+    assert_eq!(rt; descs.get(DescNo(5)), reading(15));
+    Ok(())
+}
+
+#[test]
+fn opens_a_pipe_while_two_are_free(rt: HostRuntime) {
+    let mut table = FdTable::new();
+    let mut descs = Descs::new();
+    for fd in 0..15 {
+        table.swap(fd, &mut Some(DescNo(40)));
+    }
+    assert_eq!(rt;
+        table.pipe_pair(&mut descs, PipeNo(4), DescNo(6), DescNo(7)),
+        Err(TooManyDescriptors)
+    );
+    assert_eq!(rt; table.get(15), None);
+    assert_eq!(rt; descs.get(DescNo(6)), None);
+}
+
+#[test]
+fn takes_the_lowest_free(rt: HostRuntime) -> Result<(), Fail> {
+    let (mut table, mut descs) = opened()?;
+    assert_eq!(rt; dup(&mut table, &mut descs, 1), Ok(2));
+    assert_eq!(rt; close(&mut table, &mut descs, 1), Ok(gave_writing(None)));
+    assert_eq!(rt; table.two_lowest_free(), Some((1, 3)));
+    assert_eq!(rt; dup(&mut table, &mut descs, 2), Ok(1));
+    Ok(())
+}
+
+#[test]
+fn renames(rt: HostRuntime) -> Result<(), Fail> {
+    let (mut table, mut descs) = opened()?;
+    assert_eq!(rt;
+        dup2(&mut table, &mut descs, 0, 0),
+        Ok(Renamed { fd: 0, given: None })
+    );
+    assert_eq!(rt;
+        dup2(&mut table, &mut descs, 0, 7),
+        Ok(Renamed { fd: 7, given: None })
+    );
+    assert_eq!(rt; descs.get(DescNo(5)), reading(2));
+    let given = Some(gave_writing(Some(WRITE)));
+    assert_eq!(rt;
+        dup2(&mut table, &mut descs, 7, 1),
+        Ok(Renamed { fd: 1, given })
+    );
+    assert_eq!(rt; descs.get(DescNo(9)), None);
+    assert_eq!(rt; descs.get(DescNo(5)), reading(3));
+    assert_eq!(rt; table.look(1), Ok(DescNo(5)));
+    assert_eq!(rt; dup2(&mut table, &mut descs, 2, 2), Err(BadDescriptor));
+    assert_eq!(rt; dup2(&mut table, &mut descs, 0, 16), Err(BadDescriptor));
+    assert_eq!(rt; descs.get(DescNo(5)), reading(3));
+    Ok(())
+}
+
+#[test]
+fn goes_with_its_last_name(rt: HostRuntime) -> Result<(), Fail> {
+    let (mut table, mut descs) = opened()?;
+    assert_eq!(rt; dup(&mut table, &mut descs, 0), Ok(2));
+    assert_eq!(rt; close(&mut table, &mut descs, 0), Ok(gave_reading(None)));
+    assert!(rt; descs.has_end(PipeNo(3), Side::Read));
+    assert_eq!(rt;
+        close(&mut table, &mut descs, 2),
+        Ok(gave_reading(Some(READ)))
+    );
+    assert!(rt; !descs.has_end(PipeNo(3), Side::Read));
+    assert!(rt; descs.names_pipe(PipeNo(3)));
+    assert_eq!(rt;
+        close(&mut table, &mut descs, 1),
+        Ok(gave_writing(Some(WRITE)))
+    );
+    assert!(rt; !descs.names_pipe(PipeNo(3)));
+    assert_eq!(rt; close(&mut table, &mut descs, 1), Err(BadDescriptor));
+    Ok(())
+}
+
+#[test]
+fn blocks_or_not(rt: HostRuntime) -> Result<(), Fail> {
+    let (table, mut descs) = opened()?;
+    assert_eq!(rt; set_nonblock(&table, &mut descs, 1, true), Ok(()));
+    let open = WRITE.with_nonblock(true);
+    assert!(rt; open.nonblock);
+    assert_eq!(rt;
+        descs.get(DescNo(9)),
+        Some(Opened {
+            desc: open,
+            names: 1
+        })
+    );
+    assert_eq!(rt; set_nonblock(&table, &mut descs, 1, false), Ok(()));
+    assert_eq!(rt; descs.get(DescNo(9)), writing(1));
+    assert_eq!(rt;
+        set_nonblock(&table, &mut descs, 2, true),
+        Err(BadDescriptor)
+    );
+    Ok(())
+}
+
+#[test]
+fn counts_a_whole_table(rt: HostRuntime) -> Result<(), Fail> {
+    let (mut table, mut descs) = opened()?;
+    assert_eq!(rt; dup(&mut table, &mut descs, 0), Ok(2));
+    let child = fork(&table, &mut descs);
+    assert_eq!(rt; descs.get(DescNo(5)), reading(4));
+    assert_eq!(rt; descs.get(DescNo(9)), writing(2));
+    end_child(&child, &table, &mut descs);
+    assert_eq!(rt; descs.get(DescNo(5)), reading(2));
+    assert_eq!(rt;
+        close(&mut table, &mut descs, 1),
+        Ok(gave_writing(Some(WRITE)))
+    );
+    Ok(())
+}
+
+#[test]
+fn changes_by_exchanges(rt: HostRuntime) -> Result<(), Fail> {
+    let (mut table, mut descs) = opened()?;
+    let three = Opened {
+        desc: READ,
+        names: 3,
+    };
+    assert_eq!(rt; three.fewer(3), None);
+    assert_eq!(rt; three.fewer(2), reading(1));
+    assert_eq!(rt; Some(three.more(2)), reading(5));
+    let mut name = None;
+    table.swap(0, &mut name);
+    assert_eq!(rt; (table.get(0), name), (None, Some(DescNo(5))));
+    let mut left = Some(three);
+    descs.swap(DescNo(5), &mut left);
+    assert_eq!(rt; (descs.get(DescNo(5)), left), (reading(3), reading(1)));
+    Ok(())
+}
+
+#[test]
+fn laws_do_nothing(_rt: HostRuntime) {
+    none_named_at_first();
+    there_while_named();
+    room_for_names();
+    any_order();
+    named_by_processes();
+}

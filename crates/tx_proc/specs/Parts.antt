@@ -1,0 +1,77 @@
+-- What an exchange of one part of a process leaves.
+use Rattle.std.specs.Prelude.{ℕ, ◌<◌, ◌-◌, List, [], ◌∷◌, ◌++◌, Option, Some, None, if◌then◌else◌, nat_lt, length, take, slice_index_or, slice_set}
+use Rattle.tx_base.specs.Signals.{bits_of, set_of_bits}
+use Rattle.tx_base.specs.declared.names.DescNo.{DescNo}
+use Rattle.tx_desc.specs.Places.{number_in}
+use Rattle.tx_model.specs.Deliveries.{frame_limit}
+use Rattle.tx_model.specs.Memory.{page_at}
+use Rattle.tx_model.specs.Signals.{newest}
+use Rattle.tx_model.specs.Posts.{queue_limit}
+use Rattle.tx_model.specs.State.{Queued as Entry, Frame as Saved}
+use Rattle.tx_proc.specs.declared.part.Part.{Part}
+use Rattle.tx_proc.specs.declared.part.Part.TheVariants.{Regs, Parent, Status, Cred, Page, Descriptor, Mask, Action, Pending, Queued, Frame}
+use Rattle.tx_proc.specs.declared.proc.Proc.{Proc}
+use Rattle.tx_signal.specs.Entries.{entry_swapped, entry_given}
+
+-- the queue after an exchange at a place, and the entry: with none, the entry there is taken out; one is put in before it
+-- where there is room. A queue that is too long stays
+abbrev pub queue_swapped : ℕ → Option Entry → List Entry → List Entry
+queue_swapped place entry queue = if nat_lt queue_limit (length queue) then queue else entry_swapped place entry queue
+
+abbrev pub queue_given : ℕ → Option Entry → List Entry → Option Entry
+queue_given place entry queue = if nat_lt queue_limit (length queue) then entry else entry_given place entry queue
+
+-- the frames after an exchange: with none, the newest is taken out; one is put in where there is room. Too many
+-- frames stay
+abbrev pub frames_swapped : Option Saved → List Saved → List Saved
+frames_swapped None frames = if nat_lt frame_limit (length frames) then frames else take (length frames - 1) frames
+frames_swapped (Some frame) frames = if nat_lt (length frames) frame_limit then frames ++ frame ∷ [] else frames
+
+-- the frame that was taken out, or none where one was put in
+abbrev pub frame_given : Option Saved → List Saved → Option Saved
+frame_given None frames = if nat_lt frame_limit (length frames) then None else newest frames
+frame_given (Some frame) frames = if nat_lt (length frames) frame_limit then None else Some frame
+
+-- the description of a number, as the code names it
+abbrev pub desc_in : Option ℕ → Option DescNo
+desc_in None = None
+desc_in (Some d) = Some (record { 0 = d })
+
+-- a process with one of its parts replaced
+abbrev pub edited_once : Proc → Part → Proc
+edited_once proc (Regs regs) = record proc { regs = regs }
+edited_once proc (Parent parent) = record proc { parent = parent }
+edited_once proc (Status status) = record proc { status = status }
+edited_once proc (Cred cred) = record proc { cred = cred }
+edited_once proc (Page number page) = record proc { space = slice_set proc.space number page }
+edited_once proc (Descriptor number name) = record proc { descriptors = slice_set proc.descriptors number (number_in name) }
+edited_once proc (Mask mask) = record proc { mask = mask }
+edited_once proc (Action signo action) = record proc { actions = slice_set proc.actions signo.0 action }
+edited_once proc (Pending set) = record proc { pending = record proc.pending { standard = bits_of set } }
+edited_once proc (Queued place entry) = record proc { pending = record proc.pending { queued = queue_swapped place entry proc.pending.queued } }
+edited_once proc (Frame frame) = record proc { frames = frames_swapped frame proc.frames }
+
+-- the same part of a process
+abbrev pub part_of : Proc → Part → Part
+part_of proc (Regs regs) = Regs proc.regs
+part_of proc (Parent parent) = Parent proc.parent
+part_of proc (Status status) = Status proc.status
+part_of proc (Cred cred) = Cred proc.cred
+part_of proc (Page number page) = Page number (page_at proc.space number)
+part_of proc (Descriptor number name) = Descriptor number (desc_in (slice_index_or proc.descriptors number None))
+part_of proc (Mask mask) = Mask proc.mask
+part_of proc (Action signo action) = Action signo (slice_index_or proc.actions signo.0 action)
+part_of proc (Pending set) = Pending (set_of_bits proc.pending.standard)
+part_of proc (Queued place entry) = Queued place (queue_given place entry proc.pending.queued)
+part_of proc (Frame frame) = Frame (frame_given frame proc.frames)
+
+-- where there is no process, the part stays
+abbrev pub part_in : Option Proc → Part → Part
+part_in None part = part
+part_in (Some proc) part = part_of proc part
+
+-- a number in the part is one that there is
+abbrev pub HasPlace : Part → Type 0
+HasPlace (Page number page) = number < 16
+HasPlace (Descriptor number name) = number < 16
+HasPlace part = Unit {0}

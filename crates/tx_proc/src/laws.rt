@@ -1,0 +1,17 @@
+//! The laws of exchanges of parts of a process, as the contracts of functions that do nothing.
+ghost use Rattle.tx_proc.specs.Laws.{TwiceIsNothing, NothingElse, Commute};
+
+/// Two exchanges of one part are nothing: the process and the part come back.
+pub fn twice_is_nothing()
+    ensures { TwiceIsNothing }
+{}
+
+/// An exchange leaves every other part of the process as it was.
+pub fn nothing_else()
+    ensures { NothingElse }
+{}
+
+/// It makes no difference which of two parts is exchanged first.
+pub fn commute()
+    ensures { Commute }
+{}

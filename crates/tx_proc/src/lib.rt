@@ -1,0 +1,17 @@
+//! Processes, the parts that they have, and the table of them by number. No exchange takes memory
+//! or is refused.
+#![tactic(auto)]
+
+mod boxed;
+mod laws;
+mod part;
+mod proc;
+mod table;
+#[cfg(test)]
+mod tests;
+
+pub use boxed::BoxedProc;
+pub use laws::{commute, nothing_else, twice_is_nothing};
+pub use part::Part;
+pub use proc::Proc;
+pub use table::ProcTable;

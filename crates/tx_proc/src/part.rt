@@ -1,0 +1,90 @@
+//! One part of a process, and what it was or is to be.
+ghost use Rattle.std.specs.Prelude.{◌≡◌};
+ghost use Rattle.tx_proc.specs.Parts.{edited_once, part_of, queue_swapped, queue_given, frames_swapped, frame_given, HasPlace};
+
+use crate::proc::Proc;
+use std::mem;
+use tx_base::{DescNo, Pid, Regs, Signo};
+use tx_cred::Cred;
+use tx_pages::Page;
+use tx_signal::{Action, Frame, Frames, Pending, Queued, SigSet};
+
+/// One part of a process, and what it was or is to be. It owns that old or new part, so to
+/// exchange it takes no memory. Own rule.
+#[derive(Drop)]
+pub enum Part {
+    /// The registers.
+    Regs(Regs),
+    /// The parent.
+    Parent(Pid),
+    /// The status.
+    Status(Option<u16>),
+    /// The ids.
+    Cred(Cred),
+    /// What a page number has: 0 to 15.
+    Page(usize, Option<Page>),
+    /// What a descriptor names: 0 to 15.
+    Descriptor(usize, Option<DescNo>),
+    /// The signals that are blocked.
+    Mask(SigSet),
+    /// What is done about a signal.
+    Action(Signo, Action),
+    /// The standard signals that are pending.
+    Pending(SigSet),
+    /// An entry of the queue of realtime signals: the one at the place, or one to be put in there.
+    Queued(usize, Option<Queued>),
+    /// The newest of the frames, or one to be the newest.
+    Frame(Option<Frame>),
+}
+
+impl Part {
+    /// Exchanges the part with that of the process. A number in it must be one that there is.
+    #[tactic(auto, using(crate::proofs::Names::desc_back))]
+    pub fn swap(&mut self, proc: &mut Proc)
+        requires { HasPlace self.old }
+        ensures proc { proc.new ≡ edited_once proc.old self.old }
+        ensures part { self.new ≡ part_of proc.old self.old }
+    {
+        match self {
+            Part::Regs(regs) => mem::swap(&mut proc.regs, regs),
+            Part::Parent(parent) => mem::swap(&mut proc.parent, parent),
+            Part::Status(status) => mem::swap(&mut proc.status, status),
+            Part::Cred(cred) => mem::swap(&mut proc.cred, cred),
+            Part::Page(number, page) => proc.space.swap_page(*number, page),
+            Part::Descriptor(number, name) => proc.descriptors.swap(*number, name),
+            Part::Mask(mask) => mem::swap(&mut proc.mask, mask),
+            Part::Action(signo, action) => proc.actions.swap(*signo, action),
+            Part::Pending(set) => proc.pending.swap_standard(set),
+            Part::Queued(place, entry) => swap_entry(&mut proc.pending, *place, entry),
+            Part::Frame(frame) => swap_newest(&mut proc.frames, frame),
+        }
+    }
+}
+
+/// Takes the entry at the place out where none comes in; puts the one in there that comes where
+/// there is room.
+#[tactic(auto, using(crate::proofs::Limits::queue_fits, crate::proofs::Limits::entry_fits))]
+fn swap_entry(pending: &mut Pending, place: usize, entry: &mut Option<Queued>)
+    ensures pending { pending.new ≡ record pending.old { queued = queue_swapped place entry.old pending.old.queued } }
+    ensures entry { entry.new ≡ queue_given place entry.old pending.old.queued }
+{
+    let _fits = pending.queued();
+    pending.swap_entry(place, entry);
+}
+
+/// Takes the newest frame out where none comes in; puts the one in that comes where there is room.
+#[tactic(auto, using(crate::proofs::Limits::frames_fit, crate::proofs::Limits::frame_fits))]
+fn swap_newest(frames: &mut Frames, frame: &mut Option<Frame>)
+    ensures frames { frames.new ≡ frames_swapped frame.old frames.old }
+    ensures frame { frame.new ≡ frame_given frame.old frames.old }
+{
+    let _fits = frames.len();
+    match frame.take() {
+        None => *frame = frames.pop(),
+        Some(coming) => {
+            if !frames.push(coming) {
+                *frame = Some(coming);
+            }
+        }
+    }
+}

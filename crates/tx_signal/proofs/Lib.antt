@@ -1,0 +1,3 @@
+pub mod ExchangeFacts
+pub mod QueueFacts
+pub mod SetFacts
