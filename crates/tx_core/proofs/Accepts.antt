@@ -30,7 +30,7 @@ use Rattle.std.proofs.lemmas.Bool.{both_ways}
 use Rattle.tx_model.specs.Membership.{Begins, Within, Commits, Aborts, Beginning, Aborting, kind_of, called_by_status, is_live}
 use Rattle.tx_model.specs.State.{State}
 use Rattle.tx_model.specs.View.{View, view, present, next, kernel_status}
-use Rattle.tx_model.proofs.Erased.{lawful_next}
+use Rattle.tx_laws.proofs.Erased.{lawful_next}
 
 module _ (k : Kernel) (pid : Pid) (q : Proc) (i : IsContent k) (here : slot_at k.parts.procs pid.0 ≡ Some q) (runs : q.status ≡ None) where
   plain_accepted : (call : Call) (mark : Option Mark) → slot_at k.marks pid.0 ≡ mark → IsPlainCall call mark → IsAccepted (answer (view_of k) (Calls pid call))

@@ -20,7 +20,7 @@ use Rattle.tx_model.specs.Calls.{memory_call}
 use Rattle.tx_model.specs.Events.{Event, Do, Note, Commit, reply_of}
 use Rattle.tx_model.specs.Membership.{inside_by, Continues, Begins, Role, Outside, Within, Commits, Aborts, Kind, Ordinary, Beginning, Ending, Aborting, kind_of, is_end, others_open, is_open_of, ending_role, ordinary_role, called_by_status, kind_role, kind_event, event_in}
 use Rattle.tx_model.specs.Numbers.{negative}
-use Rattle.tx_model.specs.TwoParts.{parts_view}
+use Rattle.tx_laws.specs.TwoParts.{parts_view}
 use Rattle.tx_model.specs.View.{present, role_on, event_on}
 
 -- what a step is on the machine's view

@@ -33,14 +33,14 @@ use Rattle.tx_model.specs.Answer.{plain_reply, answer, IsAccepted}
 use Rattle.tx_model.specs.Events.{Event, process_of, actor}
 use Rattle.tx_model.specs.History.{footprint}
 use Rattle.tx_model.specs.Membership.{Role, called_by_status}
-use Rattle.tx_model.specs.Sound.{IsSound}
+use Rattle.tx_laws.specs.Sound.{IsSound}
 use Rattle.tx_model.specs.State.{Object, Proc as TheProc, has}
-use Rattle.tx_model.specs.TwoParts.{parts_view, parts_next}
+use Rattle.tx_laws.specs.TwoParts.{parts_view, parts_next}
 use Rattle.tx_model.specs.View.{View, present, has_pending, event_on, holder, next}
-use Rattle.tx_model.proofs.Coherence.{actor_foot}
-use Rattle.tx_model.proofs.Erased.{next_sound}
-use Rattle.tx_model.proofs.StepView.{parts_step_view}
-use Rattle.tx_model.proofs.Taken.{taken}
+use Rattle.tx_laws.proofs.Coherence.{actor_foot}
+use Rattle.tx_laws.proofs.Erased.{next_sound}
+use Rattle.tx_laws.proofs.StepView.{parts_step_view}
+use Rattle.tx_laws.proofs.Taken.{taken}
 
 -- a slot that has this anyway
 pub if_at : {A : Type 0} (slots : List (Option A)) (p : ℕ) (x : Option A) (n : ℕ) → slot_at slots p ≡ x → slot_at slots n ≡ (if n == p then x else slot_at slots n)

@@ -27,10 +27,10 @@ use Rattle.tx_model.specs.History.{just, targets, footprint}
 use Rattle.tx_model.specs.Membership.{Table, is_of, is_member_of, is_live}
 use Rattle.tx_model.specs.Posts.{answers}
 use Rattle.tx_model.specs.State.{Process, State, Sending, written, Object, Proc as TheProc, Desc, Pipe, Held, is_between, has}
-use Rattle.tx_model.specs.TwoParts.{in_set, is_owner, parts_view}
+use Rattle.tx_laws.specs.TwoParts.{in_set, is_owner, parts_view}
 use Rattle.tx_model.specs.View.{View, present, has_pending, is_doomed, event_on, meets, differs_at, has_two_answers, meets_touched, blocks, in_way, least, holder}
-use Rattle.tx_model.proofs.Objects.{has_head, has_tail}
-use Rattle.tx_model.proofs.TwoPartsView.{parts_nobody}
+use Rattle.tx_laws.proofs.Objects.{has_head, has_tail}
+use Rattle.tx_laws.proofs.TwoPartsView.{parts_nobody}
 
 pub present_is : (k : Kernel) → present (view_of k) ≡ state_of k.parts
 unfolding view_of parts_view

@@ -10,7 +10,7 @@ use Rattle.tx_core.specs.Content.{view_of}
 use Rattle.tx_core.specs.Runs.{RunsFrom, RunsSoFar}
 use Rattle.tx_core.specs.declared.kernel.Kernel.{Kernel}
 use Rattle.tx_core.specs.declared.schedules.Ran.{Ran}
-use Rattle.tx_model.proofs.Erased.{erased}
+use Rattle.tx_laws.proofs.Erased.{erased}
 use Rattle.tx_model.specs.Answer.{answer, IsAccepted, Lawful, Agreement}
 use Rattle.tx_model.specs.Schedules.{recorded, history_of}
 use Rattle.tx_model.specs.State.{State}

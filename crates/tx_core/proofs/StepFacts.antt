@@ -44,7 +44,7 @@ use Rattle.tx_model.specs.Effects.{answered, noted_if}
 use Rattle.tx_model.specs.Events.{Event, Note, Commit, effect, process_of as process_of_step}
 use Rattle.tx_model.specs.Membership.{Table, is_of, Continues, Begins, Outside, Within, Commits, Aborts, Beginning, kind_of, new_mark, called_by_status}
 use Rattle.tx_model.specs.Numbers.{negative}
-use Rattle.tx_model.specs.TwoParts.{parts_view, parts_next}
+use Rattle.tx_laws.specs.TwoParts.{parts_view, parts_next}
 use Rattle.tx_model.specs.View.{has_pending, kernel_status}
 use Rattle.tx_model.specs.SignalSets.{kill_signo}
 use Rattle.tx_proc.proofs.Twice.{still_sized}

@@ -15,8 +15,8 @@ use Rattle.tx_model.specs.History.{just, footprint}
 use Rattle.tx_model.specs.Membership.{Table, Continues, Begins, Outside, Within, Commits, Aborts, new_mark, unmarked, table_after}
 use Rattle.tx_model.specs.Posts.{posts, answers}
 use Rattle.tx_model.specs.State.{Process, State, Object, Proc as TheProc, Desc, Pipe, Held, SetProc, SetHeld, write_one, written, has, AgreePart}
-use Rattle.tx_model.specs.TwoParts.{TwoParts, in_set, pick, parts_without, parts_view, freed, made, reserved, on_both, parts_next}
-use Rattle.tx_model.proofs.TwoPartsView.{same_view}
+use Rattle.tx_laws.specs.TwoParts.{TwoParts, in_set, pick, parts_without, parts_view, freed, made, reserved, on_both, parts_next}
+use Rattle.tx_laws.proofs.TwoPartsView.{same_view}
 
 -- the effect that replaces process p, and gives this reply
 abbrev pub set_effect : ℕ → Option Process → Reply → Effect

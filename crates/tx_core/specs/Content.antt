@@ -11,9 +11,9 @@ use Rattle.tx_proc.specs.Processes.{process_of}
 use Rattle.tx_proc.specs.declared.proc.Proc.{Proc}
 use Rattle.tx_core.specs.declared.kernel.Kernel.{Kernel}
 use Rattle.tx_model.specs.Membership.{Table}
-use Rattle.tx_model.specs.Sound.{IsSound}
+use Rattle.tx_laws.specs.Sound.{IsSound}
 use Rattle.tx_model.specs.State.{Process, State, Object, Proc as TheProc, Desc, Pipe, Held}
-use Rattle.tx_model.specs.TwoParts.{TwoParts, parts_view}
+use Rattle.tx_laws.specs.TwoParts.{TwoParts, parts_view}
 use Rattle.tx_model.specs.SignalSets.{kill_signo}
 use Rattle.tx_model.specs.View.{View, has_pending}
 

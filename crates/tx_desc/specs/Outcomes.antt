@@ -3,7 +3,7 @@ use Rattle.std.specs.Prelude.{◌≡◌, ℕ, List, [], ◌∷◌, pos, Option, 
 use Rattle.tx_base.specs.declared.errors.Errno.{Errno}
 use Rattle.tx_model.specs.Numbers.{failing}
 use Rattle.tx_model.specs.State.{Process, State, Write, SetDesc, SetPipe}
-use Rattle.tx_model.specs.WellFormed.{IsWellFormed}
+use Rattle.tx_laws.specs.WellFormed.{IsWellFormed}
 use Rattle.tx_model.specs.Effects.{Effect, done, done_with}
 use Rattle.tx_model.specs.Descriptors.{gives_up, with_two_slots}
 use Rattle.tx_desc.specs.declared.opened.Opened.{Opened}

@@ -4,7 +4,7 @@ use Rattle.tx_base.specs.declared.steps.Accepted.{Accepted}
 use Rattle.tx_base.specs.declared.steps.Reply.{Reply}
 use Rattle.tx_base.specs.declared.steps.Reply.TheVariants.{Done, Ended, Committed, Aborted, Out, No}
 use Rattle.tx_base.specs.declared.steps.Step.{Step}
-use Rattle.tx_model.proofs.Erased.{lawful_next}
+use Rattle.tx_laws.proofs.Erased.{lawful_next}
 use Rattle.tx_model.specs.Answer.{answer, IsAccepted, Lawful}
 use Rattle.tx_model.specs.Schedules.{recorded, answers_of, history_of}
 use Rattle.tx_model.specs.State.{State}

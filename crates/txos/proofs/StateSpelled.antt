@@ -7,9 +7,9 @@ use Rattle.tx_core.specs.declared.kernel.Kernel.{Kernel}
 use Rattle.tx_core.specs.Content.{state_of, table_in, two_parts_of, view_of}
 use Rattle.tx_model.specs.Membership.{Table}
 use Rattle.tx_model.specs.State.{State}
-use Rattle.tx_model.specs.TwoParts.{parts_view}
+use Rattle.tx_laws.specs.TwoParts.{parts_view}
 use Rattle.tx_model.specs.View.{present}
-use Rattle.tx_model.proofs.TwoPartsView.{parts_nobody}
+use Rattle.tx_laws.proofs.TwoPartsView.{parts_nobody}
 use Rattle.txos.specs.Report.{state_text}
 use Rattle.txos.specs.State.{procs_text}
 use Rattle.txos.specs.Txns.{txns_text}

@@ -1,0 +1,175 @@
+-- Deliveries and sends leave a state well formed.
+use Rattle.std.proofs.Common.{◌≡◌, ◌≢◌, ℕ, suc, ◌+◌, ◌<◌, ◌≤◌, Bool, true, false, not, ◌^◌, List, [], ◌∷◌, ◌++◌, length, ℤ, pos, Option, Some, None, if◌then◌else◌, nat_lt, ◌==◌, bit_and, refl, sym, ap, ◌∙◌, subst, arith, length-append}
+use Rattle.std.proofs.lemmas.Bool.{ltb-true}
+use Rattle.std.proofs.lemmas.Nat.Bits.{bit_at-zero}
+use Rattle.tx_base.specs.declared.errors.Errno.TheVariants.{NoSuchProcess, TryAgain, InvalidArgument}
+use Rattle.tx_base.specs.declared.signals.Action.{Action}
+use Rattle.tx_base.specs.declared.signals.Action.TheVariants.{Usual, Ignore, Catch}
+use Rattle.tx_base.specs.declared.signals.SigSet.{SigSet}
+use Rattle.tx_base.specs.declared.steps.Refusal.TheVariants.{NotDeliverable, Deferred, FramesFull}
+use Rattle.tx_base.specs.declared.steps.Reply.TheVariants.{Done}
+use Rattle.tx_model.specs.Numbers.{failing}
+use Rattle.tx_model.specs.SignalSets.{child_signo, is_realtime, is_in_set, without_one}
+use Rattle.tx_model.specs.State.{Process, State, Queued, Frame, Sending, SetHeld, written}
+use Rattle.tx_model.specs.Effects.{Inside, idle, own_effect, done, done_with}
+use Rattle.tx_model.specs.Processes.{numbered, ending}
+use Rattle.tx_model.specs.Scripts.{closed_inside}
+use Rattle.tx_model.specs.Sends.{held_limit, sent_by_members, sendable, sent_by, posts_now, holds, hands_out, sends_signal, send_effect}
+use Rattle.tx_model.specs.Deliveries.{first_value, less_first, is_blocked, delivered_value, relieved, action_at, caught, frame_limit, killed_status, takes_action, is_deferred, delivers, delivery_effect}
+use Rattle.tx_laws.specs.WellFormed.{AllSaved, IsFirst, IsWellFormed}
+use Rattle.tx_laws.proofs.KeepsFormOwn.{KeepsSizes, sizes_trans, less_of_none}
+use Rattle.tx_laws.proofs.KeepsFormNames.{KeepsForm, idle_form, noted_form, done_form, own_form}
+use Rattle.tx_laws.proofs.KeepsFormEnding.{held_form, ending_form}
+
+-- a queue without an entry is shorter
+first_fewer : (signo : ℕ) (entries : List Queued) → length (less_first signo entries) ≤ length entries
+unfolding less_first
+first_fewer signo [] = omega arith
+first_fewer signo (entry ∷ entries) = by (entry.signo == signo) (first_fewer signo entries)
+  where
+    by : (b : Bool) → length (less_first signo entries) ≤ length entries → length (if b then entries else entry ∷ less_first signo entries) ≤ suc (length entries)
+    by true h = omega arith
+    by false h = omega arith
+
+relieved_sizes : (signo : ℕ) (me : Process) → KeepsSizes me (relieved signo me)
+relieved_sizes signo me = record {
+  pending = λ h. pending (is_realtime signo) h;
+  queued = λ h. let fewer : length (relieved signo me).queued ≤ length me.queued = queue (is_realtime signo) in omega arith;
+  sizes = λ h.
+      let fewer : length (relieved signo me).queued ≤ length me.queued = queue (is_realtime signo) in
+      let most : length me.queued ≤ 16 = h.queued in
+      record {
+        slots = h.slots;
+        pages = h.pages;
+        descriptors = h.descriptors;
+        actions = h.actions;
+        frames = h.frames;
+        saved = h.saved;
+        queued = omega arith;
+      };
+}
+  where
+    pending : (b : Bool) → me.pending ≡ 0 → (if b then me.pending else without_one me.pending signo) ≡ 0
+    pending true h = h
+    pending false h = less_of_none me.pending (bit_and me.pending (2 ^ signo)) h
+
+    queue : (b : Bool) → length (if b then less_first signo me.queued else me.queued) ≤ length me.queued
+    queue true = first_fewer signo me.queued
+    queue false = omega arith
+
+saved_last : (frames : List Frame) (frame : Frame) → length frame.registers.slots ≡ 8 → AllSaved frames → AllSaved (frames ++ frame ∷ [])
+saved_last [] frame e h = (e, tt)
+saved_last (x ∷ frames) frame e h = (h.0, saved_last frames frame e h.1)
+
+caught_sizes : (signo : ℕ) (value : ℤ) (point : ℕ) (mask : SigSet) (me : Process) → length me.frames < 4 → KeepsSizes me (caught signo value point mask me)
+caught_sizes signo value point mask me room = record {
+  pending = λ h. h;
+  queued = λ h. h;
+  sizes = λ h.
+      let more : length (me.frames ++ record { registers = me.registers; mask = me.mask } ∷ []) ≡ length me.frames + 1 =
+      length-append me.frames (record { registers = me.registers; mask = me.mask } ∷ []) in
+      record {
+        slots = h.slots;
+        pages = h.pages;
+        descriptors = h.descriptors;
+        actions = h.actions;
+        frames = omega arith;
+        saved = saved_last me.frames (record { registers = me.registers; mask = me.mask }) h.slots h.saved;
+        queued = h.queued;
+      };
+}
+
+none_queued : (signo : ℕ) (entries : List Queued) → length entries ≡ 0 → first_value signo entries ≡ None
+unfolding first_value
+none_queued signo [] h = refl
+none_queued signo (entry ∷ entries) h = absurd (omega arith)
+
+-- nothing is delivered to a process where nothing is pending
+none_delivered : (signo : ℕ) (me : Process) → me.pending ≡ 0 → length me.queued ≡ 0 → delivered_value signo me ≡ None
+none_delivered signo me pending queued = by (is_blocked signo me) (is_realtime signo)
+  where
+    empty : is_in_set me.pending signo ≡ false
+    empty = ap (λ (set : ℕ). is_in_set set signo) pending ∙ ap (λ (bit : ℕ). bit == 1) (bit_at-zero signo)
+
+    by : (b c : Bool) → (if b then None else (if c then first_value signo me.queued else (if is_in_set me.pending signo then Some (pos 0) else None))) ≡ None
+    by true c = refl
+    by false true = none_queued signo me.queued queued
+    by false false = rw empty refl
+
+module _ (S : State) (p : ℕ) (me : Process) (e : S.procs p ≡ Some me) (runs : me.status ≡ None) (w : IsWellFormed S) where
+  -- a signal is delivered to no process 1
+  other_than_first : (signo : ℕ) (value : ℤ) → delivered_value signo me ≡ Some value → p ≢ 1
+  other_than_first signo value h z =
+      let both : Some w.first.0 ≡ Some me = sym w.first.1 ∙ sym (ap S.procs z) ∙ e in
+      let same : w.first.0 ≡ me = cc in
+      let first : IsFirst me = subst IsFirst same w.first.2 in
+      let no : None ≡ Some value = sym (none_delivered signo me first.pending first.queued) ∙ h in
+      cc
+
+  relieved_form : (signo : ℕ) (r : ℤ) → KeepsForm S (own_effect p (record { process = relieved signo me; reply = Done r }))
+  relieved_form signo r =
+      own_form S p me e w (record { process = relieved signo me; reply = Done r }) (record { parent = refl; descriptors = refl; status = refl }) (relieved_sizes signo me)
+
+  takes_form : (inside : Option Inside) (signo : ℕ) (value : ℤ) (action : Action) → p ≢ 1 → KeepsForm S (takes_action inside p signo value action (relieved signo me) S)
+  takes_form inside signo value Ignore ne = relieved_form signo me.registers.ret
+  takes_form inside signo value Usual ne = by (signo == child_signo)
+    where
+      by : (b : Bool) → KeepsForm S (if b then own_effect p (record { process = relieved signo me; reply = Done me.registers.ret })
+          else ending inside p (killed_status signo) (relieved signo me) S)
+      by true = relieved_form signo me.registers.ret
+      by false = ending_form S p (killed_status signo) me (relieved signo me) e runs w ne refl refl inside
+  takes_form inside signo value (Catch point mask) ne = by (nat_lt (length me.frames) frame_limit) refl
+    where
+      sized : nat_lt (length me.frames) frame_limit ≡ true → KeepsSizes me (caught signo value point mask (relieved signo me))
+      sized z =
+          sizes_trans me (relieved signo me) (caught signo value point mask (relieved signo me)) (relieved_sizes signo me)
+          (caught_sizes signo value point mask (relieved signo me) (ltb-true (length me.frames) 4 z))
+
+      by : (b : Bool) → nat_lt (length me.frames) frame_limit ≡ b
+          → KeepsForm S (if not b then idle FramesFull else own_effect p (record { process = caught signo value point mask (relieved signo me); reply = Done value }))
+      by true z =
+          own_form S p me e w (record { process = caught signo value point mask (relieved signo me); reply = Done value })
+          (record { parent = refl; descriptors = refl; status = refl }) (sized z)
+      by false z = idle_form S FramesFull w
+
+  delivers_form : (inside : Option Inside) (signo : ℕ) (value : Option ℤ) → delivered_value signo me ≡ value → KeepsForm S (delivers inside p signo me value S)
+  delivers_form inside signo None k = idle_form S NotDeliverable w
+  delivers_form inside signo (Some value) k = by (is_deferred inside signo)
+    where
+      by : (b : Bool) → KeepsForm S (if b then idle Deferred else takes_action inside p signo value (action_at signo me) (relieved signo me) S)
+      by true = idle_form S Deferred w
+      by false = takes_form inside signo value (action_at signo me) (other_than_first signo value k)
+
+  pub delivery_form : (inside : Option Inside) (signo : ℕ) → KeepsForm S (delivery_effect inside p signo me S)
+  delivery_form inside signo = delivers_form inside signo (delivered_value signo me) refl
+
+  -- sends
+  now_form : (m : Sending) → KeepsForm S (posts_now p m)
+  unfolding written
+  now_form m = w
+
+  holds_form : (inside : Inside) (m : Sending) → KeepsForm S (holds p inside me m S)
+  unfolding written
+  holds_form inside m = by (m.signo == 0) (nat_lt (sent_by_members (S.held inside.starter)) held_limit)
+    where
+      by : (b c : Bool) → KeepsForm S (if b then done p closed_inside me
+          else (if c then done_with (SetHeld inside.starter (S.held inside.starter ++ m ∷ []) ∷ []) p (pos 0) me else done p (failing TryAgain) me))
+      by true c = noted_form S p me e w closed_inside
+      by false true = held_form _ inside.starter (S.held inside.starter ++ m ∷ []) (noted_form S p me e w (pos 0))
+      by false false = noted_form S p me e w (failing TryAgain)
+
+  hands_form : (inside : Option Inside) (m : Sending) → KeepsForm S (hands_out p inside me m S)
+  hands_form None m = now_form m
+  hands_form (Some inside) m = by (inside.members m.target)
+    where
+      by : (b : Bool) → KeepsForm S (if b then posts_now p m else holds p inside me m S)
+      by true = now_form m
+      by false = holds_form inside m
+
+  signal_form : (inside : Option Inside) (t signo : Option ℕ) (value : ℤ) → KeepsForm S (sends_signal p inside me t signo value S)
+  signal_form inside t None value = done_form S p me e w (failing InvalidArgument)
+  signal_form inside None (Some signo) value = done_form S p me e w (failing NoSuchProcess)
+  signal_form inside (Some t) (Some signo) value = hands_form inside (sent_by me t signo value)
+
+  pub send_form : (inside : Option Inside) (t signo value : ℤ) → KeepsForm S (send_effect p inside me t signo value S)
+  send_form inside t signo value = signal_form inside (numbered S.width t) (sendable signo) value

@@ -1,0 +1,215 @@
+-- The calls that concern their own process alone, and dup, dup2 and close, leave a state well formed.
+use Rattle.std.proofs.Common.{◌≡◌, ℕ, zero, suc, ◌+◌, ◌<◌, ◌⊎◌, Bool, true, false, List, [], ◌∷◌, length, ℤ, pos, Option, Some, None, is_some, if◌then◌else◌, ◌==◌, slice_index_or, slice_set, refl, sym, ap, ◌∙◌, subst, inl, inr, eq-eqb, eqb-true, arith}
+use Rattle.std.proofs.lemmas.List.{length-set}
+use Rattle.tx_base.specs.declared.errors.Errno.TheVariants.{BadDescriptor, TooManyDescriptors}
+use Rattle.tx_base.specs.declared.steps.Call.{Call}
+use Rattle.tx_base.specs.declared.steps.Refusal.{Refusal}
+use Rattle.tx_model.specs.Numbers.{failing}
+use Rattle.tx_model.specs.State.{Process, State, SetProc, write_one, written, is_number, names_at}
+use Rattle.tx_model.specs.Effects.{Inside, Effect, Own, idle, noted, own_effect, done}
+use Rattle.tx_model.specs.Descriptors.{named, with_descriptor, first_free, lowest_free, listed, pipes_of, unnamed_go, endless_go, gives_up, bad_descriptor, dups_to, dup_effect, renames, dup2_named, dup2_effect, closes, close_effect}
+use Rattle.tx_model.specs.Calls.{own_call}
+use Rattle.tx_laws.specs.WellFormed.{IsWellFormed}
+use Rattle.tx_laws.proofs.InPlace.{KeepsPlace}
+use Rattle.tx_laws.proofs.OfCalls.{own_keeps}
+use Rattle.tx_laws.proofs.KeepsFormParts.{put_cases, IsTabled, IsNamed, IsLinked, names_at_of, tabled_of, linked_of, tabled_edit, form_edit}
+use Rattle.tx_laws.proofs.KeepsFormOwn.{KeepsSizes, stays_from, plain, own_sizes}
+use Rattle.tx_laws.proofs.KeepsFormReleased.{IsAmong, IsLoose, loosened, released_form}
+
+-- the writes of the effect leave the state well formed
+abbrev pub KeepsForm : State → Effect → Type 0
+KeepsForm S f = IsWellFormed (written f.writes S)
+
+pub idle_form : (S : State) (why : Refusal) → IsWellFormed S → KeepsForm S (idle why)
+unfolding written
+idle_form S why w = w
+
+-- the process in its place, with its answer
+module _ (S : State) (p : ℕ) (me : Process) (e : S.procs p ≡ Some me) (w : IsWellFormed S) where
+  pub noted_form : (r : ℤ) → IsWellFormed (write_one (SetProc p (Some (noted r me))) S)
+  noted_form r = form_edit S p me (noted r me) e (stays_from p me (noted r me) refl refl (plain me (noted r me) refl refl refl refl refl refl refl)) refl w
+
+  pub done_form : (r : ℤ) → KeepsForm S (done p r me)
+  unfolding written
+  done_form r = noted_form r
+
+  pub own_form : (own : Own) → KeepsPlace me own.process → KeepsSizes me own.process → KeepsForm S (own_effect p own)
+  unfolding written
+  own_form own k s = form_edit S p me own.process e (stays_from p me own.process k.parent k.status s) k.descriptors w
+
+  pub own_call_form : (inside : Option Inside) (c : Call) → KeepsForm S (own_effect p (own_call inside p c me))
+  own_call_form inside c = own_form (own_call inside p c me) (own_keeps inside p c me) (own_sizes inside p c me)
+
+-- a name among the descriptors after one of them was replaced
+pub new_slot : (xs : List (Option ℕ)) (g : ℕ) (v : Option ℕ) (i d : ℕ) → is_number d (slice_index_or (slice_set xs g v) i None) ≡ true
+    → (is_number d v ≡ true) ⊎ (is_number d (slice_index_or xs i None) ≡ true)
+new_slot [] g v i d h = inr h
+new_slot (x ∷ xs) zero v zero d h = inl h
+new_slot (x ∷ xs) zero v (suc i) d h = inr h
+new_slot (x ∷ xs) (suc g) v zero d h = inr h
+new_slot (x ∷ xs) (suc g) v (suc i) d h = new_slot xs g v i d h
+
+pub old_slot : (xs : List (Option ℕ)) (g : ℕ) (v : Option ℕ) (i d : ℕ) → is_number d (slice_index_or xs i None) ≡ true
+    → (is_number d (slice_index_or (slice_set xs g v) i None) ≡ true) ⊎ (is_number d (slice_index_or xs g None) ≡ true)
+old_slot [] g v i d h = inl h
+old_slot (x ∷ xs) zero v zero d h = inr h
+old_slot (x ∷ xs) zero v (suc i) d h = inl h
+old_slot (x ∷ xs) (suc g) v zero d h = inl h
+old_slot (x ∷ xs) (suc g) v (suc i) d h = old_slot xs g v i d h
+
+-- the first free place is one of the list, and names nothing
+free_from : (n : ℕ) (xs : List (Option ℕ)) (f : ℕ) → first_free n xs ≡ Some f → (i : ℕ) × (f ≡ n + i) × (slice_index_or xs i None ≡ None) × (i < length xs)
+unfolding first_free
+free_from n [] f h = cc
+free_from n (None ∷ xs) f h = let k : n ≡ f = cc in (0, omega arith, refl, omega arith)
+free_from n (Some d ∷ xs) f h =
+    let r = free_from (n + 1) xs f h in
+    let k : f ≡ n + 1 + r.0 = r.1 in
+    let less : r.0 < length xs = r.3 in
+    (suc r.0, omega arith, r.2, omega arith)
+
+pub free_place : (xs : List (Option ℕ)) (f : ℕ) → first_free 0 xs ≡ Some f → (slice_index_or xs f None ≡ None) × (f < length xs)
+free_place xs f h =
+    let r = free_from 0 xs f h in
+    let k : f ≡ 0 + r.0 = r.1 in
+    let e : r.0 ≡ f = omega arith in
+    subst (λ (i : ℕ). (slice_index_or xs i None ≡ None) × (i < length xs)) e (r.2, r.3)
+
+among_listed : (d : ℕ) (v : Option ℕ) → is_number d v ≡ true → IsAmong d (listed v)
+among_listed d None h = cc
+among_listed d (Some x) h = inl (sym (eqb-true x d h))
+
+pub number_of : (d f : ℕ) (q : Process) → names_at d f (Some q) ≡ true → is_number d (slice_index_or q.descriptors f None) ≡ true
+number_of d f q h = by (is_some q.status) h
+  where
+    by : (b : Bool) → (if b then false else is_number d (slice_index_or q.descriptors f None)) ≡ true → is_number d (slice_index_or q.descriptors f None) ≡ true
+    by true k = cc
+    by false k = k
+
+-- a running process is put in its own place with other descriptors
+module _ (S : State) (p : ℕ) (me new : Process) (e : S.procs p ≡ Some me) (runs : me.status ≡ None) (l : IsLinked S) where
+  abbrev edited : State
+  edited = write_one (SetProc p (Some new)) S
+
+  -- what it names is there
+  pub own_name : (f d : ℕ) → is_number d (slice_index_or me.descriptors f None) ≡ true → is_some (S.descs d) ≡ true
+  own_name f d h = l.names p f d (ap (names_at d f) e ∙ names_at_of d f me runs h)
+
+  pub edit_names : ((f d : ℕ) → is_number d (slice_index_or new.descriptors f None) ≡ true → is_some (S.descs d) ≡ true)
+      → (n f d : ℕ) → names_at d f (edited.procs n) ≡ true → is_some (S.descs d) ≡ true
+  edit_names now n f d h = elim (put_cases S.procs p (Some new) n) [
+    | inl z ↦ now f d (number_of d f new (sym (ap (names_at d f) z.1) ∙ h))
+    | inr z ↦ l.names n f d (sym (ap (names_at d f) z.1) ∙ h)
+  ]
+
+  -- a description that was named still is, or the process gave it up
+  pub edit_named : (P : ℕ → Type 0) → new.status ≡ None
+      → ((f d : ℕ) → is_number d (slice_index_or me.descriptors f None) ≡ true → ((g : ℕ) × (is_number d (slice_index_or new.descriptors g None) ≡ true)) ⊎ P d)
+      → (d : ℕ) → IsNamed d S → IsNamed d edited ⊎ P d
+  edit_named P status given d h = elim (put_cases S.procs p (Some new) h.process) [
+    | inl z ↦
+        let was : names_at d h.place (Some me) ≡ true = ap (names_at d h.place) (sym (ap S.procs z.0 ∙ e)) ∙ h.names in
+        elim (given h.place d (number_of d h.place me was)) [
+          | inl a ↦ inl (record { process = h.process; place = a.0; names = ap (names_at d a.0) z.1 ∙ names_at_of d a.0 new status a.1 })
+          | inr a ↦ inr a
+        ]
+    | inr z ↦ inl (record { process = h.process; place = h.place; names = ap (names_at d h.place) z.1 ∙ h.names })
+  ]
+
+-- where nothing was given up, nothing goes
+loose_form : (T : State) → IsTabled T → IsLoose [] T → IsWellFormed T
+unfolding written unnamed_go endless_go pipes_of
+loose_form T t l = released_form [] T t l
+
+-- one descriptor is replaced
+module _ (S : State) (p : ℕ) (me : Process) (e : S.procs p ≡ Some me) (runs : me.status ≡ None) (w : IsWellFormed S) (g : ℕ) (v : Option ℕ) (r : ℤ) where
+  abbrev new : Process
+  new = noted r (with_descriptor g v me)
+
+  abbrev after : State
+  after = write_one (SetProc p (Some new)) S
+
+  sized : KeepsSizes me new
+  sized = plain me new refl refl refl refl refl (length-set me.descriptors g v) refl
+
+  renamed_tabled : IsTabled after
+  renamed_tabled = tabled_edit S p me new e (stays_from p me new refl refl sized) (tabled_of S w)
+
+  renamed_loose : (ds : List ℕ) → ((d : ℕ) → is_number d v ≡ true → is_some (S.descs d) ≡ true) → ((d : ℕ) → is_number d (slice_index_or me.descriptors g None) ≡ true → IsAmong d ds)
+      → IsLoose ds after
+  renamed_loose ds now given = loosened ds S after refl refl (edit_names S p me new e runs l names) (edit_named S p me new e runs l (λ d. IsAmong d ds) runs old) l
+    where
+      l : IsLinked S
+      l = linked_of S w
+
+      names : (f d : ℕ) → is_number d (slice_index_or new.descriptors f None) ≡ true → is_some (S.descs d) ≡ true
+      names f d h = elim (new_slot me.descriptors g v f d h) [ inl z ↦ now d z | inr z ↦ own_name S p me me e runs l f d z ]
+
+      old : (f d : ℕ) → is_number d (slice_index_or me.descriptors f None) ≡ true → ((i : ℕ) × (is_number d (slice_index_or new.descriptors i None) ≡ true)) ⊎ IsAmong d ds
+      old f d h = elim (old_slot me.descriptors g v f d h) [ inl z ↦ inl (f, z) | inr z ↦ inr (given d z) ]
+
+  renamed_form : (ds : List ℕ) → ((d : ℕ) → is_number d v ≡ true → is_some (S.descs d) ≡ true) → ((d : ℕ) → is_number d (slice_index_or me.descriptors g None) ≡ true → IsAmong d ds)
+      → KeepsForm S (gives_up ds p r (with_descriptor g v me) S)
+  unfolding written
+  renamed_form ds now given = released_form ds after renamed_tabled (renamed_loose ds now given)
+
+  -- the descriptor was free
+  free_form : slice_index_or me.descriptors g None ≡ None → ((d : ℕ) → is_number d v ≡ true → is_some (S.descs d) ≡ true) → KeepsForm S (done p r (with_descriptor g v me))
+  unfolding written
+  free_form free now = loose_form after renamed_tabled (renamed_loose [] now never)
+    where
+      never : (d : ℕ) → is_number d (slice_index_or me.descriptors g None) ≡ true → ⊥
+      never d h = let no : false ≡ true = sym (ap (is_number d) free) ∙ h in cc
+
+module _ (S : State) (p : ℕ) (me : Process) (e : S.procs p ≡ Some me) (runs : me.status ≡ None) (w : IsWellFormed S) where
+  bad_form : KeepsForm S (bad_descriptor p me)
+  bad_form = done_form S p me e w (failing BadDescriptor)
+
+  -- what a descriptor names is there
+  pub named_there : (v : Option ℕ) (d : ℕ) → named me v ≡ Some d → is_some (S.descs d) ≡ true
+  named_there None d h = cc
+  named_there (Some f) d h = own_name S p me me e runs (linked_of S w) f d (ap (is_number d) h ∙ eq-eqb d d refl)
+
+  same_there : (d : ℕ) → is_some (S.descs d) ≡ true → (x : ℕ) → (d == x) ≡ true → is_some (S.descs x) ≡ true
+  same_there d h x k = subst (λ (i : ℕ). is_some (S.descs i) ≡ true) (eqb-true d x k) h
+
+  -- dup
+  dups_form : (d : ℕ) → is_some (S.descs d) ≡ true → (f : Option ℕ) → lowest_free me ≡ f → KeepsForm S (dups_to p me d f)
+  dups_form d h None k = done_form S p me e w (failing TooManyDescriptors)
+  dups_form d h (Some f) k = free_form S p me e runs w f (Some d) (pos f) (free_place me.descriptors f k).0 (same_there d h)
+
+  dup_named_form : (v : Option ℕ) → ((d : ℕ) → v ≡ Some d → is_some (S.descs d) ≡ true) → KeepsForm S (dup_effect p me v)
+  dup_named_form None h = bad_form
+  dup_named_form (Some d) h = dups_form d (h d refl) (lowest_free me) refl
+
+  pub dup_form : (f : Option ℕ) → KeepsForm S (dup_effect p me (named me f))
+  dup_form f = dup_named_form (named me f) (named_there f)
+
+  -- dup2
+  renames_form : (f d : ℕ) (g : Option ℕ) → is_some (S.descs d) ≡ true → KeepsForm S (renames p me S f d g)
+  renames_form f d None h = bad_form
+  renames_form f d (Some g) h = by (f == g)
+    where
+      by : (b : Bool) → KeepsForm S (if b then done p (pos g) me else gives_up (listed (named me (Some g))) p (pos g) (with_descriptor g (Some d) me) S)
+      by true = done_form S p me e w (pos g)
+      by false =
+          renamed_form S p me e runs w g (Some d) (pos g) (listed (named me (Some g))) (same_there d h)
+          (λ x k. among_listed x (named me (Some g)) k)
+
+  dup2_named_form : (f : ℕ) (g v : Option ℕ) → ((d : ℕ) → v ≡ Some d → is_some (S.descs d) ≡ true) → KeepsForm S (dup2_named p me S f g v)
+  dup2_named_form f g None h = bad_form
+  dup2_named_form f g (Some d) h = renames_form f d g (h d refl)
+
+  pub dup2_form : (f g : Option ℕ) → KeepsForm S (dup2_effect p f g me S)
+  dup2_form None g = bad_form
+  dup2_form (Some f) g = dup2_named_form f g (named me (Some f)) (named_there (Some f))
+
+  -- close
+  closes_form : (f : ℕ) (v : Option ℕ) → named me (Some f) ≡ v → KeepsForm S (closes p me S f v)
+  closes_form f None k = bad_form
+  closes_form f (Some d) k =
+      renamed_form S p me e runs w f None (pos 0) (d ∷ []) (λ x h. cc) (λ x h. among_listed x (Some d) (sym (ap (is_number x) k) ∙ h))
+
+  pub close_form : (f : Option ℕ) → KeepsForm S (close_effect p f me S)
+  close_form None = bad_form
+  close_form (Some f) = closes_form f (named me (Some f)) refl

@@ -1,0 +1,47 @@
+-- What an accepted step makes of the view, and what an event leaves alone.
+use Rattle.std.proofs.Common.{◌≡◌, true, false, List, [], ◌∷◌, ◌++◌, refl, ap₂, subst}
+use Rattle.tx_base.specs.declared.steps.Step.{Step}
+use Rattle.tx_base.specs.declared.steps.Reply.{Reply}
+use Rattle.tx_model.specs.State.{State, Sending, Object, Proc, AgreeAt, has}
+use Rattle.tx_model.specs.Events.{Event, process_of, effect, objects, after}
+use Rattle.tx_model.specs.Membership.{Role}
+use Rattle.tx_model.specs.History.{processes_of}
+use Rattle.tx_model.specs.View.{View, role_on, event_on, next}
+use Rattle.tx_model.specs.Answer.{answer, IsAccepted}
+use Rattle.tx_laws.specs.Sound.{IsSound}
+use Rattle.tx_laws.specs.Fits.{Fits, Passes}
+use Rattle.tx_laws.specs.TwoParts.{TwoParts, parts_view, parts_next}
+use Rattle.tx_laws.proofs.Objects.{TargetsIn, has_head, has_tail, has_left, has_right}
+use Rattle.tx_laws.proofs.Elsewhere.{effect_fits, after_else}
+use Rattle.tx_laws.proofs.Taken.{IsTaken, taken}
+use Rattle.tx_laws.proofs.TwoPartsView.{parts_next_view}
+
+-- what a step that may be taken is on the view goes with its event
+pub record IsFitting (V : View) (step : Step) : Type 0 where
+  pub fits : Fits (role_on V step) (event_on V step) (process_of step) V
+  pub passes : Passes (role_on V step) (event_on V step) V
+
+pub fitting : (V : View) (step : Step) → IsSound V → IsAccepted (answer V step) → IsFitting V step
+fitting V step sound a =
+    let r : Reply = answer V step in
+    let t : IsTaken V step r = taken V step r sound refl a in
+    let z = subst (λ (x : Role × Event). Fits x.0 x.1 (process_of step) V × Passes x.0 x.1 V) (ap₂ (λ (u : Role) (v : Event). (u, v)) t.role_is t.event_is) (t.fits, t.passes) in
+    record { fits = z.0; passes = z.1 }
+
+pub parts_step_view : (c : TwoParts) (step : Step) → IsSound (parts_view c) → IsAccepted (answer (parts_view c) step)
+    → parts_view (parts_next (role_on (parts_view c) step) (event_on (parts_view c) step) (process_of step) c) ≡ next (parts_view c) step
+unfolding next
+parts_step_view c step sound a =
+    let f : IsFitting (parts_view c) step = fitting (parts_view c) step sound a in
+    parts_next_view (role_on (parts_view c) step) (event_on (parts_view c) step) (process_of step) c sound f.passes f.fits
+
+targets_in : (ms : List Sending) (os : List Object) → ((o : Object) → has o (processes_of ms) ≡ true → has o os ≡ true) → TargetsIn ms os
+targets_in [] os h = tt
+targets_in (m ∷ ms) os h = (h (Proc m.target) (has_head (Proc m.target) (processes_of ms)), targets_in ms os (λ o k. h o (has_tail o (Proc m.target) (processes_of ms) k)))
+
+pub elsewhere : (ev : Event) (S : State) (o : Object) → has o (objects ev S ++ processes_of (effect ev S).sends) ≡ false → AgreeAt (after ev S) S o
+elsewhere ev S o h =
+    let os : List Object = objects ev S ++ processes_of (effect ev S).sends in
+    after_else ev S os o
+    (effect_fits ev S os (λ q k. has_left q (objects ev S) (processes_of (effect ev S).sends) k)
+    (targets_in (effect ev S).sends os (λ q k. has_right q (objects ev S) (processes_of (effect ev S).sends) k))) h

@@ -1,0 +1,7 @@
+pub mod Places
+pub mod OneMoment
+pub mod WellFormed
+pub mod TwoParts
+pub mod Sound
+pub mod Fits
+pub mod Commuting

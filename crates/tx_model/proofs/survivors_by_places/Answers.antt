@@ -1,5 +1,0 @@
-use Rattle.tx_model.proofs.ByPlaces.{by_places}
-use Rattle.tx_model.proofs.survivors_by_places.Goals as goal
-
-pub returns : goal.returns
-returns c = by_places

@@ -1,0 +1,68 @@
+-- Two schedules that are worked out to the end. Own rules.
+use Rattle.std.specs.Prelude.{◌≡◌, true, List, [], ◌∷◌, pos, negsuc, Some, None, replicate}
+use Rattle.tx_base.specs.declared.steps.Call.TheVariants.{Map, Load, SysXbegin, SysXend, SysXabort}
+use Rattle.tx_base.specs.declared.steps.Refusal.TheVariants.{NoProcess}
+use Rattle.tx_base.specs.declared.steps.Reply.TheVariants.{Done, Committed, Aborted, No}
+use Rattle.tx_base.specs.declared.steps.Step.{Step}
+use Rattle.tx_base.specs.declared.steps.Step.TheVariants.{KernelAbort}
+use Rattle.tx_model.specs.Memory.{Memory, no_memory}
+use Rattle.tx_model.specs.State.{booted_process, booted}
+use Rattle.tx_model.specs.Schedules.{answers_of}
+use Rattle.tx_worked.specs.WorkedSteps.{calls, store, state_after, standing}
+
+-- a transaction that maps a page and stores into it, and takes itself back
+abbrev pub taken_back : List Step
+taken_back = calls 2 SysXbegin ∷ calls 2 (Map (pos 0)) ∷ calls 2 (store (pos 5) (65 ∷ [])) ∷ calls 2 SysXabort ∷ []
+
+abbrev pub TakenBackAnswers : Type 0
+TakenBackAnswers = answers_of (booted 64 2) [] taken_back ≡ Done (pos 0) ∷ Done (pos 0) ∷ Done (pos 0) ∷ Aborted 201 ∷ []
+
+-- its process stands behind its sys_xbegin with the status as an error, and has no page; the other is as booted
+abbrev pub TakenBackState : Type 0
+TakenBackState =
+    ((state_after (booted 64 2) taken_back).procs 2 ≡ Some (standing 2 1 (negsuc 200) no_memory))
+    × ((state_after (booted 64 2) taken_back).procs 1 ≡ Some (booted_process 1))
+
+-- two transactions side by side: the kernel takes that of process 3 back, and that of process 2 commits
+abbrev pub side_by_side : List Step
+side_by_side =
+    calls 2 SysXbegin
+    ∷ calls 3 SysXbegin
+    ∷ calls 2 (Map (pos 0))
+    ∷ calls 3 (Map (pos 0))
+    ∷ calls 2 SysXbegin
+    ∷ calls 3 (store (pos 0) (10 ∷ []))
+    ∷ KernelAbort (record { 0 = 3 })
+    ∷ calls 2 (store (pos 1) (255 ∷ 0 ∷ []))
+    ∷ calls 2 (Load (pos 1))
+    ∷ calls 2 SysXend
+    ∷ calls 3 SysXend
+    ∷ calls 9 (Map (pos 0))
+    ∷ []
+
+abbrev pub SideBySideAnswers : Type 0
+SideBySideAnswers =
+    answers_of (booted 64 3) [] side_by_side
+    ≡ Done (pos 0)
+    ∷ Done (pos 0)
+    ∷ Done (pos 0)
+    ∷ Done (pos 0)
+    ∷ Done (negsuc 21)
+    ∷ Done (pos 0)
+    ∷ Aborted 202
+    ∷ Done (pos 0)
+    ∷ Done (pos 255)
+    ∷ Committed (record { items = [] })
+    ∷ Done (negsuc 21)
+    ∷ No NoProcess
+    ∷ []
+
+-- one page, which may be written, with 255 in byte 1
+abbrev pub stored_page : Memory
+stored_page = Some (record { writable = true; bytes = 0 ∷ 255 ∷ replicate 62 0 }) ∷ replicate 15 None
+
+abbrev pub SideBySideState : Type 0
+SideBySideState =
+    ((state_after (booted 64 3) side_by_side).procs 1 ≡ Some (booted_process 1))
+    × ((state_after (booted 64 3) side_by_side).procs 2 ≡ Some (standing 2 6 (pos 0) stored_page))
+    × ((state_after (booted 64 3) side_by_side).procs 3 ≡ Some (standing 3 2 (negsuc 21) no_memory))
