@@ -18,7 +18,7 @@ use Rattle.tx_core.specs.declared.kernel.Kernel.{Kernel}
 use Rattle.tx_core.proofs.Replies.{IsPlain, do_plain, note_plain, plain_reply_is}
 use Rattle.tx_model.specs.Calls.{memory_call}
 use Rattle.tx_model.specs.Events.{Event, Do, Note, Commit, reply_of}
-use Rattle.tx_model.specs.Membership.{inside_by, Continues, Begins, Role, Outside, Within, Commits, Aborts, Kind, Ordinary, Beginning, Ending, Aborting, kind_of, is_end, others_open, is_open_of, ending_role, ordinary_role, called_by_status, kind_role, kind_event, event_in}
+use Rattle.tx_model.specs.Membership.{inside_by, Continues, Begins, Role, Outside, Within, Commits, Aborts, Kind, Ordinary, Beginning, Leaving, Aborting, kind_of, says_ended, others_open, is_open_of, member_end_role, ordinary_role, called_by_status, kind_role, kind_event, event_in}
 use Rattle.tx_model.specs.Numbers.{negative}
 use Rattle.tx_laws.specs.TwoParts.{parts_view}
 use Rattle.tx_model.specs.View.{present, role_on, event_on}
@@ -64,8 +64,8 @@ ordinary_case k pid call (Some m) q here runs mark built kind =
     let ev : Event = Do (Calls pid call) (inside_by (table_in k) (Some m)) in
     let plain = do_plain k pid call (inside_by (table_in k) (Some m)) q built here runs in
     let first = plain_reply_is k pid.0 ev (process_in (Some (proc_after q (memory_call q.space call)))) (memory_call q.space call).ret plain in
-    let same : ordinary_role (is_end (reply_of ev (present (view_of k)))) (table_in k) m.starter.0 pid.0 ≡ Within m.starter.0 Continues
-    = ap (λ (r : Reply). ordinary_role (is_end r) (table_in k) m.starter.0 pid.0) first in
+    let same : ordinary_role (says_ended (reply_of ev (present (view_of k)))) (table_in k) m.starter.0 pid.0 ≡ Within m.starter.0 Continues
+    = ap (λ (r : Reply). ordinary_role (says_ended r) (table_in k) m.starter.0 pid.0) first in
     let z = case_of k pid call Ordinary (Some m) kind mark in
     record {
       event = ev;
@@ -83,7 +83,7 @@ plain_case k pid SysXbegin None q here runs is h = absurd h.1
 plain_case k pid SysXbegin (Some m) q here runs is h = record { event = Note pid.0 (negsuc 21); is_case = case_of k pid SysXbegin (Beginning false) (Some m) refl is; plain = note_plain k pid.0 (negsuc 21) q here }
 plain_case k pid SysXbeginDefer None q here runs is h = absurd h.1
 plain_case k pid SysXbeginDefer (Some m) q here runs is h = record { event = Note pid.0 (negsuc 21); is_case = case_of k pid SysXbeginDefer (Beginning true) (Some m) refl is; plain = note_plain k pid.0 (negsuc 21) q here }
-plain_case k pid SysXend None q here runs is h = record { event = Note pid.0 (negsuc 21); is_case = case_of k pid SysXend Ending None refl is; plain = note_plain k pid.0 (negsuc 21) q here }
+plain_case k pid SysXend None q here runs is h = record { event = Note pid.0 (negsuc 21); is_case = case_of k pid SysXend Leaving None refl is; plain = note_plain k pid.0 (negsuc 21) q here }
 plain_case k pid SysXend (Some m) q here runs is h = absurd h.1
 plain_case k pid SysXabort None q here runs is h = record { event = Note pid.0 (negsuc 21); is_case = case_of k pid SysXabort Aborting None refl is; plain = note_plain k pid.0 (negsuc 21) q here }
 plain_case k pid SysXabort (Some m) q here runs is h = absurd h.1
@@ -122,10 +122,10 @@ alone k i p (suc n) = rw (alone k i p n) (by (suc n == p) refl)
 
 pub commits_case : (k : Kernel) (pid : Pid) (m : Mark) → IsContent k → slot_at k.marks pid.0 ≡ Some m → IsCase k (Calls pid SysXend) (Commits pid.0) (Commit pid.0 (Note pid.0 (pos 0)))
 commits_case k pid m i mark =
-    let z = case_of k pid SysXend Ending (Some m) refl mark in
+    let z = case_of k pid SysXend Leaving (Some m) refl mark in
     let s : m.starter.0 ≡ pid.0 = own_mark k i pid.0 m mark in
-    let same : ending_role (others_open (table_in k) m.starter.0 pid.0 (table_in k).width) m.starter.0 ≡ Commits pid.0
-    = ap (λ (x : ℕ). ending_role (others_open (table_in k) x pid.0 (table_in k).width) x) s ∙ ap (λ (b : Bool). ending_role b pid.0) (alone k i pid.0 (table_in k).width) in
+    let same : member_end_role (others_open (table_in k) m.starter.0 pid.0 (table_in k).width) m.starter.0 ≡ Commits pid.0
+    = ap (λ (x : ℕ). member_end_role (others_open (table_in k) x pid.0 (table_in k).width) x) s ∙ ap (λ (b : Bool). member_end_role b pid.0) (alone k i pid.0 (table_in k).width) in
     record { role_is = z.role_is ∙ same; event_is = z.event_is ∙ ap (λ (R : Role). event_in R (Note pid.0 (pos 0))) same }
 
 pub aborts_case : (k : Kernel) (pid : Pid) (m : Mark) → IsContent k → slot_at k.marks pid.0 ≡ Some m → IsCase k (Calls pid SysXabort) (Aborts pid.0 called_by_status) (Note pid.0 (negative called_by_status))

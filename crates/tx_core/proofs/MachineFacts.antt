@@ -27,7 +27,7 @@ use Rattle.tx_core.proofs.Replies.{has_slot}
 use Rattle.tx_core.proofs.StepFacts.{IsDone, logged, outside_done, inside_done, begin_done, commit_done, xabort_done, kernel_done}
 use Rattle.tx_model.specs.Calls.{Local, memory_call}
 use Rattle.tx_model.specs.Effects.{answered}
-use Rattle.tx_model.specs.Membership.{Beginning, Ending, Aborting, kind_of, new_mark, called_by_status}
+use Rattle.tx_model.specs.Membership.{Beginning, Leaving, Aborting, kind_of, new_mark, called_by_status}
 
 pub runs_at : (slot : Option Proc) (q : Proc) → IsRunning slot → slot ≡ Some q → q.status ≡ None
 runs_at None q runs here = absurd runs
@@ -122,7 +122,7 @@ proc_of k pid m i mark =
     let z = logged pid.0 (slot_at k.marks pid.0) (slot_at k.logs pid.0) (slot_at k.parts.procs pid.0) m (i.marked pid.0) mark in
     (z.proc, z.is_proc)
 
-pub ending_call : (call : Call) → kind_of call ≡ Ending → call ≡ SysXend
+pub ending_call : (call : Call) → kind_of call ≡ Leaving → call ≡ SysXend
 ending_call SysXend h = refl
 ending_call call h = cc
 

@@ -5,8 +5,8 @@ use Rattle.tx_base.specs.declared.steps.Call.{Call}
 use Rattle.tx_base.specs.declared.steps.Call.TheVariants.{Map, Unmap, Protect, Store, Load, SysXbegin, SysXbeginDefer, SysXend, SysXabort}
 use Rattle.tx_base.specs.declared.steps.Step.TheVariants.{Call as Calls}
 use Rattle.tx_core.specs.Built.{IsBuiltCall}
-use Rattle.tx_model.specs.Answer.{has_bad_number, has_taken_number}
-use Rattle.tx_model.specs.Calls.{memory_call, remembers, call_effect, Makes, objects_at}
+use Rattle.tx_model.specs.Answer.{has_bad_number, has_number_in_use}
+use Rattle.tx_model.specs.Calls.{memory_call, remembers, call_effect, MakesCall, objects_at}
 use Rattle.tx_model.specs.Effects.{Inside, own_effect}
 use Rattle.tx_model.specs.Membership.{Beginning, kind_of}
 use Rattle.tx_model.specs.State.{Process, State}
@@ -26,7 +26,7 @@ built_effect inside p SysXabort me S b = refl
 built_effect inside p call me S b = absurd b
 
 -- it names nothing else
-pub built_objects : (inside : Option Inside) (p : ℕ) (call : Call) (S : State) (x : Option Process) → IsBuiltCall call → objects_at inside p (Makes call) S x ≡ []
+pub built_objects : (inside : Option Inside) (p : ℕ) (call : Call) (S : State) (x : Option Process) → IsBuiltCall call → objects_at inside p (MakesCall call) S x ≡ []
 built_objects inside p call S None b = refl
 built_objects inside p (Map page) S (Some me) b = refl
 built_objects inside p (Unmap page) S (Some me) b = refl
@@ -41,7 +41,7 @@ built_objects inside p call S (Some me) b = absurd b
 
 -- and chooses no number
 pub built_numbers : (width : ℕ) (pid : Pid) (call : Call) (S : State) → IsBuiltCall call
-    → (has_bad_number width (Calls pid call) ≡ false) × (has_taken_number S (Calls pid call) ≡ false)
+    → (has_bad_number width (Calls pid call) ≡ false) × (has_number_in_use S (Calls pid call) ≡ false)
 built_numbers width pid (Map page) S b = (refl, refl)
 built_numbers width pid (Unmap page) S b = (refl, refl)
 built_numbers width pid (Protect page writable) S b = (refl, refl)

@@ -19,9 +19,9 @@ use Rattle.tx_core.specs.Built.{IsBuiltCall}
 use Rattle.tx_core.specs.declared.kernel.Kernel.{Kernel}
 use Rattle.tx_core.proofs.OfBuilt.{built_effect, built_objects, built_numbers}
 use Rattle.tx_core.proofs.Views.{set_effect}
-use Rattle.tx_model.specs.Answer.{is_running, is_there, is_doomed_at, is_parked, is_held_by_kill, has_bad_number, has_taken_number, refusal, accepted_reply, unless_refused, answer}
-use Rattle.tx_model.specs.Calls.{memory_call, Makes, running_effect, effect_at}
-use Rattle.tx_model.specs.Effects.{Inside, Effect, ListsFailed, sent, closing_reply, committing}
+use Rattle.tx_model.specs.Answer.{is_running, is_there, is_doomed_at, is_parked, is_held_by_kill, has_bad_number, has_number_in_use, refusal, accepted_reply, unless_refused, answer}
+use Rattle.tx_model.specs.Calls.{memory_call, MakesCall, running_effect, effect_at}
+use Rattle.tx_model.specs.Effects.{Inside, Effect, ListsFailed, send_answers, concluding_reply, committing}
 use Rattle.tx_model.specs.Events.{Event, Do, Note, Commit, actor, effect, objects, reply_of}
 use Rattle.tx_model.specs.History.{just, targets, footprint}
 use Rattle.tx_model.specs.Membership.{Table, is_of, is_member_of, is_live}
@@ -117,7 +117,7 @@ no_holder k p ev own = least_all (in_way (view_of k) ev) (length k.parts.procs) 
         met = meets_none (footprint (table_in k) ev (present (view_of k))) (λ o. is_owner s (owner_at k o)) (λ o h. at_object o (own.objects_are o h))
 
         two : has_two_answers (view_of k) ev s ≡ false
-        two = ap (λ (ms : List Sending). differs_at s ms (sent (effect ev (present (view_of k))) (present (view_of k))) (sent (effect ev (present (view_of k))) ((view_of k).without (just s)))) own.sends_are
+        two = ap (λ (ms : List Sending). differs_at s ms (send_answers (effect ev (present (view_of k))) (present (view_of k))) (send_answers (effect ev (present (view_of k))) ((view_of k).without (just s)))) own.sends_are
 
 -- a step of a running process that nobody is in the way of is accepted
 pub answer_is : (k : Kernel) (pid : Pid) (call : Call) (q : Proc) → IsBuiltCall call → IsContent k → slot_at k.parts.procs pid.0 ≡ Some q → q.status ≡ None → holder (view_of k) (event_on (view_of k) (Calls pid call)) ≡ None
@@ -151,7 +151,7 @@ answer_is k pid call q built i here runs clear = ap (λ (x : Option Refusal). un
         calm : has_pending kill_signo ((present V).procs pid.0) ≡ false
         calm = ap (λ (S : State). has_pending kill_signo (S.procs pid.0)) (present_is k) ∙ i.calm pid.0
 
-    numbers : (has_bad_number V.table.width (Calls pid call) ≡ false) × (has_taken_number (present V) (Calls pid call) ≡ false)
+    numbers : (has_bad_number V.table.width (Calls pid call) ≡ false) × (has_number_in_use (present V) (Calls pid call) ≡ false)
     numbers = built_numbers V.table.width pid call (present V) built
 
     none : refusal V pid.0 (Calls pid call) ≡ None
@@ -197,8 +197,8 @@ pub do_effect : (k : Kernel) (pid : Pid) (call : Call) (inside : Option Inside) 
     → effect (Do (Calls pid call) inside) (state_of k.parts) ≡ set_effect pid.0 (process_in (Some (proc_after q (memory_call q.space call)))) (Done (memory_call q.space call).ret)
 unfolding effect
 do_effect k pid call inside q built here runs =
-    ap (λ (x : Option Proc). effect_at inside pid.0 (Makes call) (state_of k.parts) (process_in x)) here
-    ∙ ap (running_effect inside pid.0 (Makes call) (state_of k.parts) (process_of q)) runs
+    ap (λ (x : Option Proc). effect_at inside pid.0 (MakesCall call) (state_of k.parts) (process_in x)) here
+    ∙ ap (running_effect inside pid.0 (MakesCall call) (state_of k.parts) (process_of q)) runs
     ∙ built_effect inside pid.0 call (process_of q) (state_of k.parts) built
 
 pub note_effect_is : (k : Kernel) (p : ℕ) (r : ℤ) (q : Proc) → slot_at k.parts.procs p ≡ Some q
@@ -232,7 +232,7 @@ module _ (k : Kernel) (p : ℕ) (ev : Event) (y : Option Process) (r : ℤ) (pla
 
   pub plain_reply_is : reply_of ev (present (view_of k)) ≡ Done r
   unfolding reply_of
-  plain_reply_is = ap (reply_of ev) (present_is k) ∙ ap (λ (f : Effect). closing_reply f.closing f.sends (sent f (state_of k.parts))) plain.effect_is
+  plain_reply_is = ap (reply_of ev) (present_is k) ∙ ap (λ (f : Effect). concluding_reply f.conclusion f.sends (send_answers f (state_of k.parts))) plain.effect_is
 
   pub plain_own : IsOwn k p ev
   unfolding has
@@ -260,7 +260,7 @@ module _ (k : Kernel) (p : ℕ) (ev : Event) (y : Option Process) (r : ℤ) (pla
   pub commit_reply_is : reply_of (Commit p ev) (present (view_of k)) ≡ Committed (record { items = [] })
   unfolding reply_of effect written answers
   commit_reply_is = ap (reply_of (Commit p ev)) (present_is k)
-      ∙ ap (λ (f : Effect). closing_reply ListsFailed (f.sends ++ (written f.writes (state_of k.parts)).held p) (sent (committing p f (state_of k.parts)) (state_of k.parts))) plain.effect_is
+      ∙ ap (λ (f : Effect). concluding_reply ListsFailed (f.sends ++ (written f.writes (state_of k.parts)).held p) (send_answers (committing p f (state_of k.parts)) (state_of k.parts))) plain.effect_is
 
   pub commit_own : IsOwn k p (Commit p ev)
   unfolding has effect written

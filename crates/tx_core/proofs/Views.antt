@@ -9,7 +9,7 @@ use Rattle.tx_proc.specs.declared.proc.Proc.{Proc}
 use Rattle.tx_proc.specs.Processes.{process_in}
 use Rattle.tx_core.specs.Content.{state_of, kept_in, kept_of, starter_in, owner_at, table_in, two_parts_of, view_of}
 use Rattle.tx_core.specs.declared.kernel.Kernel.{Kernel}
-use Rattle.tx_model.specs.Effects.{Effect, Replies, sent, applied, noted_if, committing}
+use Rattle.tx_model.specs.Effects.{Effect, Replies, send_answers, applied, noted_if, committing}
 use Rattle.tx_model.specs.Events.{Event, Note, Commit, effect}
 use Rattle.tx_model.specs.History.{just, footprint}
 use Rattle.tx_model.specs.Membership.{Table, Continues, Begins, Outside, Within, Commits, Aborts, new_mark, unmarked, table_after}
@@ -20,18 +20,18 @@ use Rattle.tx_laws.proofs.TwoPartsView.{same_view}
 
 -- the effect that replaces process p, and gives this reply
 abbrev pub set_effect : ℕ → Option Process → Reply → Effect
-set_effect p y r = record { writes = SetProc p y ∷ []; sends = []; closing = Replies r }
+set_effect p y r = record { writes = SetProc p y ∷ []; sends = []; conclusion = Replies r }
 
 pub made_set : (ev : Event) (S R : State) (p : ℕ) (y : Option Process) (r : Reply) → effect ev S ≡ set_effect p y r → made ev S R ≡ write_one (SetProc p y) R
 unfolding written posts answers
-made_set ev S R p y r e = ap (λ (f : Effect). applied f (sent f S) R) e
+made_set ev S R p y r e = ap (λ (f : Effect). applied f (send_answers f S) R) e
 
 -- a commit also gives up what is held, where nothing is
 made_commit : (ev : Event) (S R : State) (p : ℕ) (y : Option Process) (r : Reply) → effect ev S ≡ set_effect p y r → S.held p ≡ []
     → made (Commit p ev) S R ≡ write_one (SetHeld p []) (write_one (SetProc p y) R)
 unfolding effect written posts answers
 made_commit ev S R p y r e none =
-    ap (λ (f : Effect). applied (committing p f S) (sent (committing p f S) S) R) e ∙ rw none refl
+    ap (λ (f : Effect). applied (committing p f S) (send_answers (committing p f S) S) R) e ∙ rw none refl
 
 table_same : (t u : Table) → t.width ≡ u.width → ((n : ℕ) → t.marks n ≡ u.marks n) → t ≡ u
 table_same t u w m = λ i. record { width = w i; marks = λ n. m n i }

@@ -14,7 +14,7 @@ use Rattle.tx_core.specs.Built.{IsBuiltCall}
 use Rattle.tx_core.specs.declared.act.CallKind.{CallKind}
 use Rattle.tx_core.specs.declared.act.CallKind.TheVariants.{OfProcess, Begins, Ends, Aborts}
 use Rattle.tx_core.specs.declared.act.Plan.{Plan}
-use Rattle.tx_model.specs.Membership.{Kind, Ordinary, Forking, Beginning, Ending, Aborting, kind_of}
+use Rattle.tx_model.specs.Membership.{Kind, Ordinary, Forking, Beginning, Leaving, Aborting, kind_of}
 use Rattle.tx_model.specs.Calls.{Local}
 use Rattle.tx_model.specs.Effects.{answered}
 use Rattle.tx_pages.specs.declared.plans.NewPage.{NewPage}
@@ -48,8 +48,8 @@ IsPlainKind Ordinary mark = Unit {0}
 IsPlainKind (Forking child) mark = ⊥
 IsPlainKind (Beginning defers) None = ⊥
 IsPlainKind (Beginning defers) (Some m) = Unit {0}
-IsPlainKind Ending None = Unit {0}
-IsPlainKind Ending (Some m) = ⊥
+IsPlainKind Leaving None = Unit {0}
+IsPlainKind Leaving (Some m) = ⊥
 IsPlainKind Aborting None = Unit {0}
 IsPlainKind Aborting (Some m) = ⊥
 
@@ -65,5 +65,5 @@ IsRunning (Some p) = p.status ≡ None
 abbrev pub named_kind : CallKind → Kind
 named_kind OfProcess = Ordinary
 named_kind (Begins defers) = Beginning defers
-named_kind Ends = Ending
+named_kind Ends = Leaving
 named_kind Aborts = Aborting

@@ -12,7 +12,7 @@ ghost use Rattle.tx_base.specs.declared.steps.Reply.TheVariants.{Aborted, No};
 ghost use Rattle.tx_core.specs.Steps.{IsStep, Steps, IsXabort};
 ghost use Rattle.tx_core.specs.Undo.{undone_by, LeadsBack};
 ghost use Rattle.tx_model.specs.Answer.{answer, IsAccepted, Lawful};
-ghost use Rattle.tx_model.specs.Membership.{Beginning, Ending, Aborting, kind_of, is_live};
+ghost use Rattle.tx_model.specs.Membership.{Beginning, Leaving, Aborting, kind_of, is_live};
 ghost use Rattle.tx_model.specs.State.{State, booted};
 ghost use Rattle.tx_model.specs.View.{view, present};
 
@@ -125,7 +125,7 @@ impl Machine {
     ) -> Result<(Reply, Inverse), NoMemory>
         requires running { IsRunning (slot_at self.old.parts.procs pid.0) }
         requires marked { slot_at self.old.marks pid.0 ≡ Some mark }
-        requires kind { kind_of _call.now ≡ Ending }
+        requires kind { kind_of _call.now ≡ Leaving }
         ensures ok { IfOk result (λ made. IsStep self.old (Calls pid _call.now) made.0 made.1 self.new) }
         ensures err { OnErr result (self.new ≡ self.old) }
     {

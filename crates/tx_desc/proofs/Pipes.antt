@@ -7,7 +7,7 @@ use Rattle.tx_base.specs.declared.steps.Refusal.TheVariants.{NumberTaken}
 use Rattle.tx_model.specs.Numbers.{failing}
 use Rattle.tx_model.specs.State.{Process, State, ReadSide, WriteSide, SetDesc, SetPipe, put_at, written}
 use Rattle.tx_model.specs.Effects.{Effect, done, done_with, idle, before_sends}
-use Rattle.tx_model.specs.Descriptors.{first_free, lowest_free, is_pipe_taken, opens_from, opens_at, pipe_effect, side_of, with_two_slots}
+use Rattle.tx_model.specs.Descriptors.{first_free, lowest_free, is_pipe_in_use, opens_from, opens_at, pipe_effect, new_side, with_two_slots}
 use Rattle.tx_laws.proofs.KeepsFormParts.{put_cases}
 use Rattle.tx_desc.specs.declared.opened.Opened.{Opened}
 use Rattle.tx_desc.specs.Places.{Descriptors, two_free}
@@ -19,7 +19,7 @@ use Rattle.tx_desc.proofs.Free.{free_inside, free_none, two_none}
 
 module _ (p : ℕ) (pipe : PipeNo) (r w : ℕ) (me : Process) (S : State) (table : Descriptors) (D : List (Option Opened))
     (same : me.descriptors ≡ table) (has : HasDescs S D) (no_pipe : S.pipes pipe.0 ≡ None) (no_read : get_or D r None ≡ None) (no_write : get_or D w None ≡ None) where
-  not_taken : is_pipe_taken pipe.0 r w S ≡ false
+  not_taken : is_pipe_in_use pipe.0 r w S ≡ false
   not_taken =
       let read : S.descs r ≡ None = has r ∙ ap described no_read in
       let write : S.descs w ≡ None = has w ∙ ap described no_write in
@@ -41,7 +41,7 @@ module _ (p : ℕ) (pipe : PipeNo) (r w : ℕ) (me : Process) (S : State) (table
       ]
 
   pub pipe_done : (f g : ℕ) (new : Descriptors) (after : List (Option Opened)) → first_free 0 table ≡ Some f → first_free 0 (set table f (Some r)) ≡ Some g →
-      new ≡ set (set table f (Some r)) g (Some w) → description_at after r ≡ side_of pipe.0 ReadSide → description_at after w ≡ side_of pipe.0 WriteSide →
+      new ≡ set (set table f (Some r)) g (Some w) → description_at after r ≡ new_side pipe.0 ReadSide → description_at after w ≡ new_side pipe.0 WriteSide →
       pipe_effect p pipe.0 r w me S
       ≡ done_with (SetPipe pipe.0 (Some []) ∷ SetDesc r (description_at after r) ∷ SetDesc w (description_at after w) ∷ []) p (pos 0) (with_two_slots f g (with_table new me))
   pipe_done f g new after first second changed read write =

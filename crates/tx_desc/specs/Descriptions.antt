@@ -1,7 +1,7 @@
 -- Open descriptions, as the definitions have them.
 use Rattle.std.specs.Prelude.{◌≡◌, ℕ, ◌+◌, ◌-◌, Bool, List, Option, Some, None, if◌then◌else◌, nat_lt, slice_index_or, slice_set, false}
 use Rattle.tx_base.specs.declared.names.PipeNo.{PipeNo}
-use Rattle.tx_model.specs.State.{Side as End, ReadSide, WriteSide, Description, State, end_of}
+use Rattle.tx_model.specs.State.{Side as End, ReadSide, WriteSide, Description, State, side_in}
 use Rattle.tx_model.specs.Descriptors.{is_side}
 use Rattle.tx_model.specs.Transfers.{is_read_side, is_write_side, has_reader, has_writer}
 use Rattle.tx_desc.specs.declared.opened.Side.{Side}
@@ -40,7 +40,7 @@ side_test Write = is_write_side
 
 -- whether a place has this side of the pipe
 abbrev pub is_end_of : Side → ℕ → Option Opened → Bool
-is_end_of side k place = is_side (side_test side) (end_of k (described place))
+is_end_of side k place = is_side (side_test side) (side_in k (described place))
 
 -- what is there with so many names more
 abbrev pub with_more : ℕ → Option Opened → Option Opened

@@ -1,8 +1,8 @@
--- States that agree at an object agree there after the same writes, posts and closing.
+-- States that agree at an object agree there after the same writes, posts and conclusion.
 use Rattle.std.proofs.Common.{◌≡◌, ℕ, Bool, true, false, List, [], ◌∷◌, ℤ, Option, Some, None, if◌then◌else◌, ◌==◌, refl, sym, ap, ◌∙◌, subst, eqb-true}
-use Rattle.tx_model.specs.State.{Process, State, Sending, Object, Proc, Desc, Pipe, Held, Write, SetProc, SetDesc, SetPipe, SetHeld, put_at, write_one, written, has_parent, names_at, end_of, AgreePart, AgreeFamily, AgreeAt}
+use Rattle.tx_model.specs.State.{Process, State, Sending, Object, Proc, Desc, Pipe, Held, Write, SetProc, SetDesc, SetPipe, SetHeld, put_at, write_one, written, has_parent, names_at, side_in, AgreePart, AgreeFamily, AgreeAt}
 use Rattle.tx_model.specs.Posts.{is_realtime, has_room, may_signal, is_quiet, with_queued, with_pending, with_signal, received, post, posts}
-use Rattle.tx_model.specs.Effects.{Closing, Replies, AnswersPost, ListsFailed, Effect, noted_if, first_answer, closed, applied}
+use Rattle.tx_model.specs.Effects.{Conclusion, Replies, AnswersPost, ListsFailed, Effect, noted_if, first_answer, concluded, applied}
 
 pub part_refl : (S : State) (o : Object) → AgreePart S S o
 part_refl S (Proc n) = refl
@@ -89,7 +89,7 @@ write_family (SetProc p x) S R (Pipe n) h = h
 write_family (SetProc p x) S R (Held n) h = tt
 write_family (SetDesc p x) S R (Proc n) h = h
 write_family (SetDesc p x) S R (Desc n) h = h
-write_family (SetDesc p x) S R (Pipe n) h = λ d. put_same (end_of n) S.descs R.descs p x d (h d)
+write_family (SetDesc p x) S R (Pipe n) h = λ d. put_same (side_in n) S.descs R.descs p x d (h d)
 write_family (SetDesc p x) S R (Held n) h = tt
 write_family (SetPipe p x) S R (Proc n) h = h
 write_family (SetPipe p x) S R (Desc n) h = h
@@ -211,33 +211,33 @@ unfolding posts
 posts_width [] S = refl
 posts_width (m ∷ ms) S = posts_width ms (post m S)
 
-closed_part : (c : Closing) (rs : List ℤ) (S R : State) (o : Object) → AgreePart S R o → AgreePart (closed c rs S) (closed c rs R) o
-closed_part (Replies r) rs S R o h = h
-closed_part (AnswersPost p) rs S R o h = edit_part (noted_if (first_answer rs)) p S R o h
-closed_part ListsFailed rs S R o h = h
+concluded_part : (c : Conclusion) (rs : List ℤ) (S R : State) (o : Object) → AgreePart S R o → AgreePart (concluded c rs S) (concluded c rs R) o
+concluded_part (Replies r) rs S R o h = h
+concluded_part (AnswersPost p) rs S R o h = edit_part (noted_if (first_answer rs)) p S R o h
+concluded_part ListsFailed rs S R o h = h
 
-closed_family : (c : Closing) (rs : List ℤ) (S R : State) (o : Object) → AgreeFamily S R o → AgreeFamily (closed c rs S) (closed c rs R) o
-closed_family (Replies r) rs S R o h = h
-closed_family (AnswersPost p) rs S R o h = edit_family (noted_if (first_answer rs)) (noted_keeps (first_answer rs)) p S R o h
-closed_family ListsFailed rs S R o h = h
+concluded_family : (c : Conclusion) (rs : List ℤ) (S R : State) (o : Object) → AgreeFamily S R o → AgreeFamily (concluded c rs S) (concluded c rs R) o
+concluded_family (Replies r) rs S R o h = h
+concluded_family (AnswersPost p) rs S R o h = edit_family (noted_if (first_answer rs)) (noted_keeps (first_answer rs)) p S R o h
+concluded_family ListsFailed rs S R o h = h
 
-closed_width : (c : Closing) (rs : List ℤ) (S : State) → (closed c rs S).width ≡ S.width
-closed_width (Replies r) rs S = refl
-closed_width (AnswersPost p) rs S = refl
-closed_width ListsFailed rs S = refl
+concluded_width : (c : Conclusion) (rs : List ℤ) (S : State) → (concluded c rs S).width ≡ S.width
+concluded_width (Replies r) rs S = refl
+concluded_width (AnswersPost p) rs S = refl
+concluded_width ListsFailed rs S = refl
 
 pub applied_part : (f : Effect) (rs : List ℤ) (S R : State) (o : Object) → AgreePart S R o → AgreePart (applied f rs S) (applied f rs R) o
 applied_part f rs S R o h =
-    closed_part f.closing rs (posts f.sends (written f.writes S)) (posts f.sends (written f.writes R)) o
+    concluded_part f.conclusion rs (posts f.sends (written f.writes S)) (posts f.sends (written f.writes R)) o
     (posts_part f.sends (written f.writes S) (written f.writes R) o (written_part f.writes S R o h))
 
 applied_family : (f : Effect) (rs : List ℤ) (S R : State) (o : Object) → AgreeFamily S R o → AgreeFamily (applied f rs S) (applied f rs R) o
 applied_family f rs S R o h =
-    closed_family f.closing rs (posts f.sends (written f.writes S)) (posts f.sends (written f.writes R)) o
+    concluded_family f.conclusion rs (posts f.sends (written f.writes S)) (posts f.sends (written f.writes R)) o
     (posts_family f.sends (written f.writes S) (written f.writes R) o (written_family f.writes S R o h))
 
 pub applied_width : (f : Effect) (rs : List ℤ) (S : State) → (applied f rs S).width ≡ S.width
-applied_width f rs S = closed_width f.closing rs (posts f.sends (written f.writes S)) ∙ posts_width f.sends (written f.writes S) ∙ written_width f.writes S
+applied_width f rs S = concluded_width f.conclusion rs (posts f.sends (written f.writes S)) ∙ posts_width f.sends (written f.writes S) ∙ written_width f.writes S
 
 pub applied_keeps : (f : Effect) (rs : List ℤ) (S R : State) (o : Object) → AgreeAt S R o → AgreeAt (applied f rs S) (applied f rs R) o
 applied_keeps f rs S R o h = record {

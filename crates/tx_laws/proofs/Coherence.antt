@@ -2,18 +2,18 @@
 use Rattle.std.proofs.Common.{◌≡◌, ℕ, Bool, true, false, not, List, [], ◌∷◌, ◌++◌, ℤ, if◌then◌else◌, ◌==◌, refl, sym, ap, ap₂, ◌∙◌, subst, inl, inr, ◌⊎◌, eq-eqb, eqb-true}
 use Rattle.std.proofs.lemmas.Bool.{both_ways, cases_Bool}
 use Rattle.tx_model.specs.State.{State, Sending, Object, Proc, Held, AgreeAt, AgreeOn, same_object, has, is_between}
-use Rattle.tx_model.specs.Effects.{Effect, before_sends, sent}
+use Rattle.tx_model.specs.Effects.{Effect, before_sends, send_answers}
 use Rattle.tx_model.specs.Posts.{answers}
 use Rattle.tx_model.specs.Events.{Event, Note, actor, effect, objects, after, reply_of}
-use Rattle.tx_model.specs.Membership.{Table, is_of, is_member_of, is_live, Part, Continues, Parks, Forks, Begins, Role, Outside, Within, Commits, Aborts, unmarked, table_after}
-use Rattle.tx_model.specs.History.{Starters, nobody, just, with_one, less_one, is_other_starter, targets, footprint, taken_by}
-use Rattle.tx_model.specs.View.{View, present, meets, in_way, has_two_answers, meets_touched, IsClear, moved, next_by}
+use Rattle.tx_model.specs.Membership.{Table, is_of, is_member_of, is_live, Progress, Continues, Parks, Forks, Begins, Role, Outside, Within, Commits, Aborts, unmarked, table_after}
+use Rattle.tx_model.specs.History.{Starters, nobody, just, with_one, less_one, is_other_starter, targets, footprint, objects_reserved}
+use Rattle.tx_model.specs.View.{View, present, meets, in_way, has_two_answers, meets_touched, IsClear, after_if, next_by}
 use Rattle.tx_laws.specs.Sound.{IsSound}
 use Rattle.tx_laws.proofs.Agree.{agree_sym, agree_trans, written_part}
 use Rattle.tx_laws.proofs.Objects.{TargetsIn, same_true, has_head, has_tail, has_left, has_right}
 use Rattle.tx_laws.proofs.Local.{after_keeps, reply_same, effect_same, objects_same, actor_in}
 use Rattle.tx_laws.proofs.Elsewhere.{effect_fits, after_else}
-use Rattle.tx_laws.specs.Fits.{IsIn, PartFits, FitsWithin, Fits, Passes}
+use Rattle.tx_laws.specs.Fits.{IsIn, ProgressFits, FitsWithin, Fits, Passes}
 use Rattle.tx_laws.proofs.Answered.{Known, answers_known, or_false_left, or_false_right}
 use Rattle.tx_laws.proofs.Tables.{of_unique, of_unmarked, Grows, joins_by, continues_grows, parks_grows, forks_grows, begins_grows}
 
@@ -142,11 +142,11 @@ module _ (V : View) (ev : Event) (sound : IsSound V) (clear : IsClear V ev) (X :
       by false e = inl (written_part f.writes (present V) (V.without X) (Proc m.target) (quiet_foot (Proc m.target) (quiet_target m i e)).part)
       by true e = let z = other_parts (is_live V.table m.target) (is_member_of V.table m.target (actor ev)) e in other z.0 z.1 (X m.target) refl
 
-  pub quiet_sent : sent (effect ev (present V)) (present V) ≡ sent (effect ev (V.without X)) (V.without X)
+  pub quiet_sent : send_answers (effect ev (present V)) (present V) ≡ send_answers (effect ev (V.without X)) (V.without X)
   quiet_sent =
       let f : Effect = effect ev (present V) in
       answers_known f.sends (before_sends f (present V)) (before_sends f (V.without X)) quiet_known
-      ∙ ap (λ (g : Effect). sent g (V.without X)) quiet_effect
+      ∙ ap (λ (g : Effect). send_answers g (V.without X)) quiet_effect
 
 -- two states without transactions that are not the actor's agree after the event where they agreed before
 pub quiet_after : (V : View) (ev : Event) → IsSound V → IsClear V ev → (X Y : Starters) → IsQuiet V ev X → IsQuiet V ev Y
@@ -187,13 +187,13 @@ pub actor_foot : (t : Table) (ev : Event) (S : State) → has (Proc (actor ev)) 
 actor_foot t ev S = objects_in t ev S (Proc (actor ev)) (actor_in ev S)
 
 -- what a first step takes besides its footprint is what its transaction holds
-pub taken_foot : (part : Part) (s : ℕ) (F : List Object) (o : Object) → has o F ≡ true → has o (taken_by part s F) ≡ true
+pub taken_foot : (part : Progress) (s : ℕ) (F : List Object) (o : Object) → has o F ≡ true → has o (objects_reserved part s F) ≡ true
 taken_foot Continues s F o h = h
 taken_foot Parks s F o h = h
 taken_foot (Forks c) s F o h = h
 taken_foot (Begins defers) s F o h = has_tail o (Held s) F h
 
-pub taken_cases : (part : Part) (s : ℕ) (F : List Object) (o : Object) → has o (taken_by part s F) ≡ true → (o ≡ Held s) ⊎ (has o F ≡ true)
+pub taken_cases : (part : Progress) (s : ℕ) (F : List Object) (o : Object) → has o (objects_reserved part s F) ≡ true → (o ≡ Held s) ⊎ (has o F ≡ true)
 unfolding has
 taken_cases Continues s F o h = inr h
 taken_cases Parks s F o h = inr h
@@ -230,7 +230,7 @@ targets_foot t p ms [] os h = tt
 targets_foot t p ms (x ∷ xs) os h = (h x (inl refl), targets_foot t p ms xs os (λ m i. h m (inr i)))
 
 -- a step inside a transaction, on the states with it and without it
-module _ (V : View) (ev : Event) (sound : IsSound V) (clear : IsClear V ev) (s : ℕ) (part : Part) (p : ℕ) (fits : FitsWithin s part ev p V) where
+module _ (V : View) (ev : Event) (sound : IsSound V) (clear : IsClear V ev) (s : ℕ) (part : Progress) (p : ℕ) (fits : FitsWithin s part ev p V) where
   abbrev F : List Object
   F = footprint V.table ev (present V)
 
@@ -254,15 +254,15 @@ module _ (V : View) (ev : Event) (sound : IsSound V) (clear : IsClear V ev) (s :
   within_coherent X Y o same = by (X s) (Y s) refl refl
     where
       old : AgreeAt (V.without X) (V.without Y) o
-      old = sound.coherent X Y o (λ t k. same t (touched_old t s (has o (taken_by part s F)) (V.touched t o) k))
+      old = sound.coherent X Y o (λ t k. same t (touched_old t s (has o (objects_reserved part s F)) (V.touched t o) k))
 
       apart : (X s ≡ Y s → ⊥) → has o F ≡ false
       apart ne = elim (cases_Bool (has o F)) [
-        | inl e ↦ absurd (ne (same s (touched_new s (has o (taken_by part s F)) (V.touched s o) (taken_foot part s F o e))))
+        | inl e ↦ absurd (ne (same s (touched_new s (has o (objects_reserved part s F)) (V.touched s o) (taken_foot part s F o e))))
         | inr e ↦ e
       ]
 
-      by : (x y : Bool) → X s ≡ x → Y s ≡ y → AgreeAt (moved (not x) ev (V.without X)) (moved (not y) ev (V.without Y)) o
+      by : (x y : Bool) → X s ≡ x → Y s ≡ y → AgreeAt (after_if (not x) ev (V.without X)) (after_if (not y) ev (V.without Y)) o
       by true true x y = old
       by false false x y = quiet_after V ev sound clear X Y (within_quiet X x) (within_quiet Y y) o old
       by true false x y = agree_trans (V.without X) (V.without Y) (after ev (V.without Y)) o old
@@ -271,16 +271,16 @@ module _ (V : View) (ev : Event) (sound : IsSound V) (clear : IsClear V ev) (s :
           (within_else X x o (apart (λ d. let z : false ≡ true = sym x ∙ d ∙ y in cc))) old
 
   -- who touched an object of what is taken is the transaction itself
-  pub taken_mine : (o : Object) (u : ℕ) → has o (taken_by part s F) ≡ true → V.touched u o ≡ true → u ≡ s
+  pub taken_mine : (o : Object) (u : ℕ) → has o (objects_reserved part s F) ≡ true → V.touched u o ≡ true → u ≡ s
   taken_mine o u h k = elim (taken_cases part s F o h) [
     | inl e ↦ sound.held_own u s (subst (λ (q : Object). V.touched u q ≡ true) e k)
     | inr e ↦ fits.mine u (subst (λ (q : ℕ). is_member_of V.table u q ≡ true) fits.actor_is (clear_foot V ev sound clear o u e k))
   ]
 
   within_single : (t u : ℕ) (o : Object) → (next_by (Within s part) ev p V).touched t o ≡ true → (next_by (Within s part) ev p V).touched u o ≡ true → t ≡ u
-  within_single t u o h k = by (touched_cases t s (has o (taken_by part s F)) (V.touched t o) h) (touched_cases u s (has o (taken_by part s F)) (V.touched u o) k)
+  within_single t u o h k = by (touched_cases t s (has o (objects_reserved part s F)) (V.touched t o) h) (touched_cases u s (has o (objects_reserved part s F)) (V.touched u o) k)
     where
-      by : ((t ≡ s) × (has o (taken_by part s F) ≡ true)) ⊎ (V.touched t o ≡ true) → ((u ≡ s) × (has o (taken_by part s F) ≡ true)) ⊎ (V.touched u o ≡ true) → t ≡ u
+      by : ((t ≡ s) × (has o (objects_reserved part s F) ≡ true)) ⊎ (V.touched t o ≡ true) → ((u ≡ s) × (has o (objects_reserved part s F) ≡ true)) ⊎ (V.touched u o ≡ true) → t ≡ u
       by (inl a) (inl b) = a.0 ∙ sym b.0
       by (inl a) (inr b) = a.0 ∙ sym (taken_mine o u a.1 b)
       by (inr a) (inl b) = taken_mine o t b.1 a ∙ sym b.0
@@ -290,10 +290,10 @@ module _ (V : View) (ev : Event) (sound : IsSound V) (clear : IsClear V ev) (s :
   live_of h = sound.owned_live s (Proc p) (sound.own_procs s p h)
 
   grows : Grows V.table s (table_after (Within s part) p V.table) (joins_by part p)
-  grows = by part fits.part_fits (λ c h k. fits.mine c (subst (λ (q : ℕ). is_member_of V.table c q ≡ true) fits.actor_is
+  grows = by part fits.progress_fits (λ c h k. fits.mine c (subst (λ (q : ℕ). is_member_of V.table c q ≡ true) fits.actor_is
       (clear_foot V ev sound clear (Proc c) c (objects_in V.table ev (present V) (Proc c) h) (sound.own_procs c c k))))
     where
-      by : (part : Part) → PartFits V s p ev part → ((c : ℕ) → has (Proc c) (objects ev (present V)) ≡ true → is_live V.table c ≡ true → c ≡ s)
+      by : (part : Progress) → ProgressFits V s p ev part → ((c : ℕ) → has (Proc c) (objects ev (present V)) ≡ true → is_live V.table c ≡ true → c ≡ s)
           → Grows V.table s (table_after (Within s part) p V.table) (joins_by part p)
       by Continues f own = continues_grows V.table s p (live_of f)
       by Parks f own = parks_grows V.table s p (live_of f)
@@ -301,10 +301,10 @@ module _ (V : View) (ev : Event) (sound : IsSound V) (clear : IsClear V ev) (s :
       by (Begins defers) f own = subst (λ (x : ℕ). Grows V.table x (table_after (Within x (Begins defers)) p V.table) (joins_by (Begins defers) p)) (sym f.0) (begins_grows V.table p defers)
 
   -- a number that joins is in what is taken, and is a process number
-  joins_taken : (q : ℕ) → joins_by part p q ≡ true → (has (Proc q) (taken_by part s F) ≡ true) × (is_between V.table.width q ≡ true)
-  joins_taken q = by part fits.part_fits
+  joins_taken : (q : ℕ) → joins_by part p q ≡ true → (has (Proc q) (objects_reserved part s F) ≡ true) × (is_between V.table.width q ≡ true)
+  joins_taken q = by part fits.progress_fits
     where
-      by : (part : Part) → PartFits V s p ev part → joins_by part p q ≡ true → (has (Proc q) (taken_by part s F) ≡ true) × (is_between V.table.width q ≡ true)
+      by : (part : Progress) → ProgressFits V s p ev part → joins_by part p q ≡ true → (has (Proc q) (objects_reserved part s F) ≡ true) × (is_between V.table.width q ≡ true)
       by Continues f h = cc
       by Parks f h = cc
       by (Forks c) f h =
@@ -315,10 +315,10 @@ module _ (V : View) (ev : Event) (sound : IsSound V) (clear : IsClear V ev) (s :
           (has_tail (Proc q) (Held s) F (subst (λ (x : ℕ). has (Proc x) F ≡ true) (fits.actor_is ∙ e) (actor_foot V.table ev (present V))), subst (λ (x : ℕ). is_between V.table.width x ≡ true) e f.2)
 
   -- a number joins the transaction that is live before, or that this step begins
-  begins_held : (is_live V.table s ≡ true) ⊎ (has (Held s) (taken_by part s F) ≡ true)
-  begins_held = by part fits.part_fits
+  begins_held : (is_live V.table s ≡ true) ⊎ (has (Held s) (objects_reserved part s F) ≡ true)
+  begins_held = by part fits.progress_fits
     where
-      by : (part : Part) → PartFits V s p ev part → (is_live V.table s ≡ true) ⊎ (has (Held s) (taken_by part s F) ≡ true)
+      by : (part : Progress) → ProgressFits V s p ev part → (is_live V.table s ≡ true) ⊎ (has (Held s) (objects_reserved part s F) ≡ true)
       by Continues f = inl (live_of f)
       by Parks f = inl (live_of f)
       by (Forks c) f = inl (live_of f.0)
@@ -337,25 +337,25 @@ module _ (V : View) (ev : Event) (sound : IsSound V) (clear : IsClear V ev) (s :
   pub within_sound : IsSound (next_by (Within s part) ev p V)
   within_sound = record {
     coherent = within_coherent;
-    owned_live = λ t o h. elim (touched_cases t s (has o (taken_by part s F)) (V.touched t o) h) [
+    owned_live = λ t o h. elim (touched_cases t s (has o (objects_reserved part s F)) (V.touched t o) h) [
       | inl a ↦ subst (λ (x : ℕ). is_live (table_after (Within s part) p V.table) x ≡ true) (sym a.0) grows.live
       | inr a ↦ grows.lives t (sound.owned_live t o a)
     ];
     single = within_single;
     own_procs = λ t q h. elim (grows.members t q h) [
-      | inl a ↦ touched_old t s (has (Proc q) (taken_by part s F)) (V.touched t (Proc q)) (sound.own_procs t q a)
+      | inl a ↦ touched_old t s (has (Proc q) (objects_reserved part s F)) (V.touched t (Proc q)) (sound.own_procs t q a)
       | inr a ↦ subst (λ (x : ℕ). (next_by (Within s part) ev p V).touched x (Proc q) ≡ true) (sym a.0)
-          (touched_new s (has (Proc q) (taken_by part s F)) (V.touched s (Proc q)) (joins_taken q a.1).0)
+          (touched_new s (has (Proc q) (objects_reserved part s F)) (V.touched s (Proc q)) (joins_taken q a.1).0)
     ];
     own_held = λ t h. elim (grows.members t t h) [
-      | inl a ↦ touched_old t s (has (Held t) (taken_by part s F)) (V.touched t (Held t)) (sound.own_held t a)
+      | inl a ↦ touched_old t s (has (Held t) (objects_reserved part s F)) (V.touched t (Held t)) (sound.own_held t a)
       | inr a ↦ subst (λ (x : ℕ). (next_by (Within s part) ev p V).touched x (Held x) ≡ true) (sym a.0)
           (elim begins_held [
-            | inl b ↦ touched_old s s (has (Held s) (taken_by part s F)) (V.touched s (Held s)) (sound.own_held s b)
-            | inr b ↦ touched_new s (has (Held s) (taken_by part s F)) (V.touched s (Held s)) b
+            | inl b ↦ touched_old s s (has (Held s) (objects_reserved part s F)) (V.touched s (Held s)) (sound.own_held s b)
+            | inr b ↦ touched_new s (has (Held s) (objects_reserved part s F)) (V.touched s (Held s)) b
           ])
     ];
-    held_own = λ t u h. elim (touched_cases t s (has (Held u) (taken_by part s F)) (V.touched t (Held u)) h) [
+    held_own = λ t u h. elim (touched_cases t s (has (Held u) (objects_reserved part s F)) (V.touched t (Held u)) h) [
       | inl a ↦ a.0 ∙ sym (elim (taken_cases part s F (Held u) a.1) [ inl e ↦ held_same u e | inr e ↦ foot_held u e ])
       | inr a ↦ sound.held_own t u a
     ];

@@ -2,7 +2,7 @@
 use Rattle.std.proofs.Common.{◌≡◌, true, false, List, [], ◌∷◌, ◌++◌, sym, ap, ap₂, ◌∙◌, subst, inl, inr}
 use Rattle.std.proofs.lemmas.Bool.{both_ways, cases_Bool}
 use Rattle.tx_model.specs.State.{State, Sending, Object, Proc, AgreePart, AgreeAt, AgreeOn, has}
-use Rattle.tx_model.specs.Effects.{Effect, before_sends, sent}
+use Rattle.tx_model.specs.Effects.{Effect, before_sends, send_answers}
 use Rattle.tx_model.specs.Events.{Event, effect, objects, after, reply_of}
 use Rattle.tx_model.specs.History.{processes_of}
 use Rattle.tx_laws.specs.Fits.{IsIn}
@@ -44,11 +44,11 @@ module _ (ev : Event) (S R : State) (agree : AgreeOn (named_by ev S) S R) where
   effect_named : effect ev S ≡ effect ev R
   effect_named = effect_same ev S R at_objects
 
-  sent_named : sent (effect ev S) S ≡ sent (effect ev R) R
+  sent_named : send_answers (effect ev S) S ≡ send_answers (effect ev R) R
   sent_named =
       let f : Effect = effect ev S in
       answers_known f.sends (before_sends f S) (before_sends f R) (λ m i. inl (written_part f.writes S R (Proc m.target) (at_target m i).part))
-      ∙ ap (λ (g : Effect). sent g R) effect_named
+      ∙ ap (λ (g : Effect). send_answers g R) effect_named
 
   named_same : named_by ev S ≡ named_by ev R
   unfolding named_by

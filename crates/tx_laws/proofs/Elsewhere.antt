@@ -2,14 +2,14 @@
 use Rattle.std.proofs.Common.{◌≡◌, ℕ, Bool, true, false, List, [], ◌∷◌, ◌++◌, ℤ, Option, if◌then◌else◌, ◌==◌, refl, sym, ap, ◌∙◌, eqb-true}
 use Rattle.tx_base.specs.declared.steps.Step.{Step}
 use Rattle.tx_base.specs.declared.steps.Step.TheVariants.{Call as Calls, Deliver, KernelAbort}
-use Rattle.tx_model.specs.State.{Process, State, Sending, Object, Proc, Desc, Pipe, Held, Write, SetProc, SetDesc, SetPipe, SetHeld, write_one, written, has_parent, names_at, end_of, AgreeAt, same_object, has}
+use Rattle.tx_model.specs.State.{Process, State, Sending, Object, Proc, Desc, Pipe, Held, Write, SetProc, SetDesc, SetPipe, SetHeld, write_one, written, has_parent, names_at, side_in, AgreeAt, same_object, has}
 use Rattle.tx_model.specs.Posts.{received, post, posts}
-use Rattle.tx_model.specs.Effects.{Inside, Closing, Replies, AnswersPost, ListsFailed, Effect, noted_if, first_answer, closed, sent}
-use Rattle.tx_model.specs.Calls.{Makes, Takes}
+use Rattle.tx_model.specs.Effects.{Inside, Conclusion, Replies, AnswersPost, ListsFailed, Effect, noted_if, first_answer, concluded, send_answers}
+use Rattle.tx_model.specs.Calls.{MakesCall, TakesSignal}
 use Rattle.tx_model.specs.Events.{Event, Do, Note, Commit, step_effect, effect, step_objects, objects, after}
 use Rattle.tx_laws.proofs.Agree.{agree_refl, agree_trans, KeepsFamily, edited_at, received_keeps, noted_keeps}
 use Rattle.tx_laws.proofs.OfActs.{act_fits}
-use Rattle.tx_laws.proofs.Objects.{WriteFits, WritesFit, TargetsIn, ClosingIn, Covers, has_head, has_tail, different, writes_append}
+use Rattle.tx_laws.proofs.Objects.{WriteFits, WritesFit, TargetsIn, ConclusionIn, Covers, has_head, has_tail, different, writes_append}
 
 -- a value put in at k, seen through a function that sees it as what was there at first
 put_seen : {A B : Type 0} (view : A → B) (f g : ℕ → A) (k : ℕ) (x : A) → view x ≡ view (g k) → ((q : ℕ) → view (f q) ≡ view (g q)) → (q : ℕ) → view (if q == k then x else f q) ≡ view (g q)
@@ -37,7 +37,7 @@ write_else (SetDesc k x) S T os (Desc n) f h a = record { width = a.width; part 
 write_else (SetDesc k x) S T os (Pipe n) f h a = record {
   width = a.width;
   part = a.part;
-  family = λ d. put_seen (end_of n) T.descs S.descs k x (f.1 n h) a.family d;
+  family = λ d. put_seen (side_in n) T.descs S.descs k x (f.1 n h) a.family d;
 }
 write_else (SetDesc k x) S T os (Held n) f h a = record { width = a.width; part = a.part; family = tt }
 write_else (SetPipe k x) S T os (Proc n) f h a = record { width = a.width; part = a.part; family = a.family }
@@ -76,24 +76,24 @@ posts_else (m ∷ ms) S os o i h =
     agree_trans (posts ms (post m S)) (post m S) S o (posts_else ms (post m S) os o i.1 h)
     (edit_else (received m) (received_keeps m) m.target S o (different o (Proc m.target) os i.0 h))
 
-closed_else : (c : Closing) (rs : List ℤ) (S : State) (os : List Object) (o : Object) → ClosingIn c os → has o os ≡ false → AgreeAt (closed c rs S) S o
-closed_else (Replies r) rs S os o i h = agree_refl S o
-closed_else (AnswersPost p) rs S os o i h = edit_else (noted_if (first_answer rs)) (noted_keeps (first_answer rs)) p S o (different o (Proc p) os i h)
-closed_else ListsFailed rs S os o i h = agree_refl S o
+concluded_else : (c : Conclusion) (rs : List ℤ) (S : State) (os : List Object) (o : Object) → ConclusionIn c os → has o os ≡ false → AgreeAt (concluded c rs S) S o
+concluded_else (Replies r) rs S os o i h = agree_refl S o
+concluded_else (AnswersPost p) rs S os o i h = edit_else (noted_if (first_answer rs)) (noted_keeps (first_answer rs)) p S o (different o (Proc p) os i h)
+concluded_else ListsFailed rs S os o i h = agree_refl S o
 
 -- the effect stays in these objects
 pub record EffectFits (S : State) (os : List Object) (f : Effect) : Type 0 where
   pub writes : WritesFit S os f.writes
   pub sends : TargetsIn f.sends os
-  pub closing : ClosingIn f.closing os
+  pub conclusion : ConclusionIn f.conclusion os
 
 pub after_else : (ev : Event) (S : State) (os : List Object) (o : Object) → EffectFits S os (effect ev S) → has o os ≡ false → AgreeAt (after ev S) S o
 unfolding after
 after_else ev S os o i h =
     let f : Effect = effect ev S in
     let R : State = written f.writes S in
-    agree_trans (closed f.closing (sent f S) (posts f.sends R)) (posts f.sends R) S o
-    (closed_else f.closing (sent f S) (posts f.sends R) os o i.closing h)
+    agree_trans (concluded f.conclusion (send_answers f S) (posts f.sends R)) (posts f.sends R) S o
+    (concluded_else f.conclusion (send_answers f S) (posts f.sends R) os o i.conclusion h)
     (agree_trans (posts f.sends R) R S o (posts_else f.sends R os o i.sends h) (written_else f.writes S S os o i.writes h (agree_refl S o)))
 
 targets_left : (xs ys : List Sending) (os : List Object) → TargetsIn (xs ++ ys) os → TargetsIn xs os
@@ -101,12 +101,12 @@ targets_left [] ys os i = tt
 targets_left (x ∷ xs) ys os i = (i.0, targets_left xs ys os i.1)
 
 step_fits : (step : Step) (inside : Option Inside) (S : State) (os : List Object) → Covers os (step_objects step inside S)
-    → WritesFit S os (step_effect step inside S).writes × ClosingIn (step_effect step inside S).closing os
-step_fits (Calls p call) inside S os c = act_fits inside p.0 (Makes call) S os c
-step_fits (Deliver p signo) inside S os c = act_fits inside p.0 (Takes signo.0) S os c
+    → WritesFit S os (step_effect step inside S).writes × ConclusionIn (step_effect step inside S).conclusion os
+step_fits (Calls p call) inside S os c = act_fits inside p.0 (MakesCall call) S os c
+step_fits (Deliver p signo) inside S os c = act_fits inside p.0 (TakesSignal signo.0) S os c
 step_fits (KernelAbort s) inside S os c = (tt, tt)
 
-event_fits : (ev : Event) (S : State) (os : List Object) → Covers os (objects ev S) → WritesFit S os (effect ev S).writes × ClosingIn (effect ev S).closing os
+event_fits : (ev : Event) (S : State) (os : List Object) → Covers os (objects ev S) → WritesFit S os (effect ev S).writes × ConclusionIn (effect ev S).conclusion os
 unfolding effect objects
 event_fits (Do step inside) S os c = step_fits step inside S os c
 event_fits (Note p r) S os c =
@@ -116,4 +116,4 @@ event_fits (Commit s ev) S os c =
     (writes_append S os (effect ev S).writes (SetHeld s [] ∷ []) inner.0 (c (Held s) (has_head (Held s) (objects ev S)), tt), tt)
 
 pub effect_fits : (ev : Event) (S : State) (os : List Object) → Covers os (objects ev S) → TargetsIn (effect ev S).sends os → EffectFits S os (effect ev S)
-effect_fits ev S os c t = let f = event_fits ev S os c in record { writes = f.0; sends = t; closing = f.1 }
+effect_fits ev S os c t = let f = event_fits ev S os c in record { writes = f.0; sends = t; conclusion = f.1 }

@@ -8,7 +8,7 @@ use Rattle.tx_model.specs.State.{State}
 use Rattle.tx_model.specs.Events.{Event, process_of, run}
 use Rattle.tx_model.specs.Membership.{Role, Outside, Within, Commits, Aborts, role, event, is_member_of}
 use Rattle.tx_model.specs.History.{Starters, nobody, less_one, table_of, role_in, event_of, left_out_before, stays, placed, survivors, without, touched_of}
-use Rattle.tx_model.specs.View.{View, view, present, abort_status, moved, next_by, next}
+use Rattle.tx_model.specs.View.{View, view, present, abort_status, after_if, next_by, next}
 use Rattle.tx_model.specs.Answer.{plain_reply, Lawful, AgreesWithout, Agreement}
 use Rattle.tx_laws.specs.Sound.{IsSound}
 use Rattle.tx_laws.proofs.Agree.{agree_refl}
@@ -16,13 +16,13 @@ use Rattle.tx_laws.specs.Fits.{Fits, Passes}
 use Rattle.tx_laws.proofs.Coherence.{sound_by, quiet_reply, outside_quiet, commits_quiet}
 use Rattle.tx_laws.proofs.Taken.{IsTaken, taken}
 
-run_placed : (S : State) (b : Bool) (ev : Event) (evs : List Event) → run S (placed b ev evs) ≡ moved b ev (run S evs)
+run_placed : (S : State) (b : Bool) (ev : Event) (evs : List Event) → run S (placed b ev evs) ≡ after_if b ev (run S evs)
 unfolding run
 run_placed S true ev evs = refl
 run_placed S false ev evs = refl
 
 without_more : (S : State) (e : Accepted) (h : List Accepted) (X : Starters)
-    → without S X (e ∷ h) ≡ moved (stays (role_in S e h) X) (event_of S e h) (without S (left_out_before (role_in S e h) X) h)
+    → without S X (e ∷ h) ≡ after_if (stays (role_in S e h) X) (event_of S e h) (without S (left_out_before (role_in S e h) X) h)
 unfolding without survivors
 without_more S e h X = run_placed S (stays (role_in S e h) X) (event_of S e h) (survivors S (left_out_before (role_in S e h) X) h)
 

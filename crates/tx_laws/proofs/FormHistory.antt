@@ -6,9 +6,9 @@ use Rattle.tx_base.specs.declared.steps.Reply.{Reply}
 use Rattle.tx_base.specs.declared.steps.Step.{Step}
 use Rattle.tx_base.specs.declared.steps.Step.TheVariants.{Call as Calls, Deliver, KernelAbort}
 use Rattle.tx_model.specs.State.{State}
-use Rattle.tx_model.specs.Effects.{sent}
+use Rattle.tx_model.specs.Effects.{send_answers}
 use Rattle.tx_model.specs.Events.{Event, effect, after, run}
-use Rattle.tx_model.specs.Membership.{Table, Role, Outside, Within, Commits, Aborts, Kind, Ordinary, Forking, Beginning, Ending, Aborting, kind_of, kind_event, step_event, event_in, table_after}
+use Rattle.tx_model.specs.Membership.{Table, Role, Outside, Within, Commits, Aborts, Kind, Ordinary, Forking, Beginning, Leaving, Aborting, kind_of, kind_event, step_event, event_in, table_after}
 use Rattle.tx_model.specs.History.{Starters, table_of, left_out_before, stays, placed, role_in, event_of, survivors, without}
 use Rattle.tx_model.specs.View.{View, view}
 use Rattle.tx_model.specs.Answer.{has_bad_number, refusal, accepted_reply, answer, IsAccepted, Lawful}
@@ -19,7 +19,7 @@ use Rattle.tx_laws.proofs.KeepsFormEvents.{after_form}
 
 after_width_same : (ev : Event) (S : State) → (after ev S).width ≡ S.width
 unfolding after
-after_width_same ev S = applied_width (effect ev S) (sent (effect ev S) S) S
+after_width_same ev S = applied_width (effect ev S) (send_answers (effect ev S) S) S
 
 table_width : (r : Role) (p : ℕ) (t : Table) → (table_after r p t).width ≡ t.width
 table_width r p t = refl
@@ -35,8 +35,8 @@ kind_good t width p step g Ordinary mark = g
 kind_good t width p step g (Forking c) mark = g
 kind_good t width p step g (Beginning defers) None = tt
 kind_good t width p step g (Beginning defers) (Some m) = tt
-kind_good t width p step g Ending None = tt
-kind_good t width p step g Ending (Some m) = tt
+kind_good t width p step g Leaving None = tt
+kind_good t width p step g Leaving (Some m) = tt
 kind_good t width p step g Aborting None = tt
 kind_good t width p step g Aborting (Some m) = tt
 

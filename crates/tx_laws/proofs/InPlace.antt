@@ -3,12 +3,12 @@ use Rattle.std.proofs.Common.{◌≡◌, ℕ, Bool, true, false, List, [], ℤ, 
 use Rattle.tx_base.specs.declared.steps.Refusal.{Refusal}
 use Rattle.tx_model.specs.State.{Process, State, Object, Proc, Desc, Held, SetProc, is_number, names_at, has}
 use Rattle.tx_model.specs.Effects.{Inside, Effect, Own, idle, answers_with, own_effect, noted, done}
-use Rattle.tx_laws.proofs.Objects.{WriteFits, WritesFit, ClosingIn, has_head}
+use Rattle.tx_laws.proofs.Objects.{WriteFits, WritesFit, ConclusionIn, has_head}
 use Rattle.tx_laws.proofs.Owed.{IsLocal}
 
 -- the effect stays in these objects, its posts apart
 abbrev pub StaysIn : State → List Object → Effect → Type 0
-StaysIn S all f = WritesFit S all f.writes × ClosingIn f.closing all
+StaysIn S all f = WritesFit S all f.writes × ConclusionIn f.conclusion all
 
 -- the process keeps its parent, its descriptors and its status
 pub record KeepsPlace (me new : Process) : Type 0 where

@@ -3,9 +3,9 @@ use Rattle.std.proofs.Common.{◌≡◌, ◌≢◌, ℕ, zero, suc, ◌+◌, ◌
 use Rattle.std.proofs.lemmas.Bool.{both_ways, cases_Bool, ne_eqb}
 use Rattle.tx_base.specs.declared.errors.Errno.TheVariants.{NotPermitted}
 use Rattle.tx_model.specs.Numbers.{failing}
-use Rattle.tx_model.specs.State.{Process, Description, State, Sending, Object, Proc, Desc, Pipe, Held, Write, SetProc, SetHeld, put_at, write_one, written, has_parent, is_number, names_at, end_of, is_between, AgreeAt, has}
+use Rattle.tx_model.specs.State.{Process, Description, State, Sending, Object, Proc, Desc, Pipe, Held, Write, SetProc, SetHeld, put_at, write_one, written, has_parent, is_number, names_at, side_in, is_between, AgreeAt, has}
 use Rattle.tx_model.specs.Effects.{Inside, done}
-use Rattle.tx_model.specs.Descriptors.{open_in, pipes_of, released, desc_objects, pipe_list, end_objects}
+use Rattle.tx_model.specs.Descriptors.{open_in, pipes_of, released, desc_objects, pipe_list, desc_pipe_objects}
 use Rattle.tx_model.specs.Processes.{ended, children_below, children_of, with_parent, orphaned, told_to, tells_later, ending, exit_status, exit_effect}
 use Rattle.tx_model.specs.Answer.{is_running}
 use Rattle.tx_laws.specs.WellFormed.{HasSizes, IsPlaced, IsWellFormed}
@@ -40,7 +40,7 @@ unfolding has
 pipes_procs n [] = refl
 pipes_procs n (k ∷ ks) = pipes_procs n ks
 
-ends_procs : (n : ℕ) (ds : List ℕ) (S : State) → has (Proc n) (end_objects ds S) ≡ false
+ends_procs : (n : ℕ) (ds : List ℕ) (S : State) → has (Proc n) (desc_pipe_objects ds S) ≡ false
 ends_procs n ds S = lacks_both (Proc n) (desc_objects ds) (pipe_list (pipes_of ds S)) (descs_procs n ds) (pipes_procs n (pipes_of ds S))
 
 -- the same goes where the same is named
@@ -48,11 +48,11 @@ released_named : (ds : List ℕ) (T U : State) → T.width ≡ U.width → T.des
     → released ds T ≡ released ds U
 released_named ds T U width descs pipes names = released_same ds T U agree
   where
-    agree : (o : Object) → has o (end_objects ds T) ≡ true → AgreeAt T U o
-    agree (Proc n) h = absurd (both_ways (has (Proc n) (end_objects ds T)) (ends_procs n ds T) h)
+    agree : (o : Object) → has o (desc_pipe_objects ds T) ≡ true → AgreeAt T U o
+    agree (Proc n) h = absurd (both_ways (has (Proc n) (desc_pipe_objects ds T)) (ends_procs n ds T) h)
     agree (Desc n) h = record { width = width; part = ap (λ (f : ℕ → Option Description). f n) descs; family = λ q f. names q f n }
-    agree (Pipe n) h = record { width = width; part = ap (λ (f : ℕ → Option (List ℕ)). f n) pipes; family = λ d. ap (λ (f : ℕ → Option Description). end_of n (f d)) descs }
-    agree (Held n) h = absurd (both_ways (has (Held n) (end_objects ds T)) (ends_held n ds T) h)
+    agree (Pipe n) h = record { width = width; part = ap (λ (f : ℕ → Option (List ℕ)). f n) pipes; family = λ d. ap (λ (f : ℕ → Option Description). side_in n (f d)) descs }
+    agree (Held n) h = absurd (both_ways (has (Held n) (desc_pipe_objects ds T)) (ends_held n ds T) h)
 
 -- what the children's new parent changes
 orphaned_seen : {B : Type 0} (view : State → B) → ((q : ℕ) (x : Option Process) (W : State) → view (write_one (SetProc q x) W) ≡ view W) → (qs : List ℕ) (S V : State)

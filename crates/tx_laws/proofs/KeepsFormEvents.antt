@@ -9,9 +9,9 @@ use Rattle.tx_base.specs.declared.steps.Step.TheVariants.{Call as Calls, Deliver
 use Rattle.tx_base.specs.declared.steps.Refusal.TheVariants.{NoProcess, NotRunning, NoTransaction}
 use Rattle.tx_model.specs.State.{Process, State, Sending, Object, Proc, Desc, Pipe, Held, SetProc, SetHeld, write_one, written, names_at, is_number, AgreePart, is_between, booted_process, booted}
 use Rattle.tx_model.specs.Posts.{is_realtime, has_room, may_signal, is_quiet, with_queued, with_pending, received, post, posts}
-use Rattle.tx_model.specs.Effects.{Inside, Effect, Closing, Replies, AnswersPost, ListsFailed, noted_if, first_answer, closed, sent}
+use Rattle.tx_model.specs.Effects.{Inside, Effect, Conclusion, Replies, AnswersPost, ListsFailed, noted_if, first_answer, concluded, send_answers}
 use Rattle.tx_model.specs.Descriptors.{descriptor, named}
-use Rattle.tx_model.specs.Calls.{call_effect, Makes, Takes, running_effect, effect_at}
+use Rattle.tx_model.specs.Calls.{call_effect, MakesCall, TakesSignal, running_effect, effect_at}
 use Rattle.tx_model.specs.Events.{Event, Do, Note, Commit, note_effect, step_effect, effect, after}
 use Rattle.tx_model.specs.Answer.{has_bad_number, is_running}
 use Rattle.tx_laws.specs.WellFormed.{HasSizes, IsPlaced, IsWellFormed, HasGoodNumbers}
@@ -119,10 +119,10 @@ unfolding posts
 posts_form [] S w = w
 posts_form (m ∷ ms) S w = posts_form ms (post m S) (post_form m S (S.procs m.target) refl w)
 
-closed_form : (c : Closing) (rs : List ℤ) (S : State) → IsWellFormed S → IsWellFormed (closed c rs S)
-closed_form (Replies r) rs S w = w
-closed_form (AnswersPost p) rs S w = noted_if_form S p (first_answer rs) (S.procs p) refl w
-closed_form ListsFailed rs S w = w
+concluded_form : (c : Conclusion) (rs : List ℤ) (S : State) → IsWellFormed S → IsWellFormed (concluded c rs S)
+concluded_form (Replies r) rs S w = w
+concluded_form (AnswersPost p) rs S w = noted_if_form S p (first_answer rs) (S.procs p) refl w
+concluded_form ListsFailed rs S w = w
 
 -- the numbers of a call are in range
 in_range : (b : Bool) → not b ≡ false → b ≡ true
@@ -165,19 +165,19 @@ module _ (S : State) (inside : Option Inside) (p : Pid) (me : Process) (e : S.pr
 -- a step: a process that is not there or has ended does nothing
 module _ (S : State) (inside : Option Inside) (w : IsWellFormed S) where
   running_call_form : (p : Pid) (c : Call) (me : Process) (status : Option ℕ) → S.procs p.0 ≡ Some me → me.status ≡ status → has_bad_number S.width (Calls p c) ≡ false
-      → KeepsForm S (running_effect inside p.0 (Makes c) S me status)
+      → KeepsForm S (running_effect inside p.0 (MakesCall c) S me status)
   running_call_form p c me None e runs h = call_form S inside p me e runs w c h
   running_call_form p c me (Some status) e runs h = idle_form S NotRunning w
 
-  running_delivery_form : (p : ℕ) (signo : ℕ) (me : Process) (status : Option ℕ) → S.procs p ≡ Some me → me.status ≡ status → KeepsForm S (running_effect inside p (Takes signo) S me status)
+  running_delivery_form : (p : ℕ) (signo : ℕ) (me : Process) (status : Option ℕ) → S.procs p ≡ Some me → me.status ≡ status → KeepsForm S (running_effect inside p (TakesSignal signo) S me status)
   running_delivery_form p signo me None e runs = delivery_form S p me e runs w inside signo
   running_delivery_form p signo me (Some status) e runs = idle_form S NotRunning w
 
-  call_at_form : (p : Pid) (c : Call) (x : Option Process) → S.procs p.0 ≡ x → has_bad_number S.width (Calls p c) ≡ false → KeepsForm S (effect_at inside p.0 (Makes c) S x)
+  call_at_form : (p : Pid) (c : Call) (x : Option Process) → S.procs p.0 ≡ x → has_bad_number S.width (Calls p c) ≡ false → KeepsForm S (effect_at inside p.0 (MakesCall c) S x)
   call_at_form p c None e h = idle_form S NoProcess w
   call_at_form p c (Some me) e h = running_call_form p c me me.status e refl h
 
-  delivery_at_form : (p : ℕ) (signo : ℕ) (x : Option Process) → S.procs p ≡ x → KeepsForm S (effect_at inside p (Takes signo) S x)
+  delivery_at_form : (p : ℕ) (signo : ℕ) (x : Option Process) → S.procs p ≡ x → KeepsForm S (effect_at inside p (TakesSignal signo) S x)
   delivery_at_form p signo None e = idle_form S NoProcess w
   delivery_at_form p signo (Some me) e = running_delivery_form p signo me me.status e refl
 
@@ -204,7 +204,7 @@ pub after_form : (ev : Event) (S : State) → IsWellFormed S → HasGoodNumbers 
 unfolding after
 after_form ev S w h =
     let f : Effect = effect ev S in
-    closed_form f.closing (sent f S) (posts f.sends (written f.writes S)) (posts_form f.sends (written f.writes S) (event_form ev S w h))
+    concluded_form f.conclusion (send_answers f S) (posts f.sends (written f.writes S)) (posts_form f.sends (written f.writes S) (event_form ev S w h))
 
 -- no descriptor is open at the start
 abbrev no_descriptors : ℕ → List (Option ℕ)

@@ -9,7 +9,7 @@ use Rattle.tx_model.specs.Numbers.{below}
 use Rattle.tx_model.specs.Memory.{Memory, PageView, is_vacant, has_page, with_page, zero_page, flagged, is_good, is_mapped, is_writable, stored, loaded, put_byte, put_bytes}
 use Rattle.tx_model.specs.State.{Process, Frame, Queued}
 use Rattle.tx_model.specs.Effects.{Inside, Own, answers_with, noted}
-use Rattle.tx_model.specs.Scripts.{jumps, is_taken, last_ret, keeps_at, shows, writes_console}
+use Rattle.tx_model.specs.Scripts.{jumps, does_jump, last_ret, keeps_at, shows, writes_console}
 use Rattle.tx_model.specs.SignalSets.{kill_signo}
 use Rattle.tx_model.specs.Signals.{known, acts, is_bad_action, is_ignored, with_action, kept_action, discarded, queued_others, newest, returns}
 use Rattle.tx_model.specs.Calls.{memory_call, edits, stores, loads, own_call}
@@ -68,7 +68,7 @@ console_sizes (Some inside) address n me = plain me _ refl refl refl refl refl r
 jumps_sizes : (point : ℕ) (when : When) (me : Process) → KeepsSizes me (jumps point when me).process
 jumps_sizes point when me =
     if_sizes me (nat_lt 65535 point) _ _ (plain me _ refl refl refl refl refl refl refl)
-    (if_sizes me (is_taken when (last_ret me)) _ _ (plain me _ refl refl refl refl refl refl refl) (plain me _ refl refl refl refl refl refl refl))
+    (if_sizes me (does_jump when (last_ret me)) _ _ (plain me _ refl refl refl refl refl refl refl) (plain me _ refl refl refl refl refl refl refl))
 
 keep_sizes : (slot : Option ℕ) (me : Process) → KeepsSizes me (keeps_at slot me).process
 keep_sizes None me = plain me _ refl refl refl refl refl refl refl

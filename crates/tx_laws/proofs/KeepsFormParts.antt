@@ -1,9 +1,9 @@
 -- Well-formed states by parts: the processes at their places, and what names what.
 use Rattle.std.proofs.Common.{◌≡◌, ◌≢◌, ℕ, zero, suc, ◌+◌, ◌<◌, ◌≤◌, ◌⊎◌, Bool, true, false, List, [], ◌∷◌, length, Option, Some, None, is_some, is_none, if◌then◌else◌, ◌==◌, slice_index_or, refl, sym, ap, ap₂, ◌∙◌, subst, inl, inr, eq-eqb, eqb-true, arith}
 use Rattle.std.proofs.lemmas.Bool.{both_ways, ltb-true}
-use Rattle.tx_model.specs.State.{Process, Side, Description, State, SetProc, put_at, write_one, is_number, names_at, end_of, is_between}
+use Rattle.tx_model.specs.State.{Process, Side, Description, State, SetProc, put_at, write_one, is_number, names_at, side_in, is_between}
 use Rattle.tx_model.specs.Transfers.{pipe_room}
-use Rattle.tx_model.specs.Descriptors.{names_below, is_named_below, is_named, is_side, has_end_below, has_end}
+use Rattle.tx_model.specs.Descriptors.{names_below, is_named_below, is_named, is_side, has_side_below, has_side}
 use Rattle.tx_model.specs.Answer.{is_running}
 use Rattle.tx_laws.specs.WellFormed.{HasSizes, IsPlaced, IsFirst, IsWellFormed}
 
@@ -140,17 +140,17 @@ is_named_from d S t h =
 abbrev any_side : Side → Bool
 any_side side = true
 
-end_from : (k m n : ℕ) (S : State) → n < m → is_side any_side (end_of k (S.descs n)) ≡ true → has_end_below any_side k m S ≡ true
-unfolding has_end_below
+end_from : (k m n : ℕ) (S : State) → n < m → is_side any_side (side_in k (S.descs n)) ≡ true → has_side_below any_side k m S ≡ true
+unfolding has_side_below
 end_from k zero n S h e = absurd (omega arith)
 end_from k (suc m) n S h e = elim (same_or_other n m) [
   | inl z ↦
-      either_right (has_end_below any_side k m S) (is_side any_side (end_of k (S.descs m)))
-      (subst (λ (i : ℕ). is_side any_side (end_of k (S.descs i)) ≡ true) z e)
-  | inr z ↦ either_left (has_end_below any_side k m S) (is_side any_side (end_of k (S.descs m))) (end_from k m n S (less_of n m h z) e)
+      either_right (has_side_below any_side k m S) (is_side any_side (side_in k (S.descs m)))
+      (subst (λ (i : ℕ). is_side any_side (side_in k (S.descs i)) ≡ true) z e)
+  | inr z ↦ either_left (has_side_below any_side k m S) (is_side any_side (side_in k (S.descs m))) (end_from k m n S (less_of n m h z) e)
 ]
 
-side_found : (k : ℕ) (x : Option Description) → is_side any_side (end_of k x) ≡ true → (y : Description) × (x ≡ Some y) × (y.pipe ≡ k)
+side_found : (k : ℕ) (x : Option Description) → is_side any_side (side_in k x) ≡ true → (y : Description) × (x ≡ Some y) × (y.pipe ≡ k)
 side_found k None h = cc
 side_found k (Some y) h = by (y.pipe == k) refl h
   where
@@ -158,18 +158,18 @@ side_found k (Some y) h = by (y.pipe == k) refl h
     by true e l = (y, refl, eqb-true y.pipe k e)
     by false e l = cc
 
-end_found_below : (k m : ℕ) (S : State) → has_end_below any_side k m S ≡ true → IsEnd k S
-unfolding has_end_below
+end_found_below : (k m : ℕ) (S : State) → has_side_below any_side k m S ≡ true → IsEnd k S
+unfolding has_side_below
 end_found_below k zero S h = cc
-end_found_below k (suc m) S h = elim (either (has_end_below any_side k m S) (is_side any_side (end_of k (S.descs m))) h) [
+end_found_below k (suc m) S h = elim (either (has_side_below any_side k m S) (is_side any_side (side_in k (S.descs m))) h) [
   | inl e ↦ end_found_below k m S e
   | inr e ↦ let r = side_found k (S.descs m) e in record { number = m; description = r.0; there = r.1; pipe = r.2 }
 ]
 
-pub end_found : (k : ℕ) (S : State) → has_end k S ≡ true → IsEnd k S
+pub end_found : (k : ℕ) (S : State) → has_side k S ≡ true → IsEnd k S
 end_found k S h = end_found_below k 64 S h
 
-pub has_end_from : (k : ℕ) (S : State) → (e : IsEnd k S) → e.number < 64 → has_end k S ≡ true
+pub has_end_from : (k : ℕ) (S : State) → (e : IsEnd k S) → e.number < 64 → has_side k S ≡ true
 has_end_from k S e less = end_from k 64 e.number S less (rw (e.there, eq-eqb e.description.pipe k e.pipe) refl)
 
 -- a state is well formed where both parts of it are

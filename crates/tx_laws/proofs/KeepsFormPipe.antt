@@ -6,7 +6,7 @@ use Rattle.tx_base.specs.declared.steps.Refusal.TheVariants.{NumberTaken}
 use Rattle.tx_model.specs.Numbers.{failing}
 use Rattle.tx_model.specs.State.{Process, Side, ReadSide, WriteSide, Description, State, SetProc, SetDesc, SetPipe, put_at, write_one, written, is_number, names_at}
 use Rattle.tx_model.specs.Effects.{idle, noted}
-use Rattle.tx_model.specs.Descriptors.{with_descriptor, lowest_free, with_two_slots, is_pipe_taken, opens_at, opens_from, pipe_effect}
+use Rattle.tx_model.specs.Descriptors.{with_descriptor, lowest_free, with_two_slots, is_pipe_in_use, opens_at, opens_from, pipe_effect}
 use Rattle.tx_model.specs.Transfers.{pipe_room}
 use Rattle.tx_laws.specs.WellFormed.{IsWellFormed}
 use Rattle.tx_laws.proofs.KeepsFormParts.{put_here, put_there, put_cases, IsTabled, IsNamed, IsEnd, IsLinked, names_at_of, form_from, tabled_of, linked_of, tabled_edit}
@@ -196,8 +196,8 @@ module _ (S : State) (p q r w : ℕ) (me : Process) (e : S.procs p ≡ Some me) 
   both_free None None None h = (refl, refl)
 
   pub pipe_form : KeepsForm S (pipe_effect p q r w me S)
-  pipe_form = by (is_pipe_taken q r w S) refl
+  pipe_form = by (is_pipe_in_use q r w S) refl
     where
-      by : (b : Bool) → is_pipe_taken q r w S ≡ b → KeepsForm S (if b then idle NumberTaken else opens_from p q r w me (lowest_free me))
+      by : (b : Bool) → is_pipe_in_use q r w S ≡ b → KeepsForm S (if b then idle NumberTaken else opens_from p q r w me (lowest_free me))
       by true h = idle_form S NumberTaken form
       by false h = let free = both_free (S.pipes q) (S.descs r) (S.descs w) h in from_form free.0 free.1 (lowest_free me) refl

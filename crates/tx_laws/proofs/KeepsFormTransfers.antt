@@ -4,11 +4,11 @@ use Rattle.std.proofs.lemmas.Bool.{ltb-false}
 use Rattle.tx_base.specs.declared.errors.Errno.TheVariants.{TryAgain, BadAddress, InvalidArgument, BrokenPipe}
 use Rattle.tx_base.specs.declared.steps.Refusal.TheVariants.{Wait}
 use Rattle.tx_model.specs.Numbers.{below, failing}
-use Rattle.tx_model.specs.Memory.{Memory, is_good, is_mapped, is_writable, stored, taken, bytes_from}
+use Rattle.tx_model.specs.Memory.{Memory, is_good, is_mapped, is_writable, stored, bytes_at, bytes_from}
 use Rattle.tx_model.specs.State.{Process, Side, ReadSide, WriteSide, Description, State, SetProc, SetDesc, SetPipe, put_at, write_one, written, names_at}
 use Rattle.tx_model.specs.Effects.{idle, noted, done, done_with}
 use Rattle.tx_model.specs.Descriptors.{bad_descriptor, flags, nonblock_effect}
-use Rattle.tx_model.specs.Transfers.{pipe_room, has_writer, has_reader, bytes_in, waits, takes, reads, read_by_side, read_described, read_effect, breaks, puts, writes, write_by_side, write_described, write_effect}
+use Rattle.tx_model.specs.Transfers.{pipe_room, has_writer, has_reader, bytes_in, waits, drains, reads, read_by_side, read_described, read_effect, breaks, puts, writes, write_by_side, write_described, write_effect}
 use Rattle.tx_laws.specs.WellFormed.{IsWellFormed}
 use Rattle.tx_laws.proofs.KeepsFormParts.{put_cases, some_of, IsNamed, IsEnd, IsLinked, form_from, tabled_of, linked_of, form_edit}
 use Rattle.tx_laws.proofs.KeepsFormOwn.{stays_from, plain, stored_paged}
@@ -97,7 +97,7 @@ from_fewer : (memory : Memory) (address n : ℕ) → length (bytes_from memory a
 from_fewer memory address zero = refl
 from_fewer memory address (suc n) = ap suc (from_fewer memory (address + 1) n)
 
-taken_fewer : (memory : Memory) (address : Option ℕ) (n : ℕ) → length (taken memory address n) ≤ n
+taken_fewer : (memory : Memory) (address : Option ℕ) (n : ℕ) → length (bytes_at memory address n) ≤ n
 taken_fewer memory None n = omega arith
 taken_fewer memory (Some address) n = let same : length (bytes_from memory address n) ≡ n = from_fewer memory address n in omega arith
 
@@ -129,7 +129,7 @@ module _ (S : State) (p : ℕ) (me : Process) (e : S.procs p ≡ Some me) (w : I
     empty_form true = waits_form x
     empty_form false = done_form S p me e w (pos 0)
 
-    takes_form : (n : ℕ) (writer : Bool) (y : Option (List ℕ)) → S.pipes x.pipe ≡ y → KeepsForm S (takes p x address n me writer (bytes_in y))
+    takes_form : (n : ℕ) (writer : Bool) (y : Option (List ℕ)) → S.pipes x.pipe ≡ y → KeepsForm S (drains p x address n me writer (bytes_in y))
     unfolding written
     takes_form n writer None k = empty_form writer
     takes_form n writer (Some []) k = empty_form writer
@@ -150,7 +150,7 @@ module _ (S : State) (p : ℕ) (me : Process) (e : S.procs p ≡ Some me) (w : I
     reads_form (Some zero) = done_form S p me e w (pos 0)
     reads_form (Some (suc n)) = by (is_good is_writable me.memory address (suc n))
       where
-        by : (b : Bool) → KeepsForm S (if b then takes p x address (suc n) me (has_writer x.pipe S) (bytes_in (S.pipes x.pipe)) else done p (failing BadAddress) me)
+        by : (b : Bool) → KeepsForm S (if b then drains p x address (suc n) me (has_writer x.pipe S) (bytes_in (S.pipes x.pipe)) else done p (failing BadAddress) me)
         by true = takes_form (suc n) (has_writer x.pipe S) (S.pipes x.pipe) refl
         by false = done_form S p me e w (failing BadAddress)
 
@@ -177,15 +177,15 @@ module _ (S : State) (p : ℕ) (me : Process) (e : S.procs p ≡ Some me) (w : I
     puts_form n bytes k = by (nat_lt pipe_room (length bytes + n)) refl
       where
         by : (b : Bool) → nat_lt pipe_room (length bytes + n) ≡ b
-            → KeepsForm S (if b then waits p x me else done_with (SetPipe x.pipe (Some (bytes ++ taken me.memory (below 1024 address) n)) ∷ []) p (pos n) me)
+            → KeepsForm S (if b then waits p x me else done_with (SetPipe x.pipe (Some (bytes ++ bytes_at me.memory (below 1024 address) n)) ∷ []) p (pos n) me)
         by true z = waits_form x
         by false z =
             let within : length bytes + n ≤ 512 = ltb-false 512 (length bytes + n) z in
-            let fewer : length (taken me.memory (below 1024 address) n) ≤ n = taken_fewer me.memory (below 1024 address) n in
-            let sum : length (bytes ++ taken me.memory (below 1024 address) n) ≡ length bytes + length (taken me.memory (below 1024 address) n) =
-            length-append bytes (taken me.memory (below 1024 address) n) in
-            let room : length (bytes ++ taken me.memory (below 1024 address) n) ≤ 512 = omega arith in
-            bytes_edit (write_one (SetProc p (Some (noted (pos n) me))) S) x.pipe bytes (bytes ++ taken me.memory (below 1024 address) n) k room
+            let fewer : length (bytes_at me.memory (below 1024 address) n) ≤ n = taken_fewer me.memory (below 1024 address) n in
+            let sum : length (bytes ++ bytes_at me.memory (below 1024 address) n) ≡ length bytes + length (bytes_at me.memory (below 1024 address) n) =
+            length-append bytes (bytes_at me.memory (below 1024 address) n) in
+            let room : length (bytes ++ bytes_at me.memory (below 1024 address) n) ≤ 512 = omega arith in
+            bytes_edit (write_one (SetProc p (Some (noted (pos n) me))) S) x.pipe bytes (bytes ++ bytes_at me.memory (below 1024 address) n) k room
             (noted_form S p me e w (pos n))
 
     writes_form : (n : Option ℕ) → KeepsForm S (writes p x address n me S)

@@ -3,35 +3,35 @@ use Rattle.std.proofs.Common.{◌≡◌, ℕ, true, List, [], ◌∷◌, ◌++�
 use Rattle.tx_base.specs.declared.steps.Step.{Step}
 use Rattle.tx_base.specs.declared.steps.Step.TheVariants.{Call as Calls, Deliver, KernelAbort}
 use Rattle.tx_model.specs.State.{State, Sending, Object, Proc, Held, SetHeld, written, AgreePart, AgreeAt, AgreeOn, has}
-use Rattle.tx_model.specs.Effects.{Inside, Effect, ListsFailed, sent, applied, closing_reply, committing}
-use Rattle.tx_model.specs.Calls.{Makes, Takes, objects_at}
+use Rattle.tx_model.specs.Effects.{Inside, Effect, ListsFailed, send_answers, applied, concluding_reply, committing}
+use Rattle.tx_model.specs.Calls.{MakesCall, TakesSignal, objects_at}
 use Rattle.tx_model.specs.Events.{Event, Do, Note, Commit, actor, note_effect, step_effect, effect, step_objects, objects, after, reply_of}
 use Rattle.tx_laws.proofs.Agree.{written_part, applied_keeps}
 use Rattle.tx_laws.proofs.Objects.{has_head, has_tail}
 use Rattle.tx_laws.proofs.OfActs.{act_same, footprint_same}
 
 -- where two states agree, they agree after an event that does the same in both
-pub after_keeps : (ev : Event) (S R : State) → effect ev S ≡ effect ev R → sent (effect ev S) S ≡ sent (effect ev R) R
+pub after_keeps : (ev : Event) (S R : State) → effect ev S ≡ effect ev R → send_answers (effect ev S) S ≡ send_answers (effect ev R) R
     → (o : Object) → AgreeAt S R o → AgreeAt (after ev S) (after ev R) o
 unfolding after
 after_keeps ev S R e a o h =
-    subst (λ (x : Effect × List ℤ). AgreeAt (applied (effect ev S) (sent (effect ev S) S) S) (applied x.0 x.1 R) o)
-    (ap₂ (λ (x : Effect) (y : List ℤ). (x, y)) e a) (applied_keeps (effect ev S) (sent (effect ev S) S) S R o h)
+    subst (λ (x : Effect × List ℤ). AgreeAt (applied (effect ev S) (send_answers (effect ev S) S) S) (applied x.0 x.1 R) o)
+    (ap₂ (λ (x : Effect) (y : List ℤ). (x, y)) e a) (applied_keeps (effect ev S) (send_answers (effect ev S) S) S R o h)
 
-pub reply_same : (ev : Event) (S R : State) → effect ev S ≡ effect ev R → sent (effect ev S) S ≡ sent (effect ev R) R → reply_of ev S ≡ reply_of ev R
+pub reply_same : (ev : Event) (S R : State) → effect ev S ≡ effect ev R → send_answers (effect ev S) S ≡ send_answers (effect ev R) R → reply_of ev S ≡ reply_of ev R
 unfolding reply_of
-reply_same ev S R e a = ap₂ (λ (x : Effect) (y : List ℤ). closing_reply x.closing x.sends y) e a
+reply_same ev S R e a = ap₂ (λ (x : Effect) (y : List ℤ). concluding_reply x.conclusion x.sends y) e a
 
 step_effect_same : (step : Step) (inside : Option Inside) (S R : State) → AgreeOn (step_objects step inside S) S R → step_effect step inside S ≡ step_effect step inside R
-step_effect_same (Calls p call) inside S R a = act_same inside p.0 (Makes call) S R a
-step_effect_same (Deliver p signo) inside S R a = act_same inside p.0 (Takes signo.0) S R a
+step_effect_same (Calls p call) inside S R a = act_same inside p.0 (MakesCall call) S R a
+step_effect_same (Deliver p signo) inside S R a = act_same inside p.0 (TakesSignal signo.0) S R a
 step_effect_same (KernelAbort s) inside S R a = refl
 
 -- the effect of a committing step depends on that of the step and on what was held
 committing_same : (s : ℕ) (f : Effect) (S R : State) → AgreePart S R (Held s) → committing s f S ≡ committing s f R
 committing_same s f S R h =
     let e : (written f.writes S).held s ≡ (written f.writes R).held s = written_part f.writes S R (Held s) h in
-    ap (λ (ms : List Sending). record { writes = f.writes ++ SetHeld s [] ∷ []; sends = f.sends ++ ms; closing = ListsFailed }) e
+    ap (λ (ms : List Sending). record { writes = f.writes ++ SetHeld s [] ∷ []; sends = f.sends ++ ms; conclusion = ListsFailed }) e
 
 -- the locality of every event: what it does is a function of its objects
 pub effect_same : (ev : Event) (S R : State) → AgreeOn (objects ev S) S R → effect ev S ≡ effect ev R
@@ -43,8 +43,8 @@ effect_same (Commit s ev) S R a =
     ∙ ap (λ (f : Effect). committing s f R) (effect_same ev S R (λ o h. a o (has_tail o (Held s) (objects ev S) h)))
 
 step_objects_same : (step : Step) (inside : Option Inside) (S R : State) → AgreeOn (step_objects step inside S) S R → step_objects step inside S ≡ step_objects step inside R
-step_objects_same (Calls p call) inside S R a = footprint_same inside p.0 (Makes call) S R a
-step_objects_same (Deliver p signo) inside S R a = footprint_same inside p.0 (Takes signo.0) S R a
+step_objects_same (Calls p call) inside S R a = footprint_same inside p.0 (MakesCall call) S R a
+step_objects_same (Deliver p signo) inside S R a = footprint_same inside p.0 (TakesSignal signo.0) S R a
 step_objects_same (KernelAbort s) inside S R a = refl
 
 pub objects_same : (ev : Event) (S R : State) → AgreeOn (objects ev S) S R → objects ev S ≡ objects ev R
@@ -54,8 +54,8 @@ objects_same (Note p r) S R a = refl
 objects_same (Commit s ev) S R a = ap (λ (os : List Object). Held s ∷ os) (objects_same ev S R (λ o h. a o (has_tail o (Held s) (objects ev S) h)))
 
 step_actor_in : (step : Step) (inside : Option Inside) (S : State) → has (Proc (actor (Do step inside))) (step_objects step inside S) ≡ true
-step_actor_in (Calls p call) inside S = has_head (Proc p.0) (objects_at inside p.0 (Makes call) S (S.procs p.0))
-step_actor_in (Deliver p signo) inside S = has_head (Proc p.0) (objects_at inside p.0 (Takes signo.0) S (S.procs p.0))
+step_actor_in (Calls p call) inside S = has_head (Proc p.0) (objects_at inside p.0 (MakesCall call) S (S.procs p.0))
+step_actor_in (Deliver p signo) inside S = has_head (Proc p.0) (objects_at inside p.0 (TakesSignal signo.0) S (S.procs p.0))
 step_actor_in (KernelAbort s) inside S = has_head (Proc s.0) []
 
 -- who makes an event is one of its objects

@@ -1,7 +1,7 @@
 -- Lists of objects, and writes that stay in them.
 use Rattle.std.proofs.Common.{◌≡◌, ◌≢◌, ℕ, Bool, true, false, List, [], ◌∷◌, ◌++◌, if◌then◌else◌, refl, ap, subst, eq-eqb, eqb-true}
-use Rattle.tx_model.specs.State.{State, Sending, Object, Proc, Desc, Pipe, Held, Write, SetProc, SetDesc, SetPipe, SetHeld, has_parent, names_at, end_of, same_object, has}
-use Rattle.tx_model.specs.Effects.{Closing, Replies, AnswersPost, ListsFailed}
+use Rattle.tx_model.specs.State.{State, Sending, Object, Proc, Desc, Pipe, Held, Write, SetProc, SetDesc, SetPipe, SetHeld, has_parent, names_at, side_in, same_object, has}
+use Rattle.tx_model.specs.Effects.{Conclusion, Replies, AnswersPost, ListsFailed}
 
 pub same_refl : (o : Object) → same_object o o ≡ true
 same_refl (Proc n) = eq-eqb n n refl
@@ -41,7 +41,7 @@ WriteFits S os (SetProc k x) =
     (has (Proc k) os ≡ true)
     × ((n : ℕ) → n ≢ 1 → has (Proc n) os ≡ false → has_parent n x ≡ has_parent n (S.procs k))
     × ((d f : ℕ) → has (Desc d) os ≡ false → names_at d f x ≡ names_at d f (S.procs k))
-WriteFits S os (SetDesc k x) = (has (Desc k) os ≡ true) × ((n : ℕ) → has (Pipe n) os ≡ false → end_of n x ≡ end_of n (S.descs k))
+WriteFits S os (SetDesc k x) = (has (Desc k) os ≡ true) × ((n : ℕ) → has (Pipe n) os ≡ false → side_in n x ≡ side_in n (S.descs k))
 WriteFits S os (SetPipe k x) = has (Pipe k) os ≡ true
 WriteFits S os (SetHeld k x) = has (Held k) os ≡ true
 
@@ -53,10 +53,10 @@ abbrev pub TargetsIn : List Sending → List Object → Type 0
 TargetsIn [] os = Unit {0}
 TargetsIn (m ∷ ms) os = (has (Proc m.target) os ≡ true) × TargetsIn ms os
 
-abbrev pub ClosingIn : Closing → List Object → Type 0
-ClosingIn (Replies r) os = Unit {0}
-ClosingIn (AnswersPost p) os = has (Proc p) os ≡ true
-ClosingIn ListsFailed os = Unit {0}
+abbrev pub ConclusionIn : Conclusion → List Object → Type 0
+ConclusionIn (Replies r) os = Unit {0}
+ConclusionIn (AnswersPost p) os = has (Proc p) os ≡ true
+ConclusionIn ListsFailed os = Unit {0}
 
 pub same_true : (o x : Object) → same_object o x ≡ true → o ≡ x
 same_true (Proc n) (Proc m) h = ap Proc (eqb-true n m h)

@@ -6,8 +6,8 @@ use Rattle.tx_model.specs.State.{Process, State, Sending, Object, Proc, Held, Ag
 use Rattle.tx_model.specs.Effects.{Inside}
 use Rattle.tx_model.specs.Descriptors.{descriptor, named}
 use Rattle.tx_laws.specs.Fits.{IsIn}
-use Rattle.tx_model.specs.Calls.{call_effect, call_objects, Act, Makes, Takes, act_effect, act_objects, running_effect, effect_at, objects_at, act_footprint}
-use Rattle.tx_laws.proofs.Objects.{WritesFit, ClosingIn, Covers, has_head}
+use Rattle.tx_model.specs.Calls.{call_effect, call_objects, Act, MakesCall, TakesSignal, act_effect, act_objects, running_effect, effect_at, objects_at, act_footprint}
+use Rattle.tx_laws.proofs.Objects.{WritesFit, ConclusionIn, Covers, has_head}
 use Rattle.tx_laws.proofs.Owed.{IsLocal}
 use Rattle.tx_laws.proofs.OfCalls.{own_call_local}
 use Rattle.tx_laws.proofs.OfDeliveries.{delivery_local}
@@ -33,8 +33,8 @@ call_local inside p c me = own_call_local inside p c me
 
 -- what every call and every delivery owes
 act_local : (inside : Option Inside) (p : ℕ) (act : Act) (me : Process) → IsLocal inside p me (λ S. act_effect inside p act me S) (λ S. act_objects inside p act me S)
-act_local inside p (Makes c) me = call_local inside p c me
-act_local inside p (Takes signo) me = delivery_local inside p signo me
+act_local inside p (MakesCall c) me = call_local inside p c me
+act_local inside p (TakesSignal signo) me = delivery_local inside p signo me
 
 module _ (inside : Option Inside) (p : ℕ) (act : Act) where
   running_same : (S R : State) (me : Process) (status : Option ℕ) → AgreeOn (Proc p ∷ act_objects inside p act me S) S R
@@ -61,18 +61,18 @@ module _ (inside : Option Inside) (p : ℕ) (act : Act) where
       (objects_same_at S R (S.procs p) a ∙ ap (objects_at inside p act R) (a (Proc p) (has_head (Proc p) (objects_at inside p act S (S.procs p)))).part)
 
   running_fits : (S : State) (all : List Object) (me : Process) (status : Option ℕ) → S.procs p ≡ Some me → Covers all (Proc p ∷ act_objects inside p act me S)
-      → WritesFit S all (running_effect inside p act S me status).writes × ClosingIn (running_effect inside p act S me status).closing all
+      → WritesFit S all (running_effect inside p act S me status).writes × ConclusionIn (running_effect inside p act S me status).conclusion all
   running_fits S all me None e c = (act_local inside p act me).fits S all e c
   running_fits S all me (Some status) e c = (tt, tt)
 
   at_fits : (S : State) (all : List Object) (x : Option Process) → S.procs p ≡ x → Covers all (Proc p ∷ objects_at inside p act S x)
-      → WritesFit S all (effect_at inside p act S x).writes × ClosingIn (effect_at inside p act S x).closing all
+      → WritesFit S all (effect_at inside p act S x).writes × ConclusionIn (effect_at inside p act S x).conclusion all
   at_fits S all None e c = (tt, tt)
   at_fits S all (Some me) e c = running_fits S all me me.status e c
 
   -- its writes stay in what it names
   pub act_fits : (S : State) (all : List Object) → Covers all (act_footprint inside p act S)
-      → WritesFit S all (effect_at inside p act S (S.procs p)).writes × ClosingIn (effect_at inside p act S (S.procs p)).closing all
+      → WritesFit S all (effect_at inside p act S (S.procs p)).writes × ConclusionIn (effect_at inside p act S (S.procs p)).conclusion all
   act_fits S all c = at_fits S all (S.procs p) refl c
 
   module _ (i : Inside) (e : inside ≡ Some i) where

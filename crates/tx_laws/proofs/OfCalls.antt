@@ -8,7 +8,7 @@ use Rattle.tx_model.specs.Numbers.{below}
 use Rattle.tx_model.specs.Memory.{is_good, is_mapped}
 use Rattle.tx_model.specs.State.{Process, Frame}
 use Rattle.tx_model.specs.Effects.{Inside, Own, answers_with, own_effect}
-use Rattle.tx_model.specs.Scripts.{jumps, is_taken, last_ret, keeps_at, shows, writes_console}
+use Rattle.tx_model.specs.Scripts.{jumps, does_jump, last_ret, keeps_at, shows, writes_console}
 use Rattle.tx_model.specs.Signals.{known, acts, is_bad_action, is_ignored, with_action, discarded, newest, returns}
 use Rattle.tx_model.specs.SignalSets.{kill_signo}
 use Rattle.tx_model.specs.Calls.{own_call}
@@ -36,7 +36,7 @@ console_keeps (Some inside) address n me = in_place me _ refl refl refl
 jumps_keeps : (point : ℕ) (when : When) (me : Process) → KeepsPlace me (jumps point when me).process
 jumps_keeps point when me =
     if_keeps me (nat_lt 65535 point) _ _ (in_place me _ refl refl refl)
-    (if_keeps me (is_taken when (last_ret me)) _ _ (in_place me _ refl refl refl) (in_place me _ refl refl refl))
+    (if_keeps me (does_jump when (last_ret me)) _ _ (in_place me _ refl refl refl) (in_place me _ refl refl refl))
 
 keeps_keeps : (slot : Option ℕ) (me : Process) → KeepsPlace me (keeps_at slot me).process
 keeps_keeps None me = in_place me _ refl refl refl

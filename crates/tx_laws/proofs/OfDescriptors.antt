@@ -4,10 +4,10 @@ use Rattle.std.proofs.lemmas.Bool.{both_ways}
 use Rattle.tx_base.specs.declared.errors.Errno.TheVariants.{BadDescriptor, TooManyDescriptors}
 use Rattle.tx_base.specs.declared.steps.Refusal.TheVariants.{NumberTaken}
 use Rattle.tx_model.specs.Numbers.{failing}
-use Rattle.tx_model.specs.State.{Process, ReadSide, WriteSide, Side, Description, State, Sending, Object, Proc, Desc, Pipe, Held, SetDesc, is_number, end_of, AgreeOn, same_object, has}
+use Rattle.tx_model.specs.State.{Process, ReadSide, WriteSide, Side, Description, State, Sending, Object, Proc, Desc, Pipe, Held, SetDesc, is_number, side_in, AgreeOn, same_object, has}
 use Rattle.tx_model.specs.Effects.{Inside, Effect, idle, noted, done}
 use Rattle.tx_laws.specs.Fits.{IsIn}
-use Rattle.tx_model.specs.Descriptors.{named, with_descriptor, first_free, lowest_free, bad_descriptor, listed, pipes_of, pipe_list, with_two_slots, is_pipe_taken, side_of, opens_at, opens_from, pipe_effect, pipe_objects, dups_to, dup_effect, renames, dup2_named, dup2_effect, dup2_objects, other_than, closes, close_effect, flags, nonblock_effect, gives_up, desc_objects, end_objects}
+use Rattle.tx_model.specs.Descriptors.{named, with_descriptor, first_free, lowest_free, bad_descriptor, listed, pipes_of, pipe_list, with_two_slots, is_pipe_in_use, new_side, opens_at, opens_from, pipe_effect, pipe_objects, dups_to, dup_effect, renames, dup2_named, dup2_effect, dup2_objects, other_than, closes, close_effect, flags, nonblock_effect, gives_up, desc_objects, desc_pipe_objects}
 use Rattle.tx_laws.proofs.Objects.{WriteFits, Covers, has_head, has_tail, same_true}
 use Rattle.tx_laws.proofs.Owed.{IsLocal}
 use Rattle.tx_laws.proofs.InPlace.{StaysIn, self_fits, noted_fits, done_fits}
@@ -102,11 +102,11 @@ dup_local inside p me f = record {
 
 -- close
 module _ (p : ℕ) (me : Process) (f : ℕ) where
-  closes_same : (v : Option ℕ) (S R : State) → AgreeOn (end_objects (listed v) S) S R → closes p me S f v ≡ closes p me R f v
+  closes_same : (v : Option ℕ) (S R : State) → AgreeOn (desc_pipe_objects (listed v) S) S R → closes p me S f v ≡ closes p me R f v
   closes_same None S R a = refl
   closes_same (Some d) S R a = gives_up_same (d ∷ []) p (pos 0) (with_descriptor f None me) S R a
 
-  closes_fits : (v : Option ℕ) (S : State) (all : List Object) → named me (Some f) ≡ v → S.procs p ≡ Some me → has (Proc p) all ≡ true → Covers all (end_objects (listed v) S) → StaysIn S all (closes p me S f v)
+  closes_fits : (v : Option ℕ) (S : State) (all : List Object) → named me (Some f) ≡ v → S.procs p ≡ Some me → has (Proc p) all ≡ true → Covers all (desc_pipe_objects (listed v) S) → StaysIn S all (closes p me S f v)
   closes_fits None S all k e h c = bad_fits p me S all e h
   closes_fits (Some d) S all k e h c =
       let was : (n : ℕ) → has (Desc n) all ≡ false → is_number n (slice_index_or me.descriptors f None) ≡ false =
@@ -121,11 +121,11 @@ module _ (p : ℕ) (me : Process) (f : ℕ) where
   closes_sends (Some d) S m i = i
 
 module _ (p : ℕ) (me : Process) where
-  close_same : (f : Option ℕ) (S R : State) → AgreeOn (end_objects (listed (named me f)) S) S R → close_effect p f me S ≡ close_effect p f me R
+  close_same : (f : Option ℕ) (S R : State) → AgreeOn (desc_pipe_objects (listed (named me f)) S) S R → close_effect p f me S ≡ close_effect p f me R
   close_same None S R a = refl
   close_same (Some f) S R a = closes_same p me f (named me (Some f)) S R a
 
-  close_fits : (f : Option ℕ) (S : State) (all : List Object) → S.procs p ≡ Some me → has (Proc p) all ≡ true → Covers all (end_objects (listed (named me f)) S) → StaysIn S all (close_effect p f me S)
+  close_fits : (f : Option ℕ) (S : State) (all : List Object) → S.procs p ≡ Some me → has (Proc p) all ≡ true → Covers all (desc_pipe_objects (listed (named me f)) S) → StaysIn S all (close_effect p f me S)
   close_fits None S all e h c = bad_fits p me S all e h
   close_fits (Some f) S all e h c = closes_fits p me f (named me (Some f)) S all refl e h c
 
@@ -133,15 +133,15 @@ module _ (p : ℕ) (me : Process) where
   close_sends None S m i = i
   close_sends (Some f) S m i = closes_sends p me f (named me (Some f)) S m i
 
-pub close_local : (inside : Option Inside) (p : ℕ) (me : Process) (f : Option ℕ) → IsLocal inside p me (λ S. close_effect p f me S) (λ S. end_objects (listed (named me f)) S)
+pub close_local : (inside : Option Inside) (p : ℕ) (me : Process) (f : Option ℕ) → IsLocal inside p me (λ S. close_effect p f me S) (λ S. desc_pipe_objects (listed (named me f)) S)
 close_local inside p me f =
     let ds : List ℕ = listed (named me f) in
     record {
-      same = λ S R a. close_same p me f S R (agree_rest (Proc p) (end_objects ds S) S R a);
-      foot = λ S R a. ends_same ds S R (agree_rest (Proc p) (end_objects ds S) S R a);
-      fits = λ S all e c. close_fits p me f S all e (covers_head all (Proc p) (end_objects ds S) c) (covers_rest all (Proc p) (end_objects ds S) c);
+      same = λ S R a. close_same p me f S R (agree_rest (Proc p) (desc_pipe_objects ds S) S R a);
+      foot = λ S R a. ends_same ds S R (agree_rest (Proc p) (desc_pipe_objects ds S) S R a);
+      fits = λ S all e c. close_fits p me f S all e (covers_head all (Proc p) (desc_pipe_objects ds S) c) (covers_rest all (Proc p) (desc_pipe_objects ds S) c);
       sends = λ S i k l m n. absurd (close_sends p me f S m n);
-      holds = λ S i k u h. absurd (both_ways (has (Held u) (end_objects ds S)) (ends_held u ds S) h);
+      holds = λ S i k u h. absurd (both_ways (has (Held u) (desc_pipe_objects ds S)) (ends_held u ds S) h);
     }
 
 -- set_nonblock
@@ -186,11 +186,11 @@ module _ (p : ℕ) (me : Process) (g : ℕ) where
   abbrev renamed : ℕ → Bool → State → Effect
   renamed d b S = if b then done p (pos g) me else gives_up (listed (named me (Some g))) p (pos g) (with_descriptor g (Some d) me) S
 
-  renamed_same : (d : ℕ) (b : Bool) (S R : State) → AgreeOn (end_objects (other b) S) S R → renamed d b S ≡ renamed d b R
+  renamed_same : (d : ℕ) (b : Bool) (S R : State) → AgreeOn (desc_pipe_objects (other b) S) S R → renamed d b S ≡ renamed d b R
   renamed_same d true S R a = refl
   renamed_same d false S R a = gives_up_same (listed (named me (Some g))) p (pos g) (with_descriptor g (Some d) me) S R a
 
-  renamed_fits : (d : ℕ) (b : Bool) (S : State) (all : List Object) → S.procs p ≡ Some me → has (Proc p) all ≡ true → has (Desc d) all ≡ true → Covers all (end_objects (other b) S) → StaysIn S all (renamed d b S)
+  renamed_fits : (d : ℕ) (b : Bool) (S : State) (all : List Object) → S.procs p ≡ Some me → has (Proc p) all ≡ true → has (Desc d) all ≡ true → Covers all (desc_pipe_objects (other b) S) → StaysIn S all (renamed d b S)
   renamed_fits d true S all e h k c = done_fits p me S all e h (pos g)
   renamed_fits d false S all e h k c =
       let ds : List ℕ = listed (named me (Some g)) in
@@ -208,21 +208,21 @@ module _ (p : ℕ) (me : Process) (g : ℕ) where
 
 -- what the first descriptor names
 module _ (p : ℕ) (me : Process) (f : ℕ) where
-  renames_same : (d : ℕ) (g : Option ℕ) (S R : State) → AgreeOn (end_objects (other_than (Some f) g me) S) S R → renames p me S f d g ≡ renames p me R f d g
+  renames_same : (d : ℕ) (g : Option ℕ) (S R : State) → AgreeOn (desc_pipe_objects (other_than (Some f) g me) S) S R → renames p me S f d g ≡ renames p me R f d g
   renames_same d None S R a = refl
   renames_same d (Some g) S R a = renamed_same p me g d (f == g) S R a
 
-  named_same : (v g : Option ℕ) (S R : State) → AgreeOn (end_objects (other_than (Some f) g me) S) S R → dup2_named p me S f g v ≡ dup2_named p me R f g v
+  named_same : (v g : Option ℕ) (S R : State) → AgreeOn (desc_pipe_objects (other_than (Some f) g me) S) S R → dup2_named p me S f g v ≡ dup2_named p me R f g v
   named_same None g S R a = refl
   named_same (Some d) g S R a = renames_same d g S R a
 
   renames_fits : (d : ℕ) (g : Option ℕ) (S : State) (all : List Object) → S.procs p ≡ Some me → has (Proc p) all ≡ true → has (Desc d) all ≡ true
-      → Covers all (end_objects (other_than (Some f) g me) S) → StaysIn S all (renames p me S f d g)
+      → Covers all (desc_pipe_objects (other_than (Some f) g me) S) → StaysIn S all (renames p me S f d g)
   renames_fits d None S all e h k c = bad_fits p me S all e h
   renames_fits d (Some g) S all e h k c = renamed_fits p me g d (f == g) S all e h k c
 
   named_fits : (v g : Option ℕ) (S : State) (all : List Object) → S.procs p ≡ Some me → has (Proc p) all ≡ true → Covers all (desc_objects (listed v))
-      → Covers all (end_objects (other_than (Some f) g me) S) → StaysIn S all (dup2_named p me S f g v)
+      → Covers all (desc_pipe_objects (other_than (Some f) g me) S) → StaysIn S all (dup2_named p me S f g v)
   named_fits None g S all e h k c = bad_fits p me S all e h
   named_fits (Some d) g S all e h k c = renames_fits d g S all e h (covers_head all (Desc d) [] k) c
 
@@ -235,12 +235,12 @@ module _ (p : ℕ) (me : Process) (f : ℕ) where
   named_sends (Some d) g S m i = renames_sends d g S m i
 
 module _ (p : ℕ) (me : Process) where
-  dup2_same : (f g : Option ℕ) (S R : State) → AgreeOn (end_objects (other_than f g me) S) S R → dup2_effect p f g me S ≡ dup2_effect p f g me R
+  dup2_same : (f g : Option ℕ) (S R : State) → AgreeOn (desc_pipe_objects (other_than f g me) S) S R → dup2_effect p f g me S ≡ dup2_effect p f g me R
   dup2_same None g S R a = refl
   dup2_same (Some f) g S R a = named_same p me f (named me (Some f)) g S R a
 
   dup2_fits : (f g : Option ℕ) (S : State) (all : List Object) → S.procs p ≡ Some me → has (Proc p) all ≡ true → Covers all (desc_objects (listed (named me f)))
-      → Covers all (end_objects (other_than f g me) S) → StaysIn S all (dup2_effect p f g me S)
+      → Covers all (desc_pipe_objects (other_than f g me) S) → StaysIn S all (dup2_effect p f g me S)
   dup2_fits None g S all e h k c = bad_fits p me S all e h
   dup2_fits (Some f) g S all e h k c = named_fits p me f (named me (Some f)) g S all e h k c
 
@@ -252,21 +252,21 @@ pub dup2_local : (inside : Option Inside) (p : ℕ) (me : Process) (f g : Option
 dup2_local inside p me f g =
     let xs : List Object = desc_objects (listed (named me f)) in
     let ds : List ℕ = other_than f g me in
-    let own : (S R : State) → AgreeOn (Proc p ∷ dup2_objects f g me S) S R → AgreeOn (end_objects ds S) S R =
-    λ S R a. agree_right xs (end_objects ds S) S R (agree_rest (Proc p) (dup2_objects f g me S) S R a) in
+    let own : (S R : State) → AgreeOn (Proc p ∷ dup2_objects f g me S) S R → AgreeOn (desc_pipe_objects ds S) S R =
+    λ S R a. agree_right xs (desc_pipe_objects ds S) S R (agree_rest (Proc p) (dup2_objects f g me S) S R a) in
     record {
       same = λ S R a. dup2_same p me f g S R (own S R a);
       foot = λ S R a. ap (λ (os : List Object). xs ++ os) (ends_same ds S R (own S R a));
       fits = λ S all e c.
-          let k : Covers all (xs ++ end_objects ds S) = covers_rest all (Proc p) (dup2_objects f g me S) c in
-          dup2_fits p me f g S all e (covers_head all (Proc p) (dup2_objects f g me S) c) (covers_left all xs (end_objects ds S) k) (covers_right all xs (end_objects ds S) k);
+          let k : Covers all (xs ++ desc_pipe_objects ds S) = covers_rest all (Proc p) (dup2_objects f g me S) c in
+          dup2_fits p me f g S all e (covers_head all (Proc p) (dup2_objects f g me S) c) (covers_left all xs (desc_pipe_objects ds S) k) (covers_right all xs (desc_pipe_objects ds S) k);
       sends = λ S i k l m n. absurd (dup2_sends p me f g S m n);
-      holds = λ S i k u h. absurd (both_ways (has (Held u) (dup2_objects f g me S)) (lacks_both (Held u) xs (end_objects ds S) (descs_held u (listed (named me f))) (ends_held u ds S)) h);
+      holds = λ S i k u h. absurd (both_ways (has (Held u) (dup2_objects f g me S)) (lacks_both (Held u) xs (desc_pipe_objects ds S) (descs_held u (listed (named me f))) (ends_held u ds S)) h);
     }
 
 -- pipe: an end of the new pipe at a number that was free
-side_fits : (S : State) (all : List Object) (q r : ℕ) (side : Side) → S.descs r ≡ None → has (Desc r) all ≡ true → has (Pipe q) all ≡ true → WriteFits S all (SetDesc r (side_of q side))
-side_fits S all q r side e h k = (h, λ n l. by n l (q == n) (λ z. eqb-true q n z) ∙ ap (end_of n) (sym e))
+side_fits : (S : State) (all : List Object) (q r : ℕ) (side : Side) → S.descs r ≡ None → has (Desc r) all ≡ true → has (Pipe q) all ≡ true → WriteFits S all (SetDesc r (new_side q side))
+side_fits S all q r side e h k = (h, λ n l. by n l (q == n) (λ z. eqb-true q n z) ∙ ap (side_in n) (sym e))
   where
     by : (n : ℕ) → has (Pipe n) all ≡ false → (b : Bool) → (b ≡ true → q ≡ n) → (if b then Some side else None) ≡ None
     by n l true z =
@@ -308,7 +308,7 @@ module _ (p q r w : ℕ) (me : Process) where
     from_fits i j None k = many_fits p me S all e (c (Proc p) (has_head (Proc p) (pipe_objects q r w)))
     from_fits i j (Some f) k = at_fits f k i j (lowest_free (with_descriptor f (Some r) me)) refl
 
-    pipe_fits : (b : Bool) → is_pipe_taken q r w S ≡ b → StaysIn S all (if b then idle NumberTaken else opens_from p q r w me (lowest_free me))
+    pipe_fits : (b : Bool) → is_pipe_in_use q r w S ≡ b → StaysIn S all (if b then idle NumberTaken else opens_from p q r w me (lowest_free me))
     pipe_fits true k = (tt, tt)
     pipe_fits false k = let z = free_two (S.pipes q) (S.descs r) (S.descs w) k in from_fits z.0 z.1 (lowest_free me) refl
 
@@ -324,7 +324,7 @@ module _ (p q r w : ℕ) (me : Process) where
   pipe_sends true m i = i
   pipe_sends false m i = from_sends (lowest_free me) m i
 
-  taken_same : (S R : State) → AgreeOn (pipe_objects q r w) S R → is_pipe_taken q r w S ≡ is_pipe_taken q r w R
+  taken_same : (S R : State) → AgreeOn (pipe_objects q r w) S R → is_pipe_in_use q r w S ≡ is_pipe_in_use q r w R
   taken_same S R a =
       let one = agree_rest (Pipe q) (Desc r ∷ Desc w ∷ []) S R a in
       let two = agree_rest (Desc r) (Desc w ∷ []) S R one in
@@ -341,7 +341,7 @@ pipe_local inside p q r w me = record {
   same = λ S R a. ap (λ (b : Bool). if b then idle NumberTaken else opens_from p q r w me (lowest_free me))
       (taken_same p q r w me S R (agree_rest (Proc p) (pipe_objects q r w) S R a));
   foot = λ S R a. refl;
-  fits = λ S all e c. pipe_fits p q r w me S all e c (is_pipe_taken q r w S) refl;
-  sends = λ S i k l m n. absurd (pipe_sends p q r w me (is_pipe_taken q r w S) m n);
+  fits = λ S all e c. pipe_fits p q r w me S all e c (is_pipe_in_use q r w S) refl;
+  sends = λ S i k l m n. absurd (pipe_sends p q r w me (is_pipe_in_use q r w S) m n);
   holds = λ S i k u h. absurd (both_ways (has (Held u) (pipe_objects q r w)) (pipe_held u q r w) h);
 }

@@ -7,7 +7,7 @@ use Rattle.tx_model.specs.Numbers.{failing}
 use Rattle.tx_model.specs.State.{Process, State, Sending, Object, Proc, Desc, Held, Write, SetProc, SetHeld, write_one, has_parent, is_number, names_at, AgreeAt, AgreeOn, has}
 use Rattle.tx_model.specs.Effects.{Inside, Replies, noted, done}
 use Rattle.tx_laws.specs.Fits.{IsIn}
-use Rattle.tx_model.specs.Descriptors.{open_in, pipes_of, released, desc_objects, pipe_list, end_objects}
+use Rattle.tx_model.specs.Descriptors.{open_in, pipes_of, released, desc_objects, pipe_list, desc_pipe_objects}
 use Rattle.tx_model.specs.Processes.{child_of, forks, fork_effect, fork_objects, ended, children_below, children_of, with_parent, orphaned, told_to, tells, tells_later, ending, procs_of, held_objects, ending_objects, exit_status, exit_effect, exit_objects, numbered, with_status, waits_by, waits_for, waits_at, waitpid_effect, numbered_objects, waitpid_objects}
 use Rattle.tx_laws.proofs.Objects.{WriteFits, WritesFit, Covers, has_head, has_tail, writes_append}
 use Rattle.tx_laws.proofs.Owed.{IsLocal}
@@ -185,7 +185,7 @@ tells_members i parent m h = by (parent == 1) (i.members parent) refl h
 -- the end of process p, which is me, as it is now: with the same parent and the same descriptors
 module _ (inside : Option Inside) (p status : ℕ) (me now : Process) where
   ends : State → List Object
-  ends S = end_objects (open_in now.descriptors) S
+  ends S = desc_pipe_objects (open_in now.descriptors) S
 
   children : State → List Object
   children S = procs_of (children_of p S)
@@ -195,7 +195,7 @@ module _ (inside : Option Inside) (p status : ℕ) (me now : Process) where
   ending_same S R a = λ i. record {
     writes = SetProc p (Some (ended status now)) ∷ orphans i ++ released_after (open_in now.descriptors) p (Some (ended status now)) S R in_ends i ++ later_same inside now.parent S R in_held i;
     sends = tells inside now.parent;
-    closing = Replies Ended;
+    conclusion = Replies Ended;
   }
     where
       others : AgreeOn (ending_objects inside p now S) S R

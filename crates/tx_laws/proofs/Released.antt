@@ -1,9 +1,9 @@
 -- What goes with names of descriptions that were given up depends on those descriptions and their pipes alone.
 use Rattle.std.proofs.Common.{◌≡◌, ℕ, zero, suc, ◌+◌, Bool, true, false, List, [], ◌∷◌, ◌++◌, ℤ, Option, Some, None, if◌then◌else◌, ◌==◌, refl, sym, ap, ap₂, ◌∙◌, subst, eqb-true}
 use Rattle.std.proofs.lemmas.Bool.{both_ways}
-use Rattle.tx_model.specs.State.{Process, Side, Description, State, Object, Desc, Pipe, Held, Write, SetProc, SetDesc, SetPipe, write_one, written, names_at, end_of, AgreeAt, AgreeOn, same_object, has}
+use Rattle.tx_model.specs.State.{Process, Side, Description, State, Object, Desc, Pipe, Held, Write, SetProc, SetDesc, SetPipe, write_one, written, names_at, side_in, AgreeAt, AgreeOn, same_object, has}
 use Rattle.tx_model.specs.Effects.{noted, done_with}
-use Rattle.tx_model.specs.Descriptors.{names_below, is_named_below, is_named, is_side, has_end_below, has_end, pipe_of, pipes_of, unnamed_go, endless_go, released, gives_up, desc_objects, pipe_list, end_objects}
+use Rattle.tx_model.specs.Descriptors.{names_below, is_named_below, is_named, is_side, has_side_below, has_side, pipe_of, pipes_of, unnamed_go, endless_go, released, gives_up, desc_objects, pipe_list, desc_pipe_objects}
 use Rattle.tx_laws.proofs.Agree.{written_keeps}
 use Rattle.tx_laws.proofs.Objects.{WriteFits, WritesFit, Covers, has_head, has_tail, has_left, has_right, writes_append}
 
@@ -54,14 +54,14 @@ pub is_named_same : (d : ℕ) (S R : State) → AgreeAt S R (Desc d) → is_name
 is_named_same d S R a = is_named_below_same d (S.width + 1) S R a.family ∙ ap (λ (w : ℕ). is_named_below d (w + 1) R) a.width
 
 -- the ends of a pipe
-pub has_end_below_same : (test : Side → Bool) (k d : ℕ) (S R : State) → ((d : ℕ) → end_of k (S.descs d) ≡ end_of k (R.descs d)) → has_end_below test k d S ≡ has_end_below test k d R
-unfolding has_end_below
+pub has_end_below_same : (test : Side → Bool) (k d : ℕ) (S R : State) → ((d : ℕ) → side_in k (S.descs d) ≡ side_in k (R.descs d)) → has_side_below test k d S ≡ has_side_below test k d R
+unfolding has_side_below
 has_end_below_same test k zero S R h = refl
 has_end_below_same test k (suc d) S R h =
-    or_same (has_end_below test k d S) (has_end_below test k d R) (is_side test (end_of k (S.descs d))) (is_side test (end_of k (R.descs d)))
+    or_same (has_side_below test k d S) (has_side_below test k d R) (is_side test (side_in k (S.descs d))) (is_side test (side_in k (R.descs d)))
     (has_end_below_same test k d S R h) (ap (is_side test) (h d))
 
-pub has_end_same : (k : ℕ) (S R : State) → AgreeAt S R (Pipe k) → has_end k S ≡ has_end k R
+pub has_end_same : (k : ℕ) (S R : State) → AgreeAt S R (Pipe k) → has_side k S ≡ has_side k R
 has_end_same k S R a = has_end_below_same (λ side. true) k 64 S R a.family
 
 -- the pipes of the descriptions
@@ -78,7 +78,7 @@ unfolding pipes_of
 pipes_of_descs [] S T e = refl
 pipes_of_descs (d ∷ ds) S T e = ap₂ (λ (x : Option Description) (ks : List ℕ). pipe_of x ++ ks) (ap (λ (f : ℕ → Option Description). f d) e) (pipes_of_descs ds S T e)
 
-pub ends_same : (ds : List ℕ) (S R : State) → AgreeOn (end_objects ds S) S R → end_objects ds S ≡ end_objects ds R
+pub ends_same : (ds : List ℕ) (S R : State) → AgreeOn (desc_pipe_objects ds S) S R → desc_pipe_objects ds S ≡ desc_pipe_objects ds R
 ends_same ds S R a =
     ap (λ (ks : List ℕ). desc_objects ds ++ pipe_list ks) (pipes_same ds S R (agree_left (desc_objects ds) (pipe_list (pipes_of ds S)) S R a))
 
@@ -97,7 +97,7 @@ endless_same (k ∷ ks) S R a =
     ap₂ (λ (b : Bool) (ws : List Write). if b then ws else SetPipe k None ∷ ws) (has_end_same k S R (a (Pipe k) (has_head (Pipe k) (pipe_list ks))))
     (endless_same ks S R (agree_rest (Pipe k) (pipe_list ks) S R a))
 
-pub released_same : (ds : List ℕ) (S R : State) → AgreeOn (end_objects ds S) S R → released ds S ≡ released ds R
+pub released_same : (ds : List ℕ) (S R : State) → AgreeOn (desc_pipe_objects ds S) S R → released ds S ≡ released ds R
 released_same ds S R a =
     let ks : List ℕ = pipes_of ds S in
     let ws : List Write = unnamed_go ds S in
@@ -120,7 +120,7 @@ unfolding has
 pipes_held u [] = refl
 pipes_held u (k ∷ ks) = pipes_held u ks
 
-pub ends_held : (u : ℕ) (ds : List ℕ) (S : State) → has (Held u) (end_objects ds S) ≡ false
+pub ends_held : (u : ℕ) (ds : List ℕ) (S : State) → has (Held u) (desc_pipe_objects ds S) ≡ false
 ends_held u ds S = lacks_both (Held u) (desc_objects ds) (pipe_list (pipes_of ds S)) (descs_held u ds) (pipes_held u (pipes_of ds S))
 
 -- what covers lists covers their parts
@@ -141,7 +141,7 @@ pipes_append [] ys = refl
 pipes_append (x ∷ xs) ys = ap (λ (os : List Object). Pipe x ∷ os) (pipes_append xs ys)
 
 -- a description that is taken away was an end of no pipe but its own
-none_end : (all : List Object) (n : ℕ) (x : Option Description) → Covers all (pipe_list (pipe_of x)) → has (Pipe n) all ≡ false → end_of n None ≡ end_of n x
+none_end : (all : List Object) (n : ℕ) (x : Option Description) → Covers all (pipe_list (pipe_of x)) → has (Pipe n) all ≡ false → side_in n None ≡ side_in n x
 none_end all n None c h = refl
 none_end all n (Some x) c h = by (x.pipe == n) (λ e. eqb-true x.pipe n e)
   where
@@ -173,11 +173,11 @@ pub endless_fits : (ks : List ℕ) (S T : State) (all : List Object) → Covers 
 unfolding endless_go
 endless_fits [] S T all c = tt
 endless_fits (k ∷ ks) S T all c =
-    choice_fits (has_end k T) S all (SetPipe k None) (endless_go ks T) (covers_head all (Pipe k) (pipe_list ks) c)
+    choice_fits (has_side k T) S all (SetPipe k None) (endless_go ks T) (covers_head all (Pipe k) (pipe_list ks) c)
     (endless_fits ks S T all (covers_rest all (Pipe k) (pipe_list ks) c))
 
 -- it stays in the descriptions and their pipes
-pub released_fits : (ds : List ℕ) (S T : State) (all : List Object) → T.descs ≡ S.descs → Covers all (end_objects ds S) → WritesFit S all (released ds T)
+pub released_fits : (ds : List ℕ) (S T : State) (all : List Object) → T.descs ≡ S.descs → Covers all (desc_pipe_objects ds S) → WritesFit S all (released ds T)
 released_fits ds S T all e c =
     let ds_in : Covers all (desc_objects ds) = covers_left all (desc_objects ds) (pipe_list (pipes_of ds S)) c in
     let ks_in : Covers all (pipe_list (pipes_of ds S)) = covers_right all (desc_objects ds) (pipe_list (pipes_of ds S)) c in
@@ -186,18 +186,18 @@ released_fits ds S T all e c =
     (unnamed_fits ds S T all ds_in ks_in) (endless_fits (pipes_of ds T) S (written (unnamed_go ds T) T) all ls_in)
 
 -- the same where a process was written before
-pub released_after : (ds : List ℕ) (p : ℕ) (x : Option Process) (S R : State) → AgreeOn (end_objects ds S) S R
+pub released_after : (ds : List ℕ) (p : ℕ) (x : Option Process) (S R : State) → AgreeOn (desc_pipe_objects ds S) S R
     → released ds (write_one (SetProc p x) S) ≡ released ds (write_one (SetProc p x) R)
 released_after ds p x S R a =
     let T : State = write_one (SetProc p x) S in
-    let same : end_objects ds S ≡ end_objects ds T = ap (λ (ks : List ℕ). desc_objects ds ++ pipe_list ks) (sym (pipes_of_descs ds S T refl)) in
+    let same : desc_pipe_objects ds S ≡ desc_pipe_objects ds T = ap (λ (ks : List ℕ). desc_objects ds ++ pipe_list ks) (sym (pipes_of_descs ds S T refl)) in
     released_same ds T (write_one (SetProc p x) R)
-    (subst (λ (os : List Object). AgreeOn os T (write_one (SetProc p x) R)) same (agree_written (SetProc p x) (end_objects ds S) S R a))
+    (subst (λ (os : List Object). AgreeOn os T (write_one (SetProc p x) R)) same (agree_written (SetProc p x) (desc_pipe_objects ds S) S R a))
 
-pub gives_up_same : (ds : List ℕ) (p : ℕ) (r : ℤ) (me : Process) (S R : State) → AgreeOn (end_objects ds S) S R → gives_up ds p r me S ≡ gives_up ds p r me R
+pub gives_up_same : (ds : List ℕ) (p : ℕ) (r : ℤ) (me : Process) (S R : State) → AgreeOn (desc_pipe_objects ds S) S R → gives_up ds p r me S ≡ gives_up ds p r me R
 gives_up_same ds p r me S R a =
     ap (λ (ws : List Write). done_with ws p r me) (released_after ds p (Some (noted r me)) S R a)
 
-pub gives_up_fits : (ds : List ℕ) (p : ℕ) (r : ℤ) (me : Process) (S : State) (all : List Object) → WriteFits S all (SetProc p (Some (noted r me))) → Covers all (end_objects ds S)
+pub gives_up_fits : (ds : List ℕ) (p : ℕ) (r : ℤ) (me : Process) (S : State) (all : List Object) → WriteFits S all (SetProc p (Some (noted r me))) → Covers all (desc_pipe_objects ds S)
     → WritesFit S all (gives_up ds p r me S).writes
 gives_up_fits ds p r me S all f c = (f, released_fits ds S (write_one (SetProc p (Some (noted r me))) S) all refl c)

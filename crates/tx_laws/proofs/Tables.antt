@@ -3,7 +3,7 @@ use Rattle.std.proofs.Common.{◌≡◌, ℕ, Bool, true, false, Option, Some, N
 use Rattle.std.proofs.lemmas.Bool.{both_ways}
 use Rattle.tx_base.specs.declared.marks.Mark.{Mark}
 use Rattle.tx_model.specs.State.{put_at}
-use Rattle.tx_model.specs.Membership.{Table, is_of, is_member_of, is_live, Part, Continues, Parks, Forks, Begins, Within, parked, defers_in, new_mark, unmarked, table_after}
+use Rattle.tx_model.specs.Membership.{Table, is_of, is_member_of, is_live, Progress, Continues, Parks, Forks, Begins, Within, parked, defers_in, new_mark, unmarked, table_after}
 
 -- a number is a member of one transaction at most
 pub of_unique : (s t : ℕ) (x : Option Mark) → is_of s x ≡ true → is_of t x ≡ true → s ≡ t
@@ -47,7 +47,7 @@ pub record Grows (t : Table) (s : ℕ) (new : Table) (joins : ℕ → Bool) : Ty
   pub width : new.width ≡ t.width
 
 -- the number q joins
-abbrev pub joins_by : Part → ℕ → ℕ → Bool
+abbrev pub joins_by : Progress → ℕ → ℕ → Bool
 joins_by Continues p q = false
 joins_by Parks p q = false
 joins_by (Forks c) p q = q == c

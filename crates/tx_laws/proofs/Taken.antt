@@ -16,17 +16,17 @@ use Rattle.tx_model.specs.Numbers.{negative}
 use Rattle.tx_model.specs.Effects.{Inside}
 use Rattle.tx_model.specs.Descriptors.{open_in, desc_objects}
 use Rattle.tx_model.specs.Processes.{fork_objects}
-use Rattle.tx_model.specs.Calls.{Makes, Takes, objects_at}
+use Rattle.tx_model.specs.Calls.{MakesCall, TakesSignal, objects_at}
 use Rattle.tx_model.specs.Events.{Event, Do, Note, Commit, process_of, actor, effect, objects, step_effect, step_objects, reply_of}
-use Rattle.tx_model.specs.Membership.{Table, is_member_of, is_live, inside_by, Part, Continues, Parks, Forks, Begins, Role, Outside, Within, Commits, Aborts, Kind, Ordinary, Forking, Beginning, Ending, Aborting, kind_of, is_end, others_open, ending_role, ordinary_role, called_by_status, kind_role, role, kind_event, step_event, event_in, event}
+use Rattle.tx_model.specs.Membership.{Table, is_member_of, is_live, inside_by, Progress, Continues, Parks, Forks, Begins, Role, Outside, Within, Commits, Aborts, Kind, Ordinary, Forking, Beginning, Leaving, Aborting, kind_of, says_ended, others_open, member_end_role, ordinary_role, called_by_status, kind_role, role, kind_event, step_event, event_in, event}
 use Rattle.tx_model.specs.History.{is_other_starter}
 use Rattle.tx_model.specs.View.{View, present, kernel_status, abort_status, first_reply, role_on, event_on, in_way, least, holder, IsClear}
-use Rattle.tx_model.specs.Answer.{is_running, is_there, has_bad_number, has_taken_number, is_doomed_at, is_parked, is_held_by_kill, busy, refusal, plain_reply, accepted_reply, unless_refused, answer, IsAccepted}
+use Rattle.tx_model.specs.Answer.{is_running, is_there, has_bad_number, has_number_in_use, is_doomed_at, is_parked, is_held_by_kill, busy, refusal, plain_reply, accepted_reply, unless_refused, answer, IsAccepted}
 use Rattle.tx_laws.specs.Sound.{IsSound}
 use Rattle.tx_laws.proofs.Objects.{has_head, has_tail}
 use Rattle.tx_laws.proofs.OfActs.{act_sends, act_holds}
 use Rattle.tx_laws.proofs.Tables.{of_unique, of_none}
-use Rattle.tx_laws.specs.Fits.{IsIn, PartFits, FitsWithin, Fits, Passes}
+use Rattle.tx_laws.specs.Fits.{IsIn, ProgressFits, FitsWithin, Fits, Passes}
 
 some_not_none : (o : Option ℕ) → is_some o ≡ true → o ≡ None → ⊥
 some_not_none None a b = cc
@@ -83,7 +83,7 @@ unrefused V p step h =
     let a = if_none (not (is_there V p)) NoProcess _ h in
     let b = if_none (not (is_running ((present V).procs p))) NotRunning _ a.1 in
     let c = if_none (has_bad_number V.table.width step) BadNumber _ b.1 in
-    let d = if_none (has_taken_number (present V) step) NumberTaken _ c.1 in
+    let d = if_none (has_number_in_use (present V) step) NumberTaken _ c.1 in
     let e = if_none (is_doomed_at V (V.table.marks p)) Doomed _ d.1 in
     let f = if_none (is_parked (V.table.marks p)) Parked _ e.1 in
     let g = if_none (is_held_by_kill (present V) p step) KillPending _ f.1 in
@@ -111,18 +111,18 @@ unfolding effect objects has
 note_within V s p r = record { actor_is = refl; sends = λ S m i. absurd i; holds = λ S u h. cc }
 
 step_sends : (step : Step) (i : Inside) (S : State) → i.members (process_of step) ≡ true → (m : Sending) → IsIn m (step_effect step (Some i) S).sends → i.members m.target ≡ true
-step_sends (Calls p call) i S member m h = act_sends (Some i) p.0 (Makes call) i refl S member m h
-step_sends (Deliver p signo) i S member m h = act_sends (Some i) p.0 (Takes signo.0) i refl S member m h
+step_sends (Calls p call) i S member m h = act_sends (Some i) p.0 (MakesCall call) i refl S member m h
+step_sends (Deliver p signo) i S member m h = act_sends (Some i) p.0 (TakesSignal signo.0) i refl S member m h
 step_sends (KernelAbort s) i S member m h = absurd h
 
 step_holds : (step : Step) (i : Inside) (S : State) (u : ℕ) → has (Held u) (step_objects step (Some i) S) ≡ true → u ≡ i.starter
 unfolding has
-step_holds (Calls p call) i S u h = act_holds (Some i) p.0 (Makes call) i refl S u h
-step_holds (Deliver p signo) i S u h = act_holds (Some i) p.0 (Takes signo.0) i refl S u h
+step_holds (Calls p call) i S u h = act_holds (Some i) p.0 (MakesCall call) i refl S u h
+step_holds (Deliver p signo) i S u h = act_holds (Some i) p.0 (TakesSignal signo.0) i refl S u h
 step_holds (KernelAbort s) i S u h = cc
 
-within_fits : (V : View) (s p : ℕ) (part : Part) (ev : Event) → StaysWithin V s p ev → ((t : ℕ) → is_member_of V.table t p ≡ true → t ≡ s) → PartFits V s p ev part → FitsWithin s part ev p V
-within_fits V s p part ev own mine f = record { actor_is = own.actor_is; mine = mine; part_fits = f; sends = own.sends; holds = own.holds }
+within_fits : (V : View) (s p : ℕ) (part : Progress) (ev : Event) → StaysWithin V s p ev → ((t : ℕ) → is_member_of V.table t p ≡ true → t ≡ s) → ProgressFits V s p ev part → FitsWithin s part ev p V
+within_fits V s p part ev own mine f = record { actor_is = own.actor_is; mine = mine; progress_fits = f; sends = own.sends; holds = own.holds }
 
 module _ (V : View) (p : ℕ) (m : Mark) (e : V.table.marks p ≡ Some m) where
   member_is : is_member_of V.table m.starter.0 p ≡ true
@@ -142,7 +142,7 @@ module _ (V : View) (p : ℕ) (m : Mark) (e : V.table.marks p ≡ Some m) where
     holds = λ S u h. step_holds step (record { starter = m.starter.0; members = is_member_of V.table m.starter.0; defers = m.defers }) S u h;
   }
 
-  ending_fits : (ev : Event) → StaysWithin V m.starter.0 p ev → (b : Bool) → Fits (ending_role b m.starter.0) (event_in (ending_role b m.starter.0) ev) p V
+  ending_fits : (ev : Event) → StaysWithin V m.starter.0 p ev → (b : Bool) → Fits (member_end_role b m.starter.0) (event_in (member_end_role b m.starter.0) ev) p V
   ending_fits ev own true = within_fits V m.starter.0 p Parks ev own member_mine member_is
   ending_fits ev own false = subst (λ (q : ℕ). is_member_of V.table m.starter.0 q ≡ true) (sym own.actor_is) member_is
 
@@ -158,14 +158,14 @@ abbrev ForksWell : View → Step → Kind → Type 0
 ForksWell V step Ordinary = Unit {0}
 ForksWell V step (Forking c) = ((inside : Option Inside) → has (Proc c) (objects (Do step inside) (present V)) ≡ true) × (is_between V.table.width c ≡ true)
 ForksWell V step (Beginning defers) = Unit {0}
-ForksWell V step Ending = Unit {0}
+ForksWell V step Leaving = Unit {0}
 ForksWell V step Aborting = Unit {0}
 
 kind_fits : (V : View) (p : ℕ) (step : Step) (r : Reply) → process_of step ≡ p → IsSound V → is_between V.table.width p ≡ true
     → (k : Kind) → ForksWell V step k → (mark : Option Mark) → V.table.marks p ≡ mark
     → Fits (kind_role V.table p k r mark) (event_in (kind_role V.table p k r mark) (kind_event V.table p step k mark)) p V
 kind_fits V p step r is sound b Ordinary f None e = none_fits V p (Do step None) e is
-kind_fits V p step r is sound b Ordinary f (Some m) e = ordinary_fits V p m e (Do step (inside_by V.table (Some m))) (do_within V p m e step is) (is_end r)
+kind_fits V p step r is sound b Ordinary f (Some m) e = ordinary_fits V p m e (Do step (inside_by V.table (Some m))) (do_within V p m e step is) (says_ended r)
 kind_fits V p step r is sound b (Forking c) f None e = none_fits V p (Do step None) e is
 kind_fits V p step r is sound b (Forking c) f (Some m) e =
     within_fits V m.starter.0 p (Forks c) (Do step (inside_by V.table (Some m))) (do_within V p m e step is) (member_mine V p m e)
@@ -175,15 +175,15 @@ kind_fits V p step r is sound b (Beginning defers) f None e =
     (λ t h. absurd (both_ways (is_member_of V.table t p) (of_none t (V.table.marks p) e) h)) (refl, e, b)
 kind_fits V p step r is sound b (Beginning defers) f (Some m) e =
     within_fits V m.starter.0 p Continues (Note p (negsuc 21)) (note_within V m.starter.0 p (negsuc 21)) (member_mine V p m e) (member_is V p m e)
-kind_fits V p step r is sound b Ending f None e = none_fits V p (Note p (negsuc 21)) e refl
-kind_fits V p step r is sound b Ending f (Some m) e = ending_fits V p m e (Note p (pos 0)) (note_within V m.starter.0 p (pos 0)) (others_open V.table m.starter.0 p V.table.width)
+kind_fits V p step r is sound b Leaving f None e = none_fits V p (Note p (negsuc 21)) e refl
+kind_fits V p step r is sound b Leaving f (Some m) e = ending_fits V p m e (Note p (pos 0)) (note_within V m.starter.0 p (pos 0)) (others_open V.table m.starter.0 p V.table.width)
 kind_fits V p step r is sound b Aborting f None e = none_fits V p (Note p (negsuc 21)) e refl
 kind_fits V p step r is sound b Aborting f (Some m) e =
     (sound.owned_live m.starter.0 (Proc p) (sound.own_procs m.starter.0 p (member_is V p m e)), (negative called_by_status, refl))
 
 -- a process that runs and forks names its child
 running_forks : (inside : Option Inside) (p c : ℕ) (child : Pid) (S : State) (x : Option Process) → is_running x ≡ true → child.0 ≡ c
-    → has (Proc c) (Proc p ∷ objects_at inside p (Makes (Fork child)) S x) ≡ true
+    → has (Proc c) (Proc p ∷ objects_at inside p (MakesCall (Fork child)) S x) ≡ true
 running_forks inside p c child S None h e = cc
 running_forks inside p c child S (Some me) h e =
     has_tail (Proc c) (Proc p) (fork_objects child.0 me) (subst (λ (n : ℕ). has (Proc n) (fork_objects child.0 me) ≡ true) e (has_head (Proc child.0) (desc_objects (open_in me.descriptors))))
@@ -208,17 +208,17 @@ passes_of V (Commits s) ev clear = clear
 passes_of V (Aborts s k) ev clear = tt
 
 -- the reply to a commit says that the process ended, if the first reply did
-commit_ends : (s : ℕ) (ev : Event) (S : State) → is_end (reply_of (Commit s ev) S) ≡ true
+commit_ends : (s : ℕ) (ev : Event) (S : State) → says_ended (reply_of (Commit s ev) S) ≡ true
 unfolding reply_of effect
 commit_ends s ev S = refl
 
 -- the recorded reply tells the same of the step as the first reply
-ending_same : (k : ℕ) (S : State) (t : Table) (s p : ℕ) (ev : Event) (b : Bool) → is_end (reply_of ev S) ≡ true → is_end (plain_reply k (ending_role b s) (event_in (ending_role b s) ev) S) ≡ true
+ending_same : (k : ℕ) (S : State) (t : Table) (s p : ℕ) (ev : Event) (b : Bool) → says_ended (reply_of ev S) ≡ true → says_ended (plain_reply k (member_end_role b s) (event_in (member_end_role b s) ev) S) ≡ true
 ending_same k S t s p ev true h = h
 ending_same k S t s p ev false h = commit_ends s ev S
 
-ordinary_same : (k : ℕ) (S : State) (t : Table) (s p : ℕ) (ev : Event) (b : Bool) → is_end (reply_of ev S) ≡ b →
-    ordinary_role (is_end (plain_reply k (ordinary_role b t s p) (event_in (ordinary_role b t s p) ev) S)) t s p ≡ ordinary_role b t s p
+ordinary_same : (k : ℕ) (S : State) (t : Table) (s p : ℕ) (ev : Event) (b : Bool) → says_ended (reply_of ev S) ≡ b →
+    ordinary_role (says_ended (plain_reply k (ordinary_role b t s p) (event_in (ordinary_role b t s p) ev) S)) t s p ≡ ordinary_role b t s p
 ordinary_same k S t s p ev true h = rw (ending_same k S t s p ev (others_open t s p t.width) h) refl
 ordinary_same k S t s p ev false h = rw h refl
 
@@ -227,13 +227,13 @@ kind_same : (n : ℕ) (V : View) (p : ℕ) (step : Step) (k : Kind) (mark : Opti
     (event_in (kind_role V.table p k (reply_of (kind_event V.table p step k mark) (present V)) mark) (kind_event V.table p step k mark)) (present V)) mark
     ≡ kind_role V.table p k (reply_of (kind_event V.table p step k mark) (present V)) mark
 kind_same n V p step Ordinary None = refl
-kind_same n V p step Ordinary (Some m) = ordinary_same n (present V) V.table m.starter.0 p (Do step (inside_by V.table (Some m))) (is_end (reply_of (Do step (inside_by V.table (Some m))) (present V))) refl
+kind_same n V p step Ordinary (Some m) = ordinary_same n (present V) V.table m.starter.0 p (Do step (inside_by V.table (Some m))) (says_ended (reply_of (Do step (inside_by V.table (Some m))) (present V))) refl
 kind_same n V p step (Forking c) None = refl
 kind_same n V p step (Forking c) (Some m) = refl
 kind_same n V p step (Beginning defers) None = refl
 kind_same n V p step (Beginning defers) (Some m) = refl
-kind_same n V p step Ending None = refl
-kind_same n V p step Ending (Some m) = refl
+kind_same n V p step Leaving None = refl
+kind_same n V p step Leaving (Some m) = refl
 kind_same n V p step Aborting None = refl
 kind_same n V p step Aborting (Some m) = refl
 

@@ -3,11 +3,11 @@ use Rattle.std.proofs.Common.{◌≡◌, ℕ, Bool, true, false, not, List, ℤ,
 use Rattle.std.proofs.lemmas.Bool.{both_ways, cases_Bool}
 use Rattle.tx_model.specs.State.{State, Object, Proc, Desc, Pipe, Held, AgreePart, has}
 use Rattle.tx_model.specs.Posts.{answers}
-use Rattle.tx_model.specs.Effects.{Effect, sent, applied}
+use Rattle.tx_model.specs.Effects.{Effect, send_answers, applied}
 use Rattle.tx_model.specs.Events.{Event, Note, note_effect, effect, after}
-use Rattle.tx_model.specs.Membership.{Table, is_member_of, is_live, Part, Role, Outside, Within, Commits, Aborts, table_after}
-use Rattle.tx_model.specs.History.{Starters, nobody, just, with_one, less_one, footprint, taken_by}
-use Rattle.tx_model.specs.View.{View, IsClear, moved, next_by}
+use Rattle.tx_model.specs.Membership.{Table, is_member_of, is_live, Progress, Role, Outside, Within, Commits, Aborts, table_after}
+use Rattle.tx_model.specs.History.{Starters, nobody, just, with_one, less_one, footprint, objects_reserved}
+use Rattle.tx_model.specs.View.{View, IsClear, after_if, next_by}
 use Rattle.tx_laws.specs.Sound.{IsSound}
 use Rattle.tx_laws.specs.TwoParts.{TwoParts, in_set, is_owner, pick, parts_without, parts_view, freed, reserved, on_both, parts_next}
 use Rattle.tx_laws.proofs.Agree.{part_refl, part_sym, part_trans, state_ext, applied_part, applied_width}
@@ -34,15 +34,15 @@ pick_same P Q S R S' R' o e y n =
       | inr h ↦ part_trans (pick P S R) R (pick Q S' R') o (pick_false P S R o h) (part_trans R R' (pick Q S' R') o (n h) (part_sym (pick Q S' R') R' o (pick_false Q S' R' o (sym e ∙ h))))
     ]
 
-pub after_part : (ev : Event) (S R : State) → effect ev S ≡ effect ev R → sent (effect ev S) S ≡ sent (effect ev R) R → (o : Object) → AgreePart S R o → AgreePart (after ev S) (after ev R) o
+pub after_part : (ev : Event) (S R : State) → effect ev S ≡ effect ev R → send_answers (effect ev S) S ≡ send_answers (effect ev R) R → (o : Object) → AgreePart S R o → AgreePart (after ev S) (after ev R) o
 unfolding after
 after_part ev S R e a o h =
-    subst (λ (x : Effect × List ℤ). AgreePart (applied (effect ev S) (sent (effect ev S) S) S) (applied x.0 x.1 R) o)
-    (ap₂ (λ (x : Effect) (y : List ℤ). (x, y)) e a) (applied_part (effect ev S) (sent (effect ev S) S) S R o h)
+    subst (λ (x : Effect × List ℤ). AgreePart (applied (effect ev S) (send_answers (effect ev S) S) S) (applied x.0 x.1 R) o)
+    (ap₂ (λ (x : Effect) (y : List ℤ). (x, y)) e a) (applied_part (effect ev S) (send_answers (effect ev S) S) S R o h)
 
 pub after_width : (ev : Event) (S : State) → (after ev S).width ≡ S.width
 unfolding after
-after_width ev S = applied_width (effect ev S) (sent (effect ev S) S) S
+after_width ev S = applied_width (effect ev S) (send_answers (effect ev S) S) S
 
 in_nobody : (x : Option ℕ) → in_set nobody x ≡ false
 in_nobody None = refl
@@ -66,14 +66,14 @@ kept_at c X o h = part_sym (parts_without c X) c.kept o (pick_true (λ o. in_set
 
 -- the event made on both sides is the event in the state without the transactions of X
 both_sides : (c : TwoParts) (ev : Event) (S : State) (owner : Object → Option ℕ) (table : Table) (X Y : Starters)
-    → effect ev S ≡ effect ev (parts_without c X) → sent (effect ev S) S ≡ sent (effect ev (parts_without c X)) (parts_without c X) → S.width ≡ c.now.width
+    → effect ev S ≡ effect ev (parts_without c X) → send_answers (effect ev S) S ≡ send_answers (effect ev (parts_without c X)) (parts_without c X) → S.width ≡ c.now.width
     → ((o : Object) → in_set Y (owner o) ≡ true → in_set X (c.owner o) ≡ true)
     → ((o : Object) → in_set Y (owner o) ≡ false → AgreePart S (parts_without c X) o)
     → parts_without (on_both ev S c owner table) Y ≡ after ev (parts_without c X)
 unfolding after
 both_sides c ev S owner table X Y e a w old now =
     let f : Effect = effect ev S in
-    let rs : List ℤ = sent f S in
+    let rs : List ℤ = send_answers f S in
     let W : State = parts_without c X in
     state_ext (parts_without (on_both ev S c owner table) Y) (applied f rs W) (applied_width f rs S ∙ w ∙ sym (applied_width f rs W)) (λ o.
     elim (cases_Bool (in_set Y (owner o))) [
@@ -116,9 +116,9 @@ module _ (c : TwoParts) (ev : Event) (sound : IsSound (parts_view c)) (clear : I
   unfolding parts_view
   now_effect = ap (effect ev) (sym (parts_nobody c)) ∙ quiet_effect (parts_view c) ev sound clear X quiet
 
-  now_sent : sent (effect ev c.now) c.now ≡ sent (effect ev (parts_without c X)) (parts_without c X)
+  now_sent : send_answers (effect ev c.now) c.now ≡ send_answers (effect ev (parts_without c X)) (parts_without c X)
   unfolding parts_view
-  now_sent = ap (λ (S : State). sent (effect ev S) S) (sym (parts_nobody c)) ∙ quiet_sent (parts_view c) ev sound clear X quiet
+  now_sent = ap (λ (S : State). send_answers (effect ev S) S) (sym (parts_nobody c)) ∙ quiet_sent (parts_view c) ev sound clear X quiet
 
 outside_view : (c : TwoParts) (ev : Event) (p : ℕ) → IsSound (parts_view c) → IsClear (parts_view c) ev → Fits Outside ev p (parts_view c) → (X : Starters)
     → parts_without (on_both ev c.now c c.owner (table_after Outside p c.table)) X ≡ after ev (parts_without c X)
@@ -148,21 +148,21 @@ aborts_view c r s k p sound live X =
     (λ o h. pick_same (λ o. in_set (just s) (c.owner o)) (λ o. in_set (with_one s X) (c.owner o)) c.kept c.now c.kept c.now o (freed_just s X (c.owner o) h) (λ _. part_refl c.kept o) (λ _. part_refl c.now o))
 
 -- a step inside a transaction
-module _ (c : TwoParts) (ev : Event) (s : ℕ) (part : Part) (p : ℕ) (sound : IsSound (parts_view c)) (clear : IsClear (parts_view c) ev) (fits : FitsWithin s part ev p (parts_view c)) where
+module _ (c : TwoParts) (ev : Event) (s : ℕ) (part : Progress) (p : ℕ) (sound : IsSound (parts_view c)) (clear : IsClear (parts_view c) ev) (fits : FitsWithin s part ev p (parts_view c)) where
   abbrev G : List Object
-  G = taken_by part s (footprint c.table ev c.now)
+  G = objects_reserved part s (footprint c.table ev c.now)
 
   abbrev next_parts : TwoParts
-  next_parts = reserved s (taken_by part s (footprint c.table ev c.now)) ev (table_after (Within s part) p c.table) c
+  next_parts = reserved s (objects_reserved part s (footprint c.table ev c.now)) ev (table_after (Within s part) p c.table) c
 
   foot_now : footprint c.table ev (parts_without c nobody) ≡ footprint c.table ev c.now
   foot_now = ap (footprint c.table ev) (parts_nobody c)
 
   -- of what is taken, the transaction alone owns anything
-  pub own_taken : (o : Object) (t : ℕ) → has o (taken_by part s (footprint c.table ev c.now)) ≡ true → c.owner o ≡ Some t → t ≡ s
+  pub own_taken : (o : Object) (t : ℕ) → has o (objects_reserved part s (footprint c.table ev c.now)) ≡ true → c.owner o ≡ Some t → t ≡ s
   unfolding parts_view
   own_taken o t h k =
-      taken_mine (parts_view c) ev sound clear s part p fits o t (subst (λ (F : List Object). has o (taken_by part s F) ≡ true) (sym foot_now) h) (is_owner_self t (c.owner o) k)
+      taken_mine (parts_view c) ev sound clear s part p fits o t (subst (λ (F : List Object). has o (objects_reserved part s F) ≡ true) (sym foot_now) h) (is_owner_self t (c.owner o) k)
 
   foot_out : (o : Object) → has o G ≡ false → has o (footprint c.table ev (parts_without c nobody)) ≡ false
   foot_out o h = subst (λ (F : List Object). has o F ≡ false) (sym foot_now) (by (has o (footprint c.table ev c.now)) refl)
@@ -176,7 +176,7 @@ module _ (c : TwoParts) (ev : Event) (s : ℕ) (part : Part) (p : ℕ) (sound : 
   unfolding parts_view
   else_without X x o h = (within_else (parts_view c) ev sound clear s part p fits X x o (foot_out o h)).part
 
-  pub else_now : (o : Object) → has o (taken_by part s (footprint c.table ev c.now)) ≡ false → AgreePart (after ev c.now) c.now o
+  pub else_now : (o : Object) → has o (objects_reserved part s (footprint c.table ev c.now)) ≡ false → AgreePart (after ev c.now) c.now o
   else_now o h = subst (λ (S : State). AgreePart (after ev S) S o) (parts_nobody c) (else_without nobody refl o h)
 
   quiet_of : (X : Starters) → X s ≡ false → IsQuiet (parts_view c) ev X
@@ -236,11 +236,11 @@ module _ (c : TwoParts) (ev : Event) (s : ℕ) (part : Part) (p : ℕ) (sound : 
             (part_trans W next_parts.kept (parts_without c X) o (is_kept o (rw h k)) (part_trans next_parts.kept c.kept (parts_without c X) o (kept_old o (rw h refl)) (kept_at c X o k)))
             (part_sym (after ev (parts_without c X)) (parts_without c X) o (else_without X x o h))
 
-    within_view : parts_without next_parts X ≡ moved (not (X s)) ev (parts_without c X)
+    within_view : parts_without next_parts X ≡ after_if (not (X s)) ev (parts_without c X)
     unfolding after
     within_view = by (X s) refl
       where
-        by : (b : Bool) → X s ≡ b → parts_without next_parts X ≡ moved (not b) ev (parts_without c X)
+        by : (b : Bool) → X s ≡ b → parts_without next_parts X ≡ after_if (not b) ev (parts_without c X)
         by true x = state_ext (parts_without next_parts X) (parts_without c X) (after_width ev c.now) (left_out x)
         by false x = state_ext (parts_without next_parts X) (after ev (parts_without c X)) (after_width ev c.now ∙ sym (after_width ev (parts_without c X))) (with_step x)
 
@@ -295,8 +295,8 @@ parts_next_view Outside ev p c sound clear fits =
     view_ext (parts_view (parts_next Outside ev p c)) (next_by Outside ev p (parts_view c)) (outside_view c ev p sound clear fits) refl (λ s o. refl)
 parts_next_view (Within s part) ev p c sound clear fits =
     view_ext (parts_view (parts_next (Within s part) ev p c)) (next_by (Within s part) ev p (parts_view c)) (within_view c ev s part p sound clear fits) refl
-    (λ t o. owner_reserved s t (has o (taken_by part s (footprint c.table ev c.now))) (c.owner o) (λ h u k. own_taken c ev s part p sound clear fits o u h k)
-    ∙ ap (λ (F : List Object). if t == s then (if has o (taken_by part s F) then true else is_owner t (c.owner o)) else is_owner t (c.owner o)) (sym (foot_now c ev s part p sound clear fits)))
+    (λ t o. owner_reserved s t (has o (objects_reserved part s (footprint c.table ev c.now))) (c.owner o) (λ h u k. own_taken c ev s part p sound clear fits o u h k)
+    ∙ ap (λ (F : List Object). if t == s then (if has o (objects_reserved part s F) then true else is_owner t (c.owner o)) else is_owner t (c.owner o)) (sym (foot_now c ev s part p sound clear fits)))
 parts_next_view (Commits s) ev p c sound clear fits =
     view_ext (parts_view (parts_next (Commits s) ev p c)) (next_by (Commits s) ev p (parts_view c)) (commits_view c ev s p sound clear fits) refl (λ t o. owner_freed s t (c.owner o))
 parts_next_view (Aborts s k) ev p c sound clear fits =

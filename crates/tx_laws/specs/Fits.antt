@@ -2,7 +2,7 @@
 use Rattle.std.specs.Prelude.{◌≡◌, ℕ, true, false, List, [], ◌∷◌, ◌⊎◌, ℤ, None}
 use Rattle.tx_model.specs.State.{State, Sending, Proc, Held, has, is_between}
 use Rattle.tx_model.specs.Events.{Event, Note, actor, effect, objects}
-use Rattle.tx_model.specs.Membership.{is_member_of, is_live, Part, Continues, Parks, Forks, Begins, Role, Outside, Within, Commits, Aborts}
+use Rattle.tx_model.specs.Membership.{is_member_of, is_live, Progress, Continues, Parks, Forks, Begins, Role, Outside, Within, Commits, Aborts}
 use Rattle.tx_model.specs.History.{is_other_starter}
 use Rattle.tx_model.specs.View.{View, present, IsClear}
 
@@ -12,17 +12,17 @@ IsIn n [] = ⊥
 IsIn n (m ∷ ms) = (n ≡ m) ⊎ IsIn n ms
 
 -- what a step inside a transaction does to the table is right
-abbrev pub PartFits : View → ℕ → ℕ → Event → Part → Type 0
-PartFits V s p ev Continues = is_member_of V.table s p ≡ true
-PartFits V s p ev Parks = is_member_of V.table s p ≡ true
-PartFits V s p ev (Forks c) = (is_member_of V.table s p ≡ true) × (has (Proc c) (objects ev (present V)) ≡ true) × (is_between V.table.width c ≡ true)
-PartFits V s p ev (Begins defers) = (s ≡ p) × (V.table.marks p ≡ None) × (is_between V.table.width p ≡ true)
+abbrev pub ProgressFits : View → ℕ → ℕ → Event → Progress → Type 0
+ProgressFits V s p ev Continues = is_member_of V.table s p ≡ true
+ProgressFits V s p ev Parks = is_member_of V.table s p ≡ true
+ProgressFits V s p ev (Forks c) = (is_member_of V.table s p ≡ true) × (has (Proc c) (objects ev (present V)) ≡ true) × (is_between V.table.width c ≡ true)
+ProgressFits V s p ev (Begins defers) = (s ≡ p) × (V.table.marks p ≡ None) × (is_between V.table.width p ≡ true)
 
 -- the event is of a member of the transaction, or of its starter to be; it posts among the members, and holds with its own
-pub record FitsWithin (s : ℕ) (part : Part) (ev : Event) (p : ℕ) (V : View) : Type 0 where
+pub record FitsWithin (s : ℕ) (part : Progress) (ev : Event) (p : ℕ) (V : View) : Type 0 where
   pub actor_is : actor ev ≡ p
   pub mine : (t : ℕ) → is_member_of V.table t p ≡ true → t ≡ s
-  pub part_fits : PartFits V s p ev part
+  pub progress_fits : ProgressFits V s p ev part
   pub sends : (S : State) (m : Sending) → IsIn m (effect ev S).sends → is_other_starter V.table (actor ev) m.target ≡ false
   pub holds : (S : State) (u : ℕ) → has (Held u) (objects ev S) ≡ true → u ≡ s
 

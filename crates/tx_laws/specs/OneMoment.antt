@@ -61,15 +61,15 @@ looks_at_signals (Calls p call) = false
 looks_at_signals (Deliver p signo) = true
 looks_at_signals (KernelAbort starter) = false
 
-unfoldable pub sends_to : ℕ → List Sending → Bool
-sends_to s [] = false
-sends_to s (m ∷ ms) = m.target == s || sends_to s ms
+unfoldable pub is_sent_to : ℕ → List Sending → Bool
+is_sent_to s [] = false
+is_sent_to s (m ∷ ms) = m.target == s || is_sent_to s ms
 
 -- a step of the transaction of s tells its moment: the starter looks at its signals, or a send goes to the starter,
 -- whatever it is answered
 abbrev pub tells_moment : State → ℕ → Accepted → List Accepted → Bool
 tells_moment S s e h =
-    (process_of e.step == s && looks_at_signals e.step) || sends_to s (effect (event_of S e h) (without S nobody h)).sends
+    (process_of e.step == s && looks_at_signals e.step) || is_sent_to s (effect (event_of S e h) (without S nobody h)).sends
 
 -- no step of the transaction of s, back to its first, tells its moment
 unfoldable pub is_silent : State → ℕ → List Accepted → Bool

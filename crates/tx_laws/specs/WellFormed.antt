@@ -4,7 +4,7 @@ use Rattle.tx_model.specs.State.{Process, Frame, Description, State, names_at, i
 use Rattle.tx_model.specs.Posts.{queue_limit}
 use Rattle.tx_model.specs.Transfers.{pipe_room}
 use Rattle.tx_model.specs.Deliveries.{frame_limit}
-use Rattle.tx_model.specs.Descriptors.{is_named, has_end}
+use Rattle.tx_model.specs.Descriptors.{is_named, has_side}
 use Rattle.tx_model.specs.Events.{Event, Do, Note, Commit}
 use Rattle.tx_model.specs.Answer.{has_bad_number, is_running}
 
@@ -45,7 +45,7 @@ pub record IsWellFormed (S : State) : Type 0 where
   pub placed : (n : ℕ) (q : Process) → S.procs n ≡ Some q → IsPlaced S n q
   pub names : (n f d : ℕ) → names_at d f (S.procs n) ≡ true → is_some (S.descs d) ≡ true
   pub named : (d : ℕ) (x : Description) → S.descs d ≡ Some x → (is_named d S ≡ true) × (d < 64) × (is_some (S.pipes x.pipe) ≡ true)
-  pub pipes : (k : ℕ) (bytes : List ℕ) → S.pipes k ≡ Some bytes → (has_end k S ≡ true) × (k < 32) × (length bytes ≤ pipe_room)
+  pub pipes : (k : ℕ) (bytes : List ℕ) → S.pipes k ≡ Some bytes → (has_side k S ≡ true) × (k < 32) × (length bytes ≤ pipe_room)
 
 -- the numbers that an event chooses are in range
 abbrev pub HasGoodNumbers : ℕ → Event → Type 0

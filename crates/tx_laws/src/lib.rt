@@ -15,7 +15,7 @@ ghost use Rattle.tx_laws.specs.Commuting.{AreApart};
 ghost use Rattle.tx_model.specs.Events.{Event, process_of, effect, objects, after, reply_of};
 ghost use Rattle.tx_laws.specs.Fits.{Fits, Passes};
 ghost use Rattle.tx_model.specs.History.{Starters, processes_of, survivors, without};
-ghost use Rattle.tx_model.specs.Membership.{is_live, Part, Role, Within};
+ghost use Rattle.tx_model.specs.Membership.{is_live, Progress, Role, Within};
 ghost use Rattle.tx_laws.specs.Places.{survivors_by_place};
 ghost use Rattle.tx_laws.specs.Sound.{IsSound};
 ghost use Rattle.tx_model.specs.State.{State, Object, AgreeAt, AgreeOn, booted, has};
@@ -85,7 +85,7 @@ pub fn doom()
         is_live view.table starter.0 ≡ true → is_doomed view starter.0 ≡ true → answer view (KernelAbort starter) ≡ Aborted 203 }
     ensures other_status { (view : View) (starter : Pid) →
         is_live view.table starter.0 ≡ true → is_doomed view starter.0 ≡ false → answer view (KernelAbort starter) ≡ Aborted 202 }
-    ensures members { (view : View) (step : Step) (starter : ℕ) (part : Part) →
+    ensures members { (view : View) (step : Step) (starter : ℕ) (part : Progress) →
         role_on view step ≡ Within starter part → is_doomed (next view step) starter ≡ is_doomed view starter }
 {}
 

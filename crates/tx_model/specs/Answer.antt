@@ -11,7 +11,7 @@ use Rattle.tx_base.specs.declared.steps.Step.{Step}
 use Rattle.tx_base.specs.declared.steps.Step.TheVariants.{Call as Calls, Deliver, KernelAbort}
 use Rattle.tx_model.specs.State.{Process, State, is_between}
 use Rattle.tx_model.specs.SignalSets.{kill_signo}
-use Rattle.tx_model.specs.Descriptors.{is_pipe_taken}
+use Rattle.tx_model.specs.Descriptors.{is_pipe_in_use}
 use Rattle.tx_model.specs.Events.{Event, reply_of}
 use Rattle.tx_model.specs.Membership.{is_live, Role, Outside, Within, Commits, Aborts}
 use Rattle.tx_model.specs.History.{Starters, nobody, role_in, event_of, left_out_before, stays, without}
@@ -33,10 +33,10 @@ has_bad_number width (Calls p (Pipe q r w)) = not (nat_lt q.0 32 && nat_lt r.0 6
 has_bad_number width step = false
 
 -- whether a number that the call chooses is in use
-abbrev pub has_taken_number : State → Step → Bool
-has_taken_number S (Calls p (Fork child)) = is_some (S.procs child.0)
-has_taken_number S (Calls p (Pipe q r w)) = is_pipe_taken q.0 r.0 w.0 S
-has_taken_number S step = false
+abbrev pub has_number_in_use : State → Step → Bool
+has_number_in_use S (Calls p (Fork child)) = is_some (S.procs child.0)
+has_number_in_use S (Calls p (Pipe q r w)) = is_pipe_in_use q.0 r.0 w.0 S
+has_number_in_use S step = false
 
 -- whether the member's transaction is doomed
 abbrev pub is_doomed_at : View → Option Mark → Bool
@@ -66,7 +66,7 @@ refusal V p step =
     if not (is_there V p) then Some NoProcess else
     if not (is_running ((present V).procs p)) then Some NotRunning else
     if has_bad_number V.table.width step then Some BadNumber else
-    if has_taken_number (present V) step then Some NumberTaken else
+    if has_number_in_use (present V) step then Some NumberTaken else
     if is_doomed_at V (V.table.marks p) then Some Doomed else
     if is_parked (V.table.marks p) then Some Parked else
     if is_held_by_kill (present V) p step then Some KillPending else

@@ -12,7 +12,7 @@ use Rattle.tx_model.specs.Effects.{Inside, Own, Effect, idle, answers_with, own_
 use Rattle.tx_model.specs.Identities.{id_of, set_user, set_effective_user, set_group, set_effective_group}
 use Rattle.tx_model.specs.Scripts.{identifies, jumps, keeps_at, writes_console}
 use Rattle.tx_model.specs.Signals.{known, acts, masks, tells_pending, newest, returns}
-use Rattle.tx_model.specs.Descriptors.{descriptor, named, listed, pipe_effect, pipe_objects, dup_effect, dup2_effect, dup2_objects, close_effect, nonblock_effect, desc_objects, end_objects}
+use Rattle.tx_model.specs.Descriptors.{descriptor, named, listed, pipe_effect, pipe_objects, dup_effect, dup2_effect, dup2_objects, close_effect, nonblock_effect, desc_objects, desc_pipe_objects}
 use Rattle.tx_model.specs.Transfers.{read_effect, write_effect}
 use Rattle.tx_model.specs.Processes.{fork_effect, fork_objects, exit_effect, exit_objects, waitpid_effect, waitpid_objects, held_objects}
 use Rattle.tx_model.specs.Sends.{send_effect}
@@ -101,26 +101,26 @@ call_objects inside (call.Waitpid t nohang) p me S = waitpid_objects t S
 call_objects inside (call.Pipe q r w) p me S = pipe_objects q.0 r.0 w.0
 call_objects inside (call.Dup f) p me S = desc_objects (listed (named me (descriptor f)))
 call_objects inside (call.Dup2 f g) p me S = dup2_objects (descriptor f) (descriptor g) me S
-call_objects inside (call.Close f) p me S = end_objects (listed (named me (descriptor f))) S
+call_objects inside (call.Close f) p me S = desc_pipe_objects (listed (named me (descriptor f))) S
 call_objects inside (call.SetNonblock f on) p me S = desc_objects (listed (named me (descriptor f)))
-call_objects inside (call.Read f address n) p me S = end_objects (listed (named me (descriptor f))) S
-call_objects inside (call.Write f address n) p me S = end_objects (listed (named me (descriptor f))) S
+call_objects inside (call.Read f address n) p me S = desc_pipe_objects (listed (named me (descriptor f))) S
+call_objects inside (call.Write f address n) p me S = desc_pipe_objects (listed (named me (descriptor f))) S
 call_objects inside (call.Kill t signo) p me S = held_objects inside
 call_objects inside (call.Sigqueue t signo value) p me S = held_objects inside
 call_objects inside c p me S = []
 
 -- what a process that runs is asked to do: a call, or a delivery
 pub data Act : Type 0 where
-  Makes : Call → Act
-  Takes : ℕ → Act
+  MakesCall : Call → Act
+  TakesSignal : ℕ → Act
 
 abbrev pub act_effect : Option Inside → ℕ → Act → Process → State → Effect
-act_effect inside p (Makes c) me S = call_effect inside p c me S
-act_effect inside p (Takes signo) me S = delivery_effect inside p signo me S
+act_effect inside p (MakesCall c) me S = call_effect inside p c me S
+act_effect inside p (TakesSignal signo) me S = delivery_effect inside p signo me S
 
 abbrev pub act_objects : Option Inside → ℕ → Act → Process → State → List Object
-act_objects inside p (Makes c) me S = call_objects inside c p me S
-act_objects inside p (Takes signo) me S = delivery_objects inside p signo me S
+act_objects inside p (MakesCall c) me S = call_objects inside c p me S
+act_objects inside p (TakesSignal signo) me S = delivery_objects inside p signo me S
 
 -- a process that does not run does nothing
 abbrev pub running_effect : Option Inside → ℕ → Act → State → Process → Option ℕ → Effect

@@ -4,7 +4,7 @@ use Rattle.std.specs.Prelude.{ℕ, zero, suc, ◌+◌, Bool, true, false, List, 
 use Rattle.tx_base.specs.declared.errors.Errno.TheVariants.{BadDescriptor, TooManyDescriptors}
 use Rattle.tx_base.specs.declared.steps.Refusal.TheVariants.{NumberTaken}
 use Rattle.tx_model.specs.Numbers.{below, failing}
-use Rattle.tx_model.specs.State.{Process, Side, ReadSide, WriteSide, Description, State, Object, Desc, Pipe, Write, SetProc, SetDesc, SetPipe, write_one, written, names_at, end_of}
+use Rattle.tx_model.specs.State.{Process, Side, ReadSide, WriteSide, Description, State, Object, Desc, Pipe, Write, SetProc, SetDesc, SetPipe, write_one, written, names_at, side_in}
 use Rattle.tx_model.specs.Effects.{Effect, idle, noted, done, done_with}
 
 -- the description that a descriptor names
@@ -54,13 +54,13 @@ is_side test None = false
 is_side test (Some side) = test side
 
 -- whether one of the first n descriptions is an end of the pipe that passes the test
-unfoldable pub has_end_below : (Side → Bool) → ℕ → ℕ → State → Bool
-has_end_below test k zero S = false
-has_end_below test k (suc d) S = if has_end_below test k d S then true else is_side test (end_of k (S.descs d))
+unfoldable pub has_side_below : (Side → Bool) → ℕ → ℕ → State → Bool
+has_side_below test k zero S = false
+has_side_below test k (suc d) S = if has_side_below test k d S then true else is_side test (side_in k (S.descs d))
 
 -- whether one of the 64 descriptions names the pipe
-abbrev pub has_end : ℕ → State → Bool
-has_end k S = has_end_below (λ side. true) k 64 S
+abbrev pub has_side : ℕ → State → Bool
+has_side k S = has_side_below (λ side. true) k 64 S
 
 abbrev pub pipe_of : Option Description → List ℕ
 pipe_of None = []
@@ -79,7 +79,7 @@ unnamed_go (d ∷ ds) S = if is_named d S then unnamed_go ds S else SetDesc d No
 -- those of the pipes that no description names go, with their bytes
 unfoldable pub endless_go : List ℕ → State → List Write
 endless_go [] S = []
-endless_go (k ∷ ks) S = if has_end k S then endless_go ks S else SetPipe k None ∷ endless_go ks S
+endless_go (k ∷ ks) S = if has_side k S then endless_go ks S else SetPipe k None ∷ endless_go ks S
 
 -- what goes with names of these descriptions that were given up: the descriptions that nobody names any more, and then
 -- the pipes
@@ -98,22 +98,22 @@ listed None = []
 listed (Some d) = d ∷ []
 
 -- whether one of the three numbers is in use
-abbrev pub is_pipe_taken : ℕ → ℕ → ℕ → State → Bool
-is_pipe_taken q r w S = if is_some (S.pipes q) then true else (if is_some (S.descs r) then true else is_some (S.descs w))
+abbrev pub is_pipe_in_use : ℕ → ℕ → ℕ → State → Bool
+is_pipe_in_use q r w S = if is_some (S.pipes q) then true else (if is_some (S.descs r) then true else is_some (S.descs w))
 
 abbrev pub with_two_slots : ℕ → ℕ → Process → Process
 with_two_slots f g me = record me {
   registers = record { point = me.registers.point; ret = me.registers.ret; slots = slice_set (slice_set me.registers.slots 0 (pos f)) 1 (pos g) };
 }
 
-abbrev pub side_of : ℕ → Side → Option Description
-side_of q side = Some (record { pipe = q; side = side; nonblock = false })
+abbrev pub new_side : ℕ → Side → Option Description
+new_side q side = Some (record { pipe = q; side = side; nonblock = false })
 
 -- the process has the two sides at these two descriptors
 abbrev pub opens_at : ℕ → ℕ → ℕ → ℕ → Process → ℕ → Option ℕ → Effect
 opens_at p q r w me f None = done p (failing TooManyDescriptors) me
 opens_at p q r w me f (Some g) =
-    done_with (SetPipe q (Some []) ∷ SetDesc r (side_of q ReadSide) ∷ SetDesc w (side_of q WriteSide) ∷ []) p (pos 0)
+    done_with (SetPipe q (Some []) ∷ SetDesc r (new_side q ReadSide) ∷ SetDesc w (new_side q WriteSide) ∷ []) p (pos 0)
     (with_two_slots f g (with_descriptor g (Some w) (with_descriptor f (Some r) me)))
 
 abbrev pub opens_from : ℕ → ℕ → ℕ → ℕ → Process → Option ℕ → Effect
@@ -122,7 +122,7 @@ opens_from p q r w me (Some f) = opens_at p q r w me f (lowest_free (with_descri
 
 -- pipe (POSIX.1-2017, XSH, pipe()): the schedule chooses the numbers of the pipe and of its two descriptions
 abbrev pub pipe_effect : ℕ → ℕ → ℕ → ℕ → Process → State → Effect
-pipe_effect p q r w me S = if is_pipe_taken q r w S then idle NumberTaken else opens_from p q r w me (lowest_free me)
+pipe_effect p q r w me S = if is_pipe_in_use q r w S then idle NumberTaken else opens_from p q r w me (lowest_free me)
 
 abbrev pub pipe_objects : ℕ → ℕ → ℕ → List Object
 pipe_objects q r w = Pipe q ∷ Desc r ∷ Desc w ∷ []
@@ -179,8 +179,8 @@ pipe_list [] = []
 pipe_list (k ∷ ks) = Pipe k ∷ pipe_list ks
 
 -- descriptions and their pipes
-abbrev pub end_objects : List ℕ → State → List Object
-end_objects ds S = desc_objects ds ++ pipe_list (pipes_of ds S)
+abbrev pub desc_pipe_objects : List ℕ → State → List Object
+desc_pipe_objects ds S = desc_objects ds ++ pipe_list (pipes_of ds S)
 
 -- what a dup2 names: the description of the one, and the description and pipe of the other
 abbrev pub other_than : Option ℕ → Option ℕ → Process → List ℕ
@@ -189,4 +189,4 @@ other_than None g me = listed (named me g)
 other_than (Some f) None me = []
 
 abbrev pub dup2_objects : Option ℕ → Option ℕ → Process → State → List Object
-dup2_objects f g me S = desc_objects (listed (named me f)) ++ end_objects (other_than f g me) S
+dup2_objects f g me S = desc_objects (listed (named me f)) ++ desc_pipe_objects (other_than f g me) S

@@ -1,4 +1,4 @@
--- What an event does: its writes, then its posts in order, and how it closes. Own rules.
+-- What an event does: its writes, then its posts in order, and how it concludes. Own rules.
 use Rattle.std.specs.Prelude.{ℕ, ◌+◌, Bool, List, [], ◌∷◌, ◌++◌, ℤ, pos, negsuc, Option, Some, None, if◌then◌else◌, nat_lt, ◌==◌}
 use Rattle.tx_base.specs.declared.names.Regs.{Regs}
 use Rattle.tx_base.specs.declared.names.Missed.{Missed}
@@ -10,18 +10,18 @@ use Rattle.tx_base.specs.declared.steps.Reply.TheVariants.{Done, Committed, No}
 use Rattle.tx_model.specs.State.{Process, Sending, State, Write, SetProc, SetHeld, write_one, written}
 use Rattle.tx_model.specs.Posts.{posts, answers}
 
-pub data Closing : Type 0 where
+pub data Conclusion : Type 0 where
   -- with a reply that is known before the posts
-  Replies : Reply → Closing
+  Replies : Reply → Conclusion
   -- with the answer of the one post, which becomes the process's own
-  AnswersPost : ℕ → Closing
+  AnswersPost : ℕ → Conclusion
   -- with the list of the posts that failed
-  ListsFailed : Closing
+  ListsFailed : Conclusion
 
 pub record Effect : Type 0 where
   pub writes : List Write
   pub sends : List Sending
-  pub closing : Closing
+  pub conclusion : Conclusion
 
 -- adding one at the last point, 65,535, leaves it there
 abbrev pub next_point : ℕ → ℕ
@@ -46,7 +46,7 @@ pub record Inside : Type 0 where
 
 -- nothing is done
 abbrev pub idle : Refusal → Effect
-idle why = record { writes = []; sends = []; closing = Replies (No why) }
+idle why = record { writes = []; sends = []; conclusion = Replies (No why) }
 
 -- what a step makes of its own process, and its reply
 pub record Own : Type 0 where
@@ -59,14 +59,14 @@ answers_with r me = record { process = noted r me; reply = Done r }
 
 -- the step concerns its own process alone
 abbrev pub own_effect : ℕ → Own → Effect
-own_effect p own = record { writes = SetProc p (Some own.process) ∷ []; sends = []; closing = Replies own.reply }
+own_effect p own = record { writes = SetProc p (Some own.process) ∷ []; sends = []; conclusion = Replies own.reply }
 
 abbrev pub done : ℕ → ℤ → Process → Effect
 done p r me = own_effect p (answers_with r me)
 
 -- the same, with more writes
 abbrev pub done_with : List Write → ℕ → ℤ → Process → Effect
-done_with ws p r me = record { writes = SetProc p (Some (noted r me)) ∷ ws; sends = []; closing = Replies (Done r) }
+done_with ws p r me = record { writes = SetProc p (Some (noted r me)) ∷ ws; sends = []; conclusion = Replies (Done r) }
 
 -- the error that a failed post answered
 abbrev pub failed_errno : ℕ → Errno
@@ -83,28 +83,28 @@ abbrev pub first_answer : List ℤ → ℤ
 first_answer [] = pos 0
 first_answer (r ∷ rs) = r
 
-abbrev pub closed : Closing → List ℤ → State → State
-closed (Replies r) rs S = S
-closed (AnswersPost p) rs S = write_one (SetProc p (noted_if (first_answer rs) (S.procs p))) S
-closed ListsFailed rs S = S
+abbrev pub concluded : Conclusion → List ℤ → State → State
+concluded (Replies r) rs S = S
+concluded (AnswersPost p) rs S = write_one (SetProc p (noted_if (first_answer rs) (S.procs p))) S
+concluded ListsFailed rs S = S
 
-abbrev pub closing_reply : Closing → List Sending → List ℤ → Reply
-closing_reply (Replies r) ms rs = r
-closing_reply (AnswersPost p) ms rs = Done (first_answer rs)
-closing_reply ListsFailed ms rs = Committed (record { items = failed_sends ms rs })
+abbrev pub concluding_reply : Conclusion → List Sending → List ℤ → Reply
+concluding_reply (Replies r) ms rs = r
+concluding_reply (AnswersPost p) ms rs = Done (first_answer rs)
+concluding_reply ListsFailed ms rs = Committed (record { items = failed_sends ms rs })
 
 -- the state as the effect's posts find it
 abbrev pub before_sends : Effect → State → State
 before_sends f S = written f.writes S
 
 -- the answers of the effect's posts
-abbrev pub sent : Effect → State → List ℤ
-sent f S = answers f.sends (before_sends f S)
+abbrev pub send_answers : Effect → State → List ℤ
+send_answers f S = answers f.sends (before_sends f S)
 
 -- the state after the effect, where its posts answer so
 abbrev pub applied : Effect → List ℤ → State → State
-applied f rs S = closed f.closing rs (posts f.sends (written f.writes S))
+applied f rs S = concluded f.conclusion rs (posts f.sends (written f.writes S))
 
 -- the effect of the step that commits the transaction of s: what was held is posted, and nothing is held any more
 abbrev pub committing : ℕ → Effect → State → Effect
-committing s f S = record { writes = f.writes ++ SetHeld s [] ∷ []; sends = f.sends ++ (written f.writes S).held s; closing = ListsFailed }
+committing s f S = record { writes = f.writes ++ SetHeld s [] ∷ []; sends = f.sends ++ (written f.writes S).held s; conclusion = ListsFailed }

@@ -3,7 +3,7 @@ use Rattle.std.specs.Prelude.{ℕ, Bool, true, false, not, List, [], ◌∷◌, 
 use Rattle.tx_base.specs.declared.steps.Accepted.{Accepted}
 use Rattle.tx_model.specs.State.{State, Sending, Object, Proc, Held, has}
 use Rattle.tx_model.specs.Events.{Event, process_of, actor, effect, objects, run}
-use Rattle.tx_model.specs.Membership.{Table, empty_table, is_member_of, is_live, Begins, Continues, Parks, Forks, Part, Role, Outside, Within, Commits, Aborts, role, event, table_after}
+use Rattle.tx_model.specs.Membership.{Table, empty_table, is_member_of, is_live, Begins, Continues, Parks, Forks, Progress, Role, Outside, Within, Commits, Aborts, role, event, table_after}
 
 -- a set of starters: a live transaction is named by the number of its starter
 abbrev pub Starters : Type 0
@@ -80,15 +80,15 @@ unfoldable pub footprint : Table → Event → State → List Object
 footprint t ev S = objects ev S ++ targets t (actor ev) (effect ev S).sends
 
 -- a transaction's first step takes its held sends too
-abbrev pub taken_by : Part → ℕ → List Object → List Object
-taken_by Continues s F = F
-taken_by Parks s F = F
-taken_by (Forks c) s F = F
-taken_by (Begins defers) s F = Held s ∷ F
+abbrev pub objects_reserved : Progress → ℕ → List Object → List Object
+objects_reserved Continues s F = F
+objects_reserved Parks s F = F
+objects_reserved (Forks c) s F = F
+objects_reserved (Begins defers) s F = Held s ∷ F
 
 abbrev pub touched_after : Role → List Object → (ℕ → Object → Bool) → ℕ → Object → Bool
 touched_after Outside F touched s o = touched s o
-touched_after (Within p part) F touched s o = if s == p then (if has o (taken_by part p F) then true else touched s o) else touched s o
+touched_after (Within p part) F touched s o = if s == p then (if has o (objects_reserved part p F) then true else touched s o) else touched s o
 touched_after (Commits p) F touched s o = if s == p then false else touched s o
 touched_after (Aborts p status) F touched s o = if s == p then false else touched s o
 

@@ -42,29 +42,26 @@ unfoldable pub others_open : Table → ℕ → ℕ → ℕ → Bool
 others_open t s p zero = false
 others_open t s p (suc n) = if others_open t s p n then true else (if suc n == p then false else is_open_of s (t.marks (suc n)))
 
+-- the transaction that a step is made inside of, by the mark of its process
 abbrev pub inside_by : Table → Option Mark → Option Inside
 inside_by t None = None
 inside_by t (Some m) = Some (record { starter = m.starter.0; members = is_member_of t m.starter.0; defers = m.defers })
 
--- the transaction that a step of p is made inside of
-abbrev pub inside_of : Table → ℕ → Option Inside
-inside_of t p = inside_by t (t.marks p)
-
 -- what a step inside a transaction does to the table
-pub data Part : Type 0 where
-  Continues : Part
+pub data Progress : Type 0 where
+  Continues : Progress
   -- the member ends its part
-  Parks : Part
+  Parks : Progress
   -- the member forks a child, which joins
-  Forks : ℕ → Part
+  Forks : ℕ → Progress
   -- it is the first step; whether the transaction defers deliveries
-  Begins : Bool → Part
+  Begins : Bool → Progress
 
 -- what a step is to the transactions
 pub data Role : Type 0 where
   Outside : Role
   -- a step of the transaction of the starter, after which it is live
-  Within : ℕ → Part → Role
+  Within : ℕ → Progress → Role
   -- the step that ends the last member's part
   Commits : ℕ → Role
   -- the abort of the starter's transaction, with its status
@@ -75,25 +72,25 @@ pub data Kind : Type 0 where
   -- the caller has a child of this number, if the call is accepted
   Forking : ℕ → Kind
   Beginning : Bool → Kind
-  Ending : Kind
+  Leaving : Kind
   Aborting : Kind
 
 abbrev pub kind_of : Call → Kind
 kind_of (Fork child) = Forking child.0
 kind_of SysXbegin = Beginning false
 kind_of SysXbeginDefer = Beginning true
-kind_of SysXend = Ending
+kind_of SysXend = Leaving
 kind_of SysXabort = Aborting
 kind_of call = Ordinary
 
 -- whether the reply says that the process ended
-abbrev pub is_end : Reply → Bool
-is_end (Done r) = false
-is_end Ended = true
-is_end (Committed undelivered) = true
-is_end (Aborted status) = false
-is_end (Out bytes) = false
-is_end (No why) = false
+abbrev pub says_ended : Reply → Bool
+says_ended (Done r) = false
+says_ended Ended = true
+says_ended (Committed undelivered) = true
+says_ended (Aborted status) = false
+says_ended (Out bytes) = false
+says_ended (No why) = false
 
 abbrev pub status_in : Reply → ℕ
 status_in (Done r) = 0
@@ -104,15 +101,15 @@ status_in (Out bytes) = 0
 status_in (No why) = 0
 
 -- the member p ends its part: the last one commits
-abbrev pub ending_role : Bool → ℕ → Role
-ending_role true s = Within s Parks
-ending_role false s = Commits s
+abbrev pub member_end_role : Bool → ℕ → Role
+member_end_role true s = Within s Parks
+member_end_role false s = Commits s
 
-abbrev pub end_of_part : Table → ℕ → ℕ → Role
-end_of_part t s p = ending_role (others_open t s p t.width) s
+abbrev pub member_end : Table → ℕ → ℕ → Role
+member_end t s p = member_end_role (others_open t s p t.width) s
 
 abbrev pub ordinary_role : Bool → Table → ℕ → ℕ → Role
-ordinary_role true t s p = end_of_part t s p
+ordinary_role true t s p = member_end t s p
 ordinary_role false t s p = Within s Continues
 
 -- the status of an abort by a member (own number)
@@ -121,13 +118,13 @@ called_by_status = 201
 
 abbrev pub kind_role : Table → ℕ → Kind → Reply → Option Mark → Role
 kind_role t p Ordinary r None = Outside
-kind_role t p Ordinary r (Some m) = ordinary_role (is_end r) t m.starter.0 p
+kind_role t p Ordinary r (Some m) = ordinary_role (says_ended r) t m.starter.0 p
 kind_role t p (Forking c) r None = Outside
 kind_role t p (Forking c) r (Some m) = Within m.starter.0 (Forks c)
 kind_role t p (Beginning defers) r None = Within p (Begins defers)
 kind_role t p (Beginning defers) r (Some m) = Within m.starter.0 Continues
-kind_role t p Ending r None = Outside
-kind_role t p Ending r (Some m) = end_of_part t m.starter.0 p
+kind_role t p Leaving r None = Outside
+kind_role t p Leaving r (Some m) = member_end t m.starter.0 p
 kind_role t p Aborting r None = Outside
 kind_role t p Aborting r (Some m) = Aborts m.starter.0 called_by_status
 
@@ -143,8 +140,8 @@ kind_event t p step Ordinary mark = Do step (inside_by t mark)
 kind_event t p step (Forking c) mark = Do step (inside_by t mark)
 kind_event t p step (Beginning defers) None = Note p (pos 0)
 kind_event t p step (Beginning defers) (Some m) = Note p (negsuc 21)
-kind_event t p step Ending None = Note p (negsuc 21)
-kind_event t p step Ending (Some m) = Note p (pos 0)
+kind_event t p step Leaving None = Note p (negsuc 21)
+kind_event t p step Leaving (Some m) = Note p (pos 0)
 kind_event t p step Aborting None = Note p (negsuc 21)
 kind_event t p step Aborting (Some m) = Note m.starter.0 (negative called_by_status)
 

@@ -107,9 +107,9 @@ abbrev pub bytes_from : Memory → ℕ → ℕ → List ℕ
 bytes_from memory address zero = []
 bytes_from memory address (suc n) = byte_or_zero (loaded memory (Some address)) ∷ bytes_from memory (address + 1) n
 
-abbrev pub taken : Memory → Option ℕ → ℕ → List ℕ
-taken memory None n = []
-taken memory (Some address) n = bytes_from memory address n
+abbrev pub bytes_at : Memory → Option ℕ → ℕ → List ℕ
+bytes_at memory None n = []
+bytes_at memory (Some address) n = bytes_from memory address n
 
 -- a space of no pages
 abbrev pub no_memory : Memory

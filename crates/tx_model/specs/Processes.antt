@@ -9,7 +9,7 @@ use Rattle.tx_model.specs.Memory.{no_memory}
 use Rattle.tx_model.specs.SignalSets.{child_signo}
 use Rattle.tx_model.specs.State.{Process, State, Sending, Object, Proc, Held, Write, SetProc, SetHeld, write_one, has_parent, first_registers, is_between}
 use Rattle.tx_model.specs.Effects.{Inside, Effect, Replies, idle, next_point, done, done_with}
-use Rattle.tx_model.specs.Descriptors.{open_in, released, desc_objects, end_objects}
+use Rattle.tx_model.specs.Descriptors.{open_in, released, desc_objects, desc_pipe_objects}
 
 -- the child: pending signals apart, a copy of its parent, with the answer 0 at the point after the call
 abbrev pub child_of : ℕ → Process → Process
@@ -88,7 +88,7 @@ ending inside p status me S = record {
       ++ released (open_in me.descriptors) (write_one (SetProc p (Some (ended status me))) S)
       ++ tells_later inside me.parent S;
   sends = tells inside me.parent;
-  closing = Replies Ended;
+  conclusion = Replies Ended;
 }
 
 abbrev pub procs_of : List ℕ → List Object
@@ -100,7 +100,7 @@ held_objects None = []
 held_objects (Some inside) = Held inside.starter ∷ []
 
 abbrev pub ending_objects : Option Inside → ℕ → Process → State → List Object
-ending_objects inside p me S = end_objects (open_in me.descriptors) S ++ procs_of (children_of p S) ++ held_objects inside
+ending_objects inside p me S = desc_pipe_objects (open_in me.descriptors) S ++ procs_of (children_of p S) ++ held_objects inside
 
 -- the status modulo 256
 abbrev pub exit_status : ℤ → ℕ

@@ -6,13 +6,10 @@ use Rattle.tx_base.specs.declared.steps.Reply.TheVariants.{Done, Out}
 use Rattle.tx_base.specs.declared.steps.When.{When}
 use Rattle.tx_base.specs.declared.steps.When.TheVariants.{Always, IfRet}
 use Rattle.tx_model.specs.Numbers.{below, failing}
-use Rattle.tx_model.specs.Memory.{is_good, is_mapped, taken}
+use Rattle.tx_model.specs.Memory.{is_good, is_mapped, bytes_at}
 use Rattle.tx_model.specs.State.{Process}
 use Rattle.tx_model.specs.Effects.{Inside, Own, answers_with, noted}
 use Rattle.tx_model.specs.Identities.{Identified}
-
-abbrev pub fails_own : ℤ → Process → Own
-fails_own errno me = answers_with errno me
 
 -- the process with the ids that a call leaves, and with its answer
 abbrev pub identifies : Identified → Process → Own
@@ -23,9 +20,9 @@ abbrev pub last_ret : Process → ℤ
 last_ret me = me.registers.ret
 
 -- whether a jump is made
-abbrev pub is_taken : When → ℤ → Bool
-is_taken Always ret = true
-is_taken (IfRet v) ret = int_eq ret v
+abbrev pub does_jump : When → ℤ → Bool
+does_jump Always ret = true
+does_jump (IfRet v) ret = int_eq ret v
 
 -- the process at another point, its last answer as it was
 abbrev pub stands_at : ℕ → Process → Process
@@ -34,8 +31,8 @@ stands_at point me = record me { registers = record { point = point; ret = last_
 -- jump (own rule): the last answer stays and is the answer
 abbrev pub jumps : ℕ → When → Process → Own
 jumps point when me =
-    if nat_lt 65535 point then fails_own (failing InvalidArgument) me
-    else (if is_taken when (last_ret me) then record { process = stands_at point me; reply = Done (last_ret me) } else answers_with (last_ret me) me)
+    if nat_lt 65535 point then answers_with (failing InvalidArgument) me
+    else (if does_jump when (last_ret me) then record { process = stands_at point me; reply = Done (last_ret me) } else answers_with (last_ret me) me)
 
 abbrev pub with_kept : ℕ → ℤ → Process → Process
 with_kept k value me =
@@ -43,7 +40,7 @@ with_kept k value me =
 
 -- keep (own rule): a slot becomes the last answer, which stays and is the answer
 abbrev pub keeps_at : Option ℕ → Process → Own
-keeps_at None me = fails_own (failing InvalidArgument) me
+keeps_at None me = answers_with (failing InvalidArgument) me
 keeps_at (Some k) me = answers_with (last_ret me) (with_kept k (last_ret me) me)
 
 -- the answer of a call that is not open inside a transaction (own number)
@@ -52,11 +49,11 @@ closed_inside = negsuc 199
 
 -- console_write (own rule): up to 64 bytes of memory are shown
 abbrev pub shows : ℤ → Option ℕ → Process → Own
-shows address None me = fails_own (failing InvalidArgument) me
+shows address None me = answers_with (failing InvalidArgument) me
 shows address (Some n) me =
     if is_good is_mapped me.memory address n
-    then record { process = noted (pos n) me; reply = Out (record { items = taken me.memory (below 1024 address) n }) }
-    else fails_own (failing BadAddress) me
+    then record { process = noted (pos n) me; reply = Out (record { items = bytes_at me.memory (below 1024 address) n }) }
+    else answers_with (failing BadAddress) me
 
 -- it is closed inside a transaction
 abbrev pub writes_console : Option Inside → ℤ → ℤ → Process → Own

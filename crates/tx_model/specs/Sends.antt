@@ -33,7 +33,7 @@ sent_by me t signo value =
 
 -- it is posted at once, and the answer of the post is the answer
 abbrev pub posts_now : ℕ → Sending → Effect
-posts_now p m = record { writes = []; sends = m ∷ []; closing = AnswersPost p }
+posts_now p m = record { writes = []; sends = m ∷ []; conclusion = AnswersPost p }
 
 -- it is held until the transaction commits, if it is a signal and there is room (own rule)
 abbrev pub holds : ℕ → Inside → Process → Sending → State → Effect
@@ -48,13 +48,13 @@ abbrev pub hands_out : ℕ → Option Inside → Process → Sending → State �
 hands_out p None me m S = posts_now p m
 hands_out p (Some inside) me m S = if inside.members m.target then posts_now p m else holds p inside me m S
 
-abbrev pub sends_to : ℕ → Option Inside → Process → Option ℕ → ℕ → ℤ → State → Effect
-sends_to p inside me None signo value S = done p (failing NoSuchProcess) me
-sends_to p inside me (Some t) signo value S = hands_out p inside me (sent_by me t signo value) S
+abbrev pub sends_numbered : ℕ → Option Inside → Process → Option ℕ → ℕ → ℤ → State → Effect
+sends_numbered p inside me None signo value S = done p (failing NoSuchProcess) me
+sends_numbered p inside me (Some t) signo value S = hands_out p inside me (sent_by me t signo value) S
 
 abbrev pub sends_signal : ℕ → Option Inside → Process → Option ℕ → Option ℕ → ℤ → State → Effect
 sends_signal p inside me t None value S = done p (failing InvalidArgument) me
-sends_signal p inside me t (Some signo) value S = sends_to p inside me t signo value S
+sends_signal p inside me t (Some signo) value S = sends_numbered p inside me t signo value S
 
 -- sigqueue, and kill with the value 0
 abbrev pub send_effect : ℕ → Option Inside → Process → ℤ → ℤ → ℤ → State → Effect

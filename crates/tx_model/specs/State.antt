@@ -119,9 +119,9 @@ names_at d f None = false
 names_at d f (Some q) = if is_some q.status then false else is_number d (slice_index_or q.descriptors f None)
 
 -- the side of pipe k that this description is, if it is one of that pipe
-abbrev pub end_of : ℕ → Option Description → Option Side
-end_of k None = None
-end_of k (Some d) = if d.pipe == k then Some d.side else None
+abbrev pub side_in : ℕ → Option Description → Option Side
+side_in k None = None
+side_in k (Some d) = if d.pipe == k then Some d.side else None
 
 -- the two states have the same at the object
 abbrev pub AgreePart : State → State → Object → Type 0
@@ -135,7 +135,7 @@ AgreePart S R (Held n) = S.held n ≡ R.held n
 abbrev pub AgreeFamily : State → State → Object → Type 0
 AgreeFamily S R (Proc n) = n ≢ 1 → (q : ℕ) → has_parent n (S.procs q) ≡ has_parent n (R.procs q)
 AgreeFamily S R (Desc n) = (q f : ℕ) → names_at n f (S.procs q) ≡ names_at n f (R.procs q)
-AgreeFamily S R (Pipe n) = (d : ℕ) → end_of n (S.descs d) ≡ end_of n (R.descs d)
+AgreeFamily S R (Pipe n) = (d : ℕ) → side_in n (S.descs d) ≡ side_in n (R.descs d)
 AgreeFamily S R (Held n) = Unit {0}
 
 -- the two states are the same at the object, its family and the width included

@@ -5,11 +5,11 @@ use Rattle.tx_base.specs.declared.errors.Errno.TheVariants.{TryAgain, BadAddress
 use Rattle.tx_base.specs.declared.steps.Refusal.TheVariants.{Wait}
 use Rattle.tx_base.specs.declared.steps.Reply.TheVariants.{Done}
 use Rattle.tx_model.specs.Numbers.{below, failing}
-use Rattle.tx_model.specs.Memory.{is_good, is_mapped, is_writable, stored, taken}
+use Rattle.tx_model.specs.Memory.{is_good, is_mapped, is_writable, stored, bytes_at}
 use Rattle.tx_model.specs.SignalSets.{broken_pipe_signo}
 use Rattle.tx_model.specs.State.{Process, Side, ReadSide, WriteSide, Description, State, SetProc, SetPipe}
 use Rattle.tx_model.specs.Effects.{Effect, Replies, idle, noted, done, done_with}
-use Rattle.tx_model.specs.Descriptors.{has_end_below, bad_descriptor}
+use Rattle.tx_model.specs.Descriptors.{has_side_below, bad_descriptor}
 
 -- how many bytes a pipe holds at most, and a call moves (PIPE_BUF)
 abbrev pub pipe_room : ℕ
@@ -24,10 +24,10 @@ is_write_side ReadSide = false
 is_write_side WriteSide = true
 
 abbrev pub has_writer : ℕ → State → Bool
-has_writer k S = has_end_below is_write_side k 64 S
+has_writer k S = has_side_below is_write_side k 64 S
 
 abbrev pub has_reader : ℕ → State → Bool
-has_reader k S = has_end_below is_read_side k 64 S
+has_reader k S = has_side_below is_read_side k 64 S
 
 -- the bytes of a pipe
 abbrev pub bytes_in : Option (List ℕ) → List ℕ
@@ -39,9 +39,9 @@ abbrev pub waits : ℕ → Description → Process → Effect
 waits p x me = if x.nonblock then done p (failing TryAgain) me else idle Wait
 
 -- up to n bytes go from the pipe to an address
-abbrev pub takes : ℕ → Description → ℤ → ℕ → Process → Bool → List ℕ → Effect
-takes p x address n me writer [] = if writer then waits p x me else done p (pos 0) me
-takes p x address n me writer (byte ∷ bytes) =
+abbrev pub drains : ℕ → Description → ℤ → ℕ → Process → Bool → List ℕ → Effect
+drains p x address n me writer [] = if writer then waits p x me else done p (pos 0) me
+drains p x address n me writer (byte ∷ bytes) =
     let m = min n (length (byte ∷ bytes)) in
     done_with (SetPipe x.pipe (Some (drop m (byte ∷ bytes))) ∷ []) p (pos m)
     (record me { memory = stored me.memory (below 1024 address) (take m (byte ∷ bytes)) })
@@ -50,7 +50,7 @@ abbrev pub reads : ℕ → Description → ℤ → Option ℕ → Process → St
 reads p x address None me S = done p (failing InvalidArgument) me
 reads p x address (Some zero) me S = done p (pos 0) me
 reads p x address (Some (suc n)) me S =
-    if is_good is_writable me.memory address (suc n) then takes p x address (suc n) me (has_writer x.pipe S) (bytes_in (S.pipes x.pipe))
+    if is_good is_writable me.memory address (suc n) then drains p x address (suc n) me (has_writer x.pipe S) (bytes_in (S.pipes x.pipe))
     else done p (failing BadAddress) me
 
 abbrev pub read_by_side : Side → ℕ → Description → ℤ → Option ℕ → Process → State → Effect
@@ -71,14 +71,14 @@ abbrev pub breaks : ℕ → Process → Effect
 breaks p me = record {
   writes = SetProc p (Some (noted (failing BrokenPipe) me)) ∷ [];
   sends = record { target = p; signo = broken_pipe_signo; value = pos 0; from = None } ∷ [];
-  closing = Replies (Done (failing BrokenPipe));
+  conclusion = Replies (Done (failing BrokenPipe));
 }
 
 -- n bytes go from an address to the pipe, if there is room for them
 abbrev pub puts : ℕ → Description → ℤ → ℕ → Process → List ℕ → Effect
 puts p x address n me bytes =
     if nat_lt pipe_room (length bytes + n) then waits p x me
-    else done_with (SetPipe x.pipe (Some (bytes ++ taken me.memory (below 1024 address) n)) ∷ []) p (pos n) me
+    else done_with (SetPipe x.pipe (Some (bytes ++ bytes_at me.memory (below 1024 address) n)) ∷ []) p (pos n) me
 
 abbrev pub writes : ℕ → Description → ℤ → Option ℕ → Process → State → Effect
 writes p x address None me S = done p (failing InvalidArgument) me

@@ -9,7 +9,7 @@ use Rattle.tx_base.specs.declared.steps.Step.{Step}
 use Rattle.tx_base.specs.declared.steps.Step.TheVariants.{Call as Calls, Deliver, KernelAbort}
 use Rattle.tx_model.specs.State.{Process, State, Sending, Object}
 use Rattle.tx_model.specs.SignalSets.{kill_signo}
-use Rattle.tx_model.specs.Effects.{sent}
+use Rattle.tx_model.specs.Effects.{send_answers}
 use Rattle.tx_model.specs.Events.{Event, process_of, actor, effect, after, reply_of}
 use Rattle.tx_model.specs.Membership.{Table, is_live, is_member_of, Role, called_by_status, role, step_event, event, table_after}
 use Rattle.tx_model.specs.History.{Starters, nobody, just, table_of, left_out_before, stays, without, footprint, touched_after, touched_of}
@@ -72,7 +72,7 @@ differs_at t (m ∷ ms) (x ∷ xs) (y ∷ ys) = if m.target == t then (if int_eq
 -- the two answers: whether a post of the event to s is answered otherwise without the transaction of s
 abbrev pub has_two_answers : View → Event → ℕ → Bool
 has_two_answers V ev s =
-    differs_at s (effect ev (present V)).sends (sent (effect ev (present V)) (present V)) (sent (effect ev (present V)) (V.without (just s)))
+    differs_at s (effect ev (present V)).sends (send_answers (effect ev (present V)) (present V)) (send_answers (effect ev (present V)) (V.without (just s)))
 
 -- whether the event meets what the transaction of s touched
 abbrev pub meets_touched : View → Event → ℕ → Bool
@@ -95,13 +95,13 @@ least P (suc n) = if is_some (least P n) then least P n else (if P (suc n) then 
 abbrev pub holder : View → Event → Option ℕ
 holder V ev = least (in_way V ev) V.table.width
 
-abbrev pub moved : Bool → Event → State → State
-moved true ev S = after ev S
-moved false ev S = S
+abbrev pub after_if : Bool → Event → State → State
+after_if true ev S = after ev S
+after_if false ev S = S
 
 abbrev pub next_by : Role → Event → ℕ → View → View
 next_by r ev p V = record {
-  without = λ X. moved (stays r X) ev (V.without (left_out_before r X));
+  without = λ X. after_if (stays r X) ev (V.without (left_out_before r X));
   table = table_after r p V.table;
   touched = touched_after r (footprint V.table ev (present V)) V.touched;
 }

@@ -1,6 +1,6 @@
 -- What a call on pages answers, and what it leaves.
 use Rattle.std.specs.Prelude.{◌≡◌, ◌<◌, ℕ, Bool, true, false, List, [], ◌∷◌, Option, Some, None, Result, Ok, Err, length, slice_set, ℤ}
-use Rattle.tx_model.specs.Memory.{Memory, below, is_writable, is_mapped, is_good, is_vacant, has_page, stored, loaded, taken, zero_page, with_page, flagged}
+use Rattle.tx_model.specs.Memory.{Memory, below, is_writable, is_mapped, is_good, is_vacant, has_page, stored, loaded, bytes_at, zero_page, with_page, flagged}
 use Rattle.tx_pages.specs.declared.errors.PageError.{PageError}
 use Rattle.tx_pages.specs.declared.errors.PageError.TheVariants.{Invalid, Fault, NoMemory}
 use Rattle.tx_pages.specs.declared.plans.NewPage.{NewPage}
@@ -43,7 +43,7 @@ Loads memory address (Err Invalid) = ⊥
 
 -- the bytes of a range, copied out over others
 abbrev pub Takes : {A : Type 0} → Memory → ℤ → List ℕ → Result A PageError → List ℕ → Type 0
-Takes memory address old (Ok _) new = (is_good is_mapped memory address (length old) ≡ true) × (new ≡ taken memory (below 1024 address) (length old))
+Takes memory address old (Ok _) new = (is_good is_mapped memory address (length old) ≡ true) × (new ≡ bytes_at memory (below 1024 address) (length old))
 Takes memory address old (Err Fault) new = (is_good is_mapped memory address (length old) ≡ false) × (new ≡ old)
 Takes memory address old (Err NoMemory) new = ⊥
 Takes memory address old (Err Invalid) new = ⊥

@@ -2,7 +2,7 @@
 use Rattle.std.proofs.Common.{refl}
 use Rattle.tx_model.specs.State.{has, written}
 use Rattle.tx_model.specs.Posts.{posts, answers}
-use Rattle.tx_model.specs.Descriptors.{first_free, open_in, names_below, is_named_below, has_end_below, pipes_of, unnamed_go, endless_go}
+use Rattle.tx_model.specs.Descriptors.{first_free, open_in, names_below, is_named_below, has_side_below, pipes_of, unnamed_go, endless_go}
 use Rattle.tx_model.specs.Processes.{children_below, orphaned}
 use Rattle.tx_model.specs.Sends.{sent_by_members}
 use Rattle.tx_model.specs.Deliveries.{first_value, less_first, has_lower}
@@ -15,17 +15,17 @@ use Rattle.tx_model.specs.Schedules.{history_of, answers_of}
 use Rattle.tx_worked.specs.WorkedConflicts.{UndecidedKillAnswers, CrossedAnswers, CrossedState, ChildInsideAnswers}
 
 pub undecided_kill_answers : UndecidedKillAnswers
-unfolding written posts answers effect objects after reply_of run others_open table_of survivors without targets footprint touched_of view meets differs_at in_way least answer has first_free open_in names_below is_named_below has_end_below pipes_of unnamed_go endless_go children_below orphaned sent_by_members first_value less_first has_lower answers_of
+unfolding written posts answers effect objects after reply_of run others_open table_of survivors without targets footprint touched_of view meets differs_at in_way least answer has first_free open_in names_below is_named_below has_side_below pipes_of unnamed_go endless_go children_below orphaned sent_by_members first_value less_first has_lower answers_of
 undecided_kill_answers = refl
 
 pub crossed_answers : CrossedAnswers
-unfolding written posts answers effect objects after reply_of run others_open table_of survivors without targets footprint touched_of view meets differs_at in_way least answer has first_free open_in names_below is_named_below has_end_below pipes_of unnamed_go endless_go children_below orphaned sent_by_members first_value less_first has_lower answers_of
+unfolding written posts answers effect objects after reply_of run others_open table_of survivors without targets footprint touched_of view meets differs_at in_way least answer has first_free open_in names_below is_named_below has_side_below pipes_of unnamed_go endless_go children_below orphaned sent_by_members first_value less_first has_lower answers_of
 crossed_answers = refl
 
 pub crossed_state : CrossedState
-unfolding written posts answers effect objects after reply_of run others_open table_of survivors without targets footprint touched_of view meets differs_at in_way least answer has first_free open_in names_below is_named_below has_end_below pipes_of unnamed_go endless_go children_below orphaned sent_by_members first_value less_first has_lower history_of
+unfolding written posts answers effect objects after reply_of run others_open table_of survivors without targets footprint touched_of view meets differs_at in_way least answer has first_free open_in names_below is_named_below has_side_below pipes_of unnamed_go endless_go children_below orphaned sent_by_members first_value less_first has_lower history_of
 crossed_state = (refl, refl, refl, refl)
 
 pub child_inside_answers : ChildInsideAnswers
-unfolding written posts answers effect objects after reply_of run others_open table_of survivors without targets footprint touched_of view meets differs_at in_way least answer has first_free open_in names_below is_named_below has_end_below pipes_of unnamed_go endless_go children_below orphaned sent_by_members first_value less_first has_lower answers_of
+unfolding written posts answers effect objects after reply_of run others_open table_of survivors without targets footprint touched_of view meets differs_at in_way least answer has first_free open_in names_below is_named_below has_side_below pipes_of unnamed_go endless_go children_below orphaned sent_by_members first_value less_first has_lower answers_of
 child_inside_answers = refl
