@@ -21,6 +21,8 @@ pub mod Erased
 pub mod TwoPartsView
 pub mod StepView
 pub mod Commutes
+pub mod Mild
+pub mod StepFootprints
 pub mod Doomed
 pub mod KeepsFormParts
 pub mod KeepsFormOwn

@@ -22,6 +22,7 @@ ghost use Rattle.tx_model.specs.State.{State, Object, AgreeAt, AgreeOn, booted, 
 ghost use Rattle.tx_laws.specs.TwoParts.{TwoParts, parts_view, parts_next};
 ghost use Rattle.tx_model.specs.View.{View, view, is_doomed, next, next_by, role_on, event_on};
 ghost use Rattle.tx_laws.specs.WellFormed.{IsWellFormed, HasGoodNumbers};
+ghost use Rattle.tx_laws.specs.Footprints.{FootprintIsOfEvent};
 
 /// Erasure: in every prefix of a lawful history, from any start state, each surviving step has
 /// the reply that the plain kernel gives when the steps of aborted transactions are left out,
@@ -63,6 +64,12 @@ pub fn locality()
     ensures same { (event : Event) (one other : State) → AgreeOn (objects event one) one other → effect event one ≡ effect event other }
     ensures elsewhere { (event : Event) (state : State) (object : Object) →
         has object (objects event state ++ processes_of (effect event state).sends) ≡ false → AgreeAt (after event state) state object }
+{}
+
+/// Footprints: of a step of a process that runs, which is no abort, the footprint is what its
+/// event names, and the targets of what the event posts. What a transaction holds is left out.
+pub fn footprints()
+    ensures { FootprintIsOfEvent }
 {}
 
 /// Two events commute where no object is named by both, the targets of their sends included: in
