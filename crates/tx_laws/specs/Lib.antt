@@ -5,3 +5,7 @@ pub mod TwoParts
 pub mod Sound
 pub mod Fits
 pub mod Commuting
+pub mod Laws
+pub mod LawsOfEvents
+pub mod LawsOfParts
+pub mod LawsOfDoom
