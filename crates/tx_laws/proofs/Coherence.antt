@@ -11,7 +11,7 @@ use Rattle.tx_model.specs.View.{View, present, meets, in_way, has_two_answers, m
 use Rattle.tx_laws.specs.Sound.{IsSound}
 use Rattle.tx_laws.proofs.Agree.{agree_sym, agree_trans, written_part}
 use Rattle.tx_laws.proofs.Objects.{TargetsIn, same_true, has_head, has_tail, has_left, has_right}
-use Rattle.tx_laws.proofs.Local.{after_keeps, reply_same, effect_same, objects_same, actor_in}
+use Rattle.tx_laws.proofs.Local.{after_keeps, after_width, reply_same, effect_same, objects_same, actor_in}
 use Rattle.tx_laws.proofs.Elsewhere.{effect_fits, after_else}
 use Rattle.tx_laws.specs.Fits.{IsIn, ProgressFits, FitsWithin, Fits, Passes}
 use Rattle.tx_laws.proofs.Answered.{Known, answers_known, or_false_left, or_false_right}
@@ -204,6 +204,11 @@ taken_cases (Begins defers) s F o h = by (same_object o (Held s)) refl h
     by true e k = inl (same_true o (Held s) e)
     by false e k = inr k
 
+-- an event that is made or not leaves the width as it was
+after_if_width : (b : Bool) (ev : Event) (S : State) → (after_if b ev S).width ≡ S.width
+after_if_width true ev S = after_width ev S
+after_if_width false ev S = refl
+
 -- what was touched after a step inside a transaction
 pub touched_cases : (s p : ℕ) (h t : Bool) → (if s == p then (if h then true else t) else t) ≡ true → ((s ≡ p) × (h ≡ true)) ⊎ (t ≡ true)
 touched_cases s p h t = by (s == p) (λ e. eqb-true s p e) h
@@ -359,6 +364,7 @@ module _ (V : View) (ev : Event) (sound : IsSound V) (clear : IsClear V ev) (s :
       | inl a ↦ a.0 ∙ sym (elim (taken_cases part s F (Held u) a.1) [ inl e ↦ held_same u e | inr e ↦ foot_held u e ])
       | inr a ↦ sound.held_own t u a
     ];
+    width = λ X. after_if_width (not (X s)) ev (V.without X) ∙ sound.width X;
     bounded = λ t q h. elim (grows.members t q h) [
       | inl a ↦ sound.bounded t q a
       | inr a ↦ (joins_taken q a.1).1
@@ -373,6 +379,7 @@ outside_sound V ev p sound clear out = record {
   own_procs = sound.own_procs;
   own_held = sound.own_held;
   held_own = sound.held_own;
+  width = λ X. after_width ev (V.without X) ∙ sound.width X;
   bounded = sound.bounded;
 }
 
@@ -402,6 +409,7 @@ commits_sound V ev p sound clear s fits = record {
   own_procs = over_procs V sound s;
   own_held = over_held V sound s;
   held_own = λ t u h. sound.held_own t u (over_touched V sound s t (Held u) h);
+  width = λ X. after_width ev (V.without (less_one s X)) ∙ sound.width (less_one s X);
   bounded = λ t q h. sound.bounded t q (over_member V sound s t q h).1;
 }
 
@@ -428,6 +436,7 @@ aborts_sound V r p sound s k live = record {
   own_procs = over_procs V sound s;
   own_held = over_held V sound s;
   held_own = λ t u h. sound.held_own t u (over_touched V sound s t (Held u) h);
+  width = λ X. after_width (Note s r) (V.without (with_one s X)) ∙ sound.width (with_one s X);
   bounded = λ t q h. sound.bounded t q (over_member V sound s t q h).1;
 }
 

@@ -9,9 +9,9 @@ use Rattle.tx_laws.specs.Fits.{IsIn}
 use Rattle.tx_laws.specs.Commuting.{named_by, AreApart}
 use Rattle.tx_laws.proofs.Agree.{agree_sym, part_sym, part_trans, state_ext, written_part}
 use Rattle.tx_laws.proofs.Objects.{has_head, has_tail, has_left, has_right}
-use Rattle.tx_laws.proofs.Local.{reply_same, effect_same, objects_same}
+use Rattle.tx_laws.proofs.Local.{after_width, reply_same, effect_same, objects_same}
 use Rattle.tx_laws.proofs.Answered.{answers_known}
-use Rattle.tx_laws.proofs.TwoPartsView.{after_part, after_width}
+use Rattle.tx_laws.proofs.TwoPartsView.{after_part}
 use Rattle.tx_laws.proofs.StepView.{elsewhere}
 
 apart_sym : (one other : Event) (S : State) → AreApart one other S → AreApart other one S

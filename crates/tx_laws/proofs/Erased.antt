@@ -59,6 +59,7 @@ start_sound S = record {
   own_procs = λ s p h. cc;
   own_held = λ s h. cc;
   held_own = λ s t h. cc;
+  width = λ X. refl;
   bounded = λ s p h. cc;
 }
 

@@ -33,3 +33,5 @@ pub mod KeepsFormEnding
 pub mod KeepsFormDeliveries
 pub mod KeepsFormEvents
 pub mod FormHistory
+pub mod GoodNumbers
+pub mod StepByStep

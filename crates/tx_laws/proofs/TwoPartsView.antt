@@ -11,6 +11,7 @@ use Rattle.tx_model.specs.View.{View, IsClear, after_if, next_by}
 use Rattle.tx_laws.specs.Sound.{IsSound}
 use Rattle.tx_laws.specs.TwoParts.{TwoParts, in_set, is_owner, pick, parts_without, parts_view, freed, reserved, on_both, parts_next}
 use Rattle.tx_laws.proofs.Agree.{part_refl, part_sym, part_trans, state_ext, applied_part, applied_width}
+use Rattle.tx_laws.proofs.Local.{after_width}
 use Rattle.tx_laws.specs.Fits.{FitsWithin, Fits, Passes}
 use Rattle.tx_laws.proofs.Coherence.{IsQuiet, quiet_effect, quiet_sent, outside_quiet, commits_quiet, taken_foot, taken_mine, within_else}
 
@@ -39,10 +40,6 @@ unfolding after
 after_part ev S R e a o h =
     subst (λ (x : Effect × List ℤ). AgreePart (applied (effect ev S) (send_answers (effect ev S) S) S) (applied x.0 x.1 R) o)
     (ap₂ (λ (x : Effect) (y : List ℤ). (x, y)) e a) (applied_part (effect ev S) (send_answers (effect ev S) S) S R o h)
-
-pub after_width : (ev : Event) (S : State) → (after ev S).width ≡ S.width
-unfolding after
-after_width ev S = applied_width (effect ev S) (send_answers (effect ev S) S) S
 
 in_nobody : (x : Option ℕ) → in_set nobody x ≡ false
 in_nobody None = refl

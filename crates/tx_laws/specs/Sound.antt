@@ -13,4 +13,5 @@ pub record IsSound (V : View) : Type 0 where
   pub own_procs : (s p : ℕ) → is_member_of V.table s p ≡ true → V.touched s (Proc p) ≡ true
   pub own_held : (s : ℕ) → is_live V.table s ≡ true → V.touched s (Held s) ≡ true
   pub held_own : (s t : ℕ) → V.touched s (Held t) ≡ true → s ≡ t
+  pub width : (X : Starters) → (V.without X).width ≡ V.table.width
   pub bounded : (s p : ℕ) → is_member_of V.table s p ≡ true → is_between V.table.width p ≡ true

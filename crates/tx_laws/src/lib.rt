@@ -8,7 +8,7 @@ ghost use Rattle.tx_model.specs.Answer.{Lawful};
 ghost use Rattle.tx_model.specs.Events.{Event, after};
 ghost use Rattle.tx_model.specs.History.{Starters, without};
 ghost use Rattle.tx_model.specs.State.{State, booted};
-ghost use Rattle.tx_laws.specs.Laws.{PrefixesAgree, SurvivorsAreByPlace, LawfulViewIsNext, LawfulViewIsSound};
+ghost use Rattle.tx_laws.specs.Laws.{PrefixesAgree, SurvivorsAreByPlace, LawfulViewIsNext, LawfulViewIsSound, StartIsSound, NextIsSound, NextIsWellFormed, SchedulesAreLawful};
 ghost use Rattle.tx_laws.specs.LawsOfDoom.{DoomedCallsAreRefused, DoomedDeliveriesAreRefused, DoomedAbortAnswers203, OtherAbortAnswers202, MembersDoomNothing};
 ghost use Rattle.tx_laws.specs.LawsOfEvents.{EffectIsLocal, ElsewhereIsSame, StatesCommute, RepliesCommute};
 ghost use Rattle.tx_laws.specs.LawsOfParts.{PartsFollowRole, PartsFollowStep};
@@ -33,6 +33,16 @@ pub fn survivors_by_places()
 pub fn next_view()
     ensures history { LawfulViewIsNext }
     ensures sound { LawfulViewIsSound }
+{}
+
+/// Step by step: the view of the empty history is sound, and an accepted step makes of a sound view
+/// a sound one, and of well-formed states well-formed ones, whichever transactions are left out. The
+/// accepted steps of a schedule that follows a lawful history make a lawful history with it.
+pub fn step_by_step()
+    ensures start { StartIsSound }
+    ensures sound { NextIsSound }
+    ensures well_formed { NextIsWellFormed }
+    ensures lawful { SchedulesAreLawful }
 {}
 
 /// A kernel that keeps two parts and one owner for each object has the view of its history: in
