@@ -54,6 +54,11 @@ module _ (ev : Event) (S R : State) (agree : AgreeOn (named_by ev S) S R) where
   unfolding named_by
   named_same = ap₂ (λ (os : List Object) (f : Effect). os ++ processes_of f.sends) (objects_same ev S R at_objects) effect_named
 
+-- the reply to an event, in two states that agree at its objects and at the targets of its sends
+pub reply_named : (ev : Event) (S R : State) → AgreeOn (objects ev S ++ processes_of (effect ev S).sends) S R → reply_of ev S ≡ reply_of ev R
+unfolding named_by
+reply_named ev S R agree = reply_same ev S R (effect_named ev S R agree) (sent_named ev S R agree)
+
 -- the state after the other event, as an event that is apart finds it
 agree_after : (one other : Event) (S : State) → AreApart one other S → AgreeOn (named_by one S) S (after other S)
 agree_after one other S apart o h = agree_sym (after other S) S o (else_same other S o (apart o h))

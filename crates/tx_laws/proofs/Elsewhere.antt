@@ -106,7 +106,7 @@ step_fits (Calls p call) inside S os c = act_fits inside p.0 (MakesCall call) S 
 step_fits (Deliver p signo) inside S os c = act_fits inside p.0 (TakesSignal signo.0) S os c
 step_fits (KernelAbort s) inside S os c = (tt, tt)
 
-event_fits : (ev : Event) (S : State) (os : List Object) → Covers os (objects ev S) → WritesFit S os (effect ev S).writes × ConclusionIn (effect ev S).conclusion os
+pub event_fits : (ev : Event) (S : State) (os : List Object) → Covers os (objects ev S) → WritesFit S os (effect ev S).writes × ConclusionIn (effect ev S).conclusion os
 unfolding effect objects
 event_fits (Do step inside) S os c = step_fits step inside S os c
 event_fits (Note p r) S os c =

@@ -35,3 +35,5 @@ pub mod KeepsFormEvents
 pub mod FormHistory
 pub mod GoodNumbers
 pub mod StepByStep
+pub mod PartsElsewhere
+pub mod HoldsInside

@@ -1,7 +1,8 @@
 -- How an event goes with what its step is to the transactions. Own rules.
-use Rattle.std.specs.Prelude.{◌≡◌, ℕ, true, false, List, [], ◌∷◌, ◌⊎◌, ℤ, None}
+use Rattle.std.specs.Prelude.{◌≡◌, ℕ, true, false, List, [], ◌∷◌, ◌⊎◌, ℤ, Option, Some, None}
 use Rattle.tx_model.specs.State.{State, Sending, Proc, Held, has, is_between}
-use Rattle.tx_model.specs.Events.{Event, Note, actor, effect, objects}
+use Rattle.tx_model.specs.Effects.{Inside}
+use Rattle.tx_model.specs.Events.{Event, Do, Note, Commit, actor, effect, objects}
 use Rattle.tx_model.specs.Membership.{is_member_of, is_live, Progress, Continues, Parks, Forks, Begins, Role, Outside, Within, Commits, Aborts}
 use Rattle.tx_model.specs.History.{is_other_starter}
 use Rattle.tx_model.specs.View.{View, present, IsClear}
@@ -39,3 +40,14 @@ Passes Outside ev V = IsClear V ev
 Passes (Within s part) ev V = IsClear V ev
 Passes (Commits s) ev V = IsClear V ev
 Passes (Aborts s k) ev V = Unit {0}
+
+-- the step is made inside of the transaction of u
+abbrev pub IsInsideOf : ℕ → Option Inside → Type 0
+IsInsideOf u None = ⊥
+IsInsideOf u (Some i) = i.starter ≡ u
+
+-- the event is made inside of the transaction of u, or commits it
+abbrev pub HoldsFor : ℕ → Event → Type 0
+HoldsFor u (Do step inside) = IsInsideOf u inside
+HoldsFor u (Note p r) = ⊥
+HoldsFor u (Commit s ev) = (u ≡ s) ⊎ HoldsFor u ev

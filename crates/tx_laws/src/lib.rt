@@ -10,7 +10,7 @@ ghost use Rattle.tx_model.specs.History.{Starters, without};
 ghost use Rattle.tx_model.specs.State.{State, booted};
 ghost use Rattle.tx_laws.specs.Laws.{PrefixesAgree, SurvivorsAreByPlace, LawfulViewIsNext, LawfulViewIsSound, StartIsSound, NextIsSound, NextIsWellFormed, SchedulesAreLawful};
 ghost use Rattle.tx_laws.specs.LawsOfDoom.{DoomedCallsAreRefused, DoomedDeliveriesAreRefused, DoomedAbortAnswers203, OtherAbortAnswers202, MembersDoomNothing};
-ghost use Rattle.tx_laws.specs.LawsOfEvents.{EffectIsLocal, ElsewhereIsSame, StatesCommute, RepliesCommute};
+ghost use Rattle.tx_laws.specs.LawsOfEvents.{EffectIsLocal, ObjectsAreLocal, ReplyIsLocal, ElsewhereIsSame, OtherPartsStay, WritesStayInObjects, HoldsForItsOwn, StatesCommute, RepliesCommute};
 ghost use Rattle.tx_laws.specs.LawsOfParts.{PartsFollowRole, PartsFollowStep};
 ghost use Rattle.tx_laws.specs.WellFormed.{IsWellFormed, HasGoodNumbers};
 
@@ -52,11 +52,23 @@ pub fn two_parts()
     ensures step { PartsFollowStep }
 {}
 
-/// Locality: what an event does is a function of its objects, their families included, and it
-/// changes nothing but at its objects, at the targets of its sends, and the children of process 1.
+/// Locality: what an event does is a function of its objects, their families included. So is which
+/// objects it has; and its reply is a function of its objects and the targets of its sends. It changes
+/// nothing but at these, and which processes are children of process 1: every other part stays. Its
+/// writes alone, before its sends, stay within its objects, in whatever state they are made.
 pub fn locality()
     ensures same { EffectIsLocal }
+    ensures objects { ObjectsAreLocal }
+    ensures reply { ReplyIsLocal }
     ensures elsewhere { ElsewhereIsSame }
+    ensures parts { OtherPartsStay }
+    ensures writes { WritesStayInObjects }
+{}
+
+/// What a transaction holds concerns an event only if that is made inside of the transaction, or
+/// commits it: outside of all transactions nothing held is read or written.
+pub fn holding()
+    ensures { HoldsForItsOwn }
 {}
 
 /// Two events commute where no object is named by both, the targets of their sends included: in
