@@ -60,6 +60,7 @@ start_sound S = record {
   own_held = λ s h. cc;
   held_own = λ s t h. cc;
   width = λ X. refl;
+  starter_runs = λ s h. cc;
   bounded = λ s p h. cc;
 }
 

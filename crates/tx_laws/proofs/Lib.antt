@@ -36,4 +36,5 @@ pub mod FormHistory
 pub mod GoodNumbers
 pub mod StepByStep
 pub mod PartsElsewhere
+pub mod KeptByPosts
 pub mod HoldsInside

@@ -1,13 +1,11 @@
 -- The writes of an event, made on any state, leave alone what is no object of it.
-use Rattle.std.proofs.Common.{◌≡◌, false, List, [], ◌∷◌, ◌++◌, refl}
+use Rattle.std.proofs.Common.{◌≡◌, false, List, [], ◌∷◌, refl}
 use Rattle.tx_model.specs.State.{State, Object, Proc, Desc, Pipe, Held, Write, SetProc, SetDesc, SetPipe, SetHeld, write_one, written, AgreePart, has}
 use Rattle.tx_model.specs.Effects.{before_sends}
-use Rattle.tx_model.specs.Events.{Event, effect, objects, after}
-use Rattle.tx_model.specs.History.{processes_of}
+use Rattle.tx_model.specs.Events.{Event, effect, objects}
 use Rattle.tx_laws.proofs.Agree.{part_refl, part_trans}
 use Rattle.tx_laws.proofs.Elsewhere.{event_fits}
 use Rattle.tx_laws.proofs.Objects.{WriteFits, WritesFit, different}
-use Rattle.tx_laws.proofs.StepView.{elsewhere}
 
 write_other : (w : Write) (S T : State) (os : List Object) (o : Object) → WriteFits S os w → has o os ≡ false → AgreePart (write_one w T) T o
 write_other (SetProc k x) S T os (Proc n) f h = rw (different (Proc n) (Proc k) os f.0 h) refl
@@ -37,7 +35,3 @@ written_other (w ∷ ws) S T os o f h =
 -- the writes of an event leave every part of any state alone that is no object of it
 pub writes_elsewhere : (ev : Event) (S T : State) (o : Object) → has o (objects ev S) ≡ false → AgreePart (before_sends (effect ev S) T) T o
 writes_elsewhere ev S T o h = written_other (effect ev S).writes S T (objects ev S) o (event_fits ev S (objects ev S) (λ q k. k)).0 h
-
--- an event leaves every part alone but those of its objects and of the targets of its sends
-pub parts_elsewhere : (ev : Event) (S : State) (o : Object) → has o (objects ev S ++ processes_of (effect ev S).sends) ≡ false → AgreePart (after ev S) S o
-parts_elsewhere ev S o h = (elsewhere ev S o h).part

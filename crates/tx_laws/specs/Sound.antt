@@ -3,8 +3,9 @@
 use Rattle.std.specs.Prelude.{◌≡◌, ℕ, true}
 use Rattle.tx_model.specs.State.{Object, Proc, Held, AgreeAt, is_between}
 use Rattle.tx_model.specs.Membership.{is_live, is_member_of}
-use Rattle.tx_model.specs.History.{Starters}
+use Rattle.tx_model.specs.History.{Starters, just}
 use Rattle.tx_model.specs.View.{View}
+use Rattle.tx_model.specs.Answer.{is_running}
 
 pub record IsSound (V : View) : Type 0 where
   pub coherent : (X Y : Starters) (o : Object) → ((s : ℕ) → V.touched s o ≡ true → X s ≡ Y s) → AgreeAt (V.without X) (V.without Y) o
@@ -14,4 +15,5 @@ pub record IsSound (V : View) : Type 0 where
   pub own_held : (s : ℕ) → is_live V.table s ≡ true → V.touched s (Held s) ≡ true
   pub held_own : (s t : ℕ) → V.touched s (Held t) ≡ true → s ≡ t
   pub width : (X : Starters) → (V.without X).width ≡ V.table.width
+  pub starter_runs : (s : ℕ) → is_live V.table s ≡ true → is_running ((V.without (just s)).procs s) ≡ true
   pub bounded : (s p : ℕ) → is_member_of V.table s p ≡ true → is_between V.table.width p ≡ true

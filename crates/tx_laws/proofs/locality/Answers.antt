@@ -1,7 +1,7 @@
 use Rattle.tx_laws.proofs.Commutes.{reply_named}
 use Rattle.tx_laws.proofs.Local.{effect_same, objects_same}
-use Rattle.tx_laws.proofs.PartsElsewhere.{parts_elsewhere, writes_elsewhere}
-use Rattle.tx_laws.proofs.StepView.{elsewhere}
+use Rattle.tx_laws.proofs.PartsElsewhere.{writes_elsewhere}
+use Rattle.tx_laws.proofs.StepView.{elsewhere, parts_elsewhere}
 use Rattle.tx_laws.proofs.locality.Goals as goal
 
 pub returns-clause-same : goal.returns-clause-same
