@@ -26,7 +26,7 @@ module _ (P : Option Process → Type 0) (keeps : IsKept P) (s : ℕ) where
   posts_keep [] S h = h
   posts_keep (m ∷ ms) S h = posts_keep ms (post m S) (edit_keeps (received m) (keeps.posted m) m.target S h)
 
-  concluded_keeps : (c : Conclusion) (rs : List ℤ) (S : State) → P (S.procs s) → P ((concluded c rs S).procs s)
+  pub concluded_keeps : (c : Conclusion) (rs : List ℤ) (S : State) → P (S.procs s) → P ((concluded c rs S).procs s)
   concluded_keeps (Replies r) rs S h = h
   concluded_keeps (AnswersPost p) rs S h = edit_keeps (noted_if (first_answer rs)) (keeps.noted (first_answer rs)) p S h
   concluded_keeps ListsFailed rs S h = h

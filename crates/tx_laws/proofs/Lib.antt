@@ -37,4 +37,5 @@ pub mod GoodNumbers
 pub mod StepByStep
 pub mod PartsElsewhere
 pub mod KeptByPosts
+pub mod DoomStays
 pub mod HoldsInside

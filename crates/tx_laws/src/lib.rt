@@ -9,7 +9,7 @@ ghost use Rattle.tx_model.specs.Events.{Event, after};
 ghost use Rattle.tx_model.specs.History.{Starters, without};
 ghost use Rattle.tx_model.specs.State.{State, booted};
 ghost use Rattle.tx_laws.specs.Laws.{PrefixesAgree, SurvivorsAreByPlace, LawfulViewIsNext, LawfulViewIsSound, StartIsSound, NextIsSound, NextIsWellFormed, SchedulesAreLawful};
-ghost use Rattle.tx_laws.specs.LawsOfDoom.{DoomedCallsAreRefused, DoomedDeliveriesAreRefused, DoomedAbortAnswers203, OtherAbortAnswers202, MembersDoomNothing};
+ghost use Rattle.tx_laws.specs.LawsOfDoom.{DoomedCallsAreRefused, DoomedDeliveriesAreRefused, DoomedAbortAnswers203, OtherAbortAnswers202, MembersDoomNothing, KillDooms, SigqueueDooms, DoomStays};
 ghost use Rattle.tx_laws.specs.LawsOfEvents.{EffectIsLocal, ObjectsAreLocal, ReplyIsLocal, ElsewhereIsSame, OtherPartsStay, WritesStayInObjects, HoldsForItsOwn, StatesCommute, RepliesCommute};
 ghost use Rattle.tx_laws.specs.LawsOfParts.{PartsFollowRole, PartsFollowStep};
 ghost use Rattle.tx_laws.specs.WellFormed.{IsWellFormed, HasGoodNumbers};
@@ -81,13 +81,18 @@ pub fn commuting()
 /// Of a doomed transaction, whose starter would have SIGKILL pending after an abort, only the
 /// kernel's abort is accepted: each call of a member and each delivery to one is refused. That
 /// abort answers 203, and 202 where the transaction is not doomed. No step inside a transaction,
-/// the first included, changes whether it is doomed: what its members send dooms nothing.
+/// the first included, changes whether it is doomed: what its members send dooms nothing. SIGKILL
+/// that is sent to the starter from outside of all transactions, and let through, dooms its transaction,
+/// unless that is process 1's; and a doomed transaction stays so until it ends.
 pub fn doom()
     ensures call { DoomedCallsAreRefused }
     ensures delivery { DoomedDeliveriesAreRefused }
     ensures doomed_status { DoomedAbortAnswers203 }
     ensures other_status { OtherAbortAnswers202 }
     ensures members { MembersDoomNothing }
+    ensures kill { KillDooms }
+    ensures sigqueue { SigqueueDooms }
+    ensures stays { DoomStays }
 {}
 
 /// Well-formed states: process 1 runs, the parent of any other process runs too, what descriptors
