@@ -8,7 +8,7 @@ use Rattle.tx_model.specs.State.{Process, State, Object, Proc, Held, same_object
 use Rattle.tx_model.specs.Effects.{Inside}
 use Rattle.tx_model.specs.Descriptors.{open_in, desc_pipe_objects}
 use Rattle.tx_model.specs.Processes.{children_of, procs_of, held_objects, ending_objects}
-use Rattle.tx_model.specs.Deliveries.{delivered_value, is_fatal, action_at, fatal_objects}
+use Rattle.tx_model.specs.Deliveries.{delivered_value, ends_by}
 use Rattle.tx_model.specs.Calls.{call_objects, Act, MakesCall, TakesSignal, act_objects, objects_at, act_footprint}
 use Rattle.tx_model.specs.Events.{Event, Do, Note, Commit, step_objects, objects}
 use Rattle.tx_laws.specs.Fits.{IsInsideOf, HoldsFor}
@@ -52,17 +52,20 @@ module _ (s p : ℕ) (me : Process) (S : State) (o : Object) where
   call_inside (call.Sigqueue t signo value) h = absurd (has_nothing o h)
   call_inside c h = h
 
-  fatal_inside : (signo : ℕ) (x : Option ℤ) → has o (fatal_objects None p signo me S x) ≡ true → has o (fatal_objects (Some (of_starter s)) p signo me S x) ≡ true
-  fatal_inside signo None h = h
-  fatal_inside signo (Some value) h = by (is_fatal signo (action_at signo me)) h
-    where
-      by : (b : Bool) → has o (if b then ending_objects None p me S else []) ≡ true → has o (if b then ending_objects (Some (of_starter s)) p me S else []) ≡ true
-      by true k = ending_inside k
-      by false k = k
+  ends_inside : (signo : ℕ) (x : Option ℤ) → ends_by None signo me x ≡ ends_by (Some (of_starter s)) signo me x
+  ends_inside signo None = refl
+  ends_inside signo (Some value) = refl
+
+  delivery_inside : (b c : Bool) → b ≡ c → has o (if b then ending_objects None p me S else []) ≡ true → has o (if c then ending_objects (Some (of_starter s)) p me S else []) ≡ true
+  delivery_inside true true e k = ending_inside k
+  delivery_inside true false e k = cc
+  delivery_inside false true e k = cc
+  delivery_inside false false e k = k
 
   act_inside : (act : Act) → has o (act_objects None p act me S) ≡ true → has o (act_objects (Some (of_starter s)) p act me S) ≡ true
   act_inside (MakesCall c) h = call_inside c h
-  act_inside (TakesSignal signo) h = fatal_inside signo (delivered_value signo me) h
+  act_inside (TakesSignal signo) h =
+      delivery_inside (ends_by None signo me (delivered_value signo me)) (ends_by (Some (of_starter s)) signo me (delivered_value signo me)) (ends_inside signo (delivered_value signo me)) h
 
 at_inside : (s p : ℕ) (act : Act) (S : State) (o : Object) (x : Option Process) → has o (Proc p ∷ objects_at None p act S x) ≡ true → has o (Proc p ∷ objects_at (Some (of_starter s)) p act S x) ≡ true
 at_inside s p act S o None h = h

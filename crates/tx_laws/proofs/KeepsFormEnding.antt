@@ -6,11 +6,12 @@ use Rattle.tx_model.specs.Numbers.{failing}
 use Rattle.tx_model.specs.State.{Process, Description, State, Sending, Object, Proc, Desc, Pipe, Held, Write, SetProc, SetHeld, put_at, write_one, written, has_parent, is_number, names_at, side_in, is_between, AgreeAt, has}
 use Rattle.tx_model.specs.Effects.{Inside, done}
 use Rattle.tx_model.specs.Descriptors.{open_in, pipes_of, released, desc_objects, pipe_list, desc_pipe_objects}
-use Rattle.tx_model.specs.Processes.{ended, children_below, children_of, with_parent, orphaned, told_to, tells_later, ending, exit_status, exit_effect}
+use Rattle.tx_model.specs.Processes.{ended, children_below, children_of, with_parent, orphaned, told_to, ending, exit_status, exit_effect, telling, told_at_commit, NotTold, AtOnce, AtCommit}
 use Rattle.tx_model.specs.Answer.{is_running}
+use Rattle.tx_model.specs.StateLaws.{put_here, put_cases, put_there}
 use Rattle.tx_laws.specs.WellFormed.{HasSizes, IsPlaced, IsWellFormed}
 use Rattle.tx_laws.proofs.Released.{lacks_both, ends_held, released_same}
-use Rattle.tx_laws.proofs.KeepsFormParts.{put_here, put_there, put_cases, same_or_other, less_of, number_in, IsTabled, IsNamed, form_from, tabled_of, linked_of, linked_same}
+use Rattle.tx_laws.proofs.KeepsFormParts.{same_or_other, less_of, number_in, IsTabled, IsNamed, form_from, tabled_of, linked_of, linked_same}
 use Rattle.tx_laws.proofs.KeepsFormReleased.{IsAmong, IsLoose, written_append, tabled_same, loosened, released_form}
 use Rattle.tx_laws.proofs.KeepsFormNames.{KeepsForm, done_form, number_of}
 
@@ -267,12 +268,16 @@ module _ (S : State) (p status : ℕ) (me now : Process) (e : S.procs p ≡ Some
       (sym (released_named (open_in now.descriptors) gone left (sym left_width) (sym left_descs) (sym left_pipes) names_gone))
       (released_form (open_in now.descriptors) left left_tabled left_loose)
 
-  later_form : (inside : Option Inside) (T V : State) → IsWellFormed V → IsWellFormed (written (tells_later inside now.parent T) V)
+  later_form : (inside : Option Inside) (T V : State) → IsWellFormed V → IsWellFormed (written (told_at_commit (telling inside now.parent) now.parent T) V)
   unfolding written
-  later_form None T V k = k
+  later_form None T V k = by (now.parent == 1)
+    where
+      by : (b : Bool) → IsWellFormed (written (told_at_commit (if b then NotTold else AtOnce) now.parent T) V)
+      by true = k
+      by false = k
   later_form (Some inside) T V k = by (now.parent == 1) (inside.members now.parent)
     where
-      by : (b c : Bool) → IsWellFormed (written (if b then [] else (if c then [] else SetHeld inside.starter (T.held inside.starter ++ told_to now.parent ∷ []) ∷ [])) V)
+      by : (b c : Bool) → IsWellFormed (written (told_at_commit (if b then NotTold else (if c then AtOnce else AtCommit inside.starter)) now.parent T) V)
       by true c = k
       by false true = k
       by false false = held_form V inside.starter (T.held inside.starter ++ told_to now.parent ∷ []) k
@@ -289,7 +294,7 @@ module _ (S : State) (p status : ℕ) (me now : Process) (e : S.procs p ≡ Some
   ending_form inside =
       let xs : List Write = orphaned (children_of p S) S in
       let ys : List Write = released (open_in now.descriptors) gone in
-      let zs : List Write = tells_later inside now.parent S in
+      let zs : List Write = told_at_commit (telling inside now.parent) now.parent S in
       let same : written ((xs ++ ys) ++ zs) gone ≡ written zs (written ys (written xs gone)) =
       written_append (xs ++ ys) zs gone ∙ ap (written zs) (written_append xs ys gone) in
       let form : IsWellFormed (written zs (written ys (written xs gone))) =

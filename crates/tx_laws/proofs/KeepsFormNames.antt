@@ -2,18 +2,16 @@
 use Rattle.std.proofs.Common.{◌≡◌, ℕ, zero, suc, ◌+◌, ◌<◌, ◌⊎◌, Bool, true, false, List, [], ◌∷◌, length, ℤ, pos, Option, Some, None, is_some, if◌then◌else◌, ◌==◌, slice_index_or, slice_set, refl, sym, ap, ◌∙◌, subst, inl, inr, eq-eqb, eqb-true, arith}
 use Rattle.std.proofs.lemmas.List.{length-set}
 use Rattle.tx_base.specs.declared.errors.Errno.TheVariants.{BadDescriptor, TooManyDescriptors}
-use Rattle.tx_base.specs.declared.steps.Call.{Call}
 use Rattle.tx_base.specs.declared.steps.Refusal.{Refusal}
 use Rattle.tx_model.specs.Numbers.{failing}
 use Rattle.tx_model.specs.State.{Process, State, SetProc, write_one, written, is_number, names_at}
-use Rattle.tx_model.specs.Effects.{Inside, Effect, Own, idle, noted, own_effect, done}
+use Rattle.tx_model.specs.Effects.{Effect, Own, idle, noted, own_effect, done}
 use Rattle.tx_model.specs.Descriptors.{named, with_descriptor, first_free, lowest_free, listed, pipes_of, unnamed_go, endless_go, gives_up, bad_descriptor, dups_to, dup_effect, renames, dup2_named, dup2_effect, closes, close_effect}
-use Rattle.tx_model.specs.Calls.{own_call}
+use Rattle.tx_model.specs.StateLaws.{put_cases}
 use Rattle.tx_laws.specs.WellFormed.{IsWellFormed}
 use Rattle.tx_laws.proofs.InPlace.{KeepsPlace}
-use Rattle.tx_laws.proofs.OfCalls.{own_keeps}
-use Rattle.tx_laws.proofs.KeepsFormParts.{put_cases, IsTabled, IsNamed, IsLinked, names_at_of, tabled_of, linked_of, tabled_edit, form_edit}
-use Rattle.tx_laws.proofs.KeepsFormOwn.{KeepsSizes, stays_from, plain, own_sizes}
+use Rattle.tx_laws.proofs.KeepsFormParts.{IsTabled, IsNamed, IsLinked, names_at_of, tabled_of, linked_of, tabled_edit, form_edit}
+use Rattle.tx_laws.proofs.KeepsFormOwn.{KeepsSizes, stays_from, plain}
 use Rattle.tx_laws.proofs.KeepsFormReleased.{IsAmong, IsLoose, loosened, released_form}
 
 -- the writes of the effect leave the state well formed
@@ -36,9 +34,6 @@ module _ (S : State) (p : ℕ) (me : Process) (e : S.procs p ≡ Some me) (w : I
   pub own_form : (own : Own) → KeepsPlace me own.process → KeepsSizes me own.process → KeepsForm S (own_effect p own)
   unfolding written
   own_form own k s = form_edit S p me own.process e (stays_from p me own.process k.parent k.status s) k.descriptors w
-
-  pub own_call_form : (inside : Option Inside) (c : Call) → KeepsForm S (own_effect p (own_call inside p c me))
-  own_call_form inside c = own_form (own_call inside p c me) (own_keeps inside p c me) (own_sizes inside p c me)
 
 -- a name among the descriptors after one of them was replaced
 pub new_slot : (xs : List (Option ℕ)) (g : ℕ) (v : Option ℕ) (i d : ℕ) → is_number d (slice_index_or (slice_set xs g v) i None) ≡ true

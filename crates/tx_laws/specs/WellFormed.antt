@@ -1,12 +1,10 @@
 -- What every state is that a history leads to. Own rules.
 use Rattle.std.specs.Prelude.{◌≡◌, ◌≢◌, ℕ, ◌<◌, ◌≤◌, true, false, List, [], ◌∷◌, length, Some, None, is_some}
 use Rattle.tx_model.specs.State.{Process, Frame, Description, State, names_at, is_between}
-use Rattle.tx_model.specs.Posts.{queue_limit}
-use Rattle.tx_model.specs.Transfers.{pipe_room}
-use Rattle.tx_model.specs.Deliveries.{frame_limit}
 use Rattle.tx_model.specs.Descriptors.{is_named, has_side}
 use Rattle.tx_model.specs.Events.{Event, Do, Note, Commit}
 use Rattle.tx_model.specs.Answer.{has_bad_number, is_running}
+use Rattle.tx_base.specs.declared.limits.TheConstants.{QUEUED, FRAMES, PIPE_BYTES}
 
 -- each frame has all slots
 abbrev pub AllSaved : List Frame → Type 0
@@ -19,9 +17,9 @@ pub record HasSizes (q : Process) : Type 0 where
   pub pages : length q.memory ≡ 16
   pub descriptors : length q.descriptors ≡ 16
   pub actions : length q.actions ≡ 40
-  pub frames : length q.frames ≤ frame_limit
+  pub frames : length q.frames ≤ FRAMES
   pub saved : AllSaved q.frames
-  pub queued : length q.queued ≤ queue_limit
+  pub queued : length q.queued ≤ QUEUED
 
 -- what is so of the process of a number: its parent is another one, that runs; that of process 1 is none
 pub record IsPlaced (S : State) (n : ℕ) (q : Process) : Type 0 where
@@ -45,7 +43,7 @@ pub record IsWellFormed (S : State) : Type 0 where
   pub placed : (n : ℕ) (q : Process) → S.procs n ≡ Some q → IsPlaced S n q
   pub names : (n f d : ℕ) → names_at d f (S.procs n) ≡ true → is_some (S.descs d) ≡ true
   pub named : (d : ℕ) (x : Description) → S.descs d ≡ Some x → (is_named d S ≡ true) × (d < 64) × (is_some (S.pipes x.pipe) ≡ true)
-  pub pipes : (k : ℕ) (bytes : List ℕ) → S.pipes k ≡ Some bytes → (has_side k S ≡ true) × (k < 32) × (length bytes ≤ pipe_room)
+  pub pipes : (k : ℕ) (bytes : List ℕ) → S.pipes k ≡ Some bytes → (has_side k S ≡ true) × (k < 32) × (length bytes ≤ PIPE_BYTES)
 
 -- the numbers that an event chooses are in range
 abbrev pub HasGoodNumbers : ℕ → Event → Type 0
