@@ -16,7 +16,7 @@ use Rattle.tx_laws.proofs.Elsewhere.{effect_fits, after_else}
 use Rattle.tx_laws.specs.Fits.{IsIn, ProgressFits, FitsWithin, Fits, Passes, ends_it}
 use Rattle.tx_laws.proofs.KeptByPosts.{IsKept, event_keeps, Runs, runs_kept}
 use Rattle.tx_laws.proofs.Answered.{Known, answers_known, or_false_left, or_false_right}
-use Rattle.tx_laws.proofs.Tables.{of_unique, of_none, of_unmarked, Grows, joins_by, continues_grows, parks_grows, forks_grows, begins_grows}
+use Rattle.tx_laws.proofs.Tables.{eq_comm, of_unique, of_none, of_unmarked, Grows, joins_by, continues_grows, parks_grows, forks_grows, begins_grows}
 
 pub or_true : (x y : Bool) → (if x then true else y) ≡ true → (x ≡ true) ⊎ (y ≡ true)
 or_true true y h = inl refl
@@ -280,13 +280,9 @@ module _ (P : Option Process → Type 0) (keeps : IsKept P) where
           both true = sym (eq-eqb s s refl)
           both false = refl
 
-      not_same : (b : Bool) → (s == u) ≡ b → b ≡ false
-      not_same true e = absurd (both_ways (u == s) ne (eq-eqb u s (sym (eqb-true s u e))))
-      not_same false e = refl
-
       out : has (Proc s) (objects ev (V.without (with_one u (just s)))) ≡ false
       out = subst (λ (x : Event). has (Proc s) (objects x (V.without (with_one u (just s)))) ≡ false) (sym fits.1.1)
-          (note_out s u fits.1.0 (V.without (with_one u (just s))) (not_same (s == u) refl))
+          (note_out s u fits.1.0 (V.without (with_one u (just s))) (eq_comm s u ∙ ne))
 
 -- what was touched after a step inside a transaction
 pub touched_cases : (s p : ℕ) (h t : Bool) → (if s == p then (if h then true else t) else t) ≡ true → ((s ≡ p) × (h ≡ true)) ⊎ (t ≡ true)
@@ -481,13 +477,6 @@ outside_sound V ev p sound clear out = record {
   bounded = sound.bounded;
 }
 
-turned : (t s : ℕ) → (t == s) ≡ false → (s == t) ≡ false
-turned t s ne = by (s == t) refl
-  where
-    by : (b : Bool) → (s == t) ≡ b → b ≡ false
-    by true e = absurd (both_ways (t == s) ne (eq-eqb t s (sym (eqb-true s t e))))
-    by false e = refl
-
 -- what is left when the transaction of s is over
 module _ (V : View) (sound : IsSound V) (s : ℕ) where
   over_touched : (t : ℕ) (o : Object) → (if t == s then false else V.touched t o) ≡ true → V.touched t o ≡ true
@@ -516,7 +505,7 @@ commits_sound V ev p sound clear s fits = record {
   held_own = λ t u h. sound.held_own t u (over_touched V sound s t (Held u) h);
   width = λ X. after_width ev (V.without (less_one s X)) ∙ sound.width (less_one s X);
   starter_runs = λ t h. let z = over_member V sound s t t h in
-      starter_keeps Runs runs_kept (Commits s) V ev p sound clear fits t z.1 (turned t s z.0) (sound.starter_runs t z.1);
+      starter_keeps Runs runs_kept (Commits s) V ev p sound clear fits t z.1 (eq_comm s t ∙ z.0) (sound.starter_runs t z.1);
   bounded = λ t q h. sound.bounded t q (over_member V sound s t q h).1;
 }
 
@@ -545,7 +534,7 @@ aborts_sound V r p sound s k live = record {
   held_own = λ t u h. sound.held_own t u (over_touched V sound s t (Held u) h);
   width = λ X. after_width (Note s r) (V.without (with_one s X)) ∙ sound.width (with_one s X);
   starter_runs = λ t h. let z = over_member V sound s t t h in
-      starter_keeps Runs runs_kept (Aborts s k) V (Note s r) p sound tt (live, (r, refl)) t z.1 (turned t s z.0) (sound.starter_runs t z.1);
+      starter_keeps Runs runs_kept (Aborts s k) V (Note s r) p sound tt (live, (r, refl)) t z.1 (eq_comm s t ∙ z.0) (sound.starter_runs t z.1);
   bounded = λ t q h. sound.bounded t q (over_member V sound s t q h).1;
 }
 

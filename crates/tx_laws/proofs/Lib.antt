@@ -39,3 +39,4 @@ pub mod PartsElsewhere
 pub mod KeptByPosts
 pub mod DoomStays
 pub mod HoldsInside
+pub mod PartsAnswers

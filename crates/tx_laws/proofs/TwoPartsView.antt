@@ -1,5 +1,5 @@
 -- A kernel of two parts an object has the view of its history.
-use Rattle.std.proofs.Common.{◌≡◌, ℕ, Bool, true, false, not, List, ℤ, Option, Some, None, is_none, if◌then◌else◌, ◌==◌, refl, sym, ap, ap₂, ◌∙◌, subst, inl, inr, ◌⊎◌, eq-eqb, eqb-true, ne_eqb}
+use Rattle.std.proofs.Common.{◌≡◌, ℕ, Bool, true, false, not, List, ℤ, Option, Some, None, is_none, if◌then◌else◌, ◌==◌, refl, sym, ap, ap₂, ◌∙◌, subst, inl, inr, ◌⊎◌, eq-eqb, eqb-true}
 use Rattle.std.proofs.lemmas.Bool.{both_ways, cases_Bool}
 use Rattle.tx_model.specs.State.{State, Object, Proc, Desc, Pipe, Held, AgreePart, has}
 use Rattle.tx_model.specs.Posts.{answers}
@@ -13,6 +13,7 @@ use Rattle.tx_laws.specs.Sound.{IsSound}
 use Rattle.tx_laws.specs.TwoParts.{TwoParts, in_set, is_owner, pick, parts_without, parts_view, freed, reserved, on_both, parts_next}
 use Rattle.tx_laws.proofs.Agree.{part_refl, part_sym, part_trans, applied_part, applied_width}
 use Rattle.tx_laws.proofs.Local.{after_width}
+use Rattle.tx_laws.proofs.Tables.{eq_comm}
 use Rattle.tx_laws.specs.Fits.{FitsWithin, Fits, Passes}
 use Rattle.tx_laws.proofs.Coherence.{IsQuiet, quiet_effect, quiet_sent, outside_quiet, commits_quiet, taken_foot, taken_mine, within_else}
 
@@ -241,12 +242,6 @@ module _ (c : TwoParts) (ev : Event) (s : ℕ) (part : Progress) (p : ℕ) (soun
         by : (b : Bool) → X s ≡ b → parts_without next_parts X ≡ after_if (not b) ev (parts_without c X)
         by true x = state_ext (parts_without next_parts X) (parts_without c X) (after_width ev c.now) (left_out x)
         by false x = state_ext (parts_without next_parts X) (after ev (parts_without c X)) (after_width ev c.now ∙ sym (after_width ev (parts_without c X))) (with_step x)
-
-eq_comm : (s t : ℕ) → (s == t) ≡ (t == s)
-eq_comm s t = elim (cases_Bool (s == t)) [
-  | inl e ↦ e ∙ sym (eq-eqb t s (sym (eqb-true s t e)))
-  | inr e ↦ e ∙ sym (ne_eqb t s (λ h. both_ways (s == t) e (eq-eqb s t (sym h))))
-]
 
 same_choice : (b c : Bool) → c ≡ (if b then c else c)
 same_choice true c = refl

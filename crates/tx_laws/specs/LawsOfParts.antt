@@ -1,13 +1,16 @@
 -- The laws of a kernel that keeps two parts and one owner for each object. Own rules.
-use Rattle.std.specs.Prelude.{◌≡◌, ℕ}
+use Rattle.std.specs.Prelude.{◌≡◌, ℕ, true, false}
 use Rattle.tx_base.specs.declared.steps.Step.{Step}
-use Rattle.tx_model.specs.Events.{Event, process_of}
-use Rattle.tx_model.specs.Membership.{Role}
-use Rattle.tx_model.specs.View.{next, next_by, role_on, event_on}
+use Rattle.tx_model.specs.SignalSets.{kill_signo}
+use Rattle.tx_model.specs.State.{Proc, has}
+use Rattle.tx_model.specs.Events.{Event, process_of, objects}
+use Rattle.tx_model.specs.Membership.{Role, is_live}
+use Rattle.tx_model.specs.View.{present, has_pending, is_doomed, has_two_answers, in_way, least, holder, next, next_by, role_on, event_on}
 use Rattle.tx_model.specs.Answer.{answer, IsAccepted}
 use Rattle.tx_laws.specs.Fits.{Fits, Passes}
 use Rattle.tx_laws.specs.Sound.{IsSound}
 use Rattle.tx_laws.specs.TwoParts.{TwoParts, parts_view, parts_next}
+use Rattle.tx_laws.specs.TwoAnswers.{sends_differ, parts_in_way}
 
 -- in each role that goes with the event, the next two parts have the next view
 abbrev pub PartsFollowRole : Type 0
@@ -20,3 +23,28 @@ abbrev pub PartsFollowStep : Type 0
 PartsFollowStep = (kernel : TwoParts) (step : Step) →
     IsSound (parts_view kernel) → IsAccepted (answer (parts_view kernel) step) →
     parts_view (parts_next (role_on (parts_view kernel) step) (event_on (parts_view kernel) step) (process_of step) kernel) ≡ next (parts_view kernel) step
+
+-- the state is the first part
+abbrev pub PresentIsNow : Type 0
+PresentIsNow = (kernel : TwoParts) → present (parts_view kernel) ≡ kernel.now
+
+-- a live transaction is doomed if SIGKILL is pending at its starter as that is kept
+abbrev pub DoomIsKept : Type 0
+DoomIsKept = (kernel : TwoParts) (starter : ℕ) → IsSound (parts_view kernel) → is_live kernel.table starter ≡ true →
+    is_doomed (parts_view kernel) starter ≡ has_pending kill_signo (kernel.kept.procs starter)
+
+-- whether an event that does not name the starter has two answers there depends on the starter's two parts and on the
+-- sends to it
+abbrev pub TwoAnswersAreOfStarter : Type 0
+TwoAnswersAreOfStarter = (kernel : TwoParts) (event : Event) (starter : ℕ) → IsSound (parts_view kernel) → is_live kernel.table starter ≡ true →
+    has (Proc starter) (objects event kernel.now) ≡ false → has_two_answers (parts_view kernel) event starter ≡ sends_differ kernel event starter
+
+-- who is in the way of an event, the two parts, the owners and the table tell
+abbrev pub InWayIsOfParts : Type 0
+InWayIsOfParts = (kernel : TwoParts) (event : Event) (starter : ℕ) → IsSound (parts_view kernel) →
+    in_way (parts_view kernel) event starter ≡ parts_in_way kernel event starter
+
+-- the holder is the least of those that these tell to be in the way
+abbrev pub HolderIsOfParts : Type 0
+HolderIsOfParts = (kernel : TwoParts) (event : Event) → IsSound (parts_view kernel) →
+    holder (parts_view kernel) event ≡ least (parts_in_way kernel event) kernel.table.width

@@ -2,6 +2,7 @@ pub mod Places
 pub mod OneMoment
 pub mod WellFormed
 pub mod TwoParts
+pub mod TwoAnswers
 pub mod Sound
 pub mod Fits
 pub mod Commuting

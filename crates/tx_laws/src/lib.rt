@@ -11,7 +11,7 @@ ghost use Rattle.tx_model.specs.State.{State, booted};
 ghost use Rattle.tx_laws.specs.Laws.{PrefixesAgree, SurvivorsAreByPlace, LawfulViewIsNext, LawfulViewIsSound, StartIsSound, NextIsSound, NextIsWellFormed, SchedulesAreLawful};
 ghost use Rattle.tx_laws.specs.LawsOfDoom.{DoomedCallsAreRefused, DoomedDeliveriesAreRefused, DoomedAbortAnswers203, OtherAbortAnswers202, MembersDoomNothing, KillDooms, SigqueueDooms, DoomStays};
 ghost use Rattle.tx_laws.specs.LawsOfEvents.{EffectIsLocal, ObjectsAreLocal, ReplyIsLocal, ElsewhereIsSame, OtherPartsStay, WritesStayInObjects, HoldsForItsOwn, StatesCommute, RepliesCommute};
-ghost use Rattle.tx_laws.specs.LawsOfParts.{PartsFollowRole, PartsFollowStep};
+ghost use Rattle.tx_laws.specs.LawsOfParts.{PartsFollowRole, PartsFollowStep, PresentIsNow, DoomIsKept, TwoAnswersAreOfStarter, InWayIsOfParts, HolderIsOfParts};
 ghost use Rattle.tx_laws.specs.WellFormed.{IsWellFormed, HasGoodNumbers};
 
 /// Erasure: in every prefix of a lawful history, from any start state, each surviving step has
@@ -50,6 +50,19 @@ pub fn step_by_step()
 pub fn two_parts()
     ensures role { PartsFollowRole }
     ensures step { PartsFollowStep }
+{}
+
+/// The answers of a kernel of two parts, by what it keeps. The state is the part as it is now; a live
+/// transaction is doomed if SIGKILL is pending at its starter as that is kept. The transaction of a live
+/// starter is in the way of an event of a process that is no member of it, if the starter owns something
+/// that the event names, or if one of the event's sends to the starter is answered otherwise by its
+/// process as it is kept than as it is now. The holder is the least of those in the way.
+pub fn answers_of_parts()
+    ensures present { PresentIsNow }
+    ensures doom { DoomIsKept }
+    ensures two_answers { TwoAnswersAreOfStarter }
+    ensures in_way { InWayIsOfParts }
+    ensures holder { HolderIsOfParts }
 {}
 
 /// Locality: what an event does is a function of its objects, their families included. So is which
