@@ -1,13 +1,13 @@
 -- A kernel of two parts an object has the view of its history.
-use Rattle.std.proofs.Common.{◌≡◌, ℕ, Bool, true, false, not, List, ℤ, Option, Some, None, is_none, if◌then◌else◌, ◌==◌, refl, sym, ap, ap₂, ◌∙◌, subst, inl, inr, ◌⊎◌, eq-eqb, eqb-true}
+use Rattle.std.proofs.Common.{◌≡◌, ℕ, Bool, true, false, not, List, [], ℤ, Option, Some, None, is_none, if◌then◌else◌, ◌==◌, refl, sym, ap, ap₂, ◌∙◌, subst, inl, inr, ◌⊎◌, eq-eqb, eqb-true}
 use Rattle.std.proofs.lemmas.Bool.{both_ways, cases_Bool}
 use Rattle.tx_model.specs.State.{State, Object, Proc, Desc, Pipe, Held, AgreePart, has}
 use Rattle.tx_model.specs.Posts.{answers}
 use Rattle.tx_model.specs.Effects.{Effect, send_answers, applied}
-use Rattle.tx_model.specs.Events.{Event, Note, note_effect, effect, after}
-use Rattle.tx_model.specs.Membership.{Table, is_member_of, is_live, Progress, Role, Outside, Within, Commits, Aborts, table_after}
-use Rattle.tx_model.specs.History.{Starters, nobody, just, with_one, less_one, event_footprint, objects_reserved}
-use Rattle.tx_model.specs.View.{View, IsClear, after_if, next_by}
+use Rattle.tx_model.specs.Events.{Event, Note, note_effect, effect, after, run}
+use Rattle.tx_model.specs.Membership.{Table, empty_table, is_member_of, is_live, Progress, Role, Outside, Within, Commits, Aborts, table_after}
+use Rattle.tx_model.specs.History.{Starters, survivors, without, table_of, touched_of, nobody, just, with_one, less_one, event_footprint, objects_reserved}
+use Rattle.tx_model.specs.View.{View, view, IsClear, after_if, next_by}
 use Rattle.tx_model.specs.StateLaws.{state_ext}
 use Rattle.tx_laws.specs.Sound.{IsSound}
 use Rattle.tx_laws.specs.TwoParts.{TwoParts, in_set, is_owner, pick, parts_without, parts_view, freed, reserved, on_both, parts_next}
@@ -310,3 +310,11 @@ same_view c d width now owner kept table =
     owned : (X : Starters) (o : Object) (x : Option ℕ) → c.owner o ≡ x → in_set X x ≡ true → AgreePart c.kept d.kept o
     owned X o None e h = cc
     owned X o (Some s) e h = kept o s e
+
+-- a kernel in which nobody owns anything has the view of the empty history of its state
+pub parts_start : (S : State) (c : TwoParts) → c.now ≡ S → ((o : Object) → c.owner o ≡ None) → c.table ≡ empty_table S.width → parts_view c ≡ view S []
+unfolding parts_view view without survivors run table_of touched_of
+parts_start S c now free table =
+    view_ext (parts_view c) (view S [])
+    (λ X. state_ext (parts_without c X) c.now refl (λ o. pick_false (λ o. in_set X (c.owner o)) c.kept c.now o (ap (in_set X) (free o))) ∙ now)
+    table (λ s o. ap (is_owner s) (free o))

@@ -1,8 +1,8 @@
 -- The laws of single events: what they depend on, what they change, and which of them commute. Own rules.
 use Rattle.std.specs.Prelude.{◌≡◌, ℕ, true, false, ◌++◌}
-use Rattle.tx_model.specs.State.{State, Object, Held, AgreePart, AgreeAt, AgreeOn, has}
+use Rattle.tx_model.specs.State.{State, Object, Proc, Held, AgreePart, AgreeAt, AgreeOn, has}
 use Rattle.tx_model.specs.Effects.{before_sends}
-use Rattle.tx_model.specs.Events.{Event, effect, objects, after, reply_of}
+use Rattle.tx_model.specs.Events.{Event, actor, effect, objects, after, reply_of}
 use Rattle.tx_model.specs.History.{processes_of}
 use Rattle.tx_laws.specs.Commuting.{AreApart}
 use Rattle.tx_laws.specs.Fits.{HoldsFor}
@@ -10,6 +10,10 @@ use Rattle.tx_laws.specs.Fits.{HoldsFor}
 -- what an event does is a function of its objects
 abbrev pub EffectIsLocal : Type 0
 EffectIsLocal = (event : Event) (one other : State) → AgreeOn (objects event one) one other → effect event one ≡ effect event other
+
+-- who makes an event is one of its objects
+abbrev pub ActorIsObject : Type 0
+ActorIsObject = (event : Event) (state : State) → has (Proc (actor event)) (objects event state) ≡ true
 
 -- states that agree at an event's objects have the same objects of it
 abbrev pub ObjectsAreLocal : Type 0

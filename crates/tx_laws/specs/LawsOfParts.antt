@@ -1,11 +1,11 @@
 -- The laws of a kernel that keeps two parts and one owner for each object. Own rules.
-use Rattle.std.specs.Prelude.{◌≡◌, ℕ, true, false}
+use Rattle.std.specs.Prelude.{◌≡◌, ℕ, true, false, [], Some, None}
 use Rattle.tx_base.specs.declared.steps.Step.{Step}
 use Rattle.tx_model.specs.SignalSets.{kill_signo}
-use Rattle.tx_model.specs.State.{Proc, has}
+use Rattle.tx_model.specs.State.{State, Object, Proc, AgreePart, has}
 use Rattle.tx_model.specs.Events.{Event, process_of, objects}
-use Rattle.tx_model.specs.Membership.{Role, is_live}
-use Rattle.tx_model.specs.View.{present, has_pending, is_doomed, has_two_answers, in_way, least, holder, next, next_by, role_on, event_on}
+use Rattle.tx_model.specs.Membership.{Role, is_live, empty_table}
+use Rattle.tx_model.specs.View.{view, present, has_pending, is_doomed, has_two_answers, in_way, least, holder, next, next_by, role_on, event_on}
 use Rattle.tx_model.specs.Answer.{answer, IsAccepted}
 use Rattle.tx_laws.specs.Fits.{Fits, Passes}
 use Rattle.tx_laws.specs.Sound.{IsSound}
@@ -23,6 +23,19 @@ abbrev pub PartsFollowStep : Type 0
 PartsFollowStep = (kernel : TwoParts) (step : Step) →
     IsSound (parts_view kernel) → IsAccepted (answer (parts_view kernel) step) →
     parts_view (parts_next (role_on (parts_view kernel) step) (event_on (parts_view kernel) step) (process_of step) kernel) ≡ next (parts_view kernel) step
+
+-- a kernel that is in the start state, and in which nobody owns anything, has the view of the empty history
+abbrev pub StartHasItsView : Type 0
+StartHasItsView = (start : State) (kernel : TwoParts) →
+    kernel.now ≡ start → ((object : Object) → kernel.owner object ≡ None) → kernel.table ≡ empty_table start.width → parts_view kernel ≡ view start []
+
+-- kernels with the same parts now, the same owners and tables, and the same kept part of each object that has an owner,
+-- have the same view
+abbrev pub SamePartsSameView : Type 0
+SamePartsSameView = (one other : TwoParts) →
+    one.now.width ≡ other.now.width → ((object : Object) → AgreePart one.now other.now object) → ((object : Object) → one.owner object ≡ other.owner object) →
+    ((object : Object) (starter : ℕ) → one.owner object ≡ Some starter → AgreePart one.kept other.kept object) → one.table ≡ other.table →
+    parts_view one ≡ parts_view other
 
 -- the state is the first part
 abbrev pub PresentIsNow : Type 0

@@ -10,8 +10,8 @@ ghost use Rattle.tx_model.specs.History.{Starters, without};
 ghost use Rattle.tx_model.specs.State.{State, booted};
 ghost use Rattle.tx_laws.specs.Laws.{PrefixesAgree, SurvivorsAreByPlace, LawfulViewIsNext, LawfulViewIsSound, StartIsSound, NextIsSound, NextIsWellFormed, SchedulesAreLawful};
 ghost use Rattle.tx_laws.specs.LawsOfDoom.{DoomedCallsAreRefused, DoomedDeliveriesAreRefused, DoomedAbortAnswers203, OtherAbortAnswers202, MembersDoomNothing, KillDooms, SigqueueDooms, DoomStays};
-ghost use Rattle.tx_laws.specs.LawsOfEvents.{EffectIsLocal, ObjectsAreLocal, ReplyIsLocal, ElsewhereIsSame, OtherPartsStay, WritesStayInObjects, HoldsForItsOwn, StatesCommute, RepliesCommute};
-ghost use Rattle.tx_laws.specs.LawsOfParts.{PartsFollowRole, PartsFollowStep, PresentIsNow, DoomIsKept, TwoAnswersAreOfStarter, InWayIsOfParts, HolderIsOfParts};
+ghost use Rattle.tx_laws.specs.LawsOfEvents.{ActorIsObject, EffectIsLocal, ObjectsAreLocal, ReplyIsLocal, ElsewhereIsSame, OtherPartsStay, WritesStayInObjects, HoldsForItsOwn, StatesCommute, RepliesCommute};
+ghost use Rattle.tx_laws.specs.LawsOfParts.{StartHasItsView, SamePartsSameView, PartsFollowRole, PartsFollowStep, PresentIsNow, DoomIsKept, TwoAnswersAreOfStarter, InWayIsOfParts, HolderIsOfParts};
 ghost use Rattle.tx_laws.specs.WellFormed.{IsWellFormed, HasGoodNumbers};
 
 /// Erasure: in every prefix of a lawful history, from any start state, each surviving step has
@@ -45,9 +45,13 @@ pub fn step_by_step()
     ensures lawful { SchedulesAreLawful }
 {}
 
-/// A kernel that keeps two parts and one owner for each object has the view of its history: in
-/// every role that a step may have, and so for each accepted step.
+/// A kernel that keeps two parts and one owner for each object has the view of its history: at the
+/// start, where nobody owns anything; then in every role that a step may have, and so after each
+/// accepted step. Its view is told by its parts as they are now, by its owners and its table, and by
+/// the kept parts of what is owned.
 pub fn two_parts()
+    ensures start { StartHasItsView }
+    ensures same { SamePartsSameView }
     ensures role { PartsFollowRole }
     ensures step { PartsFollowStep }
 {}
@@ -65,11 +69,12 @@ pub fn answers_of_parts()
     ensures holder { HolderIsOfParts }
 {}
 
-/// Locality: what an event does is a function of its objects, their families included. So is which
-/// objects it has; and its reply is a function of its objects and the targets of its sends. It changes
-/// nothing but at these, and which processes are children of process 1: every other part stays. Its
-/// writes alone, before its sends, stay within its objects, in whatever state they are made.
+/// Locality: what an event does, and which objects it has, is a function of its objects, their families
+/// included; who makes it is one of them. Its reply is a function of its objects and of the targets of
+/// its sends. It changes nothing but at these, and which processes are children of process 1: every other
+/// part stays. Its writes alone, before its sends, stay within its objects, in whatever state they are made.
 pub fn locality()
+    ensures actor { ActorIsObject }
     ensures same { EffectIsLocal }
     ensures objects { ObjectsAreLocal }
     ensures reply { ReplyIsLocal }

@@ -1,8 +1,11 @@
 use Rattle.tx_laws.proofs.Commutes.{reply_named}
-use Rattle.tx_laws.proofs.Local.{effect_same, objects_same}
+use Rattle.tx_laws.proofs.Local.{actor_in, effect_same, objects_same}
 use Rattle.tx_laws.proofs.PartsElsewhere.{writes_elsewhere}
 use Rattle.tx_laws.proofs.StepView.{elsewhere, parts_elsewhere}
 use Rattle.tx_laws.proofs.locality.Goals as goal
+
+pub returns-clause-actor : goal.returns-clause-actor
+returns-clause-actor c = actor_in
 
 pub returns-clause-same : goal.returns-clause-same
 returns-clause-same c = effect_same
