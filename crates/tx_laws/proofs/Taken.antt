@@ -115,6 +115,11 @@ step_sends (Calls p call) i S member m h = act_sends (Some i) p.0 (MakesCall cal
 step_sends (Deliver p signo) i S member m h = act_sends (Some i) p.0 (TakesSignal signo.0) i refl S member m h
 step_sends (KernelAbort s) i S member m h = absurd h
 
+-- what a member sends at once goes to members
+pub do_sends : (step : Step) (i : Inside) (S : State) (m : Sending) → i.members (process_of step) ≡ true → IsIn m (effect (Do step (Some i)) S).sends → i.members m.target ≡ true
+unfolding effect
+do_sends step i S m member h = step_sends step i S member m h
+
 step_holds : (step : Step) (i : Inside) (S : State) (u : ℕ) → has (Held u) (step_objects step (Some i) S) ≡ true → u ≡ i.starter
 unfolding has
 step_holds (Calls p call) i S u h = act_holds (Some i) p.0 (MakesCall call) i refl S u h

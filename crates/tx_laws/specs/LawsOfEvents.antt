@@ -1,11 +1,13 @@
 -- The laws of single events: what they depend on, what they change, and which of them commute. Own rules.
-use Rattle.std.specs.Prelude.{◌≡◌, ℕ, true, false, ◌++◌}
-use Rattle.tx_model.specs.State.{State, Object, Proc, Held, AgreePart, AgreeAt, AgreeOn, has}
-use Rattle.tx_model.specs.Effects.{before_sends}
-use Rattle.tx_model.specs.Events.{Event, actor, effect, objects, after, reply_of}
+use Rattle.std.specs.Prelude.{◌≡◌, ℕ, ℤ, List, Some, true, false, ◌++◌}
+use Rattle.tx_base.specs.declared.steps.Step.{Step}
+use Rattle.tx_model.specs.State.{State, Sending, Object, Proc, Held, AgreePart, AgreeAt, AgreeOn, has}
+use Rattle.tx_model.specs.Posts.{posts}
+use Rattle.tx_model.specs.Effects.{Inside, before_sends, applied}
+use Rattle.tx_model.specs.Events.{Event, Do, process_of, actor, effect, objects, after, reply_of}
 use Rattle.tx_model.specs.History.{processes_of}
 use Rattle.tx_laws.specs.Commuting.{AreApart}
-use Rattle.tx_laws.specs.Fits.{HoldsFor}
+use Rattle.tx_laws.specs.Fits.{IsIn, HoldsFor}
 
 -- what an event does is a function of its objects
 abbrev pub EffectIsLocal : Type 0
@@ -39,9 +41,19 @@ abbrev pub WritesStayInObjects : Type 0
 WritesStayInObjects = (event : Event) (state other : State) (object : Object) →
     has object (objects event state) ≡ false → AgreePart (before_sends (effect event state) other) other object
 
+-- at what is no object of it an event does nothing but post its sends, in whatever state it is made
+abbrev pub OthersGetSendsAlone : Type 0
+OthersGetSendsAlone = (event : Event) (state other : State) (answers : List ℤ) (object : Object) →
+    has object (objects event state) ≡ false → AgreePart (applied (effect event state) answers other) (posts (effect event state).sends other) object
+
 -- what a transaction holds is an object of those events alone that are made inside of it, or commit it
 abbrev pub HoldsForItsOwn : Type 0
 HoldsForItsOwn = (event : Event) (state : State) (starter : ℕ) → has (Held starter) (objects event state) ≡ true → HoldsFor starter event
+
+-- what a member of a transaction sends at once goes to members
+abbrev pub MembersSendToMembers : Type 0
+MembersSendToMembers = (step : Step) (inside : Inside) (state : State) (sending : Sending) → inside.members (process_of step) ≡ true →
+    IsIn sending (effect (Do step (Some inside)) state).sends → inside.members sending.target ≡ true
 
 -- two events that are apart leave the same state in either order
 abbrev pub StatesCommute : Type 0

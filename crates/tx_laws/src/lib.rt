@@ -10,7 +10,7 @@ ghost use Rattle.tx_model.specs.History.{Starters, without};
 ghost use Rattle.tx_model.specs.State.{State, booted};
 ghost use Rattle.tx_laws.specs.Laws.{PrefixesAgree, SurvivorsAreByPlace, LawfulViewIsNext, LawfulViewIsSound, StartIsSound, NextIsSound, NextIsWellFormed, SchedulesAreLawful};
 ghost use Rattle.tx_laws.specs.LawsOfDoom.{DoomedCallsAreRefused, DoomedDeliveriesAreRefused, DoomedAbortAnswers203, OtherAbortAnswers202, MembersDoomNothing, KillDooms, SigqueueDooms, DoomStays};
-ghost use Rattle.tx_laws.specs.LawsOfEvents.{ActorIsObject, EffectIsLocal, ObjectsAreLocal, ReplyIsLocal, ElsewhereIsSame, OtherPartsStay, WritesStayInObjects, HoldsForItsOwn, StatesCommute, RepliesCommute};
+ghost use Rattle.tx_laws.specs.LawsOfEvents.{ActorIsObject, EffectIsLocal, ObjectsAreLocal, ReplyIsLocal, ElsewhereIsSame, OtherPartsStay, WritesStayInObjects, OthersGetSendsAlone, HoldsForItsOwn, MembersSendToMembers, StatesCommute, RepliesCommute};
 ghost use Rattle.tx_laws.specs.LawsOfParts.{StartHasItsView, SamePartsSameView, PartsFollowRole, PartsFollowStep, PresentIsNow, DoomIsKept, TwoAnswersAreOfStarter, InWayIsOfParts, HolderIsOfParts};
 ghost use Rattle.tx_laws.specs.WellFormed.{IsWellFormed, HasGoodNumbers};
 
@@ -72,7 +72,8 @@ pub fn answers_of_parts()
 /// Locality: what an event does, and which objects it has, is a function of its objects, their families
 /// included; who makes it is one of them. Its reply is a function of its objects and of the targets of
 /// its sends. It changes nothing but at these, and which processes are children of process 1: every other
-/// part stays. Its writes alone, before its sends, stay within its objects, in whatever state they are made.
+/// part stays. Its writes stay within its objects, and what is no object of it gets its sends and nothing
+/// else, in whatever state they are made.
 pub fn locality()
     ensures actor { ActorIsObject }
     ensures same { EffectIsLocal }
@@ -81,12 +82,14 @@ pub fn locality()
     ensures elsewhere { ElsewhereIsSame }
     ensures parts { OtherPartsStay }
     ensures writes { WritesStayInObjects }
+    ensures sends { OthersGetSendsAlone }
 {}
 
-/// What a transaction holds concerns an event only if that is made inside of the transaction, or
-/// commits it: outside of all transactions nothing held is read or written.
-pub fn holding()
-    ensures { HoldsForItsOwn }
+/// Inside of a transaction and outside: what a transaction holds is read or written by those events alone
+/// that are made inside of it, or commit it; and what a member sends at once goes to members.
+pub fn inside()
+    ensures held { HoldsForItsOwn }
+    ensures sends { MembersSendToMembers }
 {}
 
 /// Two events commute where no object is named by both, the targets of their sends included: in

@@ -1,6 +1,6 @@
 use Rattle.tx_laws.proofs.Commutes.{reply_named}
 use Rattle.tx_laws.proofs.Local.{actor_in, effect_same, objects_same}
-use Rattle.tx_laws.proofs.PartsElsewhere.{writes_elsewhere}
+use Rattle.tx_laws.proofs.PartsElsewhere.{writes_elsewhere, posts_alone}
 use Rattle.tx_laws.proofs.StepView.{elsewhere, parts_elsewhere}
 use Rattle.tx_laws.proofs.locality.Goals as goal
 
@@ -24,3 +24,6 @@ returns-clause-parts c = parts_elsewhere
 
 pub returns-clause-writes : goal.returns-clause-writes
 returns-clause-writes c = writes_elsewhere
+
+pub returns-clause-sends : goal.returns-clause-sends
+returns-clause-sends c = posts_alone
