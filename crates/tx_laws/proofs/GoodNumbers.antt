@@ -21,18 +21,18 @@ kind_numbers t width p step g Leaving (Some m) = tt
 kind_numbers t width p step g Aborting None = tt
 kind_numbers t width p step g Aborting (Some m) = tt
 
-step_numbers : (t : Table) (width : ℕ) (step : Step) (r : Reply) → has_bad_number width step ≡ false → HasGoodNumbers width (step_event t step r)
+pub step_numbers : (t : Table) (width : ℕ) (step : Step) (r : Reply) → has_bad_number width step ≡ false → HasGoodNumbers width (step_event t step r)
 step_numbers t width (Calls p call) r g = kind_numbers t width p.0 (Calls p call) g (kind_of call) (t.marks p.0)
 step_numbers t width (Deliver p signo) r g = kind_numbers t width p.0 (Deliver p signo) g Ordinary (t.marks p.0)
 step_numbers t width (KernelAbort s) r g = tt
 
-role_numbers : (width : ℕ) (r : Role) (ev : Event) → HasGoodNumbers width ev → HasGoodNumbers width (event_in r ev)
+pub role_numbers : (width : ℕ) (r : Role) (ev : Event) → HasGoodNumbers width ev → HasGoodNumbers width (event_in r ev)
 role_numbers width Outside ev g = g
 role_numbers width (Within s part) ev g = g
 role_numbers width (Commits s) ev g = g
 role_numbers width (Aborts s status) ev g = g
 
-accepted_numbers : (V : View) (step : Step) → IsAccepted (answer V step) → has_bad_number V.table.width step ≡ false
+pub accepted_numbers : (V : View) (step : Step) → IsAccepted (answer V step) → has_bad_number V.table.width step ≡ false
 unfolding answer
 accepted_numbers V (Calls p call) a =
     (unrefused V p.0 (Calls p call) (unless_accepted (refusal V p.0 (Calls p call)) (accepted_reply V (Calls p call)) _ refl a).0).number
