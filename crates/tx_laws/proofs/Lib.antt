@@ -35,3 +35,10 @@ pub mod KeepsFormEnding
 pub mod KeepsFormDeliveries
 pub mod KeepsFormEvents
 pub mod FormHistory
+pub mod GoodNumbers
+pub mod StepByStep
+pub mod PartsElsewhere
+pub mod KeptByPosts
+pub mod DoomStays
+pub mod HoldsInside
+pub mod PartsAnswers

@@ -1,7 +1,6 @@
 -- The calls that concern their own process alone keep its place among the others.
 use Rattle.std.proofs.Common.{ℕ, Bool, true, false, ◌||◌, [], ℤ, pos, Option, Some, None, if◌then◌else◌, nat_lt, ◌==◌, refl}
 use Rattle.tx_base.specs.declared.signals.Action.{Action}
-use Rattle.tx_base.specs.declared.steps.Call.TheVariants as call
 use Rattle.tx_base.specs.declared.steps.When.{When}
 use Rattle.tx_base.specs.declared.signals.SigSet.{SigSet}
 use Rattle.tx_base.specs.declared.signals.How.{How}

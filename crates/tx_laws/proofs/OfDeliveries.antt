@@ -1,5 +1,5 @@
 -- What deliveries owe.
-use Rattle.std.proofs.Common.{ℕ, Bool, true, false, not, [], ℤ, Option, Some, None, if◌then◌else◌, ◌==◌, refl}
+use Rattle.std.proofs.Common.{ℕ, Bool, true, false, [], ℤ, Option, Some, None, if◌then◌else◌, refl}
 use Rattle.tx_base.specs.declared.steps.Refusal.TheVariants.{NotDeliverable, Deferred, FramesFull}
 use Rattle.tx_base.specs.declared.steps.Reply.TheVariants.{Done}
 use Rattle.tx_model.specs.State.{Process}
