@@ -23,6 +23,7 @@ pub mod StepView
 pub mod Commutes
 pub mod Mild
 pub mod StepFootprints
+pub mod SharedFootprints
 pub mod Doomed
 pub mod KeepsFormParts
 pub mod KeepsFormOwn
@@ -41,4 +42,5 @@ pub mod PartsElsewhere
 pub mod KeptByPosts
 pub mod DoomStays
 pub mod HoldsInside
+pub mod StepHolders
 pub mod PartsAnswers

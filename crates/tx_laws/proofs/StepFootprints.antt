@@ -1,6 +1,5 @@
 -- The footprint of a step has what its event names, and the targets of its posts.
 use Rattle.std.proofs.Common.{◌≡◌, ℕ, Bool, true, false, not, List, [], ◌∷◌, ◌++◌, ℤ, pos, negsuc, Option, Some, None, if◌then◌else◌, ◌==◌, refl, sym, ap, ap₂, ◌∙◌, subst, inl, inr, eq-eqb, append_assoc, append-nil, nat_lt, is_none}
-use Rattle.std.proofs.lemmas.Bool.{both_ways}
 use Rattle.tx_base.specs.declared.steps.Call.TheVariants as call
 use Rattle.tx_base.specs.declared.steps.Refusal.TheVariants.{FramesFull, NotDeliverable, Deferred}
 use Rattle.tx_base.specs.declared.limits.TheConstants.{HELD_SENDS, SLOTS}
@@ -21,7 +20,7 @@ use Rattle.tx_model.specs.Calls.{call_effect, call_objects, MakesCall, TakesSign
 use Rattle.tx_model.specs.Pages.{page_of, map_page, unmap_page, protect_page, store_bytes, load_byte, remembers}
 use Rattle.tx_model.specs.Identities.{id_of, set_user, set_effective_user, set_group, set_effective_group}
 use Rattle.tx_model.specs.Answer.{is_running}
-use Rattle.tx_model.specs.View.{View, present, first_reply}
+use Rattle.tx_model.specs.View.{present, first_reply}
 use Rattle.tx_laws.specs.Fits.{IsIn}
 use Rattle.tx_laws.specs.Footprints.{is_shared, is_abort, FootprintIsOfEvent}
 use Rattle.tx_laws.proofs.Mild

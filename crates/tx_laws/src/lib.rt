@@ -13,7 +13,7 @@ ghost use Rattle.tx_laws.specs.LawsOfDoom.{DoomedCallsAreRefused, DoomedDeliveri
 ghost use Rattle.tx_laws.specs.LawsOfEvents.{ActorIsObject, EffectIsLocal, ObjectsAreLocal, ReplyIsLocal, ElsewhereIsSame, OtherPartsStay, WritesStayInObjects, OthersGetSendsAlone, HoldsForItsOwn, MembersSendToMembers, StatesCommute, RepliesCommute};
 ghost use Rattle.tx_laws.specs.LawsOfParts.{StartHasItsView, SamePartsSameView, PartsFollowRole, PartsFollowStep, PresentIsNow, DoomIsKept, TwoAnswersAreOfStarter, InWayIsOfParts, HolderIsOfParts};
 ghost use Rattle.tx_laws.specs.WellFormed.{IsWellFormed, HasGoodNumbers};
-ghost use Rattle.tx_laws.specs.Footprints.{FootprintIsOfEvent};
+ghost use Rattle.tx_laws.specs.Footprints.{FootprintIsOfEvent, FootprintIsShared, HolderIsOfStep};
 
 /// Erasure: in every prefix of a lawful history, from any start state, each surviving step has
 /// the reply that the plain kernel gives when the steps of aborted transactions are left out,
@@ -94,9 +94,13 @@ pub fn inside()
 {}
 
 /// Footprints: of a step of a process that runs, which is no abort, the footprint is what its
-/// event names, and the targets of what the event posts. What a transaction holds is left out.
+/// event names, and the targets of what the event posts. What a transaction holds is left out. The
+/// holder that a busy call or delivery names is the least starter that is in its way by its own footprint,
+/// an abort by a member included.
 pub fn footprints()
-    ensures { FootprintIsOfEvent }
+    ensures of_event { FootprintIsOfEvent }
+    ensures holder { HolderIsOfStep }
+    ensures shared { FootprintIsShared }
 {}
 
 /// Two events commute where no object is named by both, the targets of their sends included: in
