@@ -1,11 +1,11 @@
 -- Every state that a lawful history leads to is well formed.
-use Rattle.std.proofs.Common.{◌≡◌, ℕ, Bool, true, false, List, [], ◌∷◌, Option, Some, None, refl, sym, ◌∙◌, subst}
+use Rattle.std.proofs.Common.{◌≡◌, ℕ, ◌≤◌, Bool, true, false, List, [], ◌∷◌, Option, Some, None, refl, sym, ◌∙◌, subst}
 use Rattle.tx_base.specs.declared.marks.Mark.{Mark}
 use Rattle.tx_base.specs.declared.steps.Accepted.{Accepted}
 use Rattle.tx_base.specs.declared.steps.Reply.{Reply}
 use Rattle.tx_base.specs.declared.steps.Step.{Step}
 use Rattle.tx_base.specs.declared.steps.Step.TheVariants.{Call as Calls, Deliver, KernelAbort}
-use Rattle.tx_model.specs.State.{State}
+use Rattle.tx_model.specs.State.{State, booted}
 use Rattle.tx_model.specs.Effects.{send_answers}
 use Rattle.tx_model.specs.Events.{Event, effect, after, run}
 use Rattle.tx_model.specs.Membership.{Table, Role, Outside, Within, Commits, Aborts, Kind, Ordinary, Forking, Beginning, Leaving, Aborting, kind_of, kind_event, step_event, event_in, table_after}
@@ -15,7 +15,26 @@ use Rattle.tx_model.specs.Answer.{has_bad_number, refusal, accepted_reply, answe
 use Rattle.tx_laws.specs.WellFormed.{IsWellFormed, HasGoodNumbers}
 use Rattle.tx_laws.proofs.Agree.{applied_width}
 use Rattle.tx_laws.proofs.Taken.{unless_accepted, unrefused}
-use Rattle.tx_laws.proofs.KeepsFormEvents.{after_form}
+use Rattle.tx_laws.proofs.KeepsFormParts.{IsArranged}
+use Rattle.tx_laws.proofs.KeepsFormEvents as arranged
+use Rattle.tx_laws.proofs.WithinEvents.{IsWithin, after_within, booted_within}
+
+-- a well-formed state by what is arranged in it, and by its limits
+arranged_of : (S : State) → IsWellFormed S → IsArranged S
+arranged_of S w = record { first = w.first; placed = w.placed; names = w.names; named = w.named; pipes = w.pipes }
+
+within_of : (S : State) → IsWellFormed S → IsWithin S
+within_of S w = record { limits = w.limits; held = w.held }
+
+formed_from : (S : State) → IsArranged S → IsWithin S → IsWellFormed S
+formed_from S a l = record { first = a.first; placed = a.placed; names = a.names; named = a.named; pipes = a.pipes; limits = l.limits; held = l.held }
+
+-- the state at the start is well formed, and every event keeps that
+pub booted_form : (width count : ℕ) → 1 ≤ count → count ≤ width → IsWellFormed (booted width count)
+booted_form width count some fits = formed_from (booted width count) (arranged.booted_form width count some fits) (booted_within width count)
+
+pub after_form : (ev : Event) (S : State) → IsWellFormed S → HasGoodNumbers S.width ev → IsWellFormed (after ev S)
+after_form ev S w h = formed_from (after ev S) (arranged.after_form ev S (arranged_of S w) h) (after_within ev S (within_of S w))
 
 after_width_same : (ev : Event) (S : State) → (after ev S).width ≡ S.width
 unfolding after

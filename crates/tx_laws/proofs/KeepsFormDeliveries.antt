@@ -16,7 +16,8 @@ use Rattle.tx_model.specs.Processes.{numbered, ending}
 use Rattle.tx_model.specs.Scripts.{closed_inside}
 use Rattle.tx_model.specs.Sends.{held_limit, sent_by_members, sendable, sent_by, posts_now, holds, hands_out, sends_signal, send_effect}
 use Rattle.tx_model.specs.Deliveries.{first_value, less_first, is_blocked, delivered_value, relieved, action_at, caught, frame_limit, killed_status, takes_action, is_deferred, delivers, delivery_effect}
-use Rattle.tx_laws.specs.WellFormed.{AllSaved, IsFirst, IsWellFormed}
+use Rattle.tx_laws.specs.WellFormed.{AllSaved, IsFirst}
+use Rattle.tx_laws.proofs.KeepsFormParts.{IsArranged as IsWellFormed}
 use Rattle.tx_laws.proofs.KeepsFormOwn.{KeepsSizes, sizes_trans, less_of_none}
 use Rattle.tx_laws.proofs.KeepsFormNames.{KeepsForm, idle_form, noted_form, done_form, own_form}
 use Rattle.tx_laws.proofs.KeepsFormEnding.{held_form, ending_form}

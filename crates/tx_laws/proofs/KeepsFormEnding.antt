@@ -8,9 +8,9 @@ use Rattle.tx_model.specs.Effects.{Inside, done}
 use Rattle.tx_model.specs.Descriptors.{open_in, pipes_of, released, desc_objects, pipe_list, desc_pipe_objects}
 use Rattle.tx_model.specs.Processes.{ended, children_below, children_of, with_parent, orphaned, told_to, tells_later, ending, exit_status, exit_effect}
 use Rattle.tx_model.specs.Answer.{is_running}
-use Rattle.tx_laws.specs.WellFormed.{HasSizes, IsPlaced, IsWellFormed}
+use Rattle.tx_laws.specs.WellFormed.{HasSizes, IsPlaced}
 use Rattle.tx_laws.proofs.Released.{lacks_both, ends_held, released_same}
-use Rattle.tx_laws.proofs.KeepsFormParts.{put_here, put_there, put_cases, same_or_other, less_of, number_in, IsTabled, IsNamed, form_from, tabled_of, linked_of, linked_same}
+use Rattle.tx_laws.proofs.KeepsFormParts.{IsArranged as IsWellFormed, put_here, put_there, put_cases, same_or_other, less_of, number_in, IsTabled, IsNamed, form_from, tabled_of, linked_of, linked_same}
 use Rattle.tx_laws.proofs.KeepsFormReleased.{IsAmong, IsLoose, written_append, tabled_same, loosened, released_form}
 use Rattle.tx_laws.proofs.KeepsFormNames.{KeepsForm, done_form, number_of}
 

@@ -14,9 +14,9 @@ use Rattle.tx_model.specs.Descriptors.{descriptor, named}
 use Rattle.tx_model.specs.Calls.{call_effect, MakesCall, TakesSignal, running_effect, effect_at}
 use Rattle.tx_model.specs.Events.{Event, Do, Note, Commit, note_effect, step_effect, effect, after}
 use Rattle.tx_model.specs.Answer.{has_bad_number, is_running}
-use Rattle.tx_laws.specs.WellFormed.{HasSizes, IsPlaced, IsWellFormed, HasGoodNumbers}
+use Rattle.tx_laws.specs.WellFormed.{HasSizes, IsPlaced, HasGoodNumbers}
 use Rattle.tx_laws.proofs.Agree.{state_ext}
-use Rattle.tx_laws.proofs.KeepsFormParts.{put_cases, StaysPlaced, form_edit}
+use Rattle.tx_laws.proofs.KeepsFormParts.{IsArranged as IsWellFormed, put_cases, StaysPlaced, form_edit}
 use Rattle.tx_laws.proofs.KeepsFormReleased.{written_append}
 use Rattle.tx_laws.proofs.KeepsFormNames.{KeepsForm, idle_form, noted_form, own_call_form, dup_form, dup2_form, close_form}
 use Rattle.tx_laws.proofs.KeepsFormTransfers.{nonblock_form, read_form, write_form}

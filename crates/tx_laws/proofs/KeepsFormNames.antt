@@ -9,10 +9,9 @@ use Rattle.tx_model.specs.State.{Process, State, SetProc, write_one, written, is
 use Rattle.tx_model.specs.Effects.{Inside, Effect, Own, idle, noted, own_effect, done}
 use Rattle.tx_model.specs.Descriptors.{named, with_descriptor, first_free, lowest_free, listed, pipes_of, unnamed_go, endless_go, gives_up, bad_descriptor, dups_to, dup_effect, renames, dup2_named, dup2_effect, closes, close_effect}
 use Rattle.tx_model.specs.Calls.{own_call}
-use Rattle.tx_laws.specs.WellFormed.{IsWellFormed}
 use Rattle.tx_laws.proofs.InPlace.{KeepsPlace}
 use Rattle.tx_laws.proofs.OfCalls.{own_keeps}
-use Rattle.tx_laws.proofs.KeepsFormParts.{put_cases, IsTabled, IsNamed, IsLinked, names_at_of, tabled_of, linked_of, tabled_edit, form_edit}
+use Rattle.tx_laws.proofs.KeepsFormParts.{IsArranged as IsWellFormed, put_cases, IsTabled, IsNamed, IsLinked, names_at_of, tabled_of, linked_of, tabled_edit, form_edit}
 use Rattle.tx_laws.proofs.KeepsFormOwn.{KeepsSizes, stays_from, plain, own_sizes}
 use Rattle.tx_laws.proofs.KeepsFormReleased.{IsAmong, IsLoose, loosened, released_form}
 

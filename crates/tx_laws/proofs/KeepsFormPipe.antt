@@ -8,8 +8,7 @@ use Rattle.tx_model.specs.State.{Process, Side, ReadSide, WriteSide, Description
 use Rattle.tx_model.specs.Effects.{idle, noted}
 use Rattle.tx_model.specs.Descriptors.{with_descriptor, lowest_free, with_two_slots, is_pipe_in_use, opens_at, opens_from, pipe_effect}
 use Rattle.tx_model.specs.Transfers.{pipe_room}
-use Rattle.tx_laws.specs.WellFormed.{IsWellFormed}
-use Rattle.tx_laws.proofs.KeepsFormParts.{put_here, put_there, put_cases, IsTabled, IsNamed, IsEnd, IsLinked, names_at_of, form_from, tabled_of, linked_of, tabled_edit}
+use Rattle.tx_laws.proofs.KeepsFormParts.{IsArranged as IsWellFormed, put_here, put_there, put_cases, IsTabled, IsNamed, IsEnd, IsLinked, names_at_of, form_from, tabled_of, linked_of, tabled_edit}
 use Rattle.tx_laws.proofs.KeepsFormOwn.{KeepsSizes, stays_from, plain}
 use Rattle.tx_laws.proofs.KeepsFormReleased.{tabled_same}
 use Rattle.tx_laws.proofs.KeepsFormNames.{KeepsForm, idle_form, done_form, new_slot, old_slot, free_place, number_of, own_name}

@@ -8,8 +8,8 @@ use Rattle.tx_model.specs.State.{Process, State, SetProc, write_one, written, is
 use Rattle.tx_model.specs.Effects.{noted, done}
 use Rattle.tx_model.specs.Processes.{child_of, forks, fork_effect, numbered, with_status, waits_by, waits_for, waits_at, waitpid_effect}
 use Rattle.tx_model.specs.Answer.{is_running}
-use Rattle.tx_laws.specs.WellFormed.{HasSizes, IsPlaced, IsFirst, IsWellFormed}
-use Rattle.tx_laws.proofs.KeepsFormParts.{put_here, put_there, put_cases, IsNamed, names_of, form_from, linked_of, form_edit, relinked}
+use Rattle.tx_laws.specs.WellFormed.{HasSizes, IsPlaced, IsFirst}
+use Rattle.tx_laws.proofs.KeepsFormParts.{IsArranged as IsWellFormed, put_here, put_there, put_cases, IsNamed, names_of, form_from, linked_of, form_edit, relinked}
 use Rattle.tx_laws.proofs.KeepsFormOwn.{stays_from, plain}
 use Rattle.tx_laws.proofs.KeepsFormNames.{KeepsForm, idle_form, noted_form, done_form, number_of, own_name}
 

@@ -5,8 +5,8 @@ use Rattle.tx_model.specs.State.{Process, Description, State, Write, SetDesc, Se
 use Rattle.tx_model.specs.Transfers.{pipe_room}
 use Rattle.tx_model.specs.Descriptors.{is_named, has_side, pipe_of, pipes_of, unnamed_go, endless_go, released}
 use Rattle.tx_model.specs.Answer.{is_running}
-use Rattle.tx_laws.specs.WellFormed.{IsPlaced, IsWellFormed}
-use Rattle.tx_laws.proofs.KeepsFormParts.{put_here, put_cases, put_there, same_or_other, IsTabled, IsNamed, IsEnd, IsLinked, name_found, is_named_from, end_found, has_end_from, form_from}
+use Rattle.tx_laws.specs.WellFormed.{IsPlaced}
+use Rattle.tx_laws.proofs.KeepsFormParts.{IsArranged as IsWellFormed, put_here, put_cases, put_there, same_or_other, IsTabled, IsNamed, IsEnd, IsLinked, name_found, is_named_from, end_found, has_end_from, form_from}
 
 -- the number is one of the list
 abbrev pub IsAmong : ℕ → List ℕ → Type 0

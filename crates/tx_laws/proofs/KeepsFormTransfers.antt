@@ -9,8 +9,7 @@ use Rattle.tx_model.specs.State.{Process, Side, ReadSide, WriteSide, Description
 use Rattle.tx_model.specs.Effects.{idle, noted, done, done_with}
 use Rattle.tx_model.specs.Descriptors.{bad_descriptor, flags, nonblock_effect}
 use Rattle.tx_model.specs.Transfers.{pipe_room, has_writer, has_reader, bytes_in, waits, drains, reads, read_by_side, read_described, read_effect, breaks, puts, writes, write_by_side, write_described, write_effect}
-use Rattle.tx_laws.specs.WellFormed.{IsWellFormed}
-use Rattle.tx_laws.proofs.KeepsFormParts.{put_cases, some_of, IsNamed, IsEnd, IsLinked, form_from, tabled_of, linked_of, form_edit}
+use Rattle.tx_laws.proofs.KeepsFormParts.{IsArranged as IsWellFormed, put_cases, some_of, IsNamed, IsEnd, IsLinked, form_from, tabled_of, linked_of, form_edit}
 use Rattle.tx_laws.proofs.KeepsFormOwn.{stays_from, plain, stored_paged}
 use Rattle.tx_laws.proofs.KeepsFormReleased.{tabled_same}
 use Rattle.tx_laws.proofs.KeepsFormNames.{KeepsForm, idle_form, noted_form, done_form}

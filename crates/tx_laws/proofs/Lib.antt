@@ -23,6 +23,9 @@ pub mod StepView
 pub mod Commutes
 pub mod Doomed
 pub mod KeepsFormParts
+pub mod WithinSets
+pub mod WithinOwn
+pub mod PlainWrites
 pub mod KeepsFormOwn
 pub mod KeepsFormReleased
 pub mod KeepsFormNames
@@ -30,6 +33,7 @@ pub mod KeepsFormTransfers
 pub mod KeepsFormPipe
 pub mod KeepsFormProcesses
 pub mod KeepsFormEnding
+pub mod WithinEvents
 pub mod KeepsFormDeliveries
 pub mod KeepsFormEvents
 pub mod FormHistory

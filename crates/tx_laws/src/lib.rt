@@ -90,9 +90,10 @@ pub fn doom()
 {}
 
 /// Well-formed states: process 1 runs, the parent of any other process runs too, what descriptors
-/// name is there and nothing else is, and numbers and sizes are within their limits. The booted
-/// state is well formed, every event with numbers in range leaves a well-formed state so, and so
-/// each state of a lawful history is well formed, whichever transactions are left out.
+/// name is there and nothing else is, and numbers and sizes are within their limits, as are pages,
+/// ids, points, masks and actions, and the signals that are pending or held. The booted state is
+/// well formed, every event with numbers in range leaves a well-formed state so, and so each state
+/// of a lawful history is well formed, whichever transactions are left out.
 pub fn well_formed()
     ensures booted { (width count : ℕ) → 1 ≤ count → count ≤ width → IsWellFormed (booted width count) }
     ensures kept { (event : Event) (state : State) → IsWellFormed state → HasGoodNumbers state.width event → IsWellFormed (after event state) }
