@@ -36,6 +36,9 @@ pub const CONSOLE_BYTES: usize = 64;
 /// How many slots a process has beside its answer: numbers 0 to 7.
 pub const SLOTS: usize = 8;
 
+/// How many signal numbers there are: 0 to 39. Not each is a signal.
+pub const SIGNALS: usize = 40;
+
 /// How many caught signals of a process may be unfinished.
 pub const FRAMES: usize = 4;
 
@@ -46,7 +49,7 @@ pub const QUEUED: usize = 16;
 pub const HELD_SENDS: usize = 32;
 
 /// The last user or group id.
-pub const LAST_ID: i64 = 65_535;
+pub const LAST_ID: u16 = 65_535;
 
 /// The last point of a script. Adding one there leaves it.
 pub const LAST_POINT: u32 = 65_535;
@@ -55,7 +58,7 @@ pub const LAST_POINT: u32 = 65_535;
 pub const UNDELIVERED: usize = 33;
 
 /// The answer of a call that is not open inside a transaction, as a positive number (own rule).
-pub const CLOSED_INSIDE: i64 = 200;
+pub const CLOSED_INSIDE: u16 = 200;
 
 /// The status of a transaction that a member aborted (own rule).
 pub const ABORTED_BY_CALL: u16 = 201;

@@ -15,7 +15,7 @@ use Rattle.tx_proc.specs.declared.proc.Proc.{Proc}
 use Rattle.tx_core.specs.Built.{IsBuiltCall}
 use Rattle.tx_proc.specs.Processes.{process_in}
 use Rattle.tx_core.specs.Content.{view_of, IsContent}
-use Rattle.tx_core.specs.Plans.{proc_after, only_answers, IsPlainCall, IsRunning}
+use Rattle.tx_core.specs.Plans.{proc_after, only_answers, IsPlainCall, IsRunning, memory_call}
 use Rattle.tx_core.specs.Steps.{IsStep, IsXabort, Steps}
 use Rattle.tx_core.specs.declared.inverse.Inverse.{Inverse}
 use Rattle.tx_core.specs.declared.kernel.Kernel.{Kernel}
@@ -24,7 +24,6 @@ use Rattle.tx_core.proofs.OfBuilt.{begins_built}
 use Rattle.tx_core.proofs.Outcomes.{reply_of_case}
 use Rattle.tx_core.proofs.Replies.{IsPlain, note_plain, plain_reply_is, plain_own, commit_reply_is, commit_own}
 use Rattle.tx_model.specs.Answer.{answer, plain_reply, IsAccepted, Lawful}
-use Rattle.tx_model.specs.Calls.{memory_call}
 use Rattle.tx_model.specs.Events.{Event, Note, Commit, reply_of}
 use Rattle.std.proofs.lemmas.Bool.{both_ways}
 use Rattle.tx_model.specs.Membership.{Begins, Within, Commits, Aborts, Beginning, Aborting, kind_of, called_by_status, is_live}

@@ -10,7 +10,6 @@ use Rattle.tx_core.specs.Content.{kept_in, state_of, starter_in, two_parts_of, v
 use Rattle.tx_core.specs.declared.kernel.Kernel.{Kernel}
 use Rattle.tx_core.proofs.Cases.{own_mark}
 use Rattle.tx_core.proofs.Replies.{present_is, table_is}
-use Rattle.tx_laws.proofs.Agree.{state_ext}
 use Rattle.tx_laws.proofs.Erased.{start_sound}
 use Rattle.tx_laws.proofs.TwoPartsView.{view_ext}
 use Rattle.tx_model.specs.Events.{run}
@@ -21,6 +20,7 @@ use Rattle.tx_laws.specs.Sound.{IsSound}
 use Rattle.tx_laws.specs.TwoParts.{is_owner, parts_without, parts_view}
 use Rattle.tx_model.specs.View.{view, present, has_pending}
 use Rattle.tx_model.specs.SignalSets.{kill_signo}
+use Rattle.tx_model.specs.StateLaws.{state_ext}
 use Rattle.tx_proc.specs.Processes.{process_in}
 use Rattle.tx_proc.specs.declared.proc.Proc.{Proc}
 

@@ -13,10 +13,9 @@ use Rattle.tx_proc.specs.declared.proc.Proc.{Proc}
 use Rattle.tx_core.specs.Built.{IsBuiltCall}
 use Rattle.tx_proc.specs.Processes.{process_in}
 use Rattle.tx_core.specs.Content.{table_in, view_of, IsMarked, IsContent}
-use Rattle.tx_core.specs.Plans.{proc_after, IsPlainCall}
+use Rattle.tx_core.specs.Plans.{proc_after, IsPlainCall, memory_call}
 use Rattle.tx_core.specs.declared.kernel.Kernel.{Kernel}
 use Rattle.tx_core.proofs.Replies.{IsPlain, do_plain, note_plain, plain_reply_is}
-use Rattle.tx_model.specs.Calls.{memory_call}
 use Rattle.tx_model.specs.Events.{Event, Do, Note, Commit, reply_of}
 use Rattle.tx_model.specs.Membership.{inside_by, Continues, Begins, Role, Outside, Within, Commits, Aborts, Kind, Ordinary, Beginning, Leaving, Aborting, kind_of, says_ended, others_open, is_open_of, member_end_role, ordinary_role, called_by_status, kind_role, kind_event, event_in}
 use Rattle.tx_model.specs.Numbers.{negative}

@@ -16,7 +16,7 @@ use Rattle.tx_proc.specs.declared.part.Part.TheVariants.{Regs as SetRegs}
 use Rattle.tx_change.specs.declared.parts.Parts.{Parts}
 use Rattle.tx_proc.specs.declared.proc.Proc.{Proc}
 use Rattle.tx_core.specs.Content.{IsContent}
-use Rattle.tx_core.specs.Plans.{Gives, only_answers, regs_in, IsPlainCall, IsRunning}
+use Rattle.tx_core.specs.Plans.{Gives, only_answers, regs_in, IsPlainCall, IsRunning, memory_call}
 use Rattle.tx_core.specs.Undo.{log_in, HasSlot}
 use Rattle.tx_core.specs.declared.act.Plan.{Plan}
 use Rattle.tx_core.specs.declared.inverse.Inverse.{Inverse}
@@ -25,7 +25,7 @@ use Rattle.tx_core.specs.declared.kernel.Kernel.{Kernel}
 use Rattle.tx_core.proofs.Outcomes.{named}
 use Rattle.tx_core.proofs.Replies.{has_slot}
 use Rattle.tx_core.proofs.StepFacts.{IsDone, logged, outside_done, inside_done, begin_done, commit_done, xabort_done, kernel_done}
-use Rattle.tx_model.specs.Calls.{Local, memory_call}
+use Rattle.tx_model.specs.Pages.{Remembered}
 use Rattle.tx_model.specs.Effects.{answered}
 use Rattle.tx_model.specs.Membership.{Beginning, Leaving, Aborting, kind_of, new_mark, called_by_status}
 
@@ -33,7 +33,7 @@ pub runs_at : (slot : Option Proc) (q : Proc) → IsRunning slot → slot ≡ So
 runs_at None q runs here = absurd runs
 runs_at (Some p) q runs here = let z : p ≡ q = cc in ap (λ (x : Proc). x.status) (sym z) ∙ runs
 
-pub plan_named : (k : Kernel) (pid : Pid) (q : Proc) (plan : Plan) (after : Local) → IsContent k → slot_at k.parts.procs pid.0 ≡ Some q → Gives pid.0 q plan after → AreNamed k.parts plan.changes.items
+pub plan_named : (k : Kernel) (pid : Pid) (q : Proc) (plan : Plan) (after : Remembered) → IsContent k → slot_at k.parts.procs pid.0 ≡ Some q → Gives pid.0 q plan after → AreNamed k.parts plan.changes.items
 plan_named k pid q plan after i here gives = let slot = has_slot k i pid.0 q here in named k pid.0 q plan.changes.items slot.low slot.high here gives.own
 
 pub slot_of : (k : Kernel) (pid : Pid) (q : Proc) → IsContent k → slot_at k.parts.procs pid.0 ≡ Some q → HasSlot k pid.0

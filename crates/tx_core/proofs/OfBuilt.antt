@@ -5,8 +5,10 @@ use Rattle.tx_base.specs.declared.steps.Call.{Call}
 use Rattle.tx_base.specs.declared.steps.Call.TheVariants.{Map, Unmap, Protect, Store, Load, SysXbegin, SysXbeginDefer, SysXend, SysXabort}
 use Rattle.tx_base.specs.declared.steps.Step.TheVariants.{Call as Calls}
 use Rattle.tx_core.specs.Built.{IsBuiltCall}
+use Rattle.tx_core.specs.Plans.{memory_call}
 use Rattle.tx_model.specs.Answer.{has_bad_number, has_number_in_use}
-use Rattle.tx_model.specs.Calls.{memory_call, remembers, call_effect, MakesCall, objects_at}
+use Rattle.tx_model.specs.Calls.{call_effect, MakesCall, objects_at}
+use Rattle.tx_model.specs.Pages.{remembers}
 use Rattle.tx_model.specs.Effects.{Inside, own_effect}
 use Rattle.tx_model.specs.Membership.{Beginning, kind_of}
 use Rattle.tx_model.specs.State.{Process, State}

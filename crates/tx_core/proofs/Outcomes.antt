@@ -31,7 +31,7 @@ use Rattle.tx_core.proofs.Replies.{IsOwn, answer_is, no_holder}
 use Rattle.tx_base.proofs.SlotFacts.{slot_at-with_slot}
 use Rattle.tx_model.specs.Answer.{plain_reply, answer, IsAccepted}
 use Rattle.tx_model.specs.Events.{Event, process_of, actor}
-use Rattle.tx_model.specs.History.{footprint}
+use Rattle.tx_model.specs.History.{event_footprint}
 use Rattle.tx_model.specs.Membership.{Role, called_by_status}
 use Rattle.tx_laws.specs.Sound.{IsSound}
 use Rattle.tx_model.specs.State.{Object, Proc as TheProc, has}
@@ -83,7 +83,7 @@ pub local_of : (k new : Kernel) (step : Step) (R : Role) (ev : Event) (p : ℕ) 
 local_of k new step R ev p inverse is who own change among =
     let V : View = view_of k in
     let who' : TheProc (actor (event_on V step)) ≡ object_of change = ap TheProc (ap actor is.event_is ∙ who) ∙ sym (among_own p change (changes_of new inverse) own among) in
-    subst (λ (o : Object). has o (footprint V.table (event_on V step) (present V)) ≡ true) who' (actor_foot V.table (event_on V step) (present V))
+    subst (λ (o : Object). has o (event_footprint V.table (event_on V step) (present V)) ≡ true) who' (actor_foot V.table (event_on V step) (present V))
 
 pub AreOf_append : (n : ℕ) (front behind : List Change) → AreOf n front → AreOf n behind → AreOf n (front ++ behind)
 AreOf_append n [] behind f b = b

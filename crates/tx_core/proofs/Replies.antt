@@ -13,17 +13,17 @@ use Rattle.tx_proc.specs.declared.proc.Proc.{Proc}
 use Rattle.tx_proc.specs.Processes.{process_of, process_in}
 use Rattle.tx_model.specs.SignalSets.{kill_signo}
 use Rattle.tx_core.specs.Content.{state_of, kept_in, starter_in, owner_at, table_in, two_parts_of, view_of, IsMarked, IsContent}
-use Rattle.tx_core.specs.Plans.{proc_after, only_answers}
+use Rattle.tx_core.specs.Plans.{proc_after, only_answers, memory_call}
 use Rattle.tx_core.specs.Undo.{HasSlot}
 use Rattle.tx_core.specs.Built.{IsBuiltCall}
 use Rattle.tx_core.specs.declared.kernel.Kernel.{Kernel}
 use Rattle.tx_core.proofs.OfBuilt.{built_effect, built_objects, built_numbers}
 use Rattle.tx_core.proofs.Views.{set_effect}
 use Rattle.tx_model.specs.Answer.{is_running, is_there, is_doomed_at, is_parked, is_held_by_kill, has_bad_number, has_number_in_use, refusal, accepted_reply, unless_refused, answer}
-use Rattle.tx_model.specs.Calls.{memory_call, MakesCall, running_effect, effect_at}
+use Rattle.tx_model.specs.Calls.{MakesCall, running_effect, effect_at}
 use Rattle.tx_model.specs.Effects.{Inside, Effect, ListsFailed, send_answers, concluding_reply, committing}
 use Rattle.tx_model.specs.Events.{Event, Do, Note, Commit, actor, effect, objects, reply_of}
-use Rattle.tx_model.specs.History.{just, targets, footprint}
+use Rattle.tx_model.specs.History.{just, targets, event_footprint}
 use Rattle.tx_model.specs.Membership.{Table, is_of, is_member_of, is_live}
 use Rattle.tx_model.specs.Posts.{answers}
 use Rattle.tx_model.specs.State.{Process, State, Sending, written, Object, Proc as TheProc, Desc, Pipe, Held, is_between, has}
@@ -94,7 +94,7 @@ other_parts false y h = cc
 -- an event of process p that names it alone, or what it holds, and posts nothing
 pub record IsOwn (k : Kernel) (p : ℕ) (ev : Event) : Type 0 where
   pub actor_is : actor ev ≡ p
-  pub objects_are : (o : Object) → has o (footprint (table_in k) ev (present (view_of k))) ≡ true → (o ≡ TheProc p) ⊎ (o ≡ Held p)
+  pub objects_are : (o : Object) → has o (event_footprint (table_in k) ev (present (view_of k))) ≡ true → (o ≡ TheProc p) ⊎ (o ≡ Held p)
   pub sends_are : (effect ev (present (view_of k))).sends ≡ []
 
 -- nobody is in the way of such an event
@@ -114,7 +114,7 @@ no_holder k p ev own = least_all (in_way (view_of k) ev) (length k.parts.procs) 
         at_object o (inr h) = ap (λ (x : Object). is_owner s (owner_at k x)) h ∙ owner_of s (slot_at k.marks p) ∙ out
 
         met : meets_touched (view_of k) ev s ≡ false
-        met = meets_none (footprint (table_in k) ev (present (view_of k))) (λ o. is_owner s (owner_at k o)) (λ o h. at_object o (own.objects_are o h))
+        met = meets_none (event_footprint (table_in k) ev (present (view_of k))) (λ o. is_owner s (owner_at k o)) (λ o h. at_object o (own.objects_are o h))
 
         two : has_two_answers (view_of k) ev s ≡ false
         two = ap (λ (ms : List Sending). differs_at s ms (send_answers (effect ev (present (view_of k))) (present (view_of k))) (send_answers (effect ev (present (view_of k))) ((view_of k).without (just s)))) own.sends_are
@@ -226,8 +226,8 @@ unfolding objects
 note_plain k p r q here = record { actor_is = refl; objects_are = λ S. refl; effect_is = note_effect_is k p r q here }
 
 module _ (k : Kernel) (p : ℕ) (ev : Event) (y : Option Process) (r : ℤ) (plain : IsPlain k p ev y r) where
-  pub plain_foot : footprint (table_in k) ev (state_of k.parts) ≡ TheProc p ∷ []
-  unfolding footprint targets
+  pub plain_foot : event_footprint (table_in k) ev (state_of k.parts) ≡ TheProc p ∷ []
+  unfolding event_footprint targets
   plain_foot = ap₂ (λ (os : List Object) (f : Effect). os ++ targets (table_in k) (actor ev) f.sends) (plain.objects_are (state_of k.parts)) plain.effect_is
 
   pub plain_reply_is : reply_of ev (present (view_of k)) ≡ Done r
@@ -238,7 +238,7 @@ module _ (k : Kernel) (p : ℕ) (ev : Event) (y : Option Process) (r : ℤ) (pla
   unfolding has
   plain_own = record {
     actor_is = plain.actor_is;
-    objects_are = λ o h. by o (subst (λ (F : List Object). has o F ≡ true) (ap (footprint (table_in k) ev) (present_is k) ∙ plain_foot) h);
+    objects_are = λ o h. by o (subst (λ (F : List Object). has o F ≡ true) (ap (event_footprint (table_in k) ev) (present_is k) ∙ plain_foot) h);
     sends_are = ap (λ (S : State). (effect ev S).sends) (present_is k) ∙ ap (λ (f : Effect). f.sends) plain.effect_is;
   }
     where
@@ -253,8 +253,8 @@ module _ (k : Kernel) (p : ℕ) (ev : Event) (y : Option Process) (r : ℤ) (pla
       by (Held n) h = cc
 
   -- the same event, where it commits
-  commit_foot : footprint (table_in k) (Commit p ev) (state_of k.parts) ≡ Held p ∷ TheProc p ∷ []
-  unfolding footprint targets objects effect written
+  commit_foot : event_footprint (table_in k) (Commit p ev) (state_of k.parts) ≡ Held p ∷ TheProc p ∷ []
+  unfolding event_footprint targets objects effect written
   commit_foot = ap₂ (λ (os : List Object) (f : Effect). (Held p ∷ os) ++ targets (table_in k) (actor ev) (f.sends ++ (written f.writes (state_of k.parts)).held p)) (plain.objects_are (state_of k.parts)) plain.effect_is
 
   pub commit_reply_is : reply_of (Commit p ev) (present (view_of k)) ≡ Committed (record { items = [] })
@@ -266,7 +266,7 @@ module _ (k : Kernel) (p : ℕ) (ev : Event) (y : Option Process) (r : ℤ) (pla
   unfolding has effect written
   commit_own = record {
     actor_is = plain.actor_is;
-    objects_are = λ o h. by o (subst (λ (F : List Object). has o F ≡ true) (ap (footprint (table_in k) (Commit p ev)) (present_is k) ∙ commit_foot) h);
+    objects_are = λ o h. by o (subst (λ (F : List Object). has o F ≡ true) (ap (event_footprint (table_in k) (Commit p ev)) (present_is k) ∙ commit_foot) h);
     sends_are = ap (λ (S : State). (effect (Commit p ev) S).sends) (present_is k) ∙ ap (λ (f : Effect). f.sends ++ (written f.writes (state_of k.parts)).held p) plain.effect_is;
   }
     where

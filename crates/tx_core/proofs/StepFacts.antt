@@ -25,7 +25,7 @@ use Rattle.tx_proc.specs.Processes.{process_of, process_in}
 use Rattle.tx_change.specs.declared.parts.Parts.{Parts}
 use Rattle.tx_proc.specs.declared.proc.Proc.{Proc}
 use Rattle.tx_core.specs.Content.{state_of, kept_in, starter_in, two_parts_of, view_of, IsMarked, IsContent}
-use Rattle.tx_core.specs.Plans.{proc_after, only_answers, regs_in, IsPlainCall}
+use Rattle.tx_core.specs.Plans.{proc_after, only_answers, regs_in, IsPlainCall, memory_call}
 use Rattle.tx_core.specs.Steps.{IsStep}
 use Rattle.tx_core.specs.Undo.{log_in, last_of, first_of, undone_by, HasSlot}
 use Rattle.tx_core.specs.declared.inverse.Inverse.{Inverse}
@@ -39,7 +39,7 @@ use Rattle.tx_core.proofs.Replies.{IsPlain, note_plain, plain_foot, plain_reply_
 use Rattle.tx_core.proofs.Slotted.{slot_back}
 use Rattle.tx_core.proofs.Views.{set_effect, outside_next, inside_next, begins_next, commits_next, aborts_next}
 use Rattle.tx_model.specs.Answer.{answer, IsAccepted}
-use Rattle.tx_model.specs.Calls.{Local, memory_call}
+use Rattle.tx_model.specs.Pages.{Remembered}
 use Rattle.tx_model.specs.Effects.{answered, noted_if}
 use Rattle.tx_model.specs.Events.{Event, Note, Commit, effect, process_of as process_of_step}
 use Rattle.tx_model.specs.Membership.{Table, is_of, Continues, Begins, Outside, Within, Commits, Aborts, Beginning, kind_of, new_mark, called_by_status}
@@ -125,7 +125,7 @@ module _ (k : Kernel) (pid : Pid) (q : Proc) (cs : List Change) (i : IsContent k
   pipes n = ap (λ (x : Parts). (state_of x).pipes n) (applied-own pid.0 k.parts cs slot.low slot.high own)
 
   -- no signal is pending at the process that the exchanges leave
-  calm : (after : Local) → edited q cs ≡ proc_after q after → has_pending kill_signo (process_in (Some (edited q cs))) ≡ false
+  calm : (after : Remembered) → edited q cs ≡ proc_after q after → has_pending kill_signo (process_in (Some (edited q cs))) ≡ false
   calm after gives =
       ap (λ (x : Proc). has_pending kill_signo (process_in (Some x))) gives ∙ ap (λ (x : Option Proc). has_pending kill_signo (process_in x)) (sym here) ∙ i.calm pid.0
 

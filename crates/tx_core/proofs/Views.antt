@@ -11,7 +11,7 @@ use Rattle.tx_core.specs.Content.{state_of, kept_in, kept_of, starter_in, owner_
 use Rattle.tx_core.specs.declared.kernel.Kernel.{Kernel}
 use Rattle.tx_model.specs.Effects.{Effect, Replies, send_answers, applied, noted_if, committing}
 use Rattle.tx_model.specs.Events.{Event, Note, Commit, effect}
-use Rattle.tx_model.specs.History.{just, footprint}
+use Rattle.tx_model.specs.History.{just, event_footprint}
 use Rattle.tx_model.specs.Membership.{Table, Continues, Begins, Outside, Within, Commits, Aborts, new_mark, unmarked, table_after}
 use Rattle.tx_model.specs.Posts.{posts, answers}
 use Rattle.tx_model.specs.State.{Process, State, Object, Proc as TheProc, Desc, Pipe, Held, SetProc, SetHeld, write_one, written, has, AgreePart}
@@ -114,7 +114,7 @@ module _ (k new : Kernel) (p : ℕ) (slot : Option Proc) (width : length new.par
     -- a step of a transaction's member, after which it is live
     pub inside_next : ((n : ℕ) → slot_at new.marks n ≡ slot_at k.marks n) → (log : Option (List Change)) → ((n : ℕ) → slot_at new.logs n ≡ (if n == p then log else slot_at k.logs n))
         → kept_in slot log ≡ kept_in (slot_at k.parts.procs p) (slot_at k.logs p) → starter_in (slot_at k.marks p) ≡ Some p
-        → footprint (table_in k) ev (state_of k.parts) ≡ TheProc p ∷ []
+        → event_footprint (table_in k) ev (state_of k.parts) ≡ TheProc p ∷ []
         → view_of new ≡ parts_view (parts_next (Within p Continues) ev p (two_parts_of k))
     unfolding view_of parts_next has
     inside_next marks log logs back mine foot =
@@ -125,7 +125,7 @@ module _ (k new : Kernel) (p : ℕ) (slot : Option Proc) (width : length new.par
           owner = λ o. if has o F then Some p else owner_at k o;
           table = table_in k;
         } in
-        let e : parts_view (reserved p (footprint (table_in k) ev (state_of k.parts)) ev (table_in k) (two_parts_of k)) ≡ parts_view d
+        let e : parts_view (reserved p (event_footprint (table_in k) ev (state_of k.parts)) ev (table_in k) (two_parts_of k)) ≡ parts_view d
         = ap (λ (G : List Object). parts_view (reserved p G ev (table_in k) (two_parts_of k))) foot
         ∙ ap (λ (S : State). parts_view (record { now = S; kept = d.kept; owner = d.owner; table = d.table })) made_now in
         same_view (two_parts_of new) d width now_part owners kept (table_same (table_in new) (table_in k) width marks) ∙ sym e
@@ -164,7 +164,7 @@ module _ (k new : Kernel) (p : ℕ) (slot : Option Proc) (width : length new.par
     pub begins_next : (defers : Bool) → ((n : ℕ) → slot_at new.marks n ≡ (if n == p then Some (new_mark p defers) else slot_at k.marks n))
         → (log : Option (List Change)) → ((n : ℕ) → slot_at new.logs n ≡ (if n == p then log else slot_at k.logs n))
         → kept_in slot log ≡ process_in (slot_at k.parts.procs p) → slot_at k.marks p ≡ None
-        → footprint (table_in k) ev (state_of k.parts) ≡ TheProc p ∷ []
+        → event_footprint (table_in k) ev (state_of k.parts) ≡ TheProc p ∷ []
         → view_of new ≡ parts_view (parts_next (Within p (Begins defers)) ev p (two_parts_of k))
     unfolding view_of parts_next has
     begins_next defers marks log logs back free foot =
@@ -176,7 +176,7 @@ module _ (k new : Kernel) (p : ℕ) (slot : Option Proc) (width : length new.par
           owner = λ o. if has o F then Some p else owner_at k o;
           table = t;
         } in
-        let e : parts_view (reserved p (Held p ∷ footprint (table_in k) ev (state_of k.parts)) ev t (two_parts_of k)) ≡ parts_view d
+        let e : parts_view (reserved p (Held p ∷ event_footprint (table_in k) ev (state_of k.parts)) ev t (two_parts_of k)) ≡ parts_view d
         = ap (λ (G : List Object). parts_view (reserved p (Held p ∷ G) ev t (two_parts_of k))) foot
         ∙ ap (λ (S : State). parts_view (record { now = S; kept = d.kept; owner = d.owner; table = d.table })) made_now in
         same_view (two_parts_of new) d width now_part owners kept (table_same (table_in new) t width marks) ∙ sym e

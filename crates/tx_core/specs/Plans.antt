@@ -15,20 +15,34 @@ use Rattle.tx_core.specs.declared.act.CallKind.{CallKind}
 use Rattle.tx_core.specs.declared.act.CallKind.TheVariants.{OfProcess, Begins, Ends, Aborts}
 use Rattle.tx_core.specs.declared.act.Plan.{Plan}
 use Rattle.tx_model.specs.Membership.{Kind, Ordinary, Forking, Beginning, Leaving, Aborting, kind_of}
-use Rattle.tx_model.specs.Calls.{Local}
+use Rattle.tx_model.specs.Memory.{Memory}
+use Rattle.tx_model.specs.Numbers.{failing}
+use Rattle.tx_model.specs.Pages.{Remembered, page_of, map_page, unmap_page, protect_page, store_bytes, load_byte}
+use Rattle.tx_base.specs.declared.errors.Errno.TheVariants.{InvalidArgument}
+use Rattle.tx_base.specs.declared.steps.Call.TheVariants.{Map, Unmap, Protect, Store, Load}
 use Rattle.tx_model.specs.Effects.{answered}
 use Rattle.tx_pages.specs.declared.plans.NewPage.{NewPage}
 
 -- the process that the code keeps, as a call leaves it
-abbrev pub proc_after : Proc → Local → Proc
+abbrev pub proc_after : Proc → Remembered → Proc
 proc_after p after = record p { regs = answered after.ret p.regs; space = after.memory }
 
+-- what a call that the machine makes leaves of the memory of its process, and its answer: one of transactions that
+-- neither begins, parks, commits nor aborts answers EINVAL
+abbrev pub memory_call : Memory → Call → Remembered
+memory_call memory (Map page) = map_page (page_of page) memory
+memory_call memory (Unmap page) = unmap_page (page_of page) memory
+memory_call memory (Protect page writable) = protect_page (page_of page) writable memory
+memory_call memory (Store address bytes) = store_bytes address bytes.items memory
+memory_call memory (Load address) = load_byte address memory
+memory_call memory _ = record { memory = memory; ret = failing InvalidArgument }
+
 -- a call that answers so, and does nothing else
-abbrev pub only_answers : Proc → ℤ → Local
+abbrev pub only_answers : Proc → ℤ → Remembered
 only_answers p ret = record { memory = p.space; ret = ret }
 
 -- the plan is for parts of process n, which is p, and gives what the call is to give
-pub record Gives (n : ℕ) (p : Proc) (plan : Plan) (after : Local) : Type 0 where
+pub record Gives (n : ℕ) (p : Proc) (plan : Plan) (after : Remembered) : Type 0 where
   pub own : AreOf n plan.changes.items
   pub proc : edited p plan.changes.items ≡ proc_after p after
   pub ret : plan.ret ≡ after.ret

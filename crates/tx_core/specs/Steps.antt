@@ -15,14 +15,14 @@ use Rattle.tx_core.specs.Undo.{changes_of, undone_by, LeadsBack, IsAmong}
 use Rattle.tx_core.specs.declared.inverse.Inverse.{Inverse}
 use Rattle.tx_core.specs.declared.kernel.Kernel.{Kernel}
 use Rattle.tx_model.specs.Answer.{answer, IsAccepted}
-use Rattle.tx_model.specs.History.{footprint}
+use Rattle.tx_model.specs.History.{event_footprint}
 use Rattle.tx_model.specs.State.{has}
 use Rattle.tx_model.specs.View.{present, event_on, next}
 
 -- each change of the inverse names an object of the step's footprint
 abbrev pub IsLocal : Kernel → Step → Kernel → Inverse → Type 0
 IsLocal old step new inverse = (change : Change) → IsAmong change (changes_of new inverse)
-    → has (object_of change) (footprint (view_of old).table (event_on (view_of old) step) (present (view_of old))) ≡ true
+    → has (object_of change) (event_footprint (view_of old).table (event_on (view_of old) step) (present (view_of old))) ≡ true
 
 -- the step was accepted with this reply, and left the kernel so, with this inverse
 pub record IsStep (old : Kernel) (step : Step) (reply : Reply) (inverse : Inverse) (new : Kernel) : Type 0 where

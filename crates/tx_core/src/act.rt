@@ -2,8 +2,7 @@
 ghost use Rattle.std.specs.Prelude.{◌≡◌, ◌<◌, List, map, pos, IfOk, slice_set};
 ghost use Rattle.tx_base.specs.declared.steps.Call.TheVariants.{Map, Unmap, Protect, Store, Load};
 ghost use Rattle.tx_core.specs.Built.{IsBuiltCall};
-ghost use Rattle.tx_core.specs.Plans.{Gives, only_answers, page_change, named_kind};
-ghost use Rattle.tx_model.specs.Calls.{memory_call};
+ghost use Rattle.tx_core.specs.Plans.{Gives, only_answers, page_change, named_kind, memory_call};
 ghost use Rattle.tx_model.specs.Effects.{answered, next_point};
 ghost use Rattle.tx_model.specs.Membership.{kind_of};
 ghost use Rattle.tx_pages.specs.Outcomes.{with_pages, AreNumbered};

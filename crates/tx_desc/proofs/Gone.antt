@@ -4,7 +4,7 @@ use Rattle.std.proofs.lemmas.Bool.{both_ways, ltb-true, ltb-false}
 use Rattle.tx_model.specs.State.{Process, State, Write, SetProc, SetDesc, SetPipe, put_at, write_one, written}
 use Rattle.tx_model.specs.Effects.{noted, before_sends}
 use Rattle.tx_model.specs.Descriptors.{is_named, has_side, pipes_of, unnamed_go, endless_go, released, gives_up}
-use Rattle.tx_laws.proofs.KeepsFormParts.{put_here, put_cases, put_there}
+use Rattle.tx_model.specs.StateLaws.{put_here, put_cases, put_there}
 use Rattle.tx_desc.specs.declared.opened.Opened.{Opened}
 use Rattle.tx_desc.specs.Places.{Descriptors}
 use Rattle.tx_desc.specs.Descriptions.{HasDescs, described, description_at, changed_at, with_more, with_fewer}

@@ -4,7 +4,7 @@ use Rattle.std.proofs.Math.ListN.{set}
 use Rattle.tx_model.specs.State.{Process, State, written}
 use Rattle.tx_model.specs.Effects.{Effect, done_with, before_sends}
 use Rattle.tx_model.specs.Descriptors.{listed}
-use Rattle.tx_laws.proofs.KeepsFormParts.{put_cases}
+use Rattle.tx_model.specs.StateLaws.{put_cases}
 use Rattle.tx_desc.specs.declared.opened.Opened.{Opened}
 use Rattle.tx_desc.specs.declared.given.Given.{Given}
 use Rattle.tx_desc.specs.Places.{Descriptors}

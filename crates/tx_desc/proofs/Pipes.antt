@@ -8,7 +8,7 @@ use Rattle.tx_model.specs.Numbers.{failing}
 use Rattle.tx_model.specs.State.{Process, State, ReadSide, WriteSide, SetDesc, SetPipe, put_at, written}
 use Rattle.tx_model.specs.Effects.{Effect, done, done_with, idle, before_sends}
 use Rattle.tx_model.specs.Descriptors.{first_free, lowest_free, is_pipe_in_use, opens_from, opens_at, pipe_effect, new_side, with_two_slots}
-use Rattle.tx_laws.proofs.KeepsFormParts.{put_cases}
+use Rattle.tx_model.specs.StateLaws.{put_cases}
 use Rattle.tx_desc.specs.declared.opened.Opened.{Opened}
 use Rattle.tx_desc.specs.Places.{Descriptors, two_free}
 use Rattle.tx_desc.specs.Descriptions.{HasDescs, description_at, described}

@@ -19,8 +19,8 @@ number-le width (suc n) h = let below = ltb-true n width h in omega arith
 pub running_named : (p : ℕ) (r : ℤ) (me : Process) (S : State) (table new : Descriptors) → RunsWith p me S table → length new ≡ 16 →
     HasNamed (write_one (SetProc p (Some (noted r (with_table new me)))) S) (new ∷ others_of p S)
 running_named p r me S table new w full =
-    named_running p (noted r (with_table new me)) S (λ n x e. (w.form.placed n x e).sizes.descriptors) full
-    (number-le S.width p (w.form.placed p me w.there).number) w.runs
+    named_running p (noted r (with_table new me)) S w.sized full
+    (number-le S.width p w.within) w.runs
 
 pub running_gives : (ds : List ℕ) (p : ℕ) (r : ℤ) (me : Process) (S : State) (table new : Descriptors) (before after : List (Option Opened)) →
     RunsWith p me S table → length new ≡ 16 → HasDescs S before → Agrees (new ∷ others_of p S) after → Sheds ds before after →
@@ -33,9 +33,9 @@ running_gives ds p r me S table new before after w full has a sheds =
 pub any_running : (p : ℕ) (me new : Process) (S : State) (table : Descriptors) → RunsWith p me S table → length new.descriptors ≡ 16 → new.status ≡ None →
     HasNamed (write_one (SetProc p (Some new)) S) (new.descriptors ∷ others_of p S)
 any_running p me new S table w full runs =
-    named_running p new S (λ n x e. (w.form.placed n x e).sizes.descriptors) full (number-le S.width p (w.form.placed p me w.there).number) runs
+    named_running p new S w.sized full (number-le S.width p w.within) runs
 
 pub any_ended : (p : ℕ) (me new : Process) (S : State) (table : Descriptors) → RunsWith p me S table → length new.descriptors ≡ 16 → is_some new.status ≡ true →
     HasNamed (write_one (SetProc p (Some new)) S) (others_of p S)
 any_ended p me new S table w full ended =
-    named_ended p new S (λ n x e. (w.form.placed n x e).sizes.descriptors) full (number-le S.width p (w.form.placed p me w.there).number) ended
+    named_ended p new S w.sized full (number-le S.width p w.within) ended

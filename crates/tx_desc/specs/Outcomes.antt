@@ -1,9 +1,9 @@
 -- What a call on descriptors does, in the words of the definitions, where it answers so and leaves these descriptors and descriptions.
-use Rattle.std.specs.Prelude.{◌≡◌, ℕ, List, [], ◌∷◌, pos, Option, Some, None, Result, Ok, Err}
+use Rattle.std.specs.Prelude.{◌≡◌, ℕ, List, [], ◌∷◌, pos, Option, Some, None, Result, Ok, Err, length, true}
 use Rattle.tx_base.specs.declared.errors.Errno.{Errno}
+use Rattle.tx_base.specs.declared.limits.TheConstants.{DESCRIPTORS}
 use Rattle.tx_model.specs.Numbers.{failing}
-use Rattle.tx_model.specs.State.{Process, State, Write, SetDesc, SetPipe}
-use Rattle.tx_laws.specs.WellFormed.{IsWellFormed}
+use Rattle.tx_model.specs.State.{Process, State, Write, SetDesc, SetPipe, is_between}
 use Rattle.tx_model.specs.Effects.{Effect, done, done_with}
 use Rattle.tx_model.specs.Descriptors.{gives_up, with_two_slots}
 use Rattle.tx_desc.specs.declared.opened.Opened.{Opened}
@@ -12,9 +12,10 @@ use Rattle.tx_desc.specs.declared.given.Renamed.{Renamed}
 use Rattle.tx_desc.specs.Places.{Descriptors}
 use Rattle.tx_desc.specs.Descriptions.{description_at}
 
--- the process runs, in a well-formed state, and has these descriptors
+-- the process, of a number within the width, runs and has these descriptors; every process has sixteen
 pub record RunsWith (p : ℕ) (me : Process) (S : State) (table : Descriptors) : Type 0 where
-  pub form : IsWellFormed S
+  pub sized : (n : ℕ) (q : Process) → S.procs n ≡ Some q → length q.descriptors ≡ DESCRIPTORS
+  pub within : is_between S.width p ≡ true
   pub there : S.procs p ≡ Some me
   pub runs : me.status ≡ None
   pub has_table : me.descriptors ≡ table

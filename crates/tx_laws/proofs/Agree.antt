@@ -49,10 +49,6 @@ agree_sym S R o h = record { width = sym h.width; part = part_sym S R o h.part; 
 pub agree_trans : (S R Q : State) (o : Object) → AgreeAt S R o → AgreeAt R Q o → AgreeAt S Q o
 agree_trans S R Q o h k = record { width = h.width ∙ k.width; part = part_trans S R Q o h.part k.part; family = family_trans S R Q o h.family k.family }
 
--- states of the same width that have the same at each object are the same
-pub state_ext : (S R : State) → S.width ≡ R.width → ((o : Object) → AgreePart S R o) → S ≡ R
-state_ext S R w h = λ i. record { width = w i; procs = λ n. h (Proc n) i; descs = λ n. h (Desc n) i; pipes = λ n. h (Pipe n) i; held = λ n. h (Held n) i }
-
 -- a value put in both maps, seen through a function
 put_same : {A B : Type 0} (g : A → B) (f k : ℕ → A) (p : ℕ) (v : A) (n : ℕ) → g (f n) ≡ g (k n) → g (put_at f p v n) ≡ g (put_at k p v n)
 put_same {A} {B} g f k p v n h = by (n == p)

@@ -6,7 +6,7 @@ use Rattle.tx_model.specs.Effects.{Effect, before_sends, send_answers}
 use Rattle.tx_model.specs.Posts.{answers}
 use Rattle.tx_model.specs.Events.{Event, Note, actor, effect, objects, after, reply_of}
 use Rattle.tx_model.specs.Membership.{Table, is_of, is_member_of, is_live, Progress, Continues, Parks, Forks, Begins, Role, Outside, Within, Commits, Aborts, unmarked, table_after}
-use Rattle.tx_model.specs.History.{Starters, nobody, just, with_one, less_one, is_other_starter, targets, footprint, objects_reserved}
+use Rattle.tx_model.specs.History.{Starters, nobody, just, with_one, less_one, is_other_starter, targets, event_footprint, objects_reserved}
 use Rattle.tx_model.specs.View.{View, present, meets, in_way, has_two_answers, meets_touched, IsClear, after_if, next_by}
 use Rattle.tx_laws.specs.Sound.{IsSound}
 use Rattle.tx_laws.proofs.Agree.{agree_sym, agree_trans, written_part}
@@ -77,7 +77,7 @@ unfolding in_way
 way_clear V ev t live other h = rw (live, other) at h
 
 -- in a clear event's footprint only the actor's transaction touched anything
-pub clear_foot : (V : View) (ev : Event) → IsSound V → IsClear V ev → (o : Object) (t : ℕ) → has o (footprint V.table ev (present V)) ≡ true → V.touched t o ≡ true → is_member_of V.table t (actor ev) ≡ true
+pub clear_foot : (V : View) (ev : Event) → IsSound V → IsClear V ev → (o : Object) (t : ℕ) → has o (event_footprint V.table ev (present V)) ≡ true → V.touched t o ≡ true → is_member_of V.table t (actor ev) ≡ true
 clear_foot V ev sound clear o t h k = by (is_member_of V.table t (actor ev)) refl
   where
     live : is_live V.table t ≡ true
@@ -85,7 +85,7 @@ clear_foot V ev sound clear o t h k = by (is_member_of V.table t (actor ev)) ref
 
     by : (b : Bool) → is_member_of V.table t (actor ev) ≡ b → b ≡ true
     by true e = refl
-    by false e = absurd (meets_not (footprint V.table ev (present V)) (V.touched t) o h k (or_false_left _ _ (way_clear V ev t live e (clear t live))))
+    by false e = absurd (meets_not (event_footprint V.table ev (present V)) (V.touched t) o h k (or_false_left _ _ (way_clear V ev t live e (clear t live))))
 
 -- the set leaves out no transaction of the actor
 abbrev pub IsQuiet : View → Event → Starters → Type 0
@@ -98,24 +98,24 @@ other_parts false y h = cc
 
 -- an event does the same without transactions that are not its actor's
 module _ (V : View) (ev : Event) (sound : IsSound V) (clear : IsClear V ev) (X : Starters) (quiet : IsQuiet V ev X) where
-  quiet_foot : (o : Object) → has o (footprint V.table ev (present V)) ≡ true → AgreeAt (present V) (V.without X) o
+  quiet_foot : (o : Object) → has o (event_footprint V.table ev (present V)) ≡ true → AgreeAt (present V) (V.without X) o
   quiet_foot o h = sound.coherent nobody X o (λ t k. sym (quiet t (clear_foot V ev sound clear o t h k)))
 
-  quiet_target : (m : Sending) → IsIn m (effect ev (present V)).sends → is_other_starter V.table (actor ev) m.target ≡ false → has (Proc m.target) (footprint V.table ev (present V)) ≡ true
-  unfolding footprint
+  quiet_target : (m : Sending) → IsIn m (effect ev (present V)).sends → is_other_starter V.table (actor ev) m.target ≡ false → has (Proc m.target) (event_footprint V.table ev (present V)) ≡ true
+  unfolding event_footprint
   quiet_target m i e =
       has_right (Proc m.target) (objects ev (present V)) (targets V.table (actor ev) (effect ev (present V)).sends)
       (in_targets V.table (actor ev) (effect ev (present V)).sends m i e)
 
   pub quiet_objects : AgreeOn (objects ev (present V)) (present V) (V.without X)
-  unfolding footprint
+  unfolding event_footprint
   quiet_objects o h = quiet_foot o (has_left o (objects ev (present V)) (targets V.table (actor ev) (effect ev (present V)).sends) h)
 
   pub quiet_effect : effect ev (present V) ≡ effect ev (V.without X)
   quiet_effect = effect_same ev (present V) (V.without X) quiet_objects
 
-  pub quiet_footprint : footprint V.table ev (present V) ≡ footprint V.table ev (V.without X)
-  unfolding footprint
+  pub quiet_footprint : event_footprint V.table ev (present V) ≡ event_footprint V.table ev (V.without X)
+  unfolding event_footprint
   quiet_footprint = ap₂ (λ (os : List Object) (f : Effect). os ++ targets V.table (actor ev) f.sends) (objects_same ev (present V) (V.without X) quiet_objects) quiet_effect
 
   quiet_known : (m : Sending) → IsIn m (effect ev (present V)).sends
@@ -179,11 +179,11 @@ less_same s X Y t h = elim (cases_Bool (t == s)) [ inl e ↦ rw e refl | inr e �
 has_not : (o : Object) (xs ys : List Object) → has o (xs ++ ys) ≡ false → has o xs ≡ false
 has_not o xs ys h = elim (cases_Bool (has o xs)) [ inl e ↦ absurd (both_ways (has o (xs ++ ys)) h (has_left o xs ys e)) | inr e ↦ e ]
 
-pub objects_in : (t : Table) (ev : Event) (S : State) (o : Object) → has o (objects ev S) ≡ true → has o (footprint t ev S) ≡ true
-unfolding footprint
+pub objects_in : (t : Table) (ev : Event) (S : State) (o : Object) → has o (objects ev S) ≡ true → has o (event_footprint t ev S) ≡ true
+unfolding event_footprint
 objects_in t ev S o h = has_left o (objects ev S) (targets t (actor ev) (effect ev S).sends) h
 
-pub actor_foot : (t : Table) (ev : Event) (S : State) → has (Proc (actor ev)) (footprint t ev S) ≡ true
+pub actor_foot : (t : Table) (ev : Event) (S : State) → has (Proc (actor ev)) (event_footprint t ev S) ≡ true
 actor_foot t ev S = objects_in t ev S (Proc (actor ev)) (actor_in ev S)
 
 -- what a first step takes besides its footprint is what its transaction holds
@@ -232,17 +232,17 @@ targets_foot t p ms (x ∷ xs) os h = (h x (inl refl), targets_foot t p ms xs os
 -- a step inside a transaction, on the states with it and without it
 module _ (V : View) (ev : Event) (sound : IsSound V) (clear : IsClear V ev) (s : ℕ) (part : Progress) (p : ℕ) (fits : FitsWithin s part ev p V) where
   abbrev F : List Object
-  F = footprint V.table ev (present V)
+  F = event_footprint V.table ev (present V)
 
   within_quiet : (X : Starters) → X s ≡ false → IsQuiet V ev X
   within_quiet X x t h = subst (λ (u : ℕ). X u ≡ false) (sym (fits.mine t (subst (λ (q : ℕ). is_member_of V.table t q ≡ true) fits.actor_is h))) x
 
   -- the event changes nothing outside its footprint, in any state with the transaction
-  pub within_else : (X : Starters) → X s ≡ false → (o : Object) → has o (footprint V.table ev (present V)) ≡ false → AgreeAt (after ev (V.without X)) (V.without X) o
-  unfolding footprint
+  pub within_else : (X : Starters) → X s ≡ false → (o : Object) → has o (event_footprint V.table ev (present V)) ≡ false → AgreeAt (after ev (V.without X)) (V.without X) o
+  unfolding event_footprint
   within_else X x o h =
       let S : State = V.without X in
-      let os : List Object = footprint V.table ev S in
+      let os : List Object = event_footprint V.table ev S in
       after_else ev S os o
       (effect_fits ev S os (λ q k. has_left q (objects ev S) (targets V.table (actor ev) (effect ev S).sends) k)
       (targets_foot V.table (actor ev) (effect ev S).sends (effect ev S).sends os (λ m i.
@@ -325,7 +325,7 @@ module _ (V : View) (ev : Event) (sound : IsSound V) (clear : IsClear V ev) (s :
       by (Begins defers) f = inr (has_head (Held s) F)
 
   foot_held : (u : ℕ) → has (Held u) F ≡ true → u ≡ s
-  unfolding footprint
+  unfolding event_footprint
   foot_held u h = elim (has_either (Held u) (objects ev (present V)) (targets V.table (actor ev) (effect ev (present V)).sends) h) [
     | inl e ↦ fits.holds (present V) u e
     | inr e ↦ absurd (both_ways (has (Held u) (targets V.table (actor ev) (effect ev (present V)).sends)) (targets_held V.table (actor ev) (effect ev (present V)).sends u) e)

@@ -5,9 +5,10 @@ use Rattle.tx_model.specs.State.{State, Sending, Object, Proc, AgreePart, AgreeA
 use Rattle.tx_model.specs.Effects.{Effect, before_sends, send_answers}
 use Rattle.tx_model.specs.Events.{Event, effect, objects, after, reply_of}
 use Rattle.tx_model.specs.History.{processes_of}
+use Rattle.tx_model.specs.StateLaws.{state_ext}
 use Rattle.tx_laws.specs.Fits.{IsIn}
 use Rattle.tx_laws.specs.Commuting.{named_by, AreApart}
-use Rattle.tx_laws.proofs.Agree.{agree_sym, part_sym, part_trans, state_ext, written_part}
+use Rattle.tx_laws.proofs.Agree.{agree_sym, part_sym, part_trans, written_part}
 use Rattle.tx_laws.proofs.Objects.{has_head, has_tail, has_left, has_right}
 use Rattle.tx_laws.proofs.Local.{reply_same, effect_same, objects_same}
 use Rattle.tx_laws.proofs.Answered.{answers_known}

@@ -3,21 +3,21 @@ use Rattle.std.proofs.Common.{◌≡◌, ◌≢◌, ℕ, suc, ◌+◌, ◌<◌, 
 use Rattle.std.proofs.lemmas.Bool.{ltb-true}
 use Rattle.std.proofs.lemmas.Nat.Bits.{bit_at-zero}
 use Rattle.tx_base.specs.declared.errors.Errno.TheVariants.{NoSuchProcess, TryAgain, InvalidArgument}
-use Rattle.tx_base.specs.declared.signals.Action.{Action}
-use Rattle.tx_base.specs.declared.signals.Action.TheVariants.{Usual, Ignore, Catch}
 use Rattle.tx_base.specs.declared.signals.SigSet.{SigSet}
 use Rattle.tx_base.specs.declared.steps.Refusal.TheVariants.{NotDeliverable, Deferred, FramesFull}
 use Rattle.tx_base.specs.declared.steps.Reply.TheVariants.{Done}
+use Rattle.tx_base.specs.declared.limits.TheConstants.{HELD_SENDS, FRAMES}
 use Rattle.tx_model.specs.Numbers.{failing}
-use Rattle.tx_model.specs.SignalSets.{child_signo, is_realtime, is_in_set, without_one}
+use Rattle.tx_model.specs.SignalSets.{is_realtime, is_in_set, without_one}
 use Rattle.tx_model.specs.State.{Process, State, Queued, Frame, Sending, SetHeld, written}
 use Rattle.tx_model.specs.Effects.{Inside, idle, own_effect, done, done_with}
-use Rattle.tx_model.specs.Processes.{numbered, ending}
+use Rattle.tx_model.specs.Processes.{numbered}
 use Rattle.tx_model.specs.Scripts.{closed_inside}
-use Rattle.tx_model.specs.Sends.{held_limit, sent_by_members, sendable, sent_by, posts_now, holds, hands_out, sends_signal, send_effect}
-use Rattle.tx_model.specs.Deliveries.{first_value, less_first, is_blocked, delivered_value, relieved, action_at, caught, frame_limit, killed_status, takes_action, is_deferred, delivers, delivery_effect}
+use Rattle.tx_model.specs.Sends.{sent_by_members, sendable, sent_by, posts_now, holds, hands_out, sends_signal, send_effect}
+use Rattle.tx_model.specs.Deliveries.{first_value, less_first, is_blocked, delivered_value, relieved, action_at, caught, killed_status, acts_on, is_deferred, delivers, delivery_effect}
+use Rattle.tx_model.specs.Signals.{disposition, Disposition, Ignored, Fatal, Caught}
 use Rattle.tx_laws.specs.WellFormed.{AllSaved, IsFirst}
-use Rattle.tx_laws.proofs.KeepsFormParts.{IsArranged as IsWellFormed}
+use Rattle.tx_laws.proofs.KeepsFormParts.{IsArranged}
 use Rattle.tx_laws.proofs.KeepsFormOwn.{KeepsSizes, sizes_trans, less_of_none}
 use Rattle.tx_laws.proofs.KeepsFormNames.{KeepsForm, idle_form, noted_form, done_form, own_form}
 use Rattle.tx_laws.proofs.KeepsFormEnding.{held_form, ending_form}
@@ -97,7 +97,7 @@ none_delivered signo me pending queued = by (is_blocked signo me) (is_realtime s
     by false true = none_queued signo me.queued queued
     by false false = rw empty refl
 
-module _ (S : State) (p : ℕ) (me : Process) (e : S.procs p ≡ Some me) (runs : me.status ≡ None) (w : IsWellFormed S) where
+module _ (S : State) (p : ℕ) (me : Process) (e : S.procs p ≡ Some me) (runs : me.status ≡ None) (w : IsArranged S) where
   -- a signal is delivered to no process 1
   other_than_first : (signo : ℕ) (value : ℤ) → delivered_value signo me ≡ Some value → p ≢ 1
   other_than_first signo value h z =
@@ -111,22 +111,17 @@ module _ (S : State) (p : ℕ) (me : Process) (e : S.procs p ≡ Some me) (runs 
   relieved_form signo r =
       own_form S p me e w (record { process = relieved signo me; reply = Done r }) (record { parent = refl; descriptors = refl; status = refl }) (relieved_sizes signo me)
 
-  takes_form : (inside : Option Inside) (signo : ℕ) (value : ℤ) (action : Action) → p ≢ 1 → KeepsForm S (takes_action inside p signo value action (relieved signo me) S)
-  takes_form inside signo value Ignore ne = relieved_form signo me.registers.ret
-  takes_form inside signo value Usual ne = by (signo == child_signo)
+  takes_form : (inside : Option Inside) (signo : ℕ) (value : ℤ) (what : Disposition) → p ≢ 1 → KeepsForm S (acts_on inside p signo value what (relieved signo me) S)
+  takes_form inside signo value Ignored ne = relieved_form signo me.registers.ret
+  takes_form inside signo value Fatal ne = ending_form S p (killed_status signo) me (relieved signo me) e runs w ne refl refl inside
+  takes_form inside signo value (Caught point mask) ne = by (nat_lt (length me.frames) FRAMES) refl
     where
-      by : (b : Bool) → KeepsForm S (if b then own_effect p (record { process = relieved signo me; reply = Done me.registers.ret })
-          else ending inside p (killed_status signo) (relieved signo me) S)
-      by true = relieved_form signo me.registers.ret
-      by false = ending_form S p (killed_status signo) me (relieved signo me) e runs w ne refl refl inside
-  takes_form inside signo value (Catch point mask) ne = by (nat_lt (length me.frames) frame_limit) refl
-    where
-      sized : nat_lt (length me.frames) frame_limit ≡ true → KeepsSizes me (caught signo value point mask (relieved signo me))
+      sized : nat_lt (length me.frames) FRAMES ≡ true → KeepsSizes me (caught signo value point mask (relieved signo me))
       sized z =
           sizes_trans me (relieved signo me) (caught signo value point mask (relieved signo me)) (relieved_sizes signo me)
           (caught_sizes signo value point mask (relieved signo me) (ltb-true (length me.frames) 4 z))
 
-      by : (b : Bool) → nat_lt (length me.frames) frame_limit ≡ b
+      by : (b : Bool) → nat_lt (length me.frames) FRAMES ≡ b
           → KeepsForm S (if not b then idle FramesFull else own_effect p (record { process = caught signo value point mask (relieved signo me); reply = Done value }))
       by true z =
           own_form S p me e w (record { process = caught signo value point mask (relieved signo me); reply = Done value })
@@ -137,9 +132,9 @@ module _ (S : State) (p : ℕ) (me : Process) (e : S.procs p ≡ Some me) (runs 
   delivers_form inside signo None k = idle_form S NotDeliverable w
   delivers_form inside signo (Some value) k = by (is_deferred inside signo)
     where
-      by : (b : Bool) → KeepsForm S (if b then idle Deferred else takes_action inside p signo value (action_at signo me) (relieved signo me) S)
+      by : (b : Bool) → KeepsForm S (if b then idle Deferred else acts_on inside p signo value (disposition signo (action_at signo me)) (relieved signo me) S)
       by true = idle_form S Deferred w
-      by false = takes_form inside signo value (action_at signo me) (other_than_first signo value k)
+      by false = takes_form inside signo value (disposition signo (action_at signo me)) (other_than_first signo value k)
 
   pub delivery_form : (inside : Option Inside) (signo : ℕ) → KeepsForm S (delivery_effect inside p signo me S)
   delivery_form inside signo = delivers_form inside signo (delivered_value signo me) refl
@@ -151,7 +146,7 @@ module _ (S : State) (p : ℕ) (me : Process) (e : S.procs p ≡ Some me) (runs 
 
   holds_form : (inside : Inside) (m : Sending) → KeepsForm S (holds p inside me m S)
   unfolding written
-  holds_form inside m = by (m.signo == 0) (nat_lt (sent_by_members (S.held inside.starter)) held_limit)
+  holds_form inside m = by (m.signo == 0) (nat_lt (sent_by_members (S.held inside.starter)) HELD_SENDS)
     where
       by : (b c : Bool) → KeepsForm S (if b then done p closed_inside me
           else (if c then done_with (SetHeld inside.starter (S.held inside.starter ++ m ∷ []) ∷ []) p (pos 0) me else done p (failing TryAgain) me))

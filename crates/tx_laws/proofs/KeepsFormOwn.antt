@@ -2,17 +2,18 @@
 use Rattle.std.proofs.Common.{◌≡◌, ℕ, zero, suc, ◌+◌, ◌-◌, ◌≤◌, Bool, true, false, ◌||◌, List, [], ◌∷◌, length, take, ℤ, pos, Option, Some, None, if◌then◌else◌, nat_lt, ◌==◌, slice_get, bit_and, ◌^◌, refl, sym, ap, ◌∙◌, subst, arith}
 use Rattle.std.proofs.lemmas.List.{length-set}
 use Rattle.tx_base.specs.declared.signals.Action.{Action}
-use Rattle.tx_base.specs.declared.steps.Call.{Call}
-use Rattle.tx_base.specs.declared.steps.Call.TheVariants as call
 use Rattle.tx_base.specs.declared.steps.When.{When}
+use Rattle.tx_base.specs.declared.signals.SigSet.{SigSet}
+use Rattle.tx_base.specs.declared.signals.How.{How}
 use Rattle.tx_model.specs.Numbers.{below}
-use Rattle.tx_model.specs.Memory.{Memory, PageView, is_vacant, has_page, with_page, zero_page, flagged, is_good, is_mapped, is_writable, stored, loaded, put_byte, put_bytes}
+use Rattle.tx_model.specs.Memory.{Memory, PageView, is_vacant, has_page, with_page, zero_page, flagged, is_good, is_mapped, is_writable, stored, loaded, put_byte, put_bytes, address_of}
 use Rattle.tx_model.specs.State.{Process, Frame, Queued}
 use Rattle.tx_model.specs.Effects.{Inside, Own, answers_with, noted}
-use Rattle.tx_model.specs.Scripts.{jumps, does_jump, last_ret, keeps_at, shows, writes_console}
+use Rattle.tx_model.specs.Scripts.{jumps, does_jump, last_ret, keeps_at, shows, writes_console, identifies}
 use Rattle.tx_model.specs.SignalSets.{kill_signo}
-use Rattle.tx_model.specs.Signals.{known, acts, is_bad_action, is_ignored, with_action, kept_action, discarded, queued_others, newest, returns}
-use Rattle.tx_model.specs.Calls.{memory_call, edits, stores, loads, own_call}
+use Rattle.tx_model.specs.Signals.{acts, is_bad_action, is_ignored, with_action, kept_action, discarded, queued_others, newest, returns, masks}
+use Rattle.tx_model.specs.Pages.{edits, stores, loads, map_page, unmap_page, protect_page, store_bytes, load_byte, remembers, Remembered}
+use Rattle.tx_model.specs.Identities.{Identified}
 use Rattle.tx_laws.specs.WellFormed.{AllSaved, HasSizes}
 use Rattle.tx_laws.proofs.KeepsFormParts.{StaysPlaced}
 
@@ -61,16 +62,16 @@ shows_sizes address None me = plain me _ refl refl refl refl refl refl refl
 shows_sizes address (Some n) me =
     if_sizes me (is_good is_mapped me.memory address n) _ _ (plain me _ refl refl refl refl refl refl refl) (plain me _ refl refl refl refl refl refl refl)
 
-console_sizes : (inside : Option Inside) (address n : ℤ) (me : Process) → KeepsSizes me (writes_console inside address n me).process
+pub console_sizes : (inside : Option Inside) (address n : ℤ) (me : Process) → KeepsSizes me (writes_console inside address n me).process
 console_sizes None address n me = shows_sizes address (below 65 n) me
 console_sizes (Some inside) address n me = plain me _ refl refl refl refl refl refl refl
 
-jumps_sizes : (point : ℕ) (when : When) (me : Process) → KeepsSizes me (jumps point when me).process
+pub jumps_sizes : (point : ℕ) (when : When) (me : Process) → KeepsSizes me (jumps point when me).process
 jumps_sizes point when me =
     if_sizes me (nat_lt 65535 point) _ _ (plain me _ refl refl refl refl refl refl refl)
     (if_sizes me (does_jump when (last_ret me)) _ _ (plain me _ refl refl refl refl refl refl refl) (plain me _ refl refl refl refl refl refl refl))
 
-keep_sizes : (slot : Option ℕ) (me : Process) → KeepsSizes me (keeps_at slot me).process
+pub keep_sizes : (slot : Option ℕ) (me : Process) → KeepsSizes me (keeps_at slot me).process
 keep_sizes None me = plain me _ refl refl refl refl refl refl refl
 keep_sizes (Some k) me = plain me _ refl refl refl (length-set me.registers.slots k (last_ret me)) refl refl refl
 
@@ -107,7 +108,7 @@ discarded_sizes signo me =
 action_sizes : (signo : ℕ) (action : Action) (me : Process) → KeepsSizes me (with_action signo action me)
 action_sizes signo action me = plain me _ refl refl refl refl refl refl (length-set me.actions signo (kept_action action))
 
-acts_sizes : (signo : Option ℕ) (action : Action) (me : Process) → KeepsSizes me (acts signo action me).process
+pub acts_sizes : (signo : Option ℕ) (action : Action) (me : Process) → KeepsSizes me (acts signo action me).process
 acts_sizes None action me = answers_sizes _ me
 acts_sizes (Some signo) action me = if_sizes me (signo == kill_signo || is_bad_action action) _ _ (answers_sizes _ me) (by (is_ignored signo action))
   where
@@ -133,7 +134,7 @@ take_fewer zero frames = omega arith
 take_fewer (suc i) [] = omega arith
 take_fewer (suc i) (x ∷ frames) = let less : length (take i frames) ≤ length frames = take_fewer i frames in omega arith
 
-returns_sizes : (x : Option Frame) (me : Process) → newest me.frames ≡ x → KeepsSizes me (returns x me).process
+pub returns_sizes : (x : Option Frame) (me : Process) → newest me.frames ≡ x → KeepsSizes me (returns x me).process
 returns_sizes None me e = answers_sizes _ me
 returns_sizes (Some frame) me e = record {
   pending = λ h. h;
@@ -177,25 +178,31 @@ loads_paged : (memory : Memory) (byte : Option ℕ) → length (loads memory byt
 loads_paged memory None = refl
 loads_paged memory (Some byte) = refl
 
-memory_paged : (memory : Memory) (c : Call) → length (memory_call memory c).memory ≡ length memory
-memory_paged memory (call.Map page) = edits_paged (is_vacant memory (below 16 page)) memory _ (paged memory (below 16 page) (Some zero_page))
-memory_paged memory (call.Unmap page) = edits_paged (has_page memory (below 16 page)) memory _ (paged memory (below 16 page) None)
-memory_paged memory (call.Protect page writable) =
-    edits_paged (has_page memory (below 16 page)) memory _ (paged memory (below 16 page) (flagged writable memory (below 16 page)))
-memory_paged memory (call.Store address bytes) =
-    stores_paged (is_good is_writable memory address (length bytes.items)) memory _ (stored_paged memory (below 1024 address) bytes.items)
-memory_paged memory (call.Load address) = loads_paged memory (loaded memory (below 1024 address))
-memory_paged memory _ = refl
+-- what the groups of these calls keep
+module _ (me : Process) where
+  remembers_sizes : (after : Remembered) → length after.memory ≡ length me.memory → KeepsSizes me (remembers after me).process
+  remembers_sizes after h = plain me _ refl refl refl refl h refl refl
 
-pub own_sizes : (inside : Option Inside) (p : ℕ) (c : Call) (me : Process) → KeepsSizes me (own_call inside p c me).process
-own_sizes inside p (call.Sigaction signo action) me = acts_sizes (known signo) action me
-own_sizes inside p call.Sigreturn me = returns_sizes (newest me.frames) me refl
-own_sizes inside p (call.ConsoleWrite address n) me = console_sizes inside address n me
-own_sizes inside p (call.Jump point when) me = jumps_sizes point when me
-own_sizes inside p (call.Keep slot) me = keep_sizes (below 8 slot) me
-own_sizes inside p (call.Map page) me = plain me _ refl refl refl refl (memory_paged me.memory (call.Map page)) refl refl
-own_sizes inside p (call.Unmap page) me = plain me _ refl refl refl refl (memory_paged me.memory (call.Unmap page)) refl refl
-own_sizes inside p (call.Protect page writable) me = plain me _ refl refl refl refl (memory_paged me.memory (call.Protect page writable)) refl refl
-own_sizes inside p (call.Store address bytes) me = plain me _ refl refl refl refl (memory_paged me.memory (call.Store address bytes)) refl refl
-own_sizes inside p (call.Load address) me = plain me _ refl refl refl refl (memory_paged me.memory (call.Load address)) refl refl
-own_sizes inside p c me = plain me _ refl refl refl refl refl refl refl
+  pub map_sizes : (page : Option ℕ) → KeepsSizes me (remembers (map_page page me.memory) me).process
+  map_sizes page = remembers_sizes (map_page page me.memory) (edits_paged (is_vacant me.memory page) me.memory _ (paged me.memory page (Some zero_page)))
+
+  pub unmap_sizes : (page : Option ℕ) → KeepsSizes me (remembers (unmap_page page me.memory) me).process
+  unmap_sizes page = remembers_sizes (unmap_page page me.memory) (edits_paged (has_page me.memory page) me.memory _ (paged me.memory page None))
+
+  pub protect_sizes : (page : Option ℕ) (writable : Bool) → KeepsSizes me (remembers (protect_page page writable me.memory) me).process
+  protect_sizes page writable =
+      remembers_sizes (protect_page page writable me.memory) (edits_paged (has_page me.memory page) me.memory _ (paged me.memory page (flagged writable me.memory page)))
+
+  pub store_sizes : (address : ℤ) (bytes : List ℕ) → KeepsSizes me (remembers (store_bytes address bytes me.memory) me).process
+  store_sizes address bytes =
+      remembers_sizes (store_bytes address bytes me.memory)
+      (stores_paged (is_good is_writable me.memory address (length bytes)) me.memory _ (stored_paged me.memory (address_of address) bytes))
+
+  pub load_sizes : (address : ℤ) → KeepsSizes me (remembers (load_byte address me.memory) me).process
+  load_sizes address = remembers_sizes (load_byte address me.memory) (loads_paged me.memory (loaded me.memory (address_of address)))
+
+  pub ids_sizes : (after : Identified) → KeepsSizes me (identifies after me).process
+  ids_sizes after = plain me _ refl refl refl refl refl refl refl
+
+  pub mask_sizes : (how : How) (set : SigSet) → KeepsSizes me (masks how set me).process
+  mask_sizes how set = plain me _ refl refl refl refl refl refl refl

@@ -2,10 +2,11 @@
 use Rattle.std.proofs.Common.{◌≡◌, ◌≢◌, ℕ, zero, suc, ◌+◌, ◌<◌, ◌≤◌, ◌⊎◌, Bool, true, false, List, [], ◌∷◌, length, Option, Some, None, is_some, is_none, if◌then◌else◌, ◌==◌, slice_index_or, refl, sym, ap, ap₂, ◌∙◌, subst, inl, inr, eq-eqb, eqb-true, arith}
 use Rattle.std.proofs.lemmas.Bool.{both_ways, ltb-true}
 use Rattle.tx_model.specs.State.{Process, Side, Description, State, SetProc, put_at, write_one, is_number, names_at, side_in, is_between}
-use Rattle.tx_model.specs.Transfers.{pipe_room}
 use Rattle.tx_model.specs.Descriptors.{names_below, is_named_below, is_named, is_side, has_side_below, has_side}
 use Rattle.tx_model.specs.Answer.{is_running}
+use Rattle.tx_model.specs.StateLaws.{put_cases}
 use Rattle.tx_laws.specs.WellFormed.{HasSizes, IsPlaced, IsFirst}
+use Rattle.tx_base.specs.declared.limits.TheConstants.{PIPE_BYTES}
 
 -- a well-formed state, the limits of what its processes have apart
 pub record IsArranged (S : State) : Type 0 where
@@ -13,21 +14,7 @@ pub record IsArranged (S : State) : Type 0 where
   pub placed : (n : ℕ) (q : Process) → S.procs n ≡ Some q → IsPlaced S n q
   pub names : (n f d : ℕ) → names_at d f (S.procs n) ≡ true → is_some (S.descs d) ≡ true
   pub named : (d : ℕ) (x : Description) → S.descs d ≡ Some x → (is_named d S ≡ true) × (d < 64) × (is_some (S.pipes x.pipe) ≡ true)
-  pub pipes : (k : ℕ) (bytes : List ℕ) → S.pipes k ≡ Some bytes → (has_side k S ≡ true) × (k < 32) × (length bytes ≤ pipe_room)
-
--- a value that is put in is there, and nowhere else
-pub put_here : {A : Type 0} (f : ℕ → A) (k : ℕ) (v : A) → put_at f k v k ≡ v
-put_here {A} f k v = rw (eq-eqb k k refl) refl
-
-pub put_cases : {A : Type 0} (f : ℕ → A) (k : ℕ) (v : A) (n : ℕ) → ((n ≡ k) × (put_at f k v n ≡ v)) ⊎ ((n ≢ k) × (put_at f k v n ≡ f n))
-put_cases {A} f k v n = by (n == k) refl
-  where
-    by : (b : Bool) → (n == k) ≡ b → ((n ≡ k) × ((if b then v else f n) ≡ v)) ⊎ ((n ≢ k) × ((if b then v else f n) ≡ f n))
-    by true e = inl (eqb-true n k e, refl)
-    by false e = inr (λ z. both_ways (n == k) e (eq-eqb n k z), refl)
-
-pub put_there : {A : Type 0} (f : ℕ → A) (k : ℕ) (v : A) (n : ℕ) → n ≢ k → put_at f k v n ≡ f n
-put_there {A} f k v n ne = elim (put_cases f k v n) [ inl e ↦ absurd (ne e.0) | inr e ↦ e.1 ]
+  pub pipes : (k : ℕ) (bytes : List ℕ) → S.pipes k ≡ Some bytes → (has_side k S ≡ true) × (k < 32) × (length bytes ≤ PIPE_BYTES)
 
 -- the part of the processes
 pub record IsTabled (S : State) : Type 0 where
@@ -51,7 +38,7 @@ pub record IsEnd (k : ℕ) (S : State) : Type 0 where
 pub record IsLinked (S : State) : Type 0 where
   pub names : (n f d : ℕ) → names_at d f (S.procs n) ≡ true → is_some (S.descs d) ≡ true
   pub named : (d : ℕ) (x : Description) → S.descs d ≡ Some x → IsNamed d S × (d < 64) × (is_some (S.pipes x.pipe) ≡ true)
-  pub pipes : (k : ℕ) (bytes : List ℕ) → S.pipes k ≡ Some bytes → IsEnd k S × (k < 32) × (length bytes ≤ pipe_room)
+  pub pipes : (k : ℕ) (bytes : List ℕ) → S.pipes k ≡ Some bytes → IsEnd k S × (k < 32) × (length bytes ≤ PIPE_BYTES)
 
 either : (a b : Bool) → (if a then true else b) ≡ true → (a ≡ true) ⊎ (b ≡ true)
 either true b h = inl refl

@@ -3,12 +3,13 @@ use Rattle.std.proofs.Common.{◌≡◌, ◌≢◌, ℕ, ◌<◌, ◌≤◌, Boo
 use Rattle.std.proofs.lemmas.List.{length-set, get_or-set_same, get_or-set_other}
 use Rattle.tx_base.specs.declared.errors.Errno.TheVariants.{TooManyDescriptors}
 use Rattle.tx_base.specs.declared.steps.Refusal.TheVariants.{NumberTaken}
+use Rattle.tx_base.specs.declared.limits.TheConstants.{PIPE_BYTES}
 use Rattle.tx_model.specs.Numbers.{failing}
 use Rattle.tx_model.specs.State.{Process, Side, ReadSide, WriteSide, Description, State, SetProc, SetDesc, SetPipe, put_at, write_one, written, is_number, names_at}
 use Rattle.tx_model.specs.Effects.{idle, noted}
 use Rattle.tx_model.specs.Descriptors.{with_descriptor, lowest_free, with_two_slots, is_pipe_in_use, opens_at, opens_from, pipe_effect}
-use Rattle.tx_model.specs.Transfers.{pipe_room}
-use Rattle.tx_laws.proofs.KeepsFormParts.{IsArranged as IsWellFormed, put_here, put_there, put_cases, IsTabled, IsNamed, IsEnd, IsLinked, names_at_of, form_from, tabled_of, linked_of, tabled_edit}
+use Rattle.tx_model.specs.StateLaws.{put_here, put_cases, put_there}
+use Rattle.tx_laws.proofs.KeepsFormParts.{IsArranged, IsTabled, IsNamed, IsEnd, IsLinked, names_at_of, form_from, tabled_of, linked_of, tabled_edit}
 use Rattle.tx_laws.proofs.KeepsFormOwn.{KeepsSizes, stays_from, plain}
 use Rattle.tx_laws.proofs.KeepsFormReleased.{tabled_same}
 use Rattle.tx_laws.proofs.KeepsFormNames.{KeepsForm, idle_form, done_form, new_slot, old_slot, free_place, number_of, own_name}
@@ -28,7 +29,7 @@ still_there {A} f k v x n free h = elim (put_cases f k (Some v) n) [
   | inr z ↦ z.1 ∙ h
 ]
 
-module _ (S : State) (p q r w : ℕ) (me : Process) (e : S.procs p ≡ Some me) (runs : me.status ≡ None) (form : IsWellFormed S) (good : AreGood q r w) where
+module _ (S : State) (p q r w : ℕ) (me : Process) (e : S.procs p ≡ Some me) (runs : me.status ≡ None) (form : IsArranged S) (good : AreGood q r w) where
   -- the process has the two ends at the descriptors f and g
   module _ (read_free : S.descs r ≡ None) (write_free : S.descs w ≡ None) (f g : ℕ)
       (f_free : slice_index_or me.descriptors f None ≡ None) (f_in : f < length me.descriptors)
@@ -159,7 +160,7 @@ module _ (S : State) (p q r w : ℕ) (me : Process) (e : S.procs p ≡ Some me) 
       pipe = h.pipe;
     }
 
-    now_pipes : (k : ℕ) (bytes : List ℕ) → now.pipes k ≡ Some bytes → IsEnd k now × (k < 32) × (length bytes ≤ pipe_room)
+    now_pipes : (k : ℕ) (bytes : List ℕ) → now.pipes k ≡ Some bytes → IsEnd k now × (k < 32) × (length bytes ≤ PIPE_BYTES)
     now_pipes k bytes h = elim (put_cases S.pipes q (Some []) k) [
       | inl z ↦
           let both : Some [] ≡ Some bytes = sym z.1 ∙ h in
@@ -172,7 +173,7 @@ module _ (S : State) (p q r w : ℕ) (me : Process) (e : S.procs p ≡ Some me) 
       | inr z ↦ let b = l.pipes k bytes (sym z.1 ∙ h) in (still_end k b.0, b.1, b.2)
     ]
 
-    opened_form : IsWellFormed now
+    opened_form : IsArranged now
     opened_form = form_from now tabled (record { names = now_names; named = now_named; pipes = now_pipes })
 
   module _ (read_free : S.descs r ≡ None) (write_free : S.descs w ≡ None) where

@@ -2,11 +2,12 @@
 use Rattle.std.proofs.Common.{◌≡◌, ◌≢◌, ℕ, ◌<◌, ◌≤◌, ◌⊎◌, Bool, true, false, List, [], ◌∷◌, ◌++◌, length, Option, Some, None, is_some, if◌then◌else◌, refl, sym, ap, ◌∙◌, subst, inl, inr}
 use Rattle.std.proofs.lemmas.Bool.{both_ways}
 use Rattle.tx_model.specs.State.{Process, Description, State, Write, SetDesc, SetPipe, put_at, write_one, written, names_at, is_between}
-use Rattle.tx_model.specs.Transfers.{pipe_room}
 use Rattle.tx_model.specs.Descriptors.{is_named, has_side, pipe_of, pipes_of, unnamed_go, endless_go, released}
 use Rattle.tx_model.specs.Answer.{is_running}
+use Rattle.tx_model.specs.StateLaws.{put_here, put_cases, put_there}
 use Rattle.tx_laws.specs.WellFormed.{IsPlaced}
-use Rattle.tx_laws.proofs.KeepsFormParts.{IsArranged as IsWellFormed, put_here, put_cases, put_there, same_or_other, IsTabled, IsNamed, IsEnd, IsLinked, name_found, is_named_from, end_found, has_end_from, form_from}
+use Rattle.tx_laws.proofs.KeepsFormParts.{IsArranged, same_or_other, IsTabled, IsNamed, IsEnd, IsLinked, name_found, is_named_from, end_found, has_end_from, form_from}
+use Rattle.tx_base.specs.declared.limits.TheConstants.{PIPE_BYTES}
 
 -- the number is one of the list
 abbrev pub IsAmong : ℕ → List ℕ → Type 0
@@ -148,7 +149,7 @@ tabled_same S T width procs t = record {
 pub record IsLoose (ds : List ℕ) (T : State) : Type 0 where
   pub names : (n f d : ℕ) → names_at d f (T.procs n) ≡ true → is_some (T.descs d) ≡ true
   pub named : (d : ℕ) (x : Description) → T.descs d ≡ Some x → (IsNamed d T ⊎ IsAmong d ds) × (d < 64) × (is_some (T.pipes x.pipe) ≡ true)
-  pub pipes : (k : ℕ) (bytes : List ℕ) → T.pipes k ≡ Some bytes → IsEnd k T × (k < 32) × (length bytes ≤ pipe_room)
+  pub pipes : (k : ℕ) (bytes : List ℕ) → T.pipes k ≡ Some bytes → IsEnd k T × (k < 32) × (length bytes ≤ PIPE_BYTES)
 
 -- the same descriptions and pipes, with names of what is there
 pub loosened : (ds : List ℕ) (S T : State) → T.descs ≡ S.descs → T.pipes ≡ S.pipes → ((n f d : ℕ) → names_at d f (T.procs n) ≡ true → is_some (S.descs d) ≡ true)
@@ -258,16 +259,16 @@ module _ (ds : List ℕ) (T : State) (t : IsTabled T) (l : IsLoose ds T) where
       bytes_now x.pipe ∙ removed_kept (λ k. has_side k fewer) (pipes_of ds T) fewer.pipes x.pipe has ∙ bytes_then x.pipe in
       (named_now d (left_named d x h r.0), r.1, ap (λ (y : Option (List ℕ)). is_some y) same ∙ r.2)
 
-  rest_pipes : (k : ℕ) (bytes : List ℕ) → rest.pipes k ≡ Some bytes → IsEnd k rest × (k < 32) × (length bytes ≤ pipe_room)
+  rest_pipes : (k : ℕ) (bytes : List ℕ) → rest.pipes k ≡ Some bytes → IsEnd k rest × (k < 32) × (length bytes ≤ PIPE_BYTES)
   rest_pipes k bytes h =
       let was : fewer.pipes k ≡ Some bytes = removed_was (λ k. has_side k fewer) (pipes_of ds T) fewer.pipes k bytes (sym (bytes_now k) ∙ h) in
       let r = l.pipes k bytes (sym (bytes_then k) ∙ was) in
       let e = left_end k bytes h r.0 in
       (record { number = e.number; description = e.description; there = left_now e.number ∙ e.there; pipe = e.pipe }, r.1, r.2)
 
-  rest_form : IsWellFormed rest
+  rest_form : IsArranged rest
   rest_form = form_from rest (tabled_same T rest width_stays procs_stay t) (record { names = rest_names; named = rest_named; pipes = rest_pipes })
 
-  pub released_form : IsWellFormed (written (released ds T) T)
+  pub released_form : IsArranged (written (released ds T) T)
   released_form =
-      subst (λ (R : State). IsWellFormed R) (sym (written_append (unnamed_go ds T) (endless_go (pipes_of ds T) fewer) T)) rest_form
+      subst (λ (R : State). IsArranged R) (sym (written_append (unnamed_go ds T) (endless_go (pipes_of ds T) fewer) T)) rest_form

@@ -3,13 +3,15 @@ use Rattle.std.proofs.Common.{◌≡◌, ℕ, zero, suc, ◌+◌, ◌-◌, ◌<�
 use Rattle.std.proofs.lemmas.Bool.{ltb-false}
 use Rattle.tx_base.specs.declared.errors.Errno.TheVariants.{TryAgain, BadAddress, InvalidArgument, BrokenPipe}
 use Rattle.tx_base.specs.declared.steps.Refusal.TheVariants.{Wait}
+use Rattle.tx_base.specs.declared.limits.TheConstants.{PIPE_BYTES}
 use Rattle.tx_model.specs.Numbers.{below, failing}
 use Rattle.tx_model.specs.Memory.{Memory, is_good, is_mapped, is_writable, stored, bytes_at, bytes_from}
 use Rattle.tx_model.specs.State.{Process, Side, ReadSide, WriteSide, Description, State, SetProc, SetDesc, SetPipe, put_at, write_one, written, names_at}
 use Rattle.tx_model.specs.Effects.{idle, noted, done, done_with}
 use Rattle.tx_model.specs.Descriptors.{bad_descriptor, flags, nonblock_effect}
-use Rattle.tx_model.specs.Transfers.{pipe_room, has_writer, has_reader, bytes_in, waits, drains, reads, read_by_side, read_described, read_effect, breaks, puts, writes, write_by_side, write_described, write_effect}
-use Rattle.tx_laws.proofs.KeepsFormParts.{IsArranged as IsWellFormed, put_cases, some_of, IsNamed, IsEnd, IsLinked, form_from, tabled_of, linked_of, form_edit}
+use Rattle.tx_model.specs.Transfers.{has_writer, has_reader, bytes_in, waits, drains, reads, read_by_side, read_described, read_effect, breaks, puts, writes, write_by_side, write_described, write_effect}
+use Rattle.tx_model.specs.StateLaws.{put_cases}
+use Rattle.tx_laws.proofs.KeepsFormParts.{IsArranged, some_of, IsNamed, IsEnd, IsLinked, form_from, tabled_of, linked_of, form_edit}
 use Rattle.tx_laws.proofs.KeepsFormOwn.{stays_from, plain, stored_paged}
 use Rattle.tx_laws.proofs.KeepsFormReleased.{tabled_same}
 use Rattle.tx_laws.proofs.KeepsFormNames.{KeepsForm, idle_form, noted_form, done_form}
@@ -26,7 +28,7 @@ pub still_some : {A : Type 0} (f : ℕ → Option A) (k : ℕ) (v : A) (n : ℕ)
 still_some {A} f k v n h = elim (put_cases f k (Some v) n) [ inl z ↦ ap (λ (x : Option A). is_some x) z.1 | inr z ↦ ap (λ (x : Option A). is_some x) z.1 ∙ h ]
 
 -- a description is replaced by one of the same pipe
-module _ (T : State) (d : ℕ) (x y : Description) (e : T.descs d ≡ Some x) (same : y.pipe ≡ x.pipe) (w : IsWellFormed T) where
+module _ (T : State) (d : ℕ) (x y : Description) (e : T.descs d ≡ Some x) (same : y.pipe ≡ x.pipe) (w : IsArranged T) where
   abbrev described : State
   described = write_one (SetDesc d (Some y)) T
 
@@ -56,7 +58,7 @@ module _ (T : State) (d : ℕ) (x y : Description) (e : T.descs d ≡ Some x) (s
     | inr a ↦ record { number = h.number; description = h.description; there = a.1 ∙ h.there; pipe = h.pipe }
   ]
 
-  pub desc_edit : IsWellFormed (write_one (SetDesc d (Some y)) T)
+  pub desc_edit : IsArranged (write_one (SetDesc d (Some y)) T)
   desc_edit = form_from described (tabled_same T described refl refl (tabled_of T w)) (record {
     names = λ n f c h. still_some T.descs d y c (l.names n f c h);
     named = desc_named;
@@ -64,14 +66,14 @@ module _ (T : State) (d : ℕ) (x y : Description) (e : T.descs d ≡ Some x) (s
   })
 
 -- the bytes of a pipe are replaced
-module _ (T : State) (k : ℕ) (old new : List ℕ) (e : T.pipes k ≡ Some old) (room : length new ≤ pipe_room) (w : IsWellFormed T) where
+module _ (T : State) (k : ℕ) (old new : List ℕ) (e : T.pipes k ≡ Some old) (room : length new ≤ PIPE_BYTES) (w : IsArranged T) where
   abbrev filled : State
   filled = write_one (SetPipe k (Some new)) T
 
   links : IsLinked T
   links = linked_of T w
 
-  bytes_pipes : (j : ℕ) (bytes : List ℕ) → filled.pipes j ≡ Some bytes → IsEnd j filled × (j < 32) × (length bytes ≤ pipe_room)
+  bytes_pipes : (j : ℕ) (bytes : List ℕ) → filled.pipes j ≡ Some bytes → IsEnd j filled × (j < 32) × (length bytes ≤ PIPE_BYTES)
   bytes_pipes j bytes h = elim (put_cases T.pipes k (Some new) j) [
     | inl a ↦
         let r = links.pipes k old e in
@@ -84,7 +86,7 @@ module _ (T : State) (k : ℕ) (old new : List ℕ) (e : T.pipes k ≡ Some old)
     | inr a ↦ let r = links.pipes j bytes (sym a.1 ∙ h) in (end_as j T filled refl r.0, r.1, r.2)
   ]
 
-  pub bytes_edit : IsWellFormed (write_one (SetPipe k (Some new)) T)
+  pub bytes_edit : IsArranged (write_one (SetPipe k (Some new)) T)
   bytes_edit = form_from filled (tabled_same T filled refl refl (tabled_of T w)) (record {
     names = links.names;
     named = λ d x h. let r = links.named d x h in (named_as d T filled refl r.0, r.1, still_some T.pipes k new x.pipe r.2);
@@ -100,7 +102,7 @@ taken_fewer : (memory : Memory) (address : Option ℕ) (n : ℕ) → length (byt
 taken_fewer memory None n = omega arith
 taken_fewer memory (Some address) n = let same : length (bytes_from memory address n) ≡ n = from_fewer memory address n in omega arith
 
-module _ (S : State) (p : ℕ) (me : Process) (e : S.procs p ≡ Some me) (w : IsWellFormed S) where
+module _ (S : State) (p : ℕ) (me : Process) (e : S.procs p ≡ Some me) (w : IsArranged S) where
   bad_form : KeepsForm S (bad_descriptor p me)
   bad_form = done_form S p me e w _
 
@@ -159,7 +161,7 @@ module _ (S : State) (p : ℕ) (me : Process) (e : S.procs p ≡ Some me) (w : I
 
   read_described_form : (x : Option Description) (address n : ℤ) → KeepsForm S (read_described p x address n me S)
   read_described_form None address n = bad_form
-  read_described_form (Some x) address n = side_reads_form x address x.side (below (pipe_room + 1) n)
+  read_described_form (Some x) address n = side_reads_form x address x.side (below (PIPE_BYTES + 1) n)
 
   pub read_form : (v : Option ℕ) (address n : ℤ) → KeepsForm S (read_effect p v address n me S)
   read_form None address n = bad_form
@@ -173,9 +175,9 @@ module _ (S : State) (p : ℕ) (me : Process) (e : S.procs p ≡ Some me) (w : I
   module _ (x : Description) (address : ℤ) (there : is_some (S.pipes x.pipe) ≡ true) where
     puts_form : (n : ℕ) (bytes : List ℕ) → S.pipes x.pipe ≡ Some bytes → KeepsForm S (puts p x address n me bytes)
     unfolding written
-    puts_form n bytes k = by (nat_lt pipe_room (length bytes + n)) refl
+    puts_form n bytes k = by (nat_lt PIPE_BYTES (length bytes + n)) refl
       where
-        by : (b : Bool) → nat_lt pipe_room (length bytes + n) ≡ b
+        by : (b : Bool) → nat_lt PIPE_BYTES (length bytes + n) ≡ b
             → KeepsForm S (if b then waits p x me else done_with (SetPipe x.pipe (Some (bytes ++ bytes_at me.memory (below 1024 address) n)) ∷ []) p (pos n) me)
         by true z = waits_form x
         by false z =
@@ -209,7 +211,7 @@ module _ (S : State) (p : ℕ) (me : Process) (e : S.procs p ≡ Some me) (w : I
 
   write_described_form : (d : ℕ) (x : Option Description) (address n : ℤ) → S.descs d ≡ x → KeepsForm S (write_described p x address n me S)
   write_described_form d None address n k = bad_form
-  write_described_form d (Some x) address n k = side_writes_form x address (w.named d x k).2 x.side (below (pipe_room + 1) n)
+  write_described_form d (Some x) address n k = side_writes_form x address (w.named d x k).2 x.side (below (PIPE_BYTES + 1) n)
 
   pub write_form : (v : Option ℕ) (address n : ℤ) → KeepsForm S (write_effect p v address n me S)
   write_form None address n = bad_form

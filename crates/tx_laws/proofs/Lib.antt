@@ -23,9 +23,6 @@ pub mod StepView
 pub mod Commutes
 pub mod Doomed
 pub mod KeepsFormParts
-pub mod WithinSets
-pub mod WithinOwn
-pub mod PlainWrites
 pub mod KeepsFormOwn
 pub mod KeepsFormReleased
 pub mod KeepsFormNames
@@ -33,7 +30,11 @@ pub mod KeepsFormTransfers
 pub mod KeepsFormPipe
 pub mod KeepsFormProcesses
 pub mod KeepsFormEnding
-pub mod WithinEvents
 pub mod KeepsFormDeliveries
 pub mod KeepsFormEvents
+pub mod WithinSets
+pub mod WithinOwn
+pub mod PlainWrites
+pub mod PlainCalls
+pub mod WithinEvents
 pub mod FormHistory

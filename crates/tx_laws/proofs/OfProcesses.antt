@@ -8,7 +8,7 @@ use Rattle.tx_model.specs.State.{Process, State, Sending, Object, Proc, Desc, He
 use Rattle.tx_model.specs.Effects.{Inside, Replies, noted, done}
 use Rattle.tx_laws.specs.Fits.{IsIn}
 use Rattle.tx_model.specs.Descriptors.{open_in, pipes_of, released, desc_objects, pipe_list, desc_pipe_objects}
-use Rattle.tx_model.specs.Processes.{child_of, forks, fork_effect, fork_objects, ended, children_below, children_of, with_parent, orphaned, told_to, tells, tells_later, ending, procs_of, held_objects, ending_objects, exit_status, exit_effect, exit_objects, numbered, with_status, waits_by, waits_for, waits_at, waitpid_effect, numbered_objects, waitpid_objects}
+use Rattle.tx_model.specs.Processes.{child_of, forks, fork_effect, fork_objects, ended, children_below, children_of, with_parent, orphaned, told_to, NotTold, AtOnce, AtCommit, telling, told_at_once, told_at_commit, ending, procs_of, held_objects, ending_objects, exit_status, exit_effect, exit_objects, numbered, with_status, waits_by, waits_for, waits_at, waitpid_effect, numbered_objects, waitpid_objects}
 use Rattle.tx_laws.proofs.Objects.{WriteFits, WritesFit, Covers, has_head, has_tail, writes_append}
 use Rattle.tx_laws.proofs.Owed.{IsLocal}
 use Rattle.tx_laws.proofs.InPlace.{StaysIn, in_place, kept_fits, done_fits, done_local}
@@ -158,25 +158,38 @@ orphans_fit p S all h c = by (p == 1) c
     by false k = orphans_below_fit p (S.width + 1) S all h k
 
 -- what is told to the parent
-later_same : (inside : Option Inside) (parent : ℕ) (S R : State) → AgreeOn (held_objects inside) S R → tells_later inside parent S ≡ tells_later inside parent R
-later_same None parent S R a = refl
-later_same (Some inside) parent S R a =
-    ap (λ (ms : List Sending). if parent == 1 then [] else (if inside.members parent then [] else SetHeld inside.starter (ms ++ told_to parent ∷ []) ∷ []))
-    (a (Held inside.starter) (has_head (Held inside.starter) [])).part
+later_same : (inside : Option Inside) (parent : ℕ) (S R : State) → AgreeOn (held_objects inside) S R
+    → told_at_commit (telling inside parent) parent S ≡ told_at_commit (telling inside parent) parent R
+later_same None parent S R a = by (parent == 1)
+  where
+    by : (b : Bool) → told_at_commit (if b then NotTold else AtOnce) parent S ≡ told_at_commit (if b then NotTold else AtOnce) parent R
+    by true = refl
+    by false = refl
+later_same (Some inside) parent S R a = by (parent == 1) (inside.members parent)
+  where
+    by : (b d : Bool) → told_at_commit (if b then NotTold else (if d then AtOnce else AtCommit inside.starter)) parent S
+        ≡ told_at_commit (if b then NotTold else (if d then AtOnce else AtCommit inside.starter)) parent R
+    by true d = refl
+    by false true = refl
+    by false false = ap (λ (ms : List Sending). SetHeld inside.starter (ms ++ told_to parent ∷ []) ∷ []) (a (Held inside.starter) (has_head (Held inside.starter) [])).part
 
-later_fits : (inside : Option Inside) (parent : ℕ) (S : State) (all : List Object) → Covers all (held_objects inside) → WritesFit S all (tells_later inside parent S)
-later_fits None parent S all c = tt
+later_fits : (inside : Option Inside) (parent : ℕ) (S : State) (all : List Object) → Covers all (held_objects inside) → WritesFit S all (told_at_commit (telling inside parent) parent S)
+later_fits None parent S all c = by (parent == 1)
+  where
+    by : (b : Bool) → WritesFit S all (told_at_commit (if b then NotTold else AtOnce) parent S)
+    by true = tt
+    by false = tt
 later_fits (Some inside) parent S all c = by (parent == 1) (inside.members parent)
   where
-    by : (b d : Bool) → WritesFit S all (if b then [] else (if d then [] else SetHeld inside.starter (S.held inside.starter ++ told_to parent ∷ []) ∷ []))
+    by : (b d : Bool) → WritesFit S all (told_at_commit (if b then NotTold else (if d then AtOnce else AtCommit inside.starter)) parent S)
     by true d = tt
     by false true = tt
     by false false = (covers_head all (Held inside.starter) [] c, tt)
 
-tells_members : (i : Inside) (parent : ℕ) (m : Sending) → IsIn m (tells (Some i) parent) → i.members m.target ≡ true
+tells_members : (i : Inside) (parent : ℕ) (m : Sending) → IsIn m (told_at_once (telling (Some i) parent) parent) → i.members m.target ≡ true
 tells_members i parent m h = by (parent == 1) (i.members parent) refl h
   where
-    by : (b d : Bool) → i.members parent ≡ d → IsIn m (if b then [] else (if d then told_to parent ∷ [] else [])) → i.members m.target ≡ true
+    by : (b d : Bool) → i.members parent ≡ d → IsIn m (told_at_once (if b then NotTold else (if d then AtOnce else AtCommit i.starter)) parent) → i.members m.target ≡ true
     by true d e k = absurd k
     by false true e (inl k) = subst (λ (x : Sending). i.members x.target ≡ true) (sym k) e
     by false true e (inr k) = absurd k
@@ -194,7 +207,7 @@ module _ (inside : Option Inside) (p status : ℕ) (me now : Process) where
   unfolding ends children
   ending_same S R a = λ i. record {
     writes = SetProc p (Some (ended status now)) ∷ orphans i ++ released_after (open_in now.descriptors) p (Some (ended status now)) S R in_ends i ++ later_same inside now.parent S R in_held i;
-    sends = tells inside now.parent;
+    sends = told_at_once (telling inside now.parent) now.parent;
     conclusion = Replies Ended;
   }
     where
@@ -229,7 +242,7 @@ module _ (inside : Option Inside) (p status : ℕ) (me now : Process) where
   ending_fits parent descriptors S all e c = (
     (
       goes,
-      writes_append S all (orphaned (children_of p S) S ++ released ds T) (tells_later inside now.parent S)
+      writes_append S all (orphaned (children_of p S) S ++ released ds T) (told_at_commit (telling inside now.parent) now.parent S)
           (writes_append S all (orphaned (children_of p S) S) (released ds T) (orphans_fit p S all mine in_children) (released_fits ds S T all refl in_ends))
           (later_fits inside now.parent S all (covers_right all (ends S ++ children S) (held_objects inside) others)),
     ),
@@ -279,7 +292,7 @@ module _ (inside : Option Inside) (p status : ℕ) (me now : Process) where
     same = ending_same;
     foot = ending_foot;
     fits = ending_fits parent descriptors;
-    sends = λ S i e k m h. tells_members i now.parent m (subst (λ (x : Option Inside). IsIn m (tells x now.parent)) e h);
+    sends = λ S i e k m h. tells_members i now.parent m (subst (λ (x : Option Inside). IsIn m (told_at_once (telling x now.parent) now.parent)) e h);
     holds = ending_held;
   }
 

@@ -1,13 +1,14 @@
 -- What sends owe.
 use Rattle.std.proofs.Common.{◌≡◌, ℕ, Bool, true, false, List, [], ◌∷◌, ◌++◌, ℤ, pos, Option, Some, None, if◌then◌else◌, nat_lt, ◌==◌, refl, sym, ap, ◌∙◌, subst, inl, inr}
 use Rattle.tx_base.specs.declared.errors.Errno.TheVariants.{NoSuchProcess, TryAgain, InvalidArgument}
+use Rattle.tx_base.specs.declared.limits.TheConstants.{HELD_SENDS}
 use Rattle.tx_model.specs.Numbers.{failing}
 use Rattle.tx_model.specs.State.{Process, State, Sending, Object, Proc, Held, SetHeld, AgreeOn, has}
 use Rattle.tx_model.specs.Effects.{Inside, noted, done, done_with}
 use Rattle.tx_laws.specs.Fits.{IsIn}
 use Rattle.tx_model.specs.Scripts.{closed_inside}
 use Rattle.tx_model.specs.Processes.{numbered, held_objects}
-use Rattle.tx_model.specs.Sends.{held_limit, sent_by_members, sendable, sent_by, posts_now, holds, hands_out, sends_signal, send_effect}
+use Rattle.tx_model.specs.Sends.{sent_by_members, sendable, sent_by, posts_now, holds, hands_out, sends_signal, send_effect}
 use Rattle.tx_laws.proofs.Objects.{Covers, has_head, has_tail}
 use Rattle.tx_laws.proofs.Owed.{IsLocal}
 use Rattle.tx_laws.proofs.InPlace.{StaysIn, in_place, kept_fits, done_fits}
@@ -18,7 +19,7 @@ module _ (p : ℕ) (me : Process) (S : State) (all : List Object) (e : S.procs p
   now_keeps m = (tt, h)
 
   holds_keeps : (inside : Inside) (m : Sending) → has (Held inside.starter) all ≡ true → StaysIn S all (holds p inside me m S)
-  holds_keeps inside m k = by (m.signo == 0) (nat_lt (sent_by_members (S.held inside.starter)) held_limit)
+  holds_keeps inside m k = by (m.signo == 0) (nat_lt (sent_by_members (S.held inside.starter)) HELD_SENDS)
     where
       by : (b c : Bool) → StaysIn S all (if b then done p closed_inside me
           else (if c then done_with (SetHeld inside.starter (S.held inside.starter ++ m ∷ []) ∷ []) p (pos 0) me else done p (failing TryAgain) me))
@@ -42,7 +43,7 @@ module _ (p : ℕ) (me : Process) (S : State) (all : List Object) (e : S.procs p
 -- what is posted at once inside goes to members
 module _ (p : ℕ) (me : Process) (S : State) (i : Inside) (m : Sending) where
   holds_sends : (n : Sending) → IsIn m (holds p i me n S).sends → ⊥
-  holds_sends n h = by (n.signo == 0) (nat_lt (sent_by_members (S.held i.starter)) held_limit) h
+  holds_sends n h = by (n.signo == 0) (nat_lt (sent_by_members (S.held i.starter)) HELD_SENDS) h
     where
       by : (b c : Bool) → IsIn m (if b then done p closed_inside me
           else (if c then done_with (SetHeld i.starter (S.held i.starter ++ n ∷ []) ∷ []) p (pos 0) me else done p (failing TryAgain) me)).sends → ⊥
@@ -70,7 +71,7 @@ module _ (p : ℕ) (me : Process) (S : State) (i : Inside) (m : Sending) where
 holds_same : (p : ℕ) (inside : Inside) (me : Process) (m : Sending) (S R : State) → S.held inside.starter ≡ R.held inside.starter → holds p inside me m S ≡ holds p inside me m R
 holds_same p inside me m S R h = ap (λ (ms : List Sending).
     if m.signo == 0 then done p closed_inside me
-    else (if nat_lt (sent_by_members ms) held_limit then done_with (SetHeld inside.starter (ms ++ m ∷ []) ∷ []) p (pos 0) me else done p (failing TryAgain) me)) h
+    else (if nat_lt (sent_by_members ms) HELD_SENDS then done_with (SetHeld inside.starter (ms ++ m ∷ []) ∷ []) p (pos 0) me else done p (failing TryAgain) me)) h
 
 hands_same : (p : ℕ) (inside : Option Inside) (me : Process) (m : Sending) (S R : State) → AgreeOn (held_objects inside) S R → hands_out p inside me m S ≡ hands_out p inside me m R
 hands_same p None me m S R a = refl

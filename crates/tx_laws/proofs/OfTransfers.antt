@@ -3,13 +3,14 @@ use Rattle.std.proofs.Common.{◌≡◌, ℕ, zero, suc, ◌+◌, Bool, true, fa
 use Rattle.std.proofs.lemmas.Bool.{both_ways}
 use Rattle.tx_base.specs.declared.errors.Errno.TheVariants.{TryAgain, BadAddress, InvalidArgument, BrokenPipe}
 use Rattle.tx_base.specs.declared.steps.Refusal.TheVariants.{Wait}
+use Rattle.tx_base.specs.declared.limits.TheConstants.{PIPE_BYTES}
 use Rattle.tx_model.specs.Numbers.{below, failing}
 use Rattle.tx_model.specs.Memory.{is_good, is_mapped, is_writable, stored, bytes_at}
 use Rattle.tx_model.specs.State.{Process, Side, ReadSide, WriteSide, Description, State, Sending, Object, Proc, Desc, Pipe, Held, SetPipe, AgreeOn, has}
 use Rattle.tx_model.specs.Effects.{Inside, Effect, idle, noted, done, done_with}
 use Rattle.tx_laws.specs.Fits.{IsIn}
 use Rattle.tx_model.specs.Descriptors.{listed, pipes_of, pipe_list, desc_pipe_objects}
-use Rattle.tx_model.specs.Transfers.{pipe_room, is_read_side, is_write_side, has_writer, has_reader, bytes_in, waits, drains, reads, read_by_side, read_described, read_effect, breaks, puts, writes, write_by_side, write_described, write_effect}
+use Rattle.tx_model.specs.Transfers.{is_read_side, is_write_side, has_writer, has_reader, bytes_in, waits, drains, reads, read_by_side, read_described, read_effect, breaks, puts, writes, write_by_side, write_described, write_effect}
 use Rattle.tx_laws.proofs.Objects.{Covers, has_head, has_tail}
 use Rattle.tx_laws.proofs.Owed.{IsLocal}
 use Rattle.tx_laws.proofs.Released.{has_end_below_same, agree_rest, covers_rest, covers_head, ends_held, ends_same}
@@ -92,7 +93,7 @@ module _ (p : ℕ) (me : Process) (address n : ℤ) where
   read_from d None S R e a = refl
   read_from d (Some x) S R e a =
       let k = a (Pipe x.pipe) (pipe_in d x S e) in
-      side_reads_same p me x address x.side (below (pipe_room + 1) n) S R (has_end_below_same is_write_side x.pipe 64 S R k.family) k.part
+      side_reads_same p me x address x.side (below (PIPE_BYTES + 1) n) S R (has_end_below_same is_write_side x.pipe 64 S R k.family) k.part
 
   read_same : (d : Option ℕ) (S R : State) → AgreeOn (desc_pipe_objects (listed d) S) S R → read_effect p d address n me S ≡ read_effect p d address n me R
   read_same None S R a = refl
@@ -101,7 +102,7 @@ module _ (p : ℕ) (me : Process) (address n : ℤ) where
   described_read_fits : (d : ℕ) (x : Option Description) (S : State) (all : List Object) → S.descs d ≡ x → S.procs p ≡ Some me → has (Proc p) all ≡ true
       → Covers all (desc_pipe_objects (d ∷ []) S) → StaysIn S all (read_described p x address n me S)
   described_read_fits d None S all k e h c = bad_fits p me S all e h
-  described_read_fits d (Some x) S all k e h c = side_reads_fits p me x address S all e h (c (Pipe x.pipe) (pipe_in d x S k)) x.side (below (pipe_room + 1) n)
+  described_read_fits d (Some x) S all k e h c = side_reads_fits p me x address S all e h (c (Pipe x.pipe) (pipe_in d x S k)) x.side (below (PIPE_BYTES + 1) n)
 
   read_fits : (d : Option ℕ) (S : State) (all : List Object) → S.procs p ≡ Some me → has (Proc p) all ≡ true → Covers all (desc_pipe_objects (listed d) S) → StaysIn S all (read_effect p d address n me S)
   read_fits None S all e h c = bad_fits p me S all e h
@@ -109,7 +110,7 @@ module _ (p : ℕ) (me : Process) (address n : ℤ) where
 
   described_read_sends : (x : Option Description) (S : State) (m : Sending) → IsIn m (read_described p x address n me S).sends → m.target ≡ p
   described_read_sends None S m i = absurd i
-  described_read_sends (Some x) S m i = side_reads_sends p me x address x.side (below (pipe_room + 1) n) S m i
+  described_read_sends (Some x) S m i = side_reads_sends p me x address x.side (below (PIPE_BYTES + 1) n) S m i
 
   read_sends : (d : Option ℕ) (S : State) (m : Sending) → IsIn m (read_effect p d address n me S).sends → m.target ≡ p
   read_sends None S m i = absurd i
@@ -161,7 +162,7 @@ module _ (p : ℕ) (me : Process) (x : Description) (address : ℤ) where
     room_fits n bytes false = ((noted_fits p me S all e h (pos n), (k, tt)), tt)
 
     tested_fits : (n : ℕ) (good reader : Bool) (bytes : List ℕ) → StaysIn S all (tested n good reader bytes)
-    tested_fits n true true bytes = room_fits n bytes (nat_lt pipe_room (length bytes + n))
+    tested_fits n true true bytes = room_fits n bytes (nat_lt PIPE_BYTES (length bytes + n))
     tested_fits n true false bytes = ((noted_fits p me S all e h (failing BrokenPipe), tt), tt)
     tested_fits n false reader bytes = done_fits p me S all e h (failing BadAddress)
 
@@ -179,7 +180,7 @@ module _ (p : ℕ) (me : Process) (x : Description) (address : ℤ) where
   room_sends n bytes false m i = absurd i
 
   tested_sends : (n : ℕ) (good reader : Bool) (bytes : List ℕ) (m : Sending) → IsIn m (tested n good reader bytes).sends → m.target ≡ p
-  tested_sends n true true bytes m i = room_sends n bytes (nat_lt pipe_room (length bytes + n)) m i
+  tested_sends n true true bytes m i = room_sends n bytes (nat_lt PIPE_BYTES (length bytes + n)) m i
   tested_sends n true false bytes m i = elim i [ inl e ↦ ap (λ (z : Sending). z.target) e | inr j ↦ absurd j ]
   tested_sends n false reader bytes m i = absurd i
 
@@ -197,7 +198,7 @@ module _ (p : ℕ) (me : Process) (address n : ℤ) where
   write_to d None S R e a = refl
   write_to d (Some x) S R e a =
       let k = a (Pipe x.pipe) (pipe_in d x S e) in
-      side_writes_same p me x address x.side (below (pipe_room + 1) n) S R (has_end_below_same is_read_side x.pipe 64 S R k.family) k.part
+      side_writes_same p me x address x.side (below (PIPE_BYTES + 1) n) S R (has_end_below_same is_read_side x.pipe 64 S R k.family) k.part
 
   write_same : (d : Option ℕ) (S R : State) → AgreeOn (desc_pipe_objects (listed d) S) S R → write_effect p d address n me S ≡ write_effect p d address n me R
   write_same None S R a = refl
@@ -206,7 +207,7 @@ module _ (p : ℕ) (me : Process) (address n : ℤ) where
   described_write_fits : (d : ℕ) (x : Option Description) (S : State) (all : List Object) → S.descs d ≡ x → S.procs p ≡ Some me → has (Proc p) all ≡ true
       → Covers all (desc_pipe_objects (d ∷ []) S) → StaysIn S all (write_described p x address n me S)
   described_write_fits d None S all k e h c = bad_fits p me S all e h
-  described_write_fits d (Some x) S all k e h c = side_writes_fits p me x address S all e h (c (Pipe x.pipe) (pipe_in d x S k)) x.side (below (pipe_room + 1) n)
+  described_write_fits d (Some x) S all k e h c = side_writes_fits p me x address S all e h (c (Pipe x.pipe) (pipe_in d x S k)) x.side (below (PIPE_BYTES + 1) n)
 
   write_fits : (d : Option ℕ) (S : State) (all : List Object) → S.procs p ≡ Some me → has (Proc p) all ≡ true → Covers all (desc_pipe_objects (listed d) S) → StaysIn S all (write_effect p d address n me S)
   write_fits None S all e h c = bad_fits p me S all e h
@@ -214,7 +215,7 @@ module _ (p : ℕ) (me : Process) (address n : ℤ) where
 
   described_write_sends : (x : Option Description) (S : State) (m : Sending) → IsIn m (write_described p x address n me S).sends → m.target ≡ p
   described_write_sends None S m i = absurd i
-  described_write_sends (Some x) S m i = side_writes_sends p me x address x.side (below (pipe_room + 1) n) S m i
+  described_write_sends (Some x) S m i = side_writes_sends p me x address x.side (below (PIPE_BYTES + 1) n) S m i
 
   write_sends : (d : Option ℕ) (S : State) (m : Sending) → IsIn m (write_effect p d address n me S).sends → m.target ≡ p
   write_sends None S m i = absurd i

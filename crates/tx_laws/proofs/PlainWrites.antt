@@ -2,16 +2,17 @@
 use Rattle.std.proofs.Common.{◌≡◌, ◌⊎◌, ℕ, zero, suc, ◌+◌, Bool, true, false, List, [], ◌∷◌, ◌++◌, length, min, take, drop, ℤ, pos, Option, Some, None, if◌then◌else◌, nat_lt, ◌==◌, slice_set, refl, inr}
 use Rattle.std.specs.Prelude.{All}
 use Rattle.std.proofs.lemmas.List.Elements.{All-nil, All-cons}
+use Rattle.tx_base.specs.declared.limits.TheConstants.{PIPE_BYTES}
 use Rattle.tx_base.specs.declared.errors.Errno.TheVariants.{BadAddress, InvalidArgument, BadDescriptor, TooManyDescriptors, BrokenPipe, TryAgain}
 use Rattle.tx_base.specs.declared.steps.Refusal.{Refusal}
 use Rattle.tx_base.specs.declared.steps.Refusal.TheVariants.{NumberTaken, Wait}
 use Rattle.tx_model.specs.Numbers.{below, failing}
-use Rattle.tx_model.specs.Memory.{is_good, is_mapped, is_writable, stored}
+use Rattle.tx_model.specs.Memory.{is_good, is_mapped, is_writable, stored, address_of}
 use Rattle.tx_model.specs.SignalSets.{is_known}
 use Rattle.tx_model.specs.State.{Process, Side, ReadSide, WriteSide, Description, State, Sending, Write, SetProc, SetDesc, SetPipe, SetHeld, write_one, written}
 use Rattle.tx_model.specs.Effects.{Effect, Own, idle, noted, own_effect, done, done_with}
 use Rattle.tx_model.specs.Descriptors.{named, with_descriptor, lowest_free, is_named, has_side, pipes_of, unnamed_go, endless_go, released, gives_up, listed, is_pipe_in_use, with_two_slots, new_side, opens_at, opens_from, pipe_effect, dups_to, dup_effect, renames, dup2_named, dup2_effect, closes, close_effect, flags, nonblock_effect}
-use Rattle.tx_model.specs.Transfers.{pipe_room, has_writer, has_reader, bytes_in, waits, drains, reads, read_by_side, read_described, read_effect, breaks, puts, writes, write_by_side, write_described, write_effect}
+use Rattle.tx_model.specs.Transfers.{has_writer, has_reader, bytes_in, waits, drains, reads, read_by_side, read_described, read_effect, breaks, puts, writes, write_by_side, write_described, write_effect}
 use Rattle.tx_laws.proofs.WithinOwn.{KeepsLimits, noted_limits, slotted, paged_limits, stored_whole}
 
 -- the same process later on: it has the same parent and runs or has ended as before, and is within its limits if it was
@@ -199,12 +200,12 @@ module _ (p : ℕ) (me : Process) where
   drains_plain x address n writer [] = if_plain writer _ _ (waits_plain x) (same_plain (pos 0))
   drains_plain x address n writer (byte ∷ bytes) =
       let m = min n (length (byte ∷ bytes)) in
-      done_with_plain (SetPipe x.pipe (Some (drop m (byte ∷ bytes))) ∷ []) (pos m) (record me { memory = stored me.memory (below 1024 address) (take m (byte ∷ bytes)) })
+      done_with_plain (SetPipe x.pipe (Some (drop m (byte ∷ bytes))) ∷ []) (pos m) (record me { memory = stored me.memory (address_of address) (take m (byte ∷ bytes)) })
       (one_pipe x.pipe _)
       (record {
         parent = refl;
         status = refl;
-        limits = paged_limits me (stored me.memory (below 1024 address) (take m (byte ∷ bytes))) (stored_whole me.memory (below 1024 address) (take m (byte ∷ bytes)));
+        limits = paged_limits me (stored me.memory (address_of address) (take m (byte ∷ bytes))) (stored_whole me.memory (address_of address) (take m (byte ∷ bytes)));
       })
 
   reads_plain : (x : Description) (address : ℤ) (n : Option ℕ) (S : State) → IsPlain p me (reads p x address n me S)
@@ -220,7 +221,7 @@ module _ (p : ℕ) (me : Process) where
 
   read_described_plain : (x : Option Description) (address n : ℤ) (S : State) → IsPlain p me (read_described p x address n me S)
   read_described_plain None address n S = same_plain (failing BadDescriptor)
-  read_described_plain (Some x) address n S = read_by_side_plain x.side x address (below (pipe_room + 1) n) S
+  read_described_plain (Some x) address n S = read_by_side_plain x.side x address (below (PIPE_BYTES + 1) n) S
 
   pub read_plain : (d : Option ℕ) (address n : ℤ) (S : State) → IsPlain p me (read_effect p d address n me S)
   read_plain None address n S = same_plain (failing BadDescriptor)
@@ -234,7 +235,7 @@ module _ (p : ℕ) (me : Process) where
   }
 
   puts_plain : (x : Description) (address : ℤ) (n : ℕ) (bytes : List ℕ) → IsPlain p me (puts p x address n me bytes)
-  puts_plain x address n bytes = if_plain (nat_lt pipe_room (length bytes + n)) _ _ (waits_plain x) (done_with_plain _ (pos n) me (one_pipe x.pipe _) (later_same me))
+  puts_plain x address n bytes = if_plain (nat_lt PIPE_BYTES (length bytes + n)) _ _ (waits_plain x) (done_with_plain _ (pos n) me (one_pipe x.pipe _) (later_same me))
 
   writes_plain : (x : Description) (address : ℤ) (n : Option ℕ) (S : State) → IsPlain p me (writes p x address n me S)
   writes_plain x address None S = same_plain (failing InvalidArgument)
@@ -249,7 +250,7 @@ module _ (p : ℕ) (me : Process) where
 
   write_described_plain : (x : Option Description) (address n : ℤ) (S : State) → IsPlain p me (write_described p x address n me S)
   write_described_plain None address n S = same_plain (failing BadDescriptor)
-  write_described_plain (Some x) address n S = write_by_side_plain x.side x address (below (pipe_room + 1) n) S
+  write_described_plain (Some x) address n S = write_by_side_plain x.side x address (below (PIPE_BYTES + 1) n) S
 
   pub write_plain : (d : Option ℕ) (address n : ℤ) (S : State) → IsPlain p me (write_effect p d address n me S)
   write_plain None address n S = same_plain (failing BadDescriptor)

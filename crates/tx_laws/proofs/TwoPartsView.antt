@@ -6,11 +6,12 @@ use Rattle.tx_model.specs.Posts.{answers}
 use Rattle.tx_model.specs.Effects.{Effect, send_answers, applied}
 use Rattle.tx_model.specs.Events.{Event, Note, note_effect, effect, after}
 use Rattle.tx_model.specs.Membership.{Table, is_member_of, is_live, Progress, Role, Outside, Within, Commits, Aborts, table_after}
-use Rattle.tx_model.specs.History.{Starters, nobody, just, with_one, less_one, footprint, objects_reserved}
+use Rattle.tx_model.specs.History.{Starters, nobody, just, with_one, less_one, event_footprint, objects_reserved}
 use Rattle.tx_model.specs.View.{View, IsClear, after_if, next_by}
+use Rattle.tx_model.specs.StateLaws.{state_ext}
 use Rattle.tx_laws.specs.Sound.{IsSound}
 use Rattle.tx_laws.specs.TwoParts.{TwoParts, in_set, is_owner, pick, parts_without, parts_view, freed, reserved, on_both, parts_next}
-use Rattle.tx_laws.proofs.Agree.{part_refl, part_sym, part_trans, state_ext, applied_part, applied_width}
+use Rattle.tx_laws.proofs.Agree.{part_refl, part_sym, part_trans, applied_part, applied_width}
 use Rattle.tx_laws.specs.Fits.{FitsWithin, Fits, Passes}
 use Rattle.tx_laws.proofs.Coherence.{IsQuiet, quiet_effect, quiet_sent, outside_quiet, commits_quiet, taken_foot, taken_mine, within_else}
 
@@ -150,25 +151,25 @@ aborts_view c r s k p sound live X =
 -- a step inside a transaction
 module _ (c : TwoParts) (ev : Event) (s : ℕ) (part : Progress) (p : ℕ) (sound : IsSound (parts_view c)) (clear : IsClear (parts_view c) ev) (fits : FitsWithin s part ev p (parts_view c)) where
   abbrev G : List Object
-  G = objects_reserved part s (footprint c.table ev c.now)
+  G = objects_reserved part s (event_footprint c.table ev c.now)
 
   abbrev next_parts : TwoParts
-  next_parts = reserved s (objects_reserved part s (footprint c.table ev c.now)) ev (table_after (Within s part) p c.table) c
+  next_parts = reserved s (objects_reserved part s (event_footprint c.table ev c.now)) ev (table_after (Within s part) p c.table) c
 
-  foot_now : footprint c.table ev (parts_without c nobody) ≡ footprint c.table ev c.now
-  foot_now = ap (footprint c.table ev) (parts_nobody c)
+  foot_now : event_footprint c.table ev (parts_without c nobody) ≡ event_footprint c.table ev c.now
+  foot_now = ap (event_footprint c.table ev) (parts_nobody c)
 
   -- of what is taken, the transaction alone owns anything
-  pub own_taken : (o : Object) (t : ℕ) → has o (objects_reserved part s (footprint c.table ev c.now)) ≡ true → c.owner o ≡ Some t → t ≡ s
+  pub own_taken : (o : Object) (t : ℕ) → has o (objects_reserved part s (event_footprint c.table ev c.now)) ≡ true → c.owner o ≡ Some t → t ≡ s
   unfolding parts_view
   own_taken o t h k =
       taken_mine (parts_view c) ev sound clear s part p fits o t (subst (λ (F : List Object). has o (objects_reserved part s F) ≡ true) (sym foot_now) h) (is_owner_self t (c.owner o) k)
 
-  foot_out : (o : Object) → has o G ≡ false → has o (footprint c.table ev (parts_without c nobody)) ≡ false
-  foot_out o h = subst (λ (F : List Object). has o F ≡ false) (sym foot_now) (by (has o (footprint c.table ev c.now)) refl)
+  foot_out : (o : Object) → has o G ≡ false → has o (event_footprint c.table ev (parts_without c nobody)) ≡ false
+  foot_out o h = subst (λ (F : List Object). has o F ≡ false) (sym foot_now) (by (has o (event_footprint c.table ev c.now)) refl)
     where
-      by : (b : Bool) → has o (footprint c.table ev c.now) ≡ b → b ≡ false
-      by true e = absurd (both_ways (has o G) h (taken_foot part s (footprint c.table ev c.now) o e))
+      by : (b : Bool) → has o (event_footprint c.table ev c.now) ≡ b → b ≡ false
+      by true e = absurd (both_ways (has o G) h (taken_foot part s (event_footprint c.table ev c.now) o e))
       by false e = refl
 
   -- nothing changes outside of what is taken
@@ -176,7 +177,7 @@ module _ (c : TwoParts) (ev : Event) (s : ℕ) (part : Progress) (p : ℕ) (soun
   unfolding parts_view
   else_without X x o h = (within_else (parts_view c) ev sound clear s part p fits X x o (foot_out o h)).part
 
-  pub else_now : (o : Object) → has o (objects_reserved part s (footprint c.table ev c.now)) ≡ false → AgreePart (after ev c.now) c.now o
+  pub else_now : (o : Object) → has o (objects_reserved part s (event_footprint c.table ev c.now)) ≡ false → AgreePart (after ev c.now) c.now o
   else_now o h = subst (λ (S : State). AgreePart (after ev S) S o) (parts_nobody c) (else_without nobody refl o h)
 
   quiet_of : (X : Starters) → X s ≡ false → IsQuiet (parts_view c) ev X
@@ -295,7 +296,7 @@ parts_next_view Outside ev p c sound clear fits =
     view_ext (parts_view (parts_next Outside ev p c)) (next_by Outside ev p (parts_view c)) (outside_view c ev p sound clear fits) refl (λ s o. refl)
 parts_next_view (Within s part) ev p c sound clear fits =
     view_ext (parts_view (parts_next (Within s part) ev p c)) (next_by (Within s part) ev p (parts_view c)) (within_view c ev s part p sound clear fits) refl
-    (λ t o. owner_reserved s t (has o (objects_reserved part s (footprint c.table ev c.now))) (c.owner o) (λ h u k. own_taken c ev s part p sound clear fits o u h k)
+    (λ t o. owner_reserved s t (has o (objects_reserved part s (event_footprint c.table ev c.now))) (c.owner o) (λ h u k. own_taken c ev s part p sound clear fits o u h k)
     ∙ ap (λ (F : List Object). if t == s then (if has o (objects_reserved part s F) then true else is_owner t (c.owner o)) else is_owner t (c.owner o)) (sym (foot_now c ev s part p sound clear fits)))
 parts_next_view (Commits s) ev p c sound clear fits =
     view_ext (parts_view (parts_next (Commits s) ev p c)) (next_by (Commits s) ev p (parts_view c)) (commits_view c ev s p sound clear fits) refl (λ t o. owner_freed s t (c.owner o))

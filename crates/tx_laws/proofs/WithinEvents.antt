@@ -1,9 +1,10 @@
 -- Every event leaves what processes have within its limits, and what transactions hold known signals.
-use Rattle.std.proofs.Common.{◌≡◌, ◌≢◌, ◌⊎◌, ℕ, zero, suc, Bool, true, false, ◌||◌, ◌^◌, List, [], ◌∷◌, ◌++◌, length, ℤ, pos, negsuc, Option, Some, None, is_some, if◌then◌else◌, nat_lt, ◌==◌, slice_index_or, slice_set, replicate, refl, sym, ap, ◌∙◌, subst, inl, inr, eq-eqb, arith}
+use Rattle.std.proofs.Common.{◌≡◌, ◌≢◌, ◌⊎◌, ℕ, zero, suc, Bool, true, false, ◌||◌, ◌^◌, List, [], ◌∷◌, ◌++◌, ℤ, pos, negsuc, Option, Some, None, is_some, if◌then◌else◌, nat_lt, ◌==◌, slice_index_or, slice_set, refl, sym, ap, ◌∙◌, subst, inl, inr, eq-eqb, arith}
 use Rattle.std.specs.Prelude.{All}
 use Rattle.std.proofs.lemmas.Bool.{both_ways}
 use Rattle.std.proofs.lemmas.List.Elements.{All-nil, All-cons, All-head, All-tail, All-push, All-append, All-replicate}
 use Rattle.tx_base.specs.Signals.{bits_of}
+use Rattle.tx_base.specs.declared.limits.TheConstants.{HELD_SENDS}
 use Rattle.tx_base.specs.declared.errors.Errno.TheVariants.{NotPermitted, NoChild, NoSuchProcess, TryAgain, InvalidArgument}
 use Rattle.tx_base.specs.declared.signals.Action.{Action}
 use Rattle.tx_base.specs.declared.signals.Action.TheVariants.{Usual, Ignore, Catch}
@@ -15,26 +16,26 @@ use Rattle.tx_base.specs.declared.steps.Step.TheVariants.{Call as Calls, Deliver
 use Rattle.tx_base.specs.declared.steps.Refusal.{Refusal}
 use Rattle.tx_base.specs.declared.steps.Refusal.TheVariants.{NoProcess, NotRunning, NoTransaction, NumberTaken, Wait, NotDeliverable, Deferred, FramesFull}
 use Rattle.tx_base.specs.declared.steps.Reply.TheVariants.{Done}
-use Rattle.tx_model.specs.Numbers.{below, failing}
-use Rattle.tx_model.specs.Memory.{Memory, is_vacant, has_page, zero_page, flagged, is_good, is_writable, loaded, no_memory}
+use Rattle.tx_model.specs.Numbers.{failing}
+use Rattle.tx_model.specs.Memory.{no_memory}
 use Rattle.tx_model.specs.SignalSets.{standard_signals, kill_signo, child_signo, is_one_of, is_realtime, is_known, is_in_set, without_one}
-use Rattle.tx_model.specs.State.{Process, State, Queued, Sending, Write, SetProc, SetDesc, SetPipe, SetHeld, put_at, write_one, written, booted_process, booted, is_between}
+use Rattle.tx_model.specs.State.{Process, State, Queued, Sending, Write, SetProc, SetDesc, SetPipe, SetHeld, put_at, write_one, written, usual_actions, booted_process, booted, is_between}
 use Rattle.tx_model.specs.Posts.{has_room, may_signal, is_quiet, with_queued, with_pending, received, post, posts}
 use Rattle.tx_model.specs.Effects.{Inside, Effect, Conclusion, Replies, AnswersPost, ListsFailed, idle, noted_if, own_effect, done, done_with, first_answer, concluded, send_answers}
 use Rattle.tx_model.specs.Scripts.{closed_inside}
-use Rattle.tx_model.specs.Signals.{known, newest}
-use Rattle.tx_model.specs.Descriptors.{descriptor, named, open_in, released}
-use Rattle.tx_model.specs.Processes.{child_of, forks, ended, children_of, with_parent, orphaned, told_to, tells, tells_later, ending, exit_status, exit_effect, numbered, with_status, waits_by, waits_for, waits_at}
-use Rattle.tx_model.specs.Sends.{held_limit, sent_by_members, sendable, sent_by, posts_now, holds, hands_out, sends_signal, send_effect}
-use Rattle.tx_model.specs.Deliveries.{first_value, less_first, is_blocked, delivered_value, relieved, action_at, caught, is_full, killed_status, takes_action, is_deferred, delivers, delivery_effect}
-use Rattle.tx_model.specs.Calls.{memory_call, edits, stores, loads, remembers, own_call, call_effect, MakesCall, TakesSignal, running_effect, effect_at}
+use Rattle.tx_model.specs.Signals.{known, Disposition, Ignored, Fatal, Caught, disposition}
+use Rattle.tx_model.specs.Descriptors.{open_in, released}
+use Rattle.tx_model.specs.Processes.{child_of, forks, ended, children_of, with_parent, orphaned, told_to, Telling, NotTold, AtOnce, AtCommit, telling, told_at_once, told_at_commit, ending, exit_status, exit_effect, numbered, with_status, waits_by, waits_for, waits_at}
+use Rattle.tx_model.specs.Sends.{sent_by_members, sendable, sent_by, posts_now, holds, hands_out, sends_signal, send_effect}
+use Rattle.tx_model.specs.Deliveries.{first_value, less_first, is_blocked, delivered_value, relieved, action_at, caught, is_full, killed_status, acts_on, is_deferred, delivers, delivery_effect}
+use Rattle.tx_model.specs.Calls.{call_effect, MakesCall, TakesSignal, running_effect, effect_at}
 use Rattle.tx_model.specs.Events.{Event, Do, Note, Commit, step_effect, effect, after}
 use Rattle.tx_laws.specs.WellFormed.{IsWholePage, IsMask, HasFrameLimits, HasActionLimits, HasCatchLimits, IsRealtimeEntry, IsKnownSending, HasIdLimits, HasLimits}
-use Rattle.tx_laws.proofs.OfCalls.{own_keeps}
-use Rattle.tx_laws.proofs.KeepsFormParts.{put_cases}
+use Rattle.tx_model.specs.StateLaws.{put_cases}
 use Rattle.tx_laws.proofs.WithinSets.{in_one_more, in_less, empty_set, empty_mask, caught_mask}
-use Rattle.tx_laws.proofs.WithinOwn.{KeepsLimits, next_limit, noted_limits, slotted, paged_limits, with_page_whole, flagged_whole, stored_whole, set_user_limits, set_effective_user_limits, set_group_limits, set_effective_group_limits, console_limits, jumps_limits, keep_limits, acts_limits, masks_limits, returns_limits}
-use Rattle.tx_laws.proofs.PlainWrites.{IsPlainWrite, ArePlain, IsSendable, IsPlain, idle_plain, own_plain, same_plain, released_plain, pipe_plain, dup_plain, dup2_plain, close_plain, nonblock_plain, read_plain, write_plain}
+use Rattle.tx_laws.proofs.WithinOwn.{KeepsLimits, next_limit, noted_limits, slotted}
+use Rattle.tx_laws.proofs.PlainWrites.{IsPlainWrite, ArePlain, IsSendable, IsPlain, idle_plain, own_plain, same_plain, released_plain}
+use Rattle.tx_laws.proofs.PlainCalls.{IsSpecial, call_plain}
 
 -- the limits of a state: those of its processes, and known signals alone are held
 pub record IsWithin (S : State) : Type 0 where
@@ -119,57 +120,6 @@ fine_two w v h k = (h, (k, tt))
 no_sends : All IsSendable []
 no_sends = All-nil IsSendable
 
--- the calls on memory, and those that concern their own process alone
-edits_whole : (b : Bool) (memory edited : Memory) → (All IsWholePage memory → All IsWholePage edited) → All IsWholePage memory → All IsWholePage (edits b memory edited).memory
-edits_whole true memory edited k h = k h
-edits_whole false memory edited k h = h
-
-stores_whole : (b : Bool) (memory edited : Memory) → (All IsWholePage memory → All IsWholePage edited) → All IsWholePage memory → All IsWholePage (stores b memory edited).memory
-stores_whole true memory edited k h = k h
-stores_whole false memory edited k h = h
-
-loads_whole : (memory : Memory) (byte : Option ℕ) → All IsWholePage memory → All IsWholePage (loads memory byte).memory
-loads_whole memory None h = h
-loads_whole memory (Some byte) h = h
-
-memory_whole : (memory : Memory) (c : Call) → All IsWholePage memory → All IsWholePage (memory_call memory c).memory
-memory_whole memory (call.Map page) h =
-    edits_whole (is_vacant memory (below 16 page)) memory _ (with_page_whole memory (below 16 page) (Some zero_page) refl) h
-memory_whole memory (call.Unmap page) h = edits_whole (has_page memory (below 16 page)) memory _ (with_page_whole memory (below 16 page) None tt) h
-memory_whole memory (call.Protect page writable) h =
-    edits_whole (has_page memory (below 16 page)) memory _
-    (with_page_whole memory (below 16 page) (flagged writable memory (below 16 page)) (flagged_whole writable memory (below 16 page) h)) h
-memory_whole memory (call.Store address bytes) h =
-    stores_whole (is_good is_writable memory address (length bytes.items)) memory _ (stored_whole memory (below 1024 address) bytes.items) h
-memory_whole memory (call.Load address) h = loads_whole memory (loaded memory (below 1024 address)) h
-memory_whole memory _ h = h
-
-remembers_limits : (c : Call) (me : Process) → KeepsLimits me (remembers (memory_call me.memory c) me).process
-remembers_limits c me h =
-    noted_limits (memory_call me.memory c).ret (record me { memory = (memory_call me.memory c).memory })
-    (paged_limits me (memory_call me.memory c).memory (memory_whole me.memory c) h)
-
-own_limits : (inside : Option Inside) (p : ℕ) (c : Call) (me : Process) → KeepsLimits me (own_call inside p c me).process
-own_limits inside p call.Getpid me = noted_limits _ me
-own_limits inside p call.Getppid me = noted_limits _ me
-own_limits inside p (call.Setuid u) me = set_user_limits u me
-own_limits inside p (call.Seteuid u) me = set_effective_user_limits u me
-own_limits inside p (call.Setgid g) me = set_group_limits g me
-own_limits inside p (call.Setegid g) me = set_effective_group_limits g me
-own_limits inside p (call.Sigaction signo action) me = acts_limits (known signo) action me
-own_limits inside p (call.Sigprocmask how set) me = masks_limits how set me
-own_limits inside p call.Sigpending me = noted_limits _ me
-own_limits inside p call.Sigreturn me = returns_limits (newest me.frames) me refl
-own_limits inside p (call.ConsoleWrite address n) me = console_limits inside address n me
-own_limits inside p (call.Jump point when) me = jumps_limits point when me
-own_limits inside p (call.Keep slot) me = keep_limits (below 8 slot) me
-own_limits inside p c me = remembers_limits c me
-
-pub own_call_plain : (inside : Option Inside) (p : ℕ) (c : Call) (me : Process) → IsPlain p me (own_effect p (own_call inside p c me))
-own_call_plain inside p c me =
-    let k = own_keeps inside p c me in
-    own_plain p me (own_call inside p c me) (record { parent = k.parent; status = k.status; limits = own_limits inside p c me })
-
 -- processes
 child_limits : (p : ℕ) (me : Process) → KeepsLimits me (child_of p me)
 child_limits p me h = record {
@@ -185,7 +135,7 @@ child_limits p me h = record {
 }
 
 -- a process with nothing
-bare_limits : (q : Process) → q.registers.point ≡ 0 → q.memory ≡ no_memory → HasIdLimits q.ids → q.mask ≡ 0 → q.actions ≡ replicate 40 Usual → q.pending ≡ 0 → q.queued ≡ []
+bare_limits : (q : Process) → q.registers.point ≡ 0 → q.memory ≡ no_memory → HasIdLimits q.ids → q.mask ≡ 0 → q.actions ≡ usual_actions → q.pending ≡ 0 → q.queued ≡ []
     → q.frames ≡ [] → HasLimits q
 bare_limits q point memory ids mask actions pending queued frames = record {
   point = omega arith;
@@ -266,28 +216,16 @@ module _ (S : State) (p : ℕ) (me : Process) (w : IsWithin S) (l : HasLimits me
   orphaned_fine [] = tt
   orphaned_fine (q ∷ qs) = (adopted_limits 1 (S.procs q) (limits_if S w q (S.procs q) refl), orphaned_fine qs)
 
-  later_fine : (inside : Option Inside) (parent : ℕ) → AreFine (tells_later inside parent S)
+  later_fine : (telling : Telling) (parent : ℕ) → AreFine (told_at_commit telling parent S)
   unfolding AreFine
-  later_fine None parent = tt
-  later_fine (Some inside) parent = by (parent == 1) (inside.members parent)
-    where
-      by : (a b : Bool) → AreFine (if a then [] else (if b then [] else SetHeld inside.starter (S.held inside.starter ++ told_to parent ∷ []) ∷ []))
-      by true b = tt
-      by false true = tt
-      by false false = (All-push IsKnownSending (S.held inside.starter) (told_to parent) (w.held inside.starter) refl, tt)
+  later_fine NotTold parent = tt
+  later_fine AtOnce parent = tt
+  later_fine (AtCommit s) parent = (All-push IsKnownSending (S.held s) (told_to parent) (w.held s) refl, tt)
 
-  tells_fine : (inside : Option Inside) (parent : ℕ) → All IsSendable (tells inside parent)
-  tells_fine None parent = by (parent == 1)
-    where
-      by : (a : Bool) → All IsSendable (if a then [] else told_to parent ∷ [])
-      by true = no_sends
-      by false = All-cons IsSendable (told_to parent) [] (told_known parent) no_sends
-  tells_fine (Some inside) parent = by (parent == 1) (inside.members parent)
-    where
-      by : (a b : Bool) → All IsSendable (if a then [] else (if b then told_to parent ∷ [] else []))
-      by true b = no_sends
-      by false true = All-cons IsSendable (told_to parent) [] (told_known parent) no_sends
-      by false false = no_sends
+  tells_fine : (telling : Telling) (parent : ℕ) → All IsSendable (told_at_once telling parent)
+  tells_fine NotTold parent = no_sends
+  tells_fine AtOnce parent = All-cons IsSendable (told_to parent) [] (told_known parent) no_sends
+  tells_fine (AtCommit s) parent = no_sends
 
   abbrev gone : Process → Process → List Write
   gone now left = released (open_in now.descriptors) (write_one (SetProc p (Some left)) S)
@@ -298,12 +236,12 @@ module _ (S : State) (p : ℕ) (me : Process) (w : IsWithin S) (l : HasLimits me
   ending_fine inside status now k = record {
     writes = (
       ended_limits status now k,
-      fine_append (orphaned (children_of p S) S ++ gone now (ended status now)) (tells_later inside now.parent S)
+      fine_append (orphaned (children_of p S) S ++ gone now (ended status now)) (told_at_commit (telling inside now.parent) now.parent S)
           (fine_append (orphaned (children_of p S) S) (gone now (ended status now)) (orphaned_fine (children_of p S))
           (plain_writes p me l (gone now (ended status now)) (released_plain p me (open_in now.descriptors) (write_one (SetProc p (Some (ended status now))) S))))
-          (later_fine inside now.parent),
+          (later_fine (telling inside now.parent) now.parent),
     );
-    sends = tells_fine inside now.parent;
+    sends = tells_fine (telling inside now.parent) now.parent;
   }
 
   exit_fine : (inside : Option Inside) (v : ℤ) → IsFine (exit_effect inside p v me S)
@@ -319,7 +257,7 @@ module _ (S : State) (p : ℕ) (me : Process) (w : IsWithin S) (l : HasLimits me
   now_fine m k = record { writes = tt; sends = All-cons IsSendable m [] k no_sends }
 
   holds_fine : (inside : Inside) (m : Sending) → IsSendable m → IsFine (holds p inside me m S)
-  holds_fine inside m k = by (m.signo == 0) refl (nat_lt (sent_by_members (S.held inside.starter)) held_limit)
+  holds_fine inside m k = by (m.signo == 0) refl (nat_lt (sent_by_members (S.held inside.starter)) HELD_SENDS)
     where
       loud : (m.signo == 0) ≡ false → IsKnownSending m
       loud h = elim k [ inl e ↦ absurd (both_ways (m.signo == 0) h (eq-eqb m.signo 0 e)) | inr e ↦ e ]
@@ -436,50 +374,53 @@ module _ (S : State) (p : ℕ) (me : Process) (w : IsWithin S) (l : HasLimits me
   relieved_plain : (signo : ℕ) (r : ℤ) → IsPlain p me (own_effect p (record { process = relieved signo me; reply = Done r }))
   relieved_plain signo r = own_plain p me (record { process = relieved signo me; reply = Done r }) (record { parent = refl; status = refl; limits = relieved_limits signo })
 
-  takes_fine : (inside : Option Inside) (signo : ℕ) (value : ℤ) (action : Action) → action_at signo me ≡ action → is_known signo ≡ true
-      → IsFine (takes_action inside p signo value action (relieved signo me) S)
-  takes_fine inside signo value Ignore e right = plainly _ (relieved_plain signo me.registers.ret)
-  takes_fine inside signo value Usual e right = by (signo == child_signo)
+  disposed : (signo : ℕ) (action : Action) (point : ℕ) (mask : SigSet) → disposition signo action ≡ Caught point mask → action ≡ Catch point mask
+  disposed signo Usual point mask e = by (signo == child_signo) e
     where
-      by : (b : Bool) → IsFine (if b then own_effect p (record { process = relieved signo me; reply = Done me.registers.ret })
-          else ending inside p (killed_status signo) (relieved signo me) S)
-      by true = plainly _ (relieved_plain signo me.registers.ret)
-      by false = ending_fine inside (killed_status signo) (relieved signo me) (relieved_limits signo l)
-  takes_fine inside signo value (Catch point mask) e right = by (is_full (relieved signo me))
+      by : (b : Bool) → (if b then Ignored else Fatal) ≡ Caught point mask → Usual ≡ Catch point mask
+      by true k = cc
+      by false k = cc
+  disposed signo Ignore point mask e = cc
+  disposed signo (Catch to blocked) point mask e = cc
+
+  acts_on_fine : (inside : Option Inside) (signo : ℕ) (value : ℤ) (x : Disposition) → disposition signo (action_at signo me) ≡ x → is_known signo ≡ true
+      → IsFine (acts_on inside p signo value x (relieved signo me) S)
+  acts_on_fine inside signo value Ignored e right = plainly _ (relieved_plain signo me.registers.ret)
+  acts_on_fine inside signo value Fatal e right = ending_fine inside (killed_status signo) (relieved signo me) (relieved_limits signo l)
+  acts_on_fine inside signo value (Caught point mask) e right = by (is_full (relieved signo me))
     where
+      catches : action_at signo me ≡ Catch point mask
+      catches = disposed signo (action_at signo me) point mask e
+
       small : HasCatchLimits point mask
-      small = subst HasActionLimits e (action_limits me.actions signo l.actions)
+      small = subst HasActionLimits catches (action_limits me.actions signo l.actions)
 
       by : (b : Bool) → IsFine (if b then idle FramesFull else own_effect p (record { process = caught signo value point mask (relieved signo me); reply = Done value }))
       by true = plainly _ (idle_plain p me FramesFull)
       by false = plainly _ (own_plain p me (record { process = caught signo value point mask (relieved signo me); reply = Done value })
-          (record { parent = refl; status = refl; limits = caught_limits signo value point mask right (not_killed signo point mask e) small }))
+          (record { parent = refl; status = refl; limits = caught_limits signo value point mask right (not_killed signo point mask catches) small }))
 
   delivers_fine : (inside : Option Inside) (signo : ℕ) (value : Option ℤ) → delivered_value signo me ≡ value → IsFine (delivers inside p signo me value S)
   delivers_fine inside signo None e = plainly _ (idle_plain p me NotDeliverable)
   delivers_fine inside signo (Some value) e = by (is_deferred inside signo)
     where
-      by : (b : Bool) → IsFine (if b then idle Deferred else takes_action inside p signo value (action_at signo me) (relieved signo me) S)
+      by : (b : Bool) → IsFine (if b then idle Deferred else acts_on inside p signo value (disposition signo (action_at signo me)) (relieved signo me) S)
       by true = plainly _ (idle_plain p me Deferred)
-      by false = takes_fine inside signo value (action_at signo me) refl (delivered_known signo value e)
+      by false = acts_on_fine inside signo value (disposition signo (action_at signo me)) refl (delivered_known signo value e)
 
   delivery_fine : (inside : Option Inside) (signo : ℕ) → IsFine (delivery_effect inside p signo me S)
   delivery_fine inside signo = delivers_fine inside signo (delivered_value signo me) refl
 
+  special_fine : (inside : Option Inside) (c : Call) → IsSpecial c → IsFine (call_effect inside p c me S)
+  special_fine inside (call.Fork child) h = forks_fine child.0 (S.procs child.0)
+  special_fine inside (call.Exit status) h = exit_fine inside status
+  special_fine inside (call.Waitpid t nohang) h = waits_at_fine (numbered S.width t) nohang
+  special_fine inside (call.Kill t signo) h = send_fine inside t signo (pos 0)
+  special_fine inside (call.Sigqueue t signo value) h = send_fine inside t signo value
+  special_fine inside c h = absurd h
+
   call_fine : (inside : Option Inside) (c : Call) → IsFine (call_effect inside p c me S)
-  call_fine inside (call.Fork child) = forks_fine child.0 (S.procs child.0)
-  call_fine inside (call.Exit status) = exit_fine inside status
-  call_fine inside (call.Waitpid t nohang) = waits_at_fine (numbered S.width t) nohang
-  call_fine inside (call.Pipe q r v) = plainly _ (pipe_plain p me q.0 r.0 v.0 S)
-  call_fine inside (call.Dup f) = plainly _ (dup_plain p me (named me (descriptor f)))
-  call_fine inside (call.Dup2 f g) = plainly _ (dup2_plain p me (descriptor f) (descriptor g) S)
-  call_fine inside (call.Close f) = plainly _ (close_plain p me (descriptor f) S)
-  call_fine inside (call.SetNonblock f on) = plainly _ (nonblock_plain p me on (named me (descriptor f)) S)
-  call_fine inside (call.Read f address n) = plainly _ (read_plain p me (named me (descriptor f)) address n S)
-  call_fine inside (call.Write f address n) = plainly _ (write_plain p me (named me (descriptor f)) address n S)
-  call_fine inside (call.Kill t signo) = send_fine inside t signo (pos 0)
-  call_fine inside (call.Sigqueue t signo value) = send_fine inside t signo value
-  call_fine inside c = plainly _ (own_call_plain inside p c me)
+  call_fine inside c = elim (call_plain S p me inside c) [ inl h ↦ special_fine inside c h | inr h ↦ plainly _ h ]
 
 idle_fine : (why : Refusal) → IsFine (idle why)
 unfolding AreFine

@@ -9,6 +9,7 @@ use Rattle.tx_base.specs.declared.signals.Action.{Action}
 use Rattle.tx_base.specs.declared.signals.Action.TheVariants.{Usual, Ignore, Catch}
 use Rattle.tx_base.specs.declared.signals.How.{How}
 use Rattle.tx_base.specs.declared.signals.SigSet.{SigSet}
+use Rattle.tx_base.specs.declared.limits.TheConstants.{PAGE_BYTES, CONSOLE_BYTES, LAST_ID, LAST_POINT}
 use Rattle.tx_base.specs.declared.errors.Errno.TheVariants.{InvalidArgument}
 use Rattle.tx_base.specs.declared.steps.Reply.TheVariants.{Done}
 use Rattle.tx_base.specs.declared.steps.When.{When}
@@ -27,14 +28,14 @@ use Rattle.tx_laws.proofs.WithinSets.{in_less, maskable_mask}
 abbrev pub KeepsLimits : Process → Process → Type 0
 KeepsLimits me new = HasLimits me → HasLimits new
 
-next_within : (point : ℕ) → point ≤ 65535 → next_point point ≤ 65535
-next_within point h = by (nat_lt point 65535) refl
+next_within : (point : ℕ) → point ≤ LAST_POINT → next_point point ≤ LAST_POINT
+next_within point h = by (nat_lt point LAST_POINT) refl
   where
-    by : (b : Bool) → nat_lt point 65535 ≡ b → (if b then point + 1 else point) ≤ 65535
-    by true e = let less : point < 65535 = ltb-true point 65535 e in omega arith
+    by : (b : Bool) → nat_lt point LAST_POINT ≡ b → (if b then point + 1 else point) ≤ LAST_POINT
+    by true e = let less : point < LAST_POINT = ltb-true point LAST_POINT e in omega arith
     by false e = h
 
-pub next_limit : (point : ℕ) → point ≤ 65535 → next_point point ≤ 65535
+pub next_limit : (point : ℕ) → point ≤ LAST_POINT → next_point point ≤ LAST_POINT
 next_limit point h = next_within point h
 
 -- the process with an answer
@@ -64,6 +65,9 @@ below_limit limit n (pos m) h = by (nat_lt m limit) refl h
     by false e k = cc
 below_limit limit n (negsuc m) h = cc
 
+id_limit : (v : ℤ) (n : ℕ) → id_of v ≡ Some n → n ≤ LAST_ID
+id_limit v n h = let small : n < 65536 = below_limit 65536 n v h in omega arith
+
 abbrev HasGoodIds : Identified → Type 0
 HasGoodIds after = HasIdLimits after.ids
 
@@ -71,7 +75,7 @@ if_ids : (b : Bool) (x y : Identified) → HasGoodIds x → HasGoodIds y → Has
 if_ids true x y h k = h
 if_ids false x y h k = k
 
-one_user : (u : ℕ) (ids : Ids) → u < 65536 → HasIdLimits ids → HasIdLimits (with_user u ids)
+one_user : (u : ℕ) (ids : Ids) → u ≤ LAST_ID → HasIdLimits ids → HasIdLimits (with_user u ids)
 one_user u ids k h = record {
   real_user = h.real_user;
   effective_user = k;
@@ -81,7 +85,7 @@ one_user u ids k h = record {
   saved_group = h.saved_group;
 }
 
-one_group : (g : ℕ) (ids : Ids) → g < 65536 → HasIdLimits ids → HasIdLimits (with_group g ids)
+one_group : (g : ℕ) (ids : Ids) → g ≤ LAST_ID → HasIdLimits ids → HasIdLimits (with_group g ids)
 one_group g ids k h = record {
   real_user = h.real_user;
   effective_user = h.effective_user;
@@ -91,7 +95,7 @@ one_group g ids k h = record {
   saved_group = h.saved_group;
 }
 
-all_users : (u : ℕ) (ids : Ids) → u < 65536 → HasIdLimits ids → HasIdLimits (with_all_users u ids)
+all_users : (u : ℕ) (ids : Ids) → u ≤ LAST_ID → HasIdLimits ids → HasIdLimits (with_all_users u ids)
 all_users u ids k h = record {
   real_user = k;
   effective_user = k;
@@ -101,7 +105,7 @@ all_users u ids k h = record {
   saved_group = h.saved_group;
 }
 
-all_groups : (g : ℕ) (ids : Ids) → g < 65536 → HasIdLimits ids → HasIdLimits (with_all_groups g ids)
+all_groups : (g : ℕ) (ids : Ids) → g ≤ LAST_ID → HasIdLimits ids → HasIdLimits (with_all_groups g ids)
 all_groups g ids k h = record {
   real_user = h.real_user;
   effective_user = h.effective_user;
@@ -114,22 +118,22 @@ all_groups g ids k h = record {
 user_ids : (v : ℤ) (x : Option ℕ) (ids : Ids) → id_of v ≡ x → HasIdLimits ids → HasGoodIds (set_user x ids)
 user_ids v None ids e h = h
 user_ids v (Some u) ids e h =
-    let small : u < 65536 = below_limit 65536 u v e in
+    let small : u ≤ LAST_ID = id_limit v u e in
     if_ids (is_privileged ids) _ _ (all_users u ids small h) (if_ids (is_own_user u ids) _ _ (one_user u ids small h) h)
 
 effective_user_ids : (v : ℤ) (x : Option ℕ) (ids : Ids) → id_of v ≡ x → HasIdLimits ids → HasGoodIds (set_effective_user x ids)
 effective_user_ids v None ids e h = h
-effective_user_ids v (Some u) ids e h = if_ids (is_privileged ids || is_own_user u ids) _ _ (one_user u ids (below_limit 65536 u v e) h) h
+effective_user_ids v (Some u) ids e h = if_ids (is_privileged ids || is_own_user u ids) _ _ (one_user u ids (id_limit v u e) h) h
 
 group_ids : (v : ℤ) (x : Option ℕ) (ids : Ids) → id_of v ≡ x → HasIdLimits ids → HasGoodIds (set_group x ids)
 group_ids v None ids e h = h
 group_ids v (Some g) ids e h =
-    let small : g < 65536 = below_limit 65536 g v e in
+    let small : g ≤ LAST_ID = id_limit v g e in
     if_ids (is_privileged ids) _ _ (all_groups g ids small h) (if_ids (is_own_group g ids) _ _ (one_group g ids small h) h)
 
 effective_group_ids : (v : ℤ) (x : Option ℕ) (ids : Ids) → id_of v ≡ x → HasIdLimits ids → HasGoodIds (set_effective_group x ids)
 effective_group_ids v None ids e h = h
-effective_group_ids v (Some g) ids e h = if_ids (is_privileged ids || is_own_group g ids) _ _ (one_group g ids (below_limit 65536 g v e) h) h
+effective_group_ids v (Some g) ids e h = if_ids (is_privileged ids || is_own_group g ids) _ _ (one_group g ids (id_limit v g e) h) h
 
 identifies_limits : (after : Identified) (me : Process) → (HasIdLimits me.ids → HasGoodIds after) → KeepsLimits me (identifies after me).process
 identifies_limits after me k h = noted_limits after.ret (record me { ids = after.ids }) (record {
@@ -162,11 +166,11 @@ shows_limits address None me = noted_limits _ me
 shows_limits address (Some n) me = if_limits me (is_good is_mapped me.memory address n) _ _ (noted_limits _ me) (noted_limits _ me)
 
 pub console_limits : (inside : Option Inside) (address n : ℤ) (me : Process) → KeepsLimits me (writes_console inside address n me).process
-console_limits None address n me = shows_limits address (below 65 n) me
+console_limits None address n me = shows_limits address (below (CONSOLE_BYTES + 1) n) me
 console_limits (Some inside) address n me = noted_limits _ me
 
 -- the same process with other registers
-registered : (me : Process) (point : ℕ) (ret : ℤ) (slots : List ℤ) → point ≤ 65535
+registered : (me : Process) (point : ℕ) (ret : ℤ) (slots : List ℤ) → point ≤ LAST_POINT
     → KeepsLimits me (record me { registers = record { point = point; ret = ret; slots = slots } })
 registered me point ret slots small h = record {
   point = small;
@@ -183,13 +187,13 @@ registered me point ret slots small h = record {
 pub slotted : (me : Process) (slots : List ℤ) → KeepsLimits me (record me { registers = record { point = me.registers.point; ret = me.registers.ret; slots = slots } })
 slotted me slots h = registered me me.registers.point me.registers.ret slots h.point h
 
-not_over : (point : ℕ) → nat_lt 65535 point ≡ false → point ≤ 65535
-not_over point e = ltb-false 65535 point e
+not_over : (point : ℕ) → nat_lt LAST_POINT point ≡ false → point ≤ LAST_POINT
+not_over point e = ltb-false LAST_POINT point e
 
 pub jumps_limits : (point : ℕ) (when : When) (me : Process) → KeepsLimits me (jumps point when me).process
-jumps_limits point when me = by (nat_lt 65535 point) refl
+jumps_limits point when me = by (nat_lt LAST_POINT point) refl
   where
-    by : (b : Bool) → nat_lt 65535 point ≡ b
+    by : (b : Bool) → nat_lt LAST_POINT point ≡ b
         → KeepsLimits me (if b then answers_with (failing InvalidArgument) me
         else (if does_jump when (last_ret me) then record { process = stands_at point me; reply = Done (last_ret me) } else answers_with (last_ret me) me)).process
     by true e = noted_limits _ me
@@ -336,7 +340,7 @@ put_whole : (memory : Memory) (address : ℕ) (bytes : List ℕ) → All IsWhole
 put_whole memory address [] h = h
 put_whole memory address (byte ∷ bytes) h =
     put_whole (put_byte memory address byte) (address + 1) bytes
-    (All-set IsWholePage memory (address / 64) _ (byte_whole (address % 64) byte (page_at memory (address / 64)) (whole_at memory (address / 64) h)) h)
+    (All-set IsWholePage memory (address / PAGE_BYTES) _ (byte_whole (address % PAGE_BYTES) byte (page_at memory (address / PAGE_BYTES)) (whole_at memory (address / PAGE_BYTES) h)) h)
 
 pub stored_whole : (memory : Memory) (address : Option ℕ) (bytes : List ℕ) → All IsWholePage memory → All IsWholePage (stored memory address bytes)
 stored_whole memory None bytes h = h

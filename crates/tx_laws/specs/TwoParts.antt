@@ -5,7 +5,7 @@ use Rattle.tx_model.specs.State.{State, Object, Proc, Desc, Pipe, Held, has}
 use Rattle.tx_model.specs.Effects.{send_answers, applied}
 use Rattle.tx_model.specs.Events.{Event, effect}
 use Rattle.tx_model.specs.Membership.{Table, Role, Outside, Within, Commits, Aborts, table_after}
-use Rattle.tx_model.specs.History.{Starters, just, footprint, objects_reserved}
+use Rattle.tx_model.specs.History.{Starters, just, event_footprint, objects_reserved}
 use Rattle.tx_model.specs.View.{View}
 
 pub record TwoParts : Type 0 where
@@ -63,6 +63,6 @@ on_both ev S c owner table = record { now = made ev S S; kept = made ev S c.kept
 -- the kernel after a step of process p that is so to the transactions
 unfoldable pub parts_next : Role → Event → ℕ → TwoParts → TwoParts
 parts_next Outside ev p c = on_both ev c.now c c.owner (table_after Outside p c.table)
-parts_next (Within s part) ev p c = reserved s (objects_reserved part s (footprint c.table ev c.now)) ev (table_after (Within s part) p c.table) c
+parts_next (Within s part) ev p c = reserved s (objects_reserved part s (event_footprint c.table ev c.now)) ev (table_after (Within s part) p c.table) c
 parts_next (Commits s) ev p c = on_both ev c.now c (λ o. freed s (c.owner o)) (table_after (Commits s) p c.table)
 parts_next (Aborts s status) ev p c = on_both ev (parts_without c (just s)) c (λ o. freed s (c.owner o)) (table_after (Aborts s status) p c.table)

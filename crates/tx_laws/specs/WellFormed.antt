@@ -1,15 +1,14 @@
 -- What every state is that a history leads to. Own rules.
 use Rattle.std.specs.Prelude.{◌≡◌, ◌≢◌, ℕ, ◌<◌, ◌≤◌, true, false, List, [], ◌∷◌, length, All, Option, Some, None, is_some}
 use Rattle.tx_base.specs.Signals.{bits_of}
+use Rattle.tx_base.specs.declared.limits.TheConstants.{PAGE_BYTES, PIPE_BYTES, FRAMES, QUEUED, LAST_ID, LAST_POINT}
 use Rattle.tx_base.specs.declared.signals.Action.{Action}
 use Rattle.tx_base.specs.declared.signals.Action.TheVariants.{Usual, Ignore, Catch}
 use Rattle.tx_base.specs.declared.signals.SigSet.{SigSet}
 use Rattle.tx_model.specs.SignalSets.{standard_signals, kill_signo, is_one_of, is_realtime, is_known, is_in_set}
 use Rattle.tx_model.specs.Memory.{PageView}
 use Rattle.tx_model.specs.State.{Ids, Process, Frame, Queued, Sending, Description, State, names_at, is_between}
-use Rattle.tx_model.specs.Posts.{queue_limit}
-use Rattle.tx_model.specs.Transfers.{pipe_room}
-use Rattle.tx_model.specs.Deliveries.{frame_limit, action_at}
+use Rattle.tx_model.specs.Deliveries.{action_at}
 use Rattle.tx_model.specs.Descriptors.{is_named, has_side}
 use Rattle.tx_model.specs.Events.{Event, Do, Note, Commit}
 use Rattle.tx_model.specs.Answer.{has_bad_number, is_running}
@@ -25,23 +24,23 @@ pub record HasSizes (q : Process) : Type 0 where
   pub pages : length q.memory ≡ 16
   pub descriptors : length q.descriptors ≡ 16
   pub actions : length q.actions ≡ 40
-  pub frames : length q.frames ≤ frame_limit
+  pub frames : length q.frames ≤ FRAMES
   pub saved : AllSaved q.frames
-  pub queued : length q.queued ≤ queue_limit
+  pub queued : length q.queued ≤ QUEUED
 
 -- a mapped page has 64 bytes
 abbrev pub IsWholePage : Option PageView → Type 0
 IsWholePage None = Unit {0}
-IsWholePage (Some page) = length page.bytes ≡ 64
+IsWholePage (Some page) = length page.bytes ≡ PAGE_BYTES
 
 -- the six ids are at most 65,535
 pub record HasIdLimits (ids : Ids) : Type 0 where
-  pub real_user : ids.real_user < 65536
-  pub effective_user : ids.effective_user < 65536
-  pub saved_user : ids.saved_user < 65536
-  pub real_group : ids.real_group < 65536
-  pub effective_group : ids.effective_group < 65536
-  pub saved_group : ids.saved_group < 65536
+  pub real_user : ids.real_user ≤ LAST_ID
+  pub effective_user : ids.effective_user ≤ LAST_ID
+  pub saved_user : ids.saved_user ≤ LAST_ID
+  pub real_group : ids.real_group ≤ LAST_ID
+  pub effective_group : ids.effective_group ≤ LAST_ID
+  pub saved_group : ids.saved_group ≤ LAST_ID
 
 -- a mask holds known signals, and not SIGKILL
 pub record IsMask (mask : ℕ) : Type 0 where
@@ -50,12 +49,12 @@ pub record IsMask (mask : ℕ) : Type 0 where
 
 -- what a caught signal saved is within its limits
 pub record HasFrameLimits (frame : Frame) : Type 0 where
-  pub point : frame.registers.point ≤ 65535
+  pub point : frame.registers.point ≤ LAST_POINT
   pub mask : IsMask frame.mask
 
 -- the catch point and the mask of an action are within their limits
 pub record HasCatchLimits (to : ℕ) (blocked : SigSet) : Type 0 where
-  pub point : to ≤ 65535
+  pub point : to ≤ LAST_POINT
   pub mask : IsMask (bits_of blocked)
 
 abbrev pub HasActionLimits : Action → Type 0
@@ -74,7 +73,7 @@ IsKnownSending m = is_known m.signo ≡ true
 -- what a process has is within the limits of its numbers: standard signals alone are in the set of those pending,
 -- realtime ones in the queue; and SIGKILL is neither caught nor ignored
 pub record HasLimits (q : Process) : Type 0 where
-  pub point : q.registers.point ≤ 65535
+  pub point : q.registers.point ≤ LAST_POINT
   pub pages : All IsWholePage q.memory
   pub ids : HasIdLimits q.ids
   pub mask : IsMask q.mask
@@ -106,7 +105,7 @@ pub record IsWellFormed (S : State) : Type 0 where
   pub placed : (n : ℕ) (q : Process) → S.procs n ≡ Some q → IsPlaced S n q
   pub names : (n f d : ℕ) → names_at d f (S.procs n) ≡ true → is_some (S.descs d) ≡ true
   pub named : (d : ℕ) (x : Description) → S.descs d ≡ Some x → (is_named d S ≡ true) × (d < 64) × (is_some (S.pipes x.pipe) ≡ true)
-  pub pipes : (k : ℕ) (bytes : List ℕ) → S.pipes k ≡ Some bytes → (has_side k S ≡ true) × (k < 32) × (length bytes ≤ pipe_room)
+  pub pipes : (k : ℕ) (bytes : List ℕ) → S.pipes k ≡ Some bytes → (has_side k S ≡ true) × (k < 32) × (length bytes ≤ PIPE_BYTES)
   pub limits : (n : ℕ) (q : Process) → S.procs n ≡ Some q → HasLimits q
   pub held : (s : ℕ) → All IsKnownSending (S.held s)
 

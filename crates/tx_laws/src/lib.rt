@@ -100,4 +100,3 @@ pub fn well_formed()
     ensures history { (start : State) (history : List Accepted) (left_out : Starters) →
         IsWellFormed start → Lawful start history → IsWellFormed (without start left_out history) }
 {}
-

@@ -1,12 +1,14 @@
 -- The answer to a step, and the histories of answered steps. Own rules.
 use Rattle.std.specs.Prelude.{◌≡◌, ℕ, Bool, true, false, not, ◌&&◌, ◌||◌, ◌==◌, nat_lt, List, [], ◌∷◌, Option, Some, None, is_some, is_none, if◌then◌else◌}
+use Rattle.tx_base.specs.declared.limits.TheConstants.{DESCRIPTIONS, PIPES}
 use Rattle.tx_base.specs.declared.marks.Mark.{Mark}
 use Rattle.tx_base.specs.declared.steps.Accepted.{Accepted}
 use Rattle.tx_base.specs.declared.steps.Refusal.{Refusal}
 use Rattle.tx_base.specs.declared.steps.Refusal.TheVariants.{NoProcess, NotRunning, BadNumber, NumberTaken, Doomed, Parked, KillPending, Busy, NoTransaction}
 use Rattle.tx_base.specs.declared.steps.Reply.{Reply}
 use Rattle.tx_base.specs.declared.steps.Reply.TheVariants.{Done, Ended, Committed, Aborted, Out, No}
-use Rattle.tx_base.specs.declared.steps.Call.TheVariants.{Fork, Pipe}
+use Rattle.tx_base.specs.declared.steps.Call.{Call}
+use Rattle.tx_base.specs.declared.steps.Call.TheVariants as call
 use Rattle.tx_base.specs.declared.steps.Step.{Step}
 use Rattle.tx_base.specs.declared.steps.Step.TheVariants.{Call as Calls, Deliver, KernelAbort}
 use Rattle.tx_model.specs.State.{Process, State, is_between}
@@ -25,18 +27,72 @@ is_running (Some q) = is_none q.status
 abbrev pub is_there : View → ℕ → Bool
 is_there V p = if is_between V.table.width p then is_some ((present V).procs p) else false
 
+-- the numbers that a call chooses
+pub data Choice : Type 0 where
+  ChoosesNothing : Choice
+  ChoosesProcess : ℕ → Choice
+  -- a pipe, and its two descriptions
+  ChoosesPipe : ℕ → ℕ → ℕ → Choice
+
+abbrev pub chosen_in : Call → Choice
+chosen_in (call.Map page) = ChoosesNothing
+chosen_in (call.Unmap page) = ChoosesNothing
+chosen_in (call.Protect page writable) = ChoosesNothing
+chosen_in (call.Store address bytes) = ChoosesNothing
+chosen_in (call.Load address) = ChoosesNothing
+chosen_in (call.Fork child) = ChoosesProcess child.0
+chosen_in (call.Exit status) = ChoosesNothing
+chosen_in (call.Waitpid t nohang) = ChoosesNothing
+chosen_in call.Getpid = ChoosesNothing
+chosen_in call.Getppid = ChoosesNothing
+chosen_in (call.Setuid u) = ChoosesNothing
+chosen_in (call.Seteuid u) = ChoosesNothing
+chosen_in (call.Setgid g) = ChoosesNothing
+chosen_in (call.Setegid g) = ChoosesNothing
+chosen_in (call.Pipe q r w) = ChoosesPipe q.0 r.0 w.0
+chosen_in (call.Dup f) = ChoosesNothing
+chosen_in (call.Dup2 f g) = ChoosesNothing
+chosen_in (call.Close f) = ChoosesNothing
+chosen_in (call.SetNonblock f on) = ChoosesNothing
+chosen_in (call.Read f address n) = ChoosesNothing
+chosen_in (call.Write f address n) = ChoosesNothing
+chosen_in (call.Kill t signo) = ChoosesNothing
+chosen_in (call.Sigqueue t signo value) = ChoosesNothing
+chosen_in (call.Sigaction signo action) = ChoosesNothing
+chosen_in (call.Sigprocmask how set) = ChoosesNothing
+chosen_in call.Sigpending = ChoosesNothing
+chosen_in call.Sigreturn = ChoosesNothing
+chosen_in (call.ConsoleWrite address n) = ChoosesNothing
+chosen_in (call.Jump point when) = ChoosesNothing
+chosen_in (call.Keep slot) = ChoosesNothing
+chosen_in call.SysXbegin = ChoosesNothing
+chosen_in call.SysXbeginDefer = ChoosesNothing
+chosen_in call.SysXend = ChoosesNothing
+chosen_in call.SysXabort = ChoosesNothing
+
+abbrev pub chosen_by : Step → Choice
+chosen_by (Calls p call) = chosen_in call
+chosen_by (Deliver p signo) = ChoosesNothing
+chosen_by (KernelAbort s) = ChoosesNothing
+
+abbrev pub is_bad_choice : ℕ → Choice → Bool
+is_bad_choice width ChoosesNothing = false
+is_bad_choice width (ChoosesProcess child) = not (is_between width child)
+is_bad_choice width (ChoosesPipe q r w) = not (nat_lt q PIPES && nat_lt r DESCRIPTIONS && nat_lt w DESCRIPTIONS) || r == w
+
+abbrev pub is_choice_in_use : State → Choice → Bool
+is_choice_in_use S ChoosesNothing = false
+is_choice_in_use S (ChoosesProcess child) = is_some (S.procs child)
+is_choice_in_use S (ChoosesPipe q r w) = is_pipe_in_use q r w S
+
 -- whether a number that the call chooses is out of range, or one number is chosen twice: processes are 1 to the width,
 -- pipes 0 to 31, descriptions 0 to 63
 abbrev pub has_bad_number : ℕ → Step → Bool
-has_bad_number width (Calls p (Fork child)) = not (is_between width child.0)
-has_bad_number width (Calls p (Pipe q r w)) = not (nat_lt q.0 32 && nat_lt r.0 64 && nat_lt w.0 64) || r.0 == w.0
-has_bad_number width step = false
+has_bad_number width step = is_bad_choice width (chosen_by step)
 
 -- whether a number that the call chooses is in use
 abbrev pub has_number_in_use : State → Step → Bool
-has_number_in_use S (Calls p (Fork child)) = is_some (S.procs child.0)
-has_number_in_use S (Calls p (Pipe q r w)) = is_pipe_in_use q.0 r.0 w.0 S
-has_number_in_use S step = false
+has_number_in_use S step = is_choice_in_use S (chosen_by step)
 
 -- whether the member's transaction is doomed
 abbrev pub is_doomed_at : View → Option Mark → Bool

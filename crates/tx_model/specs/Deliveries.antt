@@ -1,16 +1,18 @@
 -- The delivery of a pending signal (POSIX.1-2017, XSH, Signal Generation and Delivery). Which one is delivered, and
 -- when, is the schedule's choice (own rule).
-use Rattle.std.specs.Prelude.{ℕ, ◌+◌, Bool, false, not, ◌&&◌, ◌||◌, List, [], ◌∷◌, ◌++◌, length, ℤ, pos, Option, Some, None, if◌then◌else◌, nat_lt, ◌==◌, bit_or, slice_index_or}
+use Rattle.std.specs.Prelude.{ℕ, ◌+◌, Bool, false, not, ◌&&◌, ◌||◌, List, [], ◌∷◌, ◌++◌, length, ℤ, pos, Option, Some, None, if◌then◌else◌, nat_lt, ◌==◌, bit_or, slice_index_or, true}
 use Rattle.tx_base.specs.Signals.{bits_of}
 use Rattle.tx_base.specs.declared.signals.Action.{Action}
-use Rattle.tx_base.specs.declared.signals.Action.TheVariants.{Usual, Ignore, Catch}
+use Rattle.tx_base.specs.declared.signals.Action.TheVariants.{Usual}
 use Rattle.tx_base.specs.declared.signals.SigSet.{SigSet}
 use Rattle.tx_base.specs.declared.steps.Refusal.TheVariants.{NotDeliverable, Deferred, FramesFull}
 use Rattle.tx_base.specs.declared.steps.Reply.TheVariants.{Done}
-use Rattle.tx_model.specs.SignalSets.{kill_signo, child_signo, is_realtime, is_in_set, with_one_more, without_one}
+use Rattle.tx_base.specs.declared.limits.TheConstants.{FRAMES}
+use Rattle.tx_model.specs.SignalSets.{kill_signo, is_realtime, is_in_set, with_one_more, without_one}
 use Rattle.tx_model.specs.State.{Process, State, Queued, Object}
 use Rattle.tx_model.specs.Effects.{Inside, Effect, idle, own_effect}
 use Rattle.tx_model.specs.Processes.{ending, ending_objects}
+use Rattle.tx_model.specs.Signals.{Disposition, Ignored, Fatal, Caught, disposition}
 
 -- the value of the first entry of the signal in the queue
 unfoldable pub first_value : ℕ → List Queued → Option ℤ
@@ -49,15 +51,14 @@ relieved signo me = record me {
 abbrev pub action_at : ℕ → Process → Action
 action_at signo me = slice_index_or me.actions signo Usual
 
+abbrev pub kills : Disposition → Bool
+kills Ignored = false
+kills Fatal = true
+kills (Caught point mask) = false
+
 -- whether a delivery of the signal ends a process with this action
 abbrev pub is_fatal : ℕ → Action → Bool
-is_fatal signo Usual = not (signo == child_signo)
-is_fatal signo Ignore = false
-is_fatal signo (Catch point mask) = false
-
--- how many caught signals of a process may be unfinished (own rule)
-abbrev pub frame_limit : ℕ
-frame_limit = 4
+is_fatal signo action = kills (disposition signo action)
 
 -- the process at its catch point, with what it goes back to in a new frame
 abbrev pub caught : ℕ → ℤ → ℕ → SigSet → Process → Process
@@ -68,18 +69,17 @@ caught signo value point mask me = record me {
 }
 
 abbrev pub is_full : Process → Bool
-is_full me = not (nat_lt (length me.frames) frame_limit)
+is_full me = not (nat_lt (length me.frames) FRAMES)
 
 -- the status of a process that a signal ended (own numbers)
 abbrev pub killed_status : ℕ → ℕ
 killed_status signo = 256 + signo
 
--- what a signal does that is taken from those pending; an ignored one does nothing else
-abbrev pub takes_action : Option Inside → ℕ → ℕ → ℤ → Action → Process → State → Effect
-takes_action inside p signo value Ignore me S = own_effect p (record { process = me; reply = Done me.registers.ret })
-takes_action inside p signo value Usual me S =
-    if signo == child_signo then own_effect p (record { process = me; reply = Done me.registers.ret }) else ending inside p (killed_status signo) me S
-takes_action inside p signo value (Catch point mask) me S =
+-- what a signal does that is no longer pending; an ignored one does nothing else
+abbrev pub acts_on : Option Inside → ℕ → ℕ → ℤ → Disposition → Process → State → Effect
+acts_on inside p signo value Ignored me S = own_effect p (record { process = me; reply = Done me.registers.ret })
+acts_on inside p signo value Fatal me S = ending inside p (killed_status signo) me S
+acts_on inside p signo value (Caught point mask) me S =
     if is_full me then idle FramesFull else own_effect p (record { process = caught signo value point mask me; reply = Done value })
 
 -- whether the transaction defers the delivery: that of SIGKILL never
@@ -90,16 +90,16 @@ is_deferred (Some inside) signo = inside.defers && not (signo == kill_signo)
 abbrev pub delivers : Option Inside → ℕ → ℕ → Process → Option ℤ → State → Effect
 delivers inside p signo me None S = idle NotDeliverable
 delivers inside p signo me (Some value) S =
-    if is_deferred inside signo then idle Deferred else takes_action inside p signo value (action_at signo me) (relieved signo me) S
+    if is_deferred inside signo then idle Deferred else acts_on inside p signo value (disposition signo (action_at signo me)) (relieved signo me) S
 
 abbrev pub delivery_effect : Option Inside → ℕ → ℕ → Process → State → Effect
 delivery_effect inside p signo me S = delivers inside p signo me (delivered_value signo me) S
 
--- beside its process, a delivery names something where it ends the process
-abbrev pub fatal_objects : Option Inside → ℕ → ℕ → Process → State → Option ℤ → List Object
-fatal_objects inside p signo me S None = []
-fatal_objects inside p signo me S (Some value) =
-    if is_deferred inside signo then [] else (if is_fatal signo (action_at signo me) then ending_objects inside p me S else [])
+-- whether a delivery now ends the process
+abbrev pub ends_by : Option Inside → ℕ → Process → Option ℤ → Bool
+ends_by inside signo me None = false
+ends_by inside signo me (Some value) = if is_deferred inside signo then false else is_fatal signo (action_at signo me)
 
+-- beside its process, a delivery names something where it ends the process
 abbrev pub delivery_objects : Option Inside → ℕ → ℕ → Process → State → List Object
-delivery_objects inside p signo me S = fatal_objects inside p signo me S (delivered_value signo me)
+delivery_objects inside p signo me S = if ends_by inside signo me (delivered_value signo me) then ending_objects inside p me S else []

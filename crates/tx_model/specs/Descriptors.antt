@@ -1,6 +1,7 @@
 -- Descriptors, and the descriptions and pipes that are there while something names them (POSIX.1-2017, XBD, File
 -- Descriptor and Open File Description).
 use Rattle.std.specs.Prelude.{ℕ, zero, suc, ◌+◌, Bool, true, false, List, [], ◌∷◌, ◌++◌, ℤ, pos, Option, Some, None, is_some, if◌then◌else◌, ◌==◌, slice_index_or, slice_set}
+use Rattle.tx_base.specs.declared.limits.TheConstants.{DESCRIPTIONS, DESCRIPTORS}
 use Rattle.tx_base.specs.declared.errors.Errno.TheVariants.{BadDescriptor, TooManyDescriptors}
 use Rattle.tx_base.specs.declared.steps.Refusal.TheVariants.{NumberTaken}
 use Rattle.tx_model.specs.Numbers.{below, failing}
@@ -14,7 +15,7 @@ named me (Some f) = slice_index_or me.descriptors f None
 
 -- a descriptor that a program computed: 0 to 15
 abbrev pub descriptor : ℤ → Option ℕ
-descriptor f = below 16 f
+descriptor f = below DESCRIPTORS f
 
 abbrev pub with_descriptor : ℕ → Option ℕ → Process → Process
 with_descriptor f d me = record me { descriptors = slice_set me.descriptors f d }
@@ -43,7 +44,7 @@ names_below d (suc f) x = if names_below d f x then true else names_at d f x
 -- whether a process of a number below n names the description
 unfoldable pub is_named_below : ℕ → ℕ → State → Bool
 is_named_below d zero S = false
-is_named_below d (suc q) S = if is_named_below d q S then true else names_below d 16 (S.procs q)
+is_named_below d (suc q) S = if is_named_below d q S then true else names_below d DESCRIPTORS (S.procs q)
 
 -- whether a descriptor names the description
 abbrev pub is_named : ℕ → State → Bool
@@ -60,7 +61,7 @@ has_side_below test k (suc d) S = if has_side_below test k d S then true else is
 
 -- whether one of the 64 descriptions names the pipe
 abbrev pub has_side : ℕ → State → Bool
-has_side k S = has_side_below (λ side. true) k 64 S
+has_side k S = has_side_below (λ side. true) k DESCRIPTIONS S
 
 abbrev pub pipe_of : Option Description → List ℕ
 pipe_of None = []

@@ -1,5 +1,6 @@
 -- What an event does: its writes, then its posts in order, and how it concludes. Own rules.
 use Rattle.std.specs.Prelude.{ℕ, ◌+◌, Bool, List, [], ◌∷◌, ◌++◌, ℤ, pos, negsuc, Option, Some, None, if◌then◌else◌, nat_lt, ◌==◌}
+use Rattle.tx_base.specs.declared.limits.TheConstants.{LAST_POINT}
 use Rattle.tx_base.specs.declared.names.Regs.{Regs}
 use Rattle.tx_base.specs.declared.names.Missed.{Missed}
 use Rattle.tx_base.specs.declared.errors.Errno.{Errno}
@@ -25,7 +26,7 @@ pub record Effect : Type 0 where
 
 -- adding one at the last point, 65,535, leaves it there
 abbrev pub next_point : ℕ → ℕ
-next_point point = if nat_lt point 65535 then point + 1 else point
+next_point point = if nat_lt point LAST_POINT then point + 1 else point
 
 abbrev pub answered : ℤ → Regs → Regs
 answered r registers = record { point = next_point registers.point; ret = r; slots = registers.slots }

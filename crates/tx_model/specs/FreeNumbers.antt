@@ -1,5 +1,6 @@
 -- The least numbers that a process may choose. Own rules.
-use Rattle.std.specs.Prelude.{ℕ, Bool, true, not, ◌&&◌, Option, Some, None, is_some, is_none, ◌==◌}
+use Rattle.std.specs.Prelude.{ℕ, ◌-◌, Bool, true, not, ◌&&◌, Option, Some, None, is_some, is_none, ◌==◌}
+use Rattle.tx_base.specs.declared.limits.TheConstants.{DESCRIPTIONS, PIPES}
 use Rattle.tx_model.specs.State.{Object, Proc, Desc, Pipe, is_between}
 use Rattle.tx_model.specs.Membership.{is_live, is_member_of}
 use Rattle.tx_model.specs.View.{View, present, least}
@@ -40,6 +41,6 @@ pub record Free : Type 0 where
 abbrev pub free_numbers : View → ℕ → Free
 free_numbers V p = record {
   proc = least (is_free_process V p) V.table.width;
-  pipe = least (is_free_pipe V p) 31;
-  descs = least_two (is_free_description V p) 63;
+  pipe = least (is_free_pipe V p) (PIPES - 1);
+  descs = least_two (is_free_description V p) (DESCRIPTIONS - 1);
 }

@@ -75,9 +75,9 @@ abbrev pub processes_of : List Sending → List Object
 processes_of [] = []
 processes_of (m ∷ ms) = Proc m.target ∷ processes_of ms
 
--- the footprint: what the event names, and the targets of its posts
-unfoldable pub footprint : Table → Event → State → List Object
-footprint t ev S = objects ev S ++ targets t (actor ev) (effect ev S).sends
+-- what an event names, and the targets of its posts
+unfoldable pub event_footprint : Table → Event → State → List Object
+event_footprint t ev S = objects ev S ++ targets t (actor ev) (effect ev S).sends
 
 -- a transaction's first step takes its held sends too
 abbrev pub objects_reserved : Progress → ℕ → List Object → List Object
@@ -95,4 +95,4 @@ touched_after (Aborts p status) F touched s o = if s == p then false else touche
 -- what the steps of the live transaction of s have touched, each in the state before it
 unfoldable pub touched_of : State → List Accepted → ℕ → Object → Bool
 touched_of S [] s o = false
-touched_of S (e ∷ h) s o = touched_after (role_in S e h) (footprint (table_of S h) (event_of S e h) (without S nobody h)) (touched_of S h) s o
+touched_of S (e ∷ h) s o = touched_after (role_in S e h) (event_footprint (table_of S h) (event_of S e h) (without S nobody h)) (touched_of S h) s o

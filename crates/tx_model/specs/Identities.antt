@@ -1,5 +1,6 @@
 -- The calls on the ids of a process (POSIX.1-2017, XSH, setuid(), seteuid(), setgid(), setegid()).
-use Rattle.std.specs.Prelude.{ℕ, Bool, ◌||◌, ℤ, pos, Option, Some, None, if◌then◌else◌, ◌==◌}
+use Rattle.std.specs.Prelude.{ℕ, ◌+◌, Bool, ◌||◌, ℤ, pos, Option, Some, None, if◌then◌else◌, ◌==◌}
+use Rattle.tx_base.specs.declared.limits.TheConstants.{LAST_ID}
 use Rattle.tx_base.specs.declared.errors.Errno.TheVariants.{NotPermitted, InvalidArgument}
 use Rattle.tx_model.specs.Numbers.{below, failing}
 use Rattle.tx_model.specs.State.{Ids}
@@ -20,7 +21,7 @@ not_permitted ids = record { ids = ids; ret = failing NotPermitted }
 
 -- an id that a program computed: 0 to 65,535
 abbrev pub id_of : ℤ → Option ℕ
-id_of v = below 65536 v
+id_of v = below (LAST_ID + 1) v
 
 -- the effective user 0 may take any id
 abbrev pub is_privileged : Ids → Bool

@@ -2,8 +2,10 @@ pub mod Numbers
 pub mod SignalSets
 pub mod Memory
 pub mod State
+pub mod StateLaws
 pub mod Posts
 pub mod Effects
+pub mod Pages
 pub mod Identities
 pub mod Scripts
 pub mod Signals

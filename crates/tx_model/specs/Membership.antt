@@ -1,8 +1,9 @@
 -- Who is in which transaction, and what a step is to the transactions. Own rules.
 use Rattle.std.specs.Prelude.{ℕ, zero, suc, Bool, true, false, pos, negsuc, Option, Some, None, if◌then◌else◌, ◌==◌}
+use Rattle.tx_base.specs.declared.limits.TheConstants.{ABORTED_BY_CALL}
 use Rattle.tx_base.specs.declared.marks.Mark.{Mark}
 use Rattle.tx_base.specs.declared.steps.Call.{Call}
-use Rattle.tx_base.specs.declared.steps.Call.TheVariants.{Fork, SysXbegin, SysXbeginDefer, SysXend, SysXabort}
+use Rattle.tx_base.specs.declared.steps.Call.TheVariants as call
 use Rattle.tx_base.specs.declared.steps.Step.{Step}
 use Rattle.tx_base.specs.declared.steps.Step.TheVariants.{Call as Calls, Deliver, KernelAbort}
 use Rattle.tx_base.specs.declared.steps.Reply.{Reply}
@@ -76,12 +77,40 @@ pub data Kind : Type 0 where
   Aborting : Kind
 
 abbrev pub kind_of : Call → Kind
-kind_of (Fork child) = Forking child.0
-kind_of SysXbegin = Beginning false
-kind_of SysXbeginDefer = Beginning true
-kind_of SysXend = Leaving
-kind_of SysXabort = Aborting
-kind_of call = Ordinary
+kind_of (call.Map page) = Ordinary
+kind_of (call.Unmap page) = Ordinary
+kind_of (call.Protect page writable) = Ordinary
+kind_of (call.Store address bytes) = Ordinary
+kind_of (call.Load address) = Ordinary
+kind_of (call.Fork child) = Forking child.0
+kind_of (call.Exit status) = Ordinary
+kind_of (call.Waitpid t nohang) = Ordinary
+kind_of call.Getpid = Ordinary
+kind_of call.Getppid = Ordinary
+kind_of (call.Setuid u) = Ordinary
+kind_of (call.Seteuid u) = Ordinary
+kind_of (call.Setgid g) = Ordinary
+kind_of (call.Setegid g) = Ordinary
+kind_of (call.Pipe q r w) = Ordinary
+kind_of (call.Dup f) = Ordinary
+kind_of (call.Dup2 f g) = Ordinary
+kind_of (call.Close f) = Ordinary
+kind_of (call.SetNonblock f on) = Ordinary
+kind_of (call.Read f address n) = Ordinary
+kind_of (call.Write f address n) = Ordinary
+kind_of (call.Kill t signo) = Ordinary
+kind_of (call.Sigqueue t signo value) = Ordinary
+kind_of (call.Sigaction signo action) = Ordinary
+kind_of (call.Sigprocmask how set) = Ordinary
+kind_of call.Sigpending = Ordinary
+kind_of call.Sigreturn = Ordinary
+kind_of (call.ConsoleWrite address n) = Ordinary
+kind_of (call.Jump point when) = Ordinary
+kind_of (call.Keep slot) = Ordinary
+kind_of call.SysXbegin = Beginning false
+kind_of call.SysXbeginDefer = Beginning true
+kind_of call.SysXend = Leaving
+kind_of call.SysXabort = Aborting
 
 -- whether the reply says that the process ended
 abbrev pub says_ended : Reply → Bool
@@ -114,7 +143,7 @@ ordinary_role false t s p = Within s Continues
 
 -- the status of an abort by a member (own number)
 abbrev pub called_by_status : ℕ
-called_by_status = 201
+called_by_status = ABORTED_BY_CALL
 
 abbrev pub kind_role : Table → ℕ → Kind → Reply → Option Mark → Role
 kind_role t p Ordinary r None = Outside

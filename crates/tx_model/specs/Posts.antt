@@ -1,12 +1,9 @@
 -- The posting rule: what a signal that is sent does to its target (POSIX.1-2017, XSH, Signal Concepts and kill()).
 use Rattle.std.specs.Prelude.{ℕ, Bool, true, ◌||◌, List, [], ◌∷◌, ◌++◌, length, ℤ, pos, negsuc, Option, Some, None, is_some, if◌then◌else◌, nat_lt, ◌==◌}
+use Rattle.tx_base.specs.declared.limits.TheConstants.{QUEUED}
 use Rattle.tx_model.specs.SignalSets.{kill_signo, is_realtime, with_one_more}
 use Rattle.tx_model.specs.State.{Ids, Process, Sender, Sending, State, SetProc, write_one}
 pub use Rattle.tx_model.specs.SignalSets.{kill_signo, is_realtime}
-
--- how many realtime signals may be queued at a process (own rule)
-abbrev pub queue_limit : ℕ
-queue_limit = 16
 
 -- whether the sender may signal a process with these ids; the kernel may always
 abbrev pub may_signal : Option Sender → Ids → Bool
@@ -20,7 +17,7 @@ abbrev pub is_quiet : Sending → Process → Bool
 is_quiet m q = m.signo == 0 || (m.target == 1 || is_some q.status)
 
 abbrev pub has_room : Process → Bool
-has_room q = nat_lt (length q.queued) queue_limit
+has_room q = nat_lt (length q.queued) QUEUED
 
 abbrev pub with_queued : Sending → Process → Process
 with_queued m q = record q { queued = q.queued ++ record { signo = m.signo; value = m.value } ∷ [] }

@@ -1,13 +1,13 @@
 -- Children, the end of a process, and the wait for it (POSIX.1-2017, XSH, fork(), _exit() and waitpid()).
 use Rattle.std.specs.Prelude.{ℕ, zero, suc, ◌+◌, ◌-◌, ◌%◌, Bool, List, [], ◌∷◌, ◌++◌, ℤ, pos, negsuc, Option, Some, None, if◌then◌else◌, ◌==◌, replicate, slice_set}
+use Rattle.tx_base.specs.declared.limits.TheConstants.{DESCRIPTORS}
 use Rattle.tx_base.specs.declared.errors.Errno.TheVariants.{NotPermitted, NoChild}
-use Rattle.tx_base.specs.declared.signals.Action.TheVariants.{Usual}
 use Rattle.tx_base.specs.declared.steps.Refusal.TheVariants.{NumberTaken, Wait}
 use Rattle.tx_base.specs.declared.steps.Reply.TheVariants.{Ended}
 use Rattle.tx_model.specs.Numbers.{failing}
 use Rattle.tx_model.specs.Memory.{no_memory}
 use Rattle.tx_model.specs.SignalSets.{child_signo}
-use Rattle.tx_model.specs.State.{Process, State, Sending, Object, Proc, Held, Write, SetProc, SetHeld, write_one, has_parent, first_registers, is_between}
+use Rattle.tx_model.specs.State.{Process, State, Sending, Object, Proc, Held, Write, SetProc, SetHeld, write_one, has_parent, first_registers, usual_actions, is_between}
 use Rattle.tx_model.specs.Effects.{Inside, Effect, Replies, idle, next_point, done, done_with}
 use Rattle.tx_model.specs.Descriptors.{open_in, released, desc_objects, desc_pipe_objects}
 
@@ -39,9 +39,9 @@ ended status me = record {
   status = Some status;
   ids = me.ids;
   memory = no_memory;
-  descriptors = replicate 16 None;
+  descriptors = replicate DESCRIPTORS None;
   mask = 0;
-  actions = replicate 40 Usual;
+  actions = usual_actions;
   pending = 0;
   queued = [];
   frames = [];
@@ -69,16 +69,30 @@ orphaned (q ∷ qs) S = SetProc q (with_parent 1 (S.procs q)) ∷ orphaned qs S
 abbrev pub told_to : ℕ → Sending
 told_to parent = record { target = parent; signo = child_signo; value = pos 0; from = None }
 
--- the parent is told at once, unless it is process 1: outside a transaction, and where it is a member too
-abbrev pub tells : Option Inside → ℕ → List Sending
-tells None parent = if parent == 1 then [] else told_to parent ∷ []
-tells (Some inside) parent = if parent == 1 then [] else (if inside.members parent then told_to parent ∷ [] else [])
+-- how the parent of a process that ends is told
+pub data Telling : Type 0 where
+  NotTold : Telling
+  AtOnce : Telling
+  -- when the transaction of the starter commits
+  AtCommit : ℕ → Telling
 
--- a parent that is no member is told at the commit
-abbrev pub tells_later : Option Inside → ℕ → State → List Write
-tells_later None parent S = []
-tells_later (Some inside) parent S =
-    if parent == 1 then [] else (if inside.members parent then [] else SetHeld inside.starter (S.held inside.starter ++ told_to parent ∷ []) ∷ [])
+abbrev pub telling_by : Option Inside → ℕ → Telling
+telling_by None parent = AtOnce
+telling_by (Some inside) parent = if inside.members parent then AtOnce else AtCommit inside.starter
+
+-- process 1 is not told; a parent that is no member is told at the commit
+abbrev pub telling : Option Inside → ℕ → Telling
+telling inside parent = if parent == 1 then NotTold else telling_by inside parent
+
+abbrev pub told_at_once : Telling → ℕ → List Sending
+told_at_once NotTold parent = []
+told_at_once AtOnce parent = told_to parent ∷ []
+told_at_once (AtCommit s) parent = []
+
+abbrev pub told_at_commit : Telling → ℕ → State → List Write
+told_at_commit NotTold parent S = []
+told_at_commit AtOnce parent S = []
+told_at_commit (AtCommit s) parent S = SetHeld s (S.held s ++ told_to parent ∷ []) ∷ []
 
 -- the end of a process, by its exit or by a signal: its children get parent 1, its descriptors are closed, and its parent is told
 abbrev pub ending : Option Inside → ℕ → ℕ → Process → State → Effect
@@ -86,8 +100,8 @@ ending inside p status me S = record {
   writes = SetProc p (Some (ended status me))
       ∷ orphaned (children_of p S) S
       ++ released (open_in me.descriptors) (write_one (SetProc p (Some (ended status me))) S)
-      ++ tells_later inside me.parent S;
-  sends = tells inside me.parent;
+      ++ told_at_commit (telling inside me.parent) me.parent S;
+  sends = told_at_once (telling inside me.parent) me.parent;
   conclusion = Replies Ended;
 }
 

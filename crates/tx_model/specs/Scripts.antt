@@ -1,12 +1,13 @@
 -- The calls of a process that concern it alone: its numbers and ids, its script, and the console.
-use Rattle.std.specs.Prelude.{ℕ, Bool, true, ℤ, pos, negsuc, Option, Some, None, if◌then◌else◌, nat_lt, slice_set}
+use Rattle.std.specs.Prelude.{ℕ, Bool, true, ℤ, pos, Option, Some, None, if◌then◌else◌, nat_lt, slice_set, ◌+◌}
 use Rattle.std.specs.Ordering.{int_eq}
+use Rattle.tx_base.specs.declared.limits.TheConstants.{CLOSED_INSIDE, CONSOLE_BYTES, LAST_POINT}
 use Rattle.tx_base.specs.declared.errors.Errno.TheVariants.{BadAddress, InvalidArgument}
 use Rattle.tx_base.specs.declared.steps.Reply.TheVariants.{Done, Out}
 use Rattle.tx_base.specs.declared.steps.When.{When}
 use Rattle.tx_base.specs.declared.steps.When.TheVariants.{Always, IfRet}
-use Rattle.tx_model.specs.Numbers.{below, failing}
-use Rattle.tx_model.specs.Memory.{is_good, is_mapped, bytes_at}
+use Rattle.tx_model.specs.Numbers.{below, failing, negative}
+use Rattle.tx_model.specs.Memory.{is_good, is_mapped, bytes_at, address_of}
 use Rattle.tx_model.specs.State.{Process}
 use Rattle.tx_model.specs.Effects.{Inside, Own, answers_with, noted}
 use Rattle.tx_model.specs.Identities.{Identified}
@@ -31,7 +32,7 @@ stands_at point me = record me { registers = record { point = point; ret = last_
 -- jump (own rule): the last answer stays and is the answer
 abbrev pub jumps : ℕ → When → Process → Own
 jumps point when me =
-    if nat_lt 65535 point then answers_with (failing InvalidArgument) me
+    if nat_lt LAST_POINT point then answers_with (failing InvalidArgument) me
     else (if does_jump when (last_ret me) then record { process = stands_at point me; reply = Done (last_ret me) } else answers_with (last_ret me) me)
 
 abbrev pub with_kept : ℕ → ℤ → Process → Process
@@ -45,17 +46,17 @@ keeps_at (Some k) me = answers_with (last_ret me) (with_kept k (last_ret me) me)
 
 -- the answer of a call that is not open inside a transaction (own number)
 abbrev pub closed_inside : ℤ
-closed_inside = negsuc 199
+closed_inside = negative CLOSED_INSIDE
 
 -- console_write (own rule): up to 64 bytes of memory are shown
 abbrev pub shows : ℤ → Option ℕ → Process → Own
 shows address None me = answers_with (failing InvalidArgument) me
 shows address (Some n) me =
     if is_good is_mapped me.memory address n
-    then record { process = noted (pos n) me; reply = Out (record { items = bytes_at me.memory (below 1024 address) n }) }
+    then record { process = noted (pos n) me; reply = Out (record { items = bytes_at me.memory (address_of address) n }) }
     else answers_with (failing BadAddress) me
 
 -- it is closed inside a transaction
 abbrev pub writes_console : Option Inside → ℤ → ℤ → Process → Own
-writes_console None address n me = shows address (below 65 n) me
+writes_console None address n me = shows address (below (CONSOLE_BYTES + 1) n) me
 writes_console (Some inside) address n me = answers_with closed_inside me

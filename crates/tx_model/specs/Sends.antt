@@ -1,16 +1,13 @@
 -- Signals that a process sends (POSIX.1-2017, XSH, kill() and sigqueue()). EINVAL is tested before ESRCH (own rule).
 use Rattle.std.specs.Prelude.{ℕ, zero, suc, ◌+◌, List, [], ◌∷◌, ◌++◌, ℤ, pos, negsuc, Option, Some, None, if◌then◌else◌, nat_lt, ◌==◌}
 use Rattle.tx_base.specs.declared.errors.Errno.TheVariants.{NoSuchProcess, TryAgain, InvalidArgument}
+use Rattle.tx_base.specs.declared.limits.TheConstants.{HELD_SENDS}
 use Rattle.tx_model.specs.Numbers.{failing}
 use Rattle.tx_model.specs.State.{Process, State, Sender, Sending, SetHeld}
 use Rattle.tx_model.specs.Effects.{Inside, Effect, AnswersPost, done, done_with}
 use Rattle.tx_model.specs.Scripts.{closed_inside}
 use Rattle.tx_model.specs.Signals.{known}
 use Rattle.tx_model.specs.Processes.{numbered}
-
--- how many sends a transaction holds; those of the kernel do not count
-abbrev pub held_limit : ℕ
-held_limit = 32
 
 abbrev pub has_sender : Option Sender → ℕ
 has_sender None = 0
@@ -39,7 +36,7 @@ posts_now p m = record { writes = []; sends = m ∷ []; conclusion = AnswersPost
 abbrev pub holds : ℕ → Inside → Process → Sending → State → Effect
 holds p inside me m S =
     if m.signo == 0 then done p closed_inside me
-    else (if nat_lt (sent_by_members (S.held inside.starter)) held_limit
+    else (if nat_lt (sent_by_members (S.held inside.starter)) HELD_SENDS
     then done_with (SetHeld inside.starter (S.held inside.starter ++ m ∷ []) ∷ []) p (pos 0) me
     else done p (failing TryAgain) me)
 

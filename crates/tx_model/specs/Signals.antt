@@ -1,5 +1,6 @@
 -- The calls on the signals of their own process: actions, the mask, what is pending, and the return from a caught signal.
 use Rattle.std.specs.Prelude.{ℕ, ◌-◌, Bool, true, false, ◌||◌, List, [], ◌∷◌, length, ℤ, pos, negsuc, Option, Some, None, if◌then◌else◌, nat_lt, ◌==◌, bit_and, bit_or, slice_set, slice_get, take}
+use Rattle.tx_base.specs.declared.limits.TheConstants.{LAST_POINT}
 use Rattle.tx_base.specs.Signals.{bits_of, set_of_bits}
 use Rattle.tx_base.specs.declared.errors.Errno.TheVariants.{InvalidArgument}
 use Rattle.tx_base.specs.declared.signals.Action.{Action}
@@ -37,13 +38,29 @@ kept_action (Catch point mask) = Catch point (set_of_bits (maskable (bits_of mas
 abbrev pub is_bad_action : Action → Bool
 is_bad_action Usual = false
 is_bad_action Ignore = false
-is_bad_action (Catch point mask) = nat_lt 65535 point
+is_bad_action (Catch point mask) = nat_lt LAST_POINT point
+
+-- what a delivery comes to
+pub data Disposition : Type 0 where
+  Ignored : Disposition
+  Fatal : Disposition
+  -- it is caught at a point, with a set of signals blocked too
+  Caught : ℕ → SigSet → Disposition
+
+-- the usual action of SIGCHLD is to be ignored, that of all others is to end the process
+abbrev pub disposition : ℕ → Action → Disposition
+disposition signo Usual = if signo == child_signo then Ignored else Fatal
+disposition signo Ignore = Ignored
+disposition signo (Catch point mask) = Caught point mask
+
+abbrev pub ignores : Disposition → Bool
+ignores Ignored = true
+ignores Fatal = false
+ignores (Caught point mask) = false
 
 -- whether a signal with this action is ignored
 abbrev pub is_ignored : ℕ → Action → Bool
-is_ignored signo Usual = signo == child_signo
-is_ignored signo Ignore = true
-is_ignored signo (Catch point mask) = false
+is_ignored signo action = ignores (disposition signo action)
 
 abbrev pub with_action : ℕ → Action → Process → Process
 with_action signo action me = record me { actions = slice_set me.actions signo (kept_action action) }

@@ -1,5 +1,6 @@
 -- The kernel's state, what is written into it, and what two states have in common.
 use Rattle.std.specs.Prelude.{◌≡◌, ◌≢◌, ℕ, zero, suc, Bool, true, false, List, [], ◌∷◌, Option, Some, None, ℤ, pos, if◌then◌else◌, nat_lt, ◌==◌, is_some, replicate, slice_index_or}
+use Rattle.tx_base.specs.declared.limits.TheConstants.{DESCRIPTORS, SIGNALS, SLOTS}
 use Rattle.tx_base.specs.declared.names.Regs.{Regs}
 use Rattle.tx_base.specs.declared.signals.Action.{Action}
 use Rattle.tx_base.specs.declared.signals.Action.TheVariants.{Usual}
@@ -174,7 +175,11 @@ abbrev pub root_ids : Ids
 root_ids = record { real_user = 0; effective_user = 0; saved_user = 0; real_group = 0; effective_group = 0; saved_group = 0 }
 
 abbrev pub first_registers : Regs
-first_registers = record { point = 0; ret = pos 0; slots = replicate 8 (pos 0) }
+first_registers = record { point = 0; ret = pos 0; slots = replicate SLOTS (pos 0) }
+
+-- the usual action for each signal, of numbers 0 to 39
+abbrev pub usual_actions : List Action
+usual_actions = replicate SIGNALS Usual
 
 -- process 1 is the parent of the others, and has none itself
 abbrev pub booted_process : ℕ → Process
@@ -184,9 +189,9 @@ booted_process n = record {
   status = None;
   ids = root_ids;
   memory = no_memory;
-  descriptors = replicate 16 None;
+  descriptors = replicate DESCRIPTORS None;
   mask = 0;
-  actions = replicate 40 Usual;
+  actions = usual_actions;
   pending = 0;
   queued = [];
   frames = [];

@@ -1,19 +1,16 @@
 -- Reads from pipes and writes to them (POSIX.1-2017, XSH, read() and write()). Own rules where POSIX has a choice: a
 -- write that blocks is done whole or not at all too, and EFAULT is tested before an empty pipe, EPIPE and EAGAIN.
 use Rattle.std.specs.Prelude.{ℕ, zero, suc, ◌+◌, Bool, true, false, List, [], ◌∷◌, ◌++◌, length, ℤ, pos, Option, Some, None, if◌then◌else◌, nat_lt, min, take, drop}
+use Rattle.tx_base.specs.declared.limits.TheConstants.{DESCRIPTIONS, PIPE_BYTES}
 use Rattle.tx_base.specs.declared.errors.Errno.TheVariants.{TryAgain, BadAddress, InvalidArgument, BrokenPipe}
 use Rattle.tx_base.specs.declared.steps.Refusal.TheVariants.{Wait}
 use Rattle.tx_base.specs.declared.steps.Reply.TheVariants.{Done}
 use Rattle.tx_model.specs.Numbers.{below, failing}
-use Rattle.tx_model.specs.Memory.{is_good, is_mapped, is_writable, stored, bytes_at}
+use Rattle.tx_model.specs.Memory.{is_good, is_mapped, is_writable, stored, bytes_at, address_of}
 use Rattle.tx_model.specs.SignalSets.{broken_pipe_signo}
 use Rattle.tx_model.specs.State.{Process, Side, ReadSide, WriteSide, Description, State, SetProc, SetPipe}
 use Rattle.tx_model.specs.Effects.{Effect, Replies, idle, noted, done, done_with}
 use Rattle.tx_model.specs.Descriptors.{has_side_below, bad_descriptor}
-
--- how many bytes a pipe holds at most, and a call moves (PIPE_BUF)
-abbrev pub pipe_room : ℕ
-pipe_room = 512
 
 abbrev pub is_read_side : Side → Bool
 is_read_side ReadSide = true
@@ -24,10 +21,10 @@ is_write_side ReadSide = false
 is_write_side WriteSide = true
 
 abbrev pub has_writer : ℕ → State → Bool
-has_writer k S = has_side_below is_write_side k 64 S
+has_writer k S = has_side_below is_write_side k DESCRIPTIONS S
 
 abbrev pub has_reader : ℕ → State → Bool
-has_reader k S = has_side_below is_read_side k 64 S
+has_reader k S = has_side_below is_read_side k DESCRIPTIONS S
 
 -- the bytes of a pipe
 abbrev pub bytes_in : Option (List ℕ) → List ℕ
@@ -44,7 +41,7 @@ drains p x address n me writer [] = if writer then waits p x me else done p (pos
 drains p x address n me writer (byte ∷ bytes) =
     let m = min n (length (byte ∷ bytes)) in
     done_with (SetPipe x.pipe (Some (drop m (byte ∷ bytes))) ∷ []) p (pos m)
-    (record me { memory = stored me.memory (below 1024 address) (take m (byte ∷ bytes)) })
+    (record me { memory = stored me.memory (address_of address) (take m (byte ∷ bytes)) })
 
 abbrev pub reads : ℕ → Description → ℤ → Option ℕ → Process → State → Effect
 reads p x address None me S = done p (failing InvalidArgument) me
@@ -59,7 +56,7 @@ read_by_side ReadSide p x address n me S = reads p x address n me S
 
 abbrev pub read_described : ℕ → Option Description → ℤ → ℤ → Process → State → Effect
 read_described p None address n me S = bad_descriptor p me
-read_described p (Some x) address n me S = read_by_side x.side p x address (below (pipe_room + 1) n) me S
+read_described p (Some x) address n me S = read_by_side x.side p x address (below (PIPE_BYTES + 1) n) me S
 
 -- read, from the description that the descriptor names
 abbrev pub read_effect : ℕ → Option ℕ → ℤ → ℤ → Process → State → Effect
@@ -77,8 +74,8 @@ breaks p me = record {
 -- n bytes go from an address to the pipe, if there is room for them
 abbrev pub puts : ℕ → Description → ℤ → ℕ → Process → List ℕ → Effect
 puts p x address n me bytes =
-    if nat_lt pipe_room (length bytes + n) then waits p x me
-    else done_with (SetPipe x.pipe (Some (bytes ++ bytes_at me.memory (below 1024 address) n)) ∷ []) p (pos n) me
+    if nat_lt PIPE_BYTES (length bytes + n) then waits p x me
+    else done_with (SetPipe x.pipe (Some (bytes ++ bytes_at me.memory (address_of address) n)) ∷ []) p (pos n) me
 
 abbrev pub writes : ℕ → Description → ℤ → Option ℕ → Process → State → Effect
 writes p x address None me S = done p (failing InvalidArgument) me
@@ -94,7 +91,7 @@ write_by_side WriteSide p x address n me S = writes p x address n me S
 
 abbrev pub write_described : ℕ → Option Description → ℤ → ℤ → Process → State → Effect
 write_described p None address n me S = bad_descriptor p me
-write_described p (Some x) address n me S = write_by_side x.side p x address (below (pipe_room + 1) n) me S
+write_described p (Some x) address n me S = write_by_side x.side p x address (below (PIPE_BYTES + 1) n) me S
 
 -- write, to the description that the descriptor names
 abbrev pub write_effect : ℕ → Option ℕ → ℤ → ℤ → Process → State → Effect

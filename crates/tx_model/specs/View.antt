@@ -2,6 +2,7 @@
 use Rattle.std.specs.Prelude.{◌≡◌, ℕ, zero, suc, Bool, true, false, not, List, [], ◌∷◌, ℤ, Option, Some, None, is_some, if◌then◌else◌, ◌==◌}
 use Rattle.std.specs.Ordering.{int_eq}
 use Rattle.std.specs.Int.{bit_at}
+use Rattle.tx_base.specs.declared.limits.TheConstants.{ABORTED_BY_KERNEL, ABORTED_DOOMED}
 use Rattle.tx_base.specs.declared.steps.Accepted.{Accepted}
 use Rattle.tx_base.specs.declared.steps.Reply.{Reply}
 use Rattle.tx_base.specs.declared.steps.Reply.TheVariants.{Aborted}
@@ -12,7 +13,7 @@ use Rattle.tx_model.specs.SignalSets.{kill_signo}
 use Rattle.tx_model.specs.Effects.{send_answers}
 use Rattle.tx_model.specs.Events.{Event, process_of, actor, effect, after, reply_of}
 use Rattle.tx_model.specs.Membership.{Table, is_live, is_member_of, Role, called_by_status, role, step_event, event, table_after}
-use Rattle.tx_model.specs.History.{Starters, nobody, just, table_of, left_out_before, stays, without, footprint, touched_after, touched_of}
+use Rattle.tx_model.specs.History.{Starters, nobody, just, table_of, left_out_before, stays, without, event_footprint, touched_after, touched_of}
 
 -- the state without each set of live transactions, the table, and what each transaction touched
 pub record View : Type 0 where
@@ -37,7 +38,7 @@ is_doomed V s = has_pending kill_signo ((V.without (just s)).procs s)
 
 -- the status with which the kernel aborts: 203 where the transaction is doomed, else 202 (own numbers)
 abbrev pub kernel_status : View → ℕ → ℕ
-kernel_status V s = if is_doomed V s then 203 else 202
+kernel_status V s = if is_doomed V s then ABORTED_DOOMED else ABORTED_BY_KERNEL
 
 -- the status of the abort that the step is
 abbrev pub abort_status : View → Step → ℕ
@@ -76,7 +77,7 @@ has_two_answers V ev s =
 
 -- whether the event meets what the transaction of s touched
 abbrev pub meets_touched : View → Event → ℕ → Bool
-meets_touched V ev s = meets (footprint V.table ev (present V)) (V.touched s)
+meets_touched V ev s = meets (event_footprint V.table ev (present V)) (V.touched s)
 
 abbrev pub blocks : Bool → View → Event → ℕ → Bool
 blocks false V ev s = false
@@ -103,7 +104,7 @@ abbrev pub next_by : Role → Event → ℕ → View → View
 next_by r ev p V = record {
   without = λ X. after_if (stays r X) ev (V.without (left_out_before r X));
   table = table_after r p V.table;
-  touched = touched_after r (footprint V.table ev (present V)) V.touched;
+  touched = touched_after r (event_footprint V.table ev (present V)) V.touched;
 }
 
 -- the view after an accepted step, from the view before it

@@ -2,30 +2,30 @@
 use Rattle.std.proofs.Common.{◌≡◌, ℕ, ◌+◌, ◌-◌, ◌≤◌, Bool, true, false, List, ◌++◌, length, take, drop, if◌then◌else◌, nat_lt, refl, ap, ◌∙◌, arith, length-append, length-drop}
 use Rattle.std.proofs.lemmas.Bool.{le-ltb, lt-ltb, ltb-true, ltb-false}
 use Rattle.std.proofs.lemmas.List.{drop_at, take_at, take-append-drop, length-take-le}
-use Rattle.tx_model.specs.Transfers.{pipe_room}
 use Rattle.tx_pipe.specs.Exchanges.{can_exchange, front_exchanged, back_exchanged, front_given, back_given, count_given}
+use Rattle.tx_base.specs.declared.limits.TheConstants.{PIPE_BYTES}
 
 -- what a test of an exchange says
 record Room (count : ℕ) (bytes held : List ℕ) : Type 0 where
   there : count ≤ length held
-  fits : length held ≤ pipe_room
-  comes : length bytes + (length held - count) ≤ pipe_room
+  fits : length held ≤ PIPE_BYTES
+  comes : length bytes + (length held - count) ≤ PIPE_BYTES
 
 room : (count : ℕ) (bytes held : List ℕ) → can_exchange count bytes held ≡ true → Room count bytes held
-room count bytes held = by (nat_lt (length held) count) refl (nat_lt pipe_room (length held)) refl
+room count bytes held = by (nat_lt (length held) count) refl (nat_lt PIPE_BYTES (length held)) refl
   where
-    by : (b : Bool) → nat_lt (length held) count ≡ b → (c : Bool) → nat_lt pipe_room (length held) ≡ c
-        → (if b then false else (if c then false else nat_lt (length bytes + (length held - count)) (pipe_room + 1))) ≡ true → Room count bytes held
+    by : (b : Bool) → nat_lt (length held) count ≡ b → (c : Bool) → nat_lt PIPE_BYTES (length held) ≡ c
+        → (if b then false else (if c then false else nat_lt (length bytes + (length held - count)) (PIPE_BYTES + 1))) ≡ true → Room count bytes held
     by true e c f h = cc
     by false e true f h = cc
     by false e false f h =
-        let last = ltb-true (length bytes + (length held - count)) (pipe_room + 1) h in
-        record { there = ltb-false (length held) count e; fits = ltb-false pipe_room (length held) f; comes = omega (arith, last) }
+        let last = ltb-true (length bytes + (length held - count)) (PIPE_BYTES + 1) h in
+        record { there = ltb-false (length held) count e; fits = ltb-false PIPE_BYTES (length held) f; comes = omega (arith, last) }
 
 can : (count : ℕ) (bytes held : List ℕ) → Room count bytes held → can_exchange count bytes held ≡ true
 can count bytes held r =
-    rw (le-ltb (length held) count r.there, le-ltb pipe_room (length held) r.fits)
-    (lt-ltb (length bytes + (length held - count)) (pipe_room + 1) (let last = r.comes in omega (arith, last)))
+    rw (le-ltb (length held) count r.there, le-ltb PIPE_BYTES (length held) r.fits)
+    (lt-ltb (length bytes + (length held - count)) (PIPE_BYTES + 1) (let last = r.comes in omega (arith, last)))
 
 abbrev FrontComesBack : ℕ → List ℕ → List ℕ → Type 0
 FrontComesBack count bytes held =

@@ -1,12 +1,12 @@
 -- Some bytes of a pipe exchanged for others, at its front or at its back.
 use Rattle.std.specs.Prelude.{ℕ, ◌+◌, ◌-◌, Bool, false, List, ◌++◌, length, take, drop, if◌then◌else◌, nat_lt}
-use Rattle.tx_model.specs.Transfers.{pipe_room}
+use Rattle.tx_base.specs.declared.limits.TheConstants.{PIPE_BYTES}
 
 -- whether so many bytes are held, and those that come in their place have room
 abbrev pub can_exchange : ℕ → List ℕ → List ℕ → Bool
 can_exchange count bytes held =
     if nat_lt (length held) count then false
-    else (if nat_lt pipe_room (length held) then false else nat_lt (length bytes + (length held - count)) (pipe_room + 1))
+    else (if nat_lt PIPE_BYTES (length held) then false else nat_lt (length bytes + (length held - count)) (PIPE_BYTES + 1))
 
 -- the pipe with other bytes in place of its first few
 abbrev pub front_exchanged : ℕ → List ℕ → List ℕ → List ℕ

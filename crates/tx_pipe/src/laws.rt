@@ -1,7 +1,7 @@
 //! What undoes a read, a write and an exchange, as the contracts of functions that do nothing.
 ghost use Rattle.std.specs.Prelude.{◌≡◌, ◌-◌, ◌+◌, ◌≤◌, ℕ, List, ◌++◌, length, min, take, drop};
-ghost use Rattle.tx_model.specs.Transfers.{pipe_room};
 ghost use Rattle.tx_pipe.specs.Exchanges.{front_exchanged, back_exchanged, front_given, back_given, count_given};
+ghost use Rattle.tx_base.specs.declared.limits.TheConstants.{PIPE_BYTES};
 
 /// Putting back the bytes that a read took gives the pipe from before it: the bytes at the front
 /// and what is left are the whole, also where the room of the read was longer than what it took.
@@ -11,8 +11,8 @@ pub fn put_back_undoes_read()
     ensures in_room { (held into : List ℕ) →
         let count = min (length into) (length held) in
         take count (take count held ++ drop count into) ++ drop count held ≡ held }
-    ensures fits { (held : List ℕ) (count : ℕ) → length held ≤ pipe_room →
-        length (take count held) + length (drop count held) ≤ pipe_room }
+    ensures fits { (held : List ℕ) (count : ℕ) → length held ≤ PIPE_BYTES →
+        length (take count held) + length (drop count held) ≤ PIPE_BYTES }
 {}
 
 /// Taking back as many bytes as a write appended gives the pipe from before it. There always are

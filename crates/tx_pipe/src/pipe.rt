@@ -1,13 +1,13 @@
 //! The bytes of a pipe: at most 512, the oldest first.
 ghost use Rattle.std.specs.Bool.{OnTrue, OnFalse};
 ghost use Rattle.std.specs.Prelude.{◌≡◌, ◌+◌, ◌-◌, ◌≤◌, ◌↔◌, [], ◌++◌, IsTrue, length, min, take, drop};
-ghost use Rattle.tx_model.specs.Transfers.{pipe_room};
 ghost use Rattle.tx_pipe.specs.Exchanges.{can_exchange, front_exchanged, back_exchanged, front_given, back_given, count_given};
 
 use arrayvec::ArrayVec;
 use std::marker::Model;
 use std::mem;
 use tx_base::PIPE_BYTES;
+ghost use Rattle.tx_base.specs.declared.limits.TheConstants.{PIPE_BYTES};
 
 /// The bytes that were written to a pipe and are not read yet, the oldest first: 0 to 512 of them.
 /// Contracts see the list of these bytes.
@@ -37,7 +37,7 @@ impl Pipe {
     /// How many bytes it holds: 0 to 512.
     pub fn len(&self) -> usize
         ensures held { result ≡ length self.now }
-        ensures fits { length self.now ≤ pipe_room }
+        ensures fits { length self.now ≤ PIPE_BYTES }
     {
         self.bytes.len()
     }
@@ -51,7 +51,7 @@ impl Pipe {
 
     /// How many bytes it has room for: 0 to 512.
     pub fn room(&self) -> usize
-        ensures { length self.now + result ≡ pipe_room }
+        ensures { length self.now + result ≡ PIPE_BYTES }
     {
         self.bytes.remaining_capacity()
     }
@@ -59,7 +59,7 @@ impl Pipe {
     /// All its bytes, the oldest first.
     pub fn bytes(&self) -> &[u8]
         ensures whole { result.now ≡ self.now }
-        ensures fits { length self.now ≤ pipe_room }
+        ensures fits { length self.now ≤ PIPE_BYTES }
     {
         self.bytes.as_slice()
     }
@@ -68,7 +68,7 @@ impl Pipe {
     /// pipe is then as it was. POSIX.1-2017, XSH, write(), of up to PIPE_BUF bytes to a pipe. More
     /// bytes than that never fit: own rule.
     pub fn write(&mut self, bytes: &[u8]) -> bool
-        ensures fits { IsTrue result ↔ (length self.old + length bytes.now ≤ pipe_room) }
+        ensures fits { IsTrue result ↔ (length self.old + length bytes.now ≤ PIPE_BYTES) }
         ensures appended { OnTrue result (self.new ≡ self.old ++ bytes.now) }
         ensures unchanged { OnFalse result (self.new ≡ self.old) }
     {
@@ -82,7 +82,7 @@ impl Pipe {
         ensures count { result ≡ min (length into.old) (length self.old) }
         ensures taken { into.new ≡ take result self.old ++ drop result into.old }
         ensures left { self.new ≡ drop result self.old }
-        ensures fits { length self.old ≤ pipe_room }
+        ensures fits { length self.old ≤ PIPE_BYTES }
     {
         let count = into.len().min(self.len());
         into[..count].copy_from_slice(&self.bytes[..count]);
@@ -93,7 +93,7 @@ impl Pipe {
     /// Puts bytes at the front, before those that are held; they must fit. It undoes a read that
     /// took them. Own rule.
     pub fn put_back(&mut self, bytes: &[u8])
-        requires { length bytes.now + length self.old ≤ pipe_room }
+        requires { length bytes.now + length self.old ≤ PIPE_BYTES }
         ensures { self.new ≡ bytes.now ++ self.old }
     {
         put_front(&mut self.bytes, bytes);
@@ -165,7 +165,7 @@ impl Pipe {
 
     /// A pipe that holds these bytes, which must fit.
     fn of(bytes: &[u8]) -> Pipe
-        requires { length bytes.now ≤ pipe_room }
+        requires { length bytes.now ≤ PIPE_BYTES }
         ensures { result ≡ bytes.now }
     {
         let mut pipe = Pipe::new();
@@ -186,7 +186,7 @@ fn drop_front(bytes: &mut ArrayVec<u8, PIPE_BYTES>, count: usize)
 
 /// Puts bytes in front of those that are there.
 fn put_front(bytes: &mut ArrayVec<u8, PIPE_BYTES>, front: &[u8])
-    requires { length front.now + length bytes.old.items ≤ pipe_room }
+    requires { length front.now + length bytes.old.items ≤ PIPE_BYTES }
     ensures { bytes.new.items ≡ front.now ++ bytes.old.items }
 {
     let _fits = bytes.try_extend_from_slice(front);

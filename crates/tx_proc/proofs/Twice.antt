@@ -8,10 +8,9 @@ use Rattle.std.proofs.lemmas.Option.{slice_get-get_or}
 use Rattle.tx_signal.proofs.ExchangeFacts.{entry_back}
 use Rattle.std.proofs.lemmas.List.{take_more, length-take-le, set-set, set_comm, set-get_or, get_or-set_same, get_or-set_other, take_at}
 use Rattle.tx_base.specs.declared.signals.Action.{Action as Act}
+use Rattle.tx_base.specs.declared.limits.TheConstants.{QUEUED, FRAMES}
 use Rattle.tx_desc.specs.Places.{number_in}
-use Rattle.tx_model.specs.Deliveries.{frame_limit}
 use Rattle.tx_model.specs.Memory.{PageView}
-use Rattle.tx_model.specs.Posts.{queue_limit}
 use Rattle.tx_model.specs.State.{Queued as Entry, Frame as Saved}
 use Rattle.tx_proc.proofs.Names.{desc_same, number_back}
 use Rattle.tx_proc.specs.Laws.{is_same_part, IsSized}
@@ -22,18 +21,18 @@ use Rattle.tx_proc.specs.declared.proc.Proc.{Proc}
 use Rattle.tx_signal.specs.Entries.{entry_swapped}
 
 -- an exchange makes no queue too long
-entry_swapped_fits : (place : ℕ) (entry : Option Entry) (queue : List Entry) → length queue ≤ queue_limit → length (entry_swapped place entry queue) ≤ queue_limit
+entry_swapped_fits : (place : ℕ) (entry : Option Entry) (queue : List Entry) → length queue ≤ QUEUED → length (entry_swapped place entry queue) ≤ QUEUED
 entry_swapped_fits place None queue fits = by (nat_lt place (length queue)) refl
   where
-    by : (b : Bool) → nat_lt place (length queue) ≡ b → length (if b then remove queue place else queue) ≤ queue_limit
+    by : (b : Bool) → nat_lt place (length queue) ≡ b → length (if b then remove queue place else queue) ≤ QUEUED
     by true e = let left = length-remove queue place (ltb-true place (length queue) e) in omega (arith, left, fits)
     by false e = fits
-entry_swapped_fits place (Some entry) queue fits = by (nat_le place (length queue)) refl (nat_lt (length queue) queue_limit) refl
+entry_swapped_fits place (Some entry) queue fits = by (nat_le place (length queue)) refl (nat_lt (length queue) QUEUED) refl
   where
-    by : (b : Bool) → nat_le place (length queue) ≡ b → (c : Bool) → nat_lt (length queue) queue_limit ≡ c →
-        length (if (if b then c else false) then insert queue place entry else queue) ≤ queue_limit
+    by : (b : Bool) → nat_le place (length queue) ≡ b → (c : Bool) → nat_lt (length queue) QUEUED ≡ c →
+        length (if (if b then c else false) then insert queue place entry else queue) ≤ QUEUED
     by true e true f =
-        let more = length-insert queue place entry (leb-true place (length queue) e) in let room = ltb-true (length queue) queue_limit f in
+        let more = length-insert queue place entry (leb-true place (length queue) e) in let room = ltb-true (length queue) QUEUED f in
         omega (arith, more, room)
     by true e false f = fits
     by false e c f = fits
@@ -42,15 +41,15 @@ entry_swapped_fits place (Some entry) queue fits = by (nat_le place (length queu
 queue_twice : (place : ℕ) (entry : Option Entry) (queue : List Entry) →
     (queue_swapped place (queue_given place entry queue) (queue_swapped place entry queue) ≡ queue)
     × (queue_given place (queue_given place entry queue) (queue_swapped place entry queue) ≡ entry)
-queue_twice place entry queue = by (nat_lt queue_limit (length queue)) refl
+queue_twice place entry queue = by (nat_lt QUEUED (length queue)) refl
   where
-    by : (b : Bool) → nat_lt queue_limit (length queue) ≡ b →
+    by : (b : Bool) → nat_lt QUEUED (length queue) ≡ b →
         (queue_swapped place (queue_given place entry queue) (queue_swapped place entry queue) ≡ queue)
         × (queue_given place (queue_given place entry queue) (queue_swapped place entry queue) ≡ entry)
     by true e = rw e (rw e (refl, refl))
     by false e =
-        let fits = ltb-false queue_limit (length queue) e in
-        let still = le-ltb queue_limit (length (entry_swapped place entry queue)) (entry_swapped_fits place entry queue fits) in
+        let fits = ltb-false QUEUED (length queue) e in
+        let still = le-ltb QUEUED (length (entry_swapped place entry queue)) (entry_swapped_fits place entry queue fits) in
         let twice = entry_back place entry queue fits in
         rw e (rw still (twice.0, twice.1))
 
@@ -68,30 +67,30 @@ frames_twice : (frame : Option Saved) (frames : List Saved) →
     (frames_swapped (frame_given frame frames) (frames_swapped frame frames) ≡ frames)
     × (frame_given (frame_given frame frames) (frames_swapped frame frames) ≡ frame)
 frames_twice None [] = (refl, refl)
-frames_twice None (first ∷ rest) = by (nat_lt frame_limit (length frames)) refl
+frames_twice None (first ∷ rest) = by (nat_lt FRAMES (length frames)) refl
   where
     frames : List Saved
     frames = first ∷ rest
 
-    by : (b : Bool) → nat_lt frame_limit (length frames) ≡ b →
+    by : (b : Bool) → nat_lt FRAMES (length frames) ≡ b →
         (frames_swapped (frame_given None frames) (frames_swapped None frames) ≡ frames)
         × (frame_given (frame_given None frames) (frames_swapped None frames) ≡ None)
     by true e = rw e (rw e (refl, refl))
     by false e =
-        let fits = ltb-false frame_limit (length frames) e in
+        let fits = ltb-false FRAMES (length frames) e in
         let there : length frames - 1 < length frames = omega arith in
         let long = length-take-le (length frames - 1) frames (omega arith) in
-        let still = lt-ltb (length (take (length frames - 1) frames)) frame_limit (omega (arith, long, fits)) in
+        let still = lt-ltb (length (take (length frames - 1) frames)) FRAMES (omega (arith, long, fits)) in
         rw (e, slice_get-get_or frames (length frames - 1) first there) (rw still (frame_back frames first there, refl))
-frames_twice (Some frame) frames = by (nat_lt (length frames) frame_limit) refl
+frames_twice (Some frame) frames = by (nat_lt (length frames) FRAMES) refl
   where
-    by : (b : Bool) → nat_lt (length frames) frame_limit ≡ b →
+    by : (b : Bool) → nat_lt (length frames) FRAMES ≡ b →
         (frames_swapped (frame_given (Some frame) frames) (frames_swapped (Some frame) frames) ≡ frames)
         × (frame_given (frame_given (Some frame) frames) (frames_swapped (Some frame) frames) ≡ Some frame)
     by true e =
-        let below = ltb-true (length frames) frame_limit e in
+        let below = ltb-true (length frames) FRAMES e in
         let long = length-append frames (frame ∷ []) in
-        let still = le-ltb frame_limit (length (frames ++ frame ∷ [])) (omega (arith, long)) in
+        let still = le-ltb FRAMES (length (frames ++ frame ∷ [])) (omega (arith, long)) in
         let last : length (frames ++ frame ∷ []) - 1 ≡ length frames = omega (arith, long) in
         rw e (rw still (rw last (take_at frames (frame ∷ []) (length frames) refl, newest_last frames frame)))
     by false e = rw e (rw e (refl, refl))

@@ -2,11 +2,10 @@
 use Rattle.std.specs.Prelude.{ℕ, ◌<◌, ◌-◌, List, [], ◌∷◌, ◌++◌, Option, Some, None, if◌then◌else◌, nat_lt, length, take, slice_index_or, slice_set}
 use Rattle.tx_base.specs.Signals.{bits_of, set_of_bits}
 use Rattle.tx_base.specs.declared.names.DescNo.{DescNo}
+use Rattle.tx_base.specs.declared.limits.TheConstants.{QUEUED, FRAMES}
 use Rattle.tx_desc.specs.Places.{number_in}
-use Rattle.tx_model.specs.Deliveries.{frame_limit}
 use Rattle.tx_model.specs.Memory.{page_at}
 use Rattle.tx_model.specs.Signals.{newest}
-use Rattle.tx_model.specs.Posts.{queue_limit}
 use Rattle.tx_model.specs.State.{Queued as Entry, Frame as Saved}
 use Rattle.tx_proc.specs.declared.part.Part.{Part}
 use Rattle.tx_proc.specs.declared.part.Part.TheVariants.{Regs, Parent, Status, Cred, Page, Descriptor, Mask, Action, Pending, Queued, Frame}
@@ -16,21 +15,21 @@ use Rattle.tx_signal.specs.Entries.{entry_swapped, entry_given}
 -- the queue after an exchange at a place, and the entry: with none, the entry there is taken out; one is put in before it
 -- where there is room. A queue that is too long stays
 abbrev pub queue_swapped : ℕ → Option Entry → List Entry → List Entry
-queue_swapped place entry queue = if nat_lt queue_limit (length queue) then queue else entry_swapped place entry queue
+queue_swapped place entry queue = if nat_lt QUEUED (length queue) then queue else entry_swapped place entry queue
 
 abbrev pub queue_given : ℕ → Option Entry → List Entry → Option Entry
-queue_given place entry queue = if nat_lt queue_limit (length queue) then entry else entry_given place entry queue
+queue_given place entry queue = if nat_lt QUEUED (length queue) then entry else entry_given place entry queue
 
 -- the frames after an exchange: with none, the newest is taken out; one is put in where there is room. Too many
 -- frames stay
 abbrev pub frames_swapped : Option Saved → List Saved → List Saved
-frames_swapped None frames = if nat_lt frame_limit (length frames) then frames else take (length frames - 1) frames
-frames_swapped (Some frame) frames = if nat_lt (length frames) frame_limit then frames ++ frame ∷ [] else frames
+frames_swapped None frames = if nat_lt FRAMES (length frames) then frames else take (length frames - 1) frames
+frames_swapped (Some frame) frames = if nat_lt (length frames) FRAMES then frames ++ frame ∷ [] else frames
 
 -- the frame that was taken out, or none where one was put in
 abbrev pub frame_given : Option Saved → List Saved → Option Saved
-frame_given None frames = if nat_lt frame_limit (length frames) then None else newest frames
-frame_given (Some frame) frames = if nat_lt (length frames) frame_limit then None else Some frame
+frame_given None frames = if nat_lt FRAMES (length frames) then None else newest frames
+frame_given (Some frame) frames = if nat_lt (length frames) FRAMES then None else Some frame
 
 -- the description of a number, as the code names it
 abbrev pub desc_in : Option ℕ → Option DescNo

@@ -1,9 +1,9 @@
 -- One entry of the queue of realtime signals, by its place. Own rules.
 use Rattle.std.specs.Prelude.{◌≡◌, ℕ, Bool, false, not, ◌&&◌, List, length, Option, Some, None, if◌then◌else◌, nat_lt, nat_le, ◌==◌, insert, remove, slice_get, position}
 use Rattle.tx_model.specs.Deliveries.{first_value}
-use Rattle.tx_model.specs.Posts.{queue_limit}
 use Rattle.tx_model.specs.SignalSets.{is_in_set}
 use Rattle.tx_model.specs.State.{Queued}
+use Rattle.tx_base.specs.declared.limits.TheConstants.{QUEUED}
 
 -- the place of the first entry of the signal
 abbrev pub place_of : ℕ → List Queued → Option ℕ
@@ -19,7 +19,7 @@ is_lower signo mask entry = nat_lt entry.signo signo && not (is_in_set mask entr
 
 -- whether one more entry may be put in before the place
 abbrev pub has_place : ℕ → List Queued → Bool
-has_place place queue = if nat_le place (length queue) then nat_lt (length queue) queue_limit else false
+has_place place queue = if nat_le place (length queue) then nat_lt (length queue) QUEUED else false
 
 -- the queue after an exchange at the place: with no entry, the one there is taken out; an entry is
 -- put in before it, where that may be

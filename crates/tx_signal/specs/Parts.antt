@@ -3,8 +3,9 @@ use Rattle.std.specs.Prelude.{ℕ, List, ℤ, pos, Option, Result, Ok, Err, if�
 use Rattle.tx_base.specs.declared.errors.Errno.{Errno}
 use Rattle.tx_base.specs.declared.errors.Errno.TheVariants.{TryAgain}
 use Rattle.tx_base.specs.declared.signals.Action.{Action}
+use Rattle.tx_base.specs.declared.limits.TheConstants.{QUEUED}
 use Rattle.tx_model.specs.Numbers.{failing}
-use Rattle.tx_model.specs.Posts.{queue_limit, is_realtime}
+use Rattle.tx_model.specs.Posts.{is_realtime}
 use Rattle.tx_model.specs.State.{Process, Queued, Frame, Sender, Sending, booted_process}
 
 -- what is pending: the set of the standard signals, and the queue of the realtime ones, the first
@@ -44,7 +45,7 @@ sending_of signo value target from = record { target = target; signo = signo; va
 -- what a post answers where it is let through: EAGAIN for a realtime signal at a full queue
 abbrev pub post_result : ℕ → PendingView → Result (Unit {0}) Errno
 post_result signo view =
-    if is_realtime signo then (if nat_lt (length view.queued) queue_limit then Ok tt else Err TryAgain) else Ok tt
+    if is_realtime signo then (if nat_lt (length view.queued) QUEUED then Ok tt else Err TryAgain) else Ok tt
 
 -- the answer of a call that gives nothing but an error
 abbrev pub answer_of : Result (Unit {0}) Errno → ℤ

@@ -8,10 +8,7 @@ ghost use Rattle.tx_signal.specs.Parts.{with_actions};
 use crate::sets::maskable;
 use std::marker::Model;
 use std::mem;
-use tx_base::{Action, LAST_POINT, Signo};
-
-/// How many signal numbers have an action: 0 to 39.
-pub const SIGNALS: usize = 40;
+use tx_base::{Action, LAST_POINT, SIGNALS, Signo};
 
 /// The number of SIGCHLD.
 const CHILD: Signo = Signo(17);

@@ -1,7 +1,7 @@
 //! What caught signals saved.
 ghost use Rattle.std.specs.Bool.{OnTrue, OnFalse};
 ghost use Rattle.std.specs.Prelude.{◌≡◌, ◌<◌, ◌≤◌, ◌-◌, ◌↔◌, ◌++◌, ◌∷◌, [], IsTrue, length, slice_get, take};
-ghost use Rattle.tx_model.specs.Deliveries.{frame_limit, is_full};
+ghost use Rattle.tx_model.specs.Deliveries.{is_full};
 ghost use Rattle.tx_model.specs.Signals.{newest};
 ghost use Rattle.tx_model.specs.State.{Process};
 ghost use Rattle.tx_signal.specs.Parts.{with_frames};
@@ -11,6 +11,7 @@ use bitflags::Flags;
 use std::marker::Model;
 use std::mem;
 use tx_base::{FRAMES, Regs, SigSet};
+ghost use Rattle.tx_base.specs.declared.limits.TheConstants.{FRAMES};
 
 /// What a caught signal saved: the registers and the mask, as they were before it.
 #[derive(Clone, Copy, Debug)]
@@ -71,7 +72,7 @@ impl Frames {
     /// How many there are: 0 to 4.
     pub fn len(&self) -> usize
         ensures held { result ≡ length self.now }
-        ensures fits { length self.now ≤ frame_limit }
+        ensures fits { length self.now ≤ FRAMES }
     {
         self.frames.len()
     }
@@ -107,7 +108,7 @@ impl Frames {
     /// All of them, the oldest first: 0 to 4.
     pub fn frames(&self) -> &[Frame]
         ensures whole { result.now ≡ self.now }
-        ensures fits { length self.now ≤ frame_limit }
+        ensures fits { length self.now ≤ FRAMES }
     {
         self.frames.as_slice()
     }
@@ -115,7 +116,7 @@ impl Frames {
     /// Adds a newest one: false where there are 4, and they are then as they were. POSIX.1-2017,
     /// XSH, Signal Actions, of a caught signal; that 4 may be unfinished: own rule.
     pub fn push(&mut self, frame: Frame) -> bool
-        ensures fits { IsTrue result ↔ (length self.old < frame_limit) }
+        ensures fits { IsTrue result ↔ (length self.old < FRAMES) }
         ensures added { OnTrue result (self.new ≡ self.old ++ frame ∷ []) }
         ensures unchanged { OnFalse result (self.new ≡ self.old) }
     {

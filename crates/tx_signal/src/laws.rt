@@ -2,9 +2,10 @@
 //! nothing.
 ghost use Rattle.std.specs.Prelude.{◌≡◌, ◌<◌, ◌≤◌, ℕ, ℤ, false, List, length, Option, Some, slice_index_or, slice_set};
 ghost use Rattle.tx_base.specs.declared.signals.Action.{Action};
+ghost use Rattle.tx_base.specs.declared.limits.TheConstants.{QUEUED};
 ghost use Rattle.tx_model.specs.Deliveries.{delivered_value, relieved};
 ghost use Rattle.tx_model.specs.Signals.{discarded, kept_action, with_action};
-ghost use Rattle.tx_model.specs.Posts.{is_quiet, queue_limit, room_answer, with_queued};
+ghost use Rattle.tx_model.specs.Posts.{is_quiet, room_answer, with_queued};
 ghost use Rattle.tx_model.specs.State.{Process, Queued, Sender};
 ghost use Rattle.tx_signal.specs.Entries.{entry_given, entry_swapped};
 ghost use Rattle.tx_signal.specs.Parts.{PendingView, alone, answer_of, pending_of, post_result, sending_of, with_actions, with_pending_part};
@@ -13,18 +14,18 @@ ghost use Rattle.tx_signal.specs.Parts.{PendingView, alone, answer_of, pending_o
 /// entry are those from before both.
 pub fn swap_entry_twice()
     ensures queue { (place : ℕ) (entry : Option Queued) (queue : List Queued) →
-        length queue ≤ queue_limit →
+        length queue ≤ QUEUED →
         entry_swapped place (entry_given place entry queue) (entry_swapped place entry queue) ≡ queue }
     ensures entry { (place : ℕ) (entry : Option Queued) (queue : List Queued) →
-        length queue ≤ queue_limit →
+        length queue ≤ QUEUED →
         entry_given place (entry_given place entry queue) (entry_swapped place entry queue) ≡ entry }
 {}
 
 /// An exchange never makes the queue longer than it may be.
 pub fn swap_entry_fits()
     ensures { (place : ℕ) (entry : Option Queued) (queue : List Queued) →
-        length queue ≤ queue_limit →
-        length (entry_swapped place entry queue) ≤ queue_limit }
+        length queue ≤ QUEUED →
+        length (entry_swapped place entry queue) ≤ QUEUED }
 {}
 
 /// A second exchange of the action of a signal takes the first one back.
@@ -41,7 +42,7 @@ pub fn swap_action_twice()
 pub fn last_place_posts()
     ensures { (signo : ℕ) (value : ℤ) (target : ℕ) (from : Option Sender)
         (view : PendingView) (me : Process) →
-        length view.queued < queue_limit →
+        length view.queued < QUEUED →
         with_pending_part (record view {
           queued =
               entry_swapped (length view.queued) (Some (record { signo = signo; value = value })) view.queued;

@@ -11,7 +11,7 @@ mod sets;
 #[cfg(test)]
 mod tests;
 
-pub use actions::{Actions, SIGNALS, is_bad, is_fatal, is_ignored, kept};
+pub use actions::{Actions, is_bad, is_fatal, is_ignored, kept};
 pub use frames::{Frame, Frames};
 pub use laws::{
     last_place_posts, pending_suffices, post_answers, set_is_with_action, swap_action_twice,
@@ -20,4 +20,4 @@ pub use laws::{
 pub use pending::Pending;
 pub use queued::Queued;
 pub use sets::{has, is_known, is_realtime, known, maskable, masked, single, with, without};
-pub use tx_base::{Action, How, SigSet, Signo};
+pub use tx_base::{Action, How, SIGNALS, SigSet, Signo};

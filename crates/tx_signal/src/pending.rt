@@ -3,7 +3,7 @@ ghost use Rattle.std.specs.Prelude.{◌≡◌, ℕ, ◌<◌, ◌≤◌, ◌↔�
 ghost use Rattle.std.specs.List.{list_any};
 ghost use Rattle.tx_base.specs.Signals.{bits_of};
 ghost use Rattle.tx_model.specs.Deliveries.{delivered_value, first_value, is_blocked, less_first, pending_value, relieved};
-ghost use Rattle.tx_model.specs.Posts.{has_room, queue_limit, with_signal};
+ghost use Rattle.tx_model.specs.Posts.{has_room, with_signal};
 ghost use Rattle.tx_model.specs.Signals.{discarded, pending_signals, queued_others, queued_signals};
 ghost use Rattle.tx_model.specs.State.{Process, Queued as Entry, Sender};
 ghost use Rattle.tx_signal.specs.Entries.{IsFirstOf, entry_given, entry_swapped, is_lower, place_of};
@@ -16,6 +16,7 @@ use bitflags::Flags;
 use std::marker::Model;
 use std::mem;
 use tx_base::{Errno, QUEUED, SigSet, Signo};
+ghost use Rattle.tx_base.specs.declared.limits.TheConstants.{QUEUED};
 
 /// The signals that are pending at a process: each standard signal once, and up to 16 realtime
 /// ones, the first to be taken first (POSIX.1-2017, XSH, Signal Generation and Delivery). Contracts
@@ -56,7 +57,7 @@ impl Pending {
     /// The realtime signals, the first to be taken first: 0 to 16 of them.
     pub fn queued(&self) -> &[Queued]
         ensures whole { result.now ≡ self.now.queued }
-        ensures fits { length self.now.queued ≤ queue_limit }
+        ensures fits { length self.now.queued ≤ QUEUED }
     {
         self.queued.as_slice()
     }
@@ -203,7 +204,7 @@ impl Pending {
     /// The place behind the last entry of the queue, where a post puts one more. Own rule.
     pub fn last_place(&self) -> usize
         ensures place { result ≡ length self.now.queued }
-        ensures last { (entry : Entry) → length self.now.queued < queue_limit →
+        ensures last { (entry : Entry) → length self.now.queued < QUEUED →
             entry_swapped result (Some entry) self.now.queued ≡ self.now.queued ++ entry ∷ [] }
     {
         self.queued.len()
@@ -284,7 +285,7 @@ fn signals_of(queue: &[Queued]) -> SigSet
 
 /// The entries of other signals.
 fn others(queue: &[Queued], signo: Signo) -> ArrayVec<Queued, QUEUED>
-    requires { length queue.now ≤ queue_limit }
+    requires { length queue.now ≤ QUEUED }
     ensures { result.items ≡ queued_others signo.0 queue.now }
 {
     let mut kept = ArrayVec::new();

@@ -7,12 +7,11 @@ use Rattle.tx_base.specs.declared.steps.Reply.TheVariants.{Done}
 use Rattle.tx_base.specs.declared.steps.Step.TheVariants.{Call as Calls}
 use Rattle.tx_proc.specs.declared.proc.Proc.{Proc}
 use Rattle.tx_core.specs.Content.{IsContent}
-use Rattle.tx_core.specs.Plans.{IsRunning}
+use Rattle.tx_core.specs.Plans.{IsRunning, memory_call}
 use Rattle.tx_core.specs.Steps.{IsStep}
 use Rattle.tx_core.specs.declared.kernel.Kernel.{Kernel}
 use Rattle.tx_core.proofs.StepFacts.{IsDone}
 use Rattle.tx_core.proofs.MachineFacts.{runs_at, plan_named, inside_from}
-use Rattle.tx_model.specs.Calls.{memory_call}
 use Rattle.tx_core.proofs.machine.Machine.inside.Goals as goal
 
 pub change_inside-requires-clause-named : goal.change_inside-requires-clause-named
