@@ -38,3 +38,5 @@ pub mod PlainWrites
 pub mod PlainCalls
 pub mod WithinEvents
 pub mod FormHistory
+pub mod Standings
+pub mod Turns

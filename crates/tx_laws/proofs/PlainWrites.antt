@@ -10,9 +10,10 @@ use Rattle.tx_model.specs.Numbers.{below, failing}
 use Rattle.tx_model.specs.Memory.{is_good, is_mapped, is_writable, stored, address_of}
 use Rattle.tx_model.specs.SignalSets.{is_known}
 use Rattle.tx_model.specs.State.{Process, Side, ReadSide, WriteSide, Description, State, Sending, Write, SetProc, SetDesc, SetPipe, SetHeld, write_one, written}
-use Rattle.tx_model.specs.Effects.{Effect, Own, idle, noted, own_effect, done, done_with}
+use Rattle.tx_model.specs.Effects.{Effect, Conclusion, Replies, AnswersPost, ListsFailed, Own, idle, noted, own_effect, done, done_with}
 use Rattle.tx_model.specs.Descriptors.{named, with_descriptor, lowest_free, is_named, has_side, pipes_of, unnamed_go, endless_go, released, gives_up, listed, is_pipe_in_use, with_two_slots, new_side, opens_at, opens_from, pipe_effect, dups_to, dup_effect, renames, dup2_named, dup2_effect, closes, close_effect, flags, nonblock_effect}
 use Rattle.tx_model.specs.Transfers.{has_writer, has_reader, bytes_in, waits, drains, reads, read_by_side, read_described, read_effect, breaks, puts, writes, write_by_side, write_described, write_effect}
+use Rattle.tx_model.specs.Membership.{says_ended}
 use Rattle.tx_laws.proofs.WithinOwn.{KeepsLimits, noted_limits, slotted, paged_limits, stored_whole}
 
 -- the same process later on: it has the same parent and runs or has ended as before, and is within its limits if it was
@@ -41,9 +42,16 @@ ArePlain p me (w ∷ ws) = IsPlainWrite p me w × ArePlain p me ws
 abbrev pub IsSendable : Sending → Type 0
 IsSendable m = (m.signo ≡ 0) ⊎ (is_known m.signo ≡ true)
 
+-- whether the reply says that the process ended
+abbrev pub concludes_ended : Conclusion → Bool
+concludes_ended (Replies r) = says_ended r
+concludes_ended (AnswersPost p) = false
+concludes_ended ListsFailed = true
+
 pub record IsPlain (p : ℕ) (me : Process) (f : Effect) : Type 0 where
   pub writes : ArePlain p me f.writes
   pub sends : All IsSendable f.sends
+  pub goes_on : concludes_ended f.conclusion ≡ false
 
 pub later_same : (me : Process) → IsLater me me
 later_same me = record { parent = refl; status = refl; limits = λ h. h }
@@ -54,19 +62,19 @@ noted_later r me q k = record { parent = k.parent; status = k.status; limits = �
 module _ (p : ℕ) (me : Process) where
   pub idle_plain : (why : Refusal) → IsPlain p me (idle why)
   unfolding ArePlain
-  idle_plain why = record { writes = tt; sends = All-nil IsSendable }
+  idle_plain why = record { writes = tt; sends = All-nil IsSendable; goes_on = refl }
 
-  pub own_plain : (own : Own) → IsLater me own.process → IsPlain p me (own_effect p own)
+  pub own_plain : (own : Own) → IsLater me own.process → says_ended own.reply ≡ false → IsPlain p me (own_effect p own)
   unfolding ArePlain
-  own_plain own k = record { writes = (record { number = refl; later = k }, tt); sends = All-nil IsSendable }
+  own_plain own k r = record { writes = (record { number = refl; later = k }, tt); sends = All-nil IsSendable; goes_on = r }
 
   pub done_with_plain : (ws : List Write) (r : ℤ) (q : Process) → ArePlain p me ws → IsLater me q → IsPlain p me (done_with ws p r q)
   unfolding ArePlain
-  done_with_plain ws r q h k = record { writes = (record { number = refl; later = noted_later r me q k }, h); sends = All-nil IsSendable }
+  done_with_plain ws r q h k = record { writes = (record { number = refl; later = noted_later r me q k }, h); sends = All-nil IsSendable; goes_on = refl }
 
   pub done_plain : (r : ℤ) (q : Process) → IsLater me q → IsPlain p me (done p r q)
   unfolding ArePlain
-  done_plain r q k = record { writes = (record { number = refl; later = noted_later r me q k }, tt); sends = All-nil IsSendable }
+  done_plain r q k = record { writes = (record { number = refl; later = noted_later r me q k }, tt); sends = All-nil IsSendable; goes_on = refl }
 
   pub same_plain : (r : ℤ) → IsPlain p me (done p r me)
   same_plain r = done_plain r me (later_same me)
@@ -232,6 +240,7 @@ module _ (p : ℕ) (me : Process) where
   breaks_plain = record {
     writes = (record { number = refl; later = noted_later (failing BrokenPipe) me me (later_same me) }, tt);
     sends = All-cons IsSendable _ [] (inr refl) (All-nil IsSendable);
+    goes_on = refl;
   }
 
   puts_plain : (x : Description) (address : ℤ) (n : ℕ) (bytes : List ℕ) → IsPlain p me (puts p x address n me bytes)

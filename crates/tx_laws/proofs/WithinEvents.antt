@@ -372,7 +372,7 @@ module _ (S : State) (p : ℕ) (me : Process) (w : IsWithin S) (l : HasLimits me
   not_killed signo point mask e z = let no : Usual ≡ Catch point mask = sym l.kill ∙ ap (λ (n : ℕ). action_at n me) (sym z) ∙ e in cc
 
   relieved_plain : (signo : ℕ) (r : ℤ) → IsPlain p me (own_effect p (record { process = relieved signo me; reply = Done r }))
-  relieved_plain signo r = own_plain p me (record { process = relieved signo me; reply = Done r }) (record { parent = refl; status = refl; limits = relieved_limits signo })
+  relieved_plain signo r = own_plain p me (record { process = relieved signo me; reply = Done r }) (record { parent = refl; status = refl; limits = relieved_limits signo }) refl
 
   disposed : (signo : ℕ) (action : Action) (point : ℕ) (mask : SigSet) → disposition signo action ≡ Caught point mask → action ≡ Catch point mask
   disposed signo Usual point mask e = by (signo == child_signo) e
@@ -398,7 +398,7 @@ module _ (S : State) (p : ℕ) (me : Process) (w : IsWithin S) (l : HasLimits me
       by : (b : Bool) → IsFine (if b then idle FramesFull else own_effect p (record { process = caught signo value point mask (relieved signo me); reply = Done value }))
       by true = plainly _ (idle_plain p me FramesFull)
       by false = plainly _ (own_plain p me (record { process = caught signo value point mask (relieved signo me); reply = Done value })
-          (record { parent = refl; status = refl; limits = caught_limits signo value point mask right (not_killed signo point mask catches) small }))
+          (record { parent = refl; status = refl; limits = caught_limits signo value point mask right (not_killed signo point mask catches) small }) refl)
 
   delivers_fine : (inside : Option Inside) (signo : ℕ) (value : Option ℤ) → delivered_value signo me ≡ value → IsFine (delivers inside p signo me value S)
   delivers_fine inside signo None e = plainly _ (idle_plain p me NotDeliverable)

@@ -5,3 +5,4 @@ pub mod TwoParts
 pub mod Sound
 pub mod Fits
 pub mod Commuting
+pub mod WellFormedTable
