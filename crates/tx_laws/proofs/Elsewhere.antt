@@ -49,7 +49,7 @@ write_else (SetHeld k x) S T os (Desc n) f h a = record { width = a.width; part 
 write_else (SetHeld k x) S T os (Pipe n) f h a = record { width = a.width; part = a.part; family = a.family }
 write_else (SetHeld k x) S T os (Held n) f h a = record { width = a.width; part = rw (different (Held n) (Held k) os f h) a.part; family = tt }
 
-written_else : (ws : List Write) (S T : State) (os : List Object) (o : Object) → WritesFit S os ws → has o os ≡ false → AgreeAt T S o → AgreeAt (written ws T) S o
+pub written_else : (ws : List Write) (S T : State) (os : List Object) (o : Object) → WritesFit S os ws → has o os ≡ false → AgreeAt T S o → AgreeAt (written ws T) S o
 unfolding written
 written_else [] S T os o f h a = a
 written_else (w ∷ ws) S T os o f h a = written_else ws S (write_one w T) os o f.1 h (write_else w S T os o f.0 h a)
@@ -106,7 +106,7 @@ step_fits (Calls p call) inside S os c = act_fits inside p.0 (MakesCall call) S 
 step_fits (Deliver p signo) inside S os c = act_fits inside p.0 (TakesSignal signo.0) S os c
 step_fits (KernelAbort s) inside S os c = (tt, tt)
 
-event_fits : (ev : Event) (S : State) (os : List Object) → Covers os (objects ev S) → WritesFit S os (effect ev S).writes × ConclusionIn (effect ev S).conclusion os
+pub event_fits : (ev : Event) (S : State) (os : List Object) → Covers os (objects ev S) → WritesFit S os (effect ev S).writes × ConclusionIn (effect ev S).conclusion os
 unfolding effect objects
 event_fits (Do step inside) S os c = step_fits step inside S os c
 event_fits (Note p r) S os c =

@@ -40,3 +40,5 @@ pub mod WithinEvents
 pub mod FormHistory
 pub mod Standings
 pub mod Turns
+pub mod KeepsOwn
+pub mod KeepsTable

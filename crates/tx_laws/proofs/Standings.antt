@@ -40,47 +40,93 @@ running_same x y e = running_stand x ∙ ap runs_at e ∙ sym (running_stand y)
 pub some_same : (x y : Option Process) → stand x ≡ stand y → is_some x ≡ is_some y
 some_same x y e = some_stand x ∙ ap (λ (z : Option Standing). is_some z) e ∙ sym (some_stand y)
 
-abbrev parent_at : Option Standing → ℕ
-parent_at None = 0
-parent_at (Some x) = x.parent
+abbrev pub parent_of : Option Process → Option ℕ
+parent_of None = None
+parent_of (Some q) = Some q.parent
 
-pub inside_same : (t new : Table) (s : ℕ) (x y : Option Process) → stand x ≡ stand y → ((n : ℕ) → is_member_of t s n ≡ true → is_member_of new s n ≡ true)
+abbrev parent_in : Option Standing → Option ℕ
+parent_in None = None
+parent_in (Some x) = Some x.parent
+
+parent_stand : (x : Option Process) → parent_of x ≡ parent_in (stand x)
+parent_stand None = refl
+parent_stand (Some q) = refl
+
+pub parent_same : (x y : Option Process) → stand x ≡ stand y → parent_of x ≡ parent_of y
+parent_same x y e = parent_stand x ∙ ap parent_in e ∙ sym (parent_stand y)
+
+pub parent_is : (x : Option Process) (parent : ℕ) (runs : Bool) → stand x ≡ Some (record { parent = parent; runs = runs }) → parent_of x ≡ Some parent
+parent_is x parent runs e = parent_stand x ∙ ap parent_in e
+
+pub running_is : (x : Option Process) (parent : ℕ) (runs : Bool) → stand x ≡ Some (record { parent = parent; runs = runs }) → is_running x ≡ runs
+running_is x parent runs e = running_stand x ∙ ap runs_at e
+
+pub some_is : (x : Option Process) (y : Standing) → stand x ≡ Some y → is_some x ≡ true
+some_is x y e = some_stand x ∙ ap (λ (z : Option Standing). is_some z) e
+
+pub inside_same : (t new : Table) (s : ℕ) (x y : Option Process) → parent_of x ≡ parent_of y → ((n : ℕ) → is_member_of t s n ≡ true → is_member_of new s n ≡ true)
     → HasParentInside t s y → HasParentInside new s x
 inside_same t new s None y e m h = tt
 inside_same t new s (Some q) None e m h = cc
 inside_same t new s (Some q) (Some r) e m h =
-    let same : q.parent ≡ r.parent = ap parent_at e in
+    let same : q.parent ≡ r.parent = cc in
     elim h [ inl z ↦ inl (same ∙ z) | inr z ↦ inr (m q.parent (subst (λ (n : ℕ). is_member_of t s n ≡ true) (sym same) z)) ]
 
-pub outside_same : (t new : Table) (s : ℕ) (x y : Option Process) → stand x ≡ stand y → ((n : ℕ) → is_member_of new s n ≡ is_member_of t s n)
-    → HasParentOutside t s y → HasParentOutside new s x
+pub outside_same : (t new : Table) (s : ℕ) (x y : Option Process) → parent_of x ≡ parent_of y
+    → ((n : ℕ) → parent_of y ≡ Some n → is_member_of t s n ≡ false → is_member_of new s n ≡ false) → HasParentOutside t s y → HasParentOutside new s x
 outside_same t new s None y e m h = tt
 outside_same t new s (Some q) None e m h = cc
-outside_same t new s (Some q) (Some r) e m h = m q.parent ∙ ap (is_member_of t s) (ap parent_at e) ∙ h
+outside_same t new s (Some q) (Some r) e m h =
+    let same : r.parent ≡ q.parent = cc in
+    subst (λ (n : ℕ). is_member_of new s n ≡ false) same (m r.parent refl h)
+
+-- one whose parent is so
+pub inside_by_parent : (t : Table) (s : ℕ) (x : Option Process) (n : ℕ) → parent_of x ≡ Some n → (n ≡ 1) ⊎ (is_member_of t s n ≡ true) → HasParentInside t s x
+inside_by_parent t s None n e h = tt
+inside_by_parent t s (Some q) n e h =
+    let same : n ≡ q.parent = cc in
+    subst (λ (i : ℕ). (i ≡ 1) ⊎ (is_member_of t s i ≡ true)) same h
+
+pub inside_parent : (t : Table) (s : ℕ) (x : Option Process) (n : ℕ) → parent_of x ≡ Some n → HasParentInside t s x → (n ≡ 1) ⊎ (is_member_of t s n ≡ true)
+inside_parent t s None n e h = cc
+inside_parent t s (Some q) n e h =
+    let same : q.parent ≡ n = cc in
+    subst (λ (i : ℕ). (i ≡ 1) ⊎ (is_member_of t s i ≡ true)) same h
+
+pub outside_parent : (t : Table) (s : ℕ) (x : Option Process) (n : ℕ) → parent_of x ≡ Some n → HasParentOutside t s x → is_member_of t s n ≡ false
+outside_parent t s None n e h = cc
+outside_parent t s (Some q) n e h =
+    let same : q.parent ≡ n = cc in
+    subst (λ (i : ℕ). is_member_of t s i ≡ false) same h
+
+-- the table after is as before to the transaction of s, but for parts that end
+pub record SameFor (t new : Table) (s : ℕ) : Type 0 where
+  pub members : (n : ℕ) → is_member_of new s n ≡ is_member_of t s n
+  pub open_parts : (n : ℕ) → is_open_of s (new.marks n) ≡ true → is_open_of s (t.marks n) ≡ true
+
+pub open_member : (s : ℕ) (x : Option Mark) → is_open_of s x ≡ true → is_of s x ≡ true
+open_member s None h = cc
+open_member s (Some m) h = by m.ended h
+  where
+    by : (b : Bool) → (if b then false else m.starter.0 == s) ≡ true → (m.starter.0 == s) ≡ true
+    by true z = cc
+    by false z = z
 
 -- a transaction stays so, where its members stand as before, and it holds the same
-pub transaction_same : (t new : Table) (S T : State) (s : ℕ) → is_live t s ≡ true
-    → ((n : ℕ) → is_member_of new s n ≡ is_member_of t s n) → ((n : ℕ) → is_open_of s (new.marks n) ≡ true → is_open_of s (t.marks n) ≡ true)
+pub transaction_same : (t new : Table) (S T : State) (s : ℕ) → is_live t s ≡ true → SameFor t new s
     → ((n : ℕ) → is_member_of t s n ≡ true → stand (T.procs n) ≡ stand (S.procs n)) → T.held s ≡ S.held s → IsTransaction t S s → IsTransaction new T s
-transaction_same t new S T s live members opens stands held k = record {
+transaction_same t new S T s live same stands held k = record {
   starter = some_same (T.procs s) (S.procs s) (stands s live) ∙ k.starter;
-  open_parts = λ p h. running_same (T.procs p) (S.procs p) (stands p (open_member (t.marks p) (opens p h))) ∙ k.open_parts p (opens p h);
+  open_parts = λ p h.
+      running_same (T.procs p) (S.procs p) (stands p (open_member s (t.marks p) (same.open_parts p h))) ∙ k.open_parts p (same.open_parts p h);
   parents = λ p h ne.
-      let was : is_member_of t s p ≡ true = sym (members p) ∙ h in
-      inside_same t new s (T.procs p) (S.procs p) (stands p was) (λ n z. members n ∙ z) (k.parents p was ne);
-  outside = outside_same t new s (T.procs s) (S.procs s) (stands s live) members k.outside;
+      let was : is_member_of t s p ≡ true = sym (same.members p) ∙ h in
+      inside_same t new s (T.procs p) (S.procs p) (parent_same (T.procs p) (S.procs p) (stands p was)) (λ n z. same.members n ∙ z) (k.parents p was ne);
+  outside = outside_same t new s (T.procs s) (S.procs s) (parent_same (T.procs s) (S.procs s) (stands s live)) (λ n e z. same.members n ∙ z) k.outside;
   sent = subst (λ (ms : List Sending). sent_by_members ms ≤ 32) (sym held) k.sent;
   told_none = λ h. ap sent_by_kernel held ∙ k.told_none (sym (running_same (T.procs s) (S.procs s) (stands s live)) ∙ h);
   told_once = subst (λ (ms : List Sending). sent_by_kernel ms ≤ 1) (sym held) k.told_once;
 }
-  where
-    open_member : (x : Option Mark) → is_open_of s x ≡ true → is_of s x ≡ true
-    open_member None h = cc
-    open_member (Some m) h = by m.ended h
-      where
-        by : (b : Bool) → (if b then false else m.starter.0 == s) ≡ true → (m.starter.0 == s) ≡ true
-        by true z = cc
-        by false z = z
 
 -- posts and conclusions change nothing of that
 received_stand : (m : Sending) (x : Option Process) → stand (received m x) ≡ stand x
