@@ -73,7 +73,7 @@ put_table t c x s same opens = record {
   ];
 }
 
-not_open : (s : ℕ) (x : Option Mark) → is_open_of s (parked x) ≡ false
+pub not_open : (s : ℕ) (x : Option Mark) → is_open_of s (parked x) ≡ false
 not_open s None = refl
 not_open s (Some m) = refl
 
@@ -84,7 +84,7 @@ parked_table t p s u = put_table t p (parked (t.marks p)) s (of_parked s (t.mark
 other_mark : (s u : ℕ) (defers : Bool) → u ≢ s → is_of u (Some (new_mark s defers)) ≡ false
 other_mark s u defers ne = false_unless (s == u) (λ h. ne (sym (eqb-true s u h)))
 
-new_table : (t : Table) (c s u : ℕ) (defers : Bool) → u ≢ s → is_of u (t.marks c) ≡ false → SameFor t (record { width = t.width; marks = put_at t.marks c (Some (new_mark s defers)) }) u
+pub new_table : (t : Table) (c s u : ℕ) (defers : Bool) → u ≢ s → is_of u (t.marks c) ≡ false → SameFor t (record { width = t.width; marks = put_at t.marks c (Some (new_mark s defers)) }) u
 new_table t c s u defers ne none =
     put_table t c (Some (new_mark s defers)) u (other_mark s u defers ne ∙ sym none)
     (λ h. absurd (both_ways (is_of u (Some (new_mark s defers))) (other_mark s u defers ne) (open_member u (Some (new_mark s defers)) h)))

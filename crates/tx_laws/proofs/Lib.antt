@@ -42,3 +42,5 @@ pub mod Standings
 pub mod Turns
 pub mod KeepsOwn
 pub mod KeepsTable
+pub mod KeepsView
+pub mod TableHistory

@@ -71,6 +71,13 @@ pub data Turn (inside : Option Inside) (p : ℕ) (S : State) (f : Effect) : Type
       → ((n : ℕ) → n ≢ p → IsOrphan p (S.procs n) ((written f.writes S).procs n)) → f.sends ≡ told_at_once (telling inside parent) parent
       → Told inside parent S (written f.writes S) → Turn inside p S f
 
+-- a fork makes its child
+pub record GrowsBy (p c : ℕ) (S : State) (f : Effect) : Type 0 where
+  pub free : S.procs c ≡ None
+  pub child : stand ((written f.writes S).procs c) ≡ standing p true
+  pub others : SameBut c S (written f.writes S)
+  pub held : HoldsSame S (written f.writes S)
+
 -- plain writes
 later_stand : (me q : Process) → IsLater me q → standing_of q ≡ standing_of me
 later_stand me q k = λ i. record { parent = k.parent i; runs = is_none (k.status i) }
@@ -190,13 +197,21 @@ module _ (inside : Option Inside) (S : State) (p : ℕ) (me : Process) (e : S.pr
   later_same_stand q parent status n =
       put_stand S.procs p (Some q) ((λ i. standing (parent i) (is_none (status i))) ∙ sym (ap stand e)) n
 
+  pub forks_by : (c : ℕ) → S.procs c ≡ None → GrowsBy p c S (forks p c me None)
+  unfolding written
+  forks_by c k =
+      let T : State = write_one (SetProc p (Some (noted (pos c) me))) S in
+      record {
+        free = k;
+        child = ap stand (put_here T.procs c (Some (child_of p me))) ∙ ap (λ (z : Option ℕ). standing p (is_none z)) runs;
+        others = λ n ne. ap stand (put_there T.procs c (Some (child_of p me)) n ne) ∙ later_same_stand (noted (pos c) me) refl refl n;
+        held = λ u. refl;
+      }
+
   forks_turn : (c : ℕ) (x : Option Process) → S.procs c ≡ x → Turn inside p S (forks p c me x)
   unfolding written
   forks_turn c (Some q) k = idle_turn inside p S NumberTaken
-  forks_turn c None k =
-      let T : State = write_one (SetProc p (Some (noted (pos c) me))) S in
-      Grows refl c k (ap stand (put_here T.procs c (Some (child_of p me))) ∙ ap (λ (z : Option ℕ). standing p (is_none z)) runs)
-      (λ n ne. ap stand (put_there T.procs c (Some (child_of p me)) n ne) ∙ later_same_stand (noted (pos c) me) refl refl n) (λ u. refl)
+  forks_turn c None k = let g : GrowsBy p c S (forks p c me None) = forks_by c k in Grows refl c g.free g.child g.others g.held
 
   waits_by_turn : (t : ℕ) (nohang : Bool) (status : Option ℕ) → stand (S.procs t) ≡ standing p (is_none status) → Turn inside p S (waits_by p t nohang me status)
   unfolding written
