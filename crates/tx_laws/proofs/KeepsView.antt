@@ -81,7 +81,7 @@ module _ (V : View) (sound : IsSound V) (kept : IsWellFormedWith V.table (presen
     abbrev s : ℕ
     s = m.starter.0
 
-    abbrev inner : Inside
+    abbrev pub inner : Inside
     inner = record { starter = m.starter.0; members = is_member_of V.table m.starter.0; defers = m.defers }
 
     mine : is_member_of V.table s p ≡ true
@@ -100,7 +100,7 @@ module _ (V : View) (sound : IsSound V) (kept : IsWellFormedWith V.table (presen
         (λ u ne. after_holds ev (present V) u ∙ inside_holds inner p (present V) (effect ev (present V)) turn u ne)
 
     -- the transaction after the member's part has ended
-    parked_own : (ev : Event) → Turn (Some inner) p (present V) (effect ev (present V))
+    pub parked_own : (ev : Event) → Turn (Some inner) p (present V) (effect ev (present V))
         → IsTransaction (table_after (Within s Parks) p V.table) (written (effect ev (present V)).writes (present V)) s
     parked_own ev turn =
         own_kept V.table (present V) inner p mine (λ n. refl) live (kept.live s live) (table_after (Within s Parks) p V.table) (effect ev (present V)) (parked_table V.table p s s)
@@ -270,7 +270,7 @@ module _ (V : View) (sound : IsSound V) (kept : IsWellFormedWith V.table (presen
   ForksNow p step Leaving = Unit {0}
   ForksNow p step Aborting = Unit {0}
 
-  note_turn : (inside : Option Inside) (p q : ℕ) (r : ℤ) → Turn inside p (present V) (effect (Note q r) (present V))
+  pub note_turn : (inside : Option Inside) (p q : ℕ) (r : ℤ) → Turn inside p (present V) (effect (Note q r) (present V))
   unfolding effect written
   note_turn inside p q r = Stays refl (note_stand q r (present V)) (λ u. refl)
 

@@ -44,3 +44,4 @@ pub mod KeepsOwn
 pub mod KeepsTable
 pub mod KeepsView
 pub mod TableHistory
+pub mod Undelivered

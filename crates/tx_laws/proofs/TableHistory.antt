@@ -63,7 +63,7 @@ none_there None h = refl
 none_there (Some q) h = cc
 
 -- no process is its own parent
-not_own : (S : State) (p : ℕ) → IsWellFormed S → has_parent p (S.procs p) ≡ false
+pub not_own : (S : State) (p : ℕ) → IsWellFormed S → has_parent p (S.procs p) ≡ false
 not_own S p w = by (S.procs p) refl
   where
     by : (x : Option Process) → S.procs p ≡ x → has_parent p x ≡ false
@@ -188,7 +188,7 @@ start_kept : (S : State) → ((s : ℕ) → S.held s ≡ []) → IsKept (view S 
 unfolding view without survivors run table_of
 start_kept S none = record { formed = record { live = λ s h. cc; members = λ s p h. cc; others = λ s h. none s }; left = none }
 
-present_form : (S : State) (h : List Accepted) → IsWellFormed S → Lawful S h → IsWellFormed (present (view S h))
+pub present_form : (S : State) (h : List Accepted) → IsWellFormed S → Lawful S h → IsWellFormed (present (view S h))
 unfolding view
 present_form S h w l = history_form S h w l nobody
 

@@ -38,3 +38,7 @@ pub record IsWellFormedWith (t : Table) (S : State) : Type 0 where
   pub live : (s : ℕ) → is_live t s ≡ true → IsTransaction t S s
   pub members : (s p : ℕ) → is_member_of t s p ≡ true → is_live t s ≡ true
   pub others : (s : ℕ) → is_live t s ≡ false → S.held s ≡ []
+
+-- no transaction holds anything
+abbrev pub HoldsNothing : State → Type 0
+HoldsNothing S = (s : ℕ) → S.held s ≡ []

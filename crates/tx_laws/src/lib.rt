@@ -1,20 +1,22 @@
 //! The laws over the definitions of the kernel, as the contracts of functions that do nothing.
 #![tactic(auto)]
 
-ghost use Rattle.std.specs.Prelude.{◌≡◌, ◌≤◌, ℕ, true, false, List, [], ◌∷◌, ◌++◌, Some};
+ghost use Rattle.std.specs.Prelude.{◌≡◌, ◌≤◌, ℕ, true, false, List, [], ◌∷◌, ◌++◌, length, Some};
 ghost use Rattle.tx_base.specs.declared.marks.Mark.{Mark};
+ghost use Rattle.tx_base.specs.declared.limits.TheConstants.{UNDELIVERED};
+ghost use Rattle.tx_base.specs.declared.names.Missed.{Missed};
 ghost use Rattle.tx_base.specs.declared.names.Pid.{Pid};
 ghost use Rattle.tx_base.specs.declared.names.Signo.{Signo};
 ghost use Rattle.tx_base.specs.declared.steps.Accepted.{Accepted};
 ghost use Rattle.tx_base.specs.declared.steps.Call.{Call};
-ghost use Rattle.tx_base.specs.declared.steps.Reply.TheVariants.{Aborted};
+ghost use Rattle.tx_base.specs.declared.steps.Reply.TheVariants.{Aborted, Committed};
 ghost use Rattle.tx_base.specs.declared.steps.Step.{Step};
 ghost use Rattle.tx_base.specs.declared.steps.Step.TheVariants.{Call as Calls, Deliver, KernelAbort};
 ghost use Rattle.tx_model.specs.Answer.{answer, IsAccepted, Lawful, Agreement};
 ghost use Rattle.tx_laws.specs.Commuting.{AreApart};
 ghost use Rattle.tx_model.specs.Events.{Event, process_of, effect, objects, after, reply_of};
 ghost use Rattle.tx_laws.specs.Fits.{Fits, Passes};
-ghost use Rattle.tx_model.specs.History.{Starters, processes_of, survivors, without};
+ghost use Rattle.tx_model.specs.History.{Starters, nobody, processes_of, survivors, table_of, without};
 ghost use Rattle.tx_model.specs.Membership.{is_live, Progress, Role, Within};
 ghost use Rattle.tx_laws.specs.Places.{survivors_by_place};
 ghost use Rattle.tx_laws.specs.Sound.{IsSound};
@@ -22,6 +24,7 @@ ghost use Rattle.tx_model.specs.State.{State, Object, AgreeAt, AgreeOn, booted, 
 ghost use Rattle.tx_laws.specs.TwoParts.{TwoParts, parts_view, parts_next};
 ghost use Rattle.tx_model.specs.View.{View, view, is_doomed, next, next_by, role_on, event_on};
 ghost use Rattle.tx_laws.specs.WellFormed.{IsWellFormed, HasGoodNumbers};
+ghost use Rattle.tx_laws.specs.WellFormedTable.{HoldsNothing, IsWellFormedWith};
 
 /// Erasure: in every prefix of a lawful history, from any start state, each surviving step has
 /// the reply that the plain kernel gives when the steps of aborted transactions are left out,
@@ -99,4 +102,17 @@ pub fn well_formed()
     ensures kept { (event : Event) (state : State) → IsWellFormed state → HasGoodNumbers state.width event → IsWellFormed (after event state) }
     ensures history { (start : State) (history : List Accepted) (left_out : Starters) →
         IsWellFormed start → Lawful start history → IsWellFormed (without start left_out history) }
+{}
+
+/// The live transactions of every lawful history from a well-formed state that holds nothing, as
+/// the booted one does: the starter is there, members whose part has not ended run, the parent of
+/// each member but the starter is a member too or process 1, that of the starter is none, and what
+/// is held is within its limit. So what a commit lists fits its reply.
+pub fn well_formed_table()
+    ensures booted { (width count : ℕ) → HoldsNothing (booted width count) }
+    ensures history { (start : State) (history : List Accepted) →
+        IsWellFormed start → HoldsNothing start → Lawful start history → IsWellFormedWith (table_of start history) (without start nobody history) }
+    ensures undelivered { (start : State) (history : List Accepted) (step : Step) (items : List Missed) →
+        IsWellFormed start → HoldsNothing start → Lawful start history →
+        answer (view start history) step ≡ Committed (record { items = items }) → length items ≤ UNDELIVERED }
 {}
