@@ -49,7 +49,7 @@ write_else (SetHeld k x) S T os (Desc n) f h a = record { width = a.width; part 
 write_else (SetHeld k x) S T os (Pipe n) f h a = record { width = a.width; part = a.part; family = a.family }
 write_else (SetHeld k x) S T os (Held n) f h a = record { width = a.width; part = rw (different (Held n) (Held k) os f h) a.part; family = tt }
 
-written_else : (ws : List Write) (S T : State) (os : List Object) (o : Object) → WritesFit S os ws → has o os ≡ false → AgreeAt T S o → AgreeAt (written ws T) S o
+pub written_else : (ws : List Write) (S T : State) (os : List Object) (o : Object) → WritesFit S os ws → has o os ≡ false → AgreeAt T S o → AgreeAt (written ws T) S o
 unfolding written
 written_else [] S T os o f h a = a
 written_else (w ∷ ws) S T os o f h a = written_else ws S (write_one w T) os o f.1 h (write_else w S T os o f.0 h a)

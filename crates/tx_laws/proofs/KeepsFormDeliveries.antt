@@ -16,7 +16,8 @@ use Rattle.tx_model.specs.Scripts.{closed_inside}
 use Rattle.tx_model.specs.Sends.{sent_by_members, sendable, sent_by, posts_now, holds, hands_out, sends_signal, send_effect}
 use Rattle.tx_model.specs.Deliveries.{first_value, less_first, is_blocked, delivered_value, relieved, action_at, caught, killed_status, acts_on, is_deferred, delivers, delivery_effect}
 use Rattle.tx_model.specs.Signals.{disposition, Disposition, Ignored, Fatal, Caught}
-use Rattle.tx_laws.specs.WellFormed.{AllSaved, IsFirst, IsWellFormed}
+use Rattle.tx_laws.specs.WellFormed.{AllSaved, IsFirst}
+use Rattle.tx_laws.proofs.KeepsFormParts.{IsArranged}
 use Rattle.tx_laws.proofs.KeepsFormOwn.{KeepsSizes, sizes_trans, less_of_none}
 use Rattle.tx_laws.proofs.KeepsFormNames.{KeepsForm, idle_form, noted_form, done_form, own_form}
 use Rattle.tx_laws.proofs.KeepsFormEnding.{held_form, ending_form}
@@ -96,7 +97,7 @@ none_delivered signo me pending queued = by (is_blocked signo me) (is_realtime s
     by false true = none_queued signo me.queued queued
     by false false = rw empty refl
 
-module _ (S : State) (p : ℕ) (me : Process) (e : S.procs p ≡ Some me) (runs : me.status ≡ None) (w : IsWellFormed S) where
+module _ (S : State) (p : ℕ) (me : Process) (e : S.procs p ≡ Some me) (runs : me.status ≡ None) (w : IsArranged S) where
   -- a signal is delivered to no process 1
   other_than_first : (signo : ℕ) (value : ℤ) → delivered_value signo me ≡ Some value → p ≢ 1
   other_than_first signo value h z =

@@ -9,14 +9,14 @@ use Rattle.tx_model.specs.Descriptors.{open_in, pipes_of, released, desc_objects
 use Rattle.tx_model.specs.Processes.{ended, children_below, children_of, with_parent, orphaned, told_to, ending, exit_status, exit_effect, telling, told_at_commit, NotTold, AtOnce, AtCommit}
 use Rattle.tx_model.specs.Answer.{is_running}
 use Rattle.tx_model.specs.StateLaws.{put_here, put_cases, put_there}
-use Rattle.tx_laws.specs.WellFormed.{HasSizes, IsPlaced, IsWellFormed}
+use Rattle.tx_laws.specs.WellFormed.{HasSizes, IsPlaced}
 use Rattle.tx_laws.proofs.Released.{lacks_both, ends_held, released_same}
-use Rattle.tx_laws.proofs.KeepsFormParts.{same_or_other, less_of, number_in, IsTabled, IsNamed, form_from, tabled_of, linked_of, linked_same}
+use Rattle.tx_laws.proofs.KeepsFormParts.{IsArranged, same_or_other, less_of, number_in, IsTabled, IsNamed, form_from, tabled_of, linked_of, linked_same}
 use Rattle.tx_laws.proofs.KeepsFormReleased.{IsAmong, IsLoose, written_append, tabled_same, loosened, released_form}
 use Rattle.tx_laws.proofs.KeepsFormNames.{KeepsForm, done_form, number_of}
 
 -- what is held is no concern
-pub held_form : (S : State) (s : ℕ) (ms : List Sending) → IsWellFormed S → IsWellFormed (write_one (SetHeld s ms) S)
+pub held_form : (S : State) (s : ℕ) (ms : List Sending) → IsArranged S → IsArranged (write_one (SetHeld s ms) S)
 held_form S s ms w =
     form_from (write_one (SetHeld s ms) S) (tabled_same S (write_one (SetHeld s ms) S) refl refl (tabled_of S w))
     (linked_same S (write_one (SetHeld s ms) S) refl refl (λ n f d. refl) (linked_of S w))
@@ -124,7 +124,7 @@ ended_sizes : (status : ℕ) (me : Process) → HasSizes (ended status me)
 ended_sizes status me = record { slots = refl; pages = refl; descriptors = refl; actions = refl; frames = omega arith; saved = tt; queued = omega arith }
 
 -- process p ends, as it is now
-module _ (S : State) (p status : ℕ) (me now : Process) (e : S.procs p ≡ Some me) (runs : me.status ≡ None) (w : IsWellFormed S) (first : p ≢ 1)
+module _ (S : State) (p status : ℕ) (me now : Process) (e : S.procs p ≡ Some me) (runs : me.status ≡ None) (w : IsArranged S) (first : p ≢ 1)
     (parent : now.parent ≡ me.parent) (descriptors : now.descriptors ≡ me.descriptors) where
   abbrev gone : State
   gone = write_one (SetProc p (Some (ended status now))) S
@@ -262,22 +262,22 @@ module _ (S : State) (p status : ℕ) (me now : Process) (e : S.procs p ≡ Some
     | inr z ↦ ap (names_at d f) (put_there S.procs p (Some (ended status now)) n z) ∙ sym (names_still n f d z)
   ]
 
-  left_form : IsWellFormed (written (released (open_in now.descriptors) gone) left)
+  left_form : IsArranged (written (released (open_in now.descriptors) gone) left)
   left_form =
-      subst (λ (ws : List Write). IsWellFormed (written ws left))
+      subst (λ (ws : List Write). IsArranged (written ws left))
       (sym (released_named (open_in now.descriptors) gone left (sym left_width) (sym left_descs) (sym left_pipes) names_gone))
       (released_form (open_in now.descriptors) left left_tabled left_loose)
 
-  later_form : (inside : Option Inside) (T V : State) → IsWellFormed V → IsWellFormed (written (told_at_commit (telling inside now.parent) now.parent T) V)
+  later_form : (inside : Option Inside) (T V : State) → IsArranged V → IsArranged (written (told_at_commit (telling inside now.parent) now.parent T) V)
   unfolding written
   later_form None T V k = by (now.parent == 1)
     where
-      by : (b : Bool) → IsWellFormed (written (told_at_commit (if b then NotTold else AtOnce) now.parent T) V)
+      by : (b : Bool) → IsArranged (written (told_at_commit (if b then NotTold else AtOnce) now.parent T) V)
       by true = k
       by false = k
   later_form (Some inside) T V k = by (now.parent == 1) (inside.members now.parent)
     where
-      by : (b c : Bool) → IsWellFormed (written (told_at_commit (if b then NotTold else (if c then AtOnce else AtCommit inside.starter)) now.parent T) V)
+      by : (b c : Bool) → IsArranged (written (told_at_commit (if b then NotTold else (if c then AtOnce else AtCommit inside.starter)) now.parent T) V)
       by true c = k
       by false true = k
       by false false = held_form V inside.starter (T.held inside.starter ++ told_to now.parent ∷ []) k
@@ -297,13 +297,13 @@ module _ (S : State) (p status : ℕ) (me now : Process) (e : S.procs p ≡ Some
       let zs : List Write = told_at_commit (telling inside now.parent) now.parent S in
       let same : written ((xs ++ ys) ++ zs) gone ≡ written zs (written ys (written xs gone)) =
       written_append (xs ++ ys) zs gone ∙ ap (written zs) (written_append xs ys gone) in
-      let form : IsWellFormed (written zs (written ys (written xs gone))) =
+      let form : IsArranged (written zs (written ys (written xs gone))) =
       later_form inside S (written ys (written xs gone))
-      (subst (λ (qs : List ℕ). IsWellFormed (written ys (written (orphaned qs S) gone))) (sym children_are) left_form) in
-      subst (λ (R : State). IsWellFormed R) (sym same) form
+      (subst (λ (qs : List ℕ). IsArranged (written ys (written (orphaned qs S) gone))) (sym children_are) left_form) in
+      subst (λ (R : State). IsArranged R) (sym same) form
 
 -- exit
-pub exit_form : (S : State) (p : ℕ) (me : Process) → S.procs p ≡ Some me → me.status ≡ None → IsWellFormed S → (inside : Option Inside) (v : ℤ)
+pub exit_form : (S : State) (p : ℕ) (me : Process) → S.procs p ≡ Some me → me.status ≡ None → IsArranged S → (inside : Option Inside) (v : ℤ)
     → KeepsForm S (exit_effect inside p v me S)
 exit_form S p me e runs w inside v = by (p == 1) refl
   where

@@ -22,8 +22,8 @@ use Rattle.tx_model.specs.Signals.{known, tells_pending, newest, acts, masks, re
 use Rattle.tx_model.specs.Identities.{id_of, set_user, set_effective_user, set_group, set_effective_group}
 use Rattle.tx_model.specs.Scripts.{identifies, jumps, keeps_at, writes_console}
 use Rattle.tx_model.specs.StateLaws.{put_cases, state_ext}
-use Rattle.tx_laws.specs.WellFormed.{HasSizes, IsPlaced, IsWellFormed, HasGoodNumbers}
-use Rattle.tx_laws.proofs.KeepsFormParts.{StaysPlaced, form_edit}
+use Rattle.tx_laws.specs.WellFormed.{HasSizes, IsPlaced, HasGoodNumbers}
+use Rattle.tx_laws.proofs.KeepsFormParts.{IsArranged, StaysPlaced, form_edit}
 use Rattle.tx_laws.proofs.KeepsFormReleased.{written_append}
 use Rattle.tx_laws.proofs.KeepsFormNames.{KeepsForm, idle_form, noted_form, dup_form, dup2_form, close_form, done_form, own_form}
 use Rattle.tx_laws.proofs.KeepsFormTransfers.{nonblock_form, read_form, write_form}
@@ -46,11 +46,11 @@ same_written S t x e = state_ext S (write_one (SetProc t x) S) refl parts
     parts (Pipe n) = refl
     parts (Held n) = refl
 
-same_form : (S : State) (t : ℕ) (x : Option Process) → S.procs t ≡ x → IsWellFormed S → IsWellFormed (write_one (SetProc t x) S)
-same_form S t x e w = subst (λ (T : State). IsWellFormed T) (same_written S t x e) w
+same_form : (S : State) (t : ℕ) (x : Option Process) → S.procs t ≡ x → IsArranged S → IsArranged (write_one (SetProc t x) S)
+same_form S t x e w = subst (λ (T : State). IsArranged T) (same_written S t x e) w
 
 -- a note
-noted_if_form : (S : State) (p : ℕ) (r : ℤ) (x : Option Process) → S.procs p ≡ x → IsWellFormed S → IsWellFormed (write_one (SetProc p (noted_if r x)) S)
+noted_if_form : (S : State) (p : ℕ) (r : ℤ) (x : Option Process) → S.procs p ≡ x → IsArranged S → IsArranged (write_one (SetProc p (noted_if r x)) S)
 noted_if_form S p r None e w = same_form S p None e w
 noted_if_form S p r (Some q) e w = noted_form S p q e w r
 
@@ -60,8 +60,8 @@ loud_target true b c h = cc
 loud_target false true c h = cc
 loud_target false false c h = refl
 
-module _ (S : State) (m : Sending) (q : Process) (e : S.procs m.target ≡ Some q) (w : IsWellFormed S) where
-  queued_form : m.target ≢ 1 → length q.queued < 16 → IsWellFormed (write_one (SetProc m.target (Some (with_queued m q))) S)
+module _ (S : State) (m : Sending) (q : Process) (e : S.procs m.target ≡ Some q) (w : IsArranged S) where
+  queued_form : m.target ≢ 1 → length q.queued < 16 → IsArranged (write_one (SetProc m.target (Some (with_queued m q))) S)
   queued_form ne room = form_edit S m.target q (with_queued m q) e stays refl w
     where
       stays : StaysPlaced m.target q (with_queued m q)
@@ -84,7 +84,7 @@ module _ (S : State) (m : Sending) (q : Process) (e : S.procs m.target ≡ Some 
             };
       }
 
-  pending_form : m.target ≢ 1 → IsWellFormed (write_one (SetProc m.target (Some (with_pending m.signo q))) S)
+  pending_form : m.target ≢ 1 → IsArranged (write_one (SetProc m.target (Some (with_pending m.signo q))) S)
   pending_form ne = form_edit S m.target q (with_pending m.signo q) e stays refl w
     where
       stays : StaysPlaced m.target q (with_pending m.signo q)
@@ -104,33 +104,33 @@ module _ (S : State) (m : Sending) (q : Process) (e : S.procs m.target ≡ Some 
         };
       }
 
-  received_form : IsWellFormed (write_one (SetProc m.target (received m (Some q))) S)
+  received_form : IsArranged (write_one (SetProc m.target (received m (Some q))) S)
   received_form = by (may_signal m.from q.ids) (is_quiet m q) refl (is_realtime m.signo) (has_room q) refl
     where
-      same : IsWellFormed (write_one (SetProc m.target (Some q)) S)
+      same : IsArranged (write_one (SetProc m.target (Some q)) S)
       same = same_form S m.target (Some q) e w
 
       other : is_quiet m q ≡ false → m.target ≢ 1
       other h z = both_ways (m.target == 1) (loud_target (m.signo == 0) (m.target == 1) (is_some q.status) h) (eq-eqb m.target 1 z)
 
       by : (a b : Bool) → is_quiet m q ≡ b → (c d : Bool) → has_room q ≡ d
-          → IsWellFormed (write_one (SetProc m.target (Some (if a then (if b then q else (if c then (if d then with_queued m q else q) else with_pending m.signo q)) else q))) S)
+          → IsArranged (write_one (SetProc m.target (Some (if a then (if b then q else (if c then (if d then with_queued m q else q) else with_pending m.signo q)) else q))) S)
       by false b h c d k = same
       by true true h c d k = same
       by true false h true true k = queued_form (other h) (ltb-true (length q.queued) 16 k)
       by true false h true false k = same
       by true false h false d k = pending_form (other h)
 
-post_form : (m : Sending) (S : State) (x : Option Process) → S.procs m.target ≡ x → IsWellFormed S → IsWellFormed (write_one (SetProc m.target (received m x)) S)
+post_form : (m : Sending) (S : State) (x : Option Process) → S.procs m.target ≡ x → IsArranged S → IsArranged (write_one (SetProc m.target (received m x)) S)
 post_form m S None e w = same_form S m.target None e w
 post_form m S (Some q) e w = received_form S m q e w
 
-posts_form : (ms : List Sending) (S : State) → IsWellFormed S → IsWellFormed (posts ms S)
+posts_form : (ms : List Sending) (S : State) → IsArranged S → IsArranged (posts ms S)
 unfolding posts
 posts_form [] S w = w
 posts_form (m ∷ ms) S w = posts_form ms (post m S) (post_form m S (S.procs m.target) refl w)
 
-concluded_form : (c : Conclusion) (rs : List ℤ) (S : State) → IsWellFormed S → IsWellFormed (concluded c rs S)
+concluded_form : (c : Conclusion) (rs : List ℤ) (S : State) → IsArranged S → IsArranged (concluded c rs S)
 concluded_form (Replies r) rs S w = w
 concluded_form (AnswersPost p) rs S w = noted_if_form S p (first_answer rs) (S.procs p) refl w
 concluded_form ListsFailed rs S w = w
@@ -157,7 +157,7 @@ good_numbers q r w h =
     record { pipe = ltb-true q 32 k.0; reads = ltb-true r 64 k.1; writes = ltb-true w 64 k.2; other = λ z. both_ways (r == w) k.3 (eq-eqb r w z) }
 
 -- calls and deliveries of a running process
-module _ (S : State) (inside : Option Inside) (p : Pid) (me : Process) (e : S.procs p.0 ≡ Some me) (runs : me.status ≡ None) (w : IsWellFormed S) where
+module _ (S : State) (inside : Option Inside) (p : Pid) (me : Process) (e : S.procs p.0 ≡ Some me) (runs : me.status ≡ None) (w : IsArranged S) where
   call_form : (c : Call) → has_bad_number S.width (Calls p c) ≡ false → KeepsForm S (call_effect inside p.0 c me S)
   call_form (call.Map page) h = own_form S p.0 me e w (remembers (map_page (page_of page) me.memory) me) (in_place me _ refl refl refl) (map_sizes me (page_of page))
   call_form (call.Unmap page) h = own_form S p.0 me e w (remembers (unmap_page (page_of page) me.memory) me) (in_place me _ refl refl refl) (unmap_sizes me (page_of page))
@@ -195,7 +195,7 @@ module _ (S : State) (inside : Option Inside) (p : Pid) (me : Process) (e : S.pr
   call_form call.SysXabort h = done_form S p.0 me e w (failing InvalidArgument)
 
 -- a step: a process that is not there or has ended does nothing
-module _ (S : State) (inside : Option Inside) (w : IsWellFormed S) where
+module _ (S : State) (inside : Option Inside) (w : IsArranged S) where
   running_call_form : (p : Pid) (c : Call) (me : Process) (status : Option ℕ) → S.procs p.0 ≡ Some me → me.status ≡ status → has_bad_number S.width (Calls p c) ≡ false
       → KeepsForm S (running_effect inside p.0 (MakesCall c) S me status)
   running_call_form p c me None e runs h = call_form S inside p me e runs w c h
@@ -218,21 +218,21 @@ module _ (S : State) (inside : Option Inside) (w : IsWellFormed S) where
   step_form (Deliver p signo) h = delivery_at_form p.0 signo.0 (S.procs p.0) refl
   step_form (KernelAbort s) h = idle_form S NoTransaction w
 
-note_form : (S : State) (p : ℕ) (r : ℤ) → IsWellFormed S → KeepsForm S (note_effect p r (S.procs p))
+note_form : (S : State) (p : ℕ) (r : ℤ) → IsArranged S → KeepsForm S (note_effect p r (S.procs p))
 unfolding written
 note_form S p r w = noted_if_form S p r (S.procs p) refl w
 
 -- the writes of an event
-event_form : (ev : Event) (S : State) → IsWellFormed S → HasGoodNumbers S.width ev → KeepsForm S (effect ev S)
+event_form : (ev : Event) (S : State) → IsArranged S → HasGoodNumbers S.width ev → KeepsForm S (effect ev S)
 unfolding effect written
 event_form (Do step inside) S w h = step_form S inside w step h
 event_form (Note p r) S w h = note_form S p r w
 event_form (Commit s ev) S w h =
-    subst (λ (T : State). IsWellFormed T) (sym (written_append (effect ev S).writes (SetHeld s [] ∷ []) S))
+    subst (λ (T : State). IsArranged T) (sym (written_append (effect ev S).writes (SetHeld s [] ∷ []) S))
     (held_form (written (effect ev S).writes S) s [] (event_form ev S w h))
 
 -- every event leaves a state well formed
-pub after_form : (ev : Event) (S : State) → IsWellFormed S → HasGoodNumbers S.width ev → IsWellFormed (after ev S)
+pub after_form : (ev : Event) (S : State) → IsArranged S → HasGoodNumbers S.width ev → IsArranged (after ev S)
 unfolding after
 after_form ev S w h =
     let f : Effect = effect ev S in
@@ -301,7 +301,7 @@ module _ (width count : ℕ) (some : 1 ≤ count) (within : count ≤ width) whe
       by false = refl
 
   -- the state at the start
-  pub booted_form : IsWellFormed (booted width count)
+  pub booted_form : IsArranged (booted width count)
   booted_form = record {
     first = (booted_process 1, at_first, record { runs = refl; parent = refl; pending = refl; queued = refl });
     placed = booted_placed;

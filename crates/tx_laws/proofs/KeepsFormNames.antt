@@ -8,23 +8,22 @@ use Rattle.tx_model.specs.State.{Process, State, SetProc, write_one, written, is
 use Rattle.tx_model.specs.Effects.{Effect, Own, idle, noted, own_effect, done}
 use Rattle.tx_model.specs.Descriptors.{named, with_descriptor, first_free, lowest_free, listed, pipes_of, unnamed_go, endless_go, gives_up, bad_descriptor, dups_to, dup_effect, renames, dup2_named, dup2_effect, closes, close_effect}
 use Rattle.tx_model.specs.StateLaws.{put_cases}
-use Rattle.tx_laws.specs.WellFormed.{IsWellFormed}
 use Rattle.tx_laws.proofs.InPlace.{KeepsPlace}
-use Rattle.tx_laws.proofs.KeepsFormParts.{IsTabled, IsNamed, IsLinked, names_at_of, tabled_of, linked_of, tabled_edit, form_edit}
+use Rattle.tx_laws.proofs.KeepsFormParts.{IsArranged, IsTabled, IsNamed, IsLinked, names_at_of, tabled_of, linked_of, tabled_edit, form_edit}
 use Rattle.tx_laws.proofs.KeepsFormOwn.{KeepsSizes, stays_from, plain}
 use Rattle.tx_laws.proofs.KeepsFormReleased.{IsAmong, IsLoose, loosened, released_form}
 
 -- the writes of the effect leave the state well formed
 abbrev pub KeepsForm : State → Effect → Type 0
-KeepsForm S f = IsWellFormed (written f.writes S)
+KeepsForm S f = IsArranged (written f.writes S)
 
-pub idle_form : (S : State) (why : Refusal) → IsWellFormed S → KeepsForm S (idle why)
+pub idle_form : (S : State) (why : Refusal) → IsArranged S → KeepsForm S (idle why)
 unfolding written
 idle_form S why w = w
 
 -- the process in its place, with its answer
-module _ (S : State) (p : ℕ) (me : Process) (e : S.procs p ≡ Some me) (w : IsWellFormed S) where
-  pub noted_form : (r : ℤ) → IsWellFormed (write_one (SetProc p (Some (noted r me))) S)
+module _ (S : State) (p : ℕ) (me : Process) (e : S.procs p ≡ Some me) (w : IsArranged S) where
+  pub noted_form : (r : ℤ) → IsArranged (write_one (SetProc p (Some (noted r me))) S)
   noted_form r = form_edit S p me (noted r me) e (stays_from p me (noted r me) refl refl (plain me (noted r me) refl refl refl refl refl refl refl)) refl w
 
   pub done_form : (r : ℤ) → KeepsForm S (done p r me)
@@ -112,12 +111,12 @@ module _ (S : State) (p : ℕ) (me new : Process) (e : S.procs p ≡ Some me) (r
   ]
 
 -- where nothing was given up, nothing goes
-loose_form : (T : State) → IsTabled T → IsLoose [] T → IsWellFormed T
+loose_form : (T : State) → IsTabled T → IsLoose [] T → IsArranged T
 unfolding written unnamed_go endless_go pipes_of
 loose_form T t l = released_form [] T t l
 
 -- one descriptor is replaced
-module _ (S : State) (p : ℕ) (me : Process) (e : S.procs p ≡ Some me) (runs : me.status ≡ None) (w : IsWellFormed S) (g : ℕ) (v : Option ℕ) (r : ℤ) where
+module _ (S : State) (p : ℕ) (me : Process) (e : S.procs p ≡ Some me) (runs : me.status ≡ None) (w : IsArranged S) (g : ℕ) (v : Option ℕ) (r : ℤ) where
   abbrev new : Process
   new = noted r (with_descriptor g v me)
 
@@ -156,7 +155,7 @@ module _ (S : State) (p : ℕ) (me : Process) (e : S.procs p ≡ Some me) (runs 
       never : (d : ℕ) → is_number d (slice_index_or me.descriptors g None) ≡ true → ⊥
       never d h = let no : false ≡ true = sym (ap (is_number d) free) ∙ h in cc
 
-module _ (S : State) (p : ℕ) (me : Process) (e : S.procs p ≡ Some me) (runs : me.status ≡ None) (w : IsWellFormed S) where
+module _ (S : State) (p : ℕ) (me : Process) (e : S.procs p ≡ Some me) (runs : me.status ≡ None) (w : IsArranged S) where
   bad_form : KeepsForm S (bad_descriptor p me)
   bad_form = done_form S p me e w (failing BadDescriptor)
 

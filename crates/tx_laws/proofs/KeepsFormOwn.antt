@@ -2,7 +2,6 @@
 use Rattle.std.proofs.Common.{◌≡◌, ℕ, zero, suc, ◌+◌, ◌-◌, ◌≤◌, Bool, true, false, ◌||◌, List, [], ◌∷◌, length, take, ℤ, pos, Option, Some, None, if◌then◌else◌, nat_lt, ◌==◌, slice_get, bit_and, ◌^◌, refl, sym, ap, ◌∙◌, subst, arith}
 use Rattle.std.proofs.lemmas.List.{length-set}
 use Rattle.tx_base.specs.declared.signals.Action.{Action}
-use Rattle.tx_base.specs.declared.steps.Call.TheVariants as call
 use Rattle.tx_base.specs.declared.steps.When.{When}
 use Rattle.tx_base.specs.declared.signals.SigSet.{SigSet}
 use Rattle.tx_base.specs.declared.signals.How.{How}

@@ -5,8 +5,16 @@ use Rattle.tx_model.specs.State.{Process, Side, Description, State, SetProc, put
 use Rattle.tx_model.specs.Descriptors.{names_below, is_named_below, is_named, is_side, has_side_below, has_description}
 use Rattle.tx_model.specs.Answer.{is_running}
 use Rattle.tx_model.specs.StateLaws.{put_cases}
-use Rattle.tx_laws.specs.WellFormed.{HasSizes, IsPlaced, IsFirst, IsWellFormed}
+use Rattle.tx_laws.specs.WellFormed.{HasSizes, IsPlaced, IsFirst}
 use Rattle.tx_base.specs.declared.limits.TheConstants.{PIPE_BYTES}
+
+-- a well-formed state, the limits of what its processes have apart
+pub record IsArranged (S : State) : Type 0 where
+  pub first : (q : Process) × (S.procs 1 ≡ Some q) × IsFirst q
+  pub placed : (n : ℕ) (q : Process) → S.procs n ≡ Some q → IsPlaced S n q
+  pub names : (n f d : ℕ) → names_at d f (S.procs n) ≡ true → is_some (S.descs d) ≡ true
+  pub named : (d : ℕ) (x : Description) → S.descs d ≡ Some x → (is_named d S ≡ true) × (d < 64) × (is_some (S.pipes x.pipe) ≡ true)
+  pub pipes : (k : ℕ) (bytes : List ℕ) → S.pipes k ≡ Some bytes → (has_description k S ≡ true) × (k < 32) × (length bytes ≤ PIPE_BYTES)
 
 -- the part of the processes
 pub record IsTabled (S : State) : Type 0 where
@@ -160,7 +168,7 @@ pub has_end_from : (k : ℕ) (S : State) → (e : IsEnd k S) → e.number < 64 �
 has_end_from k S e less = end_from k 64 e.number S less (rw (e.there, eq-eqb e.description.pipe k e.pipe) refl)
 
 -- a state is well formed where both parts of it are
-pub form_from : (S : State) → IsTabled S → IsLinked S → IsWellFormed S
+pub form_from : (S : State) → IsTabled S → IsLinked S → IsArranged S
 form_from S t l = record {
   first = t.first;
   placed = t.placed;
@@ -171,10 +179,10 @@ form_from S t l = record {
       (has_end_from k S r.0 (l.named r.0.number r.0.description r.0.there).1, r.1, r.2);
 }
 
-pub tabled_of : (S : State) → IsWellFormed S → IsTabled S
+pub tabled_of : (S : State) → IsArranged S → IsTabled S
 tabled_of S w = record { first = w.first; placed = w.placed }
 
-pub linked_of : (S : State) → IsWellFormed S → IsLinked S
+pub linked_of : (S : State) → IsArranged S → IsLinked S
 linked_of S w = record {
   names = w.names;
   named = λ d x e. let r = w.named d x e in (name_found d S r.0, r.1, r.2);
@@ -258,7 +266,7 @@ linked_same S T descs pipes same l =
 
 -- a process that stays where it is, with the same descriptors
 pub form_edit : (S : State) (p : ℕ) (me new : Process) → S.procs p ≡ Some me → StaysPlaced p me new → new.descriptors ≡ me.descriptors
-    → IsWellFormed S → IsWellFormed (write_one (SetProc p (Some new)) S)
+    → IsArranged S → IsArranged (write_one (SetProc p (Some new)) S)
 form_edit S p me new e k descriptors w = form_from T (tabled_edit S p me new e k (tabled_of S w)) (linked_same S T refl refl same (linked_of S w))
   where
     T : State

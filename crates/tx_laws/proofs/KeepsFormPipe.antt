@@ -9,8 +9,7 @@ use Rattle.tx_model.specs.State.{Process, Side, ReadSide, WriteSide, Description
 use Rattle.tx_model.specs.Effects.{idle, noted}
 use Rattle.tx_model.specs.Descriptors.{with_descriptor, lowest_free, with_two_slots, is_pipe_in_use, opens_at, opens_from, pipe_effect}
 use Rattle.tx_model.specs.StateLaws.{put_here, put_cases, put_there}
-use Rattle.tx_laws.specs.WellFormed.{IsWellFormed}
-use Rattle.tx_laws.proofs.KeepsFormParts.{IsTabled, IsNamed, IsEnd, IsLinked, names_at_of, form_from, tabled_of, linked_of, tabled_edit}
+use Rattle.tx_laws.proofs.KeepsFormParts.{IsArranged, IsTabled, IsNamed, IsEnd, IsLinked, names_at_of, form_from, tabled_of, linked_of, tabled_edit}
 use Rattle.tx_laws.proofs.KeepsFormOwn.{KeepsSizes, stays_from, plain}
 use Rattle.tx_laws.proofs.KeepsFormReleased.{tabled_same}
 use Rattle.tx_laws.proofs.KeepsFormNames.{KeepsForm, idle_form, done_form, new_slot, old_slot, free_place, number_of, own_name}
@@ -30,7 +29,7 @@ still_there {A} f k v x n free h = elim (put_cases f k (Some v) n) [
   | inr z ↦ z.1 ∙ h
 ]
 
-module _ (S : State) (p q r w : ℕ) (me : Process) (e : S.procs p ≡ Some me) (runs : me.status ≡ None) (form : IsWellFormed S) (good : AreGood q r w) where
+module _ (S : State) (p q r w : ℕ) (me : Process) (e : S.procs p ≡ Some me) (runs : me.status ≡ None) (form : IsArranged S) (good : AreGood q r w) where
   -- the process has the two ends at the descriptors f and g
   module _ (read_free : S.descs r ≡ None) (write_free : S.descs w ≡ None) (f g : ℕ)
       (f_free : slice_index_or me.descriptors f None ≡ None) (f_in : f < length me.descriptors)
@@ -174,7 +173,7 @@ module _ (S : State) (p q r w : ℕ) (me : Process) (e : S.procs p ≡ Some me) 
       | inr z ↦ let b = l.pipes k bytes (sym z.1 ∙ h) in (still_end k b.0, b.1, b.2)
     ]
 
-    opened_form : IsWellFormed now
+    opened_form : IsArranged now
     opened_form = form_from now tabled (record { names = now_names; named = now_named; pipes = now_pipes })
 
   module _ (read_free : S.descs r ≡ None) (write_free : S.descs w ≡ None) where

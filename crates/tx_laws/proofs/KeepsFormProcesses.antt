@@ -9,13 +9,13 @@ use Rattle.tx_model.specs.Effects.{noted, done}
 use Rattle.tx_model.specs.Processes.{child_of, forks, fork_effect, numbered, with_status, waits_by, waits_for, waits_at, waitpid_effect}
 use Rattle.tx_model.specs.Answer.{is_running}
 use Rattle.tx_model.specs.StateLaws.{put_here, put_cases, put_there}
-use Rattle.tx_laws.specs.WellFormed.{HasSizes, IsPlaced, IsFirst, IsWellFormed}
-use Rattle.tx_laws.proofs.KeepsFormParts.{IsNamed, names_of, form_from, linked_of, form_edit, relinked}
+use Rattle.tx_laws.specs.WellFormed.{HasSizes, IsPlaced, IsFirst}
+use Rattle.tx_laws.proofs.KeepsFormParts.{IsArranged, IsNamed, names_of, form_from, linked_of, form_edit, relinked}
 use Rattle.tx_laws.proofs.KeepsFormOwn.{stays_from, plain}
 use Rattle.tx_laws.proofs.KeepsFormNames.{KeepsForm, idle_form, noted_form, done_form, number_of, own_name}
 
 -- one more process
-module _ (T : State) (c : ℕ) (child : Process) (free : T.procs c ≡ None) (w : IsWellFormed T) where
+module _ (T : State) (c : ℕ) (child : Process) (free : T.procs c ≡ None) (w : IsArranged T) where
   abbrev grown : State
   grown = write_one (SetProc c (Some child)) T
 
@@ -42,7 +42,7 @@ module _ (T : State) (c : ℕ) (child : Process) (free : T.procs c ≡ None) (w 
   ]
 
   pub add_form : is_between T.width c ≡ true → is_running (T.procs child.parent) ≡ true → child.parent ≢ c → HasSizes child
-      → ((f d : ℕ) → is_number d (slice_index_or child.descriptors f None) ≡ true → is_some (T.descs d) ≡ true) → IsWellFormed (write_one (SetProc c (Some child)) T)
+      → ((f d : ℕ) → is_number d (slice_index_or child.descriptors f None) ≡ true → is_some (T.descs d) ≡ true) → IsArranged (write_one (SetProc c (Some child)) T)
   add_form number parent other sizes names = form_from grown (record { first = first; placed = grown_placed number parent other sizes })
       (relinked T grown refl refl new old (linked_of T w))
     where
@@ -65,7 +65,7 @@ module _ (T : State) (c : ℕ) (child : Process) (free : T.procs c ≡ None) (w 
           }
 
 -- an ended process is removed
-module _ (T : State) (t s : ℕ) (q : Process) (e : T.procs t ≡ Some q) (status : q.status ≡ Some s) (w : IsWellFormed T) where
+module _ (T : State) (t s : ℕ) (q : Process) (e : T.procs t ≡ Some q) (status : q.status ≡ Some s) (w : IsArranged T) where
   abbrev shrunk : State
   shrunk = write_one (SetProc t None) T
 
@@ -83,7 +83,7 @@ module _ (T : State) (t s : ℕ) (q : Process) (e : T.procs t ≡ Some q) (statu
     | inr z ↦ ap is_running z.1 ∙ h
   ]
 
-  pub remove_form : IsWellFormed (write_one (SetProc t None) T)
+  pub remove_form : IsArranged (write_one (SetProc t None) T)
   remove_form = form_from shrunk (record { first = first; placed = placed }) (relinked T shrunk refl refl new old (linked_of T w))
     where
       first : (r : Process) × (shrunk.procs 1 ≡ Some r) × IsFirst r
@@ -112,7 +112,7 @@ module _ (T : State) (t s : ℕ) (q : Process) (e : T.procs t ≡ Some q) (statu
             names = ap (names_at d h.place) (put_there T.procs t None h.process (not_ended h.process who.0 who.1 who.2)) ∙ h.names;
           }
 
-module _ (S : State) (p : ℕ) (me : Process) (e : S.procs p ≡ Some me) (runs : me.status ≡ None) (w : IsWellFormed S) where
+module _ (S : State) (p : ℕ) (me : Process) (e : S.procs p ≡ Some me) (runs : me.status ≡ None) (w : IsArranged S) where
   -- fork
   child_sizes : HasSizes me → HasSizes (child_of p me)
   child_sizes h = record {
@@ -149,7 +149,7 @@ module _ (S : State) (p : ℕ) (me : Process) (e : S.procs p ≡ Some me) (runs 
   waits_form t nohang (Some q) k = by (q.parent == p) refl q.status refl nohang
     where
       taken_off : (status : ℕ) → q.status ≡ Some status → q.parent ≡ p
-          → IsWellFormed (write_one (SetProc t None) (write_one (SetProc p (Some (noted (pos t) (with_status status me)))) S))
+          → IsArranged (write_one (SetProc t None) (write_one (SetProc p (Some (noted (pos t) (with_status status me)))) S))
       taken_off status s a =
           let now : Process = noted (pos t) (with_status status me) in
           let sized = plain me now refl refl refl (length-set me.registers.slots 0 (pos status)) refl refl refl in

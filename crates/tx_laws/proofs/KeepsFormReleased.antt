@@ -5,8 +5,8 @@ use Rattle.tx_model.specs.State.{Process, Description, State, Write, SetDesc, Se
 use Rattle.tx_model.specs.Descriptors.{is_named, has_description, pipe_of, pipes_of, unnamed_go, endless_go, released}
 use Rattle.tx_model.specs.Answer.{is_running}
 use Rattle.tx_model.specs.StateLaws.{put_here, put_cases, put_there}
-use Rattle.tx_laws.specs.WellFormed.{IsPlaced, IsWellFormed}
-use Rattle.tx_laws.proofs.KeepsFormParts.{same_or_other, IsTabled, IsNamed, IsEnd, IsLinked, name_found, is_named_from, end_found, has_end_from, form_from}
+use Rattle.tx_laws.specs.WellFormed.{IsPlaced}
+use Rattle.tx_laws.proofs.KeepsFormParts.{IsArranged, same_or_other, IsTabled, IsNamed, IsEnd, IsLinked, name_found, is_named_from, end_found, has_end_from, form_from}
 use Rattle.tx_base.specs.declared.limits.TheConstants.{PIPE_BYTES}
 
 -- the number is one of the list
@@ -266,9 +266,9 @@ module _ (ds : List ℕ) (T : State) (t : IsTabled T) (l : IsLoose ds T) where
       let e = left_end k bytes h r.0 in
       (record { number = e.number; description = e.description; there = left_now e.number ∙ e.there; pipe = e.pipe }, r.1, r.2)
 
-  rest_form : IsWellFormed rest
+  rest_form : IsArranged rest
   rest_form = form_from rest (tabled_same T rest width_stays procs_stay t) (record { names = rest_names; named = rest_named; pipes = rest_pipes })
 
-  pub released_form : IsWellFormed (written (released ds T) T)
+  pub released_form : IsArranged (written (released ds T) T)
   released_form =
-      subst (λ (R : State). IsWellFormed R) (sym (written_append (unnamed_go ds T) (endless_go (pipes_of ds T) fewer) T)) rest_form
+      subst (λ (R : State). IsArranged R) (sym (written_append (unnamed_go ds T) (endless_go (pipes_of ds T) fewer) T)) rest_form

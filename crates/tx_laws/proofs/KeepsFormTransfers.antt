@@ -11,8 +11,7 @@ use Rattle.tx_model.specs.Effects.{idle, noted, done, done_with}
 use Rattle.tx_model.specs.Descriptors.{bad_descriptor, flags, nonblock_effect}
 use Rattle.tx_model.specs.Transfers.{has_writer, has_reader, bytes_in, waits, drains, reads, read_by_side, read_described, read_effect, breaks, puts, writes, write_by_side, write_described, write_effect}
 use Rattle.tx_model.specs.StateLaws.{put_cases}
-use Rattle.tx_laws.specs.WellFormed.{IsWellFormed}
-use Rattle.tx_laws.proofs.KeepsFormParts.{some_of, IsNamed, IsEnd, IsLinked, form_from, tabled_of, linked_of, form_edit}
+use Rattle.tx_laws.proofs.KeepsFormParts.{IsArranged, some_of, IsNamed, IsEnd, IsLinked, form_from, tabled_of, linked_of, form_edit}
 use Rattle.tx_laws.proofs.KeepsFormOwn.{stays_from, plain, stored_paged}
 use Rattle.tx_laws.proofs.KeepsFormReleased.{tabled_same}
 use Rattle.tx_laws.proofs.KeepsFormNames.{KeepsForm, idle_form, noted_form, done_form}
@@ -29,7 +28,7 @@ pub still_some : {A : Type 0} (f : ℕ → Option A) (k : ℕ) (v : A) (n : ℕ)
 still_some {A} f k v n h = elim (put_cases f k (Some v) n) [ inl z ↦ ap (λ (x : Option A). is_some x) z.1 | inr z ↦ ap (λ (x : Option A). is_some x) z.1 ∙ h ]
 
 -- a description is replaced by one of the same pipe
-module _ (T : State) (d : ℕ) (x y : Description) (e : T.descs d ≡ Some x) (same : y.pipe ≡ x.pipe) (w : IsWellFormed T) where
+module _ (T : State) (d : ℕ) (x y : Description) (e : T.descs d ≡ Some x) (same : y.pipe ≡ x.pipe) (w : IsArranged T) where
   abbrev described : State
   described = write_one (SetDesc d (Some y)) T
 
@@ -59,7 +58,7 @@ module _ (T : State) (d : ℕ) (x y : Description) (e : T.descs d ≡ Some x) (s
     | inr a ↦ record { number = h.number; description = h.description; there = a.1 ∙ h.there; pipe = h.pipe }
   ]
 
-  pub desc_edit : IsWellFormed (write_one (SetDesc d (Some y)) T)
+  pub desc_edit : IsArranged (write_one (SetDesc d (Some y)) T)
   desc_edit = form_from described (tabled_same T described refl refl (tabled_of T w)) (record {
     names = λ n f c h. still_some T.descs d y c (l.names n f c h);
     named = desc_named;
@@ -67,7 +66,7 @@ module _ (T : State) (d : ℕ) (x y : Description) (e : T.descs d ≡ Some x) (s
   })
 
 -- the bytes of a pipe are replaced
-module _ (T : State) (k : ℕ) (old new : List ℕ) (e : T.pipes k ≡ Some old) (room : length new ≤ PIPE_BYTES) (w : IsWellFormed T) where
+module _ (T : State) (k : ℕ) (old new : List ℕ) (e : T.pipes k ≡ Some old) (room : length new ≤ PIPE_BYTES) (w : IsArranged T) where
   abbrev filled : State
   filled = write_one (SetPipe k (Some new)) T
 
@@ -87,7 +86,7 @@ module _ (T : State) (k : ℕ) (old new : List ℕ) (e : T.pipes k ≡ Some old)
     | inr a ↦ let r = links.pipes j bytes (sym a.1 ∙ h) in (end_as j T filled refl r.0, r.1, r.2)
   ]
 
-  pub bytes_edit : IsWellFormed (write_one (SetPipe k (Some new)) T)
+  pub bytes_edit : IsArranged (write_one (SetPipe k (Some new)) T)
   bytes_edit = form_from filled (tabled_same T filled refl refl (tabled_of T w)) (record {
     names = links.names;
     named = λ d x h. let r = links.named d x h in (named_as d T filled refl r.0, r.1, still_some T.pipes k new x.pipe r.2);
@@ -103,7 +102,7 @@ taken_fewer : (memory : Memory) (address : Option ℕ) (n : ℕ) → length (byt
 taken_fewer memory None n = omega arith
 taken_fewer memory (Some address) n = let same : length (bytes_from memory address n) ≡ n = from_fewer memory address n in omega arith
 
-module _ (S : State) (p : ℕ) (me : Process) (e : S.procs p ≡ Some me) (w : IsWellFormed S) where
+module _ (S : State) (p : ℕ) (me : Process) (e : S.procs p ≡ Some me) (w : IsArranged S) where
   bad_form : KeepsForm S (bad_descriptor p me)
   bad_form = done_form S p me e w _
 

@@ -35,6 +35,11 @@ pub mod KeepsFormProcesses
 pub mod KeepsFormEnding
 pub mod KeepsFormDeliveries
 pub mod KeepsFormEvents
+pub mod WithinSets
+pub mod WithinOwn
+pub mod PlainWrites
+pub mod PlainCalls
+pub mod WithinEvents
 pub mod FormHistory
 pub mod GoodNumbers
 pub mod StepByStep
@@ -44,3 +49,10 @@ pub mod DoomStays
 pub mod HoldsInside
 pub mod StepHolders
 pub mod PartsAnswers
+pub mod Standings
+pub mod Turns
+pub mod KeepsOwn
+pub mod KeepsTable
+pub mod KeepsView
+pub mod TableHistory
+pub mod Undelivered

@@ -14,7 +14,7 @@ use Rattle.tx_laws.specs.Sound.{IsSound}
 use Rattle.tx_laws.specs.WellFormed.{IsWellFormed, HasGoodNumbers}
 use Rattle.tx_laws.proofs.Erased.{next_sound}
 use Rattle.tx_laws.proofs.GoodNumbers.{event_numbers}
-use Rattle.tx_laws.proofs.KeepsFormEvents.{after_form}
+use Rattle.tx_laws.proofs.FormHistory.{after_form}
 use Rattle.tx_laws.proofs.Taken.{taken}
 
 -- an accepted step keeps the view sound

@@ -11,3 +11,4 @@ pub mod Laws
 pub mod LawsOfEvents
 pub mod LawsOfParts
 pub mod LawsOfDoom
+pub mod WellFormedTable

@@ -2,18 +2,24 @@
 //! name in `specs/Laws.antt`, `LawsOfEvents.antt`, `LawsOfParts.antt` or `LawsOfDoom.antt`.
 #![tactic(auto)]
 
-ghost use Rattle.std.specs.Prelude.{◌≤◌, ℕ, List};
+ghost use Rattle.std.specs.Prelude.{◌≤◌, ℕ, List, ◌≡◌, length};
 ghost use Rattle.tx_base.specs.declared.steps.Accepted.{Accepted};
-ghost use Rattle.tx_model.specs.Answer.{Lawful};
+ghost use Rattle.tx_base.specs.declared.steps.Reply.TheVariants.{Committed};
+ghost use Rattle.tx_base.specs.declared.limits.TheConstants.{UNDELIVERED};
+ghost use Rattle.tx_base.specs.declared.names.Missed.{Missed};
+ghost use Rattle.tx_base.specs.declared.steps.Step.{Step};
+ghost use Rattle.tx_model.specs.Answer.{Lawful, answer};
 ghost use Rattle.tx_model.specs.Events.{Event, after};
-ghost use Rattle.tx_model.specs.History.{Starters, without};
+ghost use Rattle.tx_model.specs.History.{Starters, without, nobody, table_of};
 ghost use Rattle.tx_model.specs.State.{State, booted};
+ghost use Rattle.tx_model.specs.View.{view};
 ghost use Rattle.tx_laws.specs.Laws.{PrefixesAgree, SurvivorsAreByPlace, LawfulViewIsNext, LawfulViewIsSound, StartIsSound, NextIsSound, NextIsWellFormed, SchedulesAreLawful};
 ghost use Rattle.tx_laws.specs.LawsOfDoom.{DoomedCallsAreRefused, DoomedDeliveriesAreRefused, DoomedAbortAnswers203, OtherAbortAnswers202, MembersDoomNothing, KillDooms, SigqueueDooms, DoomStays};
 ghost use Rattle.tx_laws.specs.LawsOfEvents.{ActorIsObject, EffectIsLocal, ObjectsAreLocal, ReplyIsLocal, ElsewhereIsSame, OtherPartsStay, WritesStayInObjects, OthersGetSendsAlone, HoldsForItsOwn, MembersSendToMembers, StatesCommute, RepliesCommute};
 ghost use Rattle.tx_laws.specs.LawsOfParts.{StartHasItsView, SamePartsSameView, PartsFollowRole, PartsFollowStep, PresentIsNow, DoomIsKept, TwoAnswersAreOfStarter, InWayIsOfParts, HolderIsOfParts};
 ghost use Rattle.tx_laws.specs.WellFormed.{IsWellFormed, HasGoodNumbers};
 ghost use Rattle.tx_laws.specs.Footprints.{FootprintIsOfEvent, FootprintIsShared, HolderIsOfStep};
+ghost use Rattle.tx_laws.specs.WellFormedTable.{HoldsNothing, IsWellFormedWith};
 
 /// Erasure: in every prefix of a lawful history, from any start state, each surviving step has
 /// the reply that the plain kernel gives when the steps of aborted transactions are left out,
@@ -128,12 +134,26 @@ pub fn doom()
 {}
 
 /// Well-formed states: process 1 runs, the parent of any other process runs too, what descriptors
-/// name is there and nothing else is, and numbers and sizes are within their limits. The booted
-/// state is well formed, every event with numbers in range leaves a well-formed state so, and so
-/// each state of a lawful history is well formed, whichever transactions are left out.
+/// name is there and nothing else is, and numbers and sizes are within their limits, as are pages,
+/// ids, points, masks and actions, and the signals that are pending or held. The booted state is
+/// well formed, every event with numbers in range leaves a well-formed state so, and so each state
+/// of a lawful history is well formed, whichever transactions are left out.
 pub fn well_formed()
     ensures booted { (width count : ℕ) → 1 ≤ count → count ≤ width → IsWellFormed (booted width count) }
     ensures kept { (event : Event) (state : State) → IsWellFormed state → HasGoodNumbers state.width event → IsWellFormed (after event state) }
     ensures history { (start : State) (history : List Accepted) (left_out : Starters) →
         IsWellFormed start → Lawful start history → IsWellFormed (without start left_out history) }
+{}
+
+/// The live transactions of every lawful history from a well-formed state that holds nothing, as
+/// the booted one does: the starter is there, members whose part has not ended run, the parent of
+/// each member but the starter is a member too or process 1, that of the starter is none, and what
+/// is held is within its limit. So what a commit lists fits its reply.
+pub fn well_formed_table()
+    ensures booted { (width count : ℕ) → HoldsNothing (booted width count) }
+    ensures history { (start : State) (history : List Accepted) →
+        IsWellFormed start → HoldsNothing start → Lawful start history → IsWellFormedWith (table_of start history) (without start nobody history) }
+    ensures undelivered { (start : State) (history : List Accepted) (step : Step) (items : List Missed) →
+        IsWellFormed start → HoldsNothing start → Lawful start history →
+        answer (view start history) step ≡ Committed (record { items = items }) → length items ≤ UNDELIVERED }
 {}

@@ -1,5 +1,4 @@
-use Rattle.tx_laws.proofs.KeepsFormEvents.{booted_form, after_form}
-use Rattle.tx_laws.proofs.FormHistory.{history_form}
+use Rattle.tx_laws.proofs.FormHistory.{booted_form, after_form, history_form}
 use Rattle.tx_laws.proofs.well_formed.Goals as goal
 
 pub returns-clause-booted : goal.returns-clause-booted

@@ -1,0 +1,205 @@
+-- The live transactions of every lawful history are so.
+use Rattle.std.proofs.Common.{◌≡◌, ◌≢◌, ◌⊎◌, ℕ, zero, suc, ◌+◌, ◌≤◌, Bool, true, false, not, List, [], ◌∷◌, ◌++◌, ℤ, pos, Option, Some, None, is_some, is_none, if◌then◌else◌, ◌==◌, refl, sym, ap, ◌∙◌, subst, inl, inr, eq-eqb, eqb-true, arith}
+use Rattle.std.proofs.lemmas.Bool.{both_ways, cases_Bool}
+use Rattle.tx_base.specs.declared.names.Pid.{Pid}
+use Rattle.tx_base.specs.declared.steps.Accepted.{Accepted}
+use Rattle.tx_base.specs.declared.steps.Call.{Call}
+use Rattle.tx_base.specs.declared.steps.Call.TheVariants as call
+use Rattle.tx_base.specs.declared.steps.Refusal.{Refusal}
+use Rattle.tx_base.specs.declared.steps.Refusal.TheVariants.{NoProcess, NotRunning, BadNumber, NumberTaken}
+use Rattle.tx_base.specs.declared.steps.Step.{Step}
+use Rattle.tx_base.specs.declared.steps.Step.TheVariants.{Call as Calls, Deliver, KernelAbort}
+use Rattle.tx_model.specs.State.{Process, State, written, Object, Held, has, has_parent}
+use Rattle.tx_model.specs.Numbers.{negative}
+use Rattle.tx_model.specs.Effects.{Inside}
+use Rattle.tx_model.specs.Processes.{forks}
+use Rattle.tx_model.specs.Calls.{MakesCall, running_effect, effect_at}
+use Rattle.tx_model.specs.Events.{Event, Do, Note, process_of, actor, effect, objects, after, run}
+use Rattle.tx_model.specs.Membership.{Table, is_member_of, is_live, Role, Outside, Within, Commits, Aborts, Kind, Ordinary, kind_of, unmarked, table_after}
+use Rattle.tx_model.specs.History.{Starters, nobody, just, with_one, less_one, table_of, survivors, without, touched_of}
+use Rattle.tx_model.specs.View.{View, view, present, kernel_status, IsClear, after_if, role_on, event_on, next_by, next}
+use Rattle.tx_model.specs.Answer.{is_running, is_there, has_bad_number, has_number_in_use, refusal, accepted_reply, answer, IsAccepted, Lawful}
+use Rattle.tx_laws.specs.Sound.{IsSound}
+use Rattle.tx_laws.specs.Fits.{Fits, Passes}
+use Rattle.tx_laws.specs.WellFormed.{IsWellFormed}
+use Rattle.tx_laws.specs.WellFormedTable.{IsWellFormedWith}
+use Rattle.tx_laws.proofs.Local.{objects_same}
+use Rattle.tx_laws.proofs.Coherence.{IsQuiet, quiet_objects, outside_quiet, commits_quiet, sound_by}
+use Rattle.tx_laws.proofs.Tables.{of_unique, of_unmarked}
+use Rattle.tx_laws.proofs.Taken.{IsUnrefused, unrefused, unless_accepted}
+use Rattle.tx_laws.proofs.Erased.{lawful_sound, lawful_next}
+use Rattle.tx_laws.proofs.StepView.{IsFitting, fitting}
+use Rattle.tx_laws.proofs.KeepsFormParts.{same_or_other}
+use Rattle.tx_laws.proofs.FormHistory.{history_form}
+use Rattle.tx_laws.proofs.WithinSets.{false_unless}
+use Rattle.tx_laws.proofs.Turns.{GrowsBy, step_turn, forks_by}
+use Rattle.tx_laws.proofs.KeepsTable.{after_holds, other_part, untouched}
+use Rattle.tx_laws.proofs.KeepsView.{ForksNow, kind_formed, aborts_by}
+
+-- what is so of the view: its transactions are so in the present state, and without one nothing is held by its number
+pub record IsKept (V : View) : Type 0 where
+  pub formed : IsWellFormedWith V.table (present V)
+  pub left : (s : ℕ) → (V.without (just s)).held s ≡ []
+
+note_held : (p : ℕ) (r : ℤ) (S : State) (u : ℕ) → (after (Note p r) S).held u ≡ S.held u
+unfolding effect written
+note_held p r S u = after_holds (Note p r) S u
+
+-- a number that is chosen is free
+rest_none : (b : Bool) (why : Refusal) (rest : Option Refusal) → (if b then Some why else rest) ≡ None → (b ≡ false) × (rest ≡ None)
+rest_none true why rest h = cc
+rest_none false why rest h = (refl, h)
+
+free_number : (V : View) (p : ℕ) (step : Step) → refusal V p step ≡ None → has_number_in_use (present V) step ≡ false
+free_number V p step h =
+    let a = rest_none (not (is_there V p)) NoProcess _ h in
+    let b = rest_none (not (is_running ((present V).procs p))) NotRunning _ a.1 in
+    let c = rest_none (has_bad_number V.table.width step) BadNumber _ b.1 in
+    let d = rest_none (has_number_in_use (present V) step) NumberTaken _ c.1 in
+    d.0
+
+none_there : (x : Option Process) → is_some x ≡ false → x ≡ None
+none_there None h = refl
+none_there (Some q) h = cc
+
+-- no process is its own parent
+pub not_own : (S : State) (p : ℕ) → IsWellFormed S → has_parent p (S.procs p) ≡ false
+not_own S p w = by (S.procs p) refl
+  where
+    by : (x : Option Process) → S.procs p ≡ x → has_parent p x ≡ false
+    by None e = refl
+    by (Some q) e = false_unless (q.parent == p) (λ h. (w.placed p q e).other (eqb-true q.parent p h))
+
+-- a process that runs and forks makes its child
+module _ (S : State) (w : IsWellFormed S) (inside : Option Inside) (p : ℕ) (child : Pid) (free : S.procs child.0 ≡ None) where
+  forks_free : (me : Process) → S.procs p ≡ Some me → me.status ≡ None → (y : Option Process) → y ≡ None → GrowsBy p child.0 S (forks p child.0 me y)
+  forks_free me e runs None k = forks_by inside S p me e runs (not_own S p w) child.0 free
+  forks_free me e runs (Some q) k = cc
+
+  fork_running : (me : Process) (status : Option ℕ) → S.procs p ≡ Some me → me.status ≡ status → is_running (Some me) ≡ true
+      → GrowsBy p child.0 S (running_effect inside p (MakesCall (call.Fork child)) S me status)
+  fork_running me None e k h = forks_free me e k (S.procs child.0) free
+  fork_running me (Some status) e k h = let no : false ≡ true = sym (ap (λ (x : Option ℕ). is_none x) k) ∙ h in cc
+
+  fork_grows : (x : Option Process) → S.procs p ≡ x → is_running x ≡ true → GrowsBy p child.0 S (effect_at inside p (MakesCall (call.Fork child)) S x)
+  fork_grows None e h = cc
+  fork_grows (Some me) e h = fork_running me me.status e refl h
+
+module _ (V : View) (sound : IsSound V) (kept : IsKept V) (form : IsWellFormed (present V)) where
+  forks_now : (pid : Pid) (c : Call) → is_running ((present V).procs pid.0) ≡ true → has_number_in_use (present V) (Calls pid c) ≡ false
+      → ForksNow V sound kept.formed form pid.0 (Calls pid c) (kind_of c)
+  unfolding effect
+  forks_now pid (call.Fork child) runs free = λ inside.
+      fork_grows (present V) form inside pid.0 child (none_there ((present V).procs child.0) free) ((present V).procs pid.0) refl runs
+  forks_now pid call.SysXbegin runs free = tt
+  forks_now pid call.SysXbeginDefer runs free = tt
+  forks_now pid call.SysXend runs free = tt
+  forks_now pid call.SysXabort runs free = tt
+  forks_now pid c runs free = tt
+
+  next_formed : (step : Step) → IsAccepted (answer V step) → IsWellFormedWith (next V step).table (present (next V step))
+  unfolding next answer effect
+  next_formed (Calls pid c) a =
+      let step : Step = Calls pid c in
+      let z = unless_accepted (refusal V pid.0 step) (accepted_reply V step) _ refl a in
+      let u : IsUnrefused V pid.0 step = unrefused V pid.0 step z.0 in
+      let f : IsFitting V step = fitting V step sound a in
+      kind_formed V sound kept.formed form pid.0 step u.running (λ inside. step_turn inside (present V) step (not_own (present V) pid.0 form)) kept.left (kind_of c)
+      (forks_now pid c u.running (free_number V pid.0 step z.0)) (V.table.marks pid.0) refl f.passes f.fits
+  next_formed (Deliver pid signo) a =
+      let step : Step = Deliver pid signo in
+      let z = unless_accepted (refusal V pid.0 step) (accepted_reply V step) _ refl a in
+      let u : IsUnrefused V pid.0 step = unrefused V pid.0 step z.0 in
+      let f : IsFitting V step = fitting V step sound a in
+      kind_formed V sound kept.formed form pid.0 step u.running (λ inside. step_turn inside (present V) step (not_own (present V) pid.0 form)) kept.left Ordinary tt
+      (V.table.marks pid.0) refl f.passes f.fits
+  next_formed (KernelAbort s) a =
+      let f : IsFitting V (KernelAbort s) = fitting V (KernelAbort s) sound a in
+      aborts_by V sound kept.formed form s.0 (negative (kernel_status V s.0)) s.0 (kernel_status V s.0) (kept.left s.0) f.passes f.fits
+
+  -- what a number holds, where its transaction is left out
+  quiet_held : (ev : Event) → IsClear V ev → (X : Starters) → IsQuiet V ev X → (u : ℕ) → is_live V.table u ≡ true → is_member_of V.table u (actor ev) ≡ false
+      → (after ev (V.without X)).held u ≡ (V.without X).held u
+  quiet_held ev clear X quiet u live out =
+      after_holds ev (V.without X) u
+      ∙ (other_part ev (V.without X) (Held u)
+      (subst (λ (os : List Object). has (Held u) os ≡ false) (objects_same ev (present V) (V.without X) (quiet_objects V ev sound clear X quiet))
+      (untouched V sound kept.formed ev clear (Held u) u (sound.own_held u live) out))).part
+
+  -- two sets that leave out this number alike
+  alike : (X Y : Starters) (u : ℕ) → X u ≡ Y u → (V.without X).held u ≡ (V.without Y).held u
+  alike X Y u same = (sound.coherent X Y (Held u) (λ v z. subst (λ (n : ℕ). X n ≡ Y n) (sym (sound.held_own v u z)) same)).part
+
+  self : (u : ℕ) → just u u ≡ true
+  self u = eq-eqb u u refl
+
+  left_live : (r : Role) (ev : Event) (p : ℕ) → Passes r ev V → Fits r ev p V → (u : ℕ) → is_live (table_after r p V.table) u ≡ true
+      → ((next_by r ev p V).without (just u)).held u ≡ []
+  left_live Outside ev p passes fits u live = quiet_held ev passes (just u) (outside_quiet V ev fits (just u)) u live (fits u) ∙ kept.left u
+  left_live (Within s part) ev p passes fits u live = by (s == u) refl
+    where
+      by : (b : Bool) → (s == u) ≡ b → (after_if (not b) ev (V.without (just u))).held u ≡ []
+      by true e = kept.left u
+      by false e =
+          let no : has (Held u) (objects ev (V.without (just u))) ≡ false =
+              false_unless (has (Held u) (objects ev (V.without (just u)))) (λ h. both_ways (s == u) e (eq-eqb s u (sym (fits.holds (V.without (just u)) u h)))) in
+          after_holds ev (V.without (just u)) u ∙ (other_part ev (V.without (just u)) (Held u) no).part ∙ kept.left u
+  left_live (Commits s) ev p passes fits u live = by (u == s) refl
+    where
+      by : (b : Bool) → (u == s) ≡ b → ((next_by (Commits s) ev p V).without (just u)).held u ≡ []
+      by true e =
+          let gone : is_live (table_after (Commits s) p V.table) u ≡ false = of_unmarked u s (V.table.marks u) ∙ rw e refl in
+          absurd (both_ways (is_live (table_after (Commits s) p V.table) u) gone live)
+      by false e =
+          let was : is_live V.table u ≡ true = sym (of_unmarked u s (V.table.marks u) ∙ rw e refl) ∙ live in
+          let out : is_member_of V.table u (actor ev) ≡ false =
+              false_unless (is_member_of V.table u (actor ev)) (λ h. both_ways (u == s) e (eq-eqb u s (of_unique u s (V.table.marks (actor ev)) h fits))) in
+          let same : less_one s (just u) u ≡ just u u = rw e refl in
+          quiet_held ev passes (less_one s (just u)) (commits_quiet V ev s fits (just u)) u was out ∙ alike (less_one s (just u)) (just u) u same ∙ kept.left u
+  left_live (Aborts s k) ev p passes fits u live =
+      subst (λ (x : Event). (after x (V.without (with_one s (just u)))).held u ≡ []) (sym fits.1.1) (note_left fits.1.0)
+    where
+      same : with_one s (just u) u ≡ just u u
+      same = elim (cases_Bool (u == s)) [ inl e ↦ rw (e, self u) refl | inr e ↦ rw e refl ]
+
+      note_left : (r : ℤ) → (after (Note s r) (V.without (with_one s (just u)))).held u ≡ []
+      note_left r = note_held s r (V.without (with_one s (just u))) u ∙ alike (with_one s (just u)) (just u) u same ∙ kept.left u
+
+  left_by : (r : Role) (ev : Event) (p : ℕ) → Passes r ev V → Fits r ev p V → IsWellFormedWith (table_after r p V.table) (present (next_by r ev p V)) → (u : ℕ)
+      → ((next_by r ev p V).without (just u)).held u ≡ []
+  left_by r ev p passes fits formed u = elim (cases_Bool (is_live (table_after r p V.table) u)) [
+    | inl live ↦ left_live r ev p passes fits u live
+    | inr dead ↦
+        let now : IsSound (next_by r ev p V) = sound_by r V ev p sound passes fits in
+        (now.coherent (just u) nobody (Held u) (λ v z.
+        absurd (both_ways (is_live (table_after r p V.table) u) dead (subst (λ (n : ℕ). is_live (table_after r p V.table) n ≡ true) (now.held_own v u z) (now.owned_live v (Held u) z))))).part
+        ∙ formed.others u dead
+  ]
+
+  pub next_kept : (step : Step) → IsAccepted (answer V step) → IsKept (next V step)
+  unfolding next
+  next_kept step a =
+      let f : IsFitting V step = fitting V step sound a in
+      let formed : IsWellFormedWith (next V step).table (present (next V step)) = next_formed step a in
+      record { formed = formed; left = left_by (role_on V step) (event_on V step) (process_of step) f.passes f.fits formed }
+
+-- the view of the empty history
+start_kept : (S : State) → ((s : ℕ) → S.held s ≡ []) → IsKept (view S [])
+unfolding view without survivors run table_of
+start_kept S none = record { formed = record { live = λ s h. cc; members = λ s p h. cc; others = λ s h. none s }; left = none }
+
+pub present_form : (S : State) (h : List Accepted) → IsWellFormed S → Lawful S h → IsWellFormed (present (view S h))
+unfolding view
+present_form S h w l = history_form S h w l nobody
+
+pub history_kept : (S : State) (h : List Accepted) → IsWellFormed S → ((s : ℕ) → S.held s ≡ []) → Lawful S h → IsKept (view S h)
+unfolding Lawful
+history_kept S [] w none l = start_kept S none
+history_kept S (e ∷ h) w none l =
+    let a : IsAccepted (answer (view S h) e.step) = subst IsAccepted (sym l.1) l.2 in
+    subst IsKept (sym (lawful_next S e h l))
+    (next_kept (view S h) (lawful_sound S h l.0) (history_kept S h w none l.0) (present_form S h w l.0) e.step a)
+
+pub table_kept : (S : State) (h : List Accepted) → IsWellFormed S → ((s : ℕ) → S.held s ≡ []) → Lawful S h → IsWellFormedWith (table_of S h) (without S nobody h)
+unfolding view
+table_kept S h w none l = (history_kept S h w none l).formed

@@ -1,0 +1,389 @@
+-- What the writes of a step make of the processes' standing, and of what is held.
+use Rattle.std.proofs.Common.{◌≡◌, ◌≢◌, ◌⊎◌, ℕ, zero, suc, ◌+◌, ◌<◌, ◌≤◌, Bool, true, false, not, List, [], ◌∷◌, ◌++◌, ℤ, pos, Option, Some, None, is_some, is_none, if◌then◌else◌, nat_lt, ◌==◌, refl, sym, ap, ◌∙◌, subst, inl, inr, eq-eqb, eqb-true, arith}
+use Rattle.std.proofs.lemmas.Bool.{both_ways, ltb-true}
+use Rattle.tx_base.specs.declared.errors.Errno.TheVariants.{NotPermitted, NoChild, NoSuchProcess, TryAgain, InvalidArgument}
+use Rattle.tx_base.specs.declared.limits.TheConstants.{HELD_SENDS}
+use Rattle.tx_base.specs.declared.signals.SigSet.{SigSet}
+use Rattle.tx_base.specs.declared.steps.Call.{Call}
+use Rattle.tx_base.specs.declared.steps.Call.TheVariants as call
+use Rattle.tx_base.specs.declared.steps.Refusal.{Refusal}
+use Rattle.tx_base.specs.declared.steps.Refusal.TheVariants.{NoProcess, NotRunning, NoTransaction, NumberTaken, Wait, NotDeliverable, Deferred, FramesFull}
+use Rattle.tx_base.specs.declared.steps.Reply.TheVariants.{Done, Ended}
+use Rattle.tx_base.specs.declared.steps.Step.{Step}
+use Rattle.tx_base.specs.declared.steps.Step.TheVariants.{Call as Calls, Deliver, KernelAbort}
+use Rattle.tx_model.specs.Numbers.{failing}
+use Rattle.tx_model.specs.State.{Process, State, Sending, Write, SetProc, SetDesc, SetPipe, SetHeld, put_at, write_one, written, has_parent}
+use Rattle.tx_model.specs.StateLaws.{put_here, put_cases, put_there}
+use Rattle.tx_model.specs.Effects.{Inside, Effect, Replies, idle, noted, own_effect, done, done_with}
+use Rattle.tx_model.specs.Scripts.{closed_inside}
+use Rattle.tx_model.specs.Signals.{Disposition, Ignored, Fatal, Caught, disposition}
+use Rattle.tx_model.specs.Descriptors.{open_in, released}
+use Rattle.tx_model.specs.Processes.{child_of, forks, ended, children_below, children_of, with_parent, orphaned, told_to, Telling, NotTold, AtOnce, AtCommit, telling_by, telling, told_at_once, told_at_commit, ending, exit_status, exit_effect, numbered, with_status, waits_by, waits_for, waits_at}
+use Rattle.tx_model.specs.Sends.{has_sender, sent_by_members, sendable, sent_by, posts_now, holds, hands_out, sends_signal, send_effect}
+use Rattle.tx_model.specs.Deliveries.{delivered_value, relieved, action_at, caught, is_full, killed_status, acts_on, is_deferred, delivers, delivery_effect}
+use Rattle.tx_model.specs.Calls.{call_effect, MakesCall, TakesSignal, running_effect, effect_at}
+use Rattle.tx_model.specs.Events.{process_of, step_effect}
+use Rattle.tx_laws.proofs.KeepsFormReleased.{written_append}
+use Rattle.tx_laws.proofs.Standings.{Standing, standing_of, stand, put_stand}
+use Rattle.tx_laws.proofs.PlainWrites.{IsLater, IsPlainWrite, ArePlain, concludes_ended, IsPlain, noted_later, later_same, idle_plain, own_plain, same_plain, released_plain}
+use Rattle.tx_laws.proofs.PlainCalls.{IsSpecial, call_plain}
+
+abbrev pub Same : State → State → Type 0
+Same S T = (n : ℕ) → stand (T.procs n) ≡ stand (S.procs n)
+
+abbrev pub SameBut : ℕ → State → State → Type 0
+SameBut k S T = (n : ℕ) → n ≢ k → stand (T.procs n) ≡ stand (S.procs n)
+
+abbrev pub HoldsSame : State → State → Type 0
+HoldsSame S T = (u : ℕ) → T.held u ≡ S.held u
+
+-- one send more is held by the transaction that the step is inside of
+pub record HoldsMore (i : Inside) (m : Sending) (S T : State) : Type 0 where
+  pub more : T.held i.starter ≡ S.held i.starter ++ m ∷ []
+  pub others : (u : ℕ) → u ≢ i.starter → T.held u ≡ S.held u
+
+abbrev pub standing : ℕ → Bool → Option Standing
+standing parent runs = Some (record { parent = parent; runs = runs })
+
+-- a process stands as before, or its parent was p and is process 1
+abbrev pub IsOrphan : ℕ → Option Process → Option Process → Type 0
+IsOrphan p x y = (stand y ≡ stand x) ⊎ ((r : Bool) × (stand x ≡ standing p r) × (stand y ≡ standing 1 r))
+
+-- how the parent of a process that ended is told
+pub data Told (inside : Option Inside) (parent : ℕ) (S T : State) : Type 0 where
+  NotLater : HoldsSame S T → Told inside parent S T
+  Later : (i : Inside) → inside ≡ Some i → i.members parent ≡ false → parent ≢ 1 → HoldsMore i (told_to parent) S T → Told inside parent S T
+
+-- what the effect of a step of process p does to the standing of processes, and to what is held
+pub data Turn (inside : Option Inside) (p : ℕ) (S : State) (f : Effect) : Type 0 where
+  Stays : concludes_ended f.conclusion ≡ false → Same S (written f.writes S) → HoldsSame S (written f.writes S) → Turn inside p S f
+  -- a member's send is held
+  Sends : concludes_ended f.conclusion ≡ false → (i : Inside) → inside ≡ Some i → (m : Sending) → has_sender m.from ≡ 1 → sent_by_members (S.held i.starter) < HELD_SENDS
+      → Same S (written f.writes S) → HoldsMore i m S (written f.writes S) → Turn inside p S f
+  -- a child is there
+  Grows : concludes_ended f.conclusion ≡ false → (c : ℕ) → S.procs c ≡ None → stand ((written f.writes S).procs c) ≡ standing p true → SameBut c S (written f.writes S)
+      → HoldsSame S (written f.writes S) → Turn inside p S f
+  -- a child that had ended is gone
+  Reaps : concludes_ended f.conclusion ≡ false → (t : ℕ) → stand (S.procs t) ≡ standing p false → stand ((written f.writes S).procs t) ≡ None → SameBut t S (written f.writes S)
+      → HoldsSame S (written f.writes S) → Turn inside p S f
+  -- the process has ended
+  Ends : f.conclusion ≡ Replies Ended → (parent : ℕ) → stand (S.procs p) ≡ standing parent true → stand ((written f.writes S).procs p) ≡ standing parent false
+      → ((n : ℕ) → n ≢ p → IsOrphan p (S.procs n) ((written f.writes S).procs n)) → f.sends ≡ told_at_once (telling inside parent) parent
+      → Told inside parent S (written f.writes S) → Turn inside p S f
+
+-- a fork makes its child
+pub record GrowsBy (p c : ℕ) (S : State) (f : Effect) : Type 0 where
+  pub free : S.procs c ≡ None
+  pub child : stand ((written f.writes S).procs c) ≡ standing p true
+  pub others : SameBut c S (written f.writes S)
+  pub held : HoldsSame S (written f.writes S)
+
+-- plain writes
+later_stand : (me q : Process) → IsLater me q → standing_of q ≡ standing_of me
+later_stand me q k = λ i. record { parent = k.parent i; runs = is_none (k.status i) }
+
+write_stand : (p : ℕ) (me : Process) (w : Write) (T : State) → stand (T.procs p) ≡ Some (standing_of me) → IsPlainWrite p me w → Same T (write_one w T)
+write_stand p me (SetProc k None) T e h n = absurd h
+write_stand p me (SetProc k (Some q)) T e h n =
+    put_stand T.procs k (Some q) (ap Some (later_stand me q h.later) ∙ sym e ∙ sym (ap (λ (i : ℕ). stand (T.procs i)) h.number)) n
+write_stand p me (SetDesc k x) T e h n = refl
+write_stand p me (SetPipe k x) T e h n = refl
+write_stand p me (SetHeld k ms) T e h n = absurd h
+
+plain_stand : (p : ℕ) (me : Process) (ws : List Write) (T : State) → stand (T.procs p) ≡ Some (standing_of me) → ArePlain p me ws → Same T (written ws T)
+unfolding written ArePlain
+plain_stand p me [] T e h n = refl
+plain_stand p me (w ∷ ws) T e h n =
+    plain_stand p me ws (write_one w T) (write_stand p me w T e h.0 p ∙ e) h.1 n ∙ write_stand p me w T e h.0 n
+
+write_held : (p : ℕ) (me : Process) (w : Write) (T : State) → IsPlainWrite p me w → HoldsSame T (write_one w T)
+write_held p me (SetProc k x) T h u = refl
+write_held p me (SetDesc k x) T h u = refl
+write_held p me (SetPipe k x) T h u = refl
+write_held p me (SetHeld k ms) T h u = absurd h
+
+plain_held : (p : ℕ) (me : Process) (ws : List Write) (T : State) → ArePlain p me ws → HoldsSame T (written ws T)
+unfolding written ArePlain
+plain_held p me [] T h u = refl
+plain_held p me (w ∷ ws) T h u = plain_held p me ws (write_one w T) h.1 u ∙ write_held p me w T h.0 u
+
+more_here : (T : State) (s : ℕ) (ms : List Sending) → (write_one (SetHeld s ms) T).held s ≡ ms
+more_here T s ms = put_here T.held s ms
+
+-- the children of a process
+abbrev AllChildren : ℕ → State → List ℕ → Type 0
+AllChildren p S [] = Unit {0}
+AllChildren p S (q ∷ qs) = (has_parent p (S.procs q) ≡ true) × AllChildren p S qs
+
+children_are : (p n : ℕ) (S : State) → AllChildren p S (children_below p n S)
+unfolding children_below
+children_are p zero S = tt
+children_are p (suc n) S = by (has_parent p (S.procs n)) refl (children_are p n S)
+  where
+    by : (b : Bool) → has_parent p (S.procs n) ≡ b → AllChildren p S (children_below p n S) → AllChildren p S (if b then n ∷ children_below p n S else children_below p n S)
+    by true e k = (e, k)
+    by false e k = k
+
+children_all : (p : ℕ) (S : State) → AllChildren p S (children_of p S)
+children_all p S = by (p == 1)
+  where
+    by : (b : Bool) → AllChildren p S (if b then [] else children_below p (S.width + 1) S)
+    by true = tt
+    by false = children_are p (S.width + 1) S
+
+adopted_stand : (p : ℕ) (x : Option Process) → has_parent p x ≡ true → (r : Bool) × (stand x ≡ standing p r) × (stand (with_parent 1 x) ≡ standing 1 r)
+adopted_stand p None h = cc
+adopted_stand p (Some q) h = (is_none q.status, ap (λ (n : ℕ). standing n (is_none q.status)) (eqb-true q.parent p h), refl)
+
+-- the state while the children get their new parent
+record IsOrphaned (p : ℕ) (S U : State) (left : Option Standing) : Type 0 where
+  here : stand (U.procs p) ≡ left
+  others : (n : ℕ) → n ≢ p → IsOrphan p (S.procs n) (U.procs n)
+  held : HoldsSame S U
+
+orphaned_stand : (p : ℕ) (S U : State) (left : Option Standing) (qs : List ℕ) → has_parent p (S.procs p) ≡ false → AllChildren p S qs → IsOrphaned p S U left → IsOrphaned p S (written (orphaned qs S) U) left
+unfolding written orphaned
+orphaned_stand p S U left [] me all k = k
+orphaned_stand p S U left (q ∷ qs) me all k =
+    orphaned_stand p S (write_one (SetProc q (with_parent 1 (S.procs q))) U) left qs me all.1 (record { here = here; others = others; held = k.held })
+  where
+    apart : p ≢ q
+    apart z = both_ways (has_parent p (S.procs p)) me (ap (λ (i : ℕ). has_parent p (S.procs i)) z ∙ all.0)
+
+    here : stand (put_at U.procs q (with_parent 1 (S.procs q)) p) ≡ left
+    here = ap stand (put_there U.procs q (with_parent 1 (S.procs q)) p apart) ∙ k.here
+
+    others : (n : ℕ) → n ≢ p → IsOrphan p (S.procs n) (put_at U.procs q (with_parent 1 (S.procs q)) n)
+    others n ne = elim (put_cases U.procs q (with_parent 1 (S.procs q)) n) [
+      | inl z ↦
+          let a = adopted_stand p (S.procs q) all.0 in
+          inr (a.0, ap (λ (i : ℕ). stand (S.procs i)) z.0 ∙ a.1, ap stand z.1 ∙ a.2)
+      | inr z ↦ subst (λ (x : Option Process). IsOrphan p (S.procs n) x) (sym z.1) (k.others n ne)
+    ]
+
+-- nothing more is told when nothing is held
+idle_turn : (inside : Option Inside) (p : ℕ) (S : State) (why : Refusal) → Turn inside p S (idle why)
+unfolding written
+idle_turn inside p S why = Stays refl (λ n. refl) (λ u. refl)
+
+-- what is told at the commit
+told_by : (inside : Option Inside) (parent : ℕ) (S U : State) → HoldsSame S U → Told inside parent S (written (told_at_commit (telling inside parent) parent S) U)
+unfolding written
+told_by None parent S U same = by (parent == 1)
+  where
+    by : (a : Bool) → Told None parent S (written (told_at_commit (if a then NotTold else AtOnce) parent S) U)
+    by true = NotLater same
+    by false = NotLater same
+told_by (Some i) parent S U same = by (parent == 1) refl (i.members parent) refl
+  where
+    by : (a : Bool) → (parent == 1) ≡ a → (b : Bool) → i.members parent ≡ b
+        → Told (Some i) parent S (written (told_at_commit (if a then NotTold else (if b then AtOnce else AtCommit i.starter)) parent S) U)
+    by true e b k = NotLater same
+    by false e true k = NotLater same
+    by false e false k = Later i refl k (λ z. both_ways (parent == 1) e (eq-eqb parent 1 z)) (record {
+      more = put_here U.held i.starter (S.held i.starter ++ told_to parent ∷ []);
+      others = λ u ne. put_there U.held i.starter (S.held i.starter ++ told_to parent ∷ []) u ne ∙ same u;
+    })
+
+module _ (inside : Option Inside) (S : State) (p : ℕ) (me : Process) (e : S.procs p ≡ Some me) (runs : me.status ≡ None) (other : has_parent p (S.procs p) ≡ false) where
+  plain_turn : (f : Effect) → IsPlain p me f → Turn inside p S f
+  plain_turn f k = Stays k.goes_on (plain_stand p me f.writes S (ap stand e) k.writes) (plain_held p me f.writes S k.writes)
+
+  running : stand (S.procs p) ≡ standing me.parent true
+  running = ap stand e ∙ ap (λ (x : Option ℕ). standing me.parent (is_none x)) runs
+
+  -- fork and waitpid
+  later_same_stand : (q : Process) → q.parent ≡ me.parent → q.status ≡ me.status → Same S (write_one (SetProc p (Some q)) S)
+  later_same_stand q parent status n =
+      put_stand S.procs p (Some q) ((λ i. standing (parent i) (is_none (status i))) ∙ sym (ap stand e)) n
+
+  pub forks_by : (c : ℕ) → S.procs c ≡ None → GrowsBy p c S (forks p c me None)
+  unfolding written
+  forks_by c k =
+      let T : State = write_one (SetProc p (Some (noted (pos c) me))) S in
+      record {
+        free = k;
+        child = ap stand (put_here T.procs c (Some (child_of p me))) ∙ ap (λ (z : Option ℕ). standing p (is_none z)) runs;
+        others = λ n ne. ap stand (put_there T.procs c (Some (child_of p me)) n ne) ∙ later_same_stand (noted (pos c) me) refl refl n;
+        held = λ u. refl;
+      }
+
+  forks_turn : (c : ℕ) (x : Option Process) → S.procs c ≡ x → Turn inside p S (forks p c me x)
+  unfolding written
+  forks_turn c (Some q) k = idle_turn inside p S NumberTaken
+  forks_turn c None k = let g : GrowsBy p c S (forks p c me None) = forks_by c k in Grows refl c g.free g.child g.others g.held
+
+  waits_by_turn : (t : ℕ) (nohang : Bool) (status : Option ℕ) → stand (S.procs t) ≡ standing p (is_none status) → Turn inside p S (waits_by p t nohang me status)
+  unfolding written
+  waits_by_turn t true None k = plain_turn _ (same_plain p me (pos 0))
+  waits_by_turn t false None k = idle_turn inside p S Wait
+  waits_by_turn t nohang (Some status) k =
+      let T : State = write_one (SetProc p (Some (noted (pos t) (with_status status me)))) S in
+      Reaps refl t k (ap stand (put_here T.procs t None))
+      (λ n ne. ap stand (put_there T.procs t None n ne) ∙ later_same_stand (noted (pos t) (with_status status me)) refl refl n) (λ u. refl)
+
+  waits_for_turn : (t : ℕ) (nohang : Bool) (x : Option Process) → S.procs t ≡ x → Turn inside p S (waits_for p t nohang me x)
+  waits_for_turn t nohang None k = plain_turn _ (same_plain p me (failing NoChild))
+  waits_for_turn t nohang (Some q) k = by (q.parent == p) refl
+    where
+      by : (b : Bool) → (q.parent == p) ≡ b → Turn inside p S (if b then waits_by p t nohang me q.status else done p (failing NoChild) me)
+      by true z = waits_by_turn t nohang q.status (ap stand k ∙ ap (λ (n : ℕ). standing n (is_none q.status)) (eqb-true q.parent p z))
+      by false z = plain_turn _ (same_plain p me (failing NoChild))
+
+  waits_at_turn : (t : Option ℕ) (nohang : Bool) → Turn inside p S (waits_at p t nohang me S)
+  waits_at_turn None nohang = plain_turn _ (same_plain p me (failing NoChild))
+  waits_at_turn (Some t) nohang = waits_for_turn t nohang (S.procs t) refl
+
+  -- the end of the process
+  module _ (status : ℕ) (now : Process) (parent : now.parent ≡ me.parent) where
+    abbrev left : Option Standing
+    left = standing now.parent false
+
+    abbrev first : State
+    first = write_one (SetProc p (Some (ended status now))) S
+
+    abbrev gone : List Write
+    gone = released (open_in now.descriptors) first
+
+    abbrev later : List Write
+    later = told_at_commit (telling inside now.parent) now.parent S
+
+    orphans : IsOrphaned p S (written (orphaned (children_of p S) S) first) left
+    orphans = orphaned_stand p S first left (children_of p S) other (children_all p S) (record {
+      here = ap stand (put_here S.procs p (Some (ended status now)));
+      others = λ n ne. inl (ap stand (put_there S.procs p (Some (ended status now)) n ne));
+      held = λ u. refl;
+    })
+
+    abbrev closed : State
+    closed = written gone (written (orphaned (children_of p S) S) first)
+
+    closed_stand : Same (written (orphaned (children_of p S) S) first) closed
+    closed_stand = plain_stand p (ended status now) gone _ orphans.here (released_plain p (ended status now) (open_in now.descriptors) first)
+
+    closed_held : HoldsSame S closed
+    closed_held u = plain_held p (ended status now) gone _ (released_plain p (ended status now) (open_in now.descriptors) first) u ∙ orphans.held u
+
+    -- what is told later is no process
+    later_stand_same : (t : Telling) → Same closed (written (told_at_commit t now.parent S) closed)
+    unfolding written
+    later_stand_same NotTold n = refl
+    later_stand_same AtOnce n = refl
+    later_stand_same (AtCommit s) n = refl
+
+    whole : written (ending inside p status now S).writes S ≡ written later closed
+    unfolding written
+    whole =
+        written_append (orphaned (children_of p S) S ++ gone) later first
+        ∙ ap (λ (U : State). written later U) (written_append (orphaned (children_of p S) S) gone first)
+
+    at_end : (n : ℕ) → stand ((written (ending inside p status now S).writes S).procs n) ≡ stand ((written (orphaned (children_of p S) S) first).procs n)
+    at_end n = ap (λ (U : State). stand (U.procs n)) whole ∙ later_stand_same (telling inside now.parent) n ∙ closed_stand n
+
+    orphan_by : (n : ℕ) (x y z : Option Process) → stand z ≡ stand y → IsOrphan p x y → IsOrphan p x z
+    orphan_by n x y z k (inl h) = inl (k ∙ h)
+    orphan_by n x y z k (inr h) = inr (h.0, h.1, k ∙ h.2)
+
+    ending_turn : Turn inside p S (ending inside p status now S)
+    ending_turn =
+        Ends refl now.parent (running ∙ ap (λ (n : ℕ). standing n true) (sym parent)) (at_end p ∙ orphans.here)
+        (λ n ne. orphan_by n (S.procs n) ((written (orphaned (children_of p S) S) first).procs n) ((written (ending inside p status now S).writes S).procs n) (at_end n) (orphans.others n ne))
+        refl
+        (subst (λ (U : State). Told inside now.parent S U) (sym whole) (told_by inside now.parent S closed closed_held))
+
+  exit_turn : (v : ℤ) → Turn inside p S (exit_effect inside p v me S)
+  exit_turn v = by (p == 1)
+    where
+      by : (b : Bool) → Turn inside p S (if b then done p (failing NotPermitted) me else ending inside p (exit_status v) me S)
+      by true = plain_turn _ (same_plain p me (failing NotPermitted))
+      by false = ending_turn (exit_status v) me refl
+
+  -- sends
+  now_turn : (m : Sending) → Turn inside p S (posts_now p m)
+  unfolding written
+  now_turn m = Stays refl (λ n. refl) (λ u. refl)
+
+  holds_turn : (i : Inside) → inside ≡ Some i → (m : Sending) → has_sender m.from ≡ 1 → Turn inside p S (holds p i me m S)
+  unfolding written
+  holds_turn i z m sender = by (m.signo == 0) (nat_lt (sent_by_members (S.held i.starter)) HELD_SENDS) refl
+    where
+      by : (b c : Bool) → nat_lt (sent_by_members (S.held i.starter)) HELD_SENDS ≡ c → Turn inside p S (if b then done p closed_inside me
+          else (if c then done_with (SetHeld i.starter (S.held i.starter ++ m ∷ []) ∷ []) p (pos 0) me else done p (failing TryAgain) me))
+      by true c k = plain_turn _ (same_plain p me closed_inside)
+      by false true k =
+          Sends refl i z m sender (ltb-true (sent_by_members (S.held i.starter)) HELD_SENDS k) (later_same_stand (noted (pos 0) me) refl refl)
+          (record {
+            more = put_here S.held i.starter (S.held i.starter ++ m ∷ []);
+            others = λ u ne. put_there S.held i.starter (S.held i.starter ++ m ∷ []) u ne;
+          })
+      by false false k = plain_turn _ (same_plain p me (failing TryAgain))
+
+  hands_turn : (x : Option Inside) → inside ≡ x → (m : Sending) → has_sender m.from ≡ 1 → Turn inside p S (hands_out p x me m S)
+  hands_turn None z m sender = now_turn m
+  hands_turn (Some i) z m sender = by (i.members m.target)
+    where
+      by : (b : Bool) → Turn inside p S (if b then posts_now p m else holds p i me m S)
+      by true = now_turn m
+      by false = holds_turn i z m sender
+
+  signal_turn : (t signo : Option ℕ) (value : ℤ) → Turn inside p S (sends_signal p inside me t signo value S)
+  signal_turn t None value = plain_turn _ (same_plain p me (failing InvalidArgument))
+  signal_turn None (Some signo) value = plain_turn _ (same_plain p me (failing NoSuchProcess))
+  signal_turn (Some t) (Some signo) value = hands_turn inside refl (sent_by me t signo value) refl
+
+  -- deliveries
+  relieved_turn : (own : Process) → own.parent ≡ me.parent → own.status ≡ me.status → (r : ℤ) → Turn inside p S (own_effect p (record { process = own; reply = Done r }))
+  unfolding written
+  relieved_turn own parent status r = Stays refl (later_same_stand own parent status) (λ u. refl)
+
+  acts_on_turn : (signo : ℕ) (value : ℤ) (x : Disposition) → Turn inside p S (acts_on inside p signo value x (relieved signo me) S)
+  acts_on_turn signo value Ignored = relieved_turn (relieved signo me) refl refl me.registers.ret
+  acts_on_turn signo value Fatal = ending_turn (killed_status signo) (relieved signo me) refl
+  acts_on_turn signo value (Caught point mask) = by (is_full (relieved signo me))
+    where
+      by : (b : Bool) → Turn inside p S (if b then idle FramesFull else own_effect p (record { process = caught signo value point mask (relieved signo me); reply = Done value }))
+      by true = idle_turn inside p S FramesFull
+      by false = relieved_turn (caught signo value point mask (relieved signo me)) refl refl value
+
+  delivers_turn : (signo : ℕ) (value : Option ℤ) → Turn inside p S (delivers inside p signo me value S)
+  delivers_turn signo None = idle_turn inside p S NotDeliverable
+  delivers_turn signo (Some value) = by (is_deferred inside signo)
+    where
+      by : (b : Bool) → Turn inside p S (if b then idle Deferred else acts_on inside p signo value (disposition signo (action_at signo me)) (relieved signo me) S)
+      by true = idle_turn inside p S Deferred
+      by false = acts_on_turn signo value (disposition signo (action_at signo me))
+
+  special_turn : (c : Call) → IsSpecial c → Turn inside p S (call_effect inside p c me S)
+  special_turn (call.Fork child) h = forks_turn child.0 (S.procs child.0) refl
+  special_turn (call.Exit status) h = exit_turn status
+  special_turn (call.Waitpid t nohang) h = waits_at_turn (numbered S.width t) nohang
+  special_turn (call.Kill t signo) h = signal_turn (numbered S.width t) (sendable signo) (pos 0)
+  special_turn (call.Sigqueue t signo value) h = signal_turn (numbered S.width t) (sendable signo) value
+  special_turn c h = absurd h
+
+  call_turn : (c : Call) → Turn inside p S (call_effect inside p c me S)
+  call_turn c = elim (call_plain S p me inside c) [ inl h ↦ special_turn c h | inr h ↦ plain_turn _ h ]
+
+-- a step
+module _ (inside : Option Inside) (S : State) (p : ℕ) (other : has_parent p (S.procs p) ≡ false) where
+  running_call_turn : (c : Call) (me : Process) (status : Option ℕ) → S.procs p ≡ Some me → me.status ≡ status → Turn inside p S (running_effect inside p (MakesCall c) S me status)
+  running_call_turn c me None e k = call_turn inside S p me e k other c
+  running_call_turn c me (Some status) e k = idle_turn inside p S NotRunning
+
+  running_delivery_turn : (signo : ℕ) (me : Process) (status : Option ℕ) → S.procs p ≡ Some me → me.status ≡ status
+      → Turn inside p S (running_effect inside p (TakesSignal signo) S me status)
+  running_delivery_turn signo me None e k = delivers_turn inside S p me e k other signo (delivered_value signo me)
+  running_delivery_turn signo me (Some status) e k = idle_turn inside p S NotRunning
+
+  pub call_at_turn : (c : Call) (x : Option Process) → S.procs p ≡ x → Turn inside p S (effect_at inside p (MakesCall c) S x)
+  call_at_turn c None e = idle_turn inside p S NoProcess
+  call_at_turn c (Some me) e = running_call_turn c me me.status e refl
+
+  pub delivery_at_turn : (signo : ℕ) (x : Option Process) → S.procs p ≡ x → Turn inside p S (effect_at inside p (TakesSignal signo) S x)
+  delivery_at_turn signo None e = idle_turn inside p S NoProcess
+  delivery_at_turn signo (Some me) e = running_delivery_turn signo me me.status e refl
+
+pub step_turn : (inside : Option Inside) (S : State) (step : Step) → has_parent (process_of step) (S.procs (process_of step)) ≡ false → Turn inside (process_of step) S (step_effect step inside S)
+step_turn inside S (Calls p c) other = call_at_turn inside S p.0 other c (S.procs p.0) refl
+step_turn inside S (Deliver p signo) other = delivery_at_turn inside S p.0 other signo.0 (S.procs p.0) refl
+step_turn inside S (KernelAbort s) other = idle_turn inside s.0 S NoTransaction

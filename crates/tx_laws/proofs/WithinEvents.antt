@@ -1,0 +1,561 @@
+-- Every event leaves what processes have within its limits, and what transactions hold known signals.
+use Rattle.std.proofs.Common.{◌≡◌, ◌≢◌, ◌⊎◌, ℕ, zero, suc, Bool, true, false, ◌||◌, ◌^◌, List, [], ◌∷◌, ◌++◌, ℤ, pos, negsuc, Option, Some, None, is_some, if◌then◌else◌, nat_lt, ◌==◌, slice_index_or, slice_set, refl, sym, ap, ◌∙◌, subst, inl, inr, eq-eqb, arith}
+use Rattle.std.specs.Prelude.{All}
+use Rattle.std.proofs.lemmas.Bool.{both_ways}
+use Rattle.std.proofs.lemmas.List.Elements.{All-nil, All-cons, All-head, All-tail, All-push, All-append, All-replicate}
+use Rattle.tx_base.specs.Signals.{bits_of}
+use Rattle.tx_base.specs.declared.limits.TheConstants.{HELD_SENDS}
+use Rattle.tx_base.specs.declared.errors.Errno.TheVariants.{NotPermitted, NoChild, NoSuchProcess, TryAgain, InvalidArgument}
+use Rattle.tx_base.specs.declared.signals.Action.{Action}
+use Rattle.tx_base.specs.declared.signals.Action.TheVariants.{Usual, Ignore, Catch}
+use Rattle.tx_base.specs.declared.signals.SigSet.{SigSet}
+use Rattle.tx_base.specs.declared.steps.Call.{Call}
+use Rattle.tx_base.specs.declared.steps.Call.TheVariants as call
+use Rattle.tx_base.specs.declared.steps.Step.{Step}
+use Rattle.tx_base.specs.declared.steps.Step.TheVariants.{Call as Calls, Deliver, KernelAbort}
+use Rattle.tx_base.specs.declared.steps.Refusal.{Refusal}
+use Rattle.tx_base.specs.declared.steps.Refusal.TheVariants.{NoProcess, NotRunning, NoTransaction, NumberTaken, Wait, NotDeliverable, Deferred, FramesFull}
+use Rattle.tx_base.specs.declared.steps.Reply.TheVariants.{Done}
+use Rattle.tx_model.specs.Numbers.{failing}
+use Rattle.tx_model.specs.Memory.{no_memory}
+use Rattle.tx_model.specs.SignalSets.{standard_signals, kill_signo, child_signo, is_one_of, is_realtime, is_known, is_in_set, without_one}
+use Rattle.tx_model.specs.State.{Process, State, Queued, Sending, Write, SetProc, SetDesc, SetPipe, SetHeld, put_at, write_one, written, usual_actions, booted_process, booted, is_between}
+use Rattle.tx_model.specs.Posts.{has_room, may_signal, is_quiet, with_queued, with_pending, received, post, posts}
+use Rattle.tx_model.specs.Effects.{Inside, Effect, Conclusion, Replies, AnswersPost, ListsFailed, idle, noted_if, own_effect, done, done_with, first_answer, concluded, send_answers}
+use Rattle.tx_model.specs.Scripts.{closed_inside}
+use Rattle.tx_model.specs.Signals.{known, Disposition, Ignored, Fatal, Caught, disposition}
+use Rattle.tx_model.specs.Descriptors.{open_in, released}
+use Rattle.tx_model.specs.Processes.{child_of, forks, ended, children_of, with_parent, orphaned, told_to, Telling, NotTold, AtOnce, AtCommit, telling, told_at_once, told_at_commit, ending, exit_status, exit_effect, numbered, with_status, waits_by, waits_for, waits_at}
+use Rattle.tx_model.specs.Sends.{sent_by_members, sendable, sent_by, posts_now, holds, hands_out, sends_signal, send_effect}
+use Rattle.tx_model.specs.Deliveries.{first_value, less_first, is_blocked, delivered_value, relieved, action_at, caught, is_full, killed_status, acts_on, is_deferred, delivers, delivery_effect}
+use Rattle.tx_model.specs.Calls.{call_effect, MakesCall, TakesSignal, running_effect, effect_at}
+use Rattle.tx_model.specs.Events.{Event, Do, Note, Commit, step_effect, effect, after}
+use Rattle.tx_laws.specs.WellFormed.{IsWholePage, IsMask, HasFrameLimits, HasActionLimits, HasCatchLimits, IsRealtimeEntry, IsKnownSending, HasIdLimits, HasLimits}
+use Rattle.tx_model.specs.StateLaws.{put_cases}
+use Rattle.tx_laws.proofs.WithinSets.{in_one_more, in_less, empty_set, empty_mask, caught_mask}
+use Rattle.tx_laws.proofs.WithinOwn.{KeepsLimits, next_limit, noted_limits, slotted}
+use Rattle.tx_laws.proofs.PlainWrites.{IsPlainWrite, ArePlain, IsSendable, IsPlain, idle_plain, own_plain, same_plain, released_plain}
+use Rattle.tx_laws.proofs.PlainCalls.{IsSpecial, call_plain}
+
+-- the limits of a state: those of its processes, and known signals alone are held
+pub record IsWithin (S : State) : Type 0 where
+  pub limits : (n : ℕ) (q : Process) → S.procs n ≡ Some q → HasLimits q
+  pub held : (s : ℕ) → All IsKnownSending (S.held s)
+
+abbrev pub HasLimitsIf : Option Process → Type 0
+HasLimitsIf None = Unit {0}
+HasLimitsIf (Some q) = HasLimits q
+
+-- what is put in a place is within its limits
+abbrev pub IsFineWrite : Write → Type 0
+IsFineWrite (SetProc n x) = HasLimitsIf x
+IsFineWrite (SetDesc n x) = Unit {0}
+IsFineWrite (SetPipe n x) = Unit {0}
+IsFineWrite (SetHeld n ms) = All IsKnownSending ms
+
+unfoldable pub AreFine : List Write → Type 0
+AreFine [] = Unit {0}
+AreFine (w ∷ ws) = IsFineWrite w × AreFine ws
+
+pub record IsFine (f : Effect) : Type 0 where
+  pub writes : AreFine f.writes
+  pub sends : All IsSendable f.sends
+
+limits_if : (S : State) → IsWithin S → (n : ℕ) (x : Option Process) → S.procs n ≡ x → HasLimitsIf x
+limits_if S w n None e = tt
+limits_if S w n (Some q) e = w.limits n q e
+
+-- the writes
+write_within : (x : Write) (S : State) → IsFineWrite x → IsWithin S → IsWithin (write_one x S)
+write_within (SetProc n x) S h w = record { limits = limits; held = w.held }
+  where
+    limits : (m : ℕ) (q : Process) → put_at S.procs n x m ≡ Some q → HasLimits q
+    limits m q e = elim (put_cases S.procs n x m) [
+      | inl z ↦ subst HasLimitsIf (sym z.1 ∙ e) h
+      | inr z ↦ w.limits m q (sym z.1 ∙ e)
+    ]
+write_within (SetDesc n x) S h w = record { limits = w.limits; held = w.held }
+write_within (SetPipe n x) S h w = record { limits = w.limits; held = w.held }
+write_within (SetHeld n ms) S h w = record { limits = w.limits; held = held }
+  where
+    held : (s : ℕ) → All IsKnownSending (put_at S.held n ms s)
+    held s = elim (put_cases S.held n ms s) [
+      | inl z ↦ subst (All IsKnownSending) (sym z.1) h
+      | inr z ↦ subst (All IsKnownSending) (sym z.1) (w.held s)
+    ]
+
+pub written_within : (ws : List Write) (S : State) → AreFine ws → IsWithin S → IsWithin (written ws S)
+unfolding written AreFine
+written_within [] S h w = w
+written_within (x ∷ ws) S h w = written_within ws (write_one x S) h.1 (write_within x S h.0 w)
+
+fine_append : (ws vs : List Write) → AreFine ws → AreFine vs → AreFine (ws ++ vs)
+unfolding AreFine
+fine_append [] vs h k = k
+fine_append (w ∷ ws) vs h k = (h.0, fine_append ws vs h.1 k)
+
+fine_write : (p : ℕ) (me : Process) → HasLimits me → (w : Write) → IsPlainWrite p me w → IsFineWrite w
+fine_write p me l (SetProc n None) h = absurd h
+fine_write p me l (SetProc n (Some q)) h = h.later.limits l
+fine_write p me l (SetDesc n x) h = tt
+fine_write p me l (SetPipe n x) h = tt
+fine_write p me l (SetHeld n ms) h = absurd h
+
+plain_writes : (p : ℕ) (me : Process) → HasLimits me → (ws : List Write) → ArePlain p me ws → AreFine ws
+unfolding ArePlain AreFine
+plain_writes p me l [] h = tt
+plain_writes p me l (w ∷ ws) h = (fine_write p me l w h.0, plain_writes p me l ws h.1)
+
+pub plain_fine : (p : ℕ) (me : Process) (f : Effect) → HasLimits me → IsPlain p me f → IsFine f
+plain_fine p me f l h = record { writes = plain_writes p me l f.writes h.writes; sends = h.sends }
+
+fine_one : (w : Write) → IsFineWrite w → AreFine (w ∷ [])
+unfolding AreFine
+fine_one w h = (h, tt)
+
+fine_two : (w v : Write) → IsFineWrite w → IsFineWrite v → AreFine (w ∷ v ∷ [])
+unfolding AreFine
+fine_two w v h k = (h, (k, tt))
+
+no_sends : All IsSendable []
+no_sends = All-nil IsSendable
+
+-- processes
+child_limits : (p : ℕ) (me : Process) → KeepsLimits me (child_of p me)
+child_limits p me h = record {
+  point = next_limit me.registers.point h.point;
+  pages = h.pages;
+  ids = h.ids;
+  mask = h.mask;
+  actions = h.actions;
+  kill = h.kill;
+  pending = λ n k. absurd (both_ways (is_in_set 0 n) (empty_set n) k);
+  queued = All-nil IsRealtimeEntry;
+  frames = h.frames;
+}
+
+-- a process with nothing
+bare_limits : (q : Process) → q.registers.point ≡ 0 → q.memory ≡ no_memory → HasIdLimits q.ids → q.mask ≡ 0 → q.actions ≡ usual_actions → q.pending ≡ 0 → q.queued ≡ []
+    → q.frames ≡ [] → HasLimits q
+bare_limits q point memory ids mask actions pending queued frames = record {
+  point = omega arith;
+  pages = subst (All IsWholePage) (sym memory) (All-replicate IsWholePage 16 None tt);
+  ids = ids;
+  mask = subst IsMask (sym mask) empty_mask;
+  actions = subst (All HasActionLimits) (sym actions) (All-replicate HasActionLimits 40 Usual tt);
+  kill = ap (λ (xs : List Action). slice_index_or xs kill_signo Usual) actions;
+  pending = λ n k. absurd (both_ways (is_in_set q.pending n) (ap (λ (set : ℕ). is_in_set set n) pending ∙ empty_set n) k);
+  queued = subst (All IsRealtimeEntry) (sym queued) (All-nil IsRealtimeEntry);
+  frames = subst (All HasFrameLimits) (sym frames) (All-nil HasFrameLimits);
+}
+
+ended_limits : (status : ℕ) (me : Process) → KeepsLimits me (ended status me)
+ended_limits status me h = bare_limits (ended status me) refl refl h.ids refl refl refl refl refl
+
+booted_limits : (n : ℕ) → HasLimits (booted_process n)
+booted_limits n =
+    bare_limits (booted_process n) refl refl
+    (record {
+      real_user = omega arith;
+      effective_user = omega arith;
+      saved_user = omega arith;
+      real_group = omega arith;
+      effective_group = omega arith;
+      saved_group = omega arith;
+    })
+    refl refl refl refl refl
+
+-- with another parent
+adopted_limits : (n : ℕ) (x : Option Process) → HasLimitsIf x → HasLimitsIf (with_parent n x)
+adopted_limits n None h = tt
+adopted_limits n (Some q) h = record {
+  point = h.point;
+  pages = h.pages;
+  ids = h.ids;
+  mask = h.mask;
+  actions = h.actions;
+  kill = h.kill;
+  pending = h.pending;
+  queued = h.queued;
+  frames = h.frames;
+}
+
+told_known : (parent : ℕ) → IsSendable (told_to parent)
+told_known parent = inr refl
+
+module _ (S : State) (p : ℕ) (me : Process) (w : IsWithin S) (l : HasLimits me) where
+  forks_fine : (c : ℕ) (x : Option Process) → IsFine (forks p c me x)
+  forks_fine c None = record { writes = fine_two _ _ (noted_limits (pos c) me l) (child_limits p me l); sends = no_sends }
+  forks_fine c (Some other) = record { writes = (plain_fine p me (idle NumberTaken) l (idle_plain p me NumberTaken)).writes; sends = no_sends }
+
+  plainly : (f : Effect) → IsPlain p me f → IsFine f
+  plainly f k = plain_fine p me f l k
+
+  statused : (status : ℕ) → KeepsLimits me (with_status status me)
+  statused status = slotted me (slice_set me.registers.slots 0 (pos status))
+
+  waits_by_fine : (t : ℕ) (nohang : Bool) (status : Option ℕ) → IsFine (waits_by p t nohang me status)
+  waits_by_fine t true None = plainly _ (same_plain p me (pos 0))
+  waits_by_fine t false None = plainly _ (idle_plain p me Wait)
+  waits_by_fine t nohang (Some status) = record { writes = fine_two _ _ (noted_limits (pos t) (with_status status me) (statused status l)) tt; sends = no_sends }
+
+  waits_for_fine : (t : ℕ) (nohang : Bool) (x : Option Process) → IsFine (waits_for p t nohang me x)
+  waits_for_fine t nohang None = plainly _ (same_plain p me (failing NoChild))
+  waits_for_fine t nohang (Some q) = by (q.parent == p)
+    where
+      by : (b : Bool) → IsFine (if b then waits_by p t nohang me q.status else done p (failing NoChild) me)
+      by true = waits_by_fine t nohang q.status
+      by false = plainly _ (same_plain p me (failing NoChild))
+
+  waits_at_fine : (t : Option ℕ) (nohang : Bool) → IsFine (waits_at p t nohang me S)
+  waits_at_fine None nohang = plainly _ (same_plain p me (failing NoChild))
+  waits_at_fine (Some t) nohang = waits_for_fine t nohang (S.procs t)
+
+  orphaned_fine : (qs : List ℕ) → AreFine (orphaned qs S)
+  unfolding orphaned AreFine
+  orphaned_fine [] = tt
+  orphaned_fine (q ∷ qs) = (adopted_limits 1 (S.procs q) (limits_if S w q (S.procs q) refl), orphaned_fine qs)
+
+  later_fine : (telling : Telling) (parent : ℕ) → AreFine (told_at_commit telling parent S)
+  unfolding AreFine
+  later_fine NotTold parent = tt
+  later_fine AtOnce parent = tt
+  later_fine (AtCommit s) parent = (All-push IsKnownSending (S.held s) (told_to parent) (w.held s) refl, tt)
+
+  tells_fine : (telling : Telling) (parent : ℕ) → All IsSendable (told_at_once telling parent)
+  tells_fine NotTold parent = no_sends
+  tells_fine AtOnce parent = All-cons IsSendable (told_to parent) [] (told_known parent) no_sends
+  tells_fine (AtCommit s) parent = no_sends
+
+  abbrev gone : Process → Process → List Write
+  gone now left = released (open_in now.descriptors) (write_one (SetProc p (Some left)) S)
+
+  -- the process that ends, in the place of the one before
+  ending_fine : (inside : Option Inside) (status : ℕ) (now : Process) → HasLimits now → IsFine (ending inside p status now S)
+  unfolding AreFine
+  ending_fine inside status now k = record {
+    writes = (
+      ended_limits status now k,
+      fine_append (orphaned (children_of p S) S ++ gone now (ended status now)) (told_at_commit (telling inside now.parent) now.parent S)
+          (fine_append (orphaned (children_of p S) S) (gone now (ended status now)) (orphaned_fine (children_of p S))
+          (plain_writes p me l (gone now (ended status now)) (released_plain p me (open_in now.descriptors) (write_one (SetProc p (Some (ended status now))) S))))
+          (later_fine (telling inside now.parent) now.parent),
+    );
+    sends = tells_fine (telling inside now.parent) now.parent;
+  }
+
+  exit_fine : (inside : Option Inside) (v : ℤ) → IsFine (exit_effect inside p v me S)
+  exit_fine inside v = by (p == 1)
+    where
+      by : (b : Bool) → IsFine (if b then done p (failing NotPermitted) me else ending inside p (exit_status v) me S)
+      by true = plainly _ (same_plain p me (failing NotPermitted))
+      by false = ending_fine inside (exit_status v) me l
+
+  -- sends
+  now_fine : (m : Sending) → IsSendable m → IsFine (posts_now p m)
+  unfolding AreFine
+  now_fine m k = record { writes = tt; sends = All-cons IsSendable m [] k no_sends }
+
+  holds_fine : (inside : Inside) (m : Sending) → IsSendable m → IsFine (holds p inside me m S)
+  holds_fine inside m k = by (m.signo == 0) refl (nat_lt (sent_by_members (S.held inside.starter)) HELD_SENDS)
+    where
+      loud : (m.signo == 0) ≡ false → IsKnownSending m
+      loud h = elim k [ inl e ↦ absurd (both_ways (m.signo == 0) h (eq-eqb m.signo 0 e)) | inr e ↦ e ]
+
+      by : (b : Bool) → (m.signo == 0) ≡ b → (c : Bool) → IsFine (if b then done p closed_inside me
+          else (if c then done_with (SetHeld inside.starter (S.held inside.starter ++ m ∷ []) ∷ []) p (pos 0) me else done p (failing TryAgain) me))
+      by true h c = plainly _ (same_plain p me closed_inside)
+      by false h true = record {
+        writes = fine_two _ _ (noted_limits (pos 0) me l) (All-push IsKnownSending (S.held inside.starter) m (w.held inside.starter) (loud h));
+        sends = no_sends;
+      }
+      by false h false = plainly _ (same_plain p me (failing TryAgain))
+
+  hands_fine : (inside : Option Inside) (m : Sending) → IsSendable m → IsFine (hands_out p inside me m S)
+  hands_fine None m k = now_fine m k
+  hands_fine (Some inside) m k = by (inside.members m.target)
+    where
+      by : (b : Bool) → IsFine (if b then posts_now p m else holds p inside me m S)
+      by true = now_fine m k
+      by false = holds_fine inside m k
+
+  known_is : (v : ℤ) (n : ℕ) → known v ≡ Some n → is_known n ≡ true
+  known_is (pos m) n e = by (is_known m) refl e
+    where
+      by : (b : Bool) → is_known m ≡ b → (if b then Some m else None) ≡ Some n → is_known n ≡ true
+      by true h k = let same : m ≡ n = cc in subst (λ (i : ℕ). is_known i ≡ true) same h
+      by false h k = cc
+  known_is (negsuc m) n e = cc
+
+  sendable_is : (v : ℤ) (n : ℕ) → sendable v ≡ Some n → (n ≡ 0) ⊎ (is_known n ≡ true)
+  sendable_is (pos zero) n e = inl cc
+  sendable_is (pos (suc m)) n e = inr (known_is (pos (suc m)) n e)
+  sendable_is (negsuc m) n e = cc
+
+  signal_fine : (inside : Option Inside) (t signo : Option ℕ) (value v : ℤ) → sendable v ≡ signo → IsFine (sends_signal p inside me t signo value S)
+  signal_fine inside t None value v e = plainly _ (same_plain p me (failing InvalidArgument))
+  signal_fine inside None (Some signo) value v e = plainly _ (same_plain p me (failing NoSuchProcess))
+  signal_fine inside (Some t) (Some signo) value v e = hands_fine inside (sent_by me t signo value) (sendable_is v signo e)
+
+  send_fine : (inside : Option Inside) (t signo value : ℤ) → IsFine (send_effect p inside me t signo value S)
+  send_fine inside t signo value = signal_fine inside (numbered S.width t) (sendable signo) value signo refl
+
+  -- deliveries
+  fewer_queued : (signo : ℕ) (entries : List Queued) → All IsRealtimeEntry entries → All IsRealtimeEntry (less_first signo entries)
+  unfolding less_first
+  fewer_queued signo [] h = h
+  fewer_queued signo (entry ∷ entries) h = by (entry.signo == signo) (fewer_queued signo entries (All-tail IsRealtimeEntry entry entries h))
+    where
+      by : (b : Bool) → All IsRealtimeEntry (less_first signo entries) → All IsRealtimeEntry (if b then entries else entry ∷ less_first signo entries)
+      by true k = All-tail IsRealtimeEntry entry entries h
+      by false k = All-cons IsRealtimeEntry entry (less_first signo entries) (All-head IsRealtimeEntry entry entries h) k
+
+  relieved_limits : (signo : ℕ) → KeepsLimits me (relieved signo me)
+  relieved_limits signo h = record {
+    point = h.point;
+    pages = h.pages;
+    ids = h.ids;
+    mask = h.mask;
+    actions = h.actions;
+    kill = h.kill;
+    pending = pending (is_realtime signo);
+    queued = queue (is_realtime signo);
+    frames = h.frames;
+  }
+    where
+      pending : (b : Bool) (n : ℕ) → is_in_set (if b then me.pending else without_one me.pending signo) n ≡ true → is_one_of standard_signals n ≡ true
+      pending true n k = h.pending n k
+      pending false n k = h.pending n (in_less me.pending (2 ^ signo) n k).0
+
+      queue : (b : Bool) → All IsRealtimeEntry (if b then less_first signo me.queued else me.queued)
+      queue true = fewer_queued signo me.queued h.queued
+      queue false = h.queued
+
+  -- what is pending is known
+  known_by : (a b : Bool) → (a ≡ true) ⊎ (b ≡ true) → (a || b) ≡ true
+  known_by true b h = refl
+  known_by false b h = elim h [ inl e ↦ cc | inr e ↦ e ]
+
+  delivered_known : (signo : ℕ) (value : ℤ) → delivered_value signo me ≡ Some value → is_known signo ≡ true
+  delivered_known signo value h = by (is_blocked signo me) (is_realtime signo) refl (is_in_set me.pending signo) refl h
+    where
+      by : (a b : Bool) → is_realtime signo ≡ b → (c : Bool) → is_in_set me.pending signo ≡ c
+          → (if a then None else (if b then first_value signo me.queued else (if c then Some (pos 0) else None))) ≡ Some value → is_known signo ≡ true
+      by true b y c z k = cc
+      by false true y c z k = known_by (is_one_of standard_signals signo) (is_realtime signo) (inr y)
+      by false false y true z k = known_by (is_one_of standard_signals signo) (is_realtime signo) (inl (l.pending signo z))
+      by false false y false z k = cc
+
+  caught_limits : (signo : ℕ) (value : ℤ) (point : ℕ) (mask : SigSet) → is_known signo ≡ true → signo ≢ kill_signo → HasCatchLimits point mask
+      → KeepsLimits me (caught signo value point mask (relieved signo me))
+  caught_limits signo value point mask right other k h =
+      let now : HasLimits (relieved signo me) = relieved_limits signo h in
+      record {
+        point = k.point;
+        pages = now.pages;
+        ids = now.ids;
+        mask = caught_mask me.mask (bits_of mask) signo right other h.mask k.mask;
+        actions = now.actions;
+        kill = now.kill;
+        pending = now.pending;
+        queued = now.queued;
+        frames = All-push HasFrameLimits me.frames (record { registers = me.registers; mask = me.mask }) h.frames (record { point = h.point; mask = h.mask });
+      }
+
+  -- the action of a signal is within its limits, and a caught one is no SIGKILL
+  action_limits : (xs : List Action) (n : ℕ) → All HasActionLimits xs → HasActionLimits (slice_index_or xs n Usual)
+  action_limits [] n h = tt
+  action_limits (x ∷ xs) zero h = All-head HasActionLimits x xs h
+  action_limits (x ∷ xs) (suc n) h = action_limits xs n (All-tail HasActionLimits x xs h)
+
+  not_killed : (signo point : ℕ) (mask : SigSet) → action_at signo me ≡ Catch point mask → signo ≢ kill_signo
+  not_killed signo point mask e z = let no : Usual ≡ Catch point mask = sym l.kill ∙ ap (λ (n : ℕ). action_at n me) (sym z) ∙ e in cc
+
+  relieved_plain : (signo : ℕ) (r : ℤ) → IsPlain p me (own_effect p (record { process = relieved signo me; reply = Done r }))
+  relieved_plain signo r = own_plain p me (record { process = relieved signo me; reply = Done r }) (record { parent = refl; status = refl; limits = relieved_limits signo }) refl
+
+  disposed : (signo : ℕ) (action : Action) (point : ℕ) (mask : SigSet) → disposition signo action ≡ Caught point mask → action ≡ Catch point mask
+  disposed signo Usual point mask e = by (signo == child_signo) e
+    where
+      by : (b : Bool) → (if b then Ignored else Fatal) ≡ Caught point mask → Usual ≡ Catch point mask
+      by true k = cc
+      by false k = cc
+  disposed signo Ignore point mask e = cc
+  disposed signo (Catch to blocked) point mask e = cc
+
+  acts_on_fine : (inside : Option Inside) (signo : ℕ) (value : ℤ) (x : Disposition) → disposition signo (action_at signo me) ≡ x → is_known signo ≡ true
+      → IsFine (acts_on inside p signo value x (relieved signo me) S)
+  acts_on_fine inside signo value Ignored e right = plainly _ (relieved_plain signo me.registers.ret)
+  acts_on_fine inside signo value Fatal e right = ending_fine inside (killed_status signo) (relieved signo me) (relieved_limits signo l)
+  acts_on_fine inside signo value (Caught point mask) e right = by (is_full (relieved signo me))
+    where
+      catches : action_at signo me ≡ Catch point mask
+      catches = disposed signo (action_at signo me) point mask e
+
+      small : HasCatchLimits point mask
+      small = subst HasActionLimits catches (action_limits me.actions signo l.actions)
+
+      by : (b : Bool) → IsFine (if b then idle FramesFull else own_effect p (record { process = caught signo value point mask (relieved signo me); reply = Done value }))
+      by true = plainly _ (idle_plain p me FramesFull)
+      by false = plainly _ (own_plain p me (record { process = caught signo value point mask (relieved signo me); reply = Done value })
+          (record { parent = refl; status = refl; limits = caught_limits signo value point mask right (not_killed signo point mask catches) small }) refl)
+
+  delivers_fine : (inside : Option Inside) (signo : ℕ) (value : Option ℤ) → delivered_value signo me ≡ value → IsFine (delivers inside p signo me value S)
+  delivers_fine inside signo None e = plainly _ (idle_plain p me NotDeliverable)
+  delivers_fine inside signo (Some value) e = by (is_deferred inside signo)
+    where
+      by : (b : Bool) → IsFine (if b then idle Deferred else acts_on inside p signo value (disposition signo (action_at signo me)) (relieved signo me) S)
+      by true = plainly _ (idle_plain p me Deferred)
+      by false = acts_on_fine inside signo value (disposition signo (action_at signo me)) refl (delivered_known signo value e)
+
+  delivery_fine : (inside : Option Inside) (signo : ℕ) → IsFine (delivery_effect inside p signo me S)
+  delivery_fine inside signo = delivers_fine inside signo (delivered_value signo me) refl
+
+  special_fine : (inside : Option Inside) (c : Call) → IsSpecial c → IsFine (call_effect inside p c me S)
+  special_fine inside (call.Fork child) h = forks_fine child.0 (S.procs child.0)
+  special_fine inside (call.Exit status) h = exit_fine inside status
+  special_fine inside (call.Waitpid t nohang) h = waits_at_fine (numbered S.width t) nohang
+  special_fine inside (call.Kill t signo) h = send_fine inside t signo (pos 0)
+  special_fine inside (call.Sigqueue t signo value) h = send_fine inside t signo value
+  special_fine inside c h = absurd h
+
+  call_fine : (inside : Option Inside) (c : Call) → IsFine (call_effect inside p c me S)
+  call_fine inside c = elim (call_plain S p me inside c) [ inl h ↦ special_fine inside c h | inr h ↦ plainly _ h ]
+
+idle_fine : (why : Refusal) → IsFine (idle why)
+unfolding AreFine
+idle_fine why = record { writes = tt; sends = no_sends }
+
+-- steps and events
+module _ (S : State) (inside : Option Inside) (w : IsWithin S) where
+  running_call_fine : (p : ℕ) (c : Call) (me : Process) (status : Option ℕ) → HasLimits me → IsFine (running_effect inside p (MakesCall c) S me status)
+  running_call_fine p c me None l = call_fine S p me w l inside c
+  running_call_fine p c me (Some status) l = idle_fine NotRunning
+
+  running_delivery_fine : (p signo : ℕ) (me : Process) (status : Option ℕ) → HasLimits me → IsFine (running_effect inside p (TakesSignal signo) S me status)
+  running_delivery_fine p signo me None l = delivery_fine S p me w l inside signo
+  running_delivery_fine p signo me (Some status) l = idle_fine NotRunning
+
+  call_at_fine : (p : ℕ) (c : Call) (x : Option Process) → HasLimitsIf x → IsFine (effect_at inside p (MakesCall c) S x)
+  call_at_fine p c None l = idle_fine NoProcess
+  call_at_fine p c (Some me) l = running_call_fine p c me me.status l
+
+  delivery_at_fine : (p signo : ℕ) (x : Option Process) → HasLimitsIf x → IsFine (effect_at inside p (TakesSignal signo) S x)
+  delivery_at_fine p signo None l = idle_fine NoProcess
+  delivery_at_fine p signo (Some me) l = running_delivery_fine p signo me me.status l
+
+  step_fine : (step : Step) → IsFine (step_effect step inside S)
+  step_fine (Calls p c) = call_at_fine p.0 c (S.procs p.0) (limits_if S w p.0 (S.procs p.0) refl)
+  step_fine (Deliver p signo) = delivery_at_fine p.0 signo.0 (S.procs p.0) (limits_if S w p.0 (S.procs p.0) refl)
+  step_fine (KernelAbort s) = idle_fine NoTransaction
+
+noted_if_limits : (r : ℤ) (x : Option Process) → HasLimitsIf x → HasLimitsIf (noted_if r x)
+noted_if_limits r None h = tt
+noted_if_limits r (Some q) h = noted_limits r q h
+
+known_sendable : (ms : List Sending) → All IsKnownSending ms → All IsSendable ms
+known_sendable ms h k d less = inr (h k d less)
+
+pub event_fine : (ev : Event) (S : State) → IsWithin S → IsFine (effect ev S)
+unfolding effect
+event_fine (Do step inside) S w = step_fine S inside w step
+event_fine (Note p r) S w = record { writes = fine_one _ (noted_if_limits r (S.procs p) (limits_if S w p (S.procs p) refl)); sends = no_sends }
+event_fine (Commit s ev) S w =
+    let k : IsFine (effect ev S) = event_fine ev S w in
+    let after_writes : IsWithin (written (effect ev S).writes S) = written_within (effect ev S).writes S k.writes w in
+    record {
+      writes = fine_append (effect ev S).writes (SetHeld s [] ∷ []) k.writes (fine_one _ (All-nil IsKnownSending));
+      sends = All-append IsSendable (effect ev S).sends ((written (effect ev S).writes S).held s) k.sends (known_sendable _ (after_writes.held s));
+    }
+
+-- posts
+received_limits : (m : Sending) (x : Option Process) → IsSendable m → HasLimitsIf x → HasLimitsIf (received m x)
+received_limits m None k h = tt
+received_limits m (Some q) k h = by (may_signal m.from q.ids) (is_quiet m q) refl (is_realtime m.signo) refl (has_room q)
+  where
+    standard_by : (a b c : Bool) → (a || b) ≡ true → b ≡ false → a ≡ true
+    standard_by true b c e f = refl
+    standard_by false b c e f = absurd (both_ways b f e)
+
+    silent : (a b : Bool) → (a || b) ≡ false → a ≡ false
+    silent true b e = cc
+    silent false b e = refl
+
+    loud : is_quiet m q ≡ false → is_known m.signo ≡ true
+    loud e = elim k [
+      | inl z ↦ absurd (both_ways (m.signo == 0) (silent (m.signo == 0) (m.target == 1 || is_some q.status) e) (eq-eqb m.signo 0 z))
+      | inr z ↦ z
+    ]
+
+    with_entry : is_realtime m.signo ≡ true → HasLimits (with_queued m q)
+    with_entry e = record {
+      point = h.point;
+      pages = h.pages;
+      ids = h.ids;
+      mask = h.mask;
+      actions = h.actions;
+      kill = h.kill;
+      pending = h.pending;
+      queued = All-push IsRealtimeEntry q.queued (record { signo = m.signo; value = m.value }) h.queued e;
+      frames = h.frames;
+    }
+
+    with_one : is_known m.signo ≡ true → is_realtime m.signo ≡ false → HasLimits (with_pending m.signo q)
+    with_one right e = record {
+      point = h.point;
+      pages = h.pages;
+      ids = h.ids;
+      mask = h.mask;
+      actions = h.actions;
+      kill = h.kill;
+      pending = λ n z. elim (in_one_more q.pending m.signo n z) [
+        | inl y ↦ h.pending n y
+        | inr y ↦ subst (λ (i : ℕ). is_one_of standard_signals i ≡ true) (sym y) (standard_by (is_one_of standard_signals m.signo) (is_realtime m.signo) true right e)
+      ];
+      queued = h.queued;
+      frames = h.frames;
+    }
+
+    by : (a b : Bool) → is_quiet m q ≡ b → (c : Bool) → is_realtime m.signo ≡ c → (d : Bool)
+        → HasLimits (if a then (if b then q else (if c then (if d then with_queued m q else q) else with_pending m.signo q)) else q)
+    by false b e c f d = h
+    by true true e c f d = h
+    by true false e true f true = with_entry f
+    by true false e true f false = h
+    by true false e false f d = with_one (loud e) f
+
+post_within : (m : Sending) (S : State) → IsSendable m → IsWithin S → IsWithin (post m S)
+post_within m S k w =
+    write_within (SetProc m.target (received m (S.procs m.target))) S
+    (received_limits m (S.procs m.target) k (limits_if S w m.target (S.procs m.target) refl)) w
+
+posts_within : (ms : List Sending) (S : State) → All IsSendable ms → IsWithin S → IsWithin (posts ms S)
+unfolding posts
+posts_within [] S h w = w
+posts_within (m ∷ ms) S h w = posts_within ms (post m S) (All-tail IsSendable m ms h) (post_within m S (All-head IsSendable m ms h) w)
+
+concluded_within : (c : Conclusion) (rs : List ℤ) (S : State) → IsWithin S → IsWithin (concluded c rs S)
+concluded_within (Replies r) rs S w = w
+concluded_within (AnswersPost p) rs S w =
+    write_within (SetProc p (noted_if (first_answer rs) (S.procs p))) S (noted_if_limits (first_answer rs) (S.procs p) (limits_if S w p (S.procs p) refl)) w
+concluded_within ListsFailed rs S w = w
+
+-- every event keeps the limits
+pub after_within : (ev : Event) (S : State) → IsWithin S → IsWithin (after ev S)
+unfolding after
+after_within ev S w =
+    let f : Effect = effect ev S in
+    let k : IsFine f = event_fine ev S w in
+    concluded_within f.conclusion (send_answers f S) (posts f.sends (written f.writes S))
+    (posts_within f.sends (written f.writes S) k.sends (written_within f.writes S k.writes w))
+
+-- the state at the start
+pub booted_within : (width count : ℕ) → IsWithin (booted width count)
+booted_within width count = record { limits = limits; held = λ s. All-nil IsKnownSending }
+  where
+    limits : (n : ℕ) (q : Process) → (booted width count).procs n ≡ Some q → HasLimits q
+    limits n q h = by (is_between count n) h
+      where
+        by : (b : Bool) → (if b then Some (booted_process n) else None) ≡ Some q → HasLimits q
+        by true k = subst HasLimitsIf k (booted_limits n)
+        by false k = cc
