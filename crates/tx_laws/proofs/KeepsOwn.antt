@@ -48,7 +48,7 @@ member_in None n = false
 member_in (Some i) n = i.members n
 
 module _ (t : Table) (S : State) (i : Inside) (p : ℕ) (mine : is_member_of t i.starter p ≡ true) (members : (n : ℕ) → i.members n ≡ is_member_of t i.starter n)
-  (live : is_live t i.starter ≡ true) (k : IsTransaction t S i.starter) where
+    (live : is_live t i.starter ≡ true) (k : IsTransaction t S i.starter) where
   abbrev s : ℕ
   s = i.starter
 
@@ -57,7 +57,7 @@ module _ (t : Table) (S : State) (i : Inside) (p : ℕ) (mine : is_member_of t i
       → IsTransaction new T s
   sends_kept new T same m sender room stands held =
       let x : IsTransaction new (record { width = T.width; procs = T.procs; descs = T.descs; pipes = T.pipes; held = S.held }) s =
-          transaction_same t new S (record { width = T.width; procs = T.procs; descs = T.descs; pipes = T.pipes; held = S.held }) s live same (λ n h. stands n) refl k in
+      transaction_same t new S (record { width = T.width; procs = T.procs; descs = T.descs; pipes = T.pipes; held = S.held }) s live same (λ n h. stands n) refl k in
       let one : sent_by_members (T.held s) ≡ sent_by_members (S.held s) + has_sender m.from = ap sent_by_members held ∙ sent_push (S.held s) m in
       let none : sent_by_kernel (T.held s) ≡ sent_by_kernel (S.held s) + (1 - has_sender m.from) = ap sent_by_kernel held ∙ kernel_push (S.held s) m in
       let once : sent_by_kernel (S.held s) ≤ 1 = k.told_once in
@@ -128,7 +128,7 @@ module _ (t : Table) (S : State) (i : Inside) (p : ℕ) (mine : is_member_of t i
 
   -- the member p has ended
   module _ (new : Table) (T : State) (same : SameFor t new s) (parent : ℕ) (was : stand (S.procs p) ≡ standing parent true) (now : stand (T.procs p) ≡ standing parent false)
-    (orphans : (n : ℕ) → n ≢ p → IsOrphan p (S.procs n) (T.procs n)) (closed : is_open_of s (new.marks p) ≡ false) where
+      (orphans : (n : ℕ) → n ≢ p → IsOrphan p (S.procs n) (T.procs n)) (closed : is_open_of s (new.marks p) ≡ false) where
     some_orphan : (x y : Option Process) → IsOrphan p x y → is_some x ≡ true → is_some y ≡ true
     some_orphan x y (inl e) h = some_same y x e ∙ h
     some_orphan x y (inr e) h = some_is y (record { parent = 1; runs = e.0 }) e.2
@@ -187,9 +187,9 @@ module _ (t : Table) (S : State) (i : Inside) (p : ℕ) (mine : is_member_of t i
     starter_ends out ne = elim (same_or_other s p) [
       | inl z ↦ z
       | inr z ↦ elim (inside_parent t s (S.procs p) parent (parent_is (S.procs p) parent true was) (k.parents p mine (λ y. z (sym y)))) [
-          | inl y ↦ absurd (ne y)
-          | inr y ↦ absurd (both_ways (is_member_of t s parent) out y)
-        ]
+        | inl y ↦ absurd (ne y)
+        | inr y ↦ absurd (both_ways (is_member_of t s parent) out y)
+      ]
     ]
 
     ends_kept : Told (Some i) parent S T → IsTransaction new T s
@@ -199,7 +199,7 @@ module _ (t : Table) (S : State) (i : Inside) (p : ℕ) (mine : is_member_of t i
     ends_kept (Later j e out ne held) =
         let starts : s ≡ j.starter = ap starter_in e in
         let more : T.held s ≡ S.held s ++ told_to parent ∷ [] =
-            ap T.held starts ∙ held.more ∙ ap (λ (n : ℕ). S.held n ++ told_to parent ∷ []) (sym starts) in
+        ap T.held starts ∙ held.more ∙ ap (λ (n : ℕ). S.held n ++ told_to parent ∷ []) (sym starts) in
         let outer : is_member_of t s parent ≡ false = sym (members parent) ∙ ap (λ (x : Option Inside). member_in x parent) e ∙ out in
         let it : s ≡ p = starter_ends outer ne in
         let ran : is_running (S.procs s) ≡ true = ap (λ (m : ℕ). is_running (S.procs m)) it ∙ running_is (S.procs p) parent true was in

@@ -277,11 +277,11 @@ module _ (V : View) (sound : IsSound V) (kept : IsWellFormedWith V.table (presen
   pub kind_formed : (p : ℕ) (step : Step) → is_running ((present V).procs p) ≡ true → ((inside : Option Inside) → Turn inside p (present V) (effect (Do step inside) (present V)))
       → ((s : ℕ) → (V.without (just s)).held s ≡ []) → (k : Kind) → ForksNow p step k → (mark : Option Mark) → V.table.marks p ≡ mark
       → Passes (kind_role V.table p k (reply_of (kind_event V.table p step k mark) (present V)) mark)
-        (event_in (kind_role V.table p k (reply_of (kind_event V.table p step k mark) (present V)) mark) (kind_event V.table p step k mark)) V
+      (event_in (kind_role V.table p k (reply_of (kind_event V.table p step k mark) (present V)) mark) (kind_event V.table p step k mark)) V
       → Fits (kind_role V.table p k (reply_of (kind_event V.table p step k mark) (present V)) mark)
-        (event_in (kind_role V.table p k (reply_of (kind_event V.table p step k mark) (present V)) mark) (kind_event V.table p step k mark)) p V
+      (event_in (kind_role V.table p k (reply_of (kind_event V.table p step k mark) (present V)) mark) (kind_event V.table p step k mark)) p V
       → Formed V (kind_role V.table p k (reply_of (kind_event V.table p step k mark) (present V)) mark)
-        (event_in (kind_role V.table p k (reply_of (kind_event V.table p step k mark) (present V)) mark) (kind_event V.table p step k mark)) p
+      (event_in (kind_role V.table p k (reply_of (kind_event V.table p step k mark) (present V)) mark) (kind_event V.table p step k mark)) p
   kind_formed p step runs turn left Ordinary f None e passes fits = outside_by (Do step None) p passes fits (turn None)
   kind_formed p step runs turn left Ordinary f (Some m) e passes fits =
       ordinary_by p m e (Do step (inside_by V.table (Some m))) (says_ended (reply_of (Do step (inside_by V.table (Some m))) (present V)))

@@ -142,7 +142,7 @@ module _ (V : View) (sound : IsSound V) (kept : IsKept V) (form : IsWellFormed (
       by true e = kept.left u
       by false e =
           let no : has (Held u) (objects ev (V.without (just u))) ≡ false =
-              false_unless (has (Held u) (objects ev (V.without (just u)))) (λ h. both_ways (s == u) e (eq-eqb s u (sym (fits.holds (V.without (just u)) u h)))) in
+          false_unless (has (Held u) (objects ev (V.without (just u)))) (λ h. both_ways (s == u) e (eq-eqb s u (sym (fits.holds (V.without (just u)) u h)))) in
           after_holds ev (V.without (just u)) u ∙ (other_part ev (V.without (just u)) (Held u) no).part ∙ kept.left u
   left_live (Commits s) ev p passes fits u live = by (u == s) refl
     where
@@ -153,7 +153,7 @@ module _ (V : View) (sound : IsSound V) (kept : IsKept V) (form : IsWellFormed (
       by false e =
           let was : is_live V.table u ≡ true = sym (of_unmarked u s (V.table.marks u) ∙ rw e refl) ∙ live in
           let out : is_member_of V.table u (actor ev) ≡ false =
-              false_unless (is_member_of V.table u (actor ev)) (λ h. both_ways (u == s) e (eq-eqb u s (of_unique u s (V.table.marks (actor ev)) h fits))) in
+          false_unless (is_member_of V.table u (actor ev)) (λ h. both_ways (u == s) e (eq-eqb u s (of_unique u s (V.table.marks (actor ev)) h fits))) in
           let same : less_one s (just u) u ≡ just u u = rw e refl in
           quiet_held ev passes (less_one s (just u)) (commits_quiet V ev s fits (just u)) u was out ∙ alike (less_one s (just u)) (just u) u same ∙ kept.left u
   left_live (Aborts s k) ev p passes fits u live =

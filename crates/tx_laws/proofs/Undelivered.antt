@@ -78,7 +78,7 @@ items_in r = []
 -- what a commit lists
 listed_by : (s : ℕ) (ev : Event) (S : State) (u : List Missed) → reply_of (Commit s ev) S ≡ Committed (record { items = u })
     → u ≡ failed_sends ((effect ev S).sends ++ (written (effect ev S).writes S).held s)
-      (answers ((effect ev S).sends ++ (written (effect ev S).writes S).held s) (written ((effect ev S).writes ++ SetHeld s [] ∷ []) S))
+    (answers ((effect ev S).sends ++ (written (effect ev S).writes S).held s) (written ((effect ev S).writes ++ SetHeld s [] ∷ []) S))
 unfolding reply_of effect
 listed_by s ev S u h = sym (ap items_in h)
 
@@ -96,7 +96,7 @@ module _ (V : View) (sound : IsSound V) (kept : IsKept V) (form : IsWellFormed (
       let sent : sent_by_members ((written (effect ev S).writes S).held s) ≤ 32 = k.sent in
       let told : sent_by_kernel ((written (effect ev S).writes S).held s) ≤ 1 = k.told_once in
       let all : length ((written (effect ev S).writes S).held s) ≡ sent_by_members ((written (effect ev S).writes S).held s) + sent_by_kernel ((written (effect ev S).writes S).held s) =
-          sent_length ((written (effect ev S).writes S).held s) in
+      sent_length ((written (effect ev S).writes S).held s) in
       omega arith
 
   -- where it posts nothing itself
@@ -106,7 +106,7 @@ module _ (V : View) (sound : IsSound V) (kept : IsKept V) (form : IsWellFormed (
       let ms : List Sending = (written (effect ev S).writes S).held s in
       let few : length ms ≤ 33 = few_held ev turn in
       let list : length u ≤ length ((effect ev S).sends ++ ms) =
-          subst (λ (xs : List Missed). length xs ≤ length ((effect ev S).sends ++ ms)) (sym (listed_by s ev S u h)) (failed_fewer ((effect ev S).sends ++ ms) _) in
+      subst (λ (xs : List Missed). length xs ≤ length ((effect ev S).sends ++ ms)) (sym (listed_by s ev S u h)) (failed_fewer ((effect ev S).sends ++ ms) _) in
       let more : length ((effect ev S).sends ++ ms) ≡ length ms = ap (λ (xs : List Sending). length (xs ++ ms)) none in
       omega arith
 
@@ -119,11 +119,11 @@ module _ (V : View) (sound : IsSound V) (kept : IsKept V) (form : IsWellFormed (
       let few : length (T.held s) ≤ 33 = few_held ev turn in
       let after_all : State = written ((effect ev S).writes ++ SetHeld s [] ∷ []) S in
       let here : is_some (after_all.procs parent) ≡ true =
-          ap (λ (X : State). is_some (X.procs parent)) (written_append (effect ev S).writes (SetHeld s [] ∷ []) S) ∙ there in
+      ap (λ (X : State). is_some (X.procs parent)) (written_append (effect ev S).writes (SetHeld s [] ∷ []) S) ∙ there in
       let list : u ≡ failed_sends (told_to parent ∷ T.held s) (answers (told_to parent ∷ T.held s) after_all) =
-          listed_by s ev S u h ∙ ap (λ (xs : List Sending). failed_sends (xs ++ T.held s) (answers (xs ++ T.held s) after_all)) one in
+      listed_by s ev S u h ∙ ap (λ (xs : List Sending). failed_sends (xs ++ T.held s) (answers (xs ++ T.held s) after_all)) one in
       let fewer : length u ≤ length (T.held s) =
-          subst (λ (xs : List Missed). length xs ≤ length (T.held s)) (sym list) (failed_told parent (T.held s) after_all here) in
+      subst (λ (xs : List Missed). length xs ≤ length (T.held s)) (sym list) (failed_told parent (T.held s) after_all here) in
       omega arith
 
   -- a process's parent that is a member runs, and is another one
@@ -198,7 +198,7 @@ module _ (V : View) (sound : IsSound V) (kept : IsKept V) (form : IsWellFormed (
   kind_listed : (n p : ℕ) (step : Step) (u : List Missed) → ((inside : Option Inside) → Turn inside p (present V) (effect (Do step inside) (present V)))
       → (k : Kind) (mark : Option Mark) → V.table.marks p ≡ mark
       → plain_reply n (kind_role V.table p k (reply_of (kind_event V.table p step k mark) (present V)) mark)
-        (event_in (kind_role V.table p k (reply_of (kind_event V.table p step k mark) (present V)) mark) (kind_event V.table p step k mark)) (present V) ≡ Committed (record { items = u })
+      (event_in (kind_role V.table p k (reply_of (kind_event V.table p step k mark) (present V)) mark) (kind_event V.table p step k mark)) (present V) ≡ Committed (record { items = u })
       → length u ≤ 33
   kind_listed n p step u turn Ordinary None e h = absurd (no_commit None p (present V) (Do step None) u (turn None) h)
   kind_listed n p step u turn Ordinary (Some m) e h =

@@ -1,5 +1,5 @@
-//! The laws over the definitions of the kernel, as the contracts of functions that do nothing. Each law's statement has a
-//! name in `specs/Laws.antt`, `LawsOfEvents.antt`, `LawsOfParts.antt` or `LawsOfDoom.antt`.
+//! The laws over the definitions of the kernel, as the contracts of functions that do nothing. What
+//! crates above take as a premise has a name, in `specs/Laws.antt` and the files beside it.
 #![tactic(auto)]
 
 ghost use Rattle.std.specs.Prelude.{◌≤◌, ℕ, List, ◌≡◌, length};
