@@ -23,6 +23,7 @@ use Rattle.tx_proc.specs.Laws.{IsSized}
 use Rattle.tx_proc.specs.Processes.{process_in}
 use Rattle.tx_core.specs.Steps.{IsLocal}
 use Rattle.tx_core.specs.Undo.{changes_of, IsAmong}
+use Rattle.tx_core.specs.Laws.{MachineLaws}
 use Rattle.tx_core.specs.declared.inverse.Inverse.{Inverse}
 use Rattle.tx_core.specs.declared.kernel.Kernel.{Kernel}
 use Rattle.tx_core.proofs.Cases.{IsCase}
@@ -38,9 +39,6 @@ use Rattle.tx_model.specs.State.{Object, Proc as TheProc, has}
 use Rattle.tx_laws.specs.TwoParts.{parts_view, parts_next}
 use Rattle.tx_model.specs.View.{View, present, has_pending, event_on, holder, next}
 use Rattle.tx_laws.proofs.Coherence.{actor_foot}
-use Rattle.tx_laws.proofs.Erased.{next_sound}
-use Rattle.tx_laws.proofs.StepView.{parts_step_view}
-use Rattle.tx_laws.proofs.Taken.{taken}
 
 -- a slot that has this anyway
 pub if_at : {A : Type 0} (slots : List (Option A)) (p : ℕ) (x : Option A) (n : ℕ) → slot_at slots p ≡ x → slot_at slots n ≡ (if n == p then x else slot_at slots n)
@@ -55,22 +53,22 @@ pub record IsNext (k : Kernel) (step : Step) (new : Kernel) : Type 0 where
   pub view : view_of new ≡ next (view_of k) step
   pub sound : IsSound (view_of new)
 
-pub next_of : (k new : Kernel) (step : Step) (R : Role) (ev : Event) → IsContent k → IsCase k step R ev → IsAccepted (answer (view_of k) step)
+pub next_of : (laws : MachineLaws) (k new : Kernel) (step : Step) (R : Role) (ev : Event) → IsContent k → IsCase k step R ev → IsAccepted (answer (view_of k) step)
     → view_of new ≡ parts_view (parts_next R ev (process_of step) (two_parts_of k)) → IsNext k step new
 unfolding view_of
-next_of k new step R ev i is acc same =
+next_of laws k new step R ev i is acc same =
     let V : View = view_of k in
     let to : parts_view (parts_next R ev (process_of step) (two_parts_of k)) ≡ next V step
     = ap₂ (λ (x : Role) (y : Event). parts_view (parts_next x y (process_of step) (two_parts_of k))) (sym is.role_is) (sym is.event_is)
-    ∙ parts_step_view (two_parts_of k) step i.sound acc in
+    ∙ laws.step (two_parts_of k) step i.sound acc in
     let all : view_of new ≡ next V step = same ∙ to in
-    record { view = all; sound = subst IsSound (sym all) (next_sound V step (answer V step) i.sound (taken V step (answer V step) i.sound refl acc)) }
+    record { view = all; sound = subst IsSound (sym all) (laws.next_sound V step i.sound acc) }
 
 -- the reply to a step that nobody is in the way of
-pub reply_of_case : (k : Kernel) (pid : Pid) (call : Call) (q : Proc) (R : Role) (ev : Event) (reply : Reply) → IsBuiltCall call → IsContent k → slot_at k.parts.procs pid.0 ≡ Some q → q.status ≡ None
+pub reply_of_case : (laws : MachineLaws) (k : Kernel) (pid : Pid) (call : Call) (q : Proc) (R : Role) (ev : Event) (reply : Reply) → IsBuiltCall call → IsContent k → slot_at k.parts.procs pid.0 ≡ Some q → q.status ≡ None
     → IsCase k (Calls pid call) R ev → IsOwn k pid.0 ev → plain_reply called_by_status R ev (present (view_of k)) ≡ reply → answer (view_of k) (Calls pid call) ≡ reply
-reply_of_case k pid call q R ev reply built i here runs is own r =
-    answer_is k pid call q built i here runs (subst (λ (x : Event). holder (view_of k) x ≡ None) (sym is.event_is) (no_holder k pid.0 ev own))
+reply_of_case laws k pid call q R ev reply built i here runs is own r =
+    answer_is laws k pid call q built i here runs (subst (λ (x : Event). holder (view_of k) x ≡ None) (sym is.event_is) (no_holder k pid.0 ev own))
     ∙ ap₂ (λ (x : Role) (y : Event). plain_reply called_by_status x y (present (view_of k))) is.role_is is.event_is ∙ r
 
 among_own : (n : ℕ) (c : Change) (cs : List Change) → AreOf n cs → IsAmong c cs → object_of c ≡ TheProc n
