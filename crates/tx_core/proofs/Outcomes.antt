@@ -1,5 +1,5 @@
 -- What a step leaves of the machine is what a machine may keep, and its inverse leads back.
-use Rattle.std.proofs.Common.{◌≡◌, ℕ, ◌-◌, ◌≤◌, Bool, true, false, List, [], ◌∷◌, ◌++◌, take, drop, length, Option, Some, None, option_map, if◌then◌else◌, ◌==◌, refl, sym, ap, ap₂, ◌∙◌, subst, inl, inr, eqb-true, arith, length-append}
+use Rattle.std.proofs.Common.{◌≡◌, ℕ, ◌-◌, ◌≤◌, Bool, true, false, List, [], ◌∷◌, ◌++◌, take, drop, length, Option, Some, None, option_map, if◌then◌else◌, ◌==◌, refl, sym, ap, ap₂, ◌∙◌, subst, inl, inr, eqb-true, eq-eqb, arith, length-append}
 use Rattle.std.proofs.lemmas.List.{drop_at, take_at}
 use Rattle.tx_base.specs.Slots.{slot_at}
 use Rattle.tx_base.specs.declared.marks.Mark.{Mark}
@@ -21,7 +21,7 @@ use Rattle.tx_core.specs.Content.{kept_in, two_parts_of, view_of, IsMarked, IsCo
 use Rattle.tx_model.specs.SignalSets.{kill_signo}
 use Rattle.tx_proc.specs.Laws.{IsSized}
 use Rattle.tx_proc.specs.Processes.{process_in}
-use Rattle.tx_core.specs.Steps.{IsLocal}
+use Rattle.tx_core.specs.Steps.{IsNamedBy, InFootprint, WasTouched, IsLocal}
 use Rattle.tx_core.specs.Undo.{changes_of, IsAmong}
 use Rattle.tx_core.specs.Laws.{MachineLaws}
 use Rattle.tx_core.specs.declared.inverse.Inverse.{Inverse}
@@ -31,14 +31,14 @@ use Rattle.tx_core.specs.Built.{IsBuiltCall}
 use Rattle.tx_core.proofs.Replies.{IsOwn, answer_is, no_holder}
 use Rattle.tx_base.proofs.SlotFacts.{slot_at-with_slot}
 use Rattle.tx_model.specs.Answer.{plain_reply, answer, IsAccepted}
-use Rattle.tx_model.specs.Events.{Event, process_of, actor}
-use Rattle.tx_model.specs.History.{event_footprint}
-use Rattle.tx_model.specs.Membership.{Role, called_by_status}
+use Rattle.tx_model.specs.Events.{Event, process_of}
+use Rattle.tx_model.specs.Footprints.{footprint}
+use Rattle.tx_model.specs.Membership.{Role, Aborts, is_live, called_by_status}
+use Rattle.tx_laws.specs.Fits.{ends_it}
 use Rattle.tx_laws.specs.Sound.{IsSound}
-use Rattle.tx_model.specs.State.{Object, Proc as TheProc, has}
+use Rattle.tx_model.specs.State.{Proc as TheProc, has}
 use Rattle.tx_laws.specs.TwoParts.{parts_view, parts_next}
-use Rattle.tx_model.specs.View.{View, present, has_pending, event_on, holder, next}
-use Rattle.tx_laws.proofs.Coherence.{actor_foot}
+use Rattle.tx_model.specs.View.{View, present, has_pending, role_on, holder, next}
 
 -- a slot that has this anyway
 pub if_at : {A : Type 0} (slots : List (Option A)) (p : ℕ) (x : Option A) (n : ℕ) → slot_at slots p ≡ x → slot_at slots n ≡ (if n == p then x else slot_at slots n)
@@ -76,12 +76,18 @@ among_own n c [] own h = absurd h
 among_own n c (x ∷ cs) own (inl h) = ap object_of h ∙ object-own n x own.0
 among_own n c (x ∷ cs) own (inr h) = among_own n c cs own.1 h
 
--- an inverse that names process p alone, of a step whose event p makes
-pub local_of : (k new : Kernel) (step : Step) (R : Role) (ev : Event) (p : ℕ) (inverse : Inverse) → IsCase k step R ev → actor ev ≡ p → AreOf p (changes_of new inverse) → IsLocal k step new inverse
-local_of k new step R ev p inverse is who own change among =
-    let V : View = view_of k in
-    let who' : TheProc (actor (event_on V step)) ≡ object_of change = ap TheProc (ap actor is.event_is ∙ who) ∙ sym (among_own p change (changes_of new inverse) own among) in
-    subst (λ (o : Object). has o (event_footprint V.table (event_on V step) (present V)) ≡ true) who' (actor_foot V.table (event_on V step) (present V))
+-- an inverse that changes process p alone, which the step names
+pub local_of : (k new : Kernel) (step : Step) (p : ℕ) (inverse : Inverse) → IsNamedBy (view_of k) step (TheProc p) → AreOf p (changes_of new inverse) → IsLocal k step new inverse
+local_of k new step p inverse names own change among = subst (IsNamedBy (view_of k) step) (sym (among_own p change (changes_of new inverse) own among)) names
+
+-- a call names its process
+pub own_named : (V : View) (pid : Pid) (call : Call) → IsNamedBy V (Calls pid call) (TheProc pid.0)
+unfolding has footprint
+own_named V pid call = InFootprint (rw (eq-eqb pid.0 pid.0 refl) refl)
+
+-- the abort of a live transaction names its starter
+pub starter_named : (V : View) (step : Step) (s status : ℕ) → IsSound V → role_on V step ≡ Aborts s status → is_live V.table s ≡ true → IsNamedBy V step (TheProc s)
+starter_named V step s status sound role live = WasTouched s (ap (ends_it s) role ∙ eq-eqb s s refl) (sound.own_procs s s live)
 
 pub AreOf_append : (n : ℕ) (front behind : List Change) → AreOf n front → AreOf n behind → AreOf n (front ++ behind)
 AreOf_append n [] behind f b = b

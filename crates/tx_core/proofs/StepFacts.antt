@@ -26,7 +26,7 @@ use Rattle.tx_change.specs.declared.parts.Parts.{Parts}
 use Rattle.tx_proc.specs.declared.proc.Proc.{Proc}
 use Rattle.tx_core.specs.Content.{state_of, kept_in, starter_in, two_parts_of, view_of, IsMarked, IsContent}
 use Rattle.tx_core.specs.Plans.{proc_after, only_answers, regs_in, IsPlainCall, memory_call}
-use Rattle.tx_core.specs.Steps.{IsStep}
+use Rattle.tx_core.specs.Steps.{IsNamedBy, IsStep}
 use Rattle.tx_core.specs.Undo.{log_in, last_of, first_of, undone_by, HasSlot}
 use Rattle.tx_core.specs.Laws.{MachineLaws}
 use Rattle.tx_core.specs.declared.inverse.Inverse.{Inverse}
@@ -35,7 +35,7 @@ use Rattle.tx_core.specs.declared.kernel.Kernel.{Kernel}
 use Rattle.tx_core.proofs.Cases.{IsCase, plain_case, begins_case, own_mark, commits_case, aborts_case}
 use Rattle.tx_core.proofs.LogFacts.{length_exchanged}
 use Rattle.tx_core.proofs.OfBuilt.{begins_built}
-use Rattle.tx_core.proofs.Outcomes.{if_at, next_of, reply_of_case, local_of, AreOf_append, back_append, named, own_exchanged, at_applied, width_applied, led_back, has_places, content_of, last_is, first_is}
+use Rattle.tx_core.proofs.Outcomes.{if_at, next_of, reply_of_case, local_of, own_named, starter_named, AreOf_append, back_append, named, own_exchanged, at_applied, width_applied, led_back, has_places, content_of, last_is, first_is}
 use Rattle.tx_core.proofs.Replies.{IsPlain, note_plain, plain_foot, plain_reply_is, plain_own, commit_reply_is, commit_own, has_slot, not_doomed, table_is}
 use Rattle.tx_core.proofs.Slotted.{slot_back}
 use Rattle.tx_core.proofs.Views.{set_effect, outside_next, inside_next, begins_next, commits_next, aborts_next}
@@ -45,6 +45,7 @@ use Rattle.tx_model.specs.Effects.{answered, noted_if}
 use Rattle.tx_model.specs.Events.{Event, Note, Commit, effect, process_of as process_of_step}
 use Rattle.tx_model.specs.Membership.{Table, is_of, Continues, Begins, Outside, Within, Commits, Aborts, Beginning, kind_of, new_mark, called_by_status}
 use Rattle.tx_model.specs.Numbers.{negative}
+use Rattle.tx_model.specs.State.{Proc as TheProc}
 use Rattle.tx_laws.specs.TwoParts.{parts_view, parts_next}
 use Rattle.tx_model.specs.View.{has_pending, kernel_status}
 use Rattle.tx_model.specs.SignalSets.{kill_signo}
@@ -155,7 +156,7 @@ module _ (laws : MachineLaws) (k : Kernel) (pid : Pid) (q : Proc) (cs : List Cha
           next = next.view;
           back = back_is;
           leads_back = record { goes = AreNamed-own pid.0 new.parts ex slot.low wide ex_own; content = subst IsContent (sym back_is) i };
-          local = local_of k new (Calls pid call) Outside pc.event pid.0 (OutsideLog ex) pc.is_case pc.plain.actor_is ex_own;
+          local = local_of k new (Calls pid call) pid.0 (OutsideLog ex) (own_named (view_of k) pid call) ex_own;
         };
         content = content_of k new pid.0 (edited q cs) None None i sized (record { now = calm (memory_call q.space call) gives; kept = calm (memory_call q.space call) gives }) tt width refl refl procs
             (λ n. if_at k.marks pid.0 None n free)
@@ -227,7 +228,7 @@ module _ (laws : MachineLaws) (k : Kernel) (pid : Pid) (q : Proc) (cs : List Cha
               goes = (new_slot, subst IsSome (sym now) refl, few, AreNamed-own pid.0 new.parts (log_in (slot_at new.logs pid.0)) slot.low wide own_now);
               content = subst IsContent (sym back_is) i;
             };
-            local = local_of k new (Calls pid call) (Within pid.0 Continues) pc.event pid.0 (Inside pid (length cs)) case pc.plain.actor_is (subst (AreOf pid.0) (sym last) ex_own);
+            local = local_of k new (Calls pid call) pid.0 (Inside pid (length cs)) (own_named (view_of k) pid call) (subst (AreOf pid.0) (sym last) ex_own);
           };
           content = content_of k new pid.0 (edited q cs) (Some m) (Some (log ++ ex)) i sized
               (record { now = calm (memory_call q.space call) gives; kept = ap (has_pending kill_signo) kept ∙ i.calm_kept pid.0 }) (starter, facts.ended, all_own) width refl (length-with_slot k.logs pid.0 (Some (log ++ ex))) procs
@@ -267,7 +268,7 @@ module _ (laws : MachineLaws) (k : Kernel) (pid : Pid) (q : Proc) (cs : List Cha
             next = next.view;
             back = back_is;
             leads_back = record { goes = (new_slot, few, AreNamed-own pid.0 new.parts (log ++ ex) slot.low wide all_own); content = subst IsContent (sym back_is) i };
-            local = local_of k new (Calls pid SysXend) (Commits pid.0) (Commit pid.0 ev) pid.0 inverse case refl (subst (AreOf pid.0) (sym (last_is log ex (length cs) long_ex)) ex_own);
+            local = local_of k new (Calls pid SysXend) pid.0 inverse (own_named (view_of k) pid SysXend) (subst (AreOf pid.0) (sym (last_is log ex (length cs) long_ex)) ex_own);
           };
           content = content_of k new pid.0 (edited q cs) None None i sized (record { now = calm (only_answers q (pos 0)) gives; kept = calm (only_answers q (pos 0)) gives }) tt width (length-with_slot k.marks pid.0 None) (length-with_slot k.logs pid.0 None) procs marks logs next.sound;
         }
@@ -314,7 +315,7 @@ module _ (laws : MachineLaws) (k : Kernel) (pid : Pid) (q : Proc) (cs : List Cha
             goes = (new_slot, subst IsSome (sym now) refl, AreNamed-own pid.0 new.parts (log_in (slot_at new.logs pid.0)) slot.low wide own_now);
             content = subst IsContent (sym back_is) i;
           };
-          local = local_of k new (Calls pid call) (Within pid.0 (Begins defers)) ev pid.0 (Begun pid) case refl own_now;
+          local = local_of k new (Calls pid call) pid.0 (Begun pid) (own_named (view_of k) pid call) own_now;
         };
         content = content_of k new pid.0 (edited q cs) (Some mark) (Some ex) i sized
             (record { now = calm (only_answers q (pos 0)) gives; kept = ap (has_pending kill_signo) kept ∙ i.calm pid.0 }) (refl, refl, ex_own) width (length-with_slot k.marks pid.0 (Some mark)) (length-with_slot k.logs pid.0 (Some ex)) procs marks logs next.sound;
@@ -395,14 +396,14 @@ module _ (laws : MachineLaws) (k : Kernel) (pid : Pid) (m : Mark) (i : IsContent
   after_pipes : (n : ℕ) → (state_of (parts_after before note)).pipes n ≡ (state_of k.parts).pipes n
   after_pipes n = ap (λ (x : Parts). (state_of x).pipes n) after_parts
 
-  pub aborted_done : (step : Step) (status : ℕ) → process_of_step step ≡ pid.0 → IsCase k step (Aborts pid.0 status) (Note pid.0 ret) → answer (view_of k) step ≡ Aborted status
+  pub aborted_done : (step : Step) (status : ℕ) → process_of_step step ≡ pid.0 → IsCase k step (Aborts pid.0 status) (Note pid.0 ret) → IsNamedBy (view_of k) step (TheProc pid.0) → answer (view_of k) step ≡ Aborted status
       → IsDone k step (Aborted status) (AbortedLog pid m (reverted k.parts (log_in (slot_at k.logs pid.0))) (change_after (undone k.parts (log_in (slot_at k.logs pid.0))) (SetPart pid (SetRegs (answered ret (regs_in (slot_at (undone k.parts (log_in (slot_at k.logs pid.0))).procs pid.0)))))))
       (record {
         parts = parts_after (undone k.parts (log_in (slot_at k.logs pid.0))) (SetPart pid (SetRegs (answered ret (regs_in (slot_at (undone k.parts (log_in (slot_at k.logs pid.0))).procs pid.0)))));
         marks = with_slot k.marks pid.0 None;
         logs = with_slot k.logs pid.0 None;
       })
-  aborted_done step status who case answered =
+  aborted_done step status who case names answered =
       let new : Kernel = record { parts = parts_after before note; marks = with_slot k.marks pid.0 None; logs = with_slot k.logs pid.0 None } in
       let noted : Change = change_after before note in
       let redo : List Change = reverted k.parts old_log in
@@ -441,7 +442,7 @@ module _ (laws : MachineLaws) (k : Kernel) (pid : Pid) (m : Mark) (i : IsContent
             goes = (new_slot, (AreNamed-own pid.0 new.parts (noted ∷ []) abort_slot.low wide noted_own).0, AreNamed-own pid.0 new.parts redo abort_slot.low wide redo_own);
             content = subst IsContent (sym back_is) i;
           };
-          local = local_of k new step (Aborts pid.0 status) (Note pid.0 ret) pid.0 inverse case refl (noted_own.0, redo_own);
+          local = local_of k new step pid.0 inverse names (noted_own.0, redo_own);
         };
         content = content_of k new pid.0 stands None None i (answered_sized (back_sized abort_facts.proc old_log (has_places k i pid.0 abort_facts.proc abort_facts.is_proc))) (record { now = stands_calm; kept = stands_calm }) tt width
             (length-with_slot k.marks pid.0 None) (length-with_slot k.logs pid.0 None) after_at marks logs next.sound;
@@ -464,7 +465,7 @@ xabort_done laws k pid q m i here runs mark =
     let answered : answer (view_of k) (Calls pid SysXabort) ≡ Aborted called_by_status
     = reply_of_case laws k pid SysXabort q (Aborts pid.0 called_by_status) (Note pid.0 (negsuc 200)) (Aborted called_by_status) tt i here runs case
     (plain_own laws k pid.0 (Note pid.0 (negsuc 200)) (process_in (Some (proc_after q (only_answers q (negsuc 200))))) (negsuc 200) plain) refl in
-    aborted_done laws k pid m i mark (negsuc 200) (Calls pid SysXabort) called_by_status refl case answered
+    aborted_done laws k pid m i mark (negsuc 200) (Calls pid SysXabort) called_by_status refl case (own_named (view_of k) pid SysXabort) answered
 
 -- the kernel's abort
 kernel_is : (k : Kernel) → IsContent k → (s : ℕ) → kernel_status (view_of k) s ≡ 202
@@ -486,7 +487,7 @@ kernel_done laws k pid m i mark =
       role_is = ap (λ (n : ℕ). Aborts pid.0 n) (kernel_is k i pid.0);
       event_is = ap (λ (n : ℕ). Note pid.0 (negative n)) (kernel_is k i pid.0);
     } in
-    aborted_done laws k pid m i mark (negsuc 201) (KernelAbort pid) 202 refl case answered
+    aborted_done laws k pid m i mark (negsuc 201) (KernelAbort pid) 202 refl case (starter_named (view_of k) (KernelAbort pid) pid.0 202 i.sound case.role_is live) answered
 
 -- a starter with no live transaction
 pub no_transaction : (k : Kernel) (pid : Pid) → slot_at k.marks pid.0 ≡ None → answer (view_of k) (KernelAbort pid) ≡ No NoTransaction

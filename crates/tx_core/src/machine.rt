@@ -245,6 +245,9 @@ impl Machine {
     /// A refused step changes nothing. `NoMemory` comes only where nothing else refuses the step,
     /// and never to a member's sys_xabort. The step has to be one that the machine makes so far: a
     /// call on memory, one of a transaction, or the kernel's abort.
+    ///
+    /// The inverse changes only what the step names: objects of its footprint, the processes that its
+    /// sends go to, and, where it ends a transaction, what this one touched.
     pub fn step(&mut self, alloc: Global, step: Step) -> (Reply, Option<Inverse>)
         requires { IsBuilt step }
         ensures answer { (result.0 ≡ No Refusal.NoMemory) ⊎ (answer (view_of self.old) step ≡ result.0) }
