@@ -2,12 +2,12 @@
 ghost use Rattle.std.specs.Bool.{OnTrue, OnFalse};
 ghost use Rattle.std.specs.Prelude.{◌≡◌, ◌+◌, ◌-◌, ◌≤◌, ◌↔◌, [], ◌++◌, IsTrue, length, min, take, drop};
 ghost use Rattle.tx_pipe.specs.Exchanges.{can_exchange, front_exchanged, back_exchanged, front_given, back_given, count_given};
+ghost use Rattle.tx_base.specs.declared.limits.TheConstants.{PIPE_BYTES};
 
 use arrayvec::ArrayVec;
 use std::marker::Model;
 use std::mem;
 use tx_base::PIPE_BYTES;
-ghost use Rattle.tx_base.specs.declared.limits.TheConstants.{PIPE_BYTES};
 
 /// The bytes that were written to a pipe and are not read yet, the oldest first: 0 to 512 of them.
 /// Contracts see the list of these bytes.

@@ -5,13 +5,13 @@ ghost use Rattle.tx_model.specs.Deliveries.{is_full};
 ghost use Rattle.tx_model.specs.Signals.{newest};
 ghost use Rattle.tx_model.specs.State.{Process};
 ghost use Rattle.tx_signal.specs.Parts.{with_frames};
+ghost use Rattle.tx_base.specs.declared.limits.TheConstants.{FRAMES};
 
 use arrayvec::ArrayVec;
 use bitflags::Flags;
 use std::marker::Model;
 use std::mem;
 use tx_base::{FRAMES, Regs, SigSet};
-ghost use Rattle.tx_base.specs.declared.limits.TheConstants.{FRAMES};
 
 /// What a caught signal saved: the registers and the mask, as they were before it.
 #[derive(Clone, Copy, Debug)]

@@ -8,6 +8,7 @@ ghost use Rattle.tx_model.specs.Signals.{discarded, pending_signals, queued_othe
 ghost use Rattle.tx_model.specs.State.{Process, Queued as Entry, Sender};
 ghost use Rattle.tx_signal.specs.Entries.{IsFirstOf, entry_given, entry_swapped, is_lower, place_of};
 ghost use Rattle.tx_signal.specs.Parts.{alone, pending_of, post_result, sending_of, with_pending_part, with_pending_under};
+ghost use Rattle.tx_base.specs.declared.limits.TheConstants.{QUEUED};
 
 use crate::queued::Queued;
 use crate::sets::{has, is_realtime, with, without};
@@ -16,7 +17,6 @@ use bitflags::Flags;
 use std::marker::Model;
 use std::mem;
 use tx_base::{Errno, QUEUED, SigSet, Signo};
-ghost use Rattle.tx_base.specs.declared.limits.TheConstants.{QUEUED};
 
 /// The signals that are pending at a process: each standard signal once, and up to 16 realtime
 /// ones, the first to be taken first (POSIX.1-2017, XSH, Signal Generation and Delivery). Contracts
