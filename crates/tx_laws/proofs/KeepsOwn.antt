@@ -1,10 +1,8 @@
 -- What a step inside a transaction leaves of it.
-use Rattle.std.proofs.Common.{◌≡◌, ◌≢◌, ◌⊎◌, ℕ, zero, suc, ◌+◌, ◌-◌, ◌<◌, ◌≤◌, Bool, true, false, List, [], ◌∷◌, ◌++◌, length, Option, Some, None, is_some, if◌then◌else◌, ◌==◌, refl, sym, ap, ◌∙◌, subst, inl, inr, eq-eqb, arith}
+use Rattle.std.proofs.Common.{◌≡◌, ◌≢◌, ℕ, ◌+◌, ◌-◌, ◌<◌, ◌≤◌, Bool, true, false, List, [], ◌∷◌, ◌++◌, length, Option, Some, None, is_some, refl, sym, ap, ◌∙◌, subst, inl, inr, arith}
 use Rattle.std.proofs.lemmas.Bool.{both_ways}
-use Rattle.tx_base.specs.declared.limits.TheConstants.{HELD_SENDS}
 use Rattle.tx_model.specs.State.{Process, State, Sender, Sending, written}
-use Rattle.tx_model.specs.Effects.{Inside, Effect, Replies}
-use Rattle.tx_base.specs.declared.steps.Reply.TheVariants.{Ended}
+use Rattle.tx_model.specs.Effects.{Inside, Effect}
 use Rattle.tx_model.specs.Processes.{told_to}
 use Rattle.tx_model.specs.Sends.{has_sender, sent_by_members}
 use Rattle.tx_model.specs.Membership.{Table, is_member_of, is_live, is_open_of}
@@ -12,8 +10,8 @@ use Rattle.tx_model.specs.Answer.{is_running}
 use Rattle.tx_laws.specs.WellFormedTable.{sent_by_kernel, HasParentInside, HasParentOutside, IsTransaction}
 use Rattle.tx_laws.proofs.KeepsFormParts.{same_or_other}
 use Rattle.tx_laws.proofs.PlainWrites.{concludes_ended}
-use Rattle.tx_laws.proofs.Standings.{Standing, stand, running_same, some_same, parent_of, parent_same, parent_is, running_is, some_is, inside_same, outside_same, inside_by_parent, inside_parent, outside_parent, SameFor, open_member, transaction_same}
-use Rattle.tx_laws.proofs.Turns.{Same, SameBut, HoldsSame, HoldsMore, standing, IsOrphan, Told, NotLater, Later, Turn, Stays, Sends, Grows, Reaps, Ends}
+use Rattle.tx_laws.proofs.Standings.{stand, running_same, some_same, parent_of, parent_same, parent_is, running_is, some_is, inside_same, outside_same, inside_by_parent, inside_parent, outside_parent, SameFor, transaction_same}
+use Rattle.tx_laws.proofs.Turns.{orphan_some, Same, SameBut, standing, IsOrphan, Told, NotLater, Later, Turn, Stays, Sends, Grows, Reaps, Ends}
 
 -- sends are counted one by one
 sent_push : (ms : List Sending) (m : Sending) → sent_by_members (ms ++ m ∷ []) ≡ sent_by_members ms + has_sender m.from
@@ -39,7 +37,7 @@ sent_length (m ∷ ms) =
     omega arith
 
 -- the starter of a step's transaction, and its members
-abbrev starter_in : Option Inside → ℕ
+abbrev pub starter_in : Option Inside → ℕ
 starter_in None = 0
 starter_in (Some i) = i.starter
 
@@ -48,7 +46,7 @@ member_in None n = false
 member_in (Some i) n = i.members n
 
 module _ (t : Table) (S : State) (i : Inside) (p : ℕ) (mine : is_member_of t i.starter p ≡ true) (members : (n : ℕ) → i.members n ≡ is_member_of t i.starter n)
-  (live : is_live t i.starter ≡ true) (k : IsTransaction t S i.starter) where
+    (live : is_live t i.starter ≡ true) (k : IsTransaction t S i.starter) where
   abbrev s : ℕ
   s = i.starter
 
@@ -57,7 +55,7 @@ module _ (t : Table) (S : State) (i : Inside) (p : ℕ) (mine : is_member_of t i
       → IsTransaction new T s
   sends_kept new T same m sender room stands held =
       let x : IsTransaction new (record { width = T.width; procs = T.procs; descs = T.descs; pipes = T.pipes; held = S.held }) s =
-          transaction_same t new S (record { width = T.width; procs = T.procs; descs = T.descs; pipes = T.pipes; held = S.held }) s live same (λ n h. stands n) refl k in
+      transaction_same t new S (record { width = T.width; procs = T.procs; descs = T.descs; pipes = T.pipes; held = S.held }) s live same (λ n h. stands n) refl k in
       let one : sent_by_members (T.held s) ≡ sent_by_members (S.held s) + has_sender m.from = ap sent_by_members held ∙ sent_push (S.held s) m in
       let none : sent_by_kernel (T.held s) ≡ sent_by_kernel (S.held s) + (1 - has_sender m.from) = ap sent_by_kernel held ∙ kernel_push (S.held s) m in
       let once : sent_by_kernel (S.held s) ≤ 1 = k.told_once in
@@ -128,11 +126,7 @@ module _ (t : Table) (S : State) (i : Inside) (p : ℕ) (mine : is_member_of t i
 
   -- the member p has ended
   module _ (new : Table) (T : State) (same : SameFor t new s) (parent : ℕ) (was : stand (S.procs p) ≡ standing parent true) (now : stand (T.procs p) ≡ standing parent false)
-    (orphans : (n : ℕ) → n ≢ p → IsOrphan p (S.procs n) (T.procs n)) (closed : is_open_of s (new.marks p) ≡ false) where
-    some_orphan : (x y : Option Process) → IsOrphan p x y → is_some x ≡ true → is_some y ≡ true
-    some_orphan x y (inl e) h = some_same y x e ∙ h
-    some_orphan x y (inr e) h = some_is y (record { parent = 1; runs = e.0 }) e.2
-
+      (orphans : (n : ℕ) → n ≢ p → IsOrphan p (S.procs n) (T.procs n)) (closed : is_open_of s (new.marks p) ≡ false) where
     running_orphan : (x y : Option Process) → IsOrphan p x y → is_running y ≡ is_running x
     running_orphan x y (inl e) = running_same y x e
     running_orphan x y (inr e) = running_is y 1 e.0 e.2 ∙ sym (running_is x p e.0 e.1)
@@ -159,7 +153,7 @@ module _ (t : Table) (S : State) (i : Inside) (p : ℕ) (mine : is_member_of t i
     ends_with sent none once = record {
       starter = elim (same_or_other s p) [
         | inl z ↦ ap (λ (m : ℕ). is_some (T.procs m)) z ∙ some_is (T.procs p) (record { parent = parent; runs = false }) now
-        | inr z ↦ some_orphan (S.procs s) (T.procs s) (orphans s z) k.starter
+        | inr z ↦ orphan_some p (S.procs s) (T.procs s) (orphans s z) k.starter
       ];
       open_parts = λ n h. elim (same_or_other n p) [
         | inl z ↦ absurd (both_ways (is_open_of s (new.marks n)) (ap (λ (m : ℕ). is_open_of s (new.marks m)) z ∙ closed) h)
@@ -187,9 +181,9 @@ module _ (t : Table) (S : State) (i : Inside) (p : ℕ) (mine : is_member_of t i
     starter_ends out ne = elim (same_or_other s p) [
       | inl z ↦ z
       | inr z ↦ elim (inside_parent t s (S.procs p) parent (parent_is (S.procs p) parent true was) (k.parents p mine (λ y. z (sym y)))) [
-          | inl y ↦ absurd (ne y)
-          | inr y ↦ absurd (both_ways (is_member_of t s parent) out y)
-        ]
+        | inl y ↦ absurd (ne y)
+        | inr y ↦ absurd (both_ways (is_member_of t s parent) out y)
+      ]
     ]
 
     ends_kept : Told (Some i) parent S T → IsTransaction new T s
@@ -199,7 +193,7 @@ module _ (t : Table) (S : State) (i : Inside) (p : ℕ) (mine : is_member_of t i
     ends_kept (Later j e out ne held) =
         let starts : s ≡ j.starter = ap starter_in e in
         let more : T.held s ≡ S.held s ++ told_to parent ∷ [] =
-            ap T.held starts ∙ held.more ∙ ap (λ (n : ℕ). S.held n ++ told_to parent ∷ []) (sym starts) in
+        ap T.held starts ∙ held.more ∙ ap (λ (n : ℕ). S.held n ++ told_to parent ∷ []) (sym starts) in
         let outer : is_member_of t s parent ≡ false = sym (members parent) ∙ ap (λ (x : Option Inside). member_in x parent) e ∙ out in
         let it : s ≡ p = starter_ends outer ne in
         let ran : is_running (S.procs s) ≡ true = ap (λ (m : ℕ). is_running (S.procs m)) it ∙ running_is (S.procs p) parent true was in

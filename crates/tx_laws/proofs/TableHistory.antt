@@ -1,11 +1,10 @@
 -- The live transactions of every lawful history are so.
-use Rattle.std.proofs.Common.{◌≡◌, ◌≢◌, ◌⊎◌, ℕ, zero, suc, ◌+◌, ◌≤◌, Bool, true, false, not, List, [], ◌∷◌, ◌++◌, ℤ, pos, Option, Some, None, is_some, is_none, if◌then◌else◌, ◌==◌, refl, sym, ap, ◌∙◌, subst, inl, inr, eq-eqb, eqb-true, arith}
+use Rattle.std.proofs.Common.{◌≡◌, ℕ, Bool, true, false, not, List, [], ◌∷◌, ℤ, Option, Some, None, is_some, is_none, ◌==◌, refl, sym, ap, ◌∙◌, subst, inl, inr, eq-eqb, eqb-true}
 use Rattle.std.proofs.lemmas.Bool.{both_ways, cases_Bool}
 use Rattle.tx_base.specs.declared.names.Pid.{Pid}
 use Rattle.tx_base.specs.declared.steps.Accepted.{Accepted}
 use Rattle.tx_base.specs.declared.steps.Call.{Call}
 use Rattle.tx_base.specs.declared.steps.Call.TheVariants as call
-use Rattle.tx_base.specs.declared.steps.Refusal.{Refusal}
 use Rattle.tx_base.specs.declared.steps.Refusal.TheVariants.{NoProcess, NotRunning, BadNumber, NumberTaken}
 use Rattle.tx_base.specs.declared.steps.Step.{Step}
 use Rattle.tx_base.specs.declared.steps.Step.TheVariants.{Call as Calls, Deliver, KernelAbort}
@@ -14,9 +13,9 @@ use Rattle.tx_model.specs.Numbers.{negative}
 use Rattle.tx_model.specs.Effects.{Inside}
 use Rattle.tx_model.specs.Processes.{forks}
 use Rattle.tx_model.specs.Calls.{MakesCall, running_effect, effect_at}
-use Rattle.tx_model.specs.Events.{Event, Do, Note, process_of, actor, effect, objects, after, run}
-use Rattle.tx_model.specs.Membership.{Table, is_member_of, is_live, Role, Outside, Within, Commits, Aborts, Kind, Ordinary, kind_of, unmarked, table_after}
-use Rattle.tx_model.specs.History.{Starters, nobody, just, with_one, less_one, table_of, survivors, without, touched_of}
+use Rattle.tx_model.specs.Events.{Event, Note, process_of, actor, effect, objects, after, run}
+use Rattle.tx_model.specs.Membership.{is_member_of, is_live, Role, Outside, Within, Commits, Aborts, Ordinary, kind_of, table_after}
+use Rattle.tx_model.specs.History.{Starters, nobody, just, with_one, less_one, table_of, survivors, without}
 use Rattle.tx_model.specs.View.{View, view, present, kernel_status, IsClear, after_if, role_on, event_on, next_by, next}
 use Rattle.tx_model.specs.Answer.{is_running, is_there, has_bad_number, has_number_in_use, refusal, accepted_reply, answer, IsAccepted, Lawful}
 use Rattle.tx_laws.specs.Sound.{IsSound}
@@ -26,10 +25,9 @@ use Rattle.tx_laws.specs.WellFormedTable.{IsWellFormedWith}
 use Rattle.tx_laws.proofs.Local.{objects_same}
 use Rattle.tx_laws.proofs.Coherence.{IsQuiet, quiet_objects, outside_quiet, commits_quiet, sound_by}
 use Rattle.tx_laws.proofs.Tables.{of_unique, of_unmarked}
-use Rattle.tx_laws.proofs.Taken.{IsUnrefused, unrefused, unless_accepted}
+use Rattle.tx_laws.proofs.Taken.{if_none, IsUnrefused, unrefused, unless_accepted}
 use Rattle.tx_laws.proofs.Erased.{lawful_sound, lawful_next}
 use Rattle.tx_laws.proofs.StepView.{IsFitting, fitting}
-use Rattle.tx_laws.proofs.KeepsFormParts.{same_or_other}
 use Rattle.tx_laws.proofs.FormHistory.{history_form}
 use Rattle.tx_laws.proofs.WithinSets.{false_unless}
 use Rattle.tx_laws.proofs.Turns.{GrowsBy, step_turn, forks_by}
@@ -46,16 +44,12 @@ unfolding effect written
 note_held p r S u = after_holds (Note p r) S u
 
 -- a number that is chosen is free
-rest_none : (b : Bool) (why : Refusal) (rest : Option Refusal) → (if b then Some why else rest) ≡ None → (b ≡ false) × (rest ≡ None)
-rest_none true why rest h = cc
-rest_none false why rest h = (refl, h)
-
 free_number : (V : View) (p : ℕ) (step : Step) → refusal V p step ≡ None → has_number_in_use (present V) step ≡ false
 free_number V p step h =
-    let a = rest_none (not (is_there V p)) NoProcess _ h in
-    let b = rest_none (not (is_running ((present V).procs p))) NotRunning _ a.1 in
-    let c = rest_none (has_bad_number V.table.width step) BadNumber _ b.1 in
-    let d = rest_none (has_number_in_use (present V) step) NumberTaken _ c.1 in
+    let a = if_none (not (is_there V p)) NoProcess _ h in
+    let b = if_none (not (is_running ((present V).procs p))) NotRunning _ a.1 in
+    let c = if_none (has_bad_number V.table.width step) BadNumber _ b.1 in
+    let d = if_none (has_number_in_use (present V) step) NumberTaken _ c.1 in
     d.0
 
 none_there : (x : Option Process) → is_some x ≡ false → x ≡ None
@@ -142,7 +136,7 @@ module _ (V : View) (sound : IsSound V) (kept : IsKept V) (form : IsWellFormed (
       by true e = kept.left u
       by false e =
           let no : has (Held u) (objects ev (V.without (just u))) ≡ false =
-              false_unless (has (Held u) (objects ev (V.without (just u)))) (λ h. both_ways (s == u) e (eq-eqb s u (sym (fits.holds (V.without (just u)) u h)))) in
+          false_unless (has (Held u) (objects ev (V.without (just u)))) (λ h. both_ways (s == u) e (eq-eqb s u (sym (fits.holds (V.without (just u)) u h)))) in
           after_holds ev (V.without (just u)) u ∙ (other_part ev (V.without (just u)) (Held u) no).part ∙ kept.left u
   left_live (Commits s) ev p passes fits u live = by (u == s) refl
     where
@@ -153,7 +147,7 @@ module _ (V : View) (sound : IsSound V) (kept : IsKept V) (form : IsWellFormed (
       by false e =
           let was : is_live V.table u ≡ true = sym (of_unmarked u s (V.table.marks u) ∙ rw e refl) ∙ live in
           let out : is_member_of V.table u (actor ev) ≡ false =
-              false_unless (is_member_of V.table u (actor ev)) (λ h. both_ways (u == s) e (eq-eqb u s (of_unique u s (V.table.marks (actor ev)) h fits))) in
+          false_unless (is_member_of V.table u (actor ev)) (λ h. both_ways (u == s) e (eq-eqb u s (of_unique u s (V.table.marks (actor ev)) h fits))) in
           let same : less_one s (just u) u ≡ just u u = rw e refl in
           quiet_held ev passes (less_one s (just u)) (commits_quiet V ev s fits (just u)) u was out ∙ alike (less_one s (just u)) (just u) u same ∙ kept.left u
   left_live (Aborts s k) ev p passes fits u live =
