@@ -6,7 +6,7 @@ use crate::names::Pid;
 pub struct Mark {
     /// The process that began the transaction, whose number names it.
     pub starter: Pid,
-    /// Whether the member has ended its part.
+    /// Whether the member has ended its part: by sys_xend, or by ending as a process.
     pub ended: bool,
     /// Whether the transaction defers deliveries to its members.
     pub defers: bool,

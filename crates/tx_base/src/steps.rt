@@ -104,25 +104,28 @@ pub enum Step {
 /// Why a step was not accepted. A refused step changes nothing.
 #[derive(Clone, Copy, PartialEq, Eq, Debug)]
 pub enum Refusal {
-    /// N1: no process of that number.
+    /// N1: there is no process of that number, or the number is none of the machine's.
     NoProcess,
-    /// N2: it has ended.
+    /// N2: the process has ended.
     NotRunning,
-    /// N3: a chosen number is out of range.
+    /// N3: a number that the call chooses is out of range, or both descriptions of a pipe have the
+    /// same number.
     BadNumber,
-    /// N4: a chosen number is in use.
+    /// N4: a number that the call chooses is in use.
     NumberTaken,
-    /// N5: its transaction is doomed.
+    /// N5: the transaction of the process is doomed: SIGKILL would be pending at its starter after
+    /// an abort.
     Doomed,
-    /// N6: it has ended its part of its transaction.
+    /// N6: the process has called sys_xend, and its transaction has not ended.
     Parked,
-    /// N7: SIGKILL is pending at it, and the step does not deliver it.
+    /// N7: SIGKILL is pending at the process, and the step does not deliver it.
     KillPending,
-    /// N8: the transaction of the holder is in the way.
+    /// N8: other transactions are in the way, by what they reserved or by two answers of a send.
+    /// The holder is the least starter among them.
     Busy { holder: Pid },
-    /// N9: the call waits.
+    /// N9: a read, a write or a waitpid that waits.
     Wait,
-    /// N10: the signal can't be delivered now.
+    /// N10: the signal is not pending, is blocked, or has to let a lower realtime signal go first.
     NotDeliverable,
     /// N11: a caught delivery with four frames in use.
     FramesFull,

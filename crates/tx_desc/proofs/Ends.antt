@@ -1,7 +1,7 @@
 -- The ends of a pipe among the descriptions.
 use Rattle.std.proofs.Common.{◌≡◌, ℕ, zero, suc, ◌+◌, Bool, true, false, List, Option, Some, None, if◌then◌else◌, get_or, refl, sym, ap, ◌∙◌, arith}
 use Rattle.tx_model.specs.State.{Side as End, ReadSide, WriteSide, Description, State, side_in}
-use Rattle.tx_model.specs.Descriptors.{is_side, has_side_below, has_side}
+use Rattle.tx_model.specs.Descriptors.{is_side, has_side_below, has_description}
 use Rattle.tx_model.specs.Transfers.{is_read_side, is_write_side}
 use Rattle.tx_desc.specs.declared.opened.Side.{Side}
 use Rattle.tx_desc.specs.declared.opened.Side.TheVariants.{Read, Write}
@@ -63,17 +63,17 @@ both_below k (suc n) S =
     mixed (has_side_below is_read_side k n S) (is_side is_read_side (side_in k (S.descs n))) (has_side_below is_write_side k n S) (is_side is_write_side (side_in k (S.descs n)))
     ∙ (λ i. if both_below k n S i then true else either (side_in k (S.descs n)) i)
 
-pub both_sides : (k : ℕ) (S : State) → (if has_side Read k S then true else has_side Write k S) ≡ has_side k S
+pub both_sides : (k : ℕ) (S : State) → (if has_side Read k S then true else has_side Write k S) ≡ has_description k S
 both_sides k S = both_below k 64 S
 
-pub read_side : (r : Bool) (k : ℕ) (S : State) → r ≡ has_side Read k S → r ≡ true → true ≡ has_side k S
+pub read_side : (r : Bool) (k : ℕ) (S : State) → r ≡ has_side Read k S → r ≡ true → true ≡ has_description k S
 read_side r k S is found = sym (or_first (has_side Read k S) (has_side Write k S) (sym is ∙ found)) ∙ both_sides k S
   where
     or_first : (a b : Bool) → a ≡ true → (if a then true else b) ≡ true
     or_first true b h = refl
     or_first false b h = let never : ⊥ = cc in absurd never
 
-pub write_side : (r w : Bool) (k : ℕ) (S : State) → r ≡ has_side Read k S → r ≡ false → w ≡ has_side Write k S → w ≡ has_side k S
+pub write_side : (r w : Bool) (k : ℕ) (S : State) → r ≡ has_side Read k S → r ≡ false → w ≡ has_side Write k S → w ≡ has_description k S
 write_side r w k S is away other = other ∙ sym (or_second (has_side Read k S) (has_side Write k S) (sym is ∙ away)) ∙ both_sides k S
   where
     or_second : (a b : Bool) → a ≡ false → (if a then true else b) ≡ b

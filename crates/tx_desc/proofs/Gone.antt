@@ -3,7 +3,7 @@ use Rattle.std.proofs.Common.{◌≡◌, ◌≢◌, ℕ, ◌-◌, ◌<◌, ◌�
 use Rattle.std.proofs.lemmas.Bool.{both_ways, ltb-true, ltb-false}
 use Rattle.tx_model.specs.State.{Process, State, Write, SetProc, SetDesc, SetPipe, put_at, write_one, written}
 use Rattle.tx_model.specs.Effects.{noted, before_sends}
-use Rattle.tx_model.specs.Descriptors.{is_named, has_side, pipes_of, unnamed_go, endless_go, released, gives_up}
+use Rattle.tx_model.specs.Descriptors.{is_named, has_description, pipes_of, unnamed_go, endless_go, released, gives_up}
 use Rattle.tx_model.specs.StateLaws.{put_here, put_cases, put_there}
 use Rattle.tx_desc.specs.declared.opened.Opened.{Opened}
 use Rattle.tx_desc.specs.Places.{Descriptors}
@@ -126,7 +126,7 @@ shed_descs ds ts S old new a named has sheds k = by (is_named k S) refl
 endless_descs : (ks : List ℕ) (S R : State) (k : ℕ) → (written (endless_go ks S) R).descs k ≡ R.descs k
 unfolding written endless_go
 endless_descs [] S R k = refl
-endless_descs (x ∷ ks) S R k = by (λ (Q : State). endless_descs ks S Q k) (has_side x S)
+endless_descs (x ∷ ks) S R k = by (λ (Q : State). endless_descs ks S Q k) (has_description x S)
   where
     by : ((Q : State) → (written (endless_go ks S) Q).descs k ≡ Q.descs k) → (b : Bool) → (written (if b then endless_go ks S else SetPipe x None ∷ endless_go ks S) R).descs k ≡ R.descs k
     by again true = again R

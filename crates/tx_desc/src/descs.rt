@@ -1,6 +1,6 @@
 //! The open descriptions, each with the count of its names.
 ghost use Rattle.std.specs.Prelude.{◌≡◌, ◌<◌, None, length, replicate, slice_index_or, slice_set};
-ghost use Rattle.tx_model.specs.Descriptors.{has_side};
+ghost use Rattle.tx_model.specs.Descriptors.{has_description};
 ghost use Rattle.tx_model.specs.State.{State};
 ghost use Rattle.tx_desc.specs.Descriptions.{HasDescs, has_side, is_end_of};
 
@@ -69,7 +69,7 @@ impl Descs {
 
     /// Whether a description of either side of the pipe is there.
     pub fn names_pipe(&self, pipe: PipeNo) -> bool
-        ensures { (S : State) → HasDescs S self.now → result ≡ has_side pipe.0 S }
+        ensures { (S : State) → HasDescs S self.now → result ≡ has_description pipe.0 S }
     {
         self.has_end(pipe, Side::Read) || self.has_end(pipe, Side::Write)
     }

@@ -159,7 +159,7 @@ chosen : {B : Type 0} (view : Process → B) (q : Process) (b : Bool) (x y : Pro
 chosen view q true x y h k = h
 chosen view q false x y h k = k
 
-received_same : {B : Type 0} (view : Process → B) (m : Sending) (q : Process) → view (with_queued m q) ≡ view q → view (with_pending m.signo q) ≡ view q →
+pub received_same : {B : Type 0} (view : Process → B) (m : Sending) (q : Process) → view (with_queued m q) ≡ view q → view (with_pending m.signo q) ≡ view q →
     view (if may_signal m.from q.ids then (if is_quiet m q then q else with_signal m q) else q) ≡ view q
 received_same view m q h k =
     chosen view q (may_signal m.from q.ids) (if is_quiet m q then q else with_signal m q) q

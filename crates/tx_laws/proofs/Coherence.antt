@@ -1,7 +1,7 @@
 -- What stands at an object in the states without some transactions depends on who touched it.
-use Rattle.std.proofs.Common.{◌≡◌, ℕ, Bool, true, false, not, List, [], ◌∷◌, ◌++◌, ℤ, if◌then◌else◌, ◌==◌, refl, sym, ap, ap₂, ◌∙◌, subst, inl, inr, ◌⊎◌, eq-eqb, eqb-true}
+use Rattle.std.proofs.Common.{◌≡◌, ℕ, Bool, true, false, not, List, [], ◌∷◌, ◌++◌, ℤ, Option, if◌then◌else◌, ◌==◌, refl, sym, ap, ap₂, ◌∙◌, subst, inl, inr, ◌⊎◌, eq-eqb, eqb-true}
 use Rattle.std.proofs.lemmas.Bool.{both_ways, cases_Bool}
-use Rattle.tx_model.specs.State.{State, Sending, Object, Proc, Held, AgreeAt, AgreeOn, same_object, has, is_between}
+use Rattle.tx_model.specs.State.{Process, State, Sending, Object, Proc, Held, AgreeAt, AgreeOn, same_object, has, is_between}
 use Rattle.tx_model.specs.Effects.{Effect, before_sends, send_answers}
 use Rattle.tx_model.specs.Posts.{answers}
 use Rattle.tx_model.specs.Events.{Event, Note, actor, effect, objects, after, reply_of}
@@ -11,11 +11,12 @@ use Rattle.tx_model.specs.View.{View, present, meets, in_way, has_two_answers, m
 use Rattle.tx_laws.specs.Sound.{IsSound}
 use Rattle.tx_laws.proofs.Agree.{agree_sym, agree_trans, written_part}
 use Rattle.tx_laws.proofs.Objects.{TargetsIn, same_true, has_head, has_tail, has_left, has_right}
-use Rattle.tx_laws.proofs.Local.{after_keeps, reply_same, effect_same, objects_same, actor_in}
+use Rattle.tx_laws.proofs.Local.{after_keeps, after_width, reply_same, effect_same, objects_same, actor_in}
 use Rattle.tx_laws.proofs.Elsewhere.{effect_fits, after_else}
-use Rattle.tx_laws.specs.Fits.{IsIn, ProgressFits, FitsWithin, Fits, Passes}
+use Rattle.tx_laws.specs.Fits.{IsIn, ProgressFits, FitsWithin, Fits, Passes, ends_it}
+use Rattle.tx_laws.proofs.KeptByPosts.{IsKept, event_keeps, Runs, runs_kept}
 use Rattle.tx_laws.proofs.Answered.{Known, answers_known, or_false_left, or_false_right}
-use Rattle.tx_laws.proofs.Tables.{of_unique, of_unmarked, Grows, joins_by, continues_grows, parks_grows, forks_grows, begins_grows}
+use Rattle.tx_laws.proofs.Tables.{eq_comm, of_unique, of_none, of_unmarked, Grows, joins_by, continues_grows, parks_grows, forks_grows, begins_grows}
 
 pub or_true : (x y : Bool) → (if x then true else y) ≡ true → (x ≡ true) ⊎ (y ≡ true)
 or_true true y h = inl refl
@@ -204,6 +205,85 @@ taken_cases (Begins defers) s F o h = by (same_object o (Held s)) refl h
     by true e k = inl (same_true o (Held s) e)
     by false e k = inr k
 
+-- an event that is made or not leaves the width as it was
+after_if_width : (b : Bool) (ev : Event) (S : State) → (after_if b ev S).width ≡ S.width
+after_if_width true ev S = after_width ev S
+after_if_width false ev S = refl
+
+-- a note names its own process alone
+note_out : (s u : ℕ) (r : ℤ) (S : State) → (s == u) ≡ false → has (Proc s) (objects (Note u r) S) ≡ false
+unfolding objects has
+note_out s u r S ne = rw ne refl
+
+-- what posts and answers keep of the starter, in the states without its transaction
+module _ (P : Option Process → Type 0) (keeps : IsKept P) where
+  -- an event of a process that is no member of the transaction of s keeps it
+  other_keeps : (V : View) (ev : Event) → IsSound V → IsClear V ev → (s : ℕ) → is_live V.table s ≡ true → is_member_of V.table s (actor ev) ≡ false
+      → P ((V.without (just s)).procs s) → P ((after ev (V.without (just s))).procs s)
+  other_keeps V ev sound clear s live other h = event_keeps P keeps s ev (V.without (just s)) out h
+    where
+      quiet : IsQuiet V ev (just s)
+      quiet t k = by (t == s) (λ e. eqb-true t s e)
+        where
+          by : (b : Bool) → (b ≡ true → t ≡ s) → b ≡ false
+          by true e = absurd (both_ways (is_member_of V.table s (actor ev)) other (subst (λ (u : ℕ). is_member_of V.table u (actor ev) ≡ true) (e refl) k))
+          by false e = refl
+
+      out_now : (b : Bool) → has (Proc s) (objects ev (present V)) ≡ b → b ≡ false
+      out_now true e = absurd (both_ways (is_member_of V.table s (actor ev)) other
+          (clear_foot V ev sound clear (Proc s) s (objects_in V.table ev (present V) (Proc s) e) (sound.own_procs s s live)))
+      out_now false e = refl
+
+      out : has (Proc s) (objects ev (V.without (just s))) ≡ false
+      out = subst (λ (os : List Object). has (Proc s) os ≡ false)
+          (objects_same ev (present V) (V.without (just s)) (quiet_objects V ev sound clear (just s) quiet))
+          (out_now (has (Proc s) (objects ev (present V))) refl)
+
+  less_just : (u s : ℕ) → (u == s) ≡ false → less_one u (just s) ≡ just s
+  less_just u s ne = λ i n. same n i
+    where
+      same : (n : ℕ) → less_one u (just s) n ≡ just s n
+      same n = by (n == u) (λ e. eqb-true n u e)
+        where
+          by : (b : Bool) → (b ≡ true → n ≡ u) → (if b then false else n == s) ≡ (n == s)
+          by true e = sym (subst (λ (k : ℕ). (k == s) ≡ false) (sym (e refl)) ne)
+          by false e = refl
+
+  -- and so does every step that does not end that transaction
+  pub starter_keeps : (r : Role) (V : View) (ev : Event) (p : ℕ) → IsSound V → Passes r ev V → Fits r ev p V → (s : ℕ) → is_live V.table s ≡ true → ends_it s r ≡ false
+      → P ((V.without (just s)).procs s) → P (((next_by r ev p V).without (just s)).procs s)
+  starter_keeps Outside V ev p sound clear fits s live ne h = other_keeps V ev sound clear s live (fits s) h
+  starter_keeps (Within u part) V ev p sound clear fits s live ne h = by (u == s) refl
+    where
+      other : (b : Bool) → is_member_of V.table s (actor ev) ≡ b → (u == s) ≡ false → b ≡ false
+      other true e k = absurd (both_ways (u == s) k (eq-eqb u s (sym (fits.mine s (subst (λ (q : ℕ). is_member_of V.table s q ≡ true) fits.actor_is e)))))
+      other false e k = refl
+
+      by : (b : Bool) → (u == s) ≡ b → P ((after_if (not b) ev (V.without (just s))).procs s)
+      by true e = h
+      by false e = other_keeps V ev sound clear s live (other (is_member_of V.table s (actor ev)) refl e) h
+  starter_keeps (Commits u) V ev p sound clear fits s live ne h =
+      subst (λ (X : Starters). P ((after ev (V.without X)).procs s)) (sym (less_just u s ne)) (other_keeps V ev sound clear s live (other (is_member_of V.table s (actor ev)) refl) h)
+    where
+      other : (b : Bool) → is_member_of V.table s (actor ev) ≡ b → b ≡ false
+      other true e = absurd (both_ways (u == s) ne (eq-eqb u s (of_unique u s (V.table.marks (actor ev)) fits e)))
+      other false e = refl
+  starter_keeps (Aborts u k) V ev p sound clear fits s live ne h =
+      event_keeps P keeps s ev (V.without (with_one u (just s))) out (subst P (sym same.part) h)
+    where
+      same : AgreeAt (V.without (with_one u (just s))) (V.without (just s)) (Proc s)
+      same = sound.coherent (with_one u (just s)) (just s) (Proc s) (λ t z.
+          let e : t ≡ s = sound.single t s (Proc s) z (sound.own_procs s s live) in
+          subst (λ (n : ℕ). with_one u (just s) n ≡ just s n) (sym e) (both (s == u)))
+        where
+          both : (b : Bool) → (if b then true else s == s) ≡ (s == s)
+          both true = sym (eq-eqb s s refl)
+          both false = refl
+
+      out : has (Proc s) (objects ev (V.without (with_one u (just s)))) ≡ false
+      out = subst (λ (x : Event). has (Proc s) (objects x (V.without (with_one u (just s)))) ≡ false) (sym fits.1.1)
+          (note_out s u fits.1.0 (V.without (with_one u (just s))) (eq_comm s u ∙ ne))
+
 -- what was touched after a step inside a transaction
 pub touched_cases : (s p : ℕ) (h t : Bool) → (if s == p then (if h then true else t) else t) ≡ true → ((s ≡ p) × (h ≡ true)) ⊎ (t ≡ true)
 touched_cases s p h t = by (s == p) (λ e. eqb-true s p e) h
@@ -324,6 +404,20 @@ module _ (V : View) (ev : Event) (sound : IsSound V) (clear : IsClear V ev) (s :
       by (Forks c) f = inl (live_of f.0)
       by (Begins defers) f = inr (has_head (Held s) F)
 
+  -- its starter runs, in the state without it
+  begins_runs : Runs ((V.without (just s)).procs s)
+  begins_runs = by part fits.progress_fits
+    where
+      by : (part : Progress) → ProgressFits V s p ev part → Runs ((V.without (just s)).procs s)
+      by Continues f = sound.starter_runs s (live_of f)
+      by Parks f = sound.starter_runs s (live_of f)
+      by (Forks c) f = sound.starter_runs s (live_of f.0)
+      by (Begins defers) f = subst (λ (x : ℕ). Runs ((V.without (just x)).procs x)) (sym f.0)
+          (subst Runs (sound.coherent nobody (just p) (Proc p) (λ t k.
+          absurd (both_ways (is_member_of V.table t p) (of_none t (V.table.marks p) f.1)
+          (subst (λ (q : ℕ). is_member_of V.table t q ≡ true) fits.actor_is
+          (clear_foot V ev sound clear (Proc p) t (subst (λ (q : ℕ). has (Proc q) F ≡ true) fits.actor_is (actor_foot V.table ev (present V))) k))))).part f.3)
+
   foot_held : (u : ℕ) → has (Held u) F ≡ true → u ≡ s
   unfolding event_footprint
   foot_held u h = elim (has_either (Held u) (objects ev (present V)) (targets V.table (actor ev) (effect ev (present V)).sends) h) [
@@ -359,6 +453,11 @@ module _ (V : View) (ev : Event) (sound : IsSound V) (clear : IsClear V ev) (s :
       | inl a ↦ a.0 ∙ sym (elim (taken_cases part s F (Held u) a.1) [ inl e ↦ held_same u e | inr e ↦ foot_held u e ])
       | inr a ↦ sound.held_own t u a
     ];
+    width = λ X. after_if_width (not (X s)) ev (V.without X) ∙ sound.width X;
+    starter_runs = λ t h. elim (grows.members t t h) [
+      | inl a ↦ starter_keeps Runs runs_kept (Within s part) V ev p sound clear fits t a refl (sound.starter_runs t a)
+      | inr a ↦ subst (λ (x : ℕ). Runs (((next_by (Within s part) ev p V).without (just x)).procs x)) (sym a.0) (rw (eq-eqb s s refl) begins_runs)
+    ];
     bounded = λ t q h. elim (grows.members t q h) [
       | inl a ↦ sound.bounded t q a
       | inr a ↦ (joins_taken q a.1).1
@@ -373,6 +472,8 @@ outside_sound V ev p sound clear out = record {
   own_procs = sound.own_procs;
   own_held = sound.own_held;
   held_own = sound.held_own;
+  width = λ X. after_width ev (V.without X) ∙ sound.width X;
+  starter_runs = λ s h. starter_keeps Runs runs_kept Outside V ev p sound clear out s h refl (sound.starter_runs s h);
   bounded = sound.bounded;
 }
 
@@ -402,6 +503,9 @@ commits_sound V ev p sound clear s fits = record {
   own_procs = over_procs V sound s;
   own_held = over_held V sound s;
   held_own = λ t u h. sound.held_own t u (over_touched V sound s t (Held u) h);
+  width = λ X. after_width ev (V.without (less_one s X)) ∙ sound.width (less_one s X);
+  starter_runs = λ t h. let z = over_member V sound s t t h in
+      starter_keeps Runs runs_kept (Commits s) V ev p sound clear fits t z.1 (eq_comm s t ∙ z.0) (sound.starter_runs t z.1);
   bounded = λ t q h. sound.bounded t q (over_member V sound s t q h).1;
 }
 
@@ -428,6 +532,9 @@ aborts_sound V r p sound s k live = record {
   own_procs = over_procs V sound s;
   own_held = over_held V sound s;
   held_own = λ t u h. sound.held_own t u (over_touched V sound s t (Held u) h);
+  width = λ X. after_width (Note s r) (V.without (with_one s X)) ∙ sound.width (with_one s X);
+  starter_runs = λ t h. let z = over_member V sound s t t h in
+      starter_keeps Runs runs_kept (Aborts s k) V (Note s r) p sound tt (live, (r, refl)) t z.1 (eq_comm s t ∙ z.0) (sound.starter_runs t z.1);
   bounded = λ t q h. sound.bounded t q (over_member V sound s t q h).1;
 }
 

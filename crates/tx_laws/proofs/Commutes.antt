@@ -10,9 +10,9 @@ use Rattle.tx_laws.specs.Fits.{IsIn}
 use Rattle.tx_laws.specs.Commuting.{named_by, AreApart}
 use Rattle.tx_laws.proofs.Agree.{agree_sym, part_sym, part_trans, written_part}
 use Rattle.tx_laws.proofs.Objects.{has_head, has_tail, has_left, has_right}
-use Rattle.tx_laws.proofs.Local.{reply_same, effect_same, objects_same}
+use Rattle.tx_laws.proofs.Local.{after_width, reply_same, effect_same, objects_same}
 use Rattle.tx_laws.proofs.Answered.{answers_known}
-use Rattle.tx_laws.proofs.TwoPartsView.{after_part, after_width}
+use Rattle.tx_laws.proofs.TwoPartsView.{after_part}
 use Rattle.tx_laws.proofs.StepView.{elsewhere}
 
 apart_sym : (one other : Event) (S : State) → AreApart one other S → AreApart other one S
@@ -54,6 +54,11 @@ module _ (ev : Event) (S R : State) (agree : AgreeOn (named_by ev S) S R) where
   named_same : named_by ev S ≡ named_by ev R
   unfolding named_by
   named_same = ap₂ (λ (os : List Object) (f : Effect). os ++ processes_of f.sends) (objects_same ev S R at_objects) effect_named
+
+-- the reply to an event, in two states that agree at its objects and at the targets of its sends
+pub reply_named : (ev : Event) (S R : State) → AgreeOn (objects ev S ++ processes_of (effect ev S).sends) S R → reply_of ev S ≡ reply_of ev R
+unfolding named_by
+reply_named ev S R agree = reply_same ev S R (effect_named ev S R agree) (sent_named ev S R agree)
 
 -- the state after the other event, as an event that is apart finds it
 agree_after : (one other : Event) (S : State) → AreApart one other S → AgreeOn (named_by one S) S (after other S)

@@ -76,7 +76,7 @@ posts_else (m ∷ ms) S os o i h =
     agree_trans (posts ms (post m S)) (post m S) S o (posts_else ms (post m S) os o i.1 h)
     (edit_else (received m) (received_keeps m) m.target S o (different o (Proc m.target) os i.0 h))
 
-concluded_else : (c : Conclusion) (rs : List ℤ) (S : State) (os : List Object) (o : Object) → ConclusionIn c os → has o os ≡ false → AgreeAt (concluded c rs S) S o
+pub concluded_else : (c : Conclusion) (rs : List ℤ) (S : State) (os : List Object) (o : Object) → ConclusionIn c os → has o os ≡ false → AgreeAt (concluded c rs S) S o
 concluded_else (Replies r) rs S os o i h = agree_refl S o
 concluded_else (AnswersPost p) rs S os o i h = edit_else (noted_if (first_answer rs)) (noted_keeps (first_answer rs)) p S o (different o (Proc p) os i h)
 concluded_else ListsFailed rs S os o i h = agree_refl S o

@@ -59,6 +59,8 @@ start_sound S = record {
   own_procs = λ s p h. cc;
   own_held = λ s h. cc;
   held_own = λ s t h. cc;
+  width = λ X. refl;
+  starter_runs = λ s h. cc;
   bounded = λ s p h. cc;
 }
 

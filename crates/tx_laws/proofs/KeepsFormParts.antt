@@ -2,7 +2,7 @@
 use Rattle.std.proofs.Common.{◌≡◌, ◌≢◌, ℕ, zero, suc, ◌+◌, ◌<◌, ◌≤◌, ◌⊎◌, Bool, true, false, List, [], ◌∷◌, length, Option, Some, None, is_some, is_none, if◌then◌else◌, ◌==◌, slice_index_or, refl, sym, ap, ap₂, ◌∙◌, subst, inl, inr, eq-eqb, eqb-true, arith}
 use Rattle.std.proofs.lemmas.Bool.{both_ways, ltb-true}
 use Rattle.tx_model.specs.State.{Process, Side, Description, State, SetProc, put_at, write_one, is_number, names_at, side_in, is_between}
-use Rattle.tx_model.specs.Descriptors.{names_below, is_named_below, is_named, is_side, has_side_below, has_side}
+use Rattle.tx_model.specs.Descriptors.{names_below, is_named_below, is_named, is_side, has_side_below, has_description}
 use Rattle.tx_model.specs.Answer.{is_running}
 use Rattle.tx_model.specs.StateLaws.{put_cases}
 use Rattle.tx_laws.specs.WellFormed.{HasSizes, IsPlaced, IsFirst}
@@ -14,7 +14,7 @@ pub record IsArranged (S : State) : Type 0 where
   pub placed : (n : ℕ) (q : Process) → S.procs n ≡ Some q → IsPlaced S n q
   pub names : (n f d : ℕ) → names_at d f (S.procs n) ≡ true → is_some (S.descs d) ≡ true
   pub named : (d : ℕ) (x : Description) → S.descs d ≡ Some x → (is_named d S ≡ true) × (d < 64) × (is_some (S.pipes x.pipe) ≡ true)
-  pub pipes : (k : ℕ) (bytes : List ℕ) → S.pipes k ≡ Some bytes → (has_side k S ≡ true) × (k < 32) × (length bytes ≤ PIPE_BYTES)
+  pub pipes : (k : ℕ) (bytes : List ℕ) → S.pipes k ≡ Some bytes → (has_description k S ≡ true) × (k < 32) × (length bytes ≤ PIPE_BYTES)
 
 -- the part of the processes
 pub record IsTabled (S : State) : Type 0 where
@@ -161,10 +161,10 @@ end_found_below k (suc m) S h = elim (either (has_side_below any_side k m S) (is
   | inr e ↦ let r = side_found k (S.descs m) e in record { number = m; description = r.0; there = r.1; pipe = r.2 }
 ]
 
-pub end_found : (k : ℕ) (S : State) → has_side k S ≡ true → IsEnd k S
+pub end_found : (k : ℕ) (S : State) → has_description k S ≡ true → IsEnd k S
 end_found k S h = end_found_below k 64 S h
 
-pub has_end_from : (k : ℕ) (S : State) → (e : IsEnd k S) → e.number < 64 → has_side k S ≡ true
+pub has_end_from : (k : ℕ) (S : State) → (e : IsEnd k S) → e.number < 64 → has_description k S ≡ true
 has_end_from k S e less = end_from k 64 e.number S less (rw (e.there, eq-eqb e.description.pipe k e.pipe) refl)
 
 -- a state is well formed where both parts of it are

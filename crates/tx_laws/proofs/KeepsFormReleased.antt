@@ -2,7 +2,7 @@
 use Rattle.std.proofs.Common.{◌≡◌, ◌≢◌, ℕ, ◌<◌, ◌≤◌, ◌⊎◌, Bool, true, false, List, [], ◌∷◌, ◌++◌, length, Option, Some, None, is_some, if◌then◌else◌, refl, sym, ap, ◌∙◌, subst, inl, inr}
 use Rattle.std.proofs.lemmas.Bool.{both_ways}
 use Rattle.tx_model.specs.State.{Process, Description, State, Write, SetDesc, SetPipe, put_at, write_one, written, names_at, is_between}
-use Rattle.tx_model.specs.Descriptors.{is_named, has_side, pipe_of, pipes_of, unnamed_go, endless_go, released}
+use Rattle.tx_model.specs.Descriptors.{is_named, has_description, pipe_of, pipes_of, unnamed_go, endless_go, released}
 use Rattle.tx_model.specs.Answer.{is_running}
 use Rattle.tx_model.specs.StateLaws.{put_here, put_cases, put_there}
 use Rattle.tx_laws.specs.WellFormed.{IsPlaced}
@@ -106,13 +106,13 @@ unnamed_seen {B} view h (d ∷ ds) T V = by (is_named d T) (λ W. unnamed_seen v
     by true k = k V
     by false k = k (write_one (SetDesc d None) V) ∙ h d V
 
-endless_pipes : (ks : List ℕ) (T V : State) → (written (endless_go ks T) V).pipes ≡ removed (λ k. has_side k T) ks V.pipes
+endless_pipes : (ks : List ℕ) (T V : State) → (written (endless_go ks T) V).pipes ≡ removed (λ k. has_description k T) ks V.pipes
 unfolding written endless_go removed
 endless_pipes [] T V = refl
-endless_pipes (k ∷ ks) T V = by (has_side k T) (λ W. endless_pipes ks T W)
+endless_pipes (k ∷ ks) T V = by (has_description k T) (λ W. endless_pipes ks T W)
   where
-    by : (b : Bool) → ((W : State) → (written (endless_go ks T) W).pipes ≡ removed (λ k. has_side k T) ks W.pipes)
-        → (written (if b then endless_go ks T else SetPipe k None ∷ endless_go ks T) V).pipes ≡ removed (λ k. has_side k T) ks (if b then V.pipes else put_at V.pipes k None)
+    by : (b : Bool) → ((W : State) → (written (endless_go ks T) W).pipes ≡ removed (λ k. has_description k T) ks W.pipes)
+        → (written (if b then endless_go ks T else SetPipe k None ∷ endless_go ks T) V).pipes ≡ removed (λ k. has_description k T) ks (if b then V.pipes else put_at V.pipes k None)
     by true h = h V
     by false h = h (write_one (SetPipe k None) V)
 
@@ -120,7 +120,7 @@ endless_seen : {B : Type 0} (view : State → B) → ((k : ℕ) (W : State) → 
     → view (written (endless_go ks T) V) ≡ view V
 unfolding written endless_go
 endless_seen {B} view h [] T V = refl
-endless_seen {B} view h (k ∷ ks) T V = by (has_side k T) (λ W. endless_seen view h ks T W)
+endless_seen {B} view h (k ∷ ks) T V = by (has_description k T) (λ W. endless_seen view h ks T W)
   where
     by : (b : Bool) → ((W : State) → view (written (endless_go ks T) W) ≡ view W) → view (written (if b then endless_go ks T else SetPipe k None ∷ endless_go ks T) V) ≡ view V
     by true g = g V
@@ -204,7 +204,7 @@ module _ (ds : List ℕ) (T : State) (t : IsTabled T) (l : IsLoose ds T) where
   bytes_then : (k : ℕ) → fewer.pipes k ≡ T.pipes k
   bytes_then k = unnamed_seen (λ (W : State). W.pipes k) (λ d W. refl) ds T T
 
-  bytes_now : (k : ℕ) → rest.pipes k ≡ removed (λ k. has_side k fewer) (pipes_of ds T) fewer.pipes k
+  bytes_now : (k : ℕ) → rest.pipes k ≡ removed (λ k. has_description k fewer) (pipes_of ds T) fewer.pipes k
   bytes_now k = ap (λ (f : ℕ → Option (List ℕ)). f k) (endless_pipes (pipes_of ds T) fewer fewer)
 
   -- a description that is left was there
@@ -227,18 +227,18 @@ module _ (ds : List ℕ) (T : State) (t : IsTabled T) (l : IsLoose ds T) where
 
   -- a pipe that is left has an end that is left
   left_end : (k : ℕ) (bytes : List ℕ) → rest.pipes k ≡ Some bytes → IsEnd k T → IsEnd k fewer
-  left_end k bytes h e = by (has_side k fewer) refl
+  left_end k bytes h e = by (has_description k fewer) refl
     where
       less : e.number < 64
       less = (l.named e.number e.description e.there).1
 
-      gone : has_side k fewer ≡ false → IsAmong e.number ds → IsEnd k fewer
+      gone : has_description k fewer ≡ false → IsAmong e.number ds → IsEnd k fewer
       gone z a =
           let among : IsAmong k (pipes_of ds T) = subst (λ (i : ℕ). IsAmong i (pipes_of ds T)) e.pipe (pipe_among e.number e.description ds T e.there a) in
-          let no : None ≡ Some bytes = sym (bytes_now k ∙ removed_gone (λ k. has_side k fewer) (pipes_of ds T) fewer.pipes k z (inl among)) ∙ h in
+          let no : None ≡ Some bytes = sym (bytes_now k ∙ removed_gone (λ k. has_description k fewer) (pipes_of ds T) fewer.pipes k z (inl among)) ∙ h in
           cc
 
-      by : (b : Bool) → has_side k fewer ≡ b → IsEnd k fewer
+      by : (b : Bool) → has_description k fewer ≡ b → IsEnd k fewer
       by true z = end_found k fewer z
       by false z = elim (removed_other (λ d. is_named d T) ds T.descs e.number) [
         | inl a ↦ gone z a
@@ -254,14 +254,14 @@ module _ (ds : List ℕ) (T : State) (t : IsTabled T) (l : IsLoose ds T) where
   rest_named : (d : ℕ) (x : Description) → rest.descs d ≡ Some x → IsNamed d rest × (d < 64) × (is_some (rest.pipes x.pipe) ≡ true)
   rest_named d x h =
       let r = l.named d x (was_there d x h) in
-      let has : has_side x.pipe fewer ≡ true = has_end_from x.pipe fewer (record { number = d; description = x; there = sym (left_now d) ∙ h; pipe = refl }) r.1 in
+      let has : has_description x.pipe fewer ≡ true = has_end_from x.pipe fewer (record { number = d; description = x; there = sym (left_now d) ∙ h; pipe = refl }) r.1 in
       let same : rest.pipes x.pipe ≡ T.pipes x.pipe =
-      bytes_now x.pipe ∙ removed_kept (λ k. has_side k fewer) (pipes_of ds T) fewer.pipes x.pipe has ∙ bytes_then x.pipe in
+      bytes_now x.pipe ∙ removed_kept (λ k. has_description k fewer) (pipes_of ds T) fewer.pipes x.pipe has ∙ bytes_then x.pipe in
       (named_now d (left_named d x h r.0), r.1, ap (λ (y : Option (List ℕ)). is_some y) same ∙ r.2)
 
   rest_pipes : (k : ℕ) (bytes : List ℕ) → rest.pipes k ≡ Some bytes → IsEnd k rest × (k < 32) × (length bytes ≤ PIPE_BYTES)
   rest_pipes k bytes h =
-      let was : fewer.pipes k ≡ Some bytes = removed_was (λ k. has_side k fewer) (pipes_of ds T) fewer.pipes k bytes (sym (bytes_now k) ∙ h) in
+      let was : fewer.pipes k ≡ Some bytes = removed_was (λ k. has_description k fewer) (pipes_of ds T) fewer.pipes k bytes (sym (bytes_now k) ∙ h) in
       let r = l.pipes k bytes (sym (bytes_then k) ∙ was) in
       let e = left_end k bytes h r.0 in
       (record { number = e.number; description = e.description; there = left_now e.number ∙ e.there; pipe = e.pipe }, r.1, r.2)

@@ -21,6 +21,9 @@ pub mod Erased
 pub mod TwoPartsView
 pub mod StepView
 pub mod Commutes
+pub mod Mild
+pub mod StepFootprints
+pub mod SharedFootprints
 pub mod Doomed
 pub mod KeepsFormParts
 pub mod KeepsFormOwn
@@ -38,6 +41,14 @@ pub mod PlainWrites
 pub mod PlainCalls
 pub mod WithinEvents
 pub mod FormHistory
+pub mod GoodNumbers
+pub mod StepByStep
+pub mod PartsElsewhere
+pub mod KeptByPosts
+pub mod DoomStays
+pub mod HoldsInside
+pub mod StepHolders
+pub mod PartsAnswers
 pub mod Standings
 pub mod Turns
 pub mod KeepsOwn

@@ -6,7 +6,7 @@ use Rattle.tx_model.specs.State.{State, Sending, Object, Proc, Held, SetHeld, wr
 use Rattle.tx_model.specs.Effects.{Inside, Effect, ListsFailed, send_answers, applied, concluding_reply, committing}
 use Rattle.tx_model.specs.Calls.{MakesCall, TakesSignal, objects_at}
 use Rattle.tx_model.specs.Events.{Event, Do, Note, Commit, actor, note_effect, step_effect, effect, step_objects, objects, after, reply_of}
-use Rattle.tx_laws.proofs.Agree.{written_part, applied_keeps}
+use Rattle.tx_laws.proofs.Agree.{written_part, applied_keeps, applied_width}
 use Rattle.tx_laws.proofs.Objects.{has_head, has_tail}
 use Rattle.tx_laws.proofs.OfActs.{act_same, footprint_same}
 
@@ -17,6 +17,11 @@ unfolding after
 after_keeps ev S R e a o h =
     subst (λ (x : Effect × List ℤ). AgreeAt (applied (effect ev S) (send_answers (effect ev S) S) S) (applied x.0 x.1 R) o)
     (ap₂ (λ (x : Effect) (y : List ℤ). (x, y)) e a) (applied_keeps (effect ev S) (send_answers (effect ev S) S) S R o h)
+
+-- an event leaves the width as it was
+pub after_width : (ev : Event) (S : State) → (after ev S).width ≡ S.width
+unfolding after
+after_width ev S = applied_width (effect ev S) (send_answers (effect ev S) S) S
 
 pub reply_same : (ev : Event) (S R : State) → effect ev S ≡ effect ev R → send_answers (effect ev S) S ≡ send_answers (effect ev R) R → reply_of ev S ≡ reply_of ev R
 unfolding reply_of

@@ -11,7 +11,7 @@ use Rattle.tx_model.specs.Memory.{is_good, is_mapped, is_writable, stored, addre
 use Rattle.tx_model.specs.SignalSets.{is_known}
 use Rattle.tx_model.specs.State.{Process, Side, ReadSide, WriteSide, Description, State, Sending, Write, SetProc, SetDesc, SetPipe, SetHeld, write_one, written}
 use Rattle.tx_model.specs.Effects.{Effect, Conclusion, Replies, AnswersPost, ListsFailed, Own, idle, noted, own_effect, done, done_with}
-use Rattle.tx_model.specs.Descriptors.{named, with_descriptor, lowest_free, is_named, has_side, pipes_of, unnamed_go, endless_go, released, gives_up, listed, is_pipe_in_use, with_two_slots, new_side, opens_at, opens_from, pipe_effect, dups_to, dup_effect, renames, dup2_named, dup2_effect, closes, close_effect, flags, nonblock_effect}
+use Rattle.tx_model.specs.Descriptors.{named, with_descriptor, lowest_free, is_named, has_description, pipes_of, unnamed_go, endless_go, released, gives_up, listed, is_pipe_in_use, with_two_slots, new_side, opens_at, opens_from, pipe_effect, dups_to, dup_effect, renames, dup2_named, dup2_effect, closes, close_effect, flags, nonblock_effect}
 use Rattle.tx_model.specs.Transfers.{has_writer, has_reader, bytes_in, waits, drains, reads, read_by_side, read_described, read_effect, breaks, puts, writes, write_by_side, write_described, write_effect}
 use Rattle.tx_model.specs.Membership.{says_ended}
 use Rattle.tx_laws.proofs.WithinOwn.{KeepsLimits, noted_limits, slotted, paged_limits, stored_whole}
@@ -100,7 +100,7 @@ module _ (p : ℕ) (me : Process) where
   endless_plain : (ks : List ℕ) (S : State) → ArePlain p me (endless_go ks S)
   unfolding endless_go ArePlain
   endless_plain [] S = tt
-  endless_plain (k ∷ ks) S = by (has_side k S) (endless_plain ks S)
+  endless_plain (k ∷ ks) S = by (has_description k S) (endless_plain ks S)
     where
       by : (b : Bool) → ArePlain p me (endless_go ks S) → ArePlain p me (if b then endless_go ks S else SetPipe k None ∷ endless_go ks S)
       by true h = h

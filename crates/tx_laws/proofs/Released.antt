@@ -3,7 +3,7 @@ use Rattle.std.proofs.Common.{◌≡◌, ℕ, zero, suc, ◌+◌, Bool, true, fa
 use Rattle.std.proofs.lemmas.Bool.{both_ways}
 use Rattle.tx_model.specs.State.{Process, Side, Description, State, Object, Desc, Pipe, Held, Write, SetProc, SetDesc, SetPipe, write_one, written, names_at, side_in, AgreeAt, AgreeOn, same_object, has}
 use Rattle.tx_model.specs.Effects.{noted, done_with}
-use Rattle.tx_model.specs.Descriptors.{names_below, is_named_below, is_named, is_side, has_side_below, has_side, pipe_of, pipes_of, unnamed_go, endless_go, released, gives_up, desc_objects, pipe_list, desc_pipe_objects}
+use Rattle.tx_model.specs.Descriptors.{names_below, is_named_below, is_named, is_side, has_side_below, has_description, pipe_of, pipes_of, unnamed_go, endless_go, released, gives_up, desc_objects, pipe_list, desc_pipe_objects}
 use Rattle.tx_laws.proofs.Agree.{written_keeps}
 use Rattle.tx_laws.proofs.Objects.{WriteFits, WritesFit, Covers, has_head, has_tail, has_left, has_right, writes_append}
 
@@ -61,7 +61,7 @@ has_end_below_same test k (suc d) S R h =
     or_same (has_side_below test k d S) (has_side_below test k d R) (is_side test (side_in k (S.descs d))) (is_side test (side_in k (R.descs d)))
     (has_end_below_same test k d S R h) (ap (is_side test) (h d))
 
-pub has_end_same : (k : ℕ) (S R : State) → AgreeAt S R (Pipe k) → has_side k S ≡ has_side k R
+pub has_end_same : (k : ℕ) (S R : State) → AgreeAt S R (Pipe k) → has_description k S ≡ has_description k R
 has_end_same k S R a = has_end_below_same (λ side. true) k 64 S R a.family
 
 -- the pipes of the descriptions
@@ -173,7 +173,7 @@ pub endless_fits : (ks : List ℕ) (S T : State) (all : List Object) → Covers 
 unfolding endless_go
 endless_fits [] S T all c = tt
 endless_fits (k ∷ ks) S T all c =
-    choice_fits (has_side k T) S all (SetPipe k None) (endless_go ks T) (covers_head all (Pipe k) (pipe_list ks) c)
+    choice_fits (has_description k T) S all (SetPipe k None) (endless_go ks T) (covers_head all (Pipe k) (pipe_list ks) c)
     (endless_fits ks S T all (covers_rest all (Pipe k) (pipe_list ks) c))
 
 -- it stays in the descriptions and their pipes

@@ -2,7 +2,7 @@
 use Rattle.std.proofs.Common.{◌≡◌, true, false, List, [], ◌∷◌, ◌++◌, refl, ap₂, subst}
 use Rattle.tx_base.specs.declared.steps.Step.{Step}
 use Rattle.tx_base.specs.declared.steps.Reply.{Reply}
-use Rattle.tx_model.specs.State.{State, Sending, Object, Proc, AgreeAt, has}
+use Rattle.tx_model.specs.State.{State, Sending, Object, Proc, AgreePart, AgreeAt, has}
 use Rattle.tx_model.specs.Events.{Event, process_of, effect, objects, after}
 use Rattle.tx_model.specs.Membership.{Role}
 use Rattle.tx_model.specs.History.{processes_of}
@@ -45,3 +45,7 @@ elsewhere ev S o h =
     after_else ev S os o
     (effect_fits ev S os (λ q k. has_left q (objects ev S) (processes_of (effect ev S).sends) k)
     (targets_in (effect ev S).sends os (λ q k. has_right q (objects ev S) (processes_of (effect ev S).sends) k))) h
+
+-- an event leaves every part alone but those of its objects and of the targets of its sends
+pub parts_elsewhere : (ev : Event) (S : State) (o : Object) → has o (objects ev S ++ processes_of (effect ev S).sends) ≡ false → AgreePart (after ev S) S o
+parts_elsewhere ev S o h = (elsewhere ev S o h).part

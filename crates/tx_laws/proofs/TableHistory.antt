@@ -21,7 +21,7 @@ use Rattle.tx_model.specs.Answer.{is_running, is_there, has_bad_number, has_numb
 use Rattle.tx_laws.specs.Sound.{IsSound}
 use Rattle.tx_laws.specs.Fits.{Fits, Passes}
 use Rattle.tx_laws.specs.WellFormed.{IsWellFormed}
-use Rattle.tx_laws.specs.WellFormedTable.{IsWellFormedWith}
+use Rattle.tx_laws.specs.WellFormedTable.{IsWellFormedWith, IsWellFormedView}
 use Rattle.tx_laws.proofs.Local.{objects_same}
 use Rattle.tx_laws.proofs.Coherence.{IsQuiet, quiet_objects, outside_quiet, commits_quiet, sound_by}
 use Rattle.tx_laws.proofs.Tables.{of_unique, of_unmarked}
@@ -33,11 +33,6 @@ use Rattle.tx_laws.proofs.WithinSets.{false_unless}
 use Rattle.tx_laws.proofs.Turns.{GrowsBy, step_turn, forks_by}
 use Rattle.tx_laws.proofs.KeepsTable.{after_holds, other_part, untouched}
 use Rattle.tx_laws.proofs.KeepsView.{ForksNow, kind_formed, aborts_by}
-
--- what is so of the view: its transactions are so in the present state, and without one nothing is held by its number
-pub record IsKept (V : View) : Type 0 where
-  pub formed : IsWellFormedWith V.table (present V)
-  pub left : (s : ℕ) → (V.without (just s)).held s ≡ []
 
 note_held : (p : ℕ) (r : ℤ) (S : State) (u : ℕ) → (after (Note p r) S).held u ≡ S.held u
 unfolding effect written
@@ -79,7 +74,7 @@ module _ (S : State) (w : IsWellFormed S) (inside : Option Inside) (p : ℕ) (ch
   fork_grows None e h = cc
   fork_grows (Some me) e h = fork_running me me.status e refl h
 
-module _ (V : View) (sound : IsSound V) (kept : IsKept V) (form : IsWellFormed (present V)) where
+module _ (V : View) (sound : IsSound V) (kept : IsWellFormedView V) (form : IsWellFormed (present V)) where
   forks_now : (pid : Pid) (c : Call) → is_running ((present V).procs pid.0) ≡ true → has_number_in_use (present V) (Calls pid c) ≡ false
       → ForksNow V sound kept.formed form pid.0 (Calls pid c) (kind_of c)
   unfolding effect
@@ -170,7 +165,7 @@ module _ (V : View) (sound : IsSound V) (kept : IsKept V) (form : IsWellFormed (
         ∙ formed.others u dead
   ]
 
-  pub next_kept : (step : Step) → IsAccepted (answer V step) → IsKept (next V step)
+  pub next_kept : (step : Step) → IsAccepted (answer V step) → IsWellFormedView (next V step)
   unfolding next
   next_kept step a =
       let f : IsFitting V step = fitting V step sound a in
@@ -178,7 +173,7 @@ module _ (V : View) (sound : IsSound V) (kept : IsKept V) (form : IsWellFormed (
       record { formed = formed; left = left_by (role_on V step) (event_on V step) (process_of step) f.passes f.fits formed }
 
 -- the view of the empty history
-start_kept : (S : State) → ((s : ℕ) → S.held s ≡ []) → IsKept (view S [])
+pub start_kept : (S : State) → ((s : ℕ) → S.held s ≡ []) → IsWellFormedView (view S [])
 unfolding view without survivors run table_of
 start_kept S none = record { formed = record { live = λ s h. cc; members = λ s p h. cc; others = λ s h. none s }; left = none }
 
@@ -186,12 +181,12 @@ pub present_form : (S : State) (h : List Accepted) → IsWellFormed S → Lawful
 unfolding view
 present_form S h w l = history_form S h w l nobody
 
-pub history_kept : (S : State) (h : List Accepted) → IsWellFormed S → ((s : ℕ) → S.held s ≡ []) → Lawful S h → IsKept (view S h)
+pub history_kept : (S : State) (h : List Accepted) → IsWellFormed S → ((s : ℕ) → S.held s ≡ []) → Lawful S h → IsWellFormedView (view S h)
 unfolding Lawful
 history_kept S [] w none l = start_kept S none
 history_kept S (e ∷ h) w none l =
     let a : IsAccepted (answer (view S h) e.step) = subst IsAccepted (sym l.1) l.2 in
-    subst IsKept (sym (lawful_next S e h l))
+    subst IsWellFormedView (sym (lawful_next S e h l))
     (next_kept (view S h) (lawful_sound S h l.0) (history_kept S h w none l.0) (present_form S h w l.0) e.step a)
 
 pub table_kept : (S : State) (h : List Accepted) → IsWellFormed S → ((s : ℕ) → S.held s ≡ []) → Lawful S h → IsWellFormedWith (table_of S h) (without S nobody h)

@@ -1,9 +1,16 @@
 -- What a step makes of the table of transactions.
-use Rattle.std.proofs.Common.{◌≡◌, ℕ, Bool, true, false, Option, Some, None, if◌then◌else◌, ◌==◌, refl, sym, ap, ◌∙◌, subst, inl, inr, ◌⊎◌, eq-eqb, eqb-true}
-use Rattle.std.proofs.lemmas.Bool.{both_ways}
+use Rattle.std.proofs.Common.{◌≡◌, ℕ, Bool, true, false, Option, Some, None, if◌then◌else◌, ◌==◌, refl, sym, ap, ◌∙◌, subst, inl, inr, ◌⊎◌, eq-eqb, eqb-true, ne_eqb}
+use Rattle.std.proofs.lemmas.Bool.{both_ways, cases_Bool}
 use Rattle.tx_base.specs.declared.marks.Mark.{Mark}
 use Rattle.tx_model.specs.State.{put_at}
 use Rattle.tx_model.specs.Membership.{Table, is_of, is_member_of, is_live, Progress, Continues, Parks, Forks, Begins, Within, parked, defers_in, new_mark, unmarked, table_after}
+
+-- two numbers compare alike in either order
+pub eq_comm : (s t : ℕ) → (s == t) ≡ (t == s)
+eq_comm s t = elim (cases_Bool (s == t)) [
+  | inl e ↦ e ∙ sym (eq-eqb t s (sym (eqb-true s t e)))
+  | inr e ↦ e ∙ sym (ne_eqb t s (λ h. both_ways (s == t) e (eq-eqb s t (sym h))))
+]
 
 -- a number is a member of one transaction at most
 pub of_unique : (s t : ℕ) (x : Option Mark) → is_of s x ≡ true → is_of t x ≡ true → s ≡ t

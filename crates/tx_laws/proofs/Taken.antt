@@ -115,6 +115,11 @@ step_sends (Calls p call) i S member m h = act_sends (Some i) p.0 (MakesCall cal
 step_sends (Deliver p signo) i S member m h = act_sends (Some i) p.0 (TakesSignal signo.0) i refl S member m h
 step_sends (KernelAbort s) i S member m h = absurd h
 
+-- what a member sends at once goes to members
+pub do_sends : (step : Step) (i : Inside) (S : State) (m : Sending) → i.members (process_of step) ≡ true → IsIn m (effect (Do step (Some i)) S).sends → i.members m.target ≡ true
+unfolding effect
+do_sends step i S m member h = step_sends step i S member m h
+
 step_holds : (step : Step) (i : Inside) (S : State) (u : ℕ) → has (Held u) (step_objects step (Some i) S) ≡ true → u ≡ i.starter
 unfolding has
 step_holds (Calls p call) i S u h = act_holds (Some i) p.0 (MakesCall call) i refl S u h
@@ -162,23 +167,23 @@ ForksWell V step Leaving = Unit {0}
 ForksWell V step Aborting = Unit {0}
 
 kind_fits : (V : View) (p : ℕ) (step : Step) (r : Reply) → process_of step ≡ p → IsSound V → is_between V.table.width p ≡ true
-    → (k : Kind) → ForksWell V step k → (mark : Option Mark) → V.table.marks p ≡ mark
+    → is_running ((present V).procs p) ≡ true → (k : Kind) → ForksWell V step k → (mark : Option Mark) → V.table.marks p ≡ mark
     → Fits (kind_role V.table p k r mark) (event_in (kind_role V.table p k r mark) (kind_event V.table p step k mark)) p V
-kind_fits V p step r is sound b Ordinary f None e = none_fits V p (Do step None) e is
-kind_fits V p step r is sound b Ordinary f (Some m) e = ordinary_fits V p m e (Do step (inside_by V.table (Some m))) (do_within V p m e step is) (says_ended r)
-kind_fits V p step r is sound b (Forking c) f None e = none_fits V p (Do step None) e is
-kind_fits V p step r is sound b (Forking c) f (Some m) e =
+kind_fits V p step r is sound b run Ordinary f None e = none_fits V p (Do step None) e is
+kind_fits V p step r is sound b run Ordinary f (Some m) e = ordinary_fits V p m e (Do step (inside_by V.table (Some m))) (do_within V p m e step is) (says_ended r)
+kind_fits V p step r is sound b run (Forking c) f None e = none_fits V p (Do step None) e is
+kind_fits V p step r is sound b run (Forking c) f (Some m) e =
     within_fits V m.starter.0 p (Forks c) (Do step (inside_by V.table (Some m))) (do_within V p m e step is) (member_mine V p m e)
     (member_is V p m e, f.0 (inside_by V.table (Some m)), f.1)
-kind_fits V p step r is sound b (Beginning defers) f None e =
+kind_fits V p step r is sound b run (Beginning defers) f None e =
     within_fits V p p (Begins defers) (Note p (pos 0)) (note_within V p p (pos 0))
-    (λ t h. absurd (both_ways (is_member_of V.table t p) (of_none t (V.table.marks p) e) h)) (refl, e, b)
-kind_fits V p step r is sound b (Beginning defers) f (Some m) e =
+    (λ t h. absurd (both_ways (is_member_of V.table t p) (of_none t (V.table.marks p) e) h)) (refl, e, b, run)
+kind_fits V p step r is sound b run (Beginning defers) f (Some m) e =
     within_fits V m.starter.0 p Continues (Note p (negsuc 21)) (note_within V m.starter.0 p (negsuc 21)) (member_mine V p m e) (member_is V p m e)
-kind_fits V p step r is sound b Leaving f None e = none_fits V p (Note p (negsuc 21)) e refl
-kind_fits V p step r is sound b Leaving f (Some m) e = ending_fits V p m e (Note p (pos 0)) (note_within V m.starter.0 p (pos 0)) (others_open V.table m.starter.0 p V.table.width)
-kind_fits V p step r is sound b Aborting f None e = none_fits V p (Note p (negsuc 21)) e refl
-kind_fits V p step r is sound b Aborting f (Some m) e =
+kind_fits V p step r is sound b run Leaving f None e = none_fits V p (Note p (negsuc 21)) e refl
+kind_fits V p step r is sound b run Leaving f (Some m) e = ending_fits V p m e (Note p (pos 0)) (note_within V m.starter.0 p (pos 0)) (others_open V.table m.starter.0 p V.table.width)
+kind_fits V p step r is sound b run Aborting f None e = none_fits V p (Note p (negsuc 21)) e refl
+kind_fits V p step r is sound b run Aborting f (Some m) e =
     (sound.owned_live m.starter.0 (Proc p) (sound.own_procs m.starter.0 p (member_is V p m e)), (negative called_by_status, refl))
 
 -- a process that runs and forks names its child
@@ -292,7 +297,7 @@ taken V (Calls pid call) r sound e a =
     let u : IsUnrefused V pid.0 step = unrefused V pid.0 step z.0 in
     let f : ForksWell V step (kind_of call) = forks_well V pid call u.running u.number in
     let t : IsTakenOn V step r = asked_on V step pid.0 (kind_of call) r sound u f refl z.1
-    (kind_fits V pid.0 step (first_reply V step) refl sound (there_between V pid.0 u.there) (kind_of call) f (V.table.marks pid.0) refl) in
+    (kind_fits V pid.0 step (first_reply V step) refl sound (there_between V pid.0 u.there) u.running (kind_of call) f (V.table.marks pid.0) refl) in
     let same = kind_same called_by_status V pid.0 step (kind_of call) (V.table.marks pid.0) in
     taken_from V step r t (ap (λ (x : Reply). role V.table step x) (sym z.1) ∙ same) refl
 taken V (Deliver pid signo) r sound e a =
@@ -300,7 +305,7 @@ taken V (Deliver pid signo) r sound e a =
     let z = unless_accepted (refusal V pid.0 step) (accepted_reply V step) r e a in
     let u : IsUnrefused V pid.0 step = unrefused V pid.0 step z.0 in
     let t : IsTakenOn V step r = asked_on V step pid.0 Ordinary r sound u tt refl z.1
-    (kind_fits V pid.0 step (first_reply V step) refl sound (there_between V pid.0 u.there) Ordinary tt (V.table.marks pid.0) refl) in
+    (kind_fits V pid.0 step (first_reply V step) refl sound (there_between V pid.0 u.there) u.running Ordinary tt (V.table.marks pid.0) refl) in
     let same = kind_same called_by_status V pid.0 step Ordinary (V.table.marks pid.0) in
     taken_from V step r t (ap (λ (x : Reply). role V.table step x) (sym z.1) ∙ same) refl
 taken V (KernelAbort s) r sound e a = by (is_live V.table s.0) refl

@@ -1,17 +1,19 @@
 -- A kernel of two parts an object has the view of its history.
-use Rattle.std.proofs.Common.{◌≡◌, ℕ, Bool, true, false, not, List, ℤ, Option, Some, None, is_none, if◌then◌else◌, ◌==◌, refl, sym, ap, ap₂, ◌∙◌, subst, inl, inr, ◌⊎◌, eq-eqb, eqb-true, ne_eqb}
+use Rattle.std.proofs.Common.{◌≡◌, ℕ, Bool, true, false, not, List, [], ℤ, Option, Some, None, is_none, if◌then◌else◌, ◌==◌, refl, sym, ap, ap₂, ◌∙◌, subst, inl, inr, ◌⊎◌, eq-eqb, eqb-true}
 use Rattle.std.proofs.lemmas.Bool.{both_ways, cases_Bool}
 use Rattle.tx_model.specs.State.{State, Object, Proc, Desc, Pipe, Held, AgreePart, has}
 use Rattle.tx_model.specs.Posts.{answers}
 use Rattle.tx_model.specs.Effects.{Effect, send_answers, applied}
-use Rattle.tx_model.specs.Events.{Event, Note, note_effect, effect, after}
-use Rattle.tx_model.specs.Membership.{Table, is_member_of, is_live, Progress, Role, Outside, Within, Commits, Aborts, table_after}
-use Rattle.tx_model.specs.History.{Starters, nobody, just, with_one, less_one, event_footprint, objects_reserved}
-use Rattle.tx_model.specs.View.{View, IsClear, after_if, next_by}
+use Rattle.tx_model.specs.Events.{Event, Note, note_effect, effect, after, run}
+use Rattle.tx_model.specs.Membership.{Table, empty_table, is_member_of, is_live, Progress, Role, Outside, Within, Commits, Aborts, table_after}
+use Rattle.tx_model.specs.History.{Starters, survivors, without, table_of, touched_of, nobody, just, with_one, less_one, event_footprint, objects_reserved}
+use Rattle.tx_model.specs.View.{View, view, IsClear, after_if, next_by}
 use Rattle.tx_model.specs.StateLaws.{state_ext}
 use Rattle.tx_laws.specs.Sound.{IsSound}
 use Rattle.tx_laws.specs.TwoParts.{TwoParts, in_set, is_owner, pick, parts_without, parts_view, freed, reserved, on_both, parts_next}
 use Rattle.tx_laws.proofs.Agree.{part_refl, part_sym, part_trans, applied_part, applied_width}
+use Rattle.tx_laws.proofs.Local.{after_width}
+use Rattle.tx_laws.proofs.Tables.{eq_comm}
 use Rattle.tx_laws.specs.Fits.{FitsWithin, Fits, Passes}
 use Rattle.tx_laws.proofs.Coherence.{IsQuiet, quiet_effect, quiet_sent, outside_quiet, commits_quiet, taken_foot, taken_mine, within_else}
 
@@ -40,10 +42,6 @@ unfolding after
 after_part ev S R e a o h =
     subst (λ (x : Effect × List ℤ). AgreePart (applied (effect ev S) (send_answers (effect ev S) S) S) (applied x.0 x.1 R) o)
     (ap₂ (λ (x : Effect) (y : List ℤ). (x, y)) e a) (applied_part (effect ev S) (send_answers (effect ev S) S) S R o h)
-
-pub after_width : (ev : Event) (S : State) → (after ev S).width ≡ S.width
-unfolding after
-after_width ev S = applied_width (effect ev S) (send_answers (effect ev S) S) S
 
 in_nobody : (x : Option ℕ) → in_set nobody x ≡ false
 in_nobody None = refl
@@ -245,12 +243,6 @@ module _ (c : TwoParts) (ev : Event) (s : ℕ) (part : Progress) (p : ℕ) (soun
         by true x = state_ext (parts_without next_parts X) (parts_without c X) (after_width ev c.now) (left_out x)
         by false x = state_ext (parts_without next_parts X) (after ev (parts_without c X)) (after_width ev c.now ∙ sym (after_width ev (parts_without c X))) (with_step x)
 
-eq_comm : (s t : ℕ) → (s == t) ≡ (t == s)
-eq_comm s t = elim (cases_Bool (s == t)) [
-  | inl e ↦ e ∙ sym (eq-eqb t s (sym (eqb-true s t e)))
-  | inr e ↦ e ∙ sym (ne_eqb t s (λ h. both_ways (s == t) e (eq-eqb s t (sym h))))
-]
-
 same_choice : (b c : Bool) → c ≡ (if b then c else c)
 same_choice true c = refl
 same_choice false c = refl
@@ -318,3 +310,11 @@ same_view c d width now owner kept table =
     owned : (X : Starters) (o : Object) (x : Option ℕ) → c.owner o ≡ x → in_set X x ≡ true → AgreePart c.kept d.kept o
     owned X o None e h = cc
     owned X o (Some s) e h = kept o s e
+
+-- a kernel in which nobody owns anything has the view of the empty history of its state
+pub parts_start : (S : State) (c : TwoParts) → c.now ≡ S → ((o : Object) → c.owner o ≡ None) → c.table ≡ empty_table S.width → parts_view c ≡ view S []
+unfolding parts_view view without survivors run table_of touched_of
+parts_start S c now free table =
+    view_ext (parts_view c) (view S [])
+    (λ X. state_ext (parts_without c X) c.now refl (λ o. pick_false (λ o. in_set X (c.owner o)) c.kept c.now o (ap (in_set X) (free o))) ∙ now)
+    table (λ s o. ap (is_owner s) (free o))

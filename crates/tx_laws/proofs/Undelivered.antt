@@ -20,7 +20,7 @@ use Rattle.tx_model.specs.View.{View, view, present, kernel_status, abort_status
 use Rattle.tx_model.specs.Answer.{is_running, refusal, plain_reply, accepted_reply, answer, Lawful}
 use Rattle.tx_laws.specs.Sound.{IsSound}
 use Rattle.tx_laws.specs.WellFormed.{IsPlaced, IsWellFormed}
-use Rattle.tx_laws.specs.WellFormedTable.{sent_by_kernel, IsTransaction}
+use Rattle.tx_laws.specs.WellFormedTable.{sent_by_kernel, IsTransaction, IsWellFormedView}
 use Rattle.tx_laws.proofs.KeepsFormReleased.{written_append}
 use Rattle.tx_laws.proofs.PlainWrites.{concludes_ended}
 use Rattle.tx_laws.proofs.Standings.{stand, parent_of, parent_is}
@@ -29,7 +29,7 @@ use Rattle.tx_laws.proofs.KeepsOwn.{sent_length}
 use Rattle.tx_laws.proofs.Taken.{unless_accepted}
 use Rattle.tx_laws.proofs.Erased.{lawful_sound}
 use Rattle.tx_laws.proofs.KeepsView.{running_some, reply_ends, inner, parked_own, note_turn}
-use Rattle.tx_laws.proofs.TableHistory.{IsKept, not_own, history_kept, present_form}
+use Rattle.tx_laws.proofs.TableHistory.{not_own, history_kept, present_form}
 
 -- an event that is no commit answers no commit
 reply_by : (ev : Event) (S : State) → (effect ev S).conclusion ≡ Replies Ended → reply_of ev S ≡ Ended
@@ -81,7 +81,7 @@ listed_by : (s : ℕ) (ev : Event) (S : State) (u : List Missed) → reply_of (C
 unfolding reply_of effect
 listed_by s ev S u h = sym (ap items_in h)
 
-module _ (V : View) (sound : IsSound V) (kept : IsKept V) (form : IsWellFormed (present V)) (p : ℕ) (m : Mark) (e : V.table.marks p ≡ Some m) where
+module _ (V : View) (sound : IsSound V) (kept : IsWellFormedView V) (form : IsWellFormed (present V)) (p : ℕ) (m : Mark) (e : V.table.marks p ≡ Some m) where
   abbrev s : ℕ
   s = m.starter.0
 
@@ -182,7 +182,7 @@ note_sends : (p : ℕ) (r : ℤ) (S : State) → (effect (Note p r) S).sends ≡
 unfolding effect
 note_sends p r S = refl
 
-module _ (V : View) (sound : IsSound V) (kept : IsKept V) (form : IsWellFormed (present V)) where
+module _ (V : View) (sound : IsSound V) (kept : IsWellFormedView V) (form : IsWellFormed (present V)) where
   notes : (inside : Option Inside) (p q : ℕ) (r : ℤ) → Turn inside p (present V) (effect (Note q r) (present V))
   notes inside p q r = note_turn V sound kept.formed form inside p q r
 

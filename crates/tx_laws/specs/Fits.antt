@@ -1,10 +1,12 @@
 -- How an event goes with what its step is to the transactions. Own rules.
-use Rattle.std.specs.Prelude.{◌≡◌, ℕ, true, false, List, [], ◌∷◌, ◌⊎◌, ℤ, None}
+use Rattle.std.specs.Prelude.{◌≡◌, ℕ, Bool, true, false, List, [], ◌∷◌, ◌⊎◌, ℤ, Option, Some, None, ◌==◌}
 use Rattle.tx_model.specs.State.{State, Sending, Proc, Held, has, is_between}
-use Rattle.tx_model.specs.Events.{Event, Note, actor, effect, objects}
+use Rattle.tx_model.specs.Effects.{Inside}
+use Rattle.tx_model.specs.Events.{Event, Do, Note, Commit, actor, effect, objects}
 use Rattle.tx_model.specs.Membership.{is_member_of, is_live, Progress, Continues, Parks, Forks, Begins, Role, Outside, Within, Commits, Aborts}
 use Rattle.tx_model.specs.History.{is_other_starter}
 use Rattle.tx_model.specs.View.{View, present, IsClear}
+use Rattle.tx_model.specs.Answer.{is_running}
 
 -- the sending is one of the list
 abbrev pub IsIn : Sending → List Sending → Type 0
@@ -16,7 +18,7 @@ abbrev pub ProgressFits : View → ℕ → ℕ → Event → Progress → Type 0
 ProgressFits V s p ev Continues = is_member_of V.table s p ≡ true
 ProgressFits V s p ev Parks = is_member_of V.table s p ≡ true
 ProgressFits V s p ev (Forks c) = (is_member_of V.table s p ≡ true) × (has (Proc c) (objects ev (present V)) ≡ true) × (is_between V.table.width c ≡ true)
-ProgressFits V s p ev (Begins defers) = (s ≡ p) × (V.table.marks p ≡ None) × (is_between V.table.width p ≡ true)
+ProgressFits V s p ev (Begins defers) = (s ≡ p) × (V.table.marks p ≡ None) × (is_between V.table.width p ≡ true) × (is_running ((present V).procs p) ≡ true)
 
 -- the event is of a member of the transaction, or of its starter to be; it posts among the members, and holds with its own
 pub record FitsWithin (s : ℕ) (part : Progress) (ev : Event) (p : ℕ) (V : View) : Type 0 where
@@ -39,3 +41,21 @@ Passes Outside ev V = IsClear V ev
 Passes (Within s part) ev V = IsClear V ev
 Passes (Commits s) ev V = IsClear V ev
 Passes (Aborts s k) ev V = Unit {0}
+
+-- the step is made inside of the transaction of u
+abbrev pub IsInsideOf : ℕ → Option Inside → Type 0
+IsInsideOf u None = ⊥
+IsInsideOf u (Some i) = i.starter ≡ u
+
+-- the event is made inside of the transaction of u, or commits it
+abbrev pub HoldsFor : ℕ → Event → Type 0
+HoldsFor u (Do step inside) = IsInsideOf u inside
+HoldsFor u (Note p r) = ⊥
+HoldsFor u (Commit s ev) = (u ≡ s) ⊎ HoldsFor u ev
+
+-- whether a step of the role ends the transaction of s
+abbrev pub ends_it : ℕ → Role → Bool
+ends_it s Outside = false
+ends_it s (Within t part) = false
+ends_it s (Commits t) = t == s
+ends_it s (Aborts t status) = t == s

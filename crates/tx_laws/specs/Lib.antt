@@ -2,7 +2,14 @@ pub mod Places
 pub mod OneMoment
 pub mod WellFormed
 pub mod TwoParts
+pub mod TwoAnswers
 pub mod Sound
 pub mod Fits
 pub mod Commuting
 pub mod WellFormedTable
+pub mod Footprints
+pub mod Laws
+pub mod LawsOfEvents
+pub mod LawsOfParts
+pub mod LawsOfDoom
+pub mod LawsOfTable

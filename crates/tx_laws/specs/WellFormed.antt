@@ -9,7 +9,7 @@ use Rattle.tx_model.specs.SignalSets.{standard_signals, kill_signo, is_one_of, i
 use Rattle.tx_model.specs.Memory.{PageView}
 use Rattle.tx_model.specs.State.{Ids, Process, Frame, Queued, Sending, Description, State, names_at, is_between}
 use Rattle.tx_model.specs.Deliveries.{action_at}
-use Rattle.tx_model.specs.Descriptors.{is_named, has_side}
+use Rattle.tx_model.specs.Descriptors.{is_named, has_description}
 use Rattle.tx_model.specs.Events.{Event, Do, Note, Commit}
 use Rattle.tx_model.specs.Answer.{has_bad_number, is_running}
 
@@ -105,7 +105,7 @@ pub record IsWellFormed (S : State) : Type 0 where
   pub placed : (n : ℕ) (q : Process) → S.procs n ≡ Some q → IsPlaced S n q
   pub names : (n f d : ℕ) → names_at d f (S.procs n) ≡ true → is_some (S.descs d) ≡ true
   pub named : (d : ℕ) (x : Description) → S.descs d ≡ Some x → (is_named d S ≡ true) × (d < 64) × (is_some (S.pipes x.pipe) ≡ true)
-  pub pipes : (k : ℕ) (bytes : List ℕ) → S.pipes k ≡ Some bytes → (has_side k S ≡ true) × (k < 32) × (length bytes ≤ PIPE_BYTES)
+  pub pipes : (k : ℕ) (bytes : List ℕ) → S.pipes k ≡ Some bytes → (has_description k S ≡ true) × (k < 32) × (length bytes ≤ PIPE_BYTES)
   pub limits : (n : ℕ) (q : Process) → S.procs n ≡ Some q → HasLimits q
   pub held : (s : ℕ) → All IsKnownSending (S.held s)
 

@@ -60,8 +60,8 @@ has_side_below test k zero S = false
 has_side_below test k (suc d) S = if has_side_below test k d S then true else is_side test (side_in k (S.descs d))
 
 -- whether one of the 64 descriptions names the pipe
-abbrev pub has_side : ℕ → State → Bool
-has_side k S = has_side_below (λ side. true) k DESCRIPTIONS S
+abbrev pub has_description : ℕ → State → Bool
+has_description k S = has_side_below (λ side. true) k DESCRIPTIONS S
 
 abbrev pub pipe_of : Option Description → List ℕ
 pipe_of None = []
@@ -80,7 +80,7 @@ unnamed_go (d ∷ ds) S = if is_named d S then unnamed_go ds S else SetDesc d No
 -- those of the pipes that no description names go, with their bytes
 unfoldable pub endless_go : List ℕ → State → List Write
 endless_go [] S = []
-endless_go (k ∷ ks) S = if has_side k S then endless_go ks S else SetPipe k None ∷ endless_go ks S
+endless_go (k ∷ ks) S = if has_description k S then endless_go ks S else SetPipe k None ∷ endless_go ks S
 
 -- what goes with names of these descriptions that were given up: the descriptions that nobody names any more, and then
 -- the pipes

@@ -18,6 +18,7 @@ pub mod Calls
 pub mod Events
 pub mod Membership
 pub mod History
+pub mod Footprints
 pub mod View
 pub mod FreeNumbers
 pub mod Answer

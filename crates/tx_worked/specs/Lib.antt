@@ -6,3 +6,9 @@ pub mod WorkedActions
 pub mod WorkedKills
 pub mod WorkedPipes
 pub mod WorkedConflicts
+pub mod WorkedCommits
+pub mod WorkedRefusals
+pub mod WorkedNumbers
+pub mod WorkedScripts
+pub mod WorkedMemory
+pub mod WorkedMoments

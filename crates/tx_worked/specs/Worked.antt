@@ -2,20 +2,19 @@
 use Rattle.std.specs.Prelude.{◌≡◌, true, List, [], ◌∷◌, pos, negsuc, Some, None, replicate}
 use Rattle.tx_base.specs.declared.steps.Call.TheVariants.{Map, Load, SysXbegin, SysXend, SysXabort}
 use Rattle.tx_base.specs.declared.steps.Refusal.TheVariants.{NoProcess}
-use Rattle.tx_base.specs.declared.steps.Reply.TheVariants.{Done, Committed, Aborted, No}
+use Rattle.tx_base.specs.declared.steps.Reply.TheVariants.{Aborted, No}
 use Rattle.tx_base.specs.declared.steps.Step.{Step}
-use Rattle.tx_base.specs.declared.steps.Step.TheVariants.{KernelAbort}
 use Rattle.tx_model.specs.Memory.{Memory, no_memory}
 use Rattle.tx_model.specs.State.{booted_process, booted}
 use Rattle.tx_model.specs.Schedules.{answers_of}
-use Rattle.tx_worked.specs.WorkedSteps.{calls, store, state_after, standing}
+use Rattle.tx_worked.specs.WorkedSteps.{calls, kernel, store, ok, error, committed, state_after, standing}
 
 -- a transaction that maps a page and stores into it, and takes itself back
 abbrev pub taken_back : List Step
 taken_back = calls 2 SysXbegin ∷ calls 2 (Map (pos 0)) ∷ calls 2 (store (pos 5) (65 ∷ [])) ∷ calls 2 SysXabort ∷ []
 
 abbrev pub TakenBackAnswers : Type 0
-TakenBackAnswers = answers_of (booted 64 2) [] taken_back ≡ Done (pos 0) ∷ Done (pos 0) ∷ Done (pos 0) ∷ Aborted 201 ∷ []
+TakenBackAnswers = answers_of (booted 64 2) [] taken_back ≡ ok 0 ∷ ok 0 ∷ ok 0 ∷ Aborted 201 ∷ []
 
 -- its process stands behind its sys_xbegin with the status as an error, and has no page; the other is as booted
 abbrev pub TakenBackState : Type 0
@@ -32,7 +31,7 @@ side_by_side =
     ∷ calls 3 (Map (pos 0))
     ∷ calls 2 SysXbegin
     ∷ calls 3 (store (pos 0) (10 ∷ []))
-    ∷ KernelAbort (record { 0 = 3 })
+    ∷ kernel 3
     ∷ calls 2 (store (pos 1) (255 ∷ 0 ∷ []))
     ∷ calls 2 (Load (pos 1))
     ∷ calls 2 SysXend
@@ -43,17 +42,17 @@ side_by_side =
 abbrev pub SideBySideAnswers : Type 0
 SideBySideAnswers =
     answers_of (booted 64 3) [] side_by_side
-    ≡ Done (pos 0)
-    ∷ Done (pos 0)
-    ∷ Done (pos 0)
-    ∷ Done (pos 0)
-    ∷ Done (negsuc 21)
-    ∷ Done (pos 0)
+    ≡ ok 0
+    ∷ ok 0
+    ∷ ok 0
+    ∷ ok 0
+    ∷ error 22
+    ∷ ok 0
     ∷ Aborted 202
-    ∷ Done (pos 0)
-    ∷ Done (pos 255)
-    ∷ Committed (record { items = [] })
-    ∷ Done (negsuc 21)
+    ∷ ok 0
+    ∷ ok 255
+    ∷ committed
+    ∷ error 22
     ∷ No NoProcess
     ∷ []
 

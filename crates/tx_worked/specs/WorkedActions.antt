@@ -1,14 +1,14 @@
 -- Schedules of signals that are caught, ignored and blocked, worked out to the end. Own rules.
-use Rattle.std.specs.Prelude.{◌≡◌, List, [], ◌∷◌, ◌++◌, pos, negsuc, Some, replicate}
+use Rattle.std.specs.Prelude.{◌≡◌, List, [], ◌∷◌, ◌++◌, pos, Some, replicate}
 use Rattle.tx_base.specs.declared.signals.Action.TheVariants.{Ignore, Catch}
 use Rattle.tx_base.specs.declared.steps.Call.TheVariants.{Exit, Sigaction, Sigpending, Sigreturn, Getpid}
 use Rattle.tx_base.specs.declared.steps.Refusal.TheVariants.{NotDeliverable, FramesFull}
-use Rattle.tx_base.specs.declared.steps.Reply.TheVariants.{Done, Ended, No}
+use Rattle.tx_base.specs.declared.steps.Reply.TheVariants.{Ended, No}
 use Rattle.tx_base.specs.declared.steps.Step.{Step}
 use Rattle.tx_model.specs.Memory.{no_memory}
-use Rattle.tx_model.specs.State.{booted, first_registers}
+use Rattle.tx_model.specs.State.{State, booted}
 use Rattle.tx_model.specs.Schedules.{answers_of}
-use Rattle.tx_worked.specs.WorkedSteps.{calls, delivery, kill, sigqueue, block, catch, ok, state_after, standing, exited, killed_by, with_one_action, with_mask, with_frames}
+use Rattle.tx_worked.specs.WorkedSteps.{calls, delivery, kill, sigqueue, block, unblock, block_only, catch, caught_and_unblocked, ok, error, state_after, standing, exited, killed_by, with_one_action, with_mask, saved_at, with_frames}
 
 -- a signal is caught: it is blocked meanwhile, with those of its action (4,096 is the set of signal 12, 5,120 that of 10
 -- and 12)
@@ -20,7 +20,7 @@ CaughtState =
     (state_after (booted 64 3) caught).procs 2
     ≡ Some (with_one_action 10 (Catch 40 (record { 0 = 4096 }))
     (with_mask 5120
-    (with_frames (record { registers = record first_registers { point = 1 }; mask = 0 } ∷ []) (standing 2 41 (pos 2) no_memory))))
+    (with_frames (saved_at 1 ∷ []) (standing 2 41 (pos 2) no_memory))))
 
 -- the process goes back to where it was, with the mask that it had
 abbrev pub caught_back : List Step
@@ -97,7 +97,7 @@ RealtimeInTurnAnswers =
     ∷ No NotDeliverable
     ∷ ok 3
     ∷ ok 0
-    ∷ Done (negsuc 21)
+    ∷ error 22
     ∷ []
 
 -- to ignore a signal discards it where it is pending; it may be pending again while it is blocked. SIGKILL is neither
@@ -126,7 +126,7 @@ IgnoredAnswers =
     ∷ ok 1024
     ∷ ok 0
     ∷ ok 0
-    ∷ Done (negsuc 21)
+    ∷ error 22
     ∷ ok 0
     ∷ ok 1024
     ∷ ok 0
@@ -145,3 +145,90 @@ EndedTargetAnswers = answers_of (booted 64 3) [] ended_target ≡ Ended ∷ ok 0
 
 abbrev pub EndedTargetState : Type 0
 EndedTargetState = (state_after (booted 64 3) ended_target).procs 3 ≡ Some (exited 1)
+
+-- one signal is caught four times, and a fifth time after a return
+abbrev pub caught_again : List Step
+caught_again =
+    calls 2 (catch 10 50 0)
+    ∷ caught_and_unblocked
+    ++ caught_and_unblocked
+    ++ caught_and_unblocked
+    ++ caught_and_unblocked
+    ++ calls 1 (kill 2 10)
+    ∷ delivery 2 10
+    ∷ calls 2 Sigreturn
+    ∷ delivery 2 10
+    ∷ []
+
+abbrev pub CaughtAgainAnswers : Type 0
+CaughtAgainAnswers =
+    answers_of (booted 64 2) [] caught_again ≡ replicate 14 (ok 0) ++ No FramesFull ∷ ok 0 ∷ ok 0 ∷ []
+
+abbrev pub CaughtAgainState : Type 0
+CaughtAgainState =
+    let S : State = state_after (booted 64 2) caught_again in
+    (S.procs 1 ≡ Some (standing 1 5 (pos 0) no_memory))
+    × (S.procs 2
+    ≡ Some (with_one_action 10 (Catch 50 (record { 0 = 0 }))
+    (with_mask 1024 (with_frames (saved_at 1 ∷ saved_at 51 ∷ saved_at 51 ∷ saved_at 51 ∷ []) (standing 2 50 (pos 0) no_memory)))))
+
+-- a catch point is 0 to 65,535, and the mask of an action holds neither SIGKILL nor a number that is not known (4,624 is
+-- the set of 4, 9 and 12)
+abbrev pub catch_points : List Step
+catch_points =
+    calls 2 (catch 10 65536 0)
+    ∷ calls 2 (catch 10 65535 4624)
+    ∷ calls 3 (kill 2 10)
+    ∷ delivery 2 10
+    ∷ []
+
+abbrev pub CatchPointsAnswers : Type 0
+CatchPointsAnswers = answers_of (booted 64 3) [] catch_points ≡ error 22 ∷ ok 0 ∷ ok 0 ∷ ok 0 ∷ []
+
+abbrev pub CatchPointsState : Type 0
+CatchPointsState =
+    (state_after (booted 64 3) catch_points).procs 2
+    ≡ Some (with_one_action 10 (Catch 65535 (record { 0 = 4096 }))
+    (with_mask 5120 (with_frames (saved_at 2 ∷ []) (standing 2 65535 (pos 0) no_memory))))
+
+-- signals are blocked too, blocked no more, or blocked and no others: of 1, 10, 12 and 15, which are pending, first 10
+-- and 12 are blocked (5,120), then 15 too (32,768), then 12 no more (4,096), then 1 alone (2), and then 12 alone, since
+-- 4 is not known and 9 is SIGKILL
+abbrev pub masks : List Step
+masks =
+    calls 3 (kill 2 1)
+    ∷ calls 3 (kill 2 10)
+    ∷ calls 3 (kill 2 12)
+    ∷ calls 3 (kill 2 15)
+    ∷ calls 2 (block 5120)
+    ∷ calls 2 Sigpending
+    ∷ calls 2 (block 32768)
+    ∷ calls 2 Sigpending
+    ∷ calls 2 (unblock 4096)
+    ∷ calls 2 Sigpending
+    ∷ calls 2 (block_only 2)
+    ∷ calls 2 Sigpending
+    ∷ calls 2 (block_only 4624)
+    ∷ calls 2 Sigpending
+    ∷ []
+
+abbrev pub MasksAnswers : Type 0
+MasksAnswers =
+    answers_of (booted 64 3) [] masks
+    ≡ replicate 4 (ok 0)
+    ++ ok 0
+    ∷ ok 5120
+    ∷ ok 0
+    ∷ ok 37888
+    ∷ ok 0
+    ∷ ok 33792
+    ∷ ok 0
+    ∷ ok 2
+    ∷ ok 0
+    ∷ ok 4096
+    ∷ []
+
+abbrev pub MasksState : Type 0
+MasksState =
+    (state_after (booted 64 3) masks).procs 2
+    ≡ Some (with_mask 4096 (record (standing 2 10 (pos 4096) no_memory) { pending = 37890 }))

@@ -2,12 +2,12 @@
 use Rattle.std.specs.Prelude.{◌≡◌, true, false, List, [], ◌∷◌, ◌++◌, ℤ, pos, negsuc, Some, None, replicate}
 use Rattle.tx_base.specs.declared.steps.Call.TheVariants.{Map, Load, Dup, Dup2, Close, SetNonblock, Read, Write, Sigpending, SysXbegin, SysXend, SysXabort}
 use Rattle.tx_base.specs.declared.steps.Refusal.TheVariants.{Wait}
-use Rattle.tx_base.specs.declared.steps.Reply.TheVariants.{Done, Aborted, No}
+use Rattle.tx_base.specs.declared.steps.Reply.TheVariants.{Aborted, No}
 use Rattle.tx_base.specs.declared.steps.Step.{Step}
 use Rattle.tx_model.specs.Memory.{Memory, zero_page, no_memory}
 use Rattle.tx_model.specs.State.{ReadSide, WriteSide, State, booted}
 use Rattle.tx_model.specs.Schedules.{answers_of}
-use Rattle.tx_worked.specs.WorkedSteps.{calls, store, fork, pipe, block, ok, committed, busy_with, state_after, standing, with_slots, with_open, with_mask, with_one_pending, described}
+use Rattle.tx_worked.specs.WorkedSteps.{calls, store, fork, pipe, block, ok, error, committed, busy_with, state_after, standing, with_slots, with_open, with_mask, with_one_pending, described}
 
 -- the last writer of a pipe closes it inside: whether a read of process 1 waits or is at the end is not known yet
 abbrev pub last_writer : List Step
@@ -119,9 +119,9 @@ FullPipeAnswers =
     ∷ ok 512
     ∷ No Wait
     ∷ ok 0
-    ∷ Done (negsuc 10)
-    ∷ Done (negsuc 21)
-    ∷ Done (negsuc 21)
+    ∷ error 11
+    ∷ error 22
+    ∷ error 22
     ∷ ok 0
     ∷ ok 512
     ∷ No Wait
@@ -164,7 +164,7 @@ no_reader =
 abbrev pub NoReaderAnswers : Type 0
 NoReaderAnswers =
     answers_of (booted 64 2) [] no_reader
-    ≡ ok 0 ∷ ok 0 ∷ ok 0 ∷ ok 0 ∷ Done (negsuc 13) ∷ ok 0 ∷ Done (negsuc 31) ∷ ok 8192 ∷ []
+    ≡ ok 0 ∷ ok 0 ∷ ok 0 ∷ ok 0 ∷ error 14 ∷ ok 0 ∷ error 32 ∷ ok 8192 ∷ []
 
 -- one page of zeros
 abbrev pub one_page : Memory
@@ -199,7 +199,7 @@ more_names =
 abbrev pub MoreNamesAnswers : Type 0
 MoreNamesAnswers =
     answers_of (booted 64 1) [] more_names
-    ≡ ok 0 ∷ ok 2 ∷ ok 1 ∷ ok 5 ∷ ok 0 ∷ Done (negsuc 8) ∷ ok 0 ∷ Done (negsuc 8) ∷ Done (negsuc 8) ∷ ok 0 ∷ ok 5 ∷ []
+    ≡ ok 0 ∷ ok 2 ∷ ok 1 ∷ ok 5 ∷ ok 0 ∷ error 9 ∷ ok 0 ∷ error 9 ∷ error 9 ∷ ok 0 ∷ ok 5 ∷ []
 
 abbrev pub MoreNamesState : Type 0
 MoreNamesState =

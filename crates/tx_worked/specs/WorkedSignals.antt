@@ -1,16 +1,16 @@
 -- Schedules of signals that are sent, held and given back, worked out to the end. Own rules.
-use Rattle.std.specs.Prelude.{◌≡◌, ℕ, false, List, [], ◌∷◌, ◌++◌, pos, negsuc, Some, None, replicate}
+use Rattle.std.specs.Prelude.{◌≡◌, false, List, [], ◌∷◌, ◌++◌, pos, negsuc, Some, None, replicate}
 use Rattle.tx_base.specs.declared.errors.Errno.TheVariants.{NoSuchProcess}
 use Rattle.tx_base.specs.declared.signals.Action.TheVariants.{Ignore}
 use Rattle.tx_base.specs.declared.signals.How.TheVariants.{Block}
 use Rattle.tx_base.specs.declared.steps.Call.TheVariants.{Map, Exit, Waitpid, Sigaction, Sigprocmask, Sigpending, Getpid, ConsoleWrite, SysXbegin, SysXend, SysXabort}
-use Rattle.tx_base.specs.declared.steps.Reply.TheVariants.{Done, Ended, Committed, Aborted, Out}
+use Rattle.tx_base.specs.declared.steps.Reply.TheVariants.{Ended, Aborted, Out}
 use Rattle.tx_base.specs.declared.steps.Step.{Step}
 use Rattle.tx_model.specs.Memory.{no_memory}
-use Rattle.tx_model.specs.State.{Queued, State, booted_process, booted}
+use Rattle.tx_model.specs.State.{State, booted_process, booted}
 use Rattle.tx_model.specs.View.{View}
 use Rattle.tx_model.specs.Schedules.{answers_of}
-use Rattle.tx_worked.specs.WorkedSteps.{calls, delivery, store, fork, kill, sigqueue, block, ok, committed, marked, view_after, state_after, standing, with_one_action, with_one_pending, with_queue}
+use Rattle.tx_worked.specs.WorkedSteps.{calls, delivery, store, fork, kill, sigqueue, block, ok, error, committed, committed_without, missed, marked, view_after, state_after, standing, with_one_action, with_one_pending, entry, with_queue}
 
 -- an outsider's signal is delivered to a starter inside, where it is ignored
 abbrev pub taken_inside : List Step
@@ -128,7 +128,7 @@ TargetGoneAnswers =
     ∷ ok 0
     ∷ Ended
     ∷ ok 3
-    ∷ Committed (record { items = record { target = record { 0 = 3 }; signo = record { 0 = 10 }; errno = NoSuchProcess } ∷ [] })
+    ∷ committed_without (missed 3 10 NoSuchProcess ∷ [])
     ∷ []
 
 abbrev pub TargetGoneState : Type 0
@@ -153,8 +153,8 @@ ClosedCallsAnswers =
     ∷ ok 0
     ∷ Out (record { items = 104 ∷ 105 ∷ [] })
     ∷ ok 0
-    ∷ Done (negsuc 199)
-    ∷ Done (negsuc 199)
+    ∷ error 200
+    ∷ error 200
     ∷ committed
     ∷ []
 
@@ -183,15 +183,11 @@ FullHoldAnswers =
     ∷ ok 5
     ∷ Ended
     ∷ replicate 32 (ok 0)
-    ++ Done (negsuc 10)
+    ++ error 11
     ∷ ok 0
     ∷ committed
     ∷ ok 131072
     ∷ []
-
--- an entry of a queue
-abbrev pub entry : ℕ → ℕ → Queued
-entry signo value = record { signo = signo; value = pos value }
 
 -- held signals go out in their order
 abbrev pub held_in_turn : List Step
@@ -206,7 +202,7 @@ abbrev pub full_queue : List Step
 full_queue = replicate 16 (calls 3 (sigqueue 2 34 7)) ++ calls 3 (sigqueue 2 35 7) ∷ calls 3 (kill 2 10) ∷ []
 
 abbrev pub FullQueueAnswers : Type 0
-FullQueueAnswers = answers_of (booted 64 3) [] full_queue ≡ replicate 16 (ok 0) ++ Done (negsuc 10) ∷ ok 0 ∷ []
+FullQueueAnswers = answers_of (booted 64 3) [] full_queue ≡ replicate 16 (ok 0) ++ error 11 ∷ ok 0 ∷ []
 
 abbrev pub FullQueueState : Type 0
 FullQueueState =
@@ -228,4 +224,4 @@ wrong_sends =
 abbrev pub WrongSendsAnswers : Type 0
 WrongSendsAnswers =
     answers_of (booted 64 2) [] wrong_sends
-    ≡ Done (negsuc 21) ∷ Done (negsuc 2) ∷ Done (negsuc 2) ∷ Done (negsuc 2) ∷ ok 0 ∷ ok 0 ∷ ok 1 ∷ []
+    ≡ error 22 ∷ error 3 ∷ error 3 ∷ error 3 ∷ ok 0 ∷ ok 0 ∷ ok 1 ∷ []

@@ -1,9 +1,11 @@
 -- Short words for the schedules that are worked out: their steps, their answers, and the states that they leave.
-use Rattle.std.specs.Prelude.{ℕ, ◌+◌, ◌^◌, Bool, List, [], ℤ, pos, Option, Some, replicate, slice_set}
+use Rattle.std.specs.Prelude.{ℕ, ◌+◌, ◌-◌, ◌^◌, Bool, List, [], ◌∷◌, ℤ, pos, negsuc, Option, Some, replicate, slice_set}
+use Rattle.tx_base.specs.declared.errors.Errno.{Errno}
 use Rattle.tx_base.specs.declared.marks.Mark.{Mark}
+use Rattle.tx_base.specs.declared.names.Missed.{Missed}
 use Rattle.tx_base.specs.declared.signals.Action.{Action}
 use Rattle.tx_base.specs.declared.signals.Action.TheVariants.{Usual, Catch}
-use Rattle.tx_base.specs.declared.signals.How.TheVariants.{Block}
+use Rattle.tx_base.specs.declared.signals.How.TheVariants.{Block, Unblock, Set}
 use Rattle.tx_base.specs.declared.steps.Call.{Call}
 use Rattle.tx_base.specs.declared.steps.Call.TheVariants as call
 use Rattle.tx_base.specs.declared.steps.Refusal.TheVariants.{Busy}
@@ -12,7 +14,7 @@ use Rattle.tx_base.specs.declared.steps.Reply.TheVariants.{Done, Committed, No}
 use Rattle.tx_base.specs.declared.steps.Step.{Step}
 use Rattle.tx_base.specs.declared.steps.Step.TheVariants.{Call as Calls, Deliver, KernelAbort}
 use Rattle.tx_model.specs.Memory.{Memory}
-use Rattle.tx_model.specs.State.{Ids, Queued, Frame, Process, Side, Description, State, booted_process}
+use Rattle.tx_model.specs.State.{Ids, Queued, Frame, Process, Side, Description, State, first_registers, booted_process}
 use Rattle.tx_model.specs.View.{View, view, present}
 use Rattle.tx_model.specs.Schedules.{history_of}
 
@@ -48,17 +50,40 @@ sigqueue t signo value = call.Sigqueue (pos t) (pos signo) (pos value)
 abbrev pub block : ℕ → Call
 block set = call.Sigprocmask Block (record { 0 = set })
 
+-- these signals are blocked no more
+abbrev pub unblock : ℕ → Call
+unblock set = call.Sigprocmask Unblock (record { 0 = set })
+
+-- these signals are blocked, and no others
+abbrev pub block_only : ℕ → Call
+block_only set = call.Sigprocmask Set (record { 0 = set })
+
 -- the signal is caught at a point, where these are blocked too
 abbrev pub catch : ℕ → ℕ → ℕ → Call
 catch signo point mask = call.Sigaction (pos signo) (Catch point (record { 0 = mask }))
+
+-- process 2 catches signal 10, and blocks nothing then, so that it may catch it again
+abbrev pub caught_and_unblocked : List Step
+caught_and_unblocked = calls 1 (kill 2 10) ∷ delivery 2 10 ∷ calls 2 (block_only 0) ∷ []
 
 -- the call answered this number
 abbrev pub ok : ℕ → Reply
 ok n = Done (pos n)
 
--- the transaction was committed, and every held send was delivered
+-- the call answered this number as a negative one: an error
+abbrev pub error : ℕ → Reply
+error n = Done (negsuc (n - 1))
+
+-- the transaction was committed, and every held signal was sent
 abbrev pub committed : Reply
 committed = Committed (record { items = [] })
+
+-- it was committed, and these held signals could not be sent
+abbrev pub committed_without : List Missed → Reply
+committed_without signals = Committed (record { items = signals })
+
+abbrev pub missed : ℕ → ℕ → Errno → Missed
+missed t signo errno = record { target = record { 0 = t }; signo = record { 0 = signo }; errno = errno }
 
 -- the transaction of the holder is in the way
 abbrev pub busy_with : ℕ → Reply
@@ -112,9 +137,17 @@ with_mask mask q = record q { mask = mask }
 abbrev pub with_ids : Ids → Process → Process
 with_ids ids q = record q { ids = ids }
 
+-- an entry of a queue
+abbrev pub entry : ℕ → ℕ → Queued
+entry signo value = record { signo = signo; value = pos value }
+
 -- the process, but for its queue of realtime signals
 abbrev pub with_queue : List Queued → Process → Process
 with_queue queued q = record q { queued = queued }
+
+-- what a caught signal saved of a process at this point, whose last answer was 0 and which blocked nothing
+abbrev pub saved_at : ℕ → Frame
+saved_at point = record { registers = record first_registers { point = point }; mask = 0 }
 
 -- the process, but for what its caught signals saved
 abbrev pub with_frames : List Frame → Process → Process

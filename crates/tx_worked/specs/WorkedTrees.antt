@@ -2,13 +2,13 @@
 use Rattle.std.specs.Prelude.{◌≡◌, true, false, List, [], ◌∷◌, ◌++◌, pos, negsuc, Some, None, replicate}
 use Rattle.tx_base.specs.declared.steps.Call.TheVariants.{Map, Exit, Waitpid, Getpid, Setuid, Seteuid, Setgid, Setegid, Sigpending, SysXbegin, SysXend, SysXabort}
 use Rattle.tx_base.specs.declared.steps.Refusal.TheVariants.{Wait, Parked}
-use Rattle.tx_base.specs.declared.steps.Reply.TheVariants.{Done, Ended, Aborted, No}
+use Rattle.tx_base.specs.declared.steps.Reply.TheVariants.{Ended, Aborted, No}
 use Rattle.tx_base.specs.declared.steps.Step.{Step}
 use Rattle.tx_model.specs.Memory.{no_memory}
 use Rattle.tx_model.specs.State.{Ids, State, booted_process, booted}
 use Rattle.tx_model.specs.View.{View}
 use Rattle.tx_model.specs.Schedules.{answers_of}
-use Rattle.tx_worked.specs.WorkedSteps.{calls, store, fork, kill, sigqueue, block, ok, committed, busy_with, marked, view_after, state_after, standing, exited, of_parent, with_slots, with_ids, with_one_pending}
+use Rattle.tx_worked.specs.WorkedSteps.{calls, store, fork, kill, sigqueue, block, ok, error, committed, busy_with, marked, view_after, state_after, standing, exited, of_parent, with_slots, with_ids, with_one_pending}
 
 -- a child that was forked inside goes with the abort, though it has ended, and its number is free again
 abbrev pub child_undone : List Step
@@ -113,7 +113,7 @@ first_not_told =
     ∷ []
 
 abbrev pub FirstNotToldAnswers : Type 0
-FirstNotToldAnswers = answers_of (booted 64 3) [] first_not_told ≡ ok 0 ∷ Done (negsuc 9) ∷ Ended ∷ ok 7 ∷ Ended ∷ []
+FirstNotToldAnswers = answers_of (booted 64 3) [] first_not_told ≡ ok 0 ∷ error 10 ∷ Ended ∷ ok 7 ∷ Ended ∷ []
 
 abbrev pub FirstNotToldState : Type 0
 FirstNotToldState =
@@ -185,15 +185,15 @@ IdsAnswers =
     ≡ ok 0
     ∷ ok 3
     ∷ ok 0
-    ∷ Done (negsuc 0)
-    ∷ Done (negsuc 0)
-    ∷ Done (negsuc 0)
+    ∷ error 1
+    ∷ error 1
+    ∷ error 1
     ∷ ok 0
-    ∷ Done (negsuc 21)
+    ∷ error 22
     ∷ ok 0
-    ∷ Done (negsuc 0)
-    ∷ Done (negsuc 0)
-    ∷ Done (negsuc 0)
+    ∷ error 1
+    ∷ error 1
+    ∷ error 1
     ∷ ok 0
     ∷ ok 0
     ∷ Ended
@@ -232,12 +232,12 @@ WaitsAnswers =
     ≡ ok 3
     ∷ No Wait
     ∷ ok 0
-    ∷ Done (negsuc 9)
-    ∷ Done (negsuc 9)
+    ∷ error 10
+    ∷ error 10
     ∷ Ended
     ∷ ok 3
-    ∷ Done (negsuc 9)
-    ∷ Done (negsuc 0)
+    ∷ error 10
+    ∷ error 1
     ∷ []
 
 abbrev pub WaitsState : Type 0

@@ -11,7 +11,7 @@ use Rattle.tx_core.specs.Steps.{IsStep}
 use Rattle.tx_core.specs.declared.kernel.Kernel.{Kernel}
 use Rattle.tx_core.proofs.StepFacts.{IsDone}
 use Rattle.tx_core.proofs.MachineFacts.{runs_at, plan_named, outside_from}
-use Rattle.tx_model.specs.Calls.{memory_call}
+use Rattle.tx_core.specs.Plans.{memory_call}
 use Rattle.tx_core.proofs.machine.Machine.outside.Goals as goal
 
 pub change_outside-inverse-requires : goal.change_outside-inverse-requires

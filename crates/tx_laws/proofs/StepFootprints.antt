@@ -1,0 +1,573 @@
+-- The footprint of a step has what its event names, and the targets of its posts.
+use Rattle.std.proofs.Common.{◌≡◌, ℕ, Bool, true, false, not, List, [], ◌∷◌, ◌++◌, ℤ, pos, negsuc, Option, Some, None, if◌then◌else◌, ◌==◌, refl, sym, ap, ap₂, ◌∙◌, subst, inl, inr, eq-eqb, append_assoc, append-nil, nat_lt, is_none}
+use Rattle.tx_base.specs.declared.steps.Call.TheVariants as call
+use Rattle.tx_base.specs.declared.steps.Refusal.TheVariants.{FramesFull, NotDeliverable, Deferred}
+use Rattle.tx_base.specs.declared.limits.TheConstants.{HELD_SENDS, SLOTS}
+use Rattle.tx_model.specs.State.{State, Sending, Object, Proc, Desc, Pipe, Held, SetProc, written, has, same_object, write_one, SetDesc, SetPipe, Process, Write, SetHeld}
+use Rattle.tx_model.specs.Effects.{Inside, idle, own_effect, done, done_with, concluding_reply, Conclusion, Effect, Replies, AnswersPost, ListsFailed, send_answers}
+use Rattle.tx_model.specs.Descriptors.{released, is_named, has_description, pipes_of, unnamed_go, endless_go, open_in, desc_pipe_objects, named, descriptor}
+use Rattle.tx_model.specs.Processes.{orphaned, NotTold, AtOnce, AtCommit, telling, told_at_once, held_objects, with_parent, telling_by, ended, children_of, told_to, told_at_commit, ending, procs_of, ending_objects, exit_status, exit_effect, exit_objects, numbered}
+use Rattle.tx_model.specs.Events.{Event, Commit, effect, objects, actor, process_of, reply_of, Do, Note}
+use Rattle.tx_model.specs.Membership.{Table, inside_by, says_ended, kind_of, kind_role, event_in, Ordinary, Leaving, others_open, member_end_role, is_member_of, Aborting, Beginning, Forking, Kind, kind_event}
+use Rattle.tx_model.specs.History.{is_other_starter, targets, event_footprint}
+use Rattle.tx_model.specs.Footprints.{is_for_later, target_row, send_row, ending_row, call_row, footprint, told_for_later, commit_row, commit_row_of, call_row_at, delivery_row_at, delivery_row}
+use Rattle.tx_model.specs.Numbers.{failing, below}
+use Rattle.tx_model.specs.Signals.{disposition, Disposition, Ignored, Fatal, Caught, known, masks, tells_pending, newest}
+use Rattle.tx_model.specs.Sends.{sent_by_members, sent_by, posts_now, holds, hands_out, sends_signal, sendable}
+use Rattle.tx_model.specs.Scripts.{closed_inside, identifies}
+use Rattle.tx_model.specs.Deliveries.{relieved, action_at, kills, is_full, killed_status, acts_on, is_deferred, delivers, ends_by, caught, delivery_effect, delivery_objects, delivered_value}
+use Rattle.tx_model.specs.Calls.{call_effect, call_objects, MakesCall, TakesSignal, effect_at, running_effect, objects_at}
+use Rattle.tx_model.specs.Pages.{page_of, map_page, unmap_page, protect_page, store_bytes, load_byte, remembers}
+use Rattle.tx_model.specs.Identities.{id_of, set_user, set_effective_user, set_group, set_effective_group}
+use Rattle.tx_model.specs.Answer.{is_running}
+use Rattle.tx_model.specs.View.{present, first_reply}
+use Rattle.tx_laws.specs.Fits.{IsIn}
+use Rattle.tx_laws.specs.Footprints.{is_shared, is_abort, FootprintIsOfEvent}
+use Rattle.tx_laws.proofs.Mild
+use Rattle.tx_laws.proofs.KeepsFormReleased.{written_append}
+use Rattle.tx_laws.proofs.Mild.{GoesOn, IsMild}
+use Rattle.tx_base.specs.declared.errors.Errno.TheVariants.{InvalidArgument, TryAgain, NoSuchProcess, NotPermitted}
+use Rattle.tx_base.specs.declared.steps.Call.{Call}
+use Rattle.tx_base.specs.declared.steps.Step.{Step}
+use Rattle.tx_base.specs.declared.steps.Reply.TheVariants.{Done}
+use Rattle.tx_base.specs.declared.marks.Mark.{Mark}
+use Rattle.tx_base.specs.declared.steps.Reply.{Reply}
+use Rattle.tx_base.specs.declared.steps.Step.TheVariants.{Call as Calls, Deliver, KernelAbort}
+use Rattle.tx_base.specs.declared.names.Pid.{Pid}
+use Rattle.tx_base.specs.declared.names.Signo.{Signo}
+
+-- what a list made of two has
+has_both : (o : Object) (xs ys : List Object) → has o (xs ++ ys) ≡ (if has o xs then true else has o ys)
+unfolding has
+has_both o [] ys = refl
+has_both o (x ∷ xs) ys = by (same_object o x) (has_both o xs ys)
+  where
+    by : (b : Bool) → has o (xs ++ ys) ≡ (if has o xs then true else has o ys) → (if b then true else has o (xs ++ ys)) ≡ (if (if b then true else has o xs) then true else has o ys)
+    by true h = refl
+    by false h = h
+
+or_none : (b : Bool) → (if b then true else false) ≡ b
+or_none true = refl
+or_none false = refl
+
+or_same : (a b : Bool) → (b ≡ true → a ≡ true) → (if a then true else b) ≡ a
+or_same true b h = refl
+or_same false true h = sym (h refl)
+or_same false false h = refl
+
+targets_append : (t : Table) (p : ℕ) (xs ys : List Sending) → targets t p (xs ++ ys) ≡ targets t p xs ++ targets t p ys
+unfolding targets
+targets_append t p [] ys = refl
+targets_append t p (m ∷ xs) ys = by (is_other_starter t p m.target) (targets_append t p xs ys)
+  where
+    by : (b : Bool) → targets t p (xs ++ ys) ≡ targets t p xs ++ targets t p ys → (if b then targets t p (xs ++ ys) else Proc m.target ∷ targets t p (xs ++ ys)) ≡ (if b then targets t p xs else Proc m.target ∷ targets t p xs) ++ targets t p ys
+    by true e = e
+    by false e = ap (λ (os : List Object). Proc m.target ∷ os) e
+
+-- posts to the process itself name nothing more
+self_targets : (t : Table) (p : ℕ) (ms : List Sending) → ((m : Sending) → IsIn m ms → m.target ≡ p) → (o : Object) → has o (targets t p ms) ≡ true → same_object o (Proc p) ≡ true
+unfolding targets has
+self_targets t p [] h o k = cc
+self_targets t p (m ∷ ms) h o k = by (is_other_starter t p m.target) (self_targets t p ms (λ n i. h n (inr i)) o) k
+  where
+    head : (b : Bool) → same_object o (Proc m.target) ≡ b → (has o (targets t p ms) ≡ true → same_object o (Proc p) ≡ true) → (if b then true else has o (targets t p ms)) ≡ true
+        → same_object o (Proc p) ≡ true
+    head true e rest l = subst (λ (n : ℕ). same_object o (Proc n) ≡ true) (h m (inl refl)) e
+    head false e rest l = rest l
+
+    by : (b : Bool) → (has o (targets t p ms) ≡ true → same_object o (Proc p) ≡ true) → has o (if b then targets t p ms else Proc m.target ∷ targets t p ms) ≡ true
+        → same_object o (Proc p) ≡ true
+    by true rest l = rest l
+    by false rest l = head (same_object o (Proc m.target)) refl rest l
+
+-- nothing of what is held is shared
+held_unshared : (o : Object) (u : ℕ) → is_shared o ≡ true → same_object o (Held u) ≡ false
+held_unshared (Proc n) u h = refl
+held_unshared (Desc n) u h = refl
+held_unshared (Pipe n) u h = refl
+held_unshared (Held n) u h = cc
+
+held_lacks : (o : Object) (inside : Option Inside) → is_shared o ≡ true → has o (held_objects inside) ≡ false
+unfolding has
+held_lacks o None h = refl
+held_lacks o (Some i) h = rw (held_unshared o i.starter h) refl
+
+-- an event of the process whose sends go to itself
+module _ (t : Table) (p : ℕ) (o : Object) where
+  mild_has : (os : List Object) (ms : List Sending) → ((m : Sending) → IsIn m ms → m.target ≡ p) → has o ((Proc p ∷ os) ++ targets t p ms) ≡ has o (Proc p ∷ os)
+  unfolding has
+  mild_has os ms h =
+      has_both o (Proc p ∷ os) (targets t p ms)
+      ∙ or_same (has o (Proc p ∷ os)) (has o (targets t p ms)) (λ k. by (same_object o (Proc p)) (self_targets t p ms h o k))
+    where
+      by : (b : Bool) → b ≡ true → (if b then true else has o os) ≡ true
+      by true e = refl
+      by false e = cc
+
+-- what is handed out when a process ends, before the descriptions that it named go
+orphaned_held : (qs : List ℕ) (S R : State) → (written (orphaned qs S) R).held ≡ R.held
+unfolding written orphaned
+orphaned_held [] S R = refl
+orphaned_held (q ∷ qs) S R = orphaned_held qs S (write_one (SetProc q (with_parent 1 (S.procs q))) R)
+
+unnamed_held : (ds : List ℕ) (S R : State) → (written (unnamed_go ds S) R).held ≡ R.held
+unfolding written unnamed_go
+unnamed_held [] S R = refl
+unnamed_held (d ∷ ds) S R = by (is_named d S) (unnamed_held ds S R) (unnamed_held ds S (write_one (SetDesc d None) R))
+  where
+    by : (b : Bool) → (written (unnamed_go ds S) R).held ≡ R.held → (written (unnamed_go ds S) (write_one (SetDesc d None) R)).held ≡ R.held
+        → (written (if b then unnamed_go ds S else SetDesc d None ∷ unnamed_go ds S) R).held ≡ R.held
+    by true h k = h
+    by false h k = k
+
+endless_held : (ks : List ℕ) (S R : State) → (written (endless_go ks S) R).held ≡ R.held
+unfolding written endless_go
+endless_held [] S R = refl
+endless_held (q ∷ ks) S R = by (has_description q S) (endless_held ks S R) (endless_held ks S (write_one (SetPipe q None) R))
+  where
+    by : (b : Bool) → (written (endless_go ks S) R).held ≡ R.held → (written (endless_go ks S) (write_one (SetPipe q None) R)).held ≡ R.held
+        → (written (if b then endless_go ks S else SetPipe q None ∷ endless_go ks S) R).held ≡ R.held
+    by true h k = h
+    by false h k = k
+
+released_held : (ds : List ℕ) (S R : State) → (written (released ds S) R).held ≡ R.held
+released_held ds S R =
+    ap (λ (Q : State). Q.held) (written_append (unnamed_go ds S) (endless_go (pipes_of ds S) (written (unnamed_go ds S) S)) R)
+    ∙ endless_held (pipes_of ds S) (written (unnamed_go ds S) S) (written (unnamed_go ds S) R)
+    ∙ unnamed_held ds S R
+
+module _ (t : Table) (o : Object) (shared : is_shared o ≡ true) (S : State) where
+  three : (x : Object) (xs ys zs : List Object) → same_object o x ≡ false → has o ((x ∷ xs) ++ (ys ++ zs)) ≡ (if has o (xs ++ ys) then true else has o zs)
+  unfolding has
+  three x xs ys zs h =
+      rw h (ap (λ (os : List Object). has o os) (sym (append_assoc xs ys zs)) ∙ has_both o (xs ++ ys) zs)
+
+  -- an event that commits names what it names by itself, and the targets of what was held
+  commit_foot : (ev : Event) (s : ℕ) (more : List Sending) → (written (effect ev S).writes S).held s ≡ S.held s ++ more
+      → has o (event_footprint t (Commit s ev) S) ≡ (if has o (event_footprint t ev S) then true else has o (targets t (actor ev) (S.held s ++ more)))
+  unfolding event_footprint objects effect
+  commit_foot ev s more h =
+      ap (λ (ms : List Sending). has o ((Held s ∷ objects ev S) ++ targets t (actor ev) ((effect ev S).sends ++ ms))) h
+      ∙ ap (λ (os : List Object). has o ((Held s ∷ objects ev S) ++ os)) (targets_append t (actor ev) (effect ev S).sends (S.held s ++ more))
+      ∙ three (Held s) (objects ev S) (targets t (actor ev) (effect ev S).sends) (targets t (actor ev) (S.held s ++ more)) (held_unshared o s shared)
+
+-- the parent of a process that ends is named where it is told at once
+parent_same : (t : Table) (p parent : ℕ) → (if parent == 1 then [] else target_row t p parent) ≡ targets t p (told_at_once (telling (inside_by t (t.marks p)) parent) parent)
+unfolding targets
+parent_same t p parent = by (parent == 1) (inside_by t (t.marks p))
+  where
+    by : (b : Bool) (inside : Option Inside) → (if b then [] else (if is_for_later inside parent then [] else (if is_other_starter t p parent then [] else Proc parent ∷ [])))
+        ≡ targets t p (told_at_once (if b then NotTold else telling_by inside parent) parent)
+    by true inside = refl
+    by false None = refl
+    by false (Some i) = member (i.members parent)
+      where
+        member : (d : Bool) → (if not d then [] else (if is_other_starter t p parent then [] else Proc parent ∷ []))
+            ≡ targets t p (told_at_once (if d then AtOnce else AtCommit i.starter) parent)
+        member true = refl
+        member false = refl
+
+-- the end of process p, which is me, as it is now: with the same parent and the same descriptors
+module _ (t : Table) (o : Object) (shared : is_shared o ≡ true) (S : State) (p status : ℕ) (me now : Process) (same_parent : now.parent ≡ me.parent) where
+  -- what an ending names, its commit apart
+  ending_plain : List Object
+  ending_plain = desc_pipe_objects (open_in me.descriptors) S ++ procs_of (children_of p S) ++ (if me.parent == 1 then [] else target_row t p me.parent)
+
+  regrouped : (x : Object) (ab held tail : List Object) → has o held ≡ false → has o (x ∷ (ab ++ tail)) ≡ has o ((x ∷ (ab ++ held)) ++ tail)
+  unfolding has
+  regrouped x ab held tail h =
+      by (same_object o x) ∙ sym (has_both o (x ∷ (ab ++ held)) tail)
+    where
+      by : (b : Bool) → (if b then true else has o (ab ++ tail)) ≡ (if (if b then true else has o (ab ++ held)) then true else has o tail)
+      by true = refl
+      by false = has_both o ab tail ∙ ap (λ (c : Bool). if c then true else has o tail) (sym (has_both o ab held ∙ ap (λ (c : Bool). if has o ab then true else c) h ∙ or_none (has o ab)))
+
+  plain_same : has o (Proc p ∷ ending_plain)
+      ≡ has o ((Proc p ∷ ending_objects (inside_by t (t.marks p)) p me S) ++ targets t p (ending (inside_by t (t.marks p)) p status now S).sends)
+  unfolding ending_plain
+  plain_same =
+      ap (λ (os : List Object). has o (Proc p ∷ (desc_pipe_objects (open_in me.descriptors) S ++ procs_of (children_of p S) ++ os)))
+      (parent_same t p me.parent ∙ ap (λ (n : ℕ). targets t p (told_at_once (telling (inside_by t (t.marks p)) n) n)) (sym same_parent))
+      ∙ regrouped (Proc p) (desc_pipe_objects (open_in me.descriptors) S ++ procs_of (children_of p S)) (held_objects (inside_by t (t.marks p)))
+      (targets t p (told_at_once (telling (inside_by t (t.marks p)) now.parent) now.parent)) (held_lacks o (inside_by t (t.marks p)) shared)
+
+  -- what is held after it: what it hands out is the last
+  told_held : (i : Inside) (b : Bool) (R : State) → R.held ≡ S.held
+      → (written (told_at_commit (if b then NotTold else telling_by (Some i) now.parent) now.parent S) R).held i.starter ≡ S.held i.starter
+      ++ (if b then [] else (if is_for_later (Some i) now.parent then told_to now.parent ∷ [] else []))
+  unfolding written
+  told_held i true R h = ap (λ (f : ℕ → List Sending). f i.starter) h ∙ sym (append-nil (S.held i.starter))
+  told_held i false R h = by (i.members now.parent)
+    where
+      by : (d : Bool) → (written (told_at_commit (if d then AtOnce else AtCommit i.starter) now.parent S) R).held i.starter
+          ≡ S.held i.starter ++ (if not d then told_to now.parent ∷ [] else [])
+      by true = ap (λ (f : ℕ → List Sending). f i.starter) h ∙ sym (append-nil (S.held i.starter))
+      by false = rw (eq-eqb i.starter i.starter refl) refl
+
+  ending_held : (i : Inside) → (written (ending (Some i) p status now S).writes S).held i.starter
+      ≡ S.held i.starter ++ (if now.parent == 1 then [] else (if is_for_later (Some i) now.parent then told_to now.parent ∷ [] else []))
+  unfolding written
+  ending_held i =
+      let xs : List Write = orphaned (children_of p S) S in
+      let gone : State = write_one (SetProc p (Some (ended status now))) S in
+      let ys : List Write = released (open_in now.descriptors) gone in
+      let zs : List Write = told_at_commit (telling (Some i) now.parent) now.parent S in
+      ap (λ (R : State). R.held i.starter) (written_append (xs ++ ys) zs gone ∙ ap (written zs) (written_append xs ys gone))
+      ∙ told_held i (now.parent == 1) (written ys (written xs gone))
+      (released_held (open_in now.descriptors) gone (written xs gone) ∙ orphaned_held (children_of p S) S gone)
+
+goes_says : (c : Conclusion) (ms : List Sending) (rs : List ℤ) → GoesOn c → says_ended (concluding_reply c ms rs) ≡ false
+goes_says (Replies r) ms rs h = h
+goes_says (AnswersPost p) ms rs h = refl
+goes_says ListsFailed ms rs h = absurd h
+
+-- an act of process p, which is me and runs, in the transaction that the table says
+module _ (t : Table) (o : Object) (shared : is_shared o ≡ true) (S : State) (p : ℕ) (me : Process) where
+  inside : Option Inside
+  inside = inside_by t (t.marks p)
+
+  -- an effect that ends nothing, and a row that has what it names
+  record IsPlain (f : Effect) (os row : List Object) : Type 0 where
+    goes_on : GoesOn f.conclusion
+    same : has o (Proc p ∷ row) ≡ has o ((Proc p ∷ os) ++ targets t p f.sends)
+
+  mild_plain : (f : Effect) (os row : List Object) → IsMild p f → row ≡ os → IsPlain f os row
+  mild_plain f os row m h = record { goes_on = m.goes_on; same = ap (λ (xs : List Object). has o (Proc p ∷ xs)) h ∙ sym (mild_has t p o os f.sends m.sends) }
+
+  held_mild : (f : Effect) → IsMild p f → IsPlain f (held_objects inside) []
+  unfolding has
+  held_mild f m = record {
+    goes_on = m.goes_on;
+    same = sym (mild_has t p o (held_objects inside) f.sends m.sends ∙ ap (λ (b : Bool). if same_object o (Proc p) then true else b) (held_lacks o inside shared));
+  }
+
+  -- a send
+  now_plain : (m : Sending) → IsPlain (posts_now p m) (held_objects inside) (if is_other_starter t p m.target then [] else Proc m.target ∷ [])
+  unfolding has targets
+  now_plain m = record {
+    goes_on = tt;
+    same =
+        (by (same_object o (Proc p)) (is_other_starter t p m.target) ∙ ap (λ (b : Bool). if (if same_object o (Proc p) then true else b) then true else has o (targets t p (m ∷ []))) (sym (held_lacks o inside shared)))
+        ∙ sym (has_both o (Proc p ∷ held_objects inside) (targets t p (m ∷ [])));
+  }
+    where
+      by : (b c : Bool) → (if b then true else has o (if c then [] else Proc m.target ∷ [])) ≡ (if (if b then true else false) then true else has o (if c then [] else Proc m.target ∷ []))
+      by true c = refl
+      by false c = refl
+
+  holds_plain : (i : Inside) (m : Sending) → IsMild p (holds p i me m S)
+  holds_plain i m = by (m.signo == 0) (nat_lt (sent_by_members (S.held i.starter)) HELD_SENDS)
+    where
+      by : (b c : Bool) → IsMild p (if b then done p closed_inside me
+          else (if c then done_with (SetHeld i.starter (S.held i.starter ++ m ∷ []) ∷ []) p (pos 0) me else done p (failing TryAgain) me))
+      by true c = record { goes_on = refl; sends = λ n h. absurd h }
+      by false true = record { goes_on = refl; sends = λ n h. absurd h }
+      by false false = record { goes_on = refl; sends = λ n h. absurd h }
+
+  -- by what the send is made inside of
+  out_plain : (m : Sending) (x : Option Inside) → inside ≡ x → IsPlain (hands_out p x me m S) (held_objects inside) (if is_for_later x m.target then [] else (if is_other_starter t p m.target then [] else Proc m.target ∷ []))
+  out_plain m None e = now_plain m
+  out_plain m (Some i) e = by (i.members m.target)
+    where
+      by : (b : Bool) → IsPlain (if b then posts_now p m else holds p i me m S) (held_objects inside)
+          (if not b then [] else (if is_other_starter t p m.target then [] else Proc m.target ∷ []))
+      by true = now_plain m
+      by false = held_mild (holds p i me m S) (holds_plain i m)
+
+  signal_plain : (target signo : Option ℕ) (value : ℤ) → IsPlain (sends_signal p inside me target signo value S) (held_objects inside) (send_row t p target signo)
+  unfolding inside
+  signal_plain None None value = held_mild _ (Mild.done_mild p (failing InvalidArgument) me)
+  signal_plain None (Some signo) value = held_mild _ (Mild.done_mild p (failing NoSuchProcess) me)
+  signal_plain (Some n) None value = held_mild _ (Mild.done_mild p (failing InvalidArgument) me)
+  signal_plain (Some n) (Some signo) value = out_plain (sent_by me n signo value) inside refl
+
+  -- what is so of a call, by what it may come to: it is plain, or it ends its process
+  data Comes (f : Effect) (os row : List Object) : Type 0 where
+    Plainly : IsPlain f os row → Comes f os row
+    Ends : (status : ℕ) (now : Process) → now.parent ≡ me.parent → f ≡ ending inside p status now S → os ≡ ending_objects inside p me S → row ≡ ending_row t p me S → Comes f os row
+
+  exit_comes : (v : ℤ) → Comes (exit_effect inside p v me S) (exit_objects inside p me S) (if p == 1 then [] else ending_row t p me S)
+  exit_comes v = by (p == 1)
+    where
+      by : (b : Bool) → Comes (if b then done p (failing NotPermitted) me else ending inside p (exit_status v) me S) (if b then [] else ending_objects inside p me S)
+          (if b then [] else ending_row t p me S)
+      by true = Plainly (mild_plain (done p (failing NotPermitted) me) [] [] (Mild.done_mild p (failing NotPermitted) me) refl)
+      by false = Ends (exit_status v) me refl refl refl refl
+
+  acts_come : (signo : ℕ) (value : ℤ) (what : Disposition) → Comes (acts_on inside p signo value what (relieved signo me) S) (if kills what then ending_objects inside p me S else [])
+      (if kills what then ending_row t p me S else [])
+  acts_come signo value Ignored = Plainly (mild_plain _ [] [] (Mild.ignored_mild p (relieved signo me)) refl)
+  acts_come signo value Fatal = Ends (killed_status signo) (relieved signo me) refl refl refl refl
+  acts_come signo value (Caught point mask) = by (is_full (relieved signo me))
+    where
+      by : (b : Bool) → Comes (if b then idle FramesFull else own_effect p (record { process = caught signo value point mask (relieved signo me); reply = Done value })) [] []
+      by true = Plainly (mild_plain (idle FramesFull) [] [] (Mild.idle_mild p FramesFull) refl)
+      by false = Plainly (mild_plain (own_effect p (record { process = caught signo value point mask (relieved signo me); reply = Done value })) [] []
+          (Mild.own_mild p (record { process = caught signo value point mask (relieved signo me); reply = Done value }) refl) refl)
+
+  delivers_come : (signo : ℕ) (value : Option ℤ) → Comes (delivers inside p signo me value S) (if ends_by inside signo me value then ending_objects inside p me S else [])
+      (if ends_by inside signo me value then ending_row t p me S else [])
+  delivers_come signo None = Plainly (mild_plain (idle NotDeliverable) [] [] (Mild.idle_mild p NotDeliverable) refl)
+  delivers_come signo (Some value) = by (is_deferred inside signo)
+    where
+      what : Disposition
+      what = disposition signo (action_at signo me)
+
+      by : (b : Bool) → Comes (if b then idle Deferred else acts_on inside p signo value what (relieved signo me) S) (if (if b then false else kills what) then ending_objects inside p me S else [])
+          (if (if b then false else kills what) then ending_row t p me S else [])
+      by true = Plainly (mild_plain (idle Deferred) [] [] (Mild.idle_mild p Deferred) refl)
+      by false = acts_come signo value what
+
+  -- every call but those of transactions
+  call_comes : (c : Call) → (kind_of c ≡ Leaving → ⊥) → Comes (call_effect inside p c me S) (call_objects inside c p me S) (call_row t p c me S)
+  call_comes (call.Map page) h = Plainly (mild_plain _ [] [] (Mild.own_mild p (remembers (map_page (page_of page) me.memory) me) refl) refl)
+  call_comes (call.Unmap page) h = Plainly (mild_plain _ [] [] (Mild.own_mild p (remembers (unmap_page (page_of page) me.memory) me) refl) refl)
+  call_comes (call.Protect page writable) h = Plainly (mild_plain _ [] [] (Mild.own_mild p (remembers (protect_page (page_of page) writable me.memory) me) refl) refl)
+  call_comes (call.Store address bytes) h = Plainly (mild_plain _ [] [] (Mild.own_mild p (remembers (store_bytes address bytes.items me.memory) me) refl) refl)
+  call_comes (call.Load address) h = Plainly (mild_plain _ [] [] (Mild.own_mild p (remembers (load_byte address me.memory) me) refl) refl)
+  call_comes (call.Fork child) h = Plainly (mild_plain _ _ _ (Mild.fork_mild p child.0 me S) refl)
+  call_comes (call.Exit status) h = exit_comes status
+  call_comes (call.Waitpid n nohang) h = Plainly (mild_plain _ _ _ (Mild.waitpid_mild p n nohang me S) refl)
+  call_comes call.Getpid h = Plainly (mild_plain _ [] [] (Mild.done_mild p (pos p) me) refl)
+  call_comes call.Getppid h = Plainly (mild_plain _ [] [] (Mild.done_mild p (pos me.parent) me) refl)
+  call_comes (call.Setuid u) h = Plainly (mild_plain _ [] [] (Mild.own_mild p (identifies (set_user (id_of u) me.ids) me) refl) refl)
+  call_comes (call.Seteuid u) h = Plainly (mild_plain _ [] [] (Mild.own_mild p (identifies (set_effective_user (id_of u) me.ids) me) refl) refl)
+  call_comes (call.Setgid g) h = Plainly (mild_plain _ [] [] (Mild.own_mild p (identifies (set_group (id_of g) me.ids) me) refl) refl)
+  call_comes (call.Setegid g) h = Plainly (mild_plain _ [] [] (Mild.own_mild p (identifies (set_effective_group (id_of g) me.ids) me) refl) refl)
+  call_comes (call.Pipe q r w) h = Plainly (mild_plain _ _ _ (Mild.pipe_mild p q.0 r.0 w.0 me S) refl)
+  call_comes (call.Dup f) h = Plainly (mild_plain _ _ _ (Mild.dup_mild p me (named me (descriptor f))) refl)
+  call_comes (call.Dup2 f g) h = Plainly (mild_plain _ _ _ (Mild.dup2_mild p (descriptor f) (descriptor g) me S) refl)
+  call_comes (call.Close f) h = Plainly (mild_plain _ _ _ (Mild.close_mild p (descriptor f) me S) refl)
+  call_comes (call.SetNonblock f on) h = Plainly (mild_plain _ _ _ (Mild.nonblock_mild p on me (named me (descriptor f)) S) refl)
+  call_comes (call.Read f address n) h = Plainly (mild_plain _ _ _ (Mild.read_mild p (named me (descriptor f)) address n me S) refl)
+  call_comes (call.Write f address n) h = Plainly (mild_plain _ _ _ (Mild.write_mild p (named me (descriptor f)) address n me S) refl)
+  call_comes (call.Kill n signo) h = Plainly (signal_plain (numbered S.width n) (sendable signo) (pos 0))
+  call_comes (call.Sigqueue n signo value) h = Plainly (signal_plain (numbered S.width n) (sendable signo) value)
+  call_comes (call.Sigaction signo action) h = Plainly (mild_plain _ [] [] (Mild.action_mild p (known signo) action me) refl)
+  call_comes (call.Sigprocmask how set) h = Plainly (mild_plain _ [] [] (Mild.own_mild p (masks how set me) refl) refl)
+  call_comes call.Sigpending h = Plainly (mild_plain _ [] [] (Mild.own_mild p (tells_pending me) refl) refl)
+  call_comes call.Sigreturn h = Plainly (mild_plain _ [] [] (Mild.return_mild p (newest me.frames) me) refl)
+  call_comes (call.ConsoleWrite address n) h = Plainly (mild_plain _ [] [] (Mild.console_mild p inside address n me) refl)
+  call_comes (call.Jump point when) h = Plainly (mild_plain _ [] [] (Mild.jump_mild p point when me) refl)
+  call_comes (call.Keep slot) h = Plainly (mild_plain _ [] [] (Mild.keep_mild p (below SLOTS slot) me) refl)
+  call_comes call.SysXbegin h = Plainly (mild_plain _ [] [] (Mild.done_mild p (failing InvalidArgument) me) refl)
+  call_comes call.SysXbeginDefer h = Plainly (mild_plain _ [] [] (Mild.done_mild p (failing InvalidArgument) me) refl)
+  call_comes call.SysXend h = absurd (h refl)
+  call_comes call.SysXabort h = Plainly (mild_plain _ [] [] (Mild.done_mild p (failing InvalidArgument) me) refl)
+
+  -- a step that is made as an event of its own: what it does, and what it names
+  module _ (step : Step) (f : Effect) (os row : List Object) (who : process_of step ≡ p) (E : effect (Do step inside) S ≡ f) (O : objects (Do step inside) S ≡ Proc p ∷ os)
+      (R : footprint t step S ≡ Proc p ∷ row) where
+    ev : Event
+    ev = Do step inside
+
+    event_is : event_footprint t ev S ≡ (Proc p ∷ os) ++ targets t p f.sends
+    unfolding event_footprint ev
+    event_is =
+        ap₂ (λ (xs : List Object) (g : Effect). xs ++ targets t (process_of step) g.sends) O E
+        ∙ ap (λ (n : ℕ). (Proc p ∷ os) ++ targets t n f.sends) who
+
+    plain_foot : IsPlain f os row → has o (footprint t step S) ≡ has o (event_footprint t ev S)
+    plain_foot k = ap (has o) R ∙ k.same ∙ ap (has o) (sym event_is)
+
+    says_is : (b : Bool) → ((rs : List ℤ) → says_ended (concluding_reply f.conclusion f.sends rs) ≡ b) → says_ended (reply_of ev S) ≡ b
+    unfolding reply_of ev
+    says_is b h = ap (λ (g : Effect). says_ended (concluding_reply g.conclusion g.sends (send_answers g S))) E ∙ h (send_answers f S)
+
+    plain_role : IsPlain f os row → (mark : Option Mark) → has o (footprint t step S) ≡ has o (event_footprint t (event_in (kind_role t p Ordinary (reply_of ev S) mark) ev) S)
+    plain_role k None = plain_foot k
+    plain_role k (Some m) = rw (says_is false (λ rs. goes_says f.conclusion f.sends rs k.goes_on)) (plain_foot k)
+
+    -- where it ends its process, it commits if it is the last
+    module _ (status : ℕ) (now : Process) (same_parent : now.parent ≡ me.parent) (ends : f ≡ ending inside p status now S) (named_is : os ≡ ending_objects inside p me S) (row_is : row ≡ ending_row t p me S) where
+      plain : List Object
+      plain = ending_plain t o shared S p status me now same_parent
+
+      more : List Sending
+      more = told_for_later t p me.parent
+
+      row_both : has o (footprint t step S) ≡ (if has o (Proc p ∷ plain) then true else has o (commit_row t p more S))
+      unfolding plain more ending_plain
+      row_both = ap (has o) R ∙ ap (λ (xs : List Object). has o (Proc p ∷ xs)) row_is ∙ has_both o (Proc p ∷ ending_plain t o shared S p status me now same_parent) (commit_row t p more S)
+
+      plain_is : has o (Proc p ∷ plain) ≡ has o (event_footprint t ev S)
+      unfolding plain inside
+      plain_is =
+          plain_same t o shared S p status me now same_parent
+          ∙ ap₂ (λ (xs : List Object) (g : Effect). has o ((Proc p ∷ xs) ++ targets t p g.sends)) (sym named_is) (sym ends)
+          ∙ ap (has o) (sym event_is)
+
+      ends_alone : commit_row t p more S ≡ [] → has o (footprint t step S) ≡ has o (event_footprint t ev S)
+      unfolding has
+      ends_alone none = row_both ∙ ap₂ (λ (b : Bool) (xs : List Object). if b then true else has o xs) plain_is none ∙ or_none (has o (event_footprint t ev S))
+
+      says_end : says_ended (reply_of ev S) ≡ true
+      says_end = says_is true (λ rs. ap (λ (g : Effect). says_ended (concluding_reply g.conclusion g.sends rs)) ends)
+
+      -- what is held then
+      held_is : (m : Mark) → t.marks p ≡ Some m → (written (effect ev S).writes S).held m.starter.0 ≡ S.held m.starter.0 ++ more
+      unfolding ev more inside
+      held_is m e =
+          let i : Inside = record { starter = m.starter.0; members = is_member_of t m.starter.0; defers = m.defers } in
+          let in_is : inside_by t (t.marks p) ≡ Some i = ap (inside_by t) e in
+          ap (λ (g : Effect). (written g.writes S).held m.starter.0) (E ∙ ends ∙ ap (λ (x : Option Inside). ending x p status now S) in_is)
+          ∙ ending_held t o shared S p status me now same_parent i
+          ∙ ap₂ (λ (x : Option Inside) (n : ℕ). S.held m.starter.0 ++ (if n == 1 then [] else (if is_for_later x n then told_to n ∷ [] else []))) (sym in_is) same_parent
+
+      ends_role : (mark : Option Mark) → t.marks p ≡ mark → has o (footprint t step S) ≡ has o (event_footprint t (event_in (kind_role t p Ordinary (reply_of ev S) mark) ev) S)
+      unfolding ev
+      ends_role None e = ends_alone (ap (λ (x : Option Mark). commit_row_of t p x more S) e)
+      ends_role (Some m) e = rw says_end (by (others_open t m.starter.0 p t.width) refl)
+        where
+          by : (b : Bool) → others_open t m.starter.0 p t.width ≡ b
+              → has o (footprint t step S) ≡ has o (event_footprint t (event_in (member_end_role b m.starter.0) ev) S)
+          by true h = ends_alone (ap (λ (x : Option Mark). commit_row_of t p x more S) e ∙ ap (λ (b : Bool). if b then [] else targets t p (S.held m.starter.0 ++ more)) h)
+          by false h =
+              row_both
+              ∙ ap₂ (λ (b : Bool) (xs : List Object). if b then true else has o xs) plain_is
+              (ap (λ (x : Option Mark). commit_row_of t p x more S) e ∙ ap (λ (b : Bool). if b then [] else targets t p (S.held m.starter.0 ++ more)) h
+              ∙ ap (λ (n : ℕ). targets t n (S.held m.starter.0 ++ more)) (sym who))
+              ∙ sym (commit_foot t o shared S ev m.starter.0 more (held_is m e))
+
+    step_foot : Comes f os row → has o (footprint t step S) ≡ has o (event_footprint t (event_in (kind_role t p Ordinary (reply_of ev S) (t.marks p)) ev) S)
+    step_foot (Plainly k) = plain_role k (t.marks p)
+    step_foot (Ends status now a b c d) = ends_role status now a b c d (t.marks p) refl
+
+  -- a note names its process
+  module _ (step : Step) (R : footprint t step S ≡ Proc p ∷ []) where
+    note_foot : (r : ℤ) → has o (footprint t step S) ≡ has o (event_footprint t (Note p r) S)
+    unfolding event_footprint objects effect targets
+    note_foot r = ap (has o) R
+
+  again : (b c : Bool) → (if b then true else c) ≡ (if (if b then true else false) then true else c)
+  again true c = refl
+  again false c = refl
+
+  note_held : (s : ℕ) (r : ℤ) → (written (effect (Note p r) S).writes S).held s ≡ S.held s ++ []
+  unfolding effect written
+  note_held s r = sym (append-nil (S.held s))
+
+  -- a sys_xend: that of the last member commits
+  leaving_foot : (step : Step) → footprint t step S ≡ Proc p ∷ commit_row t p [] S → (mark : Option Mark) → t.marks p ≡ mark → (r : Reply)
+      → has o (footprint t step S) ≡ has o (event_footprint t (event_in (kind_role t p Leaving r mark) (kind_event t p step Leaving mark)) S)
+  unfolding has event_footprint objects targets effect
+  leaving_foot step row None e r = note_foot step (row ∙ ap (λ (x : Option Mark). Proc p ∷ commit_row_of t p x [] S) e) (negsuc 21)
+  leaving_foot step row (Some m) e r = by (others_open t m.starter.0 p t.width) refl
+    where
+      held : List Object
+      held = targets t p (S.held m.starter.0 ++ [])
+
+      row_is : (b : Bool) → others_open t m.starter.0 p t.width ≡ b → footprint t step S ≡ Proc p ∷ (if b then [] else held)
+      row_is b h = row ∙ ap (λ (x : Option Mark). Proc p ∷ commit_row_of t p x [] S) e ∙ ap (λ (c : Bool). Proc p ∷ (if c then [] else targets t p (S.held m.starter.0 ++ []))) h
+
+      last : footprint t step S ≡ Proc p ∷ held → has o (footprint t step S) ≡ (if has o (event_footprint t (Note p (pos 0)) S) then true else has o held)
+      last h = ap (has o) h ∙ again (same_object o (Proc p)) (has o held)
+
+      by : (b : Bool) → others_open t m.starter.0 p t.width ≡ b → has o (footprint t step S) ≡ has o (event_footprint t (event_in (member_end_role b m.starter.0) (Note p (pos 0))) S)
+      by true h = note_foot step (row_is true h) (pos 0)
+      by false h = last (row_is false h) ∙ sym (commit_foot t o shared S (Note p (pos 0)) m.starter.0 [] (note_held m.starter.0 (pos 0)))
+
+  -- a fork, and the calls that have no row
+  fork_plain : (c : Call) (n : ℕ) → kind_of c ≡ Forking n → IsPlain (call_effect inside p c me S) (call_objects inside c p me S) (call_row t p c me S)
+  fork_plain (call.Fork child) n e = mild_plain _ _ _ (Mild.fork_mild p child.0 me S) refl
+  fork_plain c n e = cc
+
+  begin_row : (c : Call) (defers : Bool) → kind_of c ≡ Beginning defers → call_row t p c me S ≡ []
+  begin_row call.SysXbegin defers e = refl
+  begin_row call.SysXbeginDefer defers e = refl
+  begin_row c defers e = cc
+
+  abort_row : (c : Call) → kind_of c ≡ Aborting → call_row t p c me S ≡ []
+  abort_row call.SysXabort e = refl
+  abort_row c e = cc
+
+  leave_row : (c : Call) → kind_of c ≡ Leaving → call_row t p c me S ≡ commit_row t p [] S
+  leave_row call.SysXend e = refl
+  leave_row c e = cc
+
+running_of : (x : Option Process) → is_running x ≡ true → (me : Process) × (x ≡ Some me) × (me.status ≡ None)
+running_of None h = cc
+running_of (Some me) h = (me, refl, by me.status h)
+  where
+    by : (status : Option ℕ) → is_none status ≡ true → status ≡ None
+    by None k = refl
+    by (Some n) k = cc
+
+-- a call
+module _ (t : Table) (o : Object) (shared : is_shared o ≡ true) (S : State) (pid : Pid) (c : Call) (me : Process) (here : S.procs pid.0 ≡ Some me) (runs : me.status ≡ None) where
+  row_of : footprint t (Calls pid c) S ≡ Proc pid.0 ∷ call_row t pid.0 c me S
+  unfolding footprint
+  row_of = ap (λ (x : Option Process). Proc pid.0 ∷ call_row_at t pid.0 c x S) here
+
+  effect_of : effect (Do (Calls pid c) (inside_by t (t.marks pid.0))) S ≡ call_effect (inside_by t (t.marks pid.0)) pid.0 c me S
+  unfolding effect
+  effect_of = ap (effect_at (inside_by t (t.marks pid.0)) pid.0 (MakesCall c) S) here ∙ ap (running_effect (inside_by t (t.marks pid.0)) pid.0 (MakesCall c) S me) runs
+
+  objects_of : objects (Do (Calls pid c) (inside_by t (t.marks pid.0))) S ≡ Proc pid.0 ∷ call_objects (inside_by t (t.marks pid.0)) c pid.0 me S
+  unfolding objects
+  objects_of = ap (λ (x : Option Process). Proc pid.0 ∷ objects_at (inside_by t (t.marks pid.0)) pid.0 (MakesCall c) S x) here
+
+  -- by the kind of the call
+  call_foot : (k : Kind) → kind_of c ≡ k → (r : Reply) → r ≡ reply_of (kind_event t pid.0 (Calls pid c) k (t.marks pid.0)) S → is_abort (kind_role t pid.0 k r (t.marks pid.0)) ≡ false
+      → has o (footprint t (Calls pid c) S) ≡ has o (event_footprint t (event_in (kind_role t pid.0 k r (t.marks pid.0)) (kind_event t pid.0 (Calls pid c) k (t.marks pid.0))) S)
+  unfolding inside ev
+  call_foot Ordinary e r is h =
+      subst (λ (x : Reply). has o (footprint t (Calls pid c) S) ≡ has o (event_footprint t (event_in (kind_role t pid.0 Ordinary x (t.marks pid.0)) (Do (Calls pid c) (inside_by t (t.marks pid.0)))) S)) (sym is)
+      (step_foot t o shared S pid.0 me (Calls pid c) (call_effect (inside_by t (t.marks pid.0)) pid.0 c me S) (call_objects (inside_by t (t.marks pid.0)) c pid.0 me S) (call_row t pid.0 c me S)
+      refl effect_of objects_of row_of (call_comes t o shared S pid.0 me c (λ z. let no : Ordinary ≡ Leaving = sym e ∙ z in cc)))
+  call_foot (Forking n) e r is h = by (t.marks pid.0)
+    where
+      alone : has o (footprint t (Calls pid c) S) ≡ has o (event_footprint t (Do (Calls pid c) (inside_by t (t.marks pid.0))) S)
+      alone = plain_foot t o shared S pid.0 me (Calls pid c) (call_effect (inside_by t (t.marks pid.0)) pid.0 c me S) (call_objects (inside_by t (t.marks pid.0)) c pid.0 me S) (call_row t pid.0 c me S)
+          refl effect_of objects_of row_of (fork_plain t o shared S pid.0 me c n e)
+
+      by : (mark : Option Mark) → has o (footprint t (Calls pid c) S) ≡ has o (event_footprint t (event_in (kind_role t pid.0 (Forking n) r mark) (Do (Calls pid c) (inside_by t (t.marks pid.0)))) S)
+      by None = alone
+      by (Some m) = alone
+  call_foot (Beginning defers) e r is h = by (t.marks pid.0)
+    where
+      named : (x : ℤ) → has o (footprint t (Calls pid c) S) ≡ has o (event_footprint t (Note pid.0 x) S)
+      named = note_foot t o shared S pid.0 me (Calls pid c) (row_of ∙ ap (λ (os : List Object). Proc pid.0 ∷ os) (begin_row t o shared S pid.0 me c defers e))
+
+      by : (mark : Option Mark) → has o (footprint t (Calls pid c) S) ≡ has o (event_footprint t (event_in (kind_role t pid.0 (Beginning defers) r mark) (kind_event t pid.0 (Calls pid c) (Beginning defers) mark)) S)
+      by None = named (pos 0)
+      by (Some m) = named (negsuc 21)
+  call_foot Leaving e r is h =
+      leaving_foot t o shared S pid.0 me (Calls pid c) (row_of ∙ ap (λ (os : List Object). Proc pid.0 ∷ os) (leave_row t o shared S pid.0 me c e)) (t.marks pid.0) refl r
+  call_foot Aborting e r is h = by (t.marks pid.0) h
+    where
+      by : (mark : Option Mark) → is_abort (kind_role t pid.0 Aborting r mark) ≡ false
+          → has o (footprint t (Calls pid c) S) ≡ has o (event_footprint t (event_in (kind_role t pid.0 Aborting r mark) (kind_event t pid.0 (Calls pid c) Aborting mark)) S)
+      by None k = note_foot t o shared S pid.0 me (Calls pid c) (row_of ∙ ap (λ (os : List Object). Proc pid.0 ∷ os) (abort_row t o shared S pid.0 me c e)) (negsuc 21)
+      by (Some m) k = cc
+
+-- a delivery
+module _ (t : Table) (o : Object) (shared : is_shared o ≡ true) (S : State) (pid : Pid) (signo : Signo) (me : Process) (here : S.procs pid.0 ≡ Some me) (runs : me.status ≡ None) where
+  delivery_row_of : footprint t (Deliver pid signo) S ≡ Proc pid.0 ∷ delivery_row t pid.0 signo.0 me S
+  unfolding footprint
+  delivery_row_of = ap (λ (x : Option Process). Proc pid.0 ∷ delivery_row_at t pid.0 signo.0 x S) here
+
+  delivery_effect_of : effect (Do (Deliver pid signo) (inside_by t (t.marks pid.0))) S ≡ delivery_effect (inside_by t (t.marks pid.0)) pid.0 signo.0 me S
+  unfolding effect
+  delivery_effect_of = ap (effect_at (inside_by t (t.marks pid.0)) pid.0 (TakesSignal signo.0) S) here ∙ ap (running_effect (inside_by t (t.marks pid.0)) pid.0 (TakesSignal signo.0) S me) runs
+
+  delivery_objects_of : objects (Do (Deliver pid signo) (inside_by t (t.marks pid.0))) S ≡ Proc pid.0 ∷ delivery_objects (inside_by t (t.marks pid.0)) pid.0 signo.0 me S
+  unfolding objects
+  delivery_objects_of = ap (λ (x : Option Process). Proc pid.0 ∷ objects_at (inside_by t (t.marks pid.0)) pid.0 (TakesSignal signo.0) S x) here
+
+  delivery_foot : has o (footprint t (Deliver pid signo) S) ≡ has o (event_footprint t (event_in (kind_role t pid.0 Ordinary (reply_of (Do (Deliver pid signo) (inside_by t (t.marks pid.0))) S) (t.marks pid.0))
+      (Do (Deliver pid signo) (inside_by t (t.marks pid.0)))) S)
+  unfolding inside ev
+  delivery_foot =
+      step_foot t o shared S pid.0 me (Deliver pid signo) (delivery_effect (inside_by t (t.marks pid.0)) pid.0 signo.0 me S) (delivery_objects (inside_by t (t.marks pid.0)) pid.0 signo.0 me S)
+      (delivery_row t pid.0 signo.0 me S) refl delivery_effect_of delivery_objects_of delivery_row_of (delivers_come t o shared S pid.0 me signo.0 (delivered_value signo.0 me))
+
+-- the footprint of a step is that of its event
+pub footprint_of_event : FootprintIsOfEvent
+footprint_of_event V (Calls pid c) o runs h shared =
+    let r = running_of ((present V).procs pid.0) runs in
+    call_foot V.table o shared (present V) pid c r.0 r.1 r.2 (kind_of c) refl (first_reply V (Calls pid c)) refl h
+footprint_of_event V (Deliver pid signo) o runs h shared =
+    let r = running_of ((present V).procs pid.0) runs in
+    delivery_foot V.table o shared (present V) pid signo r.0 r.1 r.2
+footprint_of_event V (KernelAbort s) o runs h shared = cc

@@ -1,0 +1,13 @@
+use Rattle.tx_laws.proofs.SharedFootprints.{footprint_held}
+use Rattle.tx_laws.proofs.StepFootprints.{footprint_of_event}
+use Rattle.tx_laws.proofs.StepHolders.{holder_of_step}
+use Rattle.tx_laws.proofs.footprints.Goals as goal
+
+pub returns-clause-of_event : goal.returns-clause-of_event
+returns-clause-of_event c = footprint_of_event
+
+pub returns-clause-holder : goal.returns-clause-holder
+returns-clause-holder c = holder_of_step
+
+pub returns-clause-shared : goal.returns-clause-shared
+returns-clause-shared c = footprint_held

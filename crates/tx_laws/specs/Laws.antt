@@ -1,0 +1,47 @@
+-- The laws of histories and of the views of histories, one statement a name. Own rules.
+use Rattle.std.specs.Prelude.{◌≡◌, List, [], ◌∷◌, ◌++◌}
+use Rattle.tx_base.specs.declared.steps.Accepted.{Accepted}
+use Rattle.tx_base.specs.declared.steps.Step.{Step}
+use Rattle.tx_model.specs.State.{State}
+use Rattle.tx_model.specs.History.{Starters, survivors}
+use Rattle.tx_model.specs.Schedules.{history_of}
+use Rattle.tx_model.specs.View.{View, view, next}
+use Rattle.tx_model.specs.Answer.{answer, IsAccepted, Lawful, Agreement}
+use Rattle.tx_laws.specs.Places.{survivors_by_place}
+use Rattle.tx_laws.specs.Sound.{IsSound}
+use Rattle.tx_laws.specs.WellFormed.{IsWellFormed}
+
+-- each surviving step of a prefix of a lawful history has the reply of its event in the plain run of the survivors
+abbrev pub PrefixesAgree : Type 0
+PrefixesAgree = (start : State) (later earlier : List Accepted) → Lawful start (later ++ earlier) → Agreement start earlier
+
+-- the survivors, told by places, are the survivors
+abbrev pub SurvivorsAreByPlace : Type 0
+SurvivorsAreByPlace = (start : State) (left_out : Starters) (history : List Accepted) →
+    survivors start left_out history ≡ survivors_by_place start left_out [] history
+
+-- the view of a lawful history is the next view of that of the entries before its last
+abbrev pub LawfulViewIsNext : Type 0
+LawfulViewIsNext = (start : State) (last : Accepted) (earlier : List Accepted) →
+    Lawful start (last ∷ earlier) → view start (last ∷ earlier) ≡ next (view start earlier) last.step
+
+-- the view of a lawful history is sound
+abbrev pub LawfulViewIsSound : Type 0
+LawfulViewIsSound = (start : State) (history : List Accepted) → Lawful start history → IsSound (view start history)
+
+-- the view of the empty history is sound
+abbrev pub StartIsSound : Type 0
+StartIsSound = (start : State) → IsSound (view start [])
+
+-- the next view of a sound view by an accepted step is sound
+abbrev pub NextIsSound : Type 0
+NextIsSound = (view : View) (step : Step) → IsSound view → IsAccepted (answer view step) → IsSound (next view step)
+
+-- where every state of a sound view is well formed, so is every state of the next view by an accepted step
+abbrev pub NextIsWellFormed : Type 0
+NextIsWellFormed = (view : View) (step : Step) → IsSound view → IsAccepted (answer view step) →
+    ((left_out : Starters) → IsWellFormed (view.without left_out)) → (left_out : Starters) → IsWellFormed ((next view step).without left_out)
+
+-- what a schedule of steps leaves after a lawful history is a lawful history
+abbrev pub SchedulesAreLawful : Type 0
+SchedulesAreLawful = (start : State) (history : List Accepted) (steps : List Step) → Lawful start history → Lawful start (history_of start history steps)
