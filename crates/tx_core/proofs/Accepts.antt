@@ -17,6 +17,7 @@ use Rattle.tx_proc.specs.Processes.{process_in}
 use Rattle.tx_core.specs.Content.{view_of, IsContent}
 use Rattle.tx_core.specs.Plans.{proc_after, only_answers, IsPlainCall, IsRunning, memory_call}
 use Rattle.tx_core.specs.Steps.{IsStep, IsXabort, Steps}
+use Rattle.tx_core.specs.Laws.{MachineLaws}
 use Rattle.tx_core.specs.declared.inverse.Inverse.{Inverse}
 use Rattle.tx_core.specs.declared.kernel.Kernel.{Kernel}
 use Rattle.tx_core.proofs.Cases.{plain_role, plain_case, begins_case, commits_case, aborts_case}
@@ -29,16 +30,15 @@ use Rattle.std.proofs.lemmas.Bool.{both_ways}
 use Rattle.tx_model.specs.Membership.{Begins, Within, Commits, Aborts, Beginning, Aborting, kind_of, called_by_status, is_live}
 use Rattle.tx_model.specs.State.{State}
 use Rattle.tx_model.specs.View.{View, view, present, next, kernel_status}
-use Rattle.tx_laws.proofs.Erased.{lawful_next}
 
-module _ (k : Kernel) (pid : Pid) (q : Proc) (i : IsContent k) (here : slot_at k.parts.procs pid.0 ≡ Some q) (runs : q.status ≡ None) where
+module _ (laws : MachineLaws) (k : Kernel) (pid : Pid) (q : Proc) (i : IsContent k) (here : slot_at k.parts.procs pid.0 ≡ Some q) (runs : q.status ≡ None) where
   plain_accepted : (call : Call) (mark : Option Mark) → slot_at k.marks pid.0 ≡ mark → IsPlainCall call mark → IsAccepted (answer (view_of k) (Calls pid call))
   plain_accepted call mark is plain =
-      let pc = plain_case k pid call mark q here runs is plain in
+      let pc = plain_case laws k pid call mark q here runs is plain in
       let r : ℤ = (memory_call q.space call).ret in
-      let reply = plain_reply_is k pid.0 pc.event (process_in (Some (proc_after q (memory_call q.space call)))) r pc.plain in
-      let own = plain_own k pid.0 pc.event (process_in (Some (proc_after q (memory_call q.space call)))) r pc.plain in
-      subst IsAccepted (sym (reply_of_case k pid call q (plain_role mark) pc.event (Done r) plain.0 i here runs pc.is_case own (by mark pc.event ∙ reply))) tt
+      let reply = plain_reply_is laws k pid.0 pc.event (process_in (Some (proc_after q (memory_call q.space call)))) r pc.plain in
+      let own = plain_own laws k pid.0 pc.event (process_in (Some (proc_after q (memory_call q.space call)))) r pc.plain in
+      subst IsAccepted (sym (reply_of_case laws k pid call q (plain_role mark) pc.event (Done r) plain.0 i here runs pc.is_case own (by mark pc.event ∙ reply))) tt
     where
       by : (mark : Option Mark) (ev : Event) → plain_reply called_by_status (plain_role mark) ev (present (view_of k)) ≡ reply_of ev (present (view_of k))
       by None ev = refl
@@ -48,22 +48,22 @@ module _ (k : Kernel) (pid : Pid) (q : Proc) (i : IsContent k) (here : slot_at k
   begins_accepted call defers kind free =
       let y = process_in (Some (proc_after q (only_answers q (pos 0)))) in
       let plain : IsPlain k pid.0 (Note pid.0 (pos 0)) y (pos 0) = note_plain k pid.0 (pos 0) q here in
-      subst IsAccepted (sym (reply_of_case k pid call q (Within pid.0 (Begins defers)) (Note pid.0 (pos 0)) (Done (pos 0)) (begins_built call defers kind) i here runs (begins_case k pid call defers kind free)
-      (plain_own k pid.0 (Note pid.0 (pos 0)) y (pos 0) plain) (plain_reply_is k pid.0 (Note pid.0 (pos 0)) y (pos 0) plain))) tt
+      subst IsAccepted (sym (reply_of_case laws k pid call q (Within pid.0 (Begins defers)) (Note pid.0 (pos 0)) (Done (pos 0)) (begins_built call defers kind) i here runs (begins_case k pid call defers kind free)
+      (plain_own laws k pid.0 (Note pid.0 (pos 0)) y (pos 0) plain) (plain_reply_is laws k pid.0 (Note pid.0 (pos 0)) y (pos 0) plain))) tt
 
   commit_accepted : (m : Mark) → slot_at k.marks pid.0 ≡ Some m → IsAccepted (answer (view_of k) (Calls pid SysXend))
   commit_accepted m mark =
       let y = process_in (Some (proc_after q (only_answers q (pos 0)))) in
       let plain : IsPlain k pid.0 (Note pid.0 (pos 0)) y (pos 0) = note_plain k pid.0 (pos 0) q here in
-      subst IsAccepted (sym (reply_of_case k pid SysXend q (Commits pid.0) (Commit pid.0 (Note pid.0 (pos 0))) (Committed (record { items = [] })) tt i here runs (commits_case k pid m i mark)
-      (commit_own k pid.0 (Note pid.0 (pos 0)) y (pos 0) plain) (commit_reply_is k pid.0 (Note pid.0 (pos 0)) y (pos 0) plain))) tt
+      subst IsAccepted (sym (reply_of_case laws k pid SysXend q (Commits pid.0) (Commit pid.0 (Note pid.0 (pos 0))) (Committed (record { items = [] })) tt i here runs (commits_case k pid m i mark)
+      (commit_own laws k pid.0 (Note pid.0 (pos 0)) y (pos 0) plain) (commit_reply_is laws k pid.0 (Note pid.0 (pos 0)) y (pos 0) plain))) tt
 
   abort_accepted : (m : Mark) → slot_at k.marks pid.0 ≡ Some m → IsAccepted (answer (view_of k) (Calls pid SysXabort))
   abort_accepted m mark =
       let y = process_in (Some (proc_after q (only_answers q (negsuc 200)))) in
       let plain : IsPlain k pid.0 (Note pid.0 (negsuc 200)) y (negsuc 200) = note_plain k pid.0 (negsuc 200) q here in
-      subst IsAccepted (sym (reply_of_case k pid SysXabort q (Aborts pid.0 called_by_status) (Note pid.0 (negsuc 200)) (Aborted called_by_status) tt i here runs (aborts_case k pid m i mark)
-      (plain_own k pid.0 (Note pid.0 (negsuc 200)) y (negsuc 200) plain) refl)) tt
+      subst IsAccepted (sym (reply_of_case laws k pid SysXabort q (Aborts pid.0 called_by_status) (Note pid.0 (negsuc 200)) (Aborted called_by_status) tt i here runs (aborts_case k pid m i mark)
+      (plain_own laws k pid.0 (Note pid.0 (negsuc 200)) y (negsuc 200) plain) refl)) tt
 
   pub running_accepted : (call : Call) (mark : Option Mark) → slot_at k.marks pid.0 ≡ mark → IsBuiltCall call → IsAccepted (answer (view_of k) (Calls pid call))
   running_accepted (Map page) mark is b = plain_accepted (Map page) mark is (tt, tt)
@@ -81,26 +81,26 @@ module _ (k : Kernel) (pid : Pid) (q : Proc) (i : IsContent k) (here : slot_at k
   running_accepted SysXabort (Some m) is b = abort_accepted m is
   running_accepted call mark is b = absurd b
 
-pub accepted_at : (k : Kernel) (pid : Pid) (call : Call) → IsBuiltCall call → IsContent k → IsRunning (slot_at k.parts.procs pid.0) → IsAccepted (answer (view_of k) (Calls pid call))
-accepted_at k pid call built i runs = by (slot_at k.parts.procs pid.0) refl runs
+pub accepted_at : (laws : MachineLaws) (k : Kernel) (pid : Pid) (call : Call) → IsBuiltCall call → IsContent k → IsRunning (slot_at k.parts.procs pid.0) → IsAccepted (answer (view_of k) (Calls pid call))
+accepted_at laws k pid call built i runs = by (slot_at k.parts.procs pid.0) refl runs
   where
     by : (x : Option Proc) → slot_at k.parts.procs pid.0 ≡ x → IsRunning x → IsAccepted (answer (view_of k) (Calls pid call))
     by None here r = absurd r
-    by (Some q) here r = running_accepted k pid q i here r call (slot_at k.marks pid.0) refl built
+    by (Some q) here r = running_accepted laws k pid q i here r call (slot_at k.marks pid.0) refl built
 
 -- one more entry of a history whose view the machine has
 pub record IsAlong (start : State) (entries : List Accepted) (new : Kernel) : Type 0 where
   pub lawful : Lawful start entries
   pub view : view_of new ≡ view start entries
 
-pub along : (old new : Kernel) (step : Step) (reply : Reply) (inverse : Inverse) → IsStep old step reply inverse new → (start : State) (earlier : List Accepted) → IsAlong start earlier old
+pub along : (laws : MachineLaws) (old new : Kernel) (step : Step) (reply : Reply) (inverse : Inverse) → IsStep old step reply inverse new → (start : State) (earlier : List Accepted) → IsAlong start earlier old
     → IsAlong start (record { step = step; reply = reply } ∷ earlier) new
 unfolding Lawful
-along old new step reply inverse made start earlier a =
+along laws old new step reply inverse made start earlier a =
     let law : Lawful start (record { step = step; reply = reply } ∷ earlier) = (a.lawful, ap (λ (V : View). answer V step) (sym a.view) ∙ made.answered, made.accepted) in
     record {
       lawful = law;
-      view = made.next ∙ ap (λ (V : View). next V step) a.view ∙ sym (lawful_next start (record { step = step; reply = reply }) earlier law);
+      view = made.next ∙ ap (λ (V : View). next V step) a.view ∙ sym (laws.history start (record { step = step; reply = reply }) earlier law);
     }
 
 not_accepted : (reply : Reply) → reply ≡ No NoMemory → IsAccepted reply → ⊥
@@ -128,10 +128,10 @@ module _ (old new : Kernel) (step : Step) (reply : Reply) where
   steps_accepted None h a = elim h.1 [ inl n ↦ absurd (not_accepted reply n.0 a) | inr b ↦ absurd (b.1 a) ]
   steps_accepted (Some inverse) h a = refl
 
-  pub steps_along : (o : Option Inverse) → Steps old step reply o new → IsAccepted reply → (start : State) (earlier : List Accepted) → Lawful start earlier → view_of old ≡ view start earlier
+  pub steps_along : (laws : MachineLaws) (o : Option Inverse) → Steps old step reply o new → IsAccepted reply → (start : State) (earlier : List Accepted) → Lawful start earlier → view_of old ≡ view start earlier
       → Lawful start (record { step = step; reply = reply } ∷ earlier) × (view_of new ≡ view start (record { step = step; reply = reply } ∷ earlier))
-  steps_along None h a start earlier l v = elim h.1 [ inl n ↦ absurd (not_accepted reply n.0 a) | inr b ↦ absurd (b.1 a) ]
-  steps_along (Some inverse) h a start earlier l v = let z = along old new step reply inverse h start earlier (record { lawful = l; view = v }) in (z.lawful, z.view)
+  steps_along laws None h a start earlier l v = elim h.1 [ inl n ↦ absurd (not_accepted reply n.0 a) | inr b ↦ absurd (b.1 a) ]
+  steps_along laws (Some inverse) h a start earlier l v = let z = along laws old new step reply inverse h start earlier (record { lawful = l; view = v }) in (z.lawful, z.view)
 
 -- what there is
 pub some_of : (x : Option ℕ) → is_some x ≡ true → (n : ℕ) × (x ≡ Some n)

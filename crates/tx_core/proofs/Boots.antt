@@ -7,20 +7,15 @@ use Rattle.tx_base.specs.declared.marks.Mark.{Mark}
 use Rattle.tx_change.specs.Laws.{HaveAllPlaces}
 use Rattle.tx_change.specs.declared.change.Change.{Change}
 use Rattle.tx_core.specs.Content.{kept_in, state_of, starter_in, two_parts_of, view_of, IsContent}
+use Rattle.tx_core.specs.Laws.{MachineLaws}
 use Rattle.tx_core.specs.declared.kernel.Kernel.{Kernel}
 use Rattle.tx_core.proofs.Cases.{own_mark}
 use Rattle.tx_core.proofs.Replies.{present_is, table_is}
-use Rattle.tx_laws.proofs.Erased.{start_sound}
-use Rattle.tx_laws.proofs.TwoPartsView.{view_ext}
-use Rattle.tx_model.specs.Events.{run}
-use Rattle.tx_model.specs.History.{Starters, survivors, without, table_of, touched_of}
 use Rattle.tx_model.specs.Membership.{Table, is_of, is_live}
-use Rattle.tx_model.specs.State.{State, Object, Proc as TheProc, Desc, Pipe, Held, booted, booted_process, is_between, AgreePart}
+use Rattle.tx_model.specs.State.{State, Object, Proc as TheProc, Desc, Pipe, Held, booted, booted_process, is_between}
 use Rattle.tx_laws.specs.Sound.{IsSound}
-use Rattle.tx_laws.specs.TwoParts.{is_owner, parts_without, parts_view}
 use Rattle.tx_model.specs.View.{view, present, has_pending}
 use Rattle.tx_model.specs.SignalSets.{kill_signo}
-use Rattle.tx_model.specs.StateLaws.{state_ext}
 use Rattle.tx_proc.specs.Processes.{process_in}
 use Rattle.tx_proc.specs.declared.proc.Proc.{Proc}
 
@@ -33,19 +28,13 @@ none_at : {A : Type 0} (slots : List (Option A)) (w n : ℕ) → slots ≡ repli
 none_at slots w zero h = refl
 none_at {A} slots w (suc n) h = ap (λ (xs : List (Option A)). get_or xs n None) h ∙ same_in w n None
 
-module _ (k : Kernel) (width count : ℕ) (state : state_of k.parts ≡ booted width count) (places : HaveAllPlaces k.parts)
+module _ (laws : MachineLaws) (k : Kernel) (width count : ℕ) (state : state_of k.parts ≡ booted width count) (places : HaveAllPlaces k.parts)
     (marks : k.marks ≡ replicate width None) (logs : k.logs ≡ replicate width None) where
   no_mark : (n : ℕ) → slot_at k.marks n ≡ None
   no_mark n = none_at k.marks width n marks
 
   sized : length k.parts.procs ≡ width
   sized = ap (λ (S : State). S.width) state
-
-  part_at : (X : Starters) (o : Object) → AgreePart (parts_without (two_parts_of k) X) (booted width count) o
-  part_at X (TheProc n) = rw (no_mark n) (ap (λ (S : State). S.procs n) state)
-  part_at X (Desc n) = ap (λ (S : State). S.descs n) state
-  part_at X (Pipe n) = ap (λ (S : State). S.pipes n) state
-  part_at X (Held n) = rw (no_mark n) refl
 
   -- no signal is pending at a booted process
   calm : (n : ℕ) → has_pending kill_signo ((state_of k.parts).procs n) ≡ false
@@ -56,17 +45,14 @@ module _ (k : Kernel) (width count : ℕ) (state : state_of k.parts ≡ booted w
       by false = refl
 
   pub booted_view : view_of k ≡ view (booted width count) []
-  unfolding view_of parts_view view without survivors run table_of touched_of
-  booted_view = view_ext (view_of k) (view (booted width count) [])
-      (λ X. state_ext (parts_without (two_parts_of k) X) (booted width count) sized (part_at X))
-      (λ i. record { width = sized i; marks = λ n. no_mark n i })
-      touched
+  unfolding view_of
+  booted_view = laws.start (booted width count) (two_parts_of k) state nobody_owns (λ i. record { width = sized i; marks = λ n. no_mark n i })
     where
-      touched : (s : ℕ) (o : Object) → is_owner s ((two_parts_of k).owner o) ≡ false
-      touched s (TheProc n) = ap (λ (x : Option Mark). is_owner s (starter_in x)) (no_mark n)
-      touched s (Desc n) = refl
-      touched s (Pipe n) = refl
-      touched s (Held n) = ap (λ (x : Option Mark). is_owner s (starter_in x)) (no_mark n)
+      nobody_owns : (o : Object) → (two_parts_of k).owner o ≡ None
+      nobody_owns (TheProc n) = ap starter_in (no_mark n)
+      nobody_owns (Desc n) = refl
+      nobody_owns (Pipe n) = refl
+      nobody_owns (Held n) = ap starter_in (no_mark n)
 
   pub booted_content : width ≤ 256 → IsContent k
   booted_content few = record {
@@ -77,7 +63,7 @@ module _ (k : Kernel) (width count : ℕ) (state : state_of k.parts ≡ booted w
     calm = calm;
     calm_kept = λ n. calm_kept (slot_at k.parts.procs n) (slot_at k.logs n) (none_at k.logs width n logs) (calm n);
     marked = λ n. rw (no_mark n, none_at k.logs width n logs) tt;
-    sound = subst IsSound (sym booted_view) (start_sound (booted width count));
+    sound = subst IsSound (sym booted_view) (laws.start_sound (booted width count));
   }
     where
       calm_kept : (slot : Option Proc) (log : Option (List Change)) → log ≡ None → has_pending kill_signo (process_in slot) ≡ false → has_pending kill_signo (kept_in slot log) ≡ false
@@ -86,8 +72,8 @@ module _ (k : Kernel) (width count : ℕ) (state : state_of k.parts ≡ booted w
       calm_kept (Some proc) (Some log) e h = cc
 
 -- what the readers say
-pub state_read : (k : Kernel) → state_of k.parts ≡ present (view_of k)
-state_read k = sym (present_is k)
+pub state_read : (laws : MachineLaws) (k : Kernel) → state_of k.parts ≡ present (view_of k)
+state_read laws k = sym (present_is laws k)
 
 pub marks_read : (k : Kernel) (n : ℕ) → slot_at k.marks n ≡ (view_of k).table.marks n
 marks_read k n = sym (ap (λ (t : Table). t.marks n) (table_is k))

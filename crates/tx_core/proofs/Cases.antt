@@ -14,6 +14,7 @@ use Rattle.tx_core.specs.Built.{IsBuiltCall}
 use Rattle.tx_proc.specs.Processes.{process_in}
 use Rattle.tx_core.specs.Content.{table_in, view_of, IsMarked, IsContent}
 use Rattle.tx_core.specs.Plans.{proc_after, IsPlainCall, memory_call}
+use Rattle.tx_core.specs.Laws.{MachineLaws}
 use Rattle.tx_core.specs.declared.kernel.Kernel.{Kernel}
 use Rattle.tx_core.proofs.Replies.{IsPlain, do_plain, note_plain, plain_reply_is}
 use Rattle.tx_model.specs.Events.{Event, Do, Note, Commit, reply_of}
@@ -53,16 +54,16 @@ pub record IsPlainCase (k : Kernel) (pid : Pid) (call : Call) (mark : Option Mar
   pub is_case : IsCase k (Calls pid call) (plain_role mark) event
   pub plain : IsPlain k pid.0 event (process_in (Some (proc_after q (memory_call q.space call)))) (memory_call q.space call).ret
 
-ordinary_case : (k : Kernel) (pid : Pid) (call : Call) (mark : Option Mark) (q : Proc) → slot_at k.parts.procs pid.0 ≡ Some q → q.status ≡ None → slot_at k.marks pid.0 ≡ mark → IsBuiltCall call → kind_of call ≡ Ordinary → IsPlainCase k pid call mark q
-ordinary_case k pid call None q here runs mark built kind = record {
+ordinary_case : (laws : MachineLaws) (k : Kernel) (pid : Pid) (call : Call) (mark : Option Mark) (q : Proc) → slot_at k.parts.procs pid.0 ≡ Some q → q.status ≡ None → slot_at k.marks pid.0 ≡ mark → IsBuiltCall call → kind_of call ≡ Ordinary → IsPlainCase k pid call mark q
+ordinary_case laws k pid call None q here runs mark built kind = record {
   event = Do (Calls pid call) None;
   is_case = case_of k pid call Ordinary None kind mark;
   plain = do_plain k pid call None q built here runs;
 }
-ordinary_case k pid call (Some m) q here runs mark built kind =
+ordinary_case laws k pid call (Some m) q here runs mark built kind =
     let ev : Event = Do (Calls pid call) (inside_by (table_in k) (Some m)) in
     let plain = do_plain k pid call (inside_by (table_in k) (Some m)) q built here runs in
-    let first = plain_reply_is k pid.0 ev (process_in (Some (proc_after q (memory_call q.space call)))) (memory_call q.space call).ret plain in
+    let first = plain_reply_is laws k pid.0 ev (process_in (Some (proc_after q (memory_call q.space call)))) (memory_call q.space call).ret plain in
     let same : ordinary_role (says_ended (reply_of ev (present (view_of k)))) (table_in k) m.starter.0 pid.0 ≡ Within m.starter.0 Continues
     = ap (λ (r : Reply). ordinary_role (says_ended r) (table_in k) m.starter.0 pid.0) first in
     let z = case_of k pid call Ordinary (Some m) kind mark in
@@ -72,21 +73,21 @@ ordinary_case k pid call (Some m) q here runs mark built kind =
       plain = plain;
     }
 
-pub plain_case : (k : Kernel) (pid : Pid) (call : Call) (mark : Option Mark) (q : Proc) → slot_at k.parts.procs pid.0 ≡ Some q → q.status ≡ None → slot_at k.marks pid.0 ≡ mark → IsPlainCall call mark → IsPlainCase k pid call mark q
-plain_case k pid (Map page) mark q here runs is h = ordinary_case k pid (Map page) mark q here runs is tt refl
-plain_case k pid (Unmap page) mark q here runs is h = ordinary_case k pid (Unmap page) mark q here runs is tt refl
-plain_case k pid (Protect page w) mark q here runs is h = ordinary_case k pid (Protect page w) mark q here runs is tt refl
-plain_case k pid (Store address bytes) mark q here runs is h = ordinary_case k pid (Store address bytes) mark q here runs is tt refl
-plain_case k pid (Load address) mark q here runs is h = ordinary_case k pid (Load address) mark q here runs is tt refl
-plain_case k pid SysXbegin None q here runs is h = absurd h.1
-plain_case k pid SysXbegin (Some m) q here runs is h = record { event = Note pid.0 (negsuc 21); is_case = case_of k pid SysXbegin (Beginning false) (Some m) refl is; plain = note_plain k pid.0 (negsuc 21) q here }
-plain_case k pid SysXbeginDefer None q here runs is h = absurd h.1
-plain_case k pid SysXbeginDefer (Some m) q here runs is h = record { event = Note pid.0 (negsuc 21); is_case = case_of k pid SysXbeginDefer (Beginning true) (Some m) refl is; plain = note_plain k pid.0 (negsuc 21) q here }
-plain_case k pid SysXend None q here runs is h = record { event = Note pid.0 (negsuc 21); is_case = case_of k pid SysXend Leaving None refl is; plain = note_plain k pid.0 (negsuc 21) q here }
-plain_case k pid SysXend (Some m) q here runs is h = absurd h.1
-plain_case k pid SysXabort None q here runs is h = record { event = Note pid.0 (negsuc 21); is_case = case_of k pid SysXabort Aborting None refl is; plain = note_plain k pid.0 (negsuc 21) q here }
-plain_case k pid SysXabort (Some m) q here runs is h = absurd h.1
-plain_case k pid call mark q here runs is h = absurd h.0
+pub plain_case : (laws : MachineLaws) (k : Kernel) (pid : Pid) (call : Call) (mark : Option Mark) (q : Proc) → slot_at k.parts.procs pid.0 ≡ Some q → q.status ≡ None → slot_at k.marks pid.0 ≡ mark → IsPlainCall call mark → IsPlainCase k pid call mark q
+plain_case laws k pid (Map page) mark q here runs is h = ordinary_case laws k pid (Map page) mark q here runs is tt refl
+plain_case laws k pid (Unmap page) mark q here runs is h = ordinary_case laws k pid (Unmap page) mark q here runs is tt refl
+plain_case laws k pid (Protect page w) mark q here runs is h = ordinary_case laws k pid (Protect page w) mark q here runs is tt refl
+plain_case laws k pid (Store address bytes) mark q here runs is h = ordinary_case laws k pid (Store address bytes) mark q here runs is tt refl
+plain_case laws k pid (Load address) mark q here runs is h = ordinary_case laws k pid (Load address) mark q here runs is tt refl
+plain_case laws k pid SysXbegin None q here runs is h = absurd h.1
+plain_case laws k pid SysXbegin (Some m) q here runs is h = record { event = Note pid.0 (negsuc 21); is_case = case_of k pid SysXbegin (Beginning false) (Some m) refl is; plain = note_plain k pid.0 (negsuc 21) q here }
+plain_case laws k pid SysXbeginDefer None q here runs is h = absurd h.1
+plain_case laws k pid SysXbeginDefer (Some m) q here runs is h = record { event = Note pid.0 (negsuc 21); is_case = case_of k pid SysXbeginDefer (Beginning true) (Some m) refl is; plain = note_plain k pid.0 (negsuc 21) q here }
+plain_case laws k pid SysXend None q here runs is h = record { event = Note pid.0 (negsuc 21); is_case = case_of k pid SysXend Leaving None refl is; plain = note_plain k pid.0 (negsuc 21) q here }
+plain_case laws k pid SysXend (Some m) q here runs is h = absurd h.1
+plain_case laws k pid SysXabort None q here runs is h = record { event = Note pid.0 (negsuc 21); is_case = case_of k pid SysXabort Aborting None refl is; plain = note_plain k pid.0 (negsuc 21) q here }
+plain_case laws k pid SysXabort (Some m) q here runs is h = absurd h.1
+plain_case laws k pid call mark q here runs is h = absurd h.0
 
 pub begins_case : (k : Kernel) (pid : Pid) (call : Call) (defers : Bool) → kind_of call ≡ Beginning defers → slot_at k.marks pid.0 ≡ None → IsCase k (Calls pid call) (Within pid.0 (Begins defers)) (Note pid.0 (pos 0))
 begins_case k pid call defers kind free = case_of k pid call (Beginning defers) None kind free

@@ -1,5 +1,5 @@
 -- What a step leaves of the machine is what a machine may keep, and its inverse leads back.
-use Rattle.std.proofs.Common.{◌≡◌, ℕ, ◌-◌, ◌≤◌, Bool, true, false, List, [], ◌∷◌, ◌++◌, take, drop, length, Option, Some, None, option_map, if◌then◌else◌, ◌==◌, refl, sym, ap, ap₂, ◌∙◌, subst, inl, inr, eqb-true, arith, length-append}
+use Rattle.std.proofs.Common.{◌≡◌, ℕ, ◌-◌, ◌≤◌, Bool, true, false, List, [], ◌∷◌, ◌++◌, take, drop, length, Option, Some, None, option_map, if◌then◌else◌, ◌==◌, refl, sym, ap, ap₂, ◌∙◌, subst, inl, inr, eqb-true, eq-eqb, arith, length-append}
 use Rattle.std.proofs.lemmas.List.{drop_at, take_at}
 use Rattle.tx_base.specs.Slots.{slot_at}
 use Rattle.tx_base.specs.declared.marks.Mark.{Mark}
@@ -21,8 +21,9 @@ use Rattle.tx_core.specs.Content.{kept_in, two_parts_of, view_of, IsMarked, IsCo
 use Rattle.tx_model.specs.SignalSets.{kill_signo}
 use Rattle.tx_proc.specs.Laws.{IsSized}
 use Rattle.tx_proc.specs.Processes.{process_in}
-use Rattle.tx_core.specs.Steps.{IsLocal}
+use Rattle.tx_core.specs.Steps.{IsNamedBy, InFootprint, WasTouched, IsLocal}
 use Rattle.tx_core.specs.Undo.{changes_of, IsAmong}
+use Rattle.tx_core.specs.Laws.{MachineLaws}
 use Rattle.tx_core.specs.declared.inverse.Inverse.{Inverse}
 use Rattle.tx_core.specs.declared.kernel.Kernel.{Kernel}
 use Rattle.tx_core.proofs.Cases.{IsCase}
@@ -30,17 +31,14 @@ use Rattle.tx_core.specs.Built.{IsBuiltCall}
 use Rattle.tx_core.proofs.Replies.{IsOwn, answer_is, no_holder}
 use Rattle.tx_base.proofs.SlotFacts.{slot_at-with_slot}
 use Rattle.tx_model.specs.Answer.{plain_reply, answer, IsAccepted}
-use Rattle.tx_model.specs.Events.{Event, process_of, actor}
-use Rattle.tx_model.specs.History.{event_footprint}
-use Rattle.tx_model.specs.Membership.{Role, called_by_status}
+use Rattle.tx_model.specs.Events.{Event, process_of}
+use Rattle.tx_model.specs.Footprints.{footprint}
+use Rattle.tx_model.specs.Membership.{Role, Aborts, is_live, called_by_status}
+use Rattle.tx_laws.specs.Fits.{ends_it}
 use Rattle.tx_laws.specs.Sound.{IsSound}
-use Rattle.tx_model.specs.State.{Object, Proc as TheProc, has}
+use Rattle.tx_model.specs.State.{Proc as TheProc, has}
 use Rattle.tx_laws.specs.TwoParts.{parts_view, parts_next}
-use Rattle.tx_model.specs.View.{View, present, has_pending, event_on, holder, next}
-use Rattle.tx_laws.proofs.Coherence.{actor_foot}
-use Rattle.tx_laws.proofs.Erased.{next_sound}
-use Rattle.tx_laws.proofs.StepView.{parts_step_view}
-use Rattle.tx_laws.proofs.Taken.{taken}
+use Rattle.tx_model.specs.View.{View, present, has_pending, role_on, holder, next}
 
 -- a slot that has this anyway
 pub if_at : {A : Type 0} (slots : List (Option A)) (p : ℕ) (x : Option A) (n : ℕ) → slot_at slots p ≡ x → slot_at slots n ≡ (if n == p then x else slot_at slots n)
@@ -55,22 +53,22 @@ pub record IsNext (k : Kernel) (step : Step) (new : Kernel) : Type 0 where
   pub view : view_of new ≡ next (view_of k) step
   pub sound : IsSound (view_of new)
 
-pub next_of : (k new : Kernel) (step : Step) (R : Role) (ev : Event) → IsContent k → IsCase k step R ev → IsAccepted (answer (view_of k) step)
+pub next_of : (laws : MachineLaws) (k new : Kernel) (step : Step) (R : Role) (ev : Event) → IsContent k → IsCase k step R ev → IsAccepted (answer (view_of k) step)
     → view_of new ≡ parts_view (parts_next R ev (process_of step) (two_parts_of k)) → IsNext k step new
 unfolding view_of
-next_of k new step R ev i is acc same =
+next_of laws k new step R ev i is acc same =
     let V : View = view_of k in
     let to : parts_view (parts_next R ev (process_of step) (two_parts_of k)) ≡ next V step
     = ap₂ (λ (x : Role) (y : Event). parts_view (parts_next x y (process_of step) (two_parts_of k))) (sym is.role_is) (sym is.event_is)
-    ∙ parts_step_view (two_parts_of k) step i.sound acc in
+    ∙ laws.step (two_parts_of k) step i.sound acc in
     let all : view_of new ≡ next V step = same ∙ to in
-    record { view = all; sound = subst IsSound (sym all) (next_sound V step (answer V step) i.sound (taken V step (answer V step) i.sound refl acc)) }
+    record { view = all; sound = subst IsSound (sym all) (laws.next_sound V step i.sound acc) }
 
 -- the reply to a step that nobody is in the way of
-pub reply_of_case : (k : Kernel) (pid : Pid) (call : Call) (q : Proc) (R : Role) (ev : Event) (reply : Reply) → IsBuiltCall call → IsContent k → slot_at k.parts.procs pid.0 ≡ Some q → q.status ≡ None
+pub reply_of_case : (laws : MachineLaws) (k : Kernel) (pid : Pid) (call : Call) (q : Proc) (R : Role) (ev : Event) (reply : Reply) → IsBuiltCall call → IsContent k → slot_at k.parts.procs pid.0 ≡ Some q → q.status ≡ None
     → IsCase k (Calls pid call) R ev → IsOwn k pid.0 ev → plain_reply called_by_status R ev (present (view_of k)) ≡ reply → answer (view_of k) (Calls pid call) ≡ reply
-reply_of_case k pid call q R ev reply built i here runs is own r =
-    answer_is k pid call q built i here runs (subst (λ (x : Event). holder (view_of k) x ≡ None) (sym is.event_is) (no_holder k pid.0 ev own))
+reply_of_case laws k pid call q R ev reply built i here runs is own r =
+    answer_is laws k pid call q built i here runs (subst (λ (x : Event). holder (view_of k) x ≡ None) (sym is.event_is) (no_holder k pid.0 ev own))
     ∙ ap₂ (λ (x : Role) (y : Event). plain_reply called_by_status x y (present (view_of k))) is.role_is is.event_is ∙ r
 
 among_own : (n : ℕ) (c : Change) (cs : List Change) → AreOf n cs → IsAmong c cs → object_of c ≡ TheProc n
@@ -78,12 +76,18 @@ among_own n c [] own h = absurd h
 among_own n c (x ∷ cs) own (inl h) = ap object_of h ∙ object-own n x own.0
 among_own n c (x ∷ cs) own (inr h) = among_own n c cs own.1 h
 
--- an inverse that names process p alone, of a step whose event p makes
-pub local_of : (k new : Kernel) (step : Step) (R : Role) (ev : Event) (p : ℕ) (inverse : Inverse) → IsCase k step R ev → actor ev ≡ p → AreOf p (changes_of new inverse) → IsLocal k step new inverse
-local_of k new step R ev p inverse is who own change among =
-    let V : View = view_of k in
-    let who' : TheProc (actor (event_on V step)) ≡ object_of change = ap TheProc (ap actor is.event_is ∙ who) ∙ sym (among_own p change (changes_of new inverse) own among) in
-    subst (λ (o : Object). has o (event_footprint V.table (event_on V step) (present V)) ≡ true) who' (actor_foot V.table (event_on V step) (present V))
+-- an inverse that changes process p alone, which the step names
+pub local_of : (k new : Kernel) (step : Step) (p : ℕ) (inverse : Inverse) → IsNamedBy (view_of k) step (TheProc p) → AreOf p (changes_of new inverse) → IsLocal k step new inverse
+local_of k new step p inverse names own change among = subst (IsNamedBy (view_of k) step) (sym (among_own p change (changes_of new inverse) own among)) names
+
+-- a call names its process
+pub own_named : (V : View) (pid : Pid) (call : Call) → IsNamedBy V (Calls pid call) (TheProc pid.0)
+unfolding has footprint
+own_named V pid call = InFootprint (rw (eq-eqb pid.0 pid.0 refl) refl)
+
+-- the abort of a live transaction names its starter
+pub starter_named : (V : View) (step : Step) (s status : ℕ) → IsSound V → role_on V step ≡ Aborts s status → is_live V.table s ≡ true → IsNamedBy V step (TheProc s)
+starter_named V step s status sound role live = WasTouched s (ap (ends_it s) role ∙ eq-eqb s s refl) (sound.own_procs s s live)
 
 pub AreOf_append : (n : ℕ) (front behind : List Change) → AreOf n front → AreOf n behind → AreOf n (front ++ behind)
 AreOf_append n [] behind f b = b

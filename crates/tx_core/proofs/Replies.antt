@@ -1,5 +1,5 @@
 -- What the machine answers, and what a step is to its transactions.
-use Rattle.std.proofs.Common.{◌≡◌, ◌<◌, ◌≤◌, ℕ, zero, suc, Bool, true, false, not, List, [], ◌∷◌, ◌++◌, length, ℤ, Option, Some, None, if◌then◌else◌, ◌==◌, get_or, refl, ap, ap₂, ◌∙◌, subst, inl, inr, ◌⊎◌, eqb-true, arith, lt-ltb}
+use Rattle.std.proofs.Common.{◌≡◌, ◌<◌, ◌≤◌, ℕ, zero, suc, Bool, true, false, not, List, [], ◌∷◌, ◌++◌, length, ℤ, Option, Some, None, if◌then◌else◌, get_or, refl, sym, ap, ap₂, ◌∙◌, subst, inl, inr, ◌⊎◌, arith, lt-ltb}
 use Rattle.tx_base.specs.Slots.{slot_at}
 use Rattle.tx_base.specs.declared.marks.Mark.{Mark}
 use Rattle.tx_base.specs.declared.names.Pid.{Pid}
@@ -16,6 +16,7 @@ use Rattle.tx_core.specs.Content.{state_of, kept_in, starter_in, owner_at, table
 use Rattle.tx_core.specs.Plans.{proc_after, only_answers, memory_call}
 use Rattle.tx_core.specs.Undo.{HasSlot}
 use Rattle.tx_core.specs.Built.{IsBuiltCall}
+use Rattle.tx_core.specs.Laws.{MachineLaws}
 use Rattle.tx_core.specs.declared.kernel.Kernel.{Kernel}
 use Rattle.tx_core.proofs.OfBuilt.{built_effect, built_objects, built_numbers}
 use Rattle.tx_core.proofs.Views.{set_effect}
@@ -26,15 +27,13 @@ use Rattle.tx_model.specs.Events.{Event, Do, Note, Commit, actor, effect, object
 use Rattle.tx_model.specs.History.{just, targets, event_footprint}
 use Rattle.tx_model.specs.Membership.{Table, is_of, is_member_of, is_live}
 use Rattle.tx_model.specs.Posts.{answers}
-use Rattle.tx_model.specs.State.{Process, State, Sending, written, Object, Proc as TheProc, Desc, Pipe, Held, is_between, has}
+use Rattle.tx_model.specs.State.{Process, State, Sending, written, Object, Proc as TheProc, Held, is_between}
 use Rattle.tx_laws.specs.TwoParts.{in_set, is_owner, parts_view}
 use Rattle.tx_model.specs.View.{View, present, has_pending, is_doomed, event_on, meets, differs_at, has_two_answers, meets_touched, blocks, in_way, least, holder}
-use Rattle.tx_laws.proofs.Objects.{has_head, has_tail}
-use Rattle.tx_laws.proofs.TwoPartsView.{parts_nobody}
 
-pub present_is : (k : Kernel) → present (view_of k) ≡ state_of k.parts
+pub present_is : (laws : MachineLaws) (k : Kernel) → present (view_of k) ≡ state_of k.parts
 unfolding view_of parts_view
-present_is k = parts_nobody (two_parts_of k)
+present_is laws k = laws.present (two_parts_of k)
 
 pub table_is : (k : Kernel) → (view_of k).table ≡ table_in k
 unfolding view_of parts_view
@@ -76,10 +75,17 @@ owner_of : (s : ℕ) (x : Option Mark) → is_owner s (starter_in x) ≡ is_of s
 owner_of s None = refl
 owner_of s (Some m) = refl
 
-meets_none : (F : List Object) (P : Object → Bool) → ((o : Object) → has o F ≡ true → P o ≡ false) → meets F P ≡ false
-unfolding has meets
-meets_none [] P h = refl
-meets_none (o ∷ F) P h = rw (h o (has_head o F)) (meets_none F P (λ x e. h x (has_tail x o F e)))
+-- each of them is process p, or what it holds
+abbrev pub AreOwn : ℕ → List Object → Type 0
+AreOwn p [] = Unit {0}
+AreOwn p (o ∷ os) = ((o ≡ TheProc p) ⊎ (o ≡ Held p)) × AreOwn p os
+
+meets_none : (p : ℕ) (F : List Object) (P : Object → Bool) → P (TheProc p) ≡ false → P (Held p) ≡ false → AreOwn p F → meets F P ≡ false
+unfolding meets
+meets_none p [] P one two own = refl
+meets_none p (o ∷ F) P one two own =
+    let here : P o ≡ false = elim own.0 [ inl h ↦ ap P h ∙ one | inr h ↦ ap P h ∙ two ] in
+    rw here (meets_none p F P one two own.1)
 
 least_all : (P : ℕ → Bool) (n : ℕ) → ((t : ℕ) → P t ≡ false) → least P n ≡ None
 unfolding least
@@ -94,7 +100,7 @@ other_parts false y h = cc
 -- an event of process p that names it alone, or what it holds, and posts nothing
 pub record IsOwn (k : Kernel) (p : ℕ) (ev : Event) : Type 0 where
   pub actor_is : actor ev ≡ p
-  pub objects_are : (o : Object) → has o (event_footprint (table_in k) ev (present (view_of k))) ≡ true → (o ≡ TheProc p) ⊎ (o ≡ Held p)
+  pub objects_are : AreOwn p (event_footprint (table_in k) ev (present (view_of k)))
   pub sends_are : (effect ev (present (view_of k))).sends ≡ []
 
 -- nobody is in the way of such an event
@@ -109,27 +115,26 @@ no_holder k p ev own = least_all (in_way (view_of k) ev) (length k.parts.procs) 
         out : is_of s (slot_at k.marks p) ≡ false
         out = subst (λ (q : ℕ). is_of s (slot_at k.marks q) ≡ false) own.actor_is (other_parts (is_live (table_in k) s) (is_member_of (table_in k) s (actor ev)) e)
 
-        at_object : (o : Object) → (o ≡ TheProc p) ⊎ (o ≡ Held p) → is_owner s (owner_at k o) ≡ false
-        at_object o (inl h) = ap (λ (x : Object). is_owner s (owner_at k x)) h ∙ owner_of s (slot_at k.marks p) ∙ out
-        at_object o (inr h) = ap (λ (x : Object). is_owner s (owner_at k x)) h ∙ owner_of s (slot_at k.marks p) ∙ out
+        mine : is_owner s (starter_in (slot_at k.marks p)) ≡ false
+        mine = owner_of s (slot_at k.marks p) ∙ out
 
         met : meets_touched (view_of k) ev s ≡ false
-        met = meets_none (event_footprint (table_in k) ev (present (view_of k))) (λ o. is_owner s (owner_at k o)) (λ o h. at_object o (own.objects_are o h))
+        met = meets_none p (event_footprint (table_in k) ev (present (view_of k))) (λ o. is_owner s (owner_at k o)) mine mine own.objects_are
 
         two : has_two_answers (view_of k) ev s ≡ false
         two = ap (λ (ms : List Sending). differs_at s ms (send_answers (effect ev (present (view_of k))) (present (view_of k))) (send_answers (effect ev (present (view_of k))) ((view_of k).without (just s)))) own.sends_are
 
 -- a step of a running process that nobody is in the way of is accepted
-pub answer_is : (k : Kernel) (pid : Pid) (call : Call) (q : Proc) → IsBuiltCall call → IsContent k → slot_at k.parts.procs pid.0 ≡ Some q → q.status ≡ None → holder (view_of k) (event_on (view_of k) (Calls pid call)) ≡ None
+pub answer_is : (laws : MachineLaws) (k : Kernel) (pid : Pid) (call : Call) (q : Proc) → IsBuiltCall call → IsContent k → slot_at k.parts.procs pid.0 ≡ Some q → q.status ≡ None → holder (view_of k) (event_on (view_of k) (Calls pid call)) ≡ None
     → answer (view_of k) (Calls pid call) ≡ accepted_reply (view_of k) (Calls pid call)
 unfolding answer
-answer_is k pid call q built i here runs clear = ap (λ (x : Option Refusal). unless_refused x (accepted_reply (view_of k) (Calls pid call))) none
+answer_is laws k pid call q built i here runs clear = ap (λ (x : Option Refusal). unless_refused x (accepted_reply (view_of k) (Calls pid call))) none
   where
     V : View
     V = view_of k
 
     at_p : (present V).procs pid.0 ≡ Some (process_of q)
-    at_p = ap (λ (S : State). S.procs pid.0) (present_is k) ∙ ap process_in here
+    at_p = ap (λ (S : State). S.procs pid.0) (present_is laws k) ∙ ap process_in here
 
     there : is_there V pid.0 ≡ true
     there =
@@ -149,7 +154,7 @@ answer_is k pid call q built i here runs clear = ap (λ (x : Option Refusal). un
     kill = rw calm refl
       where
         calm : has_pending kill_signo ((present V).procs pid.0) ≡ false
-        calm = ap (λ (S : State). has_pending kill_signo (S.procs pid.0)) (present_is k) ∙ i.calm pid.0
+        calm = ap (λ (S : State). has_pending kill_signo (S.procs pid.0)) (present_is laws k) ∙ i.calm pid.0
 
     numbers : (has_bad_number V.table.width (Calls pid call) ≡ false) × (has_number_in_use (present V) (Calls pid call) ≡ false)
     numbers = built_numbers V.table.width pid call (present V) built
@@ -157,15 +162,15 @@ answer_is k pid call q built i here runs clear = ap (λ (x : Option Refusal). un
     none : refusal V pid.0 (Calls pid call) ≡ None
     none = rw (there, running, numbers.0, numbers.1, not_doomed_at k i (V.table.marks pid.0), parked, kill, clear) refl
 
-pub no_process : (k : Kernel) (pid : Pid) (call : Call) → slot_at k.parts.procs pid.0 ≡ None → answer (view_of k) (Calls pid call) ≡ No NoProcess
+pub no_process : (laws : MachineLaws) (k : Kernel) (pid : Pid) (call : Call) → slot_at k.parts.procs pid.0 ≡ None → answer (view_of k) (Calls pid call) ≡ No NoProcess
 unfolding answer
-no_process k pid call none = rw (gone) refl
+no_process laws k pid call none = rw (gone) refl
   where
     V : View
     V = view_of k
 
     at_p : (present V).procs pid.0 ≡ None
-    at_p = ap (λ (S : State). S.procs pid.0) (present_is k) ∙ ap process_in none
+    at_p = ap (λ (S : State). S.procs pid.0) (present_is laws k) ∙ ap process_in none
 
     gone : is_there V pid.0 ≡ false
     gone = rw at_p (by (is_between V.table.width pid.0))
@@ -174,15 +179,15 @@ no_process k pid call none = rw (gone) refl
         by true = refl
         by false = refl
 
-pub not_running : (k : Kernel) (pid : Pid) (call : Call) (q : Proc) (status : ℕ) → slot_at k.parts.procs pid.0 ≡ Some q → q.status ≡ Some status → answer (view_of k) (Calls pid call) ≡ No NotRunning
+pub not_running : (laws : MachineLaws) (k : Kernel) (pid : Pid) (call : Call) (q : Proc) (status : ℕ) → slot_at k.parts.procs pid.0 ≡ Some q → q.status ≡ Some status → answer (view_of k) (Calls pid call) ≡ No NotRunning
 unfolding answer
-not_running k pid call q status here ended = rw (there, running) refl
+not_running laws k pid call q status here ended = rw (there, running) refl
   where
     V : View
     V = view_of k
 
     at_p : (present V).procs pid.0 ≡ Some (process_of q)
-    at_p = ap (λ (S : State). S.procs pid.0) (present_is k) ∙ ap process_in here
+    at_p = ap (λ (S : State). S.procs pid.0) (present_is laws k) ∙ ap process_in here
 
     there : is_there V pid.0 ≡ true
     there =
@@ -225,32 +230,21 @@ pub note_plain : (k : Kernel) (p : ℕ) (r : ℤ) (q : Proc) → slot_at k.parts
 unfolding objects
 note_plain k p r q here = record { actor_is = refl; objects_are = λ S. refl; effect_is = note_effect_is k p r q here }
 
-module _ (k : Kernel) (p : ℕ) (ev : Event) (y : Option Process) (r : ℤ) (plain : IsPlain k p ev y r) where
+module _ (laws : MachineLaws) (k : Kernel) (p : ℕ) (ev : Event) (y : Option Process) (r : ℤ) (plain : IsPlain k p ev y r) where
   pub plain_foot : event_footprint (table_in k) ev (state_of k.parts) ≡ TheProc p ∷ []
   unfolding event_footprint targets
   plain_foot = ap₂ (λ (os : List Object) (f : Effect). os ++ targets (table_in k) (actor ev) f.sends) (plain.objects_are (state_of k.parts)) plain.effect_is
 
   pub plain_reply_is : reply_of ev (present (view_of k)) ≡ Done r
   unfolding reply_of
-  plain_reply_is = ap (reply_of ev) (present_is k) ∙ ap (λ (f : Effect). concluding_reply f.conclusion f.sends (send_answers f (state_of k.parts))) plain.effect_is
+  plain_reply_is = ap (reply_of ev) (present_is laws k) ∙ ap (λ (f : Effect). concluding_reply f.conclusion f.sends (send_answers f (state_of k.parts))) plain.effect_is
 
   pub plain_own : IsOwn k p ev
-  unfolding has
   plain_own = record {
     actor_is = plain.actor_is;
-    objects_are = λ o h. by o (subst (λ (F : List Object). has o F ≡ true) (ap (event_footprint (table_in k) ev) (present_is k) ∙ plain_foot) h);
-    sends_are = ap (λ (S : State). (effect ev S).sends) (present_is k) ∙ ap (λ (f : Effect). f.sends) plain.effect_is;
+    objects_are = subst (AreOwn p) (sym (ap (event_footprint (table_in k) ev) (present_is laws k) ∙ plain_foot)) (inl refl, tt);
+    sends_are = ap (λ (S : State). (effect ev S).sends) (present_is laws k) ∙ ap (λ (f : Effect). f.sends) plain.effect_is;
   }
-    where
-      by : (o : Object) → has o (TheProc p ∷ []) ≡ true → (o ≡ TheProc p) ⊎ (o ≡ Held p)
-      by (TheProc n) h = inl (ap TheProc (eqb-true n p (same (n == p) h)))
-        where
-          same : (b : Bool) → (if b then true else false) ≡ true → b ≡ true
-          same true e = refl
-          same false e = e
-      by (Desc n) h = cc
-      by (Pipe n) h = cc
-      by (Held n) h = cc
 
   -- the same event, where it commits
   commit_foot : event_footprint (table_in k) (Commit p ev) (state_of k.parts) ≡ Held p ∷ TheProc p ∷ []
@@ -259,23 +253,13 @@ module _ (k : Kernel) (p : ℕ) (ev : Event) (y : Option Process) (r : ℤ) (pla
 
   pub commit_reply_is : reply_of (Commit p ev) (present (view_of k)) ≡ Committed (record { items = [] })
   unfolding reply_of effect written answers
-  commit_reply_is = ap (reply_of (Commit p ev)) (present_is k)
+  commit_reply_is = ap (reply_of (Commit p ev)) (present_is laws k)
       ∙ ap (λ (f : Effect). concluding_reply ListsFailed (f.sends ++ (written f.writes (state_of k.parts)).held p) (send_answers (committing p f (state_of k.parts)) (state_of k.parts))) plain.effect_is
 
   pub commit_own : IsOwn k p (Commit p ev)
-  unfolding has effect written
+  unfolding effect written
   commit_own = record {
     actor_is = plain.actor_is;
-    objects_are = λ o h. by o (subst (λ (F : List Object). has o F ≡ true) (ap (event_footprint (table_in k) (Commit p ev)) (present_is k) ∙ commit_foot) h);
-    sends_are = ap (λ (S : State). (effect (Commit p ev) S).sends) (present_is k) ∙ ap (λ (f : Effect). f.sends ++ (written f.writes (state_of k.parts)).held p) plain.effect_is;
+    objects_are = subst (AreOwn p) (sym (ap (event_footprint (table_in k) (Commit p ev)) (present_is laws k) ∙ commit_foot)) (inr refl, (inl refl, tt));
+    sends_are = ap (λ (S : State). (effect (Commit p ev) S).sends) (present_is laws k) ∙ ap (λ (f : Effect). f.sends ++ (written f.writes (state_of k.parts)).held p) plain.effect_is;
   }
-    where
-      same : (b : Bool) → (if b then true else false) ≡ true → b ≡ true
-      same true e = refl
-      same false e = e
-
-      by : (o : Object) → has o (Held p ∷ TheProc p ∷ []) ≡ true → (o ≡ TheProc p) ⊎ (o ≡ Held p)
-      by (TheProc n) h = inl (ap TheProc (eqb-true n p (same (n == p) h)))
-      by (Desc n) h = cc
-      by (Pipe n) h = cc
-      by (Held n) h = inr (ap Held (eqb-true n p (same (n == p) h)))

@@ -10,7 +10,7 @@ use Rattle.tx_core.specs.Content.{view_of}
 use Rattle.tx_core.specs.Runs.{RunsFrom, RunsSoFar}
 use Rattle.tx_core.specs.declared.kernel.Kernel.{Kernel}
 use Rattle.tx_core.specs.declared.schedules.Ran.{Ran}
-use Rattle.tx_laws.proofs.Erased.{erased}
+use Rattle.tx_laws.specs.Laws.{PrefixesAgree}
 use Rattle.tx_model.specs.Answer.{answer, IsAccepted, Lawful, Agreement}
 use Rattle.tx_model.specs.Schedules.{recorded, history_of}
 use Rattle.tx_model.specs.State.{State}
@@ -82,5 +82,5 @@ pub run_ends : (start : State) (steps : List Step) (ran : Ran) → RunsSoFar sta
 unfolding history_of
 run_ends start steps ran so = record { history = so.history; lawful = so.lawful; view = so.view }
 
-pub run_agrees : (start : State) (history later earlier : List Accepted) → Lawful start history → history ≡ later ++ earlier → Agreement start earlier
-run_agrees start history later earlier lawful split = erased start later earlier (subst (Lawful start) split lawful)
+pub run_agrees : PrefixesAgree → (start : State) (history later earlier : List Accepted) → Lawful start history → history ≡ later ++ earlier → Agreement start earlier
+run_agrees erasure start history later earlier lawful split = erasure start later earlier (subst (Lawful start) split lawful)

@@ -26,15 +26,16 @@ use Rattle.tx_change.specs.declared.parts.Parts.{Parts}
 use Rattle.tx_proc.specs.declared.proc.Proc.{Proc}
 use Rattle.tx_core.specs.Content.{state_of, kept_in, starter_in, two_parts_of, view_of, IsMarked, IsContent}
 use Rattle.tx_core.specs.Plans.{proc_after, only_answers, regs_in, IsPlainCall, memory_call}
-use Rattle.tx_core.specs.Steps.{IsStep}
+use Rattle.tx_core.specs.Steps.{IsNamedBy, IsStep}
 use Rattle.tx_core.specs.Undo.{log_in, last_of, first_of, undone_by, HasSlot}
+use Rattle.tx_core.specs.Laws.{MachineLaws}
 use Rattle.tx_core.specs.declared.inverse.Inverse.{Inverse}
 use Rattle.tx_core.specs.declared.inverse.Inverse.TheVariants.{Outside as OutsideLog, Inside, Begun, Committed as CommittedLog, Aborted as AbortedLog}
 use Rattle.tx_core.specs.declared.kernel.Kernel.{Kernel}
 use Rattle.tx_core.proofs.Cases.{IsCase, plain_case, begins_case, own_mark, commits_case, aborts_case}
 use Rattle.tx_core.proofs.LogFacts.{length_exchanged}
 use Rattle.tx_core.proofs.OfBuilt.{begins_built}
-use Rattle.tx_core.proofs.Outcomes.{if_at, next_of, reply_of_case, local_of, AreOf_append, back_append, named, own_exchanged, at_applied, width_applied, led_back, has_places, content_of, last_is, first_is}
+use Rattle.tx_core.proofs.Outcomes.{if_at, next_of, reply_of_case, local_of, own_named, starter_named, AreOf_append, back_append, named, own_exchanged, at_applied, width_applied, led_back, has_places, content_of, last_is, first_is}
 use Rattle.tx_core.proofs.Replies.{IsPlain, note_plain, plain_foot, plain_reply_is, plain_own, commit_reply_is, commit_own, has_slot, not_doomed, table_is}
 use Rattle.tx_core.proofs.Slotted.{slot_back}
 use Rattle.tx_core.proofs.Views.{set_effect, outside_next, inside_next, begins_next, commits_next, aborts_next}
@@ -44,6 +45,7 @@ use Rattle.tx_model.specs.Effects.{answered, noted_if}
 use Rattle.tx_model.specs.Events.{Event, Note, Commit, effect, process_of as process_of_step}
 use Rattle.tx_model.specs.Membership.{Table, is_of, Continues, Begins, Outside, Within, Commits, Aborts, Beginning, kind_of, new_mark, called_by_status}
 use Rattle.tx_model.specs.Numbers.{negative}
+use Rattle.tx_model.specs.State.{Proc as TheProc}
 use Rattle.tx_laws.specs.TwoParts.{parts_view, parts_next}
 use Rattle.tx_model.specs.View.{has_pending, kernel_status}
 use Rattle.tx_model.specs.SignalSets.{kill_signo}
@@ -95,7 +97,7 @@ log_again parts p q (c ∷ cs) low high here sized own =
     (λ j. (twice U c name places) j ∷ exchanged ((back U c name) j) (reverted parts cs))
     ∙ ap (λ (xs : List Change). c ∷ xs) (log_again parts p q cs low high here sized own.1)
 
-module _ (k : Kernel) (pid : Pid) (q : Proc) (cs : List Change) (i : IsContent k) (here : slot_at k.parts.procs pid.0 ≡ Some q) (own : AreOf pid.0 cs) where
+module _ (laws : MachineLaws) (k : Kernel) (pid : Pid) (q : Proc) (cs : List Change) (i : IsContent k) (here : slot_at k.parts.procs pid.0 ≡ Some q) (own : AreOf pid.0 cs) where
   abbrev slot : HasSlot k pid.0
   slot = has_slot k i pid.0 q here
 
@@ -138,14 +140,14 @@ module _ (k : Kernel) (pid : Pid) (q : Proc) (cs : List Change) (i : IsContent k
   outside_done call runs free plain gives =
       let r : ℤ = (memory_call q.space call).ret in
       let new : Kernel = record k { parts = applied k.parts cs } in
-      let pc = plain_case k pid call None q here runs free plain in
+      let pc = plain_case laws k pid call None q here runs free plain in
       let y = process_in (Some (proc_after q (memory_call q.space call))) in
       let is : effect pc.event (state_of k.parts) ≡ set_effect pid.0 (process_in (Some (edited q cs))) (Done r)
       = pc.plain.effect_is ∙ ap (λ (x : Proc). set_effect pid.0 (process_in (Some x)) (Done r)) (sym gives) in
       let answered : answer (view_of k) (Calls pid call) ≡ Done r
-      = reply_of_case k pid call q Outside pc.event (Done r) plain.0 i here runs pc.is_case (plain_own k pid.0 pc.event y r pc.plain) (plain_reply_is k pid.0 pc.event y r pc.plain) in
-      let next = next_of k new (Calls pid call) Outside pc.event i pc.is_case (subst IsAccepted (sym answered) tt)
-      (outside_next k new pid.0 (Some (edited q cs)) width procs descs pipes pc.event (Done r) is (λ n. refl) (λ n. refl) free) in
+      = reply_of_case laws k pid call q Outside pc.event (Done r) plain.0 i here runs pc.is_case (plain_own laws k pid.0 pc.event y r pc.plain) (plain_reply_is laws k pid.0 pc.event y r pc.plain) in
+      let next = next_of laws k new (Calls pid call) Outside pc.event i pc.is_case (subst IsAccepted (sym answered) tt)
+      (outside_next laws k new pid.0 (Some (edited q cs)) width procs descs pipes pc.event (Done r) is (λ n. refl) (λ n. refl) free) in
       let back_is : undone_by new (OutsideLog ex) ≡ k = ap (λ (x : Parts). record k { parts = x }) parts_back in
       record {
         made = record {
@@ -154,7 +156,7 @@ module _ (k : Kernel) (pid : Pid) (q : Proc) (cs : List Change) (i : IsContent k
           next = next.view;
           back = back_is;
           leads_back = record { goes = AreNamed-own pid.0 new.parts ex slot.low wide ex_own; content = subst IsContent (sym back_is) i };
-          local = local_of k new (Calls pid call) Outside pc.event pid.0 (OutsideLog ex) pc.is_case pc.plain.actor_is ex_own;
+          local = local_of k new (Calls pid call) pid.0 (OutsideLog ex) (own_named (view_of k) pid call) ex_own;
         };
         content = content_of k new pid.0 (edited q cs) None None i sized (record { now = calm (memory_call q.space call) gives; kept = calm (memory_call q.space call) gives }) tt width refl refl procs
             (λ n. if_at k.marks pid.0 None n free)
@@ -193,19 +195,19 @@ module _ (k : Kernel) (pid : Pid) (q : Proc) (cs : List Change) (i : IsContent k
     inside_done call runs plain gives =
         let r : ℤ = (memory_call q.space call).ret in
         let new : Kernel = record k { parts = applied k.parts cs; logs = with_slot k.logs pid.0 (Some (log ++ ex)) } in
-        let pc = plain_case k pid call (Some m) q here runs mark plain in
+        let pc = plain_case laws k pid call (Some m) q here runs mark plain in
         let case : IsCase k (Calls pid call) (Within pid.0 Continues) pc.event = subst (λ (s : ℕ). IsCase k (Calls pid call) (Within s Continues) pc.event) starter pc.is_case in
         let y = process_in (Some (proc_after q (memory_call q.space call))) in
         let is : effect pc.event (state_of k.parts) ≡ set_effect pid.0 (process_in (Some (edited q cs))) (Done r)
         = pc.plain.effect_is ∙ ap (λ (x : Proc). set_effect pid.0 (process_in (Some x)) (Done r)) (sym gives) in
         let answered : answer (view_of k) (Calls pid call) ≡ Done r
-        = reply_of_case k pid call q (Within pid.0 Continues) pc.event (Done r) plain.0 i here runs case (plain_own k pid.0 pc.event y r pc.plain) (plain_reply_is k pid.0 pc.event y r pc.plain) in
+        = reply_of_case laws k pid call q (Within pid.0 Continues) pc.event (Done r) plain.0 i here runs case (plain_own laws k pid.0 pc.event y r pc.plain) (plain_reply_is laws k pid.0 pc.event y r pc.plain) in
         let logs : (n : ℕ) → slot_at new.logs n ≡ (if n == pid.0 then Some (log ++ ex) else slot_at k.logs n) = λ n. slot_at-with_slot k.logs pid.0 (Some (log ++ ex)) n slot.low in_logs in
         let kept : kept_in (Some (edited q cs)) (Some (log ++ ex)) ≡ kept_in (slot_at k.parts.procs pid.0) (slot_at k.logs pid.0)
         = ap (λ (x : Proc). Some (process_of x)) (back_append (edited q cs) log ex ∙ ap (λ (x : Proc). edited_back x log) (led_back k pid.0 q cs slot.low slot.high here own))
         ∙ ap₂ kept_in (sym here) (sym facts.there) in
-        let next = next_of k new (Calls pid call) (Within pid.0 Continues) pc.event i case (subst IsAccepted (sym answered) tt)
-        (inside_next k new pid.0 (Some (edited q cs)) width procs descs pipes pc.event (Done r) is (λ n. refl) (Some (log ++ ex)) logs kept mine (plain_foot k pid.0 pc.event y r pc.plain)) in
+        let next = next_of laws k new (Calls pid call) (Within pid.0 Continues) pc.event i case (subst IsAccepted (sym answered) tt)
+        (inside_next laws k new pid.0 (Some (edited q cs)) width procs descs pipes pc.event (Done r) is (λ n. refl) (Some (log ++ ex)) logs kept mine (plain_foot laws k pid.0 pc.event y r pc.plain)) in
         let now : slot_at new.logs pid.0 ≡ Some (log ++ ex) = slot_now k.logs pid.0 (Some (log ++ ex)) slot.low in_logs in
         let last : last_of (length cs) (log_in (slot_at new.logs pid.0)) ≡ ex = ap (λ (x : Option (List Change)). last_of (length cs) (log_in x)) now ∙ last_is log ex (length cs) long_ex in
         let first : first_of (length cs) (log_in (slot_at new.logs pid.0)) ≡ log = ap (λ (x : Option (List Change)). first_of (length cs) (log_in x)) now ∙ first_is log ex (length cs) long_ex in
@@ -226,7 +228,7 @@ module _ (k : Kernel) (pid : Pid) (q : Proc) (cs : List Change) (i : IsContent k
               goes = (new_slot, subst IsSome (sym now) refl, few, AreNamed-own pid.0 new.parts (log_in (slot_at new.logs pid.0)) slot.low wide own_now);
               content = subst IsContent (sym back_is) i;
             };
-            local = local_of k new (Calls pid call) (Within pid.0 Continues) pc.event pid.0 (Inside pid (length cs)) case pc.plain.actor_is (subst (AreOf pid.0) (sym last) ex_own);
+            local = local_of k new (Calls pid call) pid.0 (Inside pid (length cs)) (own_named (view_of k) pid call) (subst (AreOf pid.0) (sym last) ex_own);
           };
           content = content_of k new pid.0 (edited q cs) (Some m) (Some (log ++ ex)) i sized
               (record { now = calm (memory_call q.space call) gives; kept = ap (has_pending kill_signo) kept ∙ i.calm_kept pid.0 }) (starter, facts.ended, all_own) width refl (length-with_slot k.logs pid.0 (Some (log ++ ex))) procs
@@ -247,11 +249,11 @@ module _ (k : Kernel) (pid : Pid) (q : Proc) (cs : List Change) (i : IsContent k
         let is : effect ev (state_of k.parts) ≡ set_effect pid.0 (process_in (Some (edited q cs))) (Done (pos 0))
         = plain.effect_is ∙ ap (λ (x : Proc). set_effect pid.0 (process_in (Some x)) (Done (pos 0))) (sym gives) in
         let answered : answer (view_of k) (Calls pid SysXend) ≡ Committed (record { items = [] })
-        = reply_of_case k pid SysXend q (Commits pid.0) (Commit pid.0 ev) (Committed (record { items = [] })) tt i here runs case (commit_own k pid.0 ev y (pos 0) plain) (commit_reply_is k pid.0 ev y (pos 0) plain) in
+        = reply_of_case laws k pid SysXend q (Commits pid.0) (Commit pid.0 ev) (Committed (record { items = [] })) tt i here runs case (commit_own laws k pid.0 ev y (pos 0) plain) (commit_reply_is laws k pid.0 ev y (pos 0) plain) in
         let marks : (n : ℕ) → slot_at new.marks n ≡ (if n == pid.0 then None else slot_at k.marks n) = λ n. slot_at-with_slot k.marks pid.0 None n slot.low in_marks in
         let logs : (n : ℕ) → slot_at new.logs n ≡ (if n == pid.0 then None else slot_at k.logs n) = λ n. slot_at-with_slot k.logs pid.0 None n slot.low in_logs in
-        let next = next_of k new (Calls pid SysXend) (Commits pid.0) (Commit pid.0 ev) i case (subst IsAccepted (sym answered) tt)
-        (commits_next k new pid.0 (Some (edited q cs)) width procs descs pipes (own_mark k i) marks logs ev (Done (pos 0)) is) in
+        let next = next_of laws k new (Calls pid SysXend) (Commits pid.0) (Commit pid.0 ev) i case (subst IsAccepted (sym answered) tt)
+        (commits_next laws k new pid.0 (Some (edited q cs)) width procs descs pipes (own_mark k i) marks logs ev (Done (pos 0)) is) in
         let parts_is : undone new.parts (last_of (length cs) (log ++ ex)) ≡ k.parts = ap (undone new.parts) (last_is log ex (length cs) long_ex) ∙ parts_back in
         let marks_is : with_slot new.marks pid.0 (Some m) ≡ k.marks = slot_back k.marks pid.0 None (Some m) slot.low (sym mark) in
         let logs_is : with_slot new.logs pid.0 (Some (first_of (length cs) (log ++ ex))) ≡ k.logs
@@ -266,7 +268,7 @@ module _ (k : Kernel) (pid : Pid) (q : Proc) (cs : List Change) (i : IsContent k
             next = next.view;
             back = back_is;
             leads_back = record { goes = (new_slot, few, AreNamed-own pid.0 new.parts (log ++ ex) slot.low wide all_own); content = subst IsContent (sym back_is) i };
-            local = local_of k new (Calls pid SysXend) (Commits pid.0) (Commit pid.0 ev) pid.0 inverse case refl (subst (AreOf pid.0) (sym (last_is log ex (length cs) long_ex)) ex_own);
+            local = local_of k new (Calls pid SysXend) pid.0 inverse (own_named (view_of k) pid SysXend) (subst (AreOf pid.0) (sym (last_is log ex (length cs) long_ex)) ex_own);
           };
           content = content_of k new pid.0 (edited q cs) None None i sized (record { now = calm (only_answers q (pos 0)) gives; kept = calm (only_answers q (pos 0)) gives }) tt width (length-with_slot k.marks pid.0 None) (length-with_slot k.logs pid.0 None) procs marks logs next.sound;
         }
@@ -285,7 +287,7 @@ module _ (k : Kernel) (pid : Pid) (q : Proc) (cs : List Change) (i : IsContent k
       let is : effect ev (state_of k.parts) ≡ set_effect pid.0 (process_in (Some (edited q cs))) (Done (pos 0))
       = plain.effect_is ∙ ap (λ (x : Proc). set_effect pid.0 (process_in (Some x)) (Done (pos 0))) (sym gives) in
       let answered : answer (view_of k) (Calls pid call) ≡ Done (pos 0)
-      = reply_of_case k pid call q (Within pid.0 (Begins defers)) ev (Done (pos 0)) (begins_built call defers kind) i here runs case (plain_own k pid.0 ev y (pos 0) plain) (plain_reply_is k pid.0 ev y (pos 0) plain) in
+      = reply_of_case laws k pid call q (Within pid.0 (Begins defers)) ev (Done (pos 0)) (begins_built call defers kind) i here runs case (plain_own laws k pid.0 ev y (pos 0) plain) (plain_reply_is laws k pid.0 ev y (pos 0) plain) in
       let in_logs : pid.0 ≤ length k.logs = subst (λ (w : ℕ). pid.0 ≤ w) (sym i.logs) slot.high in
       let in_marks : pid.0 ≤ length k.marks = subst (λ (w : ℕ). pid.0 ≤ w) (sym i.marks) slot.high in
       let no : slot_at k.logs pid.0 ≡ None = no_log pid.0 (slot_at k.marks pid.0) (slot_at k.logs pid.0) (slot_at k.parts.procs pid.0) (i.marked pid.0) free in
@@ -293,8 +295,8 @@ module _ (k : Kernel) (pid : Pid) (q : Proc) (cs : List Change) (i : IsContent k
       let logs : (n : ℕ) → slot_at new.logs n ≡ (if n == pid.0 then Some ex else slot_at k.logs n) = λ n. slot_at-with_slot k.logs pid.0 (Some ex) n slot.low in_logs in
       let kept : kept_in (Some (edited q cs)) (Some ex) ≡ process_in (slot_at k.parts.procs pid.0)
       = ap (λ (x : Proc). Some (process_of x)) (led_back k pid.0 q cs slot.low slot.high here own) ∙ ap process_in (sym here) in
-      let next = next_of k new (Calls pid call) (Within pid.0 (Begins defers)) ev i case (subst IsAccepted (sym answered) tt)
-      (begins_next k new pid.0 (Some (edited q cs)) width procs descs pipes ev (Done (pos 0)) is defers marks (Some ex) logs kept free (plain_foot k pid.0 ev y (pos 0) plain)) in
+      let next = next_of laws k new (Calls pid call) (Within pid.0 (Begins defers)) ev i case (subst IsAccepted (sym answered) tt)
+      (begins_next laws k new pid.0 (Some (edited q cs)) width procs descs pipes ev (Done (pos 0)) is defers marks (Some ex) logs kept free (plain_foot laws k pid.0 ev y (pos 0) plain)) in
       let now : slot_at new.logs pid.0 ≡ Some ex = slot_now k.logs pid.0 (Some ex) slot.low in_logs in
       let all : log_in (slot_at new.logs pid.0) ≡ ex = ap log_in now in
       let parts_is : undone new.parts (log_in (slot_at new.logs pid.0)) ≡ k.parts = ap (undone new.parts) all ∙ parts_back in
@@ -313,14 +315,14 @@ module _ (k : Kernel) (pid : Pid) (q : Proc) (cs : List Change) (i : IsContent k
             goes = (new_slot, subst IsSome (sym now) refl, AreNamed-own pid.0 new.parts (log_in (slot_at new.logs pid.0)) slot.low wide own_now);
             content = subst IsContent (sym back_is) i;
           };
-          local = local_of k new (Calls pid call) (Within pid.0 (Begins defers)) ev pid.0 (Begun pid) case refl own_now;
+          local = local_of k new (Calls pid call) pid.0 (Begun pid) (own_named (view_of k) pid call) own_now;
         };
         content = content_of k new pid.0 (edited q cs) (Some mark) (Some ex) i sized
             (record { now = calm (only_answers q (pos 0)) gives; kept = ap (has_pending kill_signo) kept ∙ i.calm pid.0 }) (refl, refl, ex_own) width (length-with_slot k.marks pid.0 (Some mark)) (length-with_slot k.logs pid.0 (Some ex)) procs marks logs next.sound;
       }
 
 -- the abort of the transaction of p
-module _ (k : Kernel) (pid : Pid) (m : Mark) (i : IsContent k) (mark : slot_at k.marks pid.0 ≡ Some m) (ret : ℤ) where
+module _ (laws : MachineLaws) (k : Kernel) (pid : Pid) (m : Mark) (i : IsContent k) (mark : slot_at k.marks pid.0 ≡ Some m) (ret : ℤ) where
   abbrev old_log : List Change
   old_log = log_in (slot_at k.logs pid.0)
 
@@ -394,14 +396,14 @@ module _ (k : Kernel) (pid : Pid) (m : Mark) (i : IsContent k) (mark : slot_at k
   after_pipes : (n : ℕ) → (state_of (parts_after before note)).pipes n ≡ (state_of k.parts).pipes n
   after_pipes n = ap (λ (x : Parts). (state_of x).pipes n) after_parts
 
-  pub aborted_done : (step : Step) (status : ℕ) → process_of_step step ≡ pid.0 → IsCase k step (Aborts pid.0 status) (Note pid.0 ret) → answer (view_of k) step ≡ Aborted status
+  pub aborted_done : (step : Step) (status : ℕ) → process_of_step step ≡ pid.0 → IsCase k step (Aborts pid.0 status) (Note pid.0 ret) → IsNamedBy (view_of k) step (TheProc pid.0) → answer (view_of k) step ≡ Aborted status
       → IsDone k step (Aborted status) (AbortedLog pid m (reverted k.parts (log_in (slot_at k.logs pid.0))) (change_after (undone k.parts (log_in (slot_at k.logs pid.0))) (SetPart pid (SetRegs (answered ret (regs_in (slot_at (undone k.parts (log_in (slot_at k.logs pid.0))).procs pid.0)))))))
       (record {
         parts = parts_after (undone k.parts (log_in (slot_at k.logs pid.0))) (SetPart pid (SetRegs (answered ret (regs_in (slot_at (undone k.parts (log_in (slot_at k.logs pid.0))).procs pid.0)))));
         marks = with_slot k.marks pid.0 None;
         logs = with_slot k.logs pid.0 None;
       })
-  aborted_done step status who case answered =
+  aborted_done step status who case names answered =
       let new : Kernel = record { parts = parts_after before note; marks = with_slot k.marks pid.0 None; logs = with_slot k.logs pid.0 None } in
       let noted : Change = change_after before note in
       let redo : List Change = reverted k.parts old_log in
@@ -414,8 +416,8 @@ module _ (k : Kernel) (pid : Pid) (m : Mark) (i : IsContent k) (mark : slot_at k
       let mine : starter_in (slot_at k.marks pid.0) ≡ Some pid.0 = ap starter_in mark ∙ ap Some (own_mark k i pid.0 m mark) in
       let is : process_in (Some stands) ≡ noted_if ret (kept_in (slot_at k.parts.procs pid.0) (slot_at k.logs pid.0))
       = ap₂ (λ (x : Option Proc) (l : Option (List Change)). noted_if ret (kept_in x l)) (sym abort_facts.is_proc) (sym abort_facts.there) in
-      let same = aborts_next k new pid.0 (Some stands) width after_at after_descs after_pipes (own_mark k i) marks logs ret status mine is in
-      let next = next_of k new step (Aborts pid.0 status) (Note pid.0 ret) i case (subst IsAccepted (sym answered) tt)
+      let same = aborts_next laws k new pid.0 (Some stands) width after_at after_descs after_pipes (own_mark k i) marks logs ret status mine is in
+      let next = next_of laws k new step (Aborts pid.0 status) (Note pid.0 ret) i case (subst IsAccepted (sym answered) tt)
       (subst (λ (p : ℕ). view_of new ≡ parts_view (parts_next (Aborts pid.0 status) (Note pid.0 ret) p (two_parts_of k))) (sym who) same) in
       let wide : pid.0 ≤ length new.parts.procs = subst (λ (w : ℕ). pid.0 ≤ w) (sym width) abort_slot.high in
       let name : IsNamed before note = (record { low = abort_slot.low; high = subst (λ (w : ℕ). pid.0 ≤ w) (sym before_width) abort_slot.high }, tt) in
@@ -440,7 +442,7 @@ module _ (k : Kernel) (pid : Pid) (m : Mark) (i : IsContent k) (mark : slot_at k
             goes = (new_slot, (AreNamed-own pid.0 new.parts (noted ∷ []) abort_slot.low wide noted_own).0, AreNamed-own pid.0 new.parts redo abort_slot.low wide redo_own);
             content = subst IsContent (sym back_is) i;
           };
-          local = local_of k new step (Aborts pid.0 status) (Note pid.0 ret) pid.0 inverse case refl (noted_own.0, redo_own);
+          local = local_of k new step pid.0 inverse names (noted_own.0, redo_own);
         };
         content = content_of k new pid.0 stands None None i (answered_sized (back_sized abort_facts.proc old_log (has_places k i pid.0 abort_facts.proc abort_facts.is_proc))) (record { now = stands_calm; kept = stands_calm }) tt width
             (length-with_slot k.marks pid.0 None) (length-with_slot k.logs pid.0 None) after_at marks logs next.sound;
@@ -450,26 +452,26 @@ module _ (k : Kernel) (pid : Pid) (m : Mark) (i : IsContent k) (mark : slot_at k
       own_exchanged_one parts = AreOf-exchanged pid.0 parts (note ∷ []) ((refl, tt), tt)
 
 -- a member's sys_xabort
-pub xabort_done : (k : Kernel) (pid : Pid) (q : Proc) (m : Mark) (i : IsContent k) → slot_at k.parts.procs pid.0 ≡ Some q → q.status ≡ None → (mark : slot_at k.marks pid.0 ≡ Some m)
+pub xabort_done : (laws : MachineLaws) (k : Kernel) (pid : Pid) (q : Proc) (m : Mark) (i : IsContent k) → slot_at k.parts.procs pid.0 ≡ Some q → q.status ≡ None → (mark : slot_at k.marks pid.0 ≡ Some m)
     → IsDone k (Calls pid SysXabort) (Aborted called_by_status) (AbortedLog pid m (reverted k.parts (log_in (slot_at k.logs pid.0))) (change_after (undone k.parts (log_in (slot_at k.logs pid.0))) (SetPart pid (SetRegs (answered (negsuc 200) (regs_in (slot_at (undone k.parts (log_in (slot_at k.logs pid.0))).procs pid.0)))))))
     (record {
       parts = parts_after (undone k.parts (log_in (slot_at k.logs pid.0))) (SetPart pid (SetRegs (answered (negsuc 200) (regs_in (slot_at (undone k.parts (log_in (slot_at k.logs pid.0))).procs pid.0)))));
       marks = with_slot k.marks pid.0 None;
       logs = with_slot k.logs pid.0 None;
     })
-xabort_done k pid q m i here runs mark =
+xabort_done laws k pid q m i here runs mark =
     let case = aborts_case k pid m i mark in
     let plain : IsPlain k pid.0 (Note pid.0 (negsuc 200)) (process_in (Some (proc_after q (only_answers q (negsuc 200))))) (negsuc 200) = note_plain k pid.0 (negsuc 200) q here in
     let answered : answer (view_of k) (Calls pid SysXabort) ≡ Aborted called_by_status
-    = reply_of_case k pid SysXabort q (Aborts pid.0 called_by_status) (Note pid.0 (negsuc 200)) (Aborted called_by_status) tt i here runs case
-    (plain_own k pid.0 (Note pid.0 (negsuc 200)) (process_in (Some (proc_after q (only_answers q (negsuc 200))))) (negsuc 200) plain) refl in
-    aborted_done k pid m i mark (negsuc 200) (Calls pid SysXabort) called_by_status refl case answered
+    = reply_of_case laws k pid SysXabort q (Aborts pid.0 called_by_status) (Note pid.0 (negsuc 200)) (Aborted called_by_status) tt i here runs case
+    (plain_own laws k pid.0 (Note pid.0 (negsuc 200)) (process_in (Some (proc_after q (only_answers q (negsuc 200))))) (negsuc 200) plain) refl in
+    aborted_done laws k pid m i mark (negsuc 200) (Calls pid SysXabort) called_by_status refl case (own_named (view_of k) pid SysXabort) answered
 
 -- the kernel's abort
 kernel_is : (k : Kernel) → IsContent k → (s : ℕ) → kernel_status (view_of k) s ≡ 202
 kernel_is k i s = ap (λ (b : Bool). if b then 203 else 202) (not_doomed k i s)
 
-pub kernel_done : (k : Kernel) (pid : Pid) (m : Mark) (i : IsContent k) → (mark : slot_at k.marks pid.0 ≡ Some m)
+pub kernel_done : (laws : MachineLaws) (k : Kernel) (pid : Pid) (m : Mark) (i : IsContent k) → (mark : slot_at k.marks pid.0 ≡ Some m)
     → IsDone k (KernelAbort pid) (Aborted 202) (AbortedLog pid m (reverted k.parts (log_in (slot_at k.logs pid.0))) (change_after (undone k.parts (log_in (slot_at k.logs pid.0))) (SetPart pid (SetRegs (answered (negsuc 201) (regs_in (slot_at (undone k.parts (log_in (slot_at k.logs pid.0))).procs pid.0)))))))
     (record {
       parts = parts_after (undone k.parts (log_in (slot_at k.logs pid.0))) (SetPart pid (SetRegs (answered (negsuc 201) (regs_in (slot_at (undone k.parts (log_in (slot_at k.logs pid.0))).procs pid.0)))));
@@ -477,7 +479,7 @@ pub kernel_done : (k : Kernel) (pid : Pid) (m : Mark) (i : IsContent k) → (mar
       logs = with_slot k.logs pid.0 None;
     })
 unfolding answer
-kernel_done k pid m i mark =
+kernel_done laws k pid m i mark =
     let live : is_of pid.0 ((view_of k).table.marks pid.0) ≡ true
     = ap (λ (t : Table). is_of pid.0 (t.marks pid.0)) (table_is k) ∙ ap (is_of pid.0) mark ∙ eq-eqb m.starter.0 pid.0 (own_mark k i pid.0 m mark) in
     let answered : answer (view_of k) (KernelAbort pid) ≡ Aborted 202 = rw (live, kernel_is k i pid.0) refl in
@@ -485,7 +487,7 @@ kernel_done k pid m i mark =
       role_is = ap (λ (n : ℕ). Aborts pid.0 n) (kernel_is k i pid.0);
       event_is = ap (λ (n : ℕ). Note pid.0 (negative n)) (kernel_is k i pid.0);
     } in
-    aborted_done k pid m i mark (negsuc 201) (KernelAbort pid) 202 refl case answered
+    aborted_done laws k pid m i mark (negsuc 201) (KernelAbort pid) 202 refl case (starter_named (view_of k) (KernelAbort pid) pid.0 202 i.sound case.role_is live) answered
 
 -- a starter with no live transaction
 pub no_transaction : (k : Kernel) (pid : Pid) → slot_at k.marks pid.0 ≡ None → answer (view_of k) (KernelAbort pid) ≡ No NoTransaction

@@ -8,6 +8,7 @@ use Rattle.tx_change.specs.declared.change.Change.{Change}
 use Rattle.tx_proc.specs.declared.proc.Proc.{Proc}
 use Rattle.tx_proc.specs.Processes.{process_in}
 use Rattle.tx_core.specs.Content.{state_of, kept_in, kept_of, starter_in, owner_at, table_in, two_parts_of, view_of}
+use Rattle.tx_core.specs.Laws.{MachineLaws}
 use Rattle.tx_core.specs.declared.kernel.Kernel.{Kernel}
 use Rattle.tx_model.specs.Effects.{Effect, Replies, send_answers, applied, noted_if, committing}
 use Rattle.tx_model.specs.Events.{Event, Note, Commit, effect}
@@ -16,7 +17,6 @@ use Rattle.tx_model.specs.Membership.{Table, Continues, Begins, Outside, Within,
 use Rattle.tx_model.specs.Posts.{posts, answers}
 use Rattle.tx_model.specs.State.{Process, State, Object, Proc as TheProc, Desc, Pipe, Held, SetProc, SetHeld, write_one, written, has, AgreePart}
 use Rattle.tx_laws.specs.TwoParts.{TwoParts, in_set, pick, parts_without, parts_view, freed, made, reserved, on_both, parts_next}
-use Rattle.tx_laws.proofs.TwoPartsView.{same_view}
 
 -- the effect that replaces process p, and gives this reply
 abbrev pub set_effect : ℕ → Option Process → Reply → Effect
@@ -57,7 +57,7 @@ just_mark n p None own e = refl
 just_mark n p (Some m) own e = ap (λ (s : ℕ). s == p) (own m refl) ∙ e
 
 -- what number p has is replaced, and no other
-module _ (k new : Kernel) (p : ℕ) (slot : Option Proc) (width : length new.parts.procs ≡ length k.parts.procs)
+module _ (laws : MachineLaws) (k new : Kernel) (p : ℕ) (slot : Option Proc) (width : length new.parts.procs ≡ length k.parts.procs)
     (procs : (n : ℕ) → slot_at new.parts.procs n ≡ (if n == p then slot else slot_at k.parts.procs n))
     (descs : (n : ℕ) → (state_of new.parts).descs n ≡ (state_of k.parts).descs n) (pipes : (n : ℕ) → (state_of new.parts).pipes n ≡ (state_of k.parts).pipes n) where
   procs_at : (n : ℕ) → process_in (slot_at new.parts.procs n) ≡ (if n == p then process_in slot else process_in (slot_at k.parts.procs n))
@@ -92,7 +92,7 @@ module _ (k new : Kernel) (p : ℕ) (slot : Option Proc) (width : length new.par
         let d : TwoParts = record { now = write_one (SetProc p (process_in slot)) (state_of k.parts); kept = write_one (SetProc p (process_in slot)) (kept_of k); owner = owner_at k; table = table_in k } in
         let e : parts_view (on_both ev (state_of k.parts) (two_parts_of k) (owner_at k) (table_in k)) ≡ parts_view d
         = λ i. parts_view (record { now = made_now i; kept = made_kept i; owner = owner_at k; table = table_in k }) in
-        same_view (two_parts_of new) d width now_part owners kept (table_same (table_in new) (table_in k) width marks) ∙ sym e
+        laws.same (two_parts_of new) d width now_part owners kept (table_same (table_in new) (table_in k) width marks) ∙ sym e
       where
         owners : (o : Object) → owner_at new o ≡ owner_at k o
         owners (TheProc n) = ap starter_in (marks n)
@@ -128,7 +128,7 @@ module _ (k new : Kernel) (p : ℕ) (slot : Option Proc) (width : length new.par
         let e : parts_view (reserved p (event_footprint (table_in k) ev (state_of k.parts)) ev (table_in k) (two_parts_of k)) ≡ parts_view d
         = ap (λ (G : List Object). parts_view (reserved p G ev (table_in k) (two_parts_of k))) foot
         ∙ ap (λ (S : State). parts_view (record { now = S; kept = d.kept; owner = d.owner; table = d.table })) made_now in
-        same_view (two_parts_of new) d width now_part owners kept (table_same (table_in new) (table_in k) width marks) ∙ sym e
+        laws.same (two_parts_of new) d width now_part owners kept (table_same (table_in new) (table_in k) width marks) ∙ sym e
       where
         owned : (n : ℕ) (b : Bool) → (b ≡ true → n ≡ p) → starter_in (slot_at k.marks n) ≡ (if (if b then true else false) then Some p else starter_in (slot_at k.marks n))
         owned n true e = ap (λ (q : ℕ). starter_in (slot_at k.marks q)) (e refl) ∙ mine
@@ -179,7 +179,7 @@ module _ (k new : Kernel) (p : ℕ) (slot : Option Proc) (width : length new.par
         let e : parts_view (reserved p (Held p ∷ event_footprint (table_in k) ev (state_of k.parts)) ev t (two_parts_of k)) ≡ parts_view d
         = ap (λ (G : List Object). parts_view (reserved p (Held p ∷ G) ev t (two_parts_of k))) foot
         ∙ ap (λ (S : State). parts_view (record { now = S; kept = d.kept; owner = d.owner; table = d.table })) made_now in
-        same_view (two_parts_of new) d width now_part owners kept (table_same (table_in new) t width marks) ∙ sym e
+        laws.same (two_parts_of new) d width now_part owners kept (table_same (table_in new) t width marks) ∙ sym e
       where
         starters : (n : ℕ) → starter_in (slot_at new.marks n) ≡ (if n == p then Some p else starter_in (slot_at k.marks n))
         starters n = ap starter_in (marks n) ∙ by (n == p)
@@ -259,7 +259,7 @@ module _ (k new : Kernel) (p : ℕ) (slot : Option Proc) (width : length new.par
           owner = λ o. freed p (owner_at k o);
           table = t;
         }) in
-        same_view (two_parts_of new) d width now over_owners kept (table_same (table_in new) t width over_marks) ∙ sym e
+        laws.same (two_parts_of new) d width now over_owners kept (table_same (table_in new) t width over_marks) ∙ sym e
       where
         now : (o : Object) → AgreePart (state_of new.parts) (write_one (SetHeld p []) (write_one (SetProc p (process_in slot)) (state_of k.parts))) o
         now (TheProc n) = procs_at n
@@ -289,7 +289,7 @@ module _ (k new : Kernel) (p : ℕ) (slot : Option Proc) (width : length new.par
           owner = λ o. freed p (owner_at k o);
           table = t;
         }) in
-        same_view (two_parts_of new) d width now over_owners kept (table_same (table_in new) t width over_marks) ∙ sym e
+        laws.same (two_parts_of new) d width now over_owners kept (table_same (table_in new) t width over_marks) ∙ sym e
       where
         at_proc : (n : ℕ) (b : Bool) → (n == p) ≡ b → process_in (slot_at new.parts.procs n)
             ≡ (if b then process_in slot else (if in_set (just p) (starter_in (slot_at k.marks n)) then kept_in (slot_at k.parts.procs n) (slot_at k.logs n) else process_in (slot_at k.parts.procs n)))

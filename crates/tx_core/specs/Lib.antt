@@ -1,4 +1,5 @@
 pub mod Built
+pub mod Laws
 pub mod Plans
 pub mod Content
 pub mod Undo

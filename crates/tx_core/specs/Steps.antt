@@ -1,5 +1,5 @@
 -- What a step of the machine is to be.
-use Rattle.std.specs.Prelude.{◌≡◌, ◌≢◌, ◌⊎◌, true, Option, None, Some, IsSome}
+use Rattle.std.specs.Prelude.{◌≡◌, ◌≢◌, ◌⊎◌, ℕ, true, Option, None, Some, IsSome}
 use Rattle.tx_base.specs.declared.steps.Refusal.TheVariants.{NoMemory}
 use Rattle.tx_base.specs.declared.steps.Reply.{Reply}
 use Rattle.tx_base.specs.declared.steps.Reply.TheVariants.{No}
@@ -15,14 +15,23 @@ use Rattle.tx_core.specs.Undo.{changes_of, undone_by, LeadsBack, IsAmong}
 use Rattle.tx_core.specs.declared.inverse.Inverse.{Inverse}
 use Rattle.tx_core.specs.declared.kernel.Kernel.{Kernel}
 use Rattle.tx_model.specs.Answer.{answer, IsAccepted}
-use Rattle.tx_model.specs.History.{event_footprint}
-use Rattle.tx_model.specs.State.{has}
-use Rattle.tx_model.specs.View.{present, event_on, next}
+use Rattle.tx_laws.specs.Fits.{ends_it}
+use Rattle.tx_model.specs.Events.{effect}
+use Rattle.tx_model.specs.Footprints.{footprint}
+use Rattle.tx_model.specs.History.{processes_of}
+use Rattle.tx_model.specs.State.{Object, has}
+use Rattle.tx_model.specs.View.{View, present, role_on, event_on, next}
 
--- each change of the inverse names an object of the step's footprint
+-- what a step names: the objects of its footprint; the processes that its sends go to; and, where it ends a transaction, what
+-- that one touched
+pub data IsNamedBy (view : View) (step : Step) (object : Object) : Type 0 where
+  InFootprint : has object (footprint view.table step (present view)) ≡ true → IsNamedBy view step object
+  GetsSend : has object (processes_of (effect (event_on view step) (present view)).sends) ≡ true → IsNamedBy view step object
+  WasTouched : (starter : ℕ) → ends_it starter (role_on view step) ≡ true → view.touched starter object ≡ true → IsNamedBy view step object
+
+-- each change of the inverse is of an object that the step names
 abbrev pub IsLocal : Kernel → Step → Kernel → Inverse → Type 0
-IsLocal old step new inverse = (change : Change) → IsAmong change (changes_of new inverse)
-    → has (object_of change) (event_footprint (view_of old).table (event_on (view_of old) step) (present (view_of old))) ≡ true
+IsLocal old step new inverse = (change : Change) → IsAmong change (changes_of new inverse) → IsNamedBy (view_of old) step (object_of change)
 
 -- the step was accepted with this reply, and left the kernel so, with this inverse
 pub record IsStep (old : Kernel) (step : Step) (reply : Reply) (inverse : Inverse) (new : Kernel) : Type 0 where

@@ -5,6 +5,7 @@
 mod act;
 mod inverse;
 mod kernel;
+mod laws;
 mod log;
 mod machine;
 mod schedules;

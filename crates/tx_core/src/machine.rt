@@ -6,6 +6,7 @@ ghost use Rattle.tx_base.specs.declared.steps.Call.TheVariants.{SysXend, SysXabo
 ghost use Rattle.tx_base.specs.declared.steps.Step.TheVariants.{Call as Calls, KernelAbort};
 ghost use Rattle.tx_core.specs.Built.{IsBuilt, IsBuiltCall};
 ghost use Rattle.tx_core.specs.Content.{view_of, state_of};
+ghost use Rattle.tx_core.specs.Laws.{MachineLaws};
 ghost use Rattle.tx_core.specs.Plans.{IsRunning, IsPlainCall};
 ghost use Rattle.tx_base.specs.declared.steps.Accepted.{Accepted};
 ghost use Rattle.tx_base.specs.declared.steps.Reply.TheVariants.{Aborted, No};
@@ -19,6 +20,7 @@ ghost use Rattle.tx_model.specs.View.{view, present};
 use crate::act::{CallKind, call_kind, plan_answer, plan_call};
 use crate::inverse::Inverse;
 use crate::kernel::Kernel;
+use crate::laws::laws;
 use arrayvec::ArrayVec;
 use std::alloc::Global;
 use std::marker::Model;
@@ -63,6 +65,7 @@ impl Machine {
         pid: Pid,
         call: &Call,
     ) -> Result<(Reply, Inverse), NoMemory>
+        requires laws { MachineLaws }
         requires running { IsRunning (slot_at self.old.parts.procs pid.0) }
         requires free { slot_at self.old.marks pid.0 ≡ None }
         requires plain { IsPlainCall call.now None }
@@ -83,6 +86,7 @@ impl Machine {
         mark: Mark,
         call: &Call,
     ) -> Result<(Reply, Inverse), NoMemory>
+        requires laws { MachineLaws }
         requires running { IsRunning (slot_at self.old.parts.procs pid.0) }
         requires marked { slot_at self.old.marks pid.0 ≡ Some mark }
         requires plain { IsPlainCall call.now (Some mark) }
@@ -103,6 +107,7 @@ impl Machine {
         defers: bool,
         call: &Call,
     ) -> Result<(Reply, Inverse), NoMemory>
+        requires laws { MachineLaws }
         requires running { IsRunning (slot_at self.old.parts.procs pid.0) }
         requires free { slot_at self.old.marks pid.0 ≡ None }
         requires kind { kind_of call.now ≡ Beginning defers }
@@ -123,6 +128,7 @@ impl Machine {
         mark: Mark,
         _call: &Call,
     ) -> Result<(Reply, Inverse), NoMemory>
+        requires laws { MachineLaws }
         requires running { IsRunning (slot_at self.old.parts.procs pid.0) }
         requires marked { slot_at self.old.marks pid.0 ≡ Some mark }
         requires kind { kind_of _call.now ≡ Leaving }
@@ -138,6 +144,7 @@ impl Machine {
 
     /// A member aborts its transaction. It takes no memory.
     fn xabort(&mut self, pid: Pid, mark: Mark, _call: &Call) -> (Reply, Inverse)
+        requires laws { MachineLaws }
         requires running { IsRunning (slot_at self.old.parts.procs pid.0) }
         requires marked { slot_at self.old.marks pid.0 ≡ Some mark }
         requires kind { kind_of _call.now ≡ Aborting }
@@ -149,6 +156,7 @@ impl Machine {
 
     /// A call of a running process.
     fn make(&mut self, alloc: Global, pid: Pid, call: &Call) -> Result<(Reply, Inverse), NoMemory>
+        requires laws { MachineLaws }
         requires running { IsRunning (slot_at self.old.parts.procs pid.0) }
         requires built { IsBuiltCall call.now }
         ensures ok { IfOk result (λ made. IsStep self.old (Calls pid call.now) made.0 made.1 self.new) }
@@ -178,7 +186,8 @@ impl Machine {
 
     /// A call, whatever its process.
     fn call(&mut self, alloc: Global, pid: Pid, call: &Call) -> (Reply, Option<Inverse>)
-        requires { IsBuiltCall call.now }
+        requires laws { MachineLaws }
+        requires built { IsBuiltCall call.now }
         ensures { Steps self.old (Calls pid call.now) result.0 result.1 self.new }
     {
         let status = match self.kernel.parts.proc(pid) {
@@ -207,6 +216,7 @@ impl Machine {
             Lawful start (record { step = KernelAbort starter; reply = Aborted 202 } ∷ earlier)
             × (view_of self.new ≡ view start (record { step = KernelAbort starter; reply = Aborted 202 } ∷ earlier))) }
     {
+        laws();
         let mark = self.kernel.marks.get(starter).copied();
         match mark {
             Some(mark) => Ok(self.kernel.abort(starter, mark, BY_KERNEL)),
@@ -216,7 +226,8 @@ impl Machine {
 
     /// Any step.
     fn take(&mut self, alloc: Global, step: &Step) -> (Reply, Option<Inverse>)
-        requires { IsBuilt step.now }
+        requires laws { MachineLaws }
+        requires built { IsBuilt step.now }
         ensures { Steps self.old step.now result.0 result.1 self.new }
     {
         match step {
@@ -234,6 +245,9 @@ impl Machine {
     /// A refused step changes nothing. `NoMemory` comes only where nothing else refuses the step,
     /// and never to a member's sys_xabort. The step has to be one that the machine makes so far: a
     /// call on memory, one of a transaction, or the kernel's abort.
+    ///
+    /// The inverse changes only what the step names: objects of its footprint, the processes that its
+    /// sends go to, and, where it ends a transaction, what this one touched.
     pub fn step(&mut self, alloc: Global, step: Step) -> (Reply, Option<Inverse>)
         requires { IsBuilt step }
         ensures answer { (result.0 ≡ No Refusal.NoMemory) ⊎ (answer (view_of self.old) step ≡ result.0) }
@@ -245,6 +259,8 @@ impl Machine {
             Lawful start (record { step = step; reply = result.0 } ∷ earlier) × (view_of self.new ≡ view start (record { step = step; reply = result.0 } ∷ earlier)) }
         ensures xabort { IsXabort self.old step → result.0 ≢ No Refusal.NoMemory }
     {
+        // The laws that the proofs of all steps stand on.
+        laws();
         self.take(alloc, &step)
     }
 
@@ -269,6 +285,7 @@ impl Machine {
         ensures parts { result.now ≡ self.now.parts }
         ensures state { state_of result.now ≡ present (view_of self.now) }
     {
+        laws();
         &self.kernel.parts
     }
 
@@ -298,6 +315,7 @@ impl Machine {
         ensures view { IfOk result (λ machine. view_of machine ≡ view (booted width count) []) }
         ensures processes { IfOk result (λ machine. length machine.parts.procs ≡ width) }
     {
+        laws();
         let parts = Parts::boot(alloc, width, count)?;
         let marks = Slots::new(alloc, width)?;
         let logs = Slots::new(alloc, width)?;

@@ -2,17 +2,16 @@
 use Rattle.std.proofs.Common.{◌≡◌, ℕ, ◌≤◌, Bool, true, false, List, [], ◌∷◌, refl, sym, ◌∙◌, subst}
 use Rattle.tx_base.specs.declared.steps.Accepted.{Accepted}
 use Rattle.tx_model.specs.State.{State, booted}
-use Rattle.tx_model.specs.Effects.{send_answers}
-use Rattle.tx_model.specs.Events.{Event, effect, after, run}
+use Rattle.tx_model.specs.Events.{Event, after, run}
 use Rattle.tx_model.specs.Membership.{Table, Role, step_event, table_after}
 use Rattle.tx_model.specs.History.{Starters, table_of, left_out_before, stays, placed, role_in, event_of, survivors, without}
 use Rattle.tx_model.specs.View.{view}
 use Rattle.tx_model.specs.Answer.{has_bad_number, answer, IsAccepted, Lawful}
 use Rattle.tx_laws.specs.WellFormed.{IsWellFormed, HasGoodNumbers}
-use Rattle.tx_laws.proofs.Agree.{applied_width}
+use Rattle.tx_laws.proofs.Local.{after_width}
+use Rattle.tx_laws.proofs.GoodNumbers.{step_numbers, role_numbers, accepted_numbers}
 use Rattle.tx_laws.proofs.KeepsFormParts.{IsArranged}
 use Rattle.tx_laws.proofs.KeepsFormEvents as arranged
-use Rattle.tx_laws.proofs.GoodNumbers.{step_numbers, role_numbers, accepted_numbers}
 use Rattle.tx_laws.proofs.WithinEvents.{IsWithin, after_within, booted_within}
 
 -- a well-formed state by what is arranged in it, and by its limits
@@ -32,10 +31,6 @@ booted_form width count some fits = formed_from (booted width count) (arranged.b
 pub after_form : (ev : Event) (S : State) → IsWellFormed S → HasGoodNumbers S.width ev → IsWellFormed (after ev S)
 after_form ev S w h = formed_from (after ev S) (arranged.after_form ev S (arranged_of S w) h) (after_within ev S (within_of S w))
 
-after_width_same : (ev : Event) (S : State) → (after ev S).width ≡ S.width
-unfolding after
-after_width_same ev S = applied_width (effect ev S) (send_answers (effect ev S) S) S
-
 table_width : (r : Role) (p : ℕ) (t : Table) → (table_after r p t).width ≡ t.width
 table_width r p t = refl
 
@@ -53,7 +48,7 @@ placed_form S false ev evs g w form = form
 run_width : (S : State) (evs : List Event) → (run S evs).width ≡ S.width
 unfolding run
 run_width S [] = refl
-run_width S (ev ∷ evs) = after_width_same ev (run S evs) ∙ run_width S evs
+run_width S (ev ∷ evs) = after_width ev (run S evs) ∙ run_width S evs
 
 pub history_form : (S : State) (h : List Accepted) → IsWellFormed S → Lawful S h → (X : Starters) → IsWellFormed (without S X h)
 unfolding without survivors Lawful run view

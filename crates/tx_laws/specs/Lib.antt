@@ -6,10 +6,10 @@ pub mod TwoAnswers
 pub mod Sound
 pub mod Fits
 pub mod Commuting
-pub mod WellFormedTable
 pub mod Footprints
 pub mod Laws
 pub mod LawsOfEvents
 pub mod LawsOfParts
 pub mod LawsOfDoom
+pub mod WellFormedTable
 pub mod LawsOfTable

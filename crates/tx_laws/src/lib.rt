@@ -1,20 +1,26 @@
-//! The laws over the definitions of the kernel, as the contracts of functions that do nothing. Each law's statement has a
-//! name in `specs/Laws.antt`, `LawsOfEvents.antt`, `LawsOfParts.antt` or `LawsOfDoom.antt`.
+//! The laws over the definitions of the kernel, as the contracts of functions that do nothing. What
+//! crates above take as a premise has a name, in `specs/Laws.antt` and the files beside it.
 #![tactic(auto)]
 
-ghost use Rattle.std.specs.Prelude.{◌≤◌, ℕ, List};
+ghost use Rattle.std.specs.Prelude.{◌≤◌, ℕ, List, ◌≡◌, length};
 ghost use Rattle.tx_base.specs.declared.steps.Accepted.{Accepted};
-ghost use Rattle.tx_model.specs.Answer.{Lawful};
+ghost use Rattle.tx_base.specs.declared.steps.Reply.TheVariants.{Committed};
+ghost use Rattle.tx_base.specs.declared.limits.TheConstants.{UNDELIVERED};
+ghost use Rattle.tx_base.specs.declared.names.Missed.{Missed};
+ghost use Rattle.tx_base.specs.declared.steps.Step.{Step};
+ghost use Rattle.tx_model.specs.Answer.{Lawful, answer};
 ghost use Rattle.tx_model.specs.Events.{Event, after};
-ghost use Rattle.tx_model.specs.History.{Starters, without};
+ghost use Rattle.tx_model.specs.History.{Starters, without, nobody, table_of};
 ghost use Rattle.tx_model.specs.State.{State, booted};
+ghost use Rattle.tx_model.specs.View.{view};
 ghost use Rattle.tx_laws.specs.Laws.{PrefixesAgree, SurvivorsAreByPlace, LawfulViewIsNext, LawfulViewIsSound, StartIsSound, NextIsSound, NextIsWellFormed, SchedulesAreLawful};
 ghost use Rattle.tx_laws.specs.LawsOfDoom.{DoomedCallsAreRefused, DoomedDeliveriesAreRefused, DoomedAbortAnswers203, OtherAbortAnswers202, MembersDoomNothing, KillDooms, SigqueueDooms, DoomStays};
 ghost use Rattle.tx_laws.specs.LawsOfEvents.{ActorIsObject, EffectIsLocal, ObjectsAreLocal, ReplyIsLocal, ElsewhereIsSame, OtherPartsStay, WritesStayInObjects, OthersGetSendsAlone, HoldsForItsOwn, MembersSendToMembers, StatesCommute, RepliesCommute};
 ghost use Rattle.tx_laws.specs.LawsOfParts.{StartHasItsView, SamePartsSameView, PartsFollowRole, PartsFollowStep, PresentIsNow, DoomIsKept, TwoAnswersAreOfStarter, InWayIsOfParts, HolderIsOfParts};
 ghost use Rattle.tx_laws.specs.WellFormed.{IsWellFormed, HasGoodNumbers};
 ghost use Rattle.tx_laws.specs.Footprints.{FootprintIsOfEvent, FootprintIsShared, HolderIsOfStep};
-ghost use Rattle.tx_laws.specs.LawsOfTable.{BootedHoldsNothing, EmptyViewIsWellFormed, NextViewIsWellFormed, ViewsListEnough, LawfulTableIsWellFormed, HistoriesListEnough};
+ghost use Rattle.tx_laws.specs.WellFormedTable.{HoldsNothing, IsWellFormedWith};
+ghost use Rattle.tx_laws.specs.LawsOfTable.{EmptyViewIsWellFormed, NextViewIsWellFormed, ViewsListEnough};
 
 /// Erasure: in every prefix of a lawful history, from any start state, each surviving step has
 /// the reply that the plain kernel gives when the steps of aborted transactions are left out,
@@ -145,10 +151,13 @@ pub fn well_formed()
 /// each member but the starter is a member too or process 1, that of the starter is none, and what
 /// is held is within its limit. So what a commit lists fits its reply. The same step by step.
 pub fn well_formed_table()
-    ensures booted { BootedHoldsNothing }
+    ensures booted { (width count : ℕ) → HoldsNothing (booted width count) }
     ensures start { EmptyViewIsWellFormed }
     ensures step { NextViewIsWellFormed }
     ensures listed { ViewsListEnough }
-    ensures history { LawfulTableIsWellFormed }
-    ensures undelivered { HistoriesListEnough }
+    ensures history { (start : State) (history : List Accepted) →
+        IsWellFormed start → HoldsNothing start → Lawful start history → IsWellFormedWith (table_of start history) (without start nobody history) }
+    ensures undelivered { (start : State) (history : List Accepted) (step : Step) (items : List Missed) →
+        IsWellFormed start → HoldsNothing start → Lawful start history →
+        answer (view start history) step ≡ Committed (record { items = items }) → length items ≤ UNDELIVERED }
 {}

@@ -15,5 +15,5 @@ returns-clause-agreement c = IfOk-weaker c.run_on.result
     (λ (ran : Ran). (start : State) → view_of c.in_ok-machine.machine ≡ view start [] → RunsFrom start c.args.steps.now ran)
     (λ (ran : Ran). (later earlier : List Accepted) → reverse ran.history.items ≡ later ++ earlier → Agreement (booted 256 c.args.count) earlier)
     (λ (ran : Ran) (from : (start : State) → view_of c.in_ok-machine.machine ≡ view start [] → RunsFrom start c.args.steps.now ran) (later earlier : List Accepted) (split : reverse ran.history.items ≡ later ++ earlier).
-    run_agrees (booted 256 c.args.count) (reverse ran.history.items) later earlier (from (booted 256 c.args.count) c.in_ok-machine.ensures.view).lawful split)
+    run_agrees c.erasure.ensures (booted 256 c.args.count) (reverse ran.history.items) later earlier (from (booted 256 c.args.count) c.in_ok-machine.ensures.view).lawful split)
     c.run_on.ensures

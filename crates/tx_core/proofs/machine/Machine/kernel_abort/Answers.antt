@@ -17,20 +17,20 @@ pub abort-requires-clause-named : goal.abort-requires-clause-named
 abort-requires-clause-named c =
     let k : Kernel = c.self.inside.kernel in
     let mark : slot_at k.marks c.args.starter.0 ≡ Some c.in-Some.mark = search (rules, c.in-Some.ensures, c.get.ensures) in
-    abort_named k c.args.starter c.in-Some.mark c.self.invariant mark (negsuc 201)
+    abort_named c.laws.ensures k c.args.starter c.in-Some.mark c.self.invariant mark (negsuc 201)
 
 pub invariant_of-self : goal.invariant_of-self
 invariant_of-self c =
     let k : Kernel = c.self.inside.kernel in
     let mark : slot_at k.marks c.args.starter.0 ≡ Some c.in-Some.mark = search (rules, c.in-Some.ensures, c.get.ensures) in
-    (kernel_from k c.abort.new.self c.args.starter c.in-Some.mark c.abort.result c.self.invariant mark c.abort.ensures.parts c.abort.ensures.marks c.abort.ensures.logs c.abort.ensures.inverse).content
+    (kernel_from c.laws.ensures k c.abort.new.self c.args.starter c.in-Some.mark c.abort.result c.self.invariant mark c.abort.ensures.parts c.abort.ensures.marks c.abort.ensures.logs c.abort.ensures.inverse).content
 
 pub returns-in-Some-clause-ok : goal.returns-in-Some-clause-ok
 returns-in-Some-clause-ok c =
     let k : Kernel = c.self.inside.kernel in
     let mark : slot_at k.marks c.args.starter.0 ≡ Some c.in-Some.mark = search (rules, c.in-Some.ensures, c.get.ensures) in
     subst (λ (x : Kernel). IsStep x (KernelAbort c.args.starter) (Aborted 202) c.abort.result c.abort.new.self) c.self.view_is
-    (kernel_from k c.abort.new.self c.args.starter c.in-Some.mark c.abort.result c.self.invariant mark c.abort.ensures.parts c.abort.ensures.marks c.abort.ensures.logs c.abort.ensures.inverse).made
+    (kernel_from c.laws.ensures k c.abort.new.self c.args.starter c.in-Some.mark c.abort.result c.self.invariant mark c.abort.ensures.parts c.abort.ensures.marks c.abort.ensures.logs c.abort.ensures.inverse).made
 
 pub returns-in-Some-clause-none : goal.returns-in-Some-clause-none
 returns-in-Some-clause-none c =
@@ -43,7 +43,7 @@ pub returns-in-Some-clause-history : goal.returns-in-Some-clause-history
 returns-in-Some-clause-history c start earlier l v =
     let k : Kernel = c.self.inside.kernel in
     let mark : slot_at k.marks c.args.starter.0 ≡ Some c.in-Some.mark = search (rules, c.in-Some.ensures, c.get.ensures) in
-    let z = along k c.abort.new.self (KernelAbort c.args.starter) (Aborted 202) c.abort.result (kernel_from k c.abort.new.self c.args.starter c.in-Some.mark c.abort.result c.self.invariant mark c.abort.ensures.parts c.abort.ensures.marks c.abort.ensures.logs c.abort.ensures.inverse).made start earlier
+    let z = along c.laws.ensures k c.abort.new.self (KernelAbort c.args.starter) (Aborted 202) c.abort.result (kernel_from c.laws.ensures k c.abort.new.self c.args.starter c.in-Some.mark c.abort.result c.self.invariant mark c.abort.ensures.parts c.abort.ensures.marks c.abort.ensures.logs c.abort.ensures.inverse).made start earlier
     (record { lawful = l; view = ap view_of c.self.view_is ∙ v }) in
     (z.lawful, z.view)
 

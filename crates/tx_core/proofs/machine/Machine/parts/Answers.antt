@@ -6,4 +6,4 @@ use Rattle.tx_model.specs.View.{present}
 use Rattle.tx_core.proofs.machine.Machine.parts.Goals as goal
 
 pub returns-clause-state : goal.returns-clause-state
-returns-clause-state c = state_read c.self.inside.kernel ∙ ap (λ (k : Kernel). present (view_of k)) c.self.view_is
+returns-clause-state c = state_read c.laws.ensures c.self.inside.kernel ∙ ap (λ (k : Kernel). present (view_of k)) c.self.view_is
