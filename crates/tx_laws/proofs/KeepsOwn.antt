@@ -1,10 +1,8 @@
 -- What a step inside a transaction leaves of it.
-use Rattle.std.proofs.Common.{◌≡◌, ◌≢◌, ◌⊎◌, ℕ, zero, suc, ◌+◌, ◌-◌, ◌<◌, ◌≤◌, Bool, true, false, List, [], ◌∷◌, ◌++◌, length, Option, Some, None, is_some, if◌then◌else◌, ◌==◌, refl, sym, ap, ◌∙◌, subst, inl, inr, eq-eqb, arith}
+use Rattle.std.proofs.Common.{◌≡◌, ◌≢◌, ℕ, ◌+◌, ◌-◌, ◌<◌, ◌≤◌, Bool, true, false, List, [], ◌∷◌, ◌++◌, length, Option, Some, None, is_some, refl, sym, ap, ◌∙◌, subst, inl, inr, arith}
 use Rattle.std.proofs.lemmas.Bool.{both_ways}
-use Rattle.tx_base.specs.declared.limits.TheConstants.{HELD_SENDS}
 use Rattle.tx_model.specs.State.{Process, State, Sender, Sending, written}
-use Rattle.tx_model.specs.Effects.{Inside, Effect, Replies}
-use Rattle.tx_base.specs.declared.steps.Reply.TheVariants.{Ended}
+use Rattle.tx_model.specs.Effects.{Inside, Effect}
 use Rattle.tx_model.specs.Processes.{told_to}
 use Rattle.tx_model.specs.Sends.{has_sender, sent_by_members}
 use Rattle.tx_model.specs.Membership.{Table, is_member_of, is_live, is_open_of}
@@ -12,8 +10,8 @@ use Rattle.tx_model.specs.Answer.{is_running}
 use Rattle.tx_laws.specs.WellFormedTable.{sent_by_kernel, HasParentInside, HasParentOutside, IsTransaction}
 use Rattle.tx_laws.proofs.KeepsFormParts.{same_or_other}
 use Rattle.tx_laws.proofs.PlainWrites.{concludes_ended}
-use Rattle.tx_laws.proofs.Standings.{Standing, stand, running_same, some_same, parent_of, parent_same, parent_is, running_is, some_is, inside_same, outside_same, inside_by_parent, inside_parent, outside_parent, SameFor, open_member, transaction_same}
-use Rattle.tx_laws.proofs.Turns.{Same, SameBut, HoldsSame, HoldsMore, standing, IsOrphan, Told, NotLater, Later, Turn, Stays, Sends, Grows, Reaps, Ends}
+use Rattle.tx_laws.proofs.Standings.{stand, running_same, some_same, parent_of, parent_same, parent_is, running_is, some_is, inside_same, outside_same, inside_by_parent, inside_parent, outside_parent, SameFor, transaction_same}
+use Rattle.tx_laws.proofs.Turns.{orphan_some, Same, SameBut, standing, IsOrphan, Told, NotLater, Later, Turn, Stays, Sends, Grows, Reaps, Ends}
 
 -- sends are counted one by one
 sent_push : (ms : List Sending) (m : Sending) → sent_by_members (ms ++ m ∷ []) ≡ sent_by_members ms + has_sender m.from
@@ -39,7 +37,7 @@ sent_length (m ∷ ms) =
     omega arith
 
 -- the starter of a step's transaction, and its members
-abbrev starter_in : Option Inside → ℕ
+abbrev pub starter_in : Option Inside → ℕ
 starter_in None = 0
 starter_in (Some i) = i.starter
 
@@ -129,10 +127,6 @@ module _ (t : Table) (S : State) (i : Inside) (p : ℕ) (mine : is_member_of t i
   -- the member p has ended
   module _ (new : Table) (T : State) (same : SameFor t new s) (parent : ℕ) (was : stand (S.procs p) ≡ standing parent true) (now : stand (T.procs p) ≡ standing parent false)
       (orphans : (n : ℕ) → n ≢ p → IsOrphan p (S.procs n) (T.procs n)) (closed : is_open_of s (new.marks p) ≡ false) where
-    some_orphan : (x y : Option Process) → IsOrphan p x y → is_some x ≡ true → is_some y ≡ true
-    some_orphan x y (inl e) h = some_same y x e ∙ h
-    some_orphan x y (inr e) h = some_is y (record { parent = 1; runs = e.0 }) e.2
-
     running_orphan : (x y : Option Process) → IsOrphan p x y → is_running y ≡ is_running x
     running_orphan x y (inl e) = running_same y x e
     running_orphan x y (inr e) = running_is y 1 e.0 e.2 ∙ sym (running_is x p e.0 e.1)
@@ -159,7 +153,7 @@ module _ (t : Table) (S : State) (i : Inside) (p : ℕ) (mine : is_member_of t i
     ends_with sent none once = record {
       starter = elim (same_or_other s p) [
         | inl z ↦ ap (λ (m : ℕ). is_some (T.procs m)) z ∙ some_is (T.procs p) (record { parent = parent; runs = false }) now
-        | inr z ↦ some_orphan (S.procs s) (T.procs s) (orphans s z) k.starter
+        | inr z ↦ orphan_some p (S.procs s) (T.procs s) (orphans s z) k.starter
       ];
       open_parts = λ n h. elim (same_or_other n p) [
         | inl z ↦ absurd (both_ways (is_open_of s (new.marks n)) (ap (λ (m : ℕ). is_open_of s (new.marks m)) z ∙ closed) h)

@@ -1,20 +1,17 @@
 -- Each step leaves the live transactions so, by what it is to them.
-use Rattle.std.proofs.Common.{◌≡◌, ◌≢◌, ◌⊎◌, ℕ, zero, suc, ◌+◌, ◌≤◌, Bool, true, false, not, List, [], ◌∷◌, ◌++◌, ℤ, pos, Option, Some, None, is_some, if◌then◌else◌, ◌==◌, refl, sym, ap, ◌∙◌, subst, inl, inr, eq-eqb, eqb-true, arith}
+use Rattle.std.proofs.Common.{◌≡◌, ◌≢◌, ℕ, Bool, true, false, [], ◌∷◌, ℤ, Option, Some, None, if◌then◌else◌, ◌==◌, refl, sym, ap, ◌∙◌, subst, inl, inr, eq-eqb, eqb-true}
 use Rattle.std.proofs.lemmas.Bool.{both_ways}
 use Rattle.tx_base.specs.declared.marks.Mark.{Mark}
-use Rattle.tx_model.specs.State.{Process, State, Sending, Object, Proc, Held, SetHeld, AgreeAt, put_at, write_one, written, has, is_between}
+use Rattle.tx_model.specs.State.{State, Object, Proc, Held, SetHeld, AgreeAt, put_at, write_one, written, has}
 use Rattle.tx_model.specs.StateLaws.{put_here, put_cases, put_there}
-use Rattle.tx_model.specs.Effects.{Inside, Effect, send_answers, noted_if}
+use Rattle.tx_model.specs.Effects.{Inside, Effect, send_answers}
 use Rattle.tx_model.specs.Posts.{posts}
 use Rattle.tx_model.specs.Events.{Event, Note, Commit, actor, effect, objects, after}
-use Rattle.tx_model.specs.Membership.{Table, is_of, is_member_of, is_live, is_open_of, inside_by, Continues, Parks, Forks, Begins, Outside, Within, Commits, Aborts, parked, defers_in, new_mark, unmarked, table_after}
-use Rattle.tx_model.specs.History.{Starters, nobody, just, with_one, less_one}
-use Rattle.tx_model.specs.View.{View, present, IsClear, next_by}
-use Rattle.tx_model.specs.Answer.{is_running}
+use Rattle.tx_model.specs.Membership.{Table, is_of, is_member_of, is_live, is_open_of, Parks, Within, Commits, Aborts, parked, new_mark, unmarked, table_after}
+use Rattle.tx_model.specs.History.{nobody, just, with_one}
+use Rattle.tx_model.specs.View.{View, present, IsClear}
 use Rattle.tx_laws.specs.Sound.{IsSound}
-use Rattle.tx_laws.specs.Fits.{FitsWithin}
-use Rattle.tx_laws.specs.WellFormed.{IsWellFormed}
-use Rattle.tx_laws.specs.WellFormedTable.{sent_by_kernel, HasParentInside, HasParentOutside, IsTransaction, IsWellFormedWith}
+use Rattle.tx_laws.specs.WellFormedTable.{IsTransaction, IsWellFormedWith}
 use Rattle.tx_laws.proofs.Agree.{agree_refl}
 use Rattle.tx_laws.proofs.Elsewhere.{written_else, event_fits}
 use Rattle.tx_laws.proofs.Coherence.{clear_foot, objects_in}
@@ -22,10 +19,9 @@ use Rattle.tx_laws.proofs.Tables.{of_unique, of_parked, of_unmarked}
 use Rattle.tx_laws.proofs.KeepsFormParts.{same_or_other}
 use Rattle.tx_laws.proofs.KeepsFormReleased.{written_append}
 use Rattle.tx_laws.proofs.WithinSets.{false_unless}
-use Rattle.tx_laws.proofs.PlainWrites.{concludes_ended}
-use Rattle.tx_laws.proofs.Standings.{stand, parent_of, running_same, SameFor, open_member, transaction_same, posts_stand, posts_held, concluded_stand, concluded_held, note_stand}
-use Rattle.tx_laws.proofs.Turns.{Same, SameBut, HoldsSame, standing, Told, NotLater, Later, Turn, Stays, Sends, Grows, Reaps, Ends}
-use Rattle.tx_laws.proofs.KeepsOwn.{grows_kept, own_kept}
+use Rattle.tx_laws.proofs.Standings.{stand, SameFor, open_member, transaction_same, posts_stand, posts_held, concluded_stand, concluded_held, note_stand}
+use Rattle.tx_laws.proofs.Turns.{Same, HoldsSame, Told, NotLater, Later, Turn, Stays, Sends, Grows, Reaps, Ends}
+use Rattle.tx_laws.proofs.KeepsOwn.{starter_in}
 
 -- posts and the conclusion change neither standing nor what is held
 pub after_stand : (ev : Event) (S : State) → Same (written (effect ev S).writes S) (after ev S)
@@ -115,20 +111,16 @@ outside_holds p S f (Ends concludes parent was now orphans sends told) = by told
     by (NotLater held) = held
     by (Later j e out ne held) = cc
 
-abbrev starter_of : Option Inside → ℕ
-starter_of None = 0
-starter_of (Some i) = i.starter
-
 pub inside_holds : (i : Inside) (p : ℕ) (S : State) (f : Effect) → Turn (Some i) p S f → (u : ℕ) → u ≢ i.starter → (written f.writes S).held u ≡ S.held u
 inside_holds i p S f (Stays goes stands held) u ne = held u
-inside_holds i p S f (Sends goes j e m sender room stands held) u ne = held.others u (λ z. ne (z ∙ sym (ap starter_of e)))
+inside_holds i p S f (Sends goes j e m sender room stands held) u ne = held.others u (λ z. ne (z ∙ sym (ap starter_in e)))
 inside_holds i p S f (Grows goes c free child stands held) u ne = held u
 inside_holds i p S f (Reaps goes c was now stands held) u ne = held u
 inside_holds i p S f (Ends concludes parent was now orphans sends told) u ne = by told
   where
     by : Told (Some i) parent S (written f.writes S) → (written f.writes S).held u ≡ S.held u
     by (NotLater held) = held u
-    by (Later j e out n held) = held.others u (λ z. ne (z ∙ sym (ap starter_of e)))
+    by (Later j e out n held) = held.others u (λ z. ne (z ∙ sym (ap starter_in e)))
 
 -- the state after, as the writes leave it
 pub after_kept : (t : Table) (ev : Event) (S : State) (s : ℕ) → is_live t s ≡ true → IsTransaction t (written (effect ev S).writes S) s → IsTransaction t (after ev S) s

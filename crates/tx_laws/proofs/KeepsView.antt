@@ -1,36 +1,29 @@
 -- Every accepted step leaves the live transactions so.
-use Rattle.std.proofs.Common.{◌≡◌, ◌≢◌, ◌⊎◌, ℕ, zero, suc, ◌+◌, ◌≤◌, Bool, true, false, not, List, [], ◌∷◌, ◌++◌, ℤ, pos, negsuc, Option, Some, None, is_some, if◌then◌else◌, ◌==◌, refl, sym, ap, ◌∙◌, subst, inl, inr, eq-eqb, eqb-true, arith}
-use Rattle.std.proofs.lemmas.Bool.{both_ways, cases_Bool, not-false}
+use Rattle.std.proofs.Common.{◌≡◌, ◌≢◌, ℕ, ◌≤◌, Bool, true, false, List, [], ℤ, pos, negsuc, Option, Some, None, is_some, if◌then◌else◌, ◌==◌, refl, sym, ap, ◌∙◌, subst, inl, inr, eq-eqb, arith}
+use Rattle.std.proofs.lemmas.Bool.{both_ways}
 use Rattle.tx_base.specs.declared.marks.Mark.{Mark}
-use Rattle.tx_base.specs.declared.names.Pid.{Pid}
-use Rattle.tx_base.specs.declared.steps.Call.{Call}
-use Rattle.tx_base.specs.declared.steps.Call.TheVariants as call
-use Rattle.tx_base.specs.declared.steps.Reply.{Reply}
 use Rattle.tx_base.specs.declared.steps.Step.{Step}
-use Rattle.tx_base.specs.declared.steps.Step.TheVariants.{Call as Calls, Deliver, KernelAbort}
-use Rattle.tx_model.specs.State.{Process, State, Sending, Object, Proc, Held, put_at, written, has, has_parent, is_between}
+use Rattle.tx_model.specs.State.{Process, State, Sending, Proc, written, has, is_between}
 use Rattle.tx_model.specs.StateLaws.{put_here, put_cases, put_there}
-use Rattle.tx_model.specs.Effects.{Inside, Effect, Conclusion, Replies, AnswersPost, ListsFailed, concluding_reply}
+use Rattle.tx_model.specs.Effects.{Inside, Conclusion, Replies, AnswersPost, ListsFailed, concluding_reply}
 use Rattle.tx_model.specs.Numbers.{negative}
-use Rattle.tx_model.specs.Processes.{forks}
 use Rattle.tx_model.specs.Sends.{sent_by_members}
-use Rattle.tx_model.specs.Calls.{MakesCall, running_effect, effect_at}
-use Rattle.tx_model.specs.Events.{Event, Do, Note, Commit, process_of, actor, step_effect, effect, objects, after, reply_of}
-use Rattle.tx_model.specs.Membership.{Table, is_of, is_member_of, is_live, is_open_of, inside_by, Progress, Continues, Parks, Forks, Begins, Role, Outside, Within, Commits, Aborts, Kind, Ordinary, Forking, Beginning, Leaving, Aborting, kind_of, says_ended, others_open, member_end_role, member_end, ordinary_role, called_by_status, kind_role, role, kind_event, step_event, event_in, event, parked, defers_in, new_mark, unmarked, table_after}
-use Rattle.tx_model.specs.History.{Starters, nobody, just, with_one, less_one}
-use Rattle.tx_model.specs.View.{View, present, first_reply, role_on, event_on, IsClear, next_by, next}
-use Rattle.tx_model.specs.Answer.{is_running, has_bad_number, has_number_in_use}
+use Rattle.tx_model.specs.Events.{Event, Do, Note, Commit, actor, effect, objects, after, reply_of}
+use Rattle.tx_model.specs.Membership.{Table, is_of, is_member_of, is_live, is_open_of, inside_by, Progress, Continues, Parks, Forks, Begins, Role, Outside, Within, Commits, Aborts, Kind, Ordinary, Forking, Beginning, Leaving, Aborting, says_ended, others_open, member_end_role, ordinary_role, called_by_status, kind_role, kind_event, event_in, parked, defers_in, new_mark, table_after}
+use Rattle.tx_model.specs.History.{Starters, nobody, just, less_one}
+use Rattle.tx_model.specs.View.{View, present, next_by}
+use Rattle.tx_model.specs.Answer.{is_running}
 use Rattle.tx_laws.specs.Sound.{IsSound}
-use Rattle.tx_laws.specs.Fits.{ProgressFits, FitsWithin, Fits, Passes}
+use Rattle.tx_laws.specs.Fits.{FitsWithin, Fits, Passes}
 use Rattle.tx_laws.specs.WellFormed.{IsPlaced, IsWellFormed}
-use Rattle.tx_laws.specs.WellFormedTable.{sent_by_kernel, HasParentInside, HasParentOutside, IsTransaction, IsWellFormedWith}
+use Rattle.tx_laws.specs.WellFormedTable.{sent_by_kernel, HasParentOutside, IsTransaction, IsWellFormedWith}
 use Rattle.tx_laws.proofs.Coherence.{sound_by}
-use Rattle.tx_laws.proofs.Tables.{of_unique, of_none}
-use Rattle.tx_laws.proofs.KeepsFormParts.{same_or_other, some_of}
+use Rattle.tx_laws.proofs.Tables.{of_none}
+use Rattle.tx_laws.proofs.KeepsFormParts.{same_or_other}
 use Rattle.tx_laws.proofs.WithinSets.{false_unless}
 use Rattle.tx_laws.proofs.PlainWrites.{concludes_ended}
-use Rattle.tx_laws.proofs.Standings.{stand, parent_of, outside_same, running_same, some_same, parent_same, SameFor, open_member, note_stand}
-use Rattle.tx_laws.proofs.Turns.{Same, SameBut, HoldsSame, standing, Turn, Stays, step_turn, GrowsBy, forks_by}
+use Rattle.tx_laws.proofs.Standings.{parent_of, outside_same, running_same, parent_same, SameFor, open_member, note_stand}
+use Rattle.tx_laws.proofs.Turns.{Same, Turn, Stays, GrowsBy}
 use Rattle.tx_laws.proofs.KeepsOwn.{grows_kept, own_kept}
 use Rattle.tx_laws.proofs.KeepsTable.{after_stand, after_holds, same_table, not_open, parked_table, new_table, outside_holds, inside_holds, after_kept, untouched, outside_formed, within_formed, commits_formed, aborts_formed}
 
@@ -38,7 +31,8 @@ use Rattle.tx_laws.proofs.KeepsTable.{after_stand, after_holds, same_table, not_
 abbrev Formed : View → Role → Event → ℕ → Type 0
 Formed V r ev p = IsWellFormedWith (table_after r p V.table) (present (next_by r ev p V))
 
-running_some : (x : Option Process) → is_running x ≡ true → is_some x ≡ true
+-- who runs is there
+pub running_some : (x : Option Process) → is_running x ≡ true → is_some x ≡ true
 running_some None h = cc
 running_some (Some q) h = refl
 
@@ -137,9 +131,9 @@ module _ (V : View) (sound : IsSound V) (kept : IsWellFormedWith V.table (presen
               both_ways (is_running ((present V).procs me.parent)) none runs
         ]
 
-    forks_formed : (c : ℕ) (ev : Event) → Passes (Within s (Forks c)) ev V → Fits (Within s (Forks c)) ev p V → is_some ((present V).procs p) ≡ true
+    forks_formed : (c : ℕ) (ev : Event) → Passes (Within s (Forks c)) ev V → Fits (Within s (Forks c)) ev p V
         → GrowsBy p c (present V) (effect ev (present V)) → Formed V (Within s (Forks c)) ev p
-    forks_formed c ev passes fits here g =
+    forks_formed c ev passes fits g =
         within_formed V sound kept ev passes new s (within_mine ev s p (Forks c) fits) lives (members_after (Within s (Forks c)) ev p passes fits) others
         (after_kept new ev (present V) s lives
         (grows_kept V.table (present V) inner p mine (λ n. refl) live (kept.live s live) new (written (effect ev (present V)).writes (present V)) c g.free g.child g.others (g.held s)
@@ -288,7 +282,7 @@ module _ (V : View) (sound : IsSound V) (kept : IsWellFormedWith V.table (presen
       (sym (reply_ends (Do step (inside_by V.table (Some m))) (present V))) passes fits (turn (inside_by V.table (Some m)))
   kind_formed p step runs turn left (Forking c) f None e passes fits = outside_by (Do step None) p passes fits (turn None)
   kind_formed p step runs turn left (Forking c) f (Some m) e passes fits =
-      forks_formed p m e c (Do step (inside_by V.table (Some m))) passes fits (running_some ((present V).procs p) runs) (f (inside_by V.table (Some m)))
+      forks_formed p m e c (Do step (inside_by V.table (Some m))) passes fits (f (inside_by V.table (Some m)))
   kind_formed p step runs turn left (Beginning defers) f None e passes fits = begins_formed p defers e runs passes fits (note_turn None p p (pos 0))
   kind_formed p step runs turn left (Beginning defers) f (Some m) e passes fits =
       continues_formed p m e (Note p (negsuc 21)) passes fits goes (note_turn (Some (inner p m e)) p p (negsuc 21))

@@ -1,10 +1,10 @@
 -- What a process is to the others: its parent, and whether it runs.
-use Rattle.std.proofs.Common.{◌≡◌, ◌≢◌, ◌⊎◌, ℕ, ◌+◌, ◌≤◌, Bool, true, false, List, [], ◌∷◌, ◌++◌, ℤ, Option, Some, None, is_some, is_none, if◌then◌else◌, ◌==◌, refl, sym, ap, ◌∙◌, subst, inl, inr, arith}
-use Rattle.tx_model.specs.State.{Process, State, Sending, Write, SetProc, SetDesc, SetPipe, SetHeld, put_at, write_one, written}
-use Rattle.tx_model.specs.StateLaws.{put_here, put_cases, put_there}
+use Rattle.std.proofs.Common.{◌≡◌, ◌⊎◌, ℕ, ◌≤◌, Bool, true, false, List, [], ◌∷◌, ℤ, Option, Some, None, is_some, is_none, if◌then◌else◌, ◌==◌, refl, sym, ap, ◌∙◌, subst, inl, inr}
+use Rattle.tx_model.specs.State.{Process, State, Sending, SetProc, put_at, write_one}
+use Rattle.tx_model.specs.StateLaws.{put_cases}
 use Rattle.tx_model.specs.Posts.{has_room, may_signal, is_quiet, with_queued, with_pending, received, post, posts}
 use Rattle.tx_model.specs.SignalSets.{is_realtime}
-use Rattle.tx_model.specs.Effects.{Effect, Conclusion, Replies, AnswersPost, ListsFailed, noted_if, first_answer, concluded}
+use Rattle.tx_model.specs.Effects.{Conclusion, Replies, AnswersPost, ListsFailed, noted_if, first_answer, concluded}
 use Rattle.tx_base.specs.declared.marks.Mark.{Mark}
 use Rattle.tx_model.specs.Sends.{sent_by_members}
 use Rattle.tx_model.specs.Membership.{Table, is_of, is_member_of, is_live, is_open_of}

@@ -1,11 +1,10 @@
 -- The live transactions of every lawful history are so.
-use Rattle.std.proofs.Common.{◌≡◌, ◌≢◌, ◌⊎◌, ℕ, zero, suc, ◌+◌, ◌≤◌, Bool, true, false, not, List, [], ◌∷◌, ◌++◌, ℤ, pos, Option, Some, None, is_some, is_none, if◌then◌else◌, ◌==◌, refl, sym, ap, ◌∙◌, subst, inl, inr, eq-eqb, eqb-true, arith}
+use Rattle.std.proofs.Common.{◌≡◌, ℕ, Bool, true, false, not, List, [], ◌∷◌, ℤ, Option, Some, None, is_some, is_none, ◌==◌, refl, sym, ap, ◌∙◌, subst, inl, inr, eq-eqb, eqb-true}
 use Rattle.std.proofs.lemmas.Bool.{both_ways, cases_Bool}
 use Rattle.tx_base.specs.declared.names.Pid.{Pid}
 use Rattle.tx_base.specs.declared.steps.Accepted.{Accepted}
 use Rattle.tx_base.specs.declared.steps.Call.{Call}
 use Rattle.tx_base.specs.declared.steps.Call.TheVariants as call
-use Rattle.tx_base.specs.declared.steps.Refusal.{Refusal}
 use Rattle.tx_base.specs.declared.steps.Refusal.TheVariants.{NoProcess, NotRunning, BadNumber, NumberTaken}
 use Rattle.tx_base.specs.declared.steps.Step.{Step}
 use Rattle.tx_base.specs.declared.steps.Step.TheVariants.{Call as Calls, Deliver, KernelAbort}
@@ -14,48 +13,38 @@ use Rattle.tx_model.specs.Numbers.{negative}
 use Rattle.tx_model.specs.Effects.{Inside}
 use Rattle.tx_model.specs.Processes.{forks}
 use Rattle.tx_model.specs.Calls.{MakesCall, running_effect, effect_at}
-use Rattle.tx_model.specs.Events.{Event, Do, Note, process_of, actor, effect, objects, after, run}
-use Rattle.tx_model.specs.Membership.{Table, is_member_of, is_live, Role, Outside, Within, Commits, Aborts, Kind, Ordinary, kind_of, unmarked, table_after}
-use Rattle.tx_model.specs.History.{Starters, nobody, just, with_one, less_one, table_of, survivors, without, touched_of}
+use Rattle.tx_model.specs.Events.{Event, Note, process_of, actor, effect, objects, after, run}
+use Rattle.tx_model.specs.Membership.{is_member_of, is_live, Role, Outside, Within, Commits, Aborts, Ordinary, kind_of, table_after}
+use Rattle.tx_model.specs.History.{Starters, nobody, just, with_one, less_one, table_of, survivors, without}
 use Rattle.tx_model.specs.View.{View, view, present, kernel_status, IsClear, after_if, role_on, event_on, next_by, next}
 use Rattle.tx_model.specs.Answer.{is_running, is_there, has_bad_number, has_number_in_use, refusal, accepted_reply, answer, IsAccepted, Lawful}
 use Rattle.tx_laws.specs.Sound.{IsSound}
 use Rattle.tx_laws.specs.Fits.{Fits, Passes}
 use Rattle.tx_laws.specs.WellFormed.{IsWellFormed}
-use Rattle.tx_laws.specs.WellFormedTable.{IsWellFormedWith}
+use Rattle.tx_laws.specs.WellFormedTable.{IsWellFormedWith, IsWellFormedView}
 use Rattle.tx_laws.proofs.Local.{objects_same}
 use Rattle.tx_laws.proofs.Coherence.{IsQuiet, quiet_objects, outside_quiet, commits_quiet, sound_by}
 use Rattle.tx_laws.proofs.Tables.{of_unique, of_unmarked}
-use Rattle.tx_laws.proofs.Taken.{IsUnrefused, unrefused, unless_accepted}
+use Rattle.tx_laws.proofs.Taken.{if_none, IsUnrefused, unrefused, unless_accepted}
 use Rattle.tx_laws.proofs.Erased.{lawful_sound, lawful_next}
 use Rattle.tx_laws.proofs.StepView.{IsFitting, fitting}
-use Rattle.tx_laws.proofs.KeepsFormParts.{same_or_other}
 use Rattle.tx_laws.proofs.FormHistory.{history_form}
 use Rattle.tx_laws.proofs.WithinSets.{false_unless}
 use Rattle.tx_laws.proofs.Turns.{GrowsBy, step_turn, forks_by}
 use Rattle.tx_laws.proofs.KeepsTable.{after_holds, other_part, untouched}
 use Rattle.tx_laws.proofs.KeepsView.{ForksNow, kind_formed, aborts_by}
 
--- what is so of the view: its transactions are so in the present state, and without one nothing is held by its number
-pub record IsKept (V : View) : Type 0 where
-  pub formed : IsWellFormedWith V.table (present V)
-  pub left : (s : ℕ) → (V.without (just s)).held s ≡ []
-
 note_held : (p : ℕ) (r : ℤ) (S : State) (u : ℕ) → (after (Note p r) S).held u ≡ S.held u
 unfolding effect written
 note_held p r S u = after_holds (Note p r) S u
 
 -- a number that is chosen is free
-rest_none : (b : Bool) (why : Refusal) (rest : Option Refusal) → (if b then Some why else rest) ≡ None → (b ≡ false) × (rest ≡ None)
-rest_none true why rest h = cc
-rest_none false why rest h = (refl, h)
-
 free_number : (V : View) (p : ℕ) (step : Step) → refusal V p step ≡ None → has_number_in_use (present V) step ≡ false
 free_number V p step h =
-    let a = rest_none (not (is_there V p)) NoProcess _ h in
-    let b = rest_none (not (is_running ((present V).procs p))) NotRunning _ a.1 in
-    let c = rest_none (has_bad_number V.table.width step) BadNumber _ b.1 in
-    let d = rest_none (has_number_in_use (present V) step) NumberTaken _ c.1 in
+    let a = if_none (not (is_there V p)) NoProcess _ h in
+    let b = if_none (not (is_running ((present V).procs p))) NotRunning _ a.1 in
+    let c = if_none (has_bad_number V.table.width step) BadNumber _ b.1 in
+    let d = if_none (has_number_in_use (present V) step) NumberTaken _ c.1 in
     d.0
 
 none_there : (x : Option Process) → is_some x ≡ false → x ≡ None
@@ -85,7 +74,7 @@ module _ (S : State) (w : IsWellFormed S) (inside : Option Inside) (p : ℕ) (ch
   fork_grows None e h = cc
   fork_grows (Some me) e h = fork_running me me.status e refl h
 
-module _ (V : View) (sound : IsSound V) (kept : IsKept V) (form : IsWellFormed (present V)) where
+module _ (V : View) (sound : IsSound V) (kept : IsWellFormedView V) (form : IsWellFormed (present V)) where
   forks_now : (pid : Pid) (c : Call) → is_running ((present V).procs pid.0) ≡ true → has_number_in_use (present V) (Calls pid c) ≡ false
       → ForksNow V sound kept.formed form pid.0 (Calls pid c) (kind_of c)
   unfolding effect
@@ -176,7 +165,7 @@ module _ (V : View) (sound : IsSound V) (kept : IsKept V) (form : IsWellFormed (
         ∙ formed.others u dead
   ]
 
-  pub next_kept : (step : Step) → IsAccepted (answer V step) → IsKept (next V step)
+  pub next_kept : (step : Step) → IsAccepted (answer V step) → IsWellFormedView (next V step)
   unfolding next
   next_kept step a =
       let f : IsFitting V step = fitting V step sound a in
@@ -184,7 +173,7 @@ module _ (V : View) (sound : IsSound V) (kept : IsKept V) (form : IsWellFormed (
       record { formed = formed; left = left_by (role_on V step) (event_on V step) (process_of step) f.passes f.fits formed }
 
 -- the view of the empty history
-start_kept : (S : State) → ((s : ℕ) → S.held s ≡ []) → IsKept (view S [])
+pub start_kept : (S : State) → ((s : ℕ) → S.held s ≡ []) → IsWellFormedView (view S [])
 unfolding view without survivors run table_of
 start_kept S none = record { formed = record { live = λ s h. cc; members = λ s p h. cc; others = λ s h. none s }; left = none }
 
@@ -192,12 +181,12 @@ pub present_form : (S : State) (h : List Accepted) → IsWellFormed S → Lawful
 unfolding view
 present_form S h w l = history_form S h w l nobody
 
-pub history_kept : (S : State) (h : List Accepted) → IsWellFormed S → ((s : ℕ) → S.held s ≡ []) → Lawful S h → IsKept (view S h)
+pub history_kept : (S : State) (h : List Accepted) → IsWellFormed S → ((s : ℕ) → S.held s ≡ []) → Lawful S h → IsWellFormedView (view S h)
 unfolding Lawful
 history_kept S [] w none l = start_kept S none
 history_kept S (e ∷ h) w none l =
     let a : IsAccepted (answer (view S h) e.step) = subst IsAccepted (sym l.1) l.2 in
-    subst IsKept (sym (lawful_next S e h l))
+    subst IsWellFormedView (sym (lawful_next S e h l))
     (next_kept (view S h) (lawful_sound S h l.0) (history_kept S h w none l.0) (present_form S h w l.0) e.step a)
 
 pub table_kept : (S : State) (h : List Accepted) → IsWellFormed S → ((s : ℕ) → S.held s ≡ []) → Lawful S h → IsWellFormedWith (table_of S h) (without S nobody h)

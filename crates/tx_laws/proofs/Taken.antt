@@ -63,7 +63,7 @@ between_le limit (suc n) h = let k : n < limit = ltb-true n limit h in omega ari
 pub clear_of : (V : View) (ev : Event) → IsSound V → holder V ev ≡ None → IsClear V ev
 clear_of V ev sound h s live = least_none (in_way V ev) V.table.width h s (between_le V.table.width s (sound.bounded s s live))
 
-if_none : (b : Bool) (why : Refusal) (rest : Option Refusal) → (if b then Some why else rest) ≡ None → (b ≡ false) × (rest ≡ None)
+pub if_none : (b : Bool) (why : Refusal) (rest : Option Refusal) → (if b then Some why else rest) ≡ None → (b ≡ false) × (rest ≡ None)
 if_none true why rest h = cc
 if_none false why rest h = (refl, h)
 

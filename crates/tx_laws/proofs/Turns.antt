@@ -1,9 +1,8 @@
 -- What the writes of a step make of the processes' standing, and of what is held.
-use Rattle.std.proofs.Common.{◌≡◌, ◌≢◌, ◌⊎◌, ℕ, zero, suc, ◌+◌, ◌<◌, ◌≤◌, Bool, true, false, not, List, [], ◌∷◌, ◌++◌, ℤ, pos, Option, Some, None, is_some, is_none, if◌then◌else◌, nat_lt, ◌==◌, refl, sym, ap, ◌∙◌, subst, inl, inr, eq-eqb, eqb-true, arith}
+use Rattle.std.proofs.Common.{◌≡◌, ◌≢◌, ◌⊎◌, ℕ, zero, suc, ◌+◌, ◌<◌, Bool, true, false, List, [], ◌∷◌, ◌++◌, ℤ, pos, Option, Some, None, is_some, is_none, if◌then◌else◌, nat_lt, ◌==◌, refl, sym, ap, ◌∙◌, subst, inl, inr, eq-eqb, eqb-true}
 use Rattle.std.proofs.lemmas.Bool.{both_ways, ltb-true}
 use Rattle.tx_base.specs.declared.errors.Errno.TheVariants.{NotPermitted, NoChild, NoSuchProcess, TryAgain, InvalidArgument}
 use Rattle.tx_base.specs.declared.limits.TheConstants.{HELD_SENDS}
-use Rattle.tx_base.specs.declared.signals.SigSet.{SigSet}
 use Rattle.tx_base.specs.declared.steps.Call.{Call}
 use Rattle.tx_base.specs.declared.steps.Call.TheVariants as call
 use Rattle.tx_base.specs.declared.steps.Refusal.{Refusal}
@@ -18,14 +17,14 @@ use Rattle.tx_model.specs.Effects.{Inside, Effect, Replies, idle, noted, own_eff
 use Rattle.tx_model.specs.Scripts.{closed_inside}
 use Rattle.tx_model.specs.Signals.{Disposition, Ignored, Fatal, Caught, disposition}
 use Rattle.tx_model.specs.Descriptors.{open_in, released}
-use Rattle.tx_model.specs.Processes.{child_of, forks, ended, children_below, children_of, with_parent, orphaned, told_to, Telling, NotTold, AtOnce, AtCommit, telling_by, telling, told_at_once, told_at_commit, ending, exit_status, exit_effect, numbered, with_status, waits_by, waits_for, waits_at}
-use Rattle.tx_model.specs.Sends.{has_sender, sent_by_members, sendable, sent_by, posts_now, holds, hands_out, sends_signal, send_effect}
-use Rattle.tx_model.specs.Deliveries.{delivered_value, relieved, action_at, caught, is_full, killed_status, acts_on, is_deferred, delivers, delivery_effect}
+use Rattle.tx_model.specs.Processes.{child_of, forks, ended, children_below, children_of, with_parent, orphaned, told_to, Telling, NotTold, AtOnce, AtCommit, telling, told_at_once, told_at_commit, ending, exit_status, exit_effect, numbered, with_status, waits_by, waits_for, waits_at}
+use Rattle.tx_model.specs.Sends.{has_sender, sent_by_members, sendable, sent_by, posts_now, holds, hands_out, sends_signal}
+use Rattle.tx_model.specs.Deliveries.{delivered_value, relieved, action_at, caught, is_full, killed_status, acts_on, is_deferred, delivers}
 use Rattle.tx_model.specs.Calls.{call_effect, MakesCall, TakesSignal, running_effect, effect_at}
 use Rattle.tx_model.specs.Events.{process_of, step_effect}
 use Rattle.tx_laws.proofs.KeepsFormReleased.{written_append}
-use Rattle.tx_laws.proofs.Standings.{Standing, standing_of, stand, put_stand}
-use Rattle.tx_laws.proofs.PlainWrites.{IsLater, IsPlainWrite, ArePlain, concludes_ended, IsPlain, noted_later, later_same, idle_plain, own_plain, same_plain, released_plain}
+use Rattle.tx_laws.proofs.Standings.{some_same, some_is, Standing, standing_of, stand, put_stand}
+use Rattle.tx_laws.proofs.PlainWrites.{IsLater, IsPlainWrite, ArePlain, concludes_ended, IsPlain, same_plain, released_plain}
 use Rattle.tx_laws.proofs.PlainCalls.{IsSpecial, call_plain}
 
 abbrev pub Same : State → State → Type 0
@@ -48,6 +47,11 @@ standing parent runs = Some (record { parent = parent; runs = runs })
 -- a process stands as before, or its parent was p and is process 1
 abbrev pub IsOrphan : ℕ → Option Process → Option Process → Type 0
 IsOrphan p x y = (stand y ≡ stand x) ⊎ ((r : Bool) × (stand x ≡ standing p r) × (stand y ≡ standing 1 r))
+
+-- it is there as before
+pub orphan_some : (p : ℕ) (x y : Option Process) → IsOrphan p x y → is_some x ≡ true → is_some y ≡ true
+orphan_some p x y (inl e) h = some_same y x e ∙ h
+orphan_some p x y (inr e) h = some_is y (record { parent = 1; runs = e.0 }) e.2
 
 -- how the parent of a process that ended is told
 pub data Told (inside : Option Inside) (parent : ℕ) (S T : State) : Type 0 where
@@ -161,7 +165,7 @@ orphaned_stand p S U left (q ∷ qs) me all k =
       | inr z ↦ subst (λ (x : Option Process). IsOrphan p (S.procs n) x) (sym z.1) (k.others n ne)
     ]
 
--- nothing more is told when nothing is held
+-- nothing is done
 idle_turn : (inside : Option Inside) (p : ℕ) (S : State) (why : Refusal) → Turn inside p S (idle why)
 unfolding written
 idle_turn inside p S why = Stays refl (λ n. refl) (λ u. refl)

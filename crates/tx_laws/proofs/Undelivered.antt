@@ -1,5 +1,5 @@
 -- What a commit lists fits its reply.
-use Rattle.std.proofs.Common.{◌≡◌, ◌≢◌, ◌⊎◌, ℕ, zero, suc, ◌+◌, ◌≤◌, Bool, true, false, not, List, [], ◌∷◌, ◌++◌, length, ℤ, pos, negsuc, Option, Some, None, is_some, if◌then◌else◌, ◌==◌, refl, sym, ap, ◌∙◌, subst, inl, inr, eq-eqb, arith}
+use Rattle.std.proofs.Common.{◌≡◌, ◌≢◌, ℕ, ◌+◌, ◌≤◌, Bool, true, false, List, [], ◌∷◌, ◌++◌, length, ℤ, pos, negsuc, Option, Some, None, is_some, if◌then◌else◌, ◌==◌, refl, sym, ap, ◌∙◌, subst, arith}
 use Rattle.std.proofs.lemmas.Bool.{both_ways}
 use Rattle.tx_base.specs.declared.marks.Mark.{Mark}
 use Rattle.tx_base.specs.declared.names.Missed.{Missed}
@@ -9,28 +9,27 @@ use Rattle.tx_base.specs.declared.steps.Reply.TheVariants.{Ended, Committed, Abo
 use Rattle.tx_base.specs.declared.steps.Refusal.TheVariants.{NoTransaction}
 use Rattle.tx_base.specs.declared.steps.Step.{Step}
 use Rattle.tx_base.specs.declared.steps.Step.TheVariants.{Call as Calls, Deliver, KernelAbort}
-use Rattle.tx_model.specs.State.{Process, State, Sending, SetHeld, write_one, written, is_between}
+use Rattle.tx_model.specs.State.{Process, State, Sending, SetHeld, written, is_between}
 use Rattle.tx_model.specs.Posts.{is_quiet, post_answer, answers}
-use Rattle.tx_model.specs.Effects.{Inside, Effect, Conclusion, Replies, concluding_reply, send_answers, failed_sends}
+use Rattle.tx_model.specs.Effects.{Inside, Conclusion, Replies, concluding_reply, send_answers, failed_sends}
 use Rattle.tx_model.specs.Processes.{told_to, NotTold, AtOnce, AtCommit, telling, told_at_once}
 use Rattle.tx_model.specs.Sends.{sent_by_members}
 use Rattle.tx_model.specs.Events.{Event, Do, Note, Commit, effect, reply_of}
-use Rattle.tx_model.specs.Membership.{Table, is_member_of, is_live, inside_by, Parks, Role, Within, Commits, Kind, Ordinary, Forking, Beginning, Leaving, Aborting, kind_of, says_ended, others_open, member_end_role, ordinary_role, kind_role, kind_event, event_in, table_after}
-use Rattle.tx_model.specs.History.{nobody, without}
+use Rattle.tx_model.specs.Membership.{is_member_of, is_live, inside_by, Parks, Within, Kind, Ordinary, Forking, Beginning, Leaving, Aborting, kind_of, says_ended, others_open, member_end_role, ordinary_role, kind_role, kind_event, event_in, table_after}
 use Rattle.tx_model.specs.View.{View, view, present, kernel_status, abort_status}
 use Rattle.tx_model.specs.Answer.{is_running, refusal, plain_reply, accepted_reply, answer, Lawful}
 use Rattle.tx_laws.specs.Sound.{IsSound}
 use Rattle.tx_laws.specs.WellFormed.{IsPlaced, IsWellFormed}
-use Rattle.tx_laws.specs.WellFormedTable.{sent_by_kernel, IsTransaction, IsWellFormedWith}
+use Rattle.tx_laws.specs.WellFormedTable.{sent_by_kernel, IsTransaction, IsWellFormedView}
 use Rattle.tx_laws.proofs.KeepsFormReleased.{written_append}
 use Rattle.tx_laws.proofs.PlainWrites.{concludes_ended}
-use Rattle.tx_laws.proofs.Standings.{Standing, stand, parent_of, parent_is, some_same, some_is}
-use Rattle.tx_laws.proofs.Turns.{IsOrphan, standing, Turn, Stays, Sends, Grows, Reaps, Ends, step_turn}
+use Rattle.tx_laws.proofs.Standings.{stand, parent_of, parent_is}
+use Rattle.tx_laws.proofs.Turns.{orphan_some, IsOrphan, standing, Turn, Stays, Sends, Grows, Reaps, Ends, step_turn}
 use Rattle.tx_laws.proofs.KeepsOwn.{sent_length}
 use Rattle.tx_laws.proofs.Taken.{unless_accepted}
 use Rattle.tx_laws.proofs.Erased.{lawful_sound}
-use Rattle.tx_laws.proofs.KeepsView.{reply_ends, inner, parked_own, note_turn}
-use Rattle.tx_laws.proofs.TableHistory.{IsKept, not_own, history_kept, present_form}
+use Rattle.tx_laws.proofs.KeepsView.{running_some, reply_ends, inner, parked_own, note_turn}
+use Rattle.tx_laws.proofs.TableHistory.{not_own, history_kept, present_form}
 
 -- an event that is no commit answers no commit
 reply_by : (ev : Event) (S : State) → (effect ev S).conclusion ≡ Replies Ended → reply_of ev S ≡ Ended
@@ -82,7 +81,7 @@ listed_by : (s : ℕ) (ev : Event) (S : State) (u : List Missed) → reply_of (C
 unfolding reply_of effect
 listed_by s ev S u h = sym (ap items_in h)
 
-module _ (V : View) (sound : IsSound V) (kept : IsKept V) (form : IsWellFormed (present V)) (p : ℕ) (m : Mark) (e : V.table.marks p ≡ Some m) where
+module _ (V : View) (sound : IsSound V) (kept : IsWellFormedView V) (form : IsWellFormed (present V)) (p : ℕ) (m : Mark) (e : V.table.marks p ≡ Some m) where
   abbrev s : ℕ
   s = m.starter.0
 
@@ -130,10 +129,6 @@ module _ (V : View) (sound : IsSound V) (kept : IsKept V) (form : IsWellFormed (
   parent_there : (parent : ℕ) → stand (S.procs p) ≡ standing parent true → is_member_of V.table s parent ≡ true → (parent ≢ p) × (is_some (S.procs parent) ≡ true)
   parent_there parent was member = by (S.procs p) refl (parent_is (S.procs p) parent true was)
     where
-      running_some : (x : Option Process) → is_running x ≡ true → is_some x ≡ true
-      running_some None h = cc
-      running_some (Some q) h = refl
-
       not_first : (me : Process) → S.procs p ≡ Some me → me.parent ≡ parent → p ≢ 1
       not_first me k is one =
           let same : Some form.first.0 ≡ Some me = sym form.first.1 ∙ ap S.procs (sym one) ∙ k in
@@ -149,10 +144,6 @@ module _ (V : View) (sound : IsSound V) (kept : IsKept V) (form : IsWellFormed (
           let placed : IsPlaced S p me = form.placed p me k in
           (λ z. placed.other (is ∙ z), running_some (S.procs parent) (ap (λ (n : ℕ). is_running (S.procs n)) (sym is) ∙ placed.parent (not_first me k is)))
 
-  orphan_some : (x y : Option Process) → IsOrphan p x y → is_some x ≡ true → is_some y ≡ true
-  orphan_some x y (inl h) k = some_same y x h ∙ k
-  orphan_some x y (inr h) k = some_is y (record { parent = 1; runs = h.0 }) h.2
-
   ends_few : (ev : Event) (u : List Missed) → reply_of (Commit s ev) S ≡ Committed (record { items = u }) → Turn (Some (inner V sound kept.formed form p m e)) p S (effect ev S)
       → (parent : ℕ) → stand (S.procs p) ≡ standing parent true → ((n : ℕ) → n ≢ p → IsOrphan p (S.procs n) ((written (effect ev S).writes S).procs n))
       → (effect ev S).sends ≡ told_at_once (telling (Some (inner V sound kept.formed form p m e)) parent) parent → length u ≤ 33
@@ -163,7 +154,7 @@ module _ (V : View) (sound : IsSound V) (kept : IsKept V) (form : IsWellFormed (
       by true b k z = none_sent ev u z h turn
       by false true k z =
           let there = parent_there parent was k in
-          told_sent ev u parent z (orphan_some (S.procs parent) ((written (effect ev S).writes S).procs parent) (orphans parent there.0) there.1) h turn
+          told_sent ev u parent z (orphan_some p (S.procs parent) ((written (effect ev S).writes S).procs parent) (orphans parent there.0) there.1) h turn
       by false false k z = none_sent ev u z h turn
 
   -- a member's end that commits
@@ -191,7 +182,7 @@ note_sends : (p : ℕ) (r : ℤ) (S : State) → (effect (Note p r) S).sends ≡
 unfolding effect
 note_sends p r S = refl
 
-module _ (V : View) (sound : IsSound V) (kept : IsKept V) (form : IsWellFormed (present V)) where
+module _ (V : View) (sound : IsSound V) (kept : IsWellFormedView V) (form : IsWellFormed (present V)) where
   notes : (inside : Option Inside) (p q : ℕ) (r : ℤ) → Turn inside p (present V) (effect (Note q r) (present V))
   notes inside p q r = note_turn V sound kept.formed form inside p q r
 

@@ -32,8 +32,8 @@ use Rattle.tx_model.specs.Calls.{call_effect, MakesCall, TakesSignal, running_ef
 use Rattle.tx_model.specs.Events.{Event, Do, Note, Commit, step_effect, effect, after}
 use Rattle.tx_laws.specs.WellFormed.{IsWholePage, IsMask, HasFrameLimits, HasActionLimits, HasCatchLimits, IsRealtimeEntry, IsKnownSending, HasIdLimits, HasLimits}
 use Rattle.tx_model.specs.StateLaws.{put_cases}
-use Rattle.tx_laws.proofs.WithinSets.{in_one_more, in_less, empty_set, empty_mask, caught_mask}
-use Rattle.tx_laws.proofs.WithinOwn.{KeepsLimits, next_limit, noted_limits, slotted}
+use Rattle.tx_laws.proofs.WithinSets.{either_true, in_one_more, in_less, empty_set, empty_mask, caught_mask}
+use Rattle.tx_laws.proofs.WithinOwn.{KeepsLimits, next_within, noted_limits, slotted}
 use Rattle.tx_laws.proofs.PlainWrites.{IsPlainWrite, ArePlain, IsSendable, IsPlain, idle_plain, own_plain, same_plain, released_plain}
 use Rattle.tx_laws.proofs.PlainCalls.{IsSpecial, call_plain}
 
@@ -123,7 +123,7 @@ no_sends = All-nil IsSendable
 -- processes
 child_limits : (p : ℕ) (me : Process) → KeepsLimits me (child_of p me)
 child_limits p me h = record {
-  point = next_limit me.registers.point h.point;
+  point = next_within me.registers.point h.point;
   pages = h.pages;
   ids = h.ids;
   mask = h.mask;
@@ -332,18 +332,14 @@ module _ (S : State) (p : ℕ) (me : Process) (w : IsWithin S) (l : HasLimits me
       queue false = h.queued
 
   -- what is pending is known
-  known_by : (a b : Bool) → (a ≡ true) ⊎ (b ≡ true) → (a || b) ≡ true
-  known_by true b h = refl
-  known_by false b h = elim h [ inl e ↦ cc | inr e ↦ e ]
-
   delivered_known : (signo : ℕ) (value : ℤ) → delivered_value signo me ≡ Some value → is_known signo ≡ true
   delivered_known signo value h = by (is_blocked signo me) (is_realtime signo) refl (is_in_set me.pending signo) refl h
     where
       by : (a b : Bool) → is_realtime signo ≡ b → (c : Bool) → is_in_set me.pending signo ≡ c
           → (if a then None else (if b then first_value signo me.queued else (if c then Some (pos 0) else None))) ≡ Some value → is_known signo ≡ true
       by true b y c z k = cc
-      by false true y c z k = known_by (is_one_of standard_signals signo) (is_realtime signo) (inr y)
-      by false false y true z k = known_by (is_one_of standard_signals signo) (is_realtime signo) (inl (l.pending signo z))
+      by false true y c z k = either_true (is_one_of standard_signals signo) (is_realtime signo) (inr y)
+      by false false y true z k = either_true (is_one_of standard_signals signo) (is_realtime signo) (inl (l.pending signo z))
       by false false y false z k = cc
 
   caught_limits : (signo : ℕ) (value : ℤ) (point : ℕ) (mask : SigSet) → is_known signo ≡ true → signo ≢ kill_signo → HasCatchLimits point mask

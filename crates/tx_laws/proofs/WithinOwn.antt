@@ -28,15 +28,13 @@ use Rattle.tx_laws.proofs.WithinSets.{in_less, maskable_mask}
 abbrev pub KeepsLimits : Process → Process → Type 0
 KeepsLimits me new = HasLimits me → HasLimits new
 
-next_within : (point : ℕ) → point ≤ LAST_POINT → next_point point ≤ LAST_POINT
+-- the next point is one
+pub next_within : (point : ℕ) → point ≤ LAST_POINT → next_point point ≤ LAST_POINT
 next_within point h = by (nat_lt point LAST_POINT) refl
   where
     by : (b : Bool) → nat_lt point LAST_POINT ≡ b → (if b then point + 1 else point) ≤ LAST_POINT
     by true e = let less : point < LAST_POINT = ltb-true point LAST_POINT e in omega arith
     by false e = h
-
-pub next_limit : (point : ℕ) → point ≤ LAST_POINT → next_point point ≤ LAST_POINT
-next_limit point h = next_within point h
 
 -- the process with an answer
 pub noted_limits : (r : ℤ) (me : Process) → KeepsLimits me (noted r me)

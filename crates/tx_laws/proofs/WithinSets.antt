@@ -18,7 +18,7 @@ bit_in set signo h = eqb-true (bit_at set signo) 1 h
 not_in_set : (set signo : ℕ) → bit_at set signo ≡ 0 → is_in_set set signo ≡ false
 not_in_set set signo h = ap (λ (bit : ℕ). bit == 1) h
 
-either_true : (a b : Bool) → (a ≡ true) ⊎ (b ≡ true) → (a || b) ≡ true
+pub either_true : (a b : Bool) → (a ≡ true) ⊎ (b ≡ true) → (a || b) ≡ true
 either_true true b h = refl
 either_true false true h = refl
 either_true false false h = elim h [ inl e ↦ e | inr e ↦ e ]

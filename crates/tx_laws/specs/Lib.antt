@@ -12,3 +12,4 @@ pub mod LawsOfEvents
 pub mod LawsOfParts
 pub mod LawsOfDoom
 pub mod WellFormedTable
+pub mod LawsOfTable

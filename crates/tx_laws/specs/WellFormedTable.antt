@@ -4,6 +4,8 @@ use Rattle.tx_base.specs.declared.limits.TheConstants.{HELD_SENDS}
 use Rattle.tx_model.specs.State.{Process, Sending, State}
 use Rattle.tx_model.specs.Sends.{has_sender, sent_by_members}
 use Rattle.tx_model.specs.Membership.{Table, is_member_of, is_live, is_open_of}
+use Rattle.tx_model.specs.History.{just}
+use Rattle.tx_model.specs.View.{View, present}
 use Rattle.tx_model.specs.Answer.{is_running}
 
 -- how many of the sends have no sender: they are the kernel's own
@@ -42,3 +44,9 @@ pub record IsWellFormedWith (t : Table) (S : State) : Type 0 where
 -- no transaction holds anything
 abbrev pub HoldsNothing : State → Type 0
 HoldsNothing S = (s : ℕ) → S.held s ≡ []
+
+-- what is so of the view of every history: its live transactions are so in the state, and without one of them nothing
+-- is held by its number
+pub record IsWellFormedView (V : View) : Type 0 where
+  pub formed : IsWellFormedWith V.table (present V)
+  pub left : (s : ℕ) → (V.without (just s)).held s ≡ []

@@ -20,6 +20,7 @@ ghost use Rattle.tx_laws.specs.LawsOfParts.{StartHasItsView, SamePartsSameView, 
 ghost use Rattle.tx_laws.specs.WellFormed.{IsWellFormed, HasGoodNumbers};
 ghost use Rattle.tx_laws.specs.Footprints.{FootprintIsOfEvent, FootprintIsShared, HolderIsOfStep};
 ghost use Rattle.tx_laws.specs.WellFormedTable.{HoldsNothing, IsWellFormedWith};
+ghost use Rattle.tx_laws.specs.LawsOfTable.{EmptyViewIsWellFormed, NextViewIsWellFormed, ViewsListEnough};
 
 /// Erasure: in every prefix of a lawful history, from any start state, each surviving step has
 /// the reply that the plain kernel gives when the steps of aborted transactions are left out,
@@ -148,9 +149,12 @@ pub fn well_formed()
 /// The live transactions of every lawful history from a well-formed state that holds nothing, as
 /// the booted one does: the starter is there, members whose part has not ended run, the parent of
 /// each member but the starter is a member too or process 1, that of the starter is none, and what
-/// is held is within its limit. So what a commit lists fits its reply.
+/// is held is within its limit. So what a commit lists fits its reply. The same step by step.
 pub fn well_formed_table()
     ensures booted { (width count : ℕ) → HoldsNothing (booted width count) }
+    ensures start { EmptyViewIsWellFormed }
+    ensures step { NextViewIsWellFormed }
+    ensures listed { ViewsListEnough }
     ensures history { (start : State) (history : List Accepted) →
         IsWellFormed start → HoldsNothing start → Lawful start history → IsWellFormedWith (table_of start history) (without start nobody history) }
     ensures undelivered { (start : State) (history : List Accepted) (step : Step) (items : List Missed) →
