@@ -12,3 +12,8 @@ pub mod WorkedNumbers
 pub mod WorkedScripts
 pub mod WorkedMemory
 pub mod WorkedMoments
+pub mod WorkedFootprints
+pub mod WorkedSends
+pub mod WorkedIdentities
+pub mod WorkedDescriptors
+pub mod WorkedChildren

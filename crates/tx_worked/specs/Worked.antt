@@ -1,13 +1,13 @@
--- Two schedules that are worked out to the end. Own rules.
+-- Schedules of transactions that begin and end, worked out to the end. Own rules.
 use Rattle.std.specs.Prelude.{◌≡◌, true, List, [], ◌∷◌, pos, negsuc, Some, None, replicate}
-use Rattle.tx_base.specs.declared.steps.Call.TheVariants.{Map, Load, SysXbegin, SysXend, SysXabort}
-use Rattle.tx_base.specs.declared.steps.Refusal.TheVariants.{NoProcess}
+use Rattle.tx_base.specs.declared.steps.Call.TheVariants.{Map, Load, SysXbegin, SysXbeginDefer, SysXend, SysXabort}
+use Rattle.tx_base.specs.declared.steps.Refusal.TheVariants.{NoProcess, NoTransaction}
 use Rattle.tx_base.specs.declared.steps.Reply.TheVariants.{Aborted, No}
 use Rattle.tx_base.specs.declared.steps.Step.{Step}
 use Rattle.tx_model.specs.Memory.{Memory, no_memory}
-use Rattle.tx_model.specs.State.{booted_process, booted}
+use Rattle.tx_model.specs.State.{State, booted_process, booted}
 use Rattle.tx_model.specs.Schedules.{answers_of}
-use Rattle.tx_worked.specs.WorkedSteps.{calls, kernel, store, ok, error, committed, state_after, standing}
+use Rattle.tx_worked.specs.WorkedSteps.{calls, kernel, store, fork, kill, ok, error, committed, state_after, standing, with_one_pending}
 
 -- a transaction that maps a page and stores into it, and takes itself back
 abbrev pub taken_back : List Step
@@ -65,3 +65,62 @@ SideBySideState =
     ((state_after (booted 64 3) side_by_side).procs 1 ≡ Some (booted_process 1))
     × ((state_after (booted 64 3) side_by_side).procs 2 ≡ Some (standing 2 6 (pos 0) stored_page))
     × ((state_after (booted 64 3) side_by_side).procs 3 ≡ Some (standing 3 2 (negsuc 21) no_memory))
+
+-- a transaction does not begin in another one, nor end where there is none; the kernel aborts it by its starter's number
+-- alone, and any member aborts it
+abbrev pub out_of_place : List Step
+out_of_place =
+    calls 2 SysXend
+    ∷ calls 2 SysXabort
+    ∷ calls 2 SysXbegin
+    ∷ calls 2 SysXbegin
+    ∷ calls 2 SysXbeginDefer
+    ∷ calls 2 (fork 7)
+    ∷ calls 7 SysXbegin
+    ∷ kernel 7
+    ∷ calls 7 SysXabort
+    ∷ calls 2 SysXabort
+    ∷ kernel 2
+    ∷ []
+
+abbrev pub OutOfPlaceAnswers : Type 0
+OutOfPlaceAnswers =
+    answers_of (booted 64 2) [] out_of_place
+    ≡ error 22
+    ∷ error 22
+    ∷ ok 0
+    ∷ error 22
+    ∷ error 22
+    ∷ ok 7
+    ∷ error 22
+    ∷ No NoTransaction
+    ∷ Aborted 201
+    ∷ error 22
+    ∷ No NoTransaction
+    ∷ []
+
+-- a transaction that its starter begins again after it was taken back, and commits
+abbrev pub begun_again : List Step
+begun_again =
+    calls 2 SysXbegin
+    ∷ calls 2 (kill 3 10)
+    ∷ calls 2 (Map (pos 0))
+    ∷ calls 2 SysXabort
+    ∷ calls 2 SysXbegin
+    ∷ calls 2 (Map (pos 1))
+    ∷ calls 2 (kill 3 12)
+    ∷ calls 2 SysXend
+    ∷ []
+
+abbrev pub BegunAgainAnswers : Type 0
+BegunAgainAnswers =
+    answers_of (booted 64 3) [] begun_again ≡ ok 0 ∷ ok 0 ∷ ok 0 ∷ Aborted 201 ∷ ok 0 ∷ ok 0 ∷ ok 0 ∷ committed ∷ []
+
+-- page 1 of zeros
+abbrev pub second_page : Memory
+second_page = None ∷ Some (record { writable = true; bytes = replicate 64 0 }) ∷ replicate 14 None
+
+abbrev pub BegunAgainState : Type 0
+BegunAgainState =
+    let S : State = state_after (booted 64 3) begun_again in
+    (S.procs 2 ≡ Some (standing 2 5 (pos 0) second_page)) × (S.procs 3 ≡ Some (with_one_pending 12 (booted_process 3)))

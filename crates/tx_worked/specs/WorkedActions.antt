@@ -1,6 +1,6 @@
 -- Schedules of signals that are caught, ignored and blocked, worked out to the end. Own rules.
-use Rattle.std.specs.Prelude.{◌≡◌, List, [], ◌∷◌, ◌++◌, pos, Some, replicate}
-use Rattle.tx_base.specs.declared.signals.Action.TheVariants.{Ignore, Catch}
+use Rattle.std.specs.Prelude.{◌≡◌, List, [], ◌∷◌, ◌++◌, pos, negsuc, Some, replicate}
+use Rattle.tx_base.specs.declared.signals.Action.TheVariants.{Usual, Ignore, Catch}
 use Rattle.tx_base.specs.declared.steps.Call.TheVariants.{Exit, Sigaction, Sigpending, Sigreturn, Getpid}
 use Rattle.tx_base.specs.declared.steps.Refusal.TheVariants.{NotDeliverable, FramesFull}
 use Rattle.tx_base.specs.declared.steps.Reply.TheVariants.{Ended, No}
@@ -8,7 +8,7 @@ use Rattle.tx_base.specs.declared.steps.Step.{Step}
 use Rattle.tx_model.specs.Memory.{no_memory}
 use Rattle.tx_model.specs.State.{State, booted}
 use Rattle.tx_model.specs.Schedules.{answers_of}
-use Rattle.tx_worked.specs.WorkedSteps.{calls, delivery, kill, sigqueue, block, unblock, block_only, catch, caught_and_unblocked, ok, error, state_after, standing, exited, killed_by, with_one_action, with_mask, saved_at, with_frames}
+use Rattle.tx_worked.specs.WorkedSteps.{calls, delivery, kill, sigqueue, block, unblock, block_only, catch, caught_and_unblocked, ok, error, state_after, standing, exited, killed_by, with_one_action, with_mask, with_one_pending, entry, with_queue, saved_at, with_frames}
 
 -- a signal is caught: it is blocked meanwhile, with those of its action (4,096 is the set of signal 12, 5,120 that of 10
 -- and 12)
@@ -232,3 +232,29 @@ abbrev pub MasksState : Type 0
 MasksState =
     (state_after (booted 64 3) masks).procs 2
     ≡ Some (with_mask 4096 (record (standing 2 10 (pos 4096) no_memory) { pending = 37890 }))
+
+-- to ignore a signal discards every pending one of it and no other; so does the usual action of SIGCHLD, and that of
+-- another signal does not. There is no action for a number that is no signal
+abbrev pub discards : List Step
+discards =
+    calls 3 (sigqueue 2 34 1)
+    ∷ calls 3 (sigqueue 2 35 2)
+    ∷ calls 3 (sigqueue 2 34 3)
+    ∷ calls 3 (kill 2 17)
+    ∷ calls 3 (kill 2 10)
+    ∷ calls 2 (Sigaction (pos 34) Ignore)
+    ∷ calls 2 (Sigaction (pos 17) Usual)
+    ∷ calls 2 (Sigaction (pos 10) Usual)
+    ∷ calls 2 (Sigaction (pos 4) Ignore)
+    ∷ calls 2 (Sigaction (pos 0) Ignore)
+    ∷ calls 2 (Sigaction (negsuc 0) Ignore)
+    ∷ calls 2 (Sigaction (pos 40) Ignore)
+    ∷ []
+
+abbrev pub DiscardsAnswers : Type 0
+DiscardsAnswers = answers_of (booted 64 3) [] discards ≡ replicate 8 (ok 0) ++ replicate 4 (error 22)
+
+abbrev pub DiscardsState : Type 0
+DiscardsState =
+    (state_after (booted 64 3) discards).procs 2
+    ≡ Some (with_one_action 34 Ignore (with_one_pending 10 (with_queue (entry 35 2 ∷ []) (standing 2 7 (negsuc 21) no_memory))))

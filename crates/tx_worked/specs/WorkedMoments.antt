@@ -9,7 +9,7 @@ use Rattle.tx_base.specs.declared.steps.Step.{Step}
 use Rattle.tx_model.specs.State.{booted}
 use Rattle.tx_model.specs.Schedules.{history_of}
 use Rattle.tx_laws.specs.OneMoment.{moved_history, is_one_moment}
-use Rattle.tx_worked.specs.WorkedSteps.{calls, delivery, store, fork, kill, ok, committed}
+use Rattle.tx_worked.specs.WorkedSteps.{calls, delivery, store, fork, kill, ok, error, committed}
 
 -- the step was answered so
 abbrev pub answered : Step → Reply → Accepted
@@ -120,3 +120,33 @@ ChildParksHistory =
 abbrev pub ChildParksTellsNothing : Type 0
 ChildParksTellsNothing =
     is_one_moment (booted 256 3) 2 commit_of_two (answered (calls 4 SysXend) (ok 0) ∷ child_looks) ≡ true
+
+-- process 2 began its transaction, and made one step in it
+abbrev pub one_step : Step → Reply → List Accepted
+one_step step reply = answered step reply ∷ answered (calls 2 SysXbegin) (ok 0) ∷ []
+
+-- the starter looks at what is pending, or at an action, though of no signal
+abbrev pub StarterLooks : Type 0
+StarterLooks =
+    (is_one_moment (booted 256 3) 2 commit_of_two (one_step (calls 2 Sigpending) (ok 0)) ≡ false)
+    × (is_one_moment (booted 256 3) 2 commit_of_two (one_step (calls 2 (Sigaction (pos 4) Ignore)) (error 22)) ≡ false)
+
+-- it asks whether it is there itself, and whether another process is; or sends an unknown signal, which is no signal
+abbrev pub StarterSends : Type 0
+StarterSends =
+    (is_one_moment (booted 256 3) 2 commit_of_two (one_step (calls 2 (kill 2 0)) (ok 0)) ≡ false)
+    × (is_one_moment (booted 256 3) 2 commit_of_two (one_step (calls 2 (kill 3 10)) (ok 0)) ≡ true)
+    × (is_one_moment (booted 256 3) 2 commit_of_two (one_step (calls 2 (kill 2 99)) (error 22)) ≡ true)
+
+-- what the starter does before it begins, and what others do, tells nothing; the step that commits may tell
+abbrev pub OthersTellNothing : Type 0
+OthersTellNothing =
+    (is_one_moment (booted 256 3) 2 commit_of_two
+    (answered (calls 3 Sigpending) (ok 0)
+    ∷ answered (calls 2 SysXbegin) (ok 0)
+    ∷ answered (calls 2 Sigpending) (ok 0)
+    ∷ [])
+    ≡ true)
+    × (is_one_moment (booted 256 3) 2 (answered (delivery 2 10) committed)
+    (answered (calls 3 (kill 2 10)) (ok 0) ∷ answered (calls 2 SysXbegin) (ok 0) ∷ [])
+    ≡ false)

@@ -1,5 +1,5 @@
 -- Schedules of numbers that calls choose, worked out to the end. Own rules.
-use Rattle.std.specs.Prelude.{◌≡◌, ℕ, false, List, [], ◌∷◌, ◌++◌, pos, negsuc, Some, None, replicate}
+use Rattle.std.specs.Prelude.{◌≡◌, ℕ, zero, suc, ◌+◌, false, List, [], ◌∷◌, ◌++◌, pos, negsuc, Some, None, replicate}
 use Rattle.tx_base.specs.declared.steps.Call.TheVariants.{Exit, Waitpid, Getpid, Close, SysXbegin, SysXend, SysXabort}
 use Rattle.tx_base.specs.declared.steps.Refusal.TheVariants.{NoProcess, BadNumber, NumberTaken, NoTransaction}
 use Rattle.tx_base.specs.declared.steps.Reply.TheVariants.{Ended, Aborted, No}
@@ -125,3 +125,23 @@ FreeInside =
 abbrev pub NoneFree : Type 0
 NoneFree =
     free_numbers (view_after (booted 64 64) []) 1 ≡ record { proc = None; pipe = Some 0; descs = Some (0, 1) }
+
+-- process p makes as many pipes, from this number on
+abbrev pub pipes_from : ℕ → ℕ → ℕ → List Step
+pipes_from p k zero = []
+pipes_from p k (suc n) = calls p (pipe k (k + k) (k + k + 1)) ∷ pipes_from p (k + 1) n
+
+-- every pipe and every description is there: eight pipes at each of four processes
+abbrev pub all_pipes : List Step
+all_pipes = pipes_from 1 0 8 ++ pipes_from 2 8 8 ++ pipes_from 3 16 8 ++ pipes_from 4 24 8
+
+-- then one description is given up, of two that a pipe takes
+abbrev pub all_pipes_but_one_side : List Step
+all_pipes_but_one_side = all_pipes ++ calls 1 (Close (pos 0)) ∷ []
+
+abbrev pub NoPipeFree : Type 0
+NoPipeFree = free_numbers (view_after (booted 64 4) all_pipes) 1 ≡ record { proc = Some 5; pipe = None; descs = None }
+
+abbrev pub OneSideFree : Type 0
+OneSideFree =
+    free_numbers (view_after (booted 64 4) all_pipes_but_one_side) 1 ≡ record { proc = Some 5; pipe = None; descs = None }

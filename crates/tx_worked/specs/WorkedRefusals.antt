@@ -194,3 +194,20 @@ abbrev pub DeferredWithFramesAnswers : Type 0
 DeferredWithFramesAnswers =
     answers_of (booted 256 2) [] deferred_with_frames
     ≡ replicate 15 (ok 0) ++ No Deferred ∷ Aborted 201 ∷ No FramesFull ∷ []
+
+-- a child that was forked inside is deferred like its starter, and not where the transaction defers nothing
+abbrev pub deferred_child : List Step
+deferred_child =
+    calls 2 SysXbeginDefer
+    ∷ calls 3 SysXbegin
+    ∷ calls 2 (fork 7)
+    ∷ calls 3 (fork 8)
+    ∷ calls 2 (kill 7 10)
+    ∷ calls 3 (kill 8 10)
+    ∷ delivery 7 10
+    ∷ delivery 8 10
+    ∷ []
+
+abbrev pub DeferredChildAnswers : Type 0
+DeferredChildAnswers =
+    answers_of (booted 256 3) [] deferred_child ≡ ok 0 ∷ ok 0 ∷ ok 7 ∷ ok 8 ∷ ok 0 ∷ ok 0 ∷ No Deferred ∷ Ended ∷ []

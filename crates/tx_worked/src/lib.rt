@@ -5,6 +5,7 @@
 mod schedules;
 
 pub use schedules::{
-    worked_commits, worked_conflicts, worked_kills, worked_memory, worked_moments, worked_numbers,
-    worked_pipes, worked_refusals, worked_schedules, worked_scripts, worked_signals, worked_trees,
+    worked_children, worked_commits, worked_conflicts, worked_descriptors, worked_footprints,
+    worked_identities, worked_kills, worked_memory, worked_moments, worked_numbers, worked_pipes,
+    worked_refusals, worked_schedules, worked_scripts, worked_sends, worked_signals, worked_trees,
 };

@@ -13,15 +13,24 @@ ghost use Rattle.tx_worked.specs.WorkedPipes as pipes;
 ghost use Rattle.tx_worked.specs.WorkedRefusals as refusals;
 ghost use Rattle.tx_worked.specs.WorkedScripts as scripts;
 ghost use Rattle.tx_worked.specs.WorkedSignals as signals;
+ghost use Rattle.tx_worked.specs.WorkedChildren as children;
+ghost use Rattle.tx_worked.specs.WorkedDescriptors as descriptors;
+ghost use Rattle.tx_worked.specs.WorkedFootprints as footprints;
+ghost use Rattle.tx_worked.specs.WorkedIdentities as identities;
+ghost use Rattle.tx_worked.specs.WorkedSends as sends;
 ghost use Rattle.tx_worked.specs.WorkedTrees as trees;
 
-/// Two schedules worked out from the definitions: a transaction that its process takes back,
-/// and two side by side, of which the kernel takes one back and the other commits.
+/// Worked schedules of transactions that begin and end: one that its process takes back; two side by
+/// side, of which the kernel takes one back and the other commits; calls that find none, or one; and
+/// one that is begun again.
 pub fn worked_schedules()
     ensures taken_back { first.TakenBackAnswers }
     ensures taken_back_state { first.TakenBackState }
     ensures side_by_side { first.SideBySideAnswers }
     ensures side_by_side_state { first.SideBySideState }
+    ensures out_of_place { first.OutOfPlaceAnswers }
+    ensures begun_again { first.BegunAgainAnswers }
+    ensures begun_again_state { first.BegunAgainState }
 {}
 
 /// Worked schedules of children, exits and waits in transactions: a child that an abort takes back,
@@ -86,6 +95,8 @@ pub fn worked_signals()
     ensures catch_points_state { actions.CatchPointsState }
     ensures masks { actions.MasksAnswers }
     ensures masks_state { actions.MasksState }
+    ensures discards { actions.DiscardsAnswers }
+    ensures discards_state { actions.DiscardsState }
 {}
 
 /// Worked schedules of SIGKILL: an outsider's dooms the transaction of a starter, a member's does not,
@@ -161,6 +172,7 @@ pub fn worked_refusals()
     ensures busy_in_turn { refusals.BusyInTurnAnswers }
     ensures deferred_in_turn { refusals.DeferredInTurnAnswers }
     ensures deferred_with_frames { refusals.DeferredWithFramesAnswers }
+    ensures deferred_child { refusals.DeferredChildAnswers }
 {}
 
 /// Worked schedules of numbers that calls choose: out of range, taken, reserved by a transaction; and the least
@@ -175,6 +187,8 @@ pub fn worked_numbers()
     ensures given_up_inside { numbers.GivenUpInsideAnswers }
     ensures free_inside { numbers.FreeInside }
     ensures none_free { numbers.NoneFree }
+    ensures no_pipe_free { numbers.NoPipeFree }
+    ensures one_side_free { numbers.OneSideFree }
 {}
 
 /// Worked schedules of calls that concern their own process alone: jumps, kept answers, the numbers of a process
@@ -210,4 +224,70 @@ pub fn worked_moments()
     ensures child_ends_tells { moments.ChildEndsTells }
     ensures child_parks_history { moments.ChildParksHistory }
     ensures child_parks_tells_nothing { moments.ChildParksTellsNothing }
+    ensures starter_looks { moments.StarterLooks }
+    ensures starter_sends { moments.StarterSends }
+    ensures others_tell_nothing { moments.OthersTellNothing }
+{}
+
+/// Worked schedules of children: what a child starts with, children whose parent has ended, children that a
+/// signal ended, and what is left of an ended process.
+pub fn worked_children()
+    ensures copied_state { children.CopiedState }
+    ensures orphans { children.OrphansAnswers }
+    ensures orphans_state { children.OrphansState }
+    ensures killed_child { children.KilledChildAnswers }
+    ensures killed_child_state { children.KilledChildState }
+    ensures ignored_child { children.IgnoredChildAnswers }
+    ensures ignored_child_state { children.IgnoredChildState }
+    ensures left_over_state { children.LeftOverState }
+    ensures killed_commit { children.KilledCommitAnswers }
+    ensures killed_commit_state { children.KilledCommitState }
+{}
+
+/// Worked schedules of descriptors: which numbers they get, how many there are, when they are closed, and the
+/// order in which wrong calls on them are found out.
+pub fn worked_descriptors()
+    ensures lowest_first { descriptors.LowestFirstAnswers }
+    ensures lowest_first_state { descriptors.LowestFirstState }
+    ensures full_table { descriptors.FullTableAnswers }
+    ensures full_table_state { descriptors.FullTableState }
+    ensures closed_by_exit { descriptors.ClosedByExitAnswers }
+    ensures closed_by_exit_state { descriptors.ClosedByExitState }
+    ensures bytes_lost { descriptors.BytesLostAnswers }
+    ensures wrong_transfers { descriptors.WrongTransfersAnswers }
+    ensures little_room { descriptors.LittleRoomAnswers }
+    ensures wrong_descriptors { descriptors.WrongDescriptorsAnswers }
+{}
+
+/// Worked schedules of what each step asks for: descriptions, pipes, chosen numbers, processes, the targets of
+/// a commit, and the children and the parent of a process that ends.
+pub fn worked_footprints()
+    ensures changed_description { footprints.ChangedDescriptionAnswers }
+    ensures changed_writer { footprints.ChangedWriterAnswers }
+    ensures written_pipe { footprints.WrittenPipeAnswers }
+    ensures read_pipe { footprints.ReadPipeAnswers }
+    ensures chosen_numbers { footprints.ChosenNumbersAnswers }
+    ensures asked_for { footprints.AskedForAnswers }
+    ensures signalled_member { footprints.SignalledMemberAnswers }
+    ensures reserved_target { footprints.ReservedTargetAnswers }
+    ensures told_at_commit { footprints.ToldAtCommitAnswers }
+    ensures fatal_delivery { footprints.FatalDeliveryAnswers }
+    ensures deferred_delivery { footprints.DeferredDeliveryAnswers }
+{}
+
+/// Worked schedules of user and group ids: who may signal whom, and which ids a process may take.
+pub fn worked_identities()
+    ensures permitted { identities.PermittedAnswers }
+    ensures permitted_state { identities.PermittedState }
+    ensures groups { identities.GroupsAnswers }
+    ensures groups_state { identities.GroupsState }
+{}
+
+/// Worked schedules of signals that are sent: which there are, what they bring, and those of members.
+pub fn worked_sends()
+    ensures each_signal { sends.EachSignalAnswers }
+    ensures each_signal_state { sends.EachSignalState }
+    ensures values { sends.ValuesAnswers }
+    ensures sends_inside { sends.SendsInsideAnswers }
+    ensures sends_inside_state { sends.SendsInsideState }
 {}
