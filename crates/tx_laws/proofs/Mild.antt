@@ -1,23 +1,20 @@
 -- Calls that end no process, and send to nobody but their own.
-use Rattle.std.proofs.Common.{◌≡◌, ℕ, zero, suc, Bool, true, false, not, ◌||◌, List, [], ◌∷◌, length, ℤ, pos, Option, Some, None, if◌then◌else◌, nat_lt, ◌==◌, ◌+◌, refl, inl, inr}
-use Rattle.tx_base.specs.declared.errors.Errno.TheVariants.{InvalidArgument, NotPermitted}
-use Rattle.tx_base.specs.declared.limits.TheConstants.{CONSOLE_BYTES, PIPE_BYTES, SLOTS, LAST_POINT}
+use Rattle.std.proofs.Common.{◌≡◌, ℕ, zero, suc, Bool, true, false, ◌||◌, List, [], ◌∷◌, length, ℤ, pos, Option, Some, None, if◌then◌else◌, nat_lt, ◌==◌, ◌+◌, refl, inl, inr}
+use Rattle.tx_base.specs.declared.limits.TheConstants.{CONSOLE_BYTES, PIPE_BYTES, LAST_POINT}
 use Rattle.tx_base.specs.declared.signals.Action.{Action}
 use Rattle.tx_base.specs.declared.steps.Refusal.{Refusal}
-use Rattle.tx_base.specs.declared.steps.Refusal.TheVariants.{NotDeliverable, Deferred, FramesFull}
 use Rattle.tx_base.specs.declared.steps.Reply.TheVariants.{Done}
 use Rattle.tx_base.specs.declared.steps.When.{When}
-use Rattle.tx_model.specs.Numbers.{below, failing}
-use Rattle.tx_model.specs.Memory.{is_good, is_mapped, is_writable, bytes_at, address_of}
+use Rattle.tx_model.specs.Numbers.{below}
+use Rattle.tx_model.specs.Memory.{is_good, is_mapped, is_writable}
 use Rattle.tx_model.specs.State.{Process, Side, ReadSide, WriteSide, Description, State, Sending, Frame, Write}
-use Rattle.tx_model.specs.Effects.{Conclusion, Replies, AnswersPost, ListsFailed, Effect, Inside, Own, idle, own_effect, done, done_with, answers_with, noted}
+use Rattle.tx_model.specs.Effects.{Conclusion, Replies, AnswersPost, ListsFailed, Effect, Inside, Own, idle, own_effect, done, done_with}
 use Rattle.tx_model.specs.Scripts.{does_jump, last_ret, jumps, keeps_at, shows, writes_console}
 use Rattle.tx_model.specs.SignalSets.{kill_signo}
-use Rattle.tx_model.specs.Signals.{acts, is_bad_action, is_ignored, returns, Disposition, Ignored, Fatal, Caught}
-use Rattle.tx_model.specs.Descriptors.{named, lowest_free, with_descriptor, is_pipe_in_use, opens_at, opens_from, pipe_effect, dups_to, dup_effect, renames, dup2_named, dup2_effect, closes, close_effect, flags, nonblock_effect}
-use Rattle.tx_model.specs.Transfers.{waits, drains, reads, read_by_side, read_described, read_effect, puts, has_reader, has_writer, bytes_in, writes, write_by_side, write_described, write_effect}
+use Rattle.tx_model.specs.Signals.{acts, is_bad_action, returns}
+use Rattle.tx_model.specs.Descriptors.{named, lowest_free, with_descriptor, is_pipe_in_use, opens_at, opens_from, pipe_effect, dups_to, dup_effect, dup2_named, dup2_effect, closes, close_effect, flags, nonblock_effect}
+use Rattle.tx_model.specs.Transfers.{waits, drains, reads, read_by_side, read_described, read_effect, has_reader, has_writer, bytes_in, writes, write_by_side, write_described, write_effect}
 use Rattle.tx_model.specs.Processes.{forks, fork_effect, waits_by, waits_for, waits_at, waitpid_effect, numbered}
-use Rattle.tx_model.specs.Deliveries.{is_full, caught, acts_on}
 use Rattle.tx_model.specs.Membership.{says_ended}
 use Rattle.tx_laws.specs.Fits.{IsIn}
 
