@@ -16,6 +16,7 @@ use Rattle.tx_core.specs.Built.{IsBuiltCall}
 use Rattle.tx_proc.specs.Processes.{process_in}
 use Rattle.tx_core.specs.Content.{view_of, IsContent}
 use Rattle.tx_core.specs.Plans.{proc_after, only_answers, IsPlainCall, IsRunning, memory_call}
+use Rattle.tx_core.specs.Runs.{IsAfter}
 use Rattle.tx_core.specs.Steps.{IsStep, IsXabort, Steps}
 use Rattle.tx_core.specs.Laws.{MachineLaws}
 use Rattle.tx_core.specs.declared.inverse.Inverse.{Inverse}
@@ -89,12 +90,8 @@ accepted_at laws k pid call built i runs = by (slot_at k.parts.procs pid.0) refl
     by (Some q) here r = running_accepted laws k pid q i here r call (slot_at k.marks pid.0) refl built
 
 -- one more entry of a history whose view the machine has
-pub record IsAlong (start : State) (entries : List Accepted) (new : Kernel) : Type 0 where
-  pub lawful : Lawful start entries
-  pub view : view_of new ≡ view start entries
-
-pub along : (laws : MachineLaws) (old new : Kernel) (step : Step) (reply : Reply) (inverse : Inverse) → IsStep old step reply inverse new → (start : State) (earlier : List Accepted) → IsAlong start earlier old
-    → IsAlong start (record { step = step; reply = reply } ∷ earlier) new
+pub along : (laws : MachineLaws) (old new : Kernel) (step : Step) (reply : Reply) (inverse : Inverse) → IsStep old step reply inverse new → (start : State) (earlier : List Accepted) → IsAfter start earlier old
+    → IsAfter start (record { step = step; reply = reply } ∷ earlier) new
 unfolding Lawful
 along laws old new step reply inverse made start earlier a =
     let law : Lawful start (record { step = step; reply = reply } ∷ earlier) = (a.lawful, ap (λ (V : View). answer V step) (sym a.view) ∙ made.answered, made.accepted) in

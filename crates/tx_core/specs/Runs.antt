@@ -10,6 +10,11 @@ use Rattle.tx_model.specs.Schedules.{history_of}
 use Rattle.tx_model.specs.State.{State}
 use Rattle.tx_model.specs.View.{view}
 
+-- the machine has the view of a lawful history from a start state
+pub record IsAfter (start : State) (history : List Accepted) (machine : Kernel) : Type 0 where
+  pub lawful : Lawful start history
+  pub view : view_of machine ≡ view start history
+
 -- the run holds the history of the schedule from a start state, which is lawful, and its machine has the view of that history
 pub record RunsFrom (start : State) (steps : List Step) (ran : Ran) : Type 0 where
   pub history : reverse ran.history.items ≡ history_of start [] steps

@@ -1,61 +1,75 @@
--- The answers and the view that the steps of a schedule leave, one after another, are those of its history.
-use Rattle.std.proofs.Common.{◌≡◌, ℕ, ◌+◌, List, [], ◌∷◌, ◌++◌, refl, sym, ap, ◌∙◌}
+-- What some steps of a schedule leave: the lines of their answers, and a machine that has the view of their history.
+use Rattle.std.proofs.Common.{◌≡◌, ℕ, ◌+◌, List, [], ◌∷◌, ◌++◌, Option, Some, None, IsSome, IsNone, refl, sym, ap, ◌∙◌, subst, append_assoc}
+use Rattle.std.proofs.lemmas.List.{append-nil}
 use Rattle.tx_base.specs.declared.steps.Accepted.{Accepted}
 use Rattle.tx_base.specs.declared.steps.Reply.{Reply}
 use Rattle.tx_base.specs.declared.steps.Reply.TheVariants.{Done, Ended, Committed, Aborted, Out, No}
 use Rattle.tx_base.specs.declared.steps.Step.{Step}
-use Rattle.tx_laws.proofs.Erased.{lawful_next}
+use Rattle.tx_core.specs.Content.{view_of}
+use Rattle.tx_core.specs.Runs.{IsAfter}
+use Rattle.tx_core.specs.declared.inverse.Inverse.{Inverse}
+use Rattle.tx_core.specs.declared.kernel.Kernel.{Kernel}
 use Rattle.tx_model.specs.Answer.{answer, IsAccepted, Lawful}
 use Rattle.tx_model.specs.Schedules.{recorded, answers_of, history_of}
 use Rattle.tx_model.specs.State.{State}
-use Rattle.tx_model.specs.View.{View, view, next}
+use Rattle.tx_model.specs.View.{View, view}
 use Rattle.txos.specs.Replies.{line_text}
-use Rattle.txos.specs.Report.{settled, view_left, view_after, replies_text, lines_text, start_state, start_of, report_text, state_text}
-use Rattle.txos.specs.declared.header.Header.{Header}
+use Rattle.txos.specs.Report.{lines_text}
 
--- the history goes on from a view
-record GoesOn (S : State) (h : List Accepted) (V : View) : Type 0 where
-  pub same : V ≡ view S h
-  pub lawful : Lawful S h
+pub none_of : (inverse : Option Inverse) → (IsSome inverse → ⊥) → IsNone inverse
+none_of None h = refl
+none_of (Some inverse) h = absurd (h refl)
 
-accepted_on : (S : State) (h : List Accepted) (step : Step) (r : Reply) → Lawful S h → answer (view S h) step ≡ r → IsAccepted r
-    → GoesOn S (record { step = step; reply = r } ∷ h) (next (view S h) step)
+-- a step that was answered so leaves the machine after the history with it, if it was accepted
+pub recorded_after : (start : State) (history : List Accepted) (step : Step) (reply : Reply) (old new : Kernel) → IsAfter start history old
+    → (IsAccepted reply → Lawful start (record { step = step; reply = reply } ∷ history) × (view_of new ≡ view start (record { step = step; reply = reply } ∷ history)))
+    → ((IsAccepted reply → ⊥) → new ≡ old) → IsAfter start (recorded history step reply) new
+recorded_after start history step (No why) old new after made same = subst (IsAfter start history) (sym (same (λ a. a))) after
+recorded_after start history step (Done ret) old new after made same = record { lawful = (made tt).0; view = (made tt).1 }
+recorded_after start history step Ended old new after made same = record { lawful = (made tt).0; view = (made tt).1 }
+recorded_after start history step (Committed undelivered) old new after made same = record { lawful = (made tt).0; view = (made tt).1 }
+recorded_after start history step (Aborted status) old new after made same = record { lawful = (made tt).0; view = (made tt).1 }
+recorded_after start history step (Out bytes) old new after made same = record { lawful = (made tt).0; view = (made tt).1 }
+
+-- so far: the steps that are left lead from the history so far to that of the whole schedule, and their lines from the
+-- text so far to the whole text
+pub record RepliesSoFar (start : State) (earlier : List Accepted) (steps : List Step) (before : List ℕ) (machine : Kernel) (text : List ℕ) (number : ℕ) (left : List Step) : Type 0 where
+  pub history : List Accepted
+  pub after : IsAfter start history machine
+  pub leads : history_of start earlier steps ≡ history_of start history left
+  pub lines : before ++ lines_text 1 (answers_of start earlier steps) ≡ text ++ lines_text number (answers_of start history left)
+
+-- one step more
+pub one_reply_more : (start : State) (earlier : List Accepted) (steps : List Step) (before : List ℕ) (old new : Kernel) (text more : List ℕ) (number : ℕ) (step : Step) (left : List Step) (reply : Reply)
+    → RepliesSoFar start earlier steps before old text number (step ∷ left) → reply ≡ answer (view_of old) step
+    → ((history : List Accepted) → IsAfter start history old → IsAfter start (recorded history step reply) new)
+    → more ≡ text ++ line_text number reply → RepliesSoFar start earlier steps before new more (number + 1) left
+unfolding history_of answers_of
+one_reply_more start earlier steps before old new text more number step left reply so replied made put =
+    let h : List Accepted = so.history in
+    let same : answer (view start h) step ≡ reply = sym (replied ∙ ap (λ (V : View). answer V step) so.after.view) in
+    let rest : Reply → List ℕ = λ r. lines_text (number + 1) (answers_of start (recorded h step r) left) in
+    record {
+      history = recorded h step reply;
+      after = made h so.after;
+      leads = so.leads ∙ ap (λ (r : Reply). history_of start (recorded h step r) left) same;
+      lines = so.lines
+          ∙ ap (λ (r : Reply). text ++ (line_text number r ++ rest r)) same
+          ∙ sym (append_assoc text (line_text number reply) (rest reply))
+          ∙ ap (λ (t : List ℕ). t ++ rest reply) (sym put);
+    }
+
+-- no step is left
+pub replies_whole : (start : State) (earlier : List Accepted) (steps : List Step) (before : List ℕ) (machine : Kernel) (text : List ℕ) (number : ℕ) (left : List Step)
+    → RepliesSoFar start earlier steps before machine text number left → left ≡ []
+    → (text ≡ before ++ lines_text 1 (answers_of start earlier steps)) × IsAfter start (history_of start earlier steps) machine
+unfolding history_of answers_of
+replies_whole start earlier steps before machine text number left so none = (
+  sym (so.lines ∙ ap (λ (xs : List Step). text ++ lines_text number (answers_of start so.history xs)) none ∙ append-nil text),
+  subst (λ (h : List Accepted). IsAfter start h machine) (sym (so.leads ∙ ap (history_of start so.history) none)) so.after,
+)
+
+-- the machine at the start
+pub after_nothing : (start : State) (machine : Kernel) → view_of machine ≡ view start [] → IsAfter start [] machine
 unfolding Lawful
-accepted_on S h step r l e a =
-    let more : Lawful S (record { step = step; reply = r } ∷ h) = (l, e, a) in
-    record { same = sym (lawful_next S (record { step = step; reply = r }) h more); lawful = more }
-
-settled_on : (S : State) (h : List Accepted) (step : Step) (r : Reply) → Lawful S h → answer (view S h) step ≡ r
-    → GoesOn S (recorded h step r) (settled r (next (view S h) step) (view S h))
-settled_on S h step (No why) l e = record { same = refl; lawful = l }
-settled_on S h step (Done ret) l e = accepted_on S h step (Done ret) l e tt
-settled_on S h step Ended l e = accepted_on S h step Ended l e tt
-settled_on S h step (Committed undelivered) l e = accepted_on S h step (Committed undelivered) l e tt
-settled_on S h step (Aborted status) l e = accepted_on S h step (Aborted status) l e tt
-settled_on S h step (Out bytes) l e = accepted_on S h step (Out bytes) l e tt
-
-left_on : (S : State) (h : List Accepted) (step : Step) → Lawful S h → GoesOn S (recorded h step (answer (view S h) step)) (view_left (view S h) step)
-left_on S h step l = settled_on S h step (answer (view S h) step) l refl
-
-answered_on : (S : State) (h : List Accepted) (steps : List Step) (n : ℕ) → Lawful S h → replies_text (view S h) n steps ≡ lines_text n (answers_of S h steps)
-unfolding answers_of
-answered_on S h [] n l = refl
-answered_on S h (step ∷ steps) n l =
-    let on = left_on S h step l in
-    let r = answer (view S h) step in
-    ap (λ (V : View). line_text n r ++ replies_text V (n + 1) steps) on.same
-    ∙ ap (λ (bytes : List ℕ). line_text n r ++ bytes) (answered_on S (recorded h step r) steps (n + 1) on.lawful)
-
-viewed_on : (S : State) (h : List Accepted) (steps : List Step) → Lawful S h → view_after (view S h) steps ≡ view S (history_of S h steps)
-unfolding history_of
-viewed_on S h [] l = refl
-viewed_on S h (step ∷ steps) l =
-    let on = left_on S h step l in
-    ap (λ (V : View). view_after V steps) on.same ∙ viewed_on S (recorded h step (answer (view S h) step)) steps on.lawful
-
-pub reported : (header : Header) (steps : List Step) → replies_text (start_of header) 1 steps ++ state_text (view_after (start_of header) steps) ≡ report_text header steps
-unfolding Lawful
-reported header steps =
-    let S = start_state header in
-    ap (λ (bytes : List ℕ). bytes ++ state_text (view_after (start_of header) steps)) (answered_on S [] steps 1 tt)
-    ∙ ap (λ (V : View). lines_text 1 (answers_of S [] steps) ++ state_text V) (viewed_on S [] steps tt)
+after_nothing start machine same = record { lawful = tt; view = same }

@@ -4,32 +4,27 @@ use Rattle.tx_base.specs.Slots.{slot_at}
 use Rattle.tx_base.specs.declared.marks.Mark.{Mark}
 use Rattle.tx_change.specs.declared.parts.Parts.{Parts}
 use Rattle.tx_core.specs.declared.kernel.Kernel.{Kernel}
-use Rattle.tx_core.specs.Content.{state_of, table_in, two_parts_of, view_of}
+use Rattle.tx_core.specs.Content.{state_of, table_in, view_of}
 use Rattle.tx_model.specs.Membership.{Table}
 use Rattle.tx_model.specs.State.{State}
 use Rattle.tx_laws.specs.TwoParts.{parts_view}
 use Rattle.tx_model.specs.View.{present}
-use Rattle.tx_laws.proofs.TwoPartsView.{parts_nobody}
 use Rattle.txos.specs.Report.{state_text}
 use Rattle.txos.specs.State.{procs_text}
 use Rattle.txos.specs.Txns.{txns_text}
-
-present_is : (k : Kernel) → present (view_of k) ≡ state_of k.parts
-unfolding view_of parts_view
-present_is k = parts_nobody (two_parts_of k)
 
 table_is : (k : Kernel) → (view_of k).table ≡ table_in k
 unfolding view_of parts_view
 table_is k = refl
 
-pub state_spelled : (k : Kernel) (parts : Parts) (marks : List (Option Mark)) (width : ℕ) (before one two three : List ℕ) → parts ≡ k.parts → marks ≡ k.marks → width ≡ length k.parts.procs →
+pub state_spelled : (k : Kernel) (parts : Parts) (marks : List (Option Mark)) (width : ℕ) (before one two three : List ℕ) → parts ≡ k.parts → state_of parts ≡ present (view_of k) → marks ≡ k.marks → width ≡ length k.parts.procs →
     one ≡ before ++ codes "state\n" → two ≡ one ++ procs_text width (state_of parts).procs → three ≡ two ++ txns_text width (slot_at marks) →
     three ≡ before ++ state_text (view_of k)
-state_spelled k parts marks width before one two three p m count first second third =
+state_spelled k parts marks width before one two three p same m count first second third =
     let shown : State → List ℕ = λ S. procs_text S.width S.procs in
     let listed : Table → List ℕ = λ table. txns_text table.width table.marks in
     let procs : procs_text width (state_of parts).procs ≡ shown (present (view_of k)) =
-    ap (λ (width : ℕ). procs_text width (state_of parts).procs) count ∙ ap (λ (parts : Parts). procs_text (length k.parts.procs) (state_of parts).procs) p ∙ ap shown (sym (present_is k)) in
+    ap (λ (width : ℕ). procs_text width (state_of parts).procs) (count ∙ ap (λ (parts : Parts). length parts.procs) (sym p)) ∙ ap shown same in
     let txns : txns_text width (slot_at marks) ≡ listed (view_of k).table =
     ap (λ (width : ℕ). txns_text width (slot_at marks)) count ∙ ap (λ (marks : List (Option Mark)). txns_text (length k.parts.procs) (slot_at marks)) m ∙ ap listed (sym (table_is k)) in
     let rest : List ℕ = shown (present (view_of k)) ++ listed (view_of k).table in

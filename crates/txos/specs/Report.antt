@@ -1,40 +1,15 @@
 -- The report of a schedule: what each step is answered, and the state that the last one leaves.
 use Rattle.std.specs.Prelude.{ℕ, ◌+◌, List, [], ◌∷◌, ◌++◌, codes}
 use Rattle.tx_base.specs.declared.steps.Reply.{Reply}
-use Rattle.tx_base.specs.declared.steps.Reply.TheVariants.{Done, Ended, Committed, Aborted, Out, No}
 use Rattle.tx_base.specs.declared.steps.Step.{Step}
-use Rattle.tx_model.specs.Answer.{answer}
 use Rattle.tx_model.specs.Schedules.{answers_of, history_of}
 use Rattle.tx_model.specs.State.{State, booted}
-use Rattle.tx_model.specs.View.{View, view, present, next}
+use Rattle.tx_model.specs.View.{View, view, present}
 use Rattle.txos.specs.declared.header.Header.{Header}
 use Rattle.txos.specs.Lines.{most_of}
 use Rattle.txos.specs.Replies.{line_text}
 use Rattle.txos.specs.State.{procs_text}
 use Rattle.txos.specs.Txns.{txns_text}
-
--- the next view, or the one before where the step was refused
-abbrev pub settled : Reply → View → View → View
-settled (No why) after before = before
-settled (Done ret) after before = after
-settled Ended after before = after
-settled (Committed undelivered) after before = after
-settled (Aborted status) after before = after
-settled (Out bytes) after before = after
-
--- the view that a step leaves
-abbrev pub view_left : View → Step → View
-view_left V step = settled (answer V step) (next V step) V
-
--- the view that some steps leave
-abbrev pub view_after : View → List Step → View
-view_after V [] = V
-view_after V (step ∷ steps) = view_after (view_left V step) steps
-
--- the line of each step's answer, from that number on
-abbrev pub replies_text : View → ℕ → List Step → List ℕ
-replies_text V number [] = []
-replies_text V number (step ∷ steps) = line_text number (answer V step) ++ replies_text (view_left V step) (number + 1) steps
 
 -- the text of a state
 abbrev pub state_text : View → List ℕ

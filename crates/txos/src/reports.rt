@@ -1,10 +1,14 @@
 //! Runs a schedule, and prints what it answers and the state that it leaves.
-ghost use Rattle.std.specs.Prelude.{◌≡◌, ◌++◌, [], IfErr, IfOk, OnOk, string_bytes};
+ghost use Rattle.std.specs.Prelude.{◌≡◌, ◌++◌, [], List, IfErr, IfOk, OnOk, string_bytes};
+ghost use Rattle.tx_base.specs.declared.steps.Accepted.{Accepted};
 ghost use Rattle.tx_core.specs.Built.{AreBuilt, IsBuilt};
 ghost use Rattle.tx_core.specs.Content.{view_of};
+ghost use Rattle.tx_core.specs.Runs.{IsAfter};
 ghost use Rattle.tx_model.specs.Answer.{answer};
+ghost use Rattle.tx_model.specs.Schedules.{recorded, answers_of, history_of};
+ghost use Rattle.tx_model.specs.State.{State};
 ghost use Rattle.txos.specs.Lines.{FitsHeader};
-ghost use Rattle.txos.specs.Report.{replies_text, report_text, start_of, state_text, view_after, view_left};
+ghost use Rattle.txos.specs.Report.{lines_text, report_text, start_of, state_text};
 ghost use Rattle.txos.specs.declared.faults.Fault.TheVariants.{NoMemory};
 
 use crate::faults::Fault;
@@ -54,8 +58,10 @@ fn put_replies(
     steps: &[Step],
 ) -> Result<(), Fault>
     requires { AreBuilt steps.now }
-    ensures text { OnOk result (string_bytes text.new ≡ string_bytes text.old ++ replies_text (view_of machine.old) 1 steps.now) }
-    ensures view { OnOk result (view_of machine.new ≡ view_after (view_of machine.old) steps.now) }
+    ensures text { OnOk result ((start : State) (earlier : List Accepted) → IsAfter start earlier machine.old →
+        string_bytes text.new ≡ string_bytes text.old ++ lines_text 1 (answers_of start earlier steps.now)) }
+    ensures after { OnOk result ((start : State) (earlier : List Accepted) → IsAfter start earlier machine.old →
+        IsAfter start (history_of start earlier steps.now) machine.new) }
     ensures fault { IfErr result (λ fault. fault ≡ NoMemory) }
 {
     for i in 0..steps.len() {
@@ -69,7 +75,8 @@ fn put_replies(
 fn make_step(alloc: Global, machine: &mut Machine, step: Step) -> Result<Reply, Fault>
     requires { IsBuilt step }
     ensures reply { IfOk result (λ reply. reply ≡ answer (view_of machine.old) step) }
-    ensures view { OnOk result (view_of machine.new ≡ view_left (view_of machine.old) step) }
+    ensures after { IfOk result (λ reply. (start : State) (earlier : List Accepted) → IsAfter start earlier machine.old →
+        IsAfter start (recorded earlier step reply) machine.new) }
     ensures fault { IfErr result (λ fault. fault ≡ NoMemory) }
 {
     let (reply, _inverse) = machine.step(alloc, step);
