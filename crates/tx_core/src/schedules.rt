@@ -35,6 +35,7 @@ pub fn run(alloc: Global, count: u16, steps: &[Step]) -> Result<Ran, NoMemory>
     ensures view { IfOk result (λ ran. view_of ran.machine ≡ view (booted 64 count) (reverse ran.history.items)) }
     ensures agreement { IfOk result (λ ran. (later earlier : List TheAccepted) → reverse ran.history.items ≡ later ++ earlier → Agreement (booted 64 count) earlier) }
 {
+    // The law that the agreement stands on.
     erasure();
     let machine = Machine::boot(alloc, count)?;
     run_on(alloc, machine, steps)
@@ -50,6 +51,7 @@ pub fn run_wide(alloc: Global, count: u16, steps: &[Step]) -> Result<Ran, NoMemo
     ensures view { IfOk result (λ ran. view_of ran.machine ≡ view (booted 256 count) (reverse ran.history.items)) }
     ensures agreement { IfOk result (λ ran. (later earlier : List TheAccepted) → reverse ran.history.items ≡ later ++ earlier → Agreement (booted 256 count) earlier) }
 {
+    // The law that the agreement stands on.
     erasure();
     let machine = Machine::boot_wide(alloc, count)?;
     run_on(alloc, machine, steps)
