@@ -6,7 +6,6 @@ ghost use Rattle.tx_base.specs.declared.steps.Call.TheVariants.{SysXend, SysXabo
 ghost use Rattle.tx_base.specs.declared.steps.Step.TheVariants.{Call as Calls, KernelAbort};
 ghost use Rattle.tx_core.specs.Built.{IsBuilt, IsBuiltCall};
 ghost use Rattle.tx_core.specs.Content.{view_of, state_of};
-ghost use Rattle.tx_core.specs.Laws.{MachineLaws};
 ghost use Rattle.tx_core.specs.Plans.{IsRunning, IsPlainCall};
 ghost use Rattle.tx_base.specs.declared.steps.Accepted.{Accepted};
 ghost use Rattle.tx_base.specs.declared.steps.Reply.TheVariants.{Aborted, No};
@@ -65,13 +64,13 @@ impl Machine {
         pid: Pid,
         call: &Call,
     ) -> Result<(Reply, Inverse), NoMemory>
-        requires laws { MachineLaws }
         requires running { IsRunning (slot_at self.old.parts.procs pid.0) }
         requires free { slot_at self.old.marks pid.0 ≡ None }
         requires plain { IsPlainCall call.now None }
         ensures ok { IfOk result (λ made. IsStep self.old (Calls pid call.now) made.0 made.1 self.new) }
         ensures err { OnErr result (self.new ≡ self.old) }
     {
+        laws();
         let proc = self.kernel.parts.proc(pid).unwrap();
         let plan = plan_call(alloc, pid, proc, call)?;
         let inverse = self.kernel.change_outside(plan.changes);
@@ -86,13 +85,13 @@ impl Machine {
         mark: Mark,
         call: &Call,
     ) -> Result<(Reply, Inverse), NoMemory>
-        requires laws { MachineLaws }
         requires running { IsRunning (slot_at self.old.parts.procs pid.0) }
         requires marked { slot_at self.old.marks pid.0 ≡ Some mark }
         requires plain { IsPlainCall call.now (Some mark) }
         ensures ok { IfOk result (λ made. IsStep self.old (Calls pid call.now) made.0 made.1 self.new) }
         ensures err { OnErr result (self.new ≡ self.old) }
     {
+        laws();
         let proc = self.kernel.parts.proc(pid).unwrap();
         let plan = plan_call(alloc, pid, proc, call)?;
         let inverse = self.kernel.change_inside(pid, plan.changes)?;
@@ -107,13 +106,13 @@ impl Machine {
         defers: bool,
         call: &Call,
     ) -> Result<(Reply, Inverse), NoMemory>
-        requires laws { MachineLaws }
         requires running { IsRunning (slot_at self.old.parts.procs pid.0) }
         requires free { slot_at self.old.marks pid.0 ≡ None }
         requires kind { kind_of call.now ≡ Beginning defers }
         ensures ok { IfOk result (λ made. IsStep self.old (Calls pid call.now) made.0 made.1 self.new) }
         ensures err { OnErr result (self.new ≡ self.old) }
     {
+        laws();
         let proc = self.kernel.parts.proc(pid).unwrap();
         let plan = plan_answer(alloc, pid, proc, 0)?;
         let inverse = self.kernel.begin(pid, defers, plan.changes);
@@ -128,13 +127,13 @@ impl Machine {
         mark: Mark,
         _call: &Call,
     ) -> Result<(Reply, Inverse), NoMemory>
-        requires laws { MachineLaws }
         requires running { IsRunning (slot_at self.old.parts.procs pid.0) }
         requires marked { slot_at self.old.marks pid.0 ≡ Some mark }
         requires kind { kind_of _call.now ≡ Leaving }
         ensures ok { IfOk result (λ made. IsStep self.old (Calls pid _call.now) made.0 made.1 self.new) }
         ensures err { OnErr result (self.new ≡ self.old) }
     {
+        laws();
         let proc = self.kernel.parts.proc(pid).unwrap();
         let plan = plan_answer(alloc, pid, proc, 0)?;
         let inverse = self.kernel.commit(pid, mark, plan.changes)?;
@@ -144,19 +143,18 @@ impl Machine {
 
     /// A member aborts its transaction. It takes no memory.
     fn xabort(&mut self, pid: Pid, mark: Mark, _call: &Call) -> (Reply, Inverse)
-        requires laws { MachineLaws }
         requires running { IsRunning (slot_at self.old.parts.procs pid.0) }
         requires marked { slot_at self.old.marks pid.0 ≡ Some mark }
         requires kind { kind_of _call.now ≡ Aborting }
         ensures { IsStep self.old (Calls pid _call.now) result.0 result.1 self.new }
     {
+        laws();
         let inverse = self.kernel.abort(pid, mark, BY_CALL);
         (Reply::Aborted(ABORTED_BY_CALL), inverse)
     }
 
     /// A call of a running process.
     fn make(&mut self, alloc: Global, pid: Pid, call: &Call) -> Result<(Reply, Inverse), NoMemory>
-        requires laws { MachineLaws }
         requires running { IsRunning (slot_at self.old.parts.procs pid.0) }
         requires built { IsBuiltCall call.now }
         ensures ok { IfOk result (λ made. IsStep self.old (Calls pid call.now) made.0 made.1 self.new) }
@@ -186,10 +184,10 @@ impl Machine {
 
     /// A call, whatever its process.
     fn call(&mut self, alloc: Global, pid: Pid, call: &Call) -> (Reply, Option<Inverse>)
-        requires laws { MachineLaws }
         requires built { IsBuiltCall call.now }
         ensures { Steps self.old (Calls pid call.now) result.0 result.1 self.new }
     {
+        laws();
         let status = match self.kernel.parts.proc(pid) {
             Some(proc) => proc.status,
             None => return (Reply::No(Refusal::NoProcess), None),
@@ -226,7 +224,6 @@ impl Machine {
 
     /// Any step.
     fn take(&mut self, alloc: Global, step: &Step) -> (Reply, Option<Inverse>)
-        requires laws { MachineLaws }
         requires built { IsBuilt step.now }
         ensures { Steps self.old step.now result.0 result.1 self.new }
     {
@@ -259,7 +256,6 @@ impl Machine {
             Lawful start (record { step = step; reply = result.0 } ∷ earlier) × (view_of self.new ≡ view start (record { step = step; reply = result.0 } ∷ earlier)) }
         ensures xabort { IsXabort self.old step → result.0 ≢ No Refusal.NoMemory }
     {
-        // The laws that the proofs of all steps stand on.
         laws();
         self.take(alloc, &step)
     }

@@ -24,7 +24,7 @@ invariant_of-self c =
     let here : slot_at k.parts.procs c.args.pid.0 ≡ Some q = search (rules, c.unwrap-proc.ensures, c.proc.ensures) in
     let runs : q.status ≡ None = runs_at (slot_at k.parts.procs c.args.pid.0) q (subst (λ (x : Kernel). IsRunning (slot_at x.parts.procs c.args.pid.0)) (sym c.self.view_is) c.requires.running) here in
     let free : slot_at k.marks c.args.pid.0 ≡ None = ap (λ (x : Kernel). slot_at x.marks c.args.pid.0) c.self.view_is ∙ c.requires.free in
-    (begin_from c.requires.laws k c.begin-inverse.new.self c.args.pid c.args.call.now c.args.defers q c.in_ok-plan.plan c.begin-inverse.result c.self.invariant here runs free c.requires.kind c.in_ok-plan.ensures
+    (begin_from c.laws.ensures k c.begin-inverse.new.self c.args.pid c.args.call.now c.args.defers q c.in_ok-plan.plan c.begin-inverse.result c.self.invariant here runs free c.requires.kind c.in_ok-plan.ensures
     c.begin-inverse.ensures.parts c.begin-inverse.ensures.marks c.begin-inverse.ensures.logs c.begin-inverse.ensures.inverse).content
 
 pub returns-clause-ok : goal.returns-clause-ok
@@ -35,6 +35,6 @@ returns-clause-ok c =
     let runs : q.status ≡ None = runs_at (slot_at k.parts.procs c.args.pid.0) q (subst (λ (x : Kernel). IsRunning (slot_at x.parts.procs c.args.pid.0)) (sym c.self.view_is) c.requires.running) here in
     let free : slot_at k.marks c.args.pid.0 ≡ None = ap (λ (x : Kernel). slot_at x.marks c.args.pid.0) c.self.view_is ∙ c.requires.free in
     let done : IsDone k (Calls c.args.pid c.args.call.now) (Done (pos 0)) c.begin-inverse.result c.begin-inverse.new.self
-    = begin_from c.requires.laws k c.begin-inverse.new.self c.args.pid c.args.call.now c.args.defers q c.in_ok-plan.plan c.begin-inverse.result c.self.invariant here runs free c.requires.kind c.in_ok-plan.ensures
+    = begin_from c.laws.ensures k c.begin-inverse.new.self c.args.pid c.args.call.now c.args.defers q c.in_ok-plan.plan c.begin-inverse.result c.self.invariant here runs free c.requires.kind c.in_ok-plan.ensures
     c.begin-inverse.ensures.parts c.begin-inverse.ensures.marks c.begin-inverse.ensures.logs c.begin-inverse.ensures.inverse in
     subst (λ (x : Kernel). IsStep x (Calls c.args.pid c.args.call.now) (Done (pos 0)) c.begin-inverse.result c.begin-inverse.new.self) c.self.view_is done.made

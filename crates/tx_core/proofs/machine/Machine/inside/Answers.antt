@@ -31,7 +31,7 @@ invariant_of-self-2 c =
     let here : slot_at k.parts.procs c.args.pid.0 ≡ Some q = search (rules, c.unwrap-proc.ensures, c.proc.ensures) in
     let runs : q.status ≡ None = runs_at (slot_at k.parts.procs c.args.pid.0) q (subst (λ (x : Kernel). IsRunning (slot_at x.parts.procs c.args.pid.0)) (sym c.self.view_is) c.requires.running) here in
     let mark : slot_at k.marks c.args.pid.0 ≡ Some c.args.mark = ap (λ (x : Kernel). slot_at x.marks c.args.pid.0) c.self.view_is ∙ c.requires.marked in
-    (inside_from c.requires.laws k c.change_inside.new.self c.args.pid c.args.call.now q c.args.mark c.in_ok-plan.plan c.in_ok-inverse.inverse c.self.invariant here runs mark c.requires.plain c.in_ok-plan.ensures
+    (inside_from c.laws.ensures k c.change_inside.new.self c.args.pid c.args.call.now q c.args.mark c.in_ok-plan.plan c.in_ok-inverse.inverse c.self.invariant here runs mark c.requires.plain c.in_ok-plan.ensures
     c.in_ok-inverse.ensures.parts c.in_ok-inverse.ensures.marks c.in_ok-inverse.ensures.logs c.in_ok-inverse.ensures.inverse).content
 
 pub returns-clause-ok : goal.returns-clause-ok
@@ -43,6 +43,6 @@ returns-clause-ok c =
     let mark : slot_at k.marks c.args.pid.0 ≡ Some c.args.mark = ap (λ (x : Kernel). slot_at x.marks c.args.pid.0) c.self.view_is ∙ c.requires.marked in
     let fits : FitsSigned w64 c.in_ok-plan.plan.ret = search rules in
     let done : IsDone k (Calls c.args.pid c.args.call.now) (Done c.in_ok-plan.plan.ret) c.in_ok-inverse.inverse c.change_inside.new.self
-    = inside_from c.requires.laws k c.change_inside.new.self c.args.pid c.args.call.now q c.args.mark c.in_ok-plan.plan c.in_ok-inverse.inverse c.self.invariant here runs mark c.requires.plain c.in_ok-plan.ensures
+    = inside_from c.laws.ensures k c.change_inside.new.self c.args.pid c.args.call.now q c.args.mark c.in_ok-plan.plan c.in_ok-inverse.inverse c.self.invariant here runs mark c.requires.plain c.in_ok-plan.ensures
     c.in_ok-inverse.ensures.parts c.in_ok-inverse.ensures.marks c.in_ok-inverse.ensures.logs c.in_ok-inverse.ensures.inverse in
     simp to_z-of_z (subst (λ (x : Kernel). IsStep x (Calls c.args.pid c.args.call.now) (Done c.in_ok-plan.plan.ret) c.in_ok-inverse.inverse c.change_inside.new.self) c.self.view_is done.made)

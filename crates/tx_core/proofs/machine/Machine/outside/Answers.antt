@@ -28,7 +28,7 @@ invariant_of-self c =
     let here : slot_at k.parts.procs c.args.pid.0 ≡ Some q = search (rules, c.unwrap-proc.ensures, c.proc.ensures) in
     let runs : q.status ≡ None = runs_at (slot_at k.parts.procs c.args.pid.0) q (subst (λ (x : Kernel). IsRunning (slot_at x.parts.procs c.args.pid.0)) (sym c.self.view_is) c.requires.running) here in
     let free : slot_at k.marks c.args.pid.0 ≡ None = ap (λ (x : Kernel). slot_at x.marks c.args.pid.0) c.self.view_is ∙ c.requires.free in
-    (outside_from c.requires.laws k c.change_outside-inverse.new.self c.args.pid c.args.call.now q c.in_ok-plan.plan c.change_outside-inverse.result c.self.invariant here runs free c.requires.plain c.in_ok-plan.ensures
+    (outside_from c.laws.ensures k c.change_outside-inverse.new.self c.args.pid c.args.call.now q c.in_ok-plan.plan c.change_outside-inverse.result c.self.invariant here runs free c.requires.plain c.in_ok-plan.ensures
     c.change_outside-inverse.ensures.kernel c.change_outside-inverse.ensures.inverse).content
 
 pub returns-clause-ok : goal.returns-clause-ok
@@ -40,6 +40,6 @@ returns-clause-ok c =
     let free : slot_at k.marks c.args.pid.0 ≡ None = ap (λ (x : Kernel). slot_at x.marks c.args.pid.0) c.self.view_is ∙ c.requires.free in
     let fits : FitsSigned w64 c.in_ok-plan.plan.ret = search rules in
     let done : IsDone k (Calls c.args.pid c.args.call.now) (Done c.in_ok-plan.plan.ret) c.change_outside-inverse.result c.change_outside-inverse.new.self
-    = outside_from c.requires.laws k c.change_outside-inverse.new.self c.args.pid c.args.call.now q c.in_ok-plan.plan c.change_outside-inverse.result c.self.invariant here runs free c.requires.plain c.in_ok-plan.ensures
+    = outside_from c.laws.ensures k c.change_outside-inverse.new.self c.args.pid c.args.call.now q c.in_ok-plan.plan c.change_outside-inverse.result c.self.invariant here runs free c.requires.plain c.in_ok-plan.ensures
     c.change_outside-inverse.ensures.kernel c.change_outside-inverse.ensures.inverse in
     simp to_z-of_z (subst (λ (x : Kernel). IsStep x (Calls c.args.pid c.args.call.now) (Done c.in_ok-plan.plan.ret) c.change_outside-inverse.result c.change_outside-inverse.new.self) c.self.view_is done.made)
