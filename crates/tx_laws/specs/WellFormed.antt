@@ -1,7 +1,7 @@
 -- What every state is that a history leads to. Own rules.
 use Rattle.std.specs.Prelude.{◌≡◌, ◌≢◌, ℕ, ◌<◌, ◌≤◌, true, false, List, [], ◌∷◌, length, All, Option, Some, None, is_some}
 use Rattle.tx_base.specs.Signals.{bits_of}
-use Rattle.tx_base.specs.declared.limits.TheConstants.{PAGE_BYTES, PIPE_BYTES, FRAMES, QUEUED, LAST_ID, LAST_POINT}
+use Rattle.tx_base.specs.declared.limits.TheConstants.{PAGE_BYTES, PIPE_BYTES, FRAMES, QUEUED, LAST_ID, LAST_POINT, DESCRIPTIONS, DESCRIPTORS, PAGES, PIPES, SIGNALS, SLOTS}
 use Rattle.tx_base.specs.declared.signals.Action.{Action}
 use Rattle.tx_base.specs.declared.signals.Action.TheVariants.{Usual, Ignore, Catch}
 use Rattle.tx_base.specs.declared.signals.SigSet.{SigSet}
@@ -16,14 +16,14 @@ use Rattle.tx_model.specs.Answer.{has_bad_number, is_running}
 -- each frame has all slots
 abbrev pub AllSaved : List Frame → Type 0
 AllSaved [] = Unit {0}
-AllSaved (frame ∷ frames) = (length frame.registers.slots ≡ 8) × AllSaved frames
+AllSaved (frame ∷ frames) = (length frame.registers.slots ≡ SLOTS) × AllSaved frames
 
--- the sizes of what a process has: 8 slots, 16 pages and descriptors, actions for the signals 0 to 39
+-- the sizes of what a process has: slots, pages, descriptors, and actions for the signals 0 to 39
 pub record HasSizes (q : Process) : Type 0 where
-  pub slots : length q.registers.slots ≡ 8
-  pub pages : length q.memory ≡ 16
-  pub descriptors : length q.descriptors ≡ 16
-  pub actions : length q.actions ≡ 40
+  pub slots : length q.registers.slots ≡ SLOTS
+  pub pages : length q.memory ≡ PAGES
+  pub descriptors : length q.descriptors ≡ DESCRIPTORS
+  pub actions : length q.actions ≡ SIGNALS
   pub frames : length q.frames ≤ FRAMES
   pub saved : AllSaved q.frames
   pub queued : length q.queued ≤ QUEUED
@@ -104,8 +104,8 @@ pub record IsWellFormed (S : State) : Type 0 where
   pub first : (q : Process) × (S.procs 1 ≡ Some q) × IsFirst q
   pub placed : (n : ℕ) (q : Process) → S.procs n ≡ Some q → IsPlaced S n q
   pub names : (n f d : ℕ) → names_at d f (S.procs n) ≡ true → is_some (S.descs d) ≡ true
-  pub named : (d : ℕ) (x : Description) → S.descs d ≡ Some x → (is_named d S ≡ true) × (d < 64) × (is_some (S.pipes x.pipe) ≡ true)
-  pub pipes : (k : ℕ) (bytes : List ℕ) → S.pipes k ≡ Some bytes → (has_description k S ≡ true) × (k < 32) × (length bytes ≤ PIPE_BYTES)
+  pub named : (d : ℕ) (x : Description) → S.descs d ≡ Some x → (is_named d S ≡ true) × (d < DESCRIPTIONS) × (is_some (S.pipes x.pipe) ≡ true)
+  pub pipes : (k : ℕ) (bytes : List ℕ) → S.pipes k ≡ Some bytes → (has_description k S ≡ true) × (k < PIPES) × (length bytes ≤ PIPE_BYTES)
   pub limits : (n : ℕ) (q : Process) → S.procs n ≡ Some q → HasLimits q
   pub held : (s : ℕ) → All IsKnownSending (S.held s)
 
