@@ -55,6 +55,7 @@ booted_places procs done proc there before is n =
   where
     by : (b : Bool) → HasPlaces (if b then Some proc else slot_at procs n)
     by true = record {
+      slots = ap (λ (me : Process). length me.registers.slots) is;
       pages = ap (λ (me : Process). length me.memory) is;
       descriptors = ap (λ (me : Process). length me.descriptors) is;
       actions = ap (λ (me : Process). length me.actions) is;

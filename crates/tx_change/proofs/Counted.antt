@@ -22,7 +22,7 @@ use Rattle.tx_model.specs.State.{State, booted, booted_process, is_between}
 use Rattle.tx_proc.specs.Parts.{edited_once}
 use Rattle.tx_proc.specs.Processes.{process_in}
 use Rattle.tx_proc.specs.declared.part.Part.{Part as ProcPart}
-use Rattle.tx_proc.specs.declared.part.Part.TheVariants.{Regs, Parent, Status, Cred, Page, Descriptor, Mask, Action, Pending, Queued, Frame}
+use Rattle.tx_proc.specs.declared.part.Part.TheVariants.{Answer, Register, Parent, Status, Cred, Page, Descriptor, Mask, Action, Pending, Queued, Frame}
 use Rattle.tx_proc.specs.declared.proc.Proc.{Proc}
 
 -- the parts as a state, of which nothing is held
@@ -106,7 +106,8 @@ counts_removed parts n ended there agree here over =
 same_table : (proc : Proc) (pid : Pid) (part : ProcPart) → IsNameless (Part pid part) → table_in (Some (edited_once proc part)) ≡ table_in (Some proc)
 same_table proc pid (Status status) free = absurd free
 same_table proc pid (Descriptor number name) free = absurd free
-same_table proc pid (Regs regs) free = refl
+same_table proc pid (Answer answer) free = refl
+same_table proc pid (Register kept) free = refl
 same_table proc pid (Parent parent) free = refl
 same_table proc pid (Cred cred) free = refl
 same_table proc pid (Page number page) free = refl

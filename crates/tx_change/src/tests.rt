@@ -7,19 +7,13 @@ use crate::{
 use std::alloc::Global;
 use std::mem;
 use std::test::Fail;
-use tx_base::{DescNo, Pid, PipeNo, Regs};
+use tx_base::{DescNo, Pid, PipeNo};
 use tx_desc::{Desc, Opened, Side};
 use tx_pipe::Pipe;
-use tx_proc::{BoxedProc, Part, Proc};
+use tx_proc::{Answer, BoxedProc, Part, Proc};
 
-/// Registers that differ from those at the start.
-fn later() -> Regs {
-    Regs {
-        point: 7,
-        ret: -14,
-        slots: [1; 8],
-    }
-}
+/// Another point and another answer than those at the start.
+const LATER: Answer = Answer { point: 7, ret: -14 };
 
 /// The point of a process, where there is one.
 fn point(parts: &Parts, pid: Pid) -> Option<u32> {
@@ -59,7 +53,7 @@ fn exchanges_a_part_and_takes_it_back(rt: HostRuntime) -> Result<(), Fail> {
     exchanges_back();
     let mut parts = Parts::boot(rt.alloc(), 64, 2)?;
     assert_eq!(rt; parts.procs.width(), 64);
-    let mut change = Change::Part(Pid(2), Part::Regs(later()));
+    let mut change = Change::Part(Pid(2), Part::Answer(LATER));
     change.swap(&mut parts);
     assert_eq!(rt; point(&parts, Pid(2)), Some(7));
     assert_eq!(rt; point(&parts, Pid(1)), Some(0));
@@ -156,7 +150,7 @@ fn applies_and_reverts(rt: HostRuntime) -> Result<(), Fail> {
     let mut parts = Parts::boot(rt.alloc(), 64, 2)?;
     assert_eq!(rt; parts.procs.width(), 64);
     let mut changes = Vec::new(rt.alloc());
-    changes.push(Change::Part(Pid(1), Part::Regs(later())))?;
+    changes.push(Change::Part(Pid(1), Part::Answer(LATER)))?;
     changes.push(Change::Part(Pid(1), Part::Status(Some(9))))?;
     apply(&mut parts, &mut changes);
     assert_eq!(rt; point(&parts, Pid(1)), Some(7));
@@ -174,5 +168,5 @@ fn a_change_is_small(rt: HostRuntime) {
     names_its_object();
     counts_agree();
     room_for_names();
-    assert!(rt; mem::size_of::<Change>() <= 128);
+    assert!(rt; mem::size_of::<Change>() <= 56);
 }

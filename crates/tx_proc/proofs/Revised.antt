@@ -3,11 +3,12 @@ use Rattle.std.proofs.Common.{◌≡◌, Option, Some, None, option_map, ap, ref
 use Rattle.tx_proc.specs.Parts.{edited_once}
 use Rattle.tx_proc.specs.Processes.{process_of, process_in, revised}
 use Rattle.tx_proc.specs.declared.part.Part.{Part}
-use Rattle.tx_proc.specs.declared.part.Part.TheVariants.{Regs, Parent, Status, Cred, Page, Descriptor, Mask, Action, Pending, Queued, Frame}
+use Rattle.tx_proc.specs.declared.part.Part.TheVariants.{Answer, Register, Parent, Status, Cred, Page, Descriptor, Mask, Action, Pending, Queued, Frame}
 use Rattle.tx_proc.specs.declared.proc.Proc.{Proc}
 
 pub revised_of : (proc : Proc) (part : Part) → process_of (edited_once proc part) ≡ revised part (process_of proc)
-revised_of proc (Regs regs) = refl
+revised_of proc (Answer answer) = refl
+revised_of proc (Register kept) = refl
 revised_of proc (Parent parent) = refl
 revised_of proc (Status status) = refl
 revised_of proc (Cred cred) = refl

@@ -1,5 +1,5 @@
 -- Two exchanges of one part are nothing, one leaves all else, and those of two parts commute.
-use Rattle.std.proofs.Common.{◌≡◌, ℕ, zero, suc, ◌+◌, ◌-◌, ◌≤◌, Bool, true, false, List, [], ◌∷◌, ◌++◌, Option, Some, None, get_or, slice_get, slice_set, nat_le, if◌then◌else◌, nat_lt, length, take, ◌<◌, arith, ap, refl, sym, ◌∙◌, length-set, length-append}
+use Rattle.std.proofs.Common.{◌≡◌, ℕ, ℤ, zero, suc, ◌+◌, ◌-◌, ◌≤◌, Bool, true, false, List, [], ◌∷◌, ◌++◌, Option, Some, None, get_or, slice_get, slice_set, nat_le, if◌then◌else◌, nat_lt, length, take, ◌<◌, arith, ap, refl, sym, ◌∙◌, length-set, length-append}
 use Rattle.std.proofs.lemmas.Bool.{eqb-false, leb-true, le-ltb, lt-ltb, ltb-true, ltb-false}
 use Rattle.std.proofs.Math.Seq.{take-length}
 use Rattle.std.proofs.lemmas.List.Edits.{length-remove, length-insert}
@@ -16,7 +16,7 @@ use Rattle.tx_proc.proofs.Names.{desc_same, number_back}
 use Rattle.tx_proc.specs.Laws.{is_same_part, IsSized}
 use Rattle.tx_proc.specs.Parts.{edited_once, part_of, desc_in, queue_swapped, queue_given, frames_swapped, frame_given, HasPlace}
 use Rattle.tx_proc.specs.declared.part.Part.{Part}
-use Rattle.tx_proc.specs.declared.part.Part.TheVariants.{Regs, Parent, Status, Cred, Page, Descriptor, Mask, Action, Pending, Queued, Frame}
+use Rattle.tx_proc.specs.declared.part.Part.TheVariants.{Answer, Register, Parent, Status, Cred, Page, Descriptor, Mask, Action, Pending, Queued, Frame}
 use Rattle.tx_proc.specs.declared.proc.Proc.{Proc}
 use Rattle.tx_signal.specs.Entries.{entry_swapped}
 
@@ -102,6 +102,9 @@ read_back (first ∷ items) zero item = refl
 read_back (first ∷ items) (suc place) item = read_back items place item
 
 pub edited_twice : (proc : Proc) (part : Part) → edited_once (edited_once proc part) (part_of proc part) ≡ proc
+edited_twice proc (Register kept) =
+    ap (λ (slots : List ℤ). record proc { regs = record proc.regs { slots = slots } })
+    (set-set proc.regs.slots kept.number kept.value (get_or proc.regs.slots kept.number kept.value) ∙ set-get_or proc.regs.slots kept.number kept.value)
 edited_twice proc (Page number page) =
     ap (λ (space : List (Option PageView)). record proc { space = space }) (set-set proc.space number page (get_or proc.space number None) ∙ set-get_or proc.space number None)
 edited_twice proc (Descriptor number name) =
@@ -117,6 +120,7 @@ edited_twice proc (Frame frame) = ap (λ (frames : List Saved). record proc { fr
 edited_twice proc part = refl
 
 pub part_twice : (proc : Proc) (part : Part) → IsSized proc → HasPlace part → part_of (edited_once proc part) (part_of proc part) ≡ part
+part_twice proc (Register kept) sized below = ap (λ (v : ℤ). Register (record kept { value = v })) (read_back proc.regs.slots kept.number kept.value)
 part_twice proc (Page number page) sized below =
     let pages = sized.pages in ap (Page number) (get_or-set_same proc.space number page None (omega arith))
 part_twice proc (Descriptor number name) sized below =
@@ -137,8 +141,11 @@ nothing_else proc (Descriptor number name) other apart = refl
 nothing_else proc (Action signo action) (Action k new) apart =
     ap (Action k) (get_or-set_other proc.actions signo.0 k.0 action new (λ same. eqb-false signo.0 k.0 apart (sym same)))
 nothing_else proc (Action signo action) other apart = refl
-nothing_else proc (Regs regs) (Regs new) apart = cc
-nothing_else proc (Regs regs) other apart = refl
+nothing_else proc (Answer answer) (Answer new) apart = cc
+nothing_else proc (Answer answer) other apart = refl
+nothing_else proc (Register kept) (Register new) apart =
+    ap (λ (v : ℤ). Register (record new { value = v })) (get_or-set_other proc.regs.slots kept.number new.number kept.value new.value (λ same. eqb-false kept.number new.number apart (sym same)))
+nothing_else proc (Register kept) other apart = refl
 nothing_else proc (Parent parent) (Parent new) apart = cc
 nothing_else proc (Parent parent) other apart = refl
 nothing_else proc (Status status) (Status new) apart = cc
@@ -164,8 +171,11 @@ commute proc (Descriptor number name) other apart = refl
 commute proc (Action signo action) (Action k new) apart =
     ap (λ (actions : List Act). record proc { actions = actions }) (set_comm proc.actions signo.0 k.0 action new (eqb-false signo.0 k.0 apart))
 commute proc (Action signo action) other apart = refl
-commute proc (Regs regs) (Regs new) apart = cc
-commute proc (Regs regs) other apart = refl
+commute proc (Answer answer) (Answer new) apart = cc
+commute proc (Answer answer) other apart = refl
+commute proc (Register kept) (Register new) apart =
+    ap (λ (slots : List ℤ). record proc { regs = record proc.regs { slots = slots } }) (set_comm proc.regs.slots kept.number new.number kept.value new.value (eqb-false kept.number new.number apart))
+commute proc (Register kept) other apart = refl
 commute proc (Parent parent) (Parent new) apart = cc
 commute proc (Parent parent) other apart = refl
 commute proc (Status status) (Status new) apart = cc
@@ -183,23 +193,26 @@ commute proc (Frame frame) other apart = refl
 
 -- an exchanged part has the same number
 pub place_of_part : (proc : Proc) (part : Part) → HasPlace part → HasPlace (part_of proc part)
+place_of_part proc (Register kept) place = place
 place_of_part proc (Page number page) place = place
 place_of_part proc (Descriptor number name) place = place
 place_of_part proc part place = tt
 
 -- a process still has a place for each number
 pub still_sized : (proc : Proc) (part : Part) → IsSized proc → IsSized (edited_once proc part)
-still_sized proc (Regs regs) sized = record { pages = sized.pages; descriptors = sized.descriptors; actions = sized.actions }
-still_sized proc (Parent parent) sized = record { pages = sized.pages; descriptors = sized.descriptors; actions = sized.actions }
-still_sized proc (Status status) sized = record { pages = sized.pages; descriptors = sized.descriptors; actions = sized.actions }
-still_sized proc (Cred cred) sized = record { pages = sized.pages; descriptors = sized.descriptors; actions = sized.actions }
-still_sized proc (Mask mask) sized = record { pages = sized.pages; descriptors = sized.descriptors; actions = sized.actions }
-still_sized proc (Pending set) sized = record { pages = sized.pages; descriptors = sized.descriptors; actions = sized.actions }
-still_sized proc (Queued place entry) sized = record { pages = sized.pages; descriptors = sized.descriptors; actions = sized.actions }
-still_sized proc (Frame frame) sized = record { pages = sized.pages; descriptors = sized.descriptors; actions = sized.actions }
+still_sized proc (Answer answer) sized = record { slots = sized.slots; pages = sized.pages; descriptors = sized.descriptors; actions = sized.actions }
+still_sized proc (Parent parent) sized = record { slots = sized.slots; pages = sized.pages; descriptors = sized.descriptors; actions = sized.actions }
+still_sized proc (Status status) sized = record { slots = sized.slots; pages = sized.pages; descriptors = sized.descriptors; actions = sized.actions }
+still_sized proc (Cred cred) sized = record { slots = sized.slots; pages = sized.pages; descriptors = sized.descriptors; actions = sized.actions }
+still_sized proc (Mask mask) sized = record { slots = sized.slots; pages = sized.pages; descriptors = sized.descriptors; actions = sized.actions }
+still_sized proc (Pending set) sized = record { slots = sized.slots; pages = sized.pages; descriptors = sized.descriptors; actions = sized.actions }
+still_sized proc (Queued place entry) sized = record { slots = sized.slots; pages = sized.pages; descriptors = sized.descriptors; actions = sized.actions }
+still_sized proc (Frame frame) sized = record { slots = sized.slots; pages = sized.pages; descriptors = sized.descriptors; actions = sized.actions }
+still_sized proc (Register kept) sized =
+    record { slots = length-set proc.regs.slots kept.number kept.value ∙ sized.slots; pages = sized.pages; descriptors = sized.descriptors; actions = sized.actions }
 still_sized proc (Page number page) sized =
-    record { pages = length-set proc.space number page ∙ sized.pages; descriptors = sized.descriptors; actions = sized.actions }
+    record { slots = sized.slots; pages = length-set proc.space number page ∙ sized.pages; descriptors = sized.descriptors; actions = sized.actions }
 still_sized proc (Descriptor number name) sized =
-    record { pages = sized.pages; descriptors = length-set proc.descriptors number (number_in name) ∙ sized.descriptors; actions = sized.actions }
+    record { slots = sized.slots; pages = sized.pages; descriptors = length-set proc.descriptors number (number_in name) ∙ sized.descriptors; actions = sized.actions }
 still_sized proc (Action signo action) sized =
-    record { pages = sized.pages; descriptors = sized.descriptors; actions = length-set proc.actions signo.0 action ∙ sized.actions }
+    record { slots = sized.slots; pages = sized.pages; descriptors = sized.descriptors; actions = length-set proc.actions signo.0 action ∙ sized.actions }

@@ -2,12 +2,13 @@
 use Rattle.std.specs.Prelude.{◌≡◌, Bool, true, false, ◌==◌, length}
 use Rattle.tx_proc.specs.Parts.{edited_once, part_of, HasPlace}
 use Rattle.tx_proc.specs.declared.part.Part.{Part}
-use Rattle.tx_proc.specs.declared.part.Part.TheVariants.{Regs, Parent, Status, Cred, Page, Descriptor, Mask, Action, Pending, Queued, Frame}
+use Rattle.tx_proc.specs.declared.part.Part.TheVariants.{Answer, Register, Parent, Status, Cred, Page, Descriptor, Mask, Action, Pending, Queued, Frame}
 use Rattle.tx_proc.specs.declared.proc.Proc.{Proc}
 
 -- whether the two name one part: of the queue, and of the frames, each entry is the same part
 abbrev pub is_same_part : Part → Part → Bool
-is_same_part (Regs regs) (Regs new) = true
+is_same_part (Answer answer) (Answer new) = true
+is_same_part (Register kept) (Register new) = kept.number == new.number
 is_same_part (Parent parent) (Parent new) = true
 is_same_part (Status status) (Status new) = true
 is_same_part (Cred cred) (Cred new) = true
@@ -22,6 +23,7 @@ is_same_part part other = false
 
 -- a process has a place for each number
 pub record IsSized (proc : Proc) : Type 0 where
+  pub slots : length proc.regs.slots ≡ 8
   pub pages : length proc.space ≡ 16
   pub descriptors : length proc.descriptors ≡ 16
   pub actions : length proc.actions ≡ 40

@@ -8,7 +8,7 @@ use Rattle.tx_model.specs.Memory.{page_at}
 use Rattle.tx_model.specs.Signals.{newest}
 use Rattle.tx_model.specs.State.{Queued as Entry, Frame as Saved}
 use Rattle.tx_proc.specs.declared.part.Part.{Part}
-use Rattle.tx_proc.specs.declared.part.Part.TheVariants.{Regs, Parent, Status, Cred, Page, Descriptor, Mask, Action, Pending, Queued, Frame}
+use Rattle.tx_proc.specs.declared.part.Part.TheVariants.{Answer, Register, Parent, Status, Cred, Page, Descriptor, Mask, Action, Pending, Queued, Frame}
 use Rattle.tx_proc.specs.declared.proc.Proc.{Proc}
 use Rattle.tx_signal.specs.Entries.{entry_swapped, entry_given}
 
@@ -38,7 +38,8 @@ desc_in (Some d) = Some (record { 0 = d })
 
 -- a process with one of its parts replaced
 abbrev pub edited_once : Proc → Part → Proc
-edited_once proc (Regs regs) = record proc { regs = regs }
+edited_once proc (Answer answer) = record proc { regs = record proc.regs { point = answer.point; ret = answer.ret } }
+edited_once proc (Register kept) = record proc { regs = record proc.regs { slots = slice_set proc.regs.slots kept.number kept.value } }
 edited_once proc (Parent parent) = record proc { parent = parent }
 edited_once proc (Status status) = record proc { status = status }
 edited_once proc (Cred cred) = record proc { cred = cred }
@@ -52,7 +53,8 @@ edited_once proc (Frame frame) = record proc { frames = frames_swapped frame pro
 
 -- the same part of a process
 abbrev pub part_of : Proc → Part → Part
-part_of proc (Regs regs) = Regs proc.regs
+part_of proc (Answer answer) = Answer (record { point = proc.regs.point; ret = proc.regs.ret })
+part_of proc (Register kept) = Register (record kept { value = slice_index_or proc.regs.slots kept.number kept.value })
 part_of proc (Parent parent) = Parent proc.parent
 part_of proc (Status status) = Status proc.status
 part_of proc (Cred cred) = Cred proc.cred
@@ -71,6 +73,7 @@ part_in (Some proc) part = part_of proc part
 
 -- a number in the part is one that there is
 abbrev pub HasPlace : Part → Type 0
+HasPlace (Register kept) = kept.number < 8
 HasPlace (Page number page) = number < 16
 HasPlace (Descriptor number name) = number < 16
 HasPlace part = Unit {0}

@@ -6,7 +6,7 @@ use Rattle.tx_model.specs.State.{Process}
 use Rattle.tx_desc.specs.Places.{number_in}
 use Rattle.tx_proc.specs.Parts.{queue_swapped, frames_swapped}
 use Rattle.tx_proc.specs.declared.part.Part.{Part}
-use Rattle.tx_proc.specs.declared.part.Part.TheVariants.{Regs, Parent, Status, Cred, Page, Descriptor, Mask, Action, Pending, Queued, Frame}
+use Rattle.tx_proc.specs.declared.part.Part.TheVariants.{Answer, Register, Parent, Status, Cred, Page, Descriptor, Mask, Action, Pending, Queued, Frame}
 use Rattle.tx_proc.specs.declared.proc.Proc.{Proc}
 
 abbrev pub process_of : Proc → Process
@@ -30,7 +30,8 @@ process_in (Some proc) = Some (process_of proc)
 
 -- a process with one of its parts replaced, as the definitions have it
 abbrev pub revised : Part → Process → Process
-revised (Regs regs) me = record me { registers = regs }
+revised (Answer answer) me = record me { registers = record me.registers { point = answer.point; ret = answer.ret } }
+revised (Register kept) me = record me { registers = record me.registers { slots = slice_set me.registers.slots kept.number kept.value } }
 revised (Parent parent) me = record me { parent = parent.0 }
 revised (Status status) me = record me { status = status }
 revised (Cred cred) me = record me { ids = ids_of cred }

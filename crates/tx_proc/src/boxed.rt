@@ -1,12 +1,13 @@
-//! A process in a place of its own.
+//! What stands in a place of its own: a process, and a frame that is exchanged.
 ghost use Rattle.std.specs.Prelude.{◌≡◌, IfOk};
-ghost use Rattle.tx_proc.specs.Parts.{edited_once, part_of, HasPlace};
+ghost use Rattle.tx_proc.specs.Parts.{edited_once, part_of, frames_swapped, frame_given, HasPlace};
 
 use crate::part::Part;
 use crate::proc::Proc;
 use std::alloc::Global;
 use std::marker::Model;
 use tx_base::NoMemory;
+use tx_signal::{Frame, Frames};
 
 /// A process in a place of its own, so that a table moves no process. Contracts see the process.
 #[derive(Drop)]
@@ -47,5 +48,50 @@ impl BoxedProc {
         ensures part { part.new ≡ part_of self.old part.old }
     {
         part.swap(&mut self.proc);
+    }
+}
+
+/// A frame, or none, in a place of its own, so that a part that has one is as small as the others.
+/// Contracts see the frame.
+#[derive(Drop)]
+pub struct BoxedFrame {
+    frame: Box<Option<Frame>>,
+}
+
+impl Model for BoxedFrame {
+    ghost use Rattle.std.specs.Prelude.{Option};
+    ghost use Rattle.tx_model.specs.State.{Frame as Saved};
+
+    ghost Value = { Option Saved };
+
+    ghost view = { λ boxed. boxed.frame.value };
+}
+
+impl BoxedFrame {
+    /// The frame, or none, in a place of its own.
+    ///
+    /// NoMemory where a growth is refused.
+    pub fn new(alloc: Global, frame: Option<Frame>) -> Result<BoxedFrame, NoMemory>
+        ensures { IfOk result (λ boxed. boxed ≡ frame) }
+    {
+        let frame = Box::new(alloc, frame)?;
+        Ok(BoxedFrame { frame })
+    }
+
+    /// Takes the newest frame out where this is none; puts this one in where there is room.
+    #[tactic(auto, using(crate::proofs::Limits::frames_fit, crate::proofs::Limits::frame_fits))]
+    pub fn swap_newest(&mut self, frames: &mut Frames)
+        ensures frames { frames.new ≡ frames_swapped self.old frames.old }
+        ensures frame { self.new ≡ frame_given self.old frames.old }
+    {
+        let _fits = frames.len();
+        match self.frame.take() {
+            None => *self.frame = frames.pop(),
+            Some(coming) => {
+                if !frames.push(coming) {
+                    *self.frame = Some(coming);
+                }
+            }
+        }
     }
 }

@@ -10,8 +10,8 @@ mod table;
 #[cfg(test)]
 mod tests;
 
-pub use boxed::BoxedProc;
+pub use boxed::{BoxedFrame, BoxedProc};
 pub use laws::{commute, nothing_else, twice_is_nothing};
-pub use part::Part;
+pub use part::{Answer, Part, Register};
 pub use proc::Proc;
 pub use table::ProcTable;

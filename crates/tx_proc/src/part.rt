@@ -1,20 +1,37 @@
 //! One part of a process, and what it was or is to be.
 ghost use Rattle.std.specs.Prelude.{◌≡◌};
-ghost use Rattle.tx_proc.specs.Parts.{edited_once, part_of, queue_swapped, queue_given, frames_swapped, frame_given, HasPlace};
+ghost use Rattle.tx_proc.specs.Parts.{edited_once, part_of, queue_swapped, queue_given, HasPlace};
 
+use crate::boxed::BoxedFrame;
 use crate::proc::Proc;
 use std::mem;
 use tx_base::{DescNo, Pid, Regs, Signo};
 use tx_cred::Cred;
 use tx_pages::Page;
-use tx_signal::{Action, Frame, Frames, Pending, Queued, SigSet};
+use tx_signal::{Action, Pending, Queued, SigSet};
+
+/// What a call leaves in the registers: the point after it, and its answer.
+#[derive(Clone, Copy, PartialEq, Eq, Debug)]
+pub struct Answer {
+    pub point: u32,
+    pub ret: i64,
+}
+
+/// What a slot of the registers keeps: slots 0 to 7.
+#[derive(Clone, Copy, PartialEq, Eq, Debug)]
+pub struct Register {
+    pub number: usize,
+    pub value: i64,
+}
 
 /// One part of a process, and what it was or is to be. It owns that old or new part, so to
 /// exchange it takes no memory. Own rule.
 #[derive(Drop)]
 pub enum Part {
-    /// The registers.
-    Regs(Regs),
+    /// The point and the answer of the last call.
+    Answer(Answer),
+    /// What a slot of the registers keeps.
+    Register(Register),
     /// The parent.
     Parent(Pid),
     /// The status.
@@ -34,7 +51,7 @@ pub enum Part {
     /// An entry of the queue of realtime signals: the one at the place, or one to be put in there.
     Queued(usize, Option<Queued>),
     /// The newest of the frames, or one to be the newest.
-    Frame(Option<Frame>),
+    Frame(BoxedFrame),
 }
 
 impl Part {
@@ -46,7 +63,8 @@ impl Part {
         ensures part { self.new ≡ part_of proc.old self.old }
     {
         match self {
-            Part::Regs(regs) => mem::swap(&mut proc.regs, regs),
+            Part::Answer(answer) => swap_answer(&mut proc.regs, answer),
+            Part::Register(kept) => mem::swap(&mut proc.regs.slots[kept.number], &mut kept.value),
             Part::Parent(parent) => mem::swap(&mut proc.parent, parent),
             Part::Status(status) => mem::swap(&mut proc.status, status),
             Part::Cred(cred) => mem::swap(&mut proc.cred, cred),
@@ -56,9 +74,18 @@ impl Part {
             Part::Action(signo, action) => proc.actions.swap(*signo, action),
             Part::Pending(set) => proc.pending.swap_standard(set),
             Part::Queued(place, entry) => swap_entry(&mut proc.pending, *place, entry),
-            Part::Frame(frame) => swap_newest(&mut proc.frames, frame),
+            Part::Frame(frame) => frame.swap_newest(&mut proc.frames),
         }
     }
+}
+
+/// Exchanges the point and the answer, and leaves the slots.
+fn swap_answer(regs: &mut Regs, answer: &mut Answer)
+    ensures regs { regs.new ≡ record regs.old { point = answer.old.point; ret = answer.old.ret } }
+    ensures answer { answer.new ≡ record { point = regs.old.point; ret = regs.old.ret } }
+{
+    mem::swap(&mut regs.point, &mut answer.point);
+    mem::swap(&mut regs.ret, &mut answer.ret);
 }
 
 /// Takes the entry at the place out where none comes in; puts the one in there that comes where
@@ -70,21 +97,4 @@ fn swap_entry(pending: &mut Pending, place: usize, entry: &mut Option<Queued>)
 {
     let _fits = pending.queued();
     pending.swap_entry(place, entry);
-}
-
-/// Takes the newest frame out where none comes in; puts the one in that comes where there is room.
-#[tactic(auto, using(crate::proofs::Limits::frames_fit, crate::proofs::Limits::frame_fits))]
-fn swap_newest(frames: &mut Frames, frame: &mut Option<Frame>)
-    ensures frames { frames.new ≡ frames_swapped frame.old frames.old }
-    ensures frame { frame.new ≡ frame_given frame.old frames.old }
-{
-    let _fits = frames.len();
-    match frame.take() {
-        None => *frame = frames.pop(),
-        Some(coming) => {
-            if !frames.push(coming) {
-                *frame = Some(coming);
-            }
-        }
-    }
 }

@@ -1,19 +1,16 @@
 //! Each public call on its happy path, and the edges of the exchanges of entries and frames.
-use crate::{BoxedProc, Part, Proc, ProcTable, commute, nothing_else, twice_is_nothing};
+use crate::{
+    Answer, BoxedFrame, BoxedProc, Part, Proc, ProcTable, Register, commute, nothing_else,
+    twice_is_nothing,
+};
 use std::test::Fail;
-use tx_base::{DescNo, Pid, Regs, Signo};
+use tx_base::{DescNo, Pid, Signo};
 use tx_cred::Cred;
 use tx_pages::Page;
 use tx_signal::{Action, Frame, Queued, SigSet};
 
-/// Registers that differ from those at the start.
-fn later() -> Regs {
-    Regs {
-        point: 7,
-        ret: -14,
-        slots: [1; 8],
-    }
-}
+/// Another point and another answer than those at the start.
+const LATER: Answer = Answer { point: 7, ret: -14 };
 
 #[test]
 fn boots(rt: HostRuntime) {
@@ -63,7 +60,7 @@ fn exchanges_a_part_in_the_table(rt: HostRuntime) -> Result<(), Fail> {
         Pid(2),
         &mut Some(BoxedProc::new(rt.alloc(), Proc::booted(Pid(2)))?),
     );
-    let mut part = Part::Regs(later());
+    let mut part = Part::Answer(LATER);
     assert_eq!(rt; table.width(), 64);
     table.swap_part(Pid(2), &mut part);
     assert_eq!(rt; table.get(Pid(2)).map(|proc| proc.regs.point), Some(7));
@@ -80,7 +77,11 @@ fn exchanges_each_part(rt: HostRuntime) -> Result<(), Fail> {
     nothing_else();
     commute();
     let mut boxed = BoxedProc::new(rt.alloc(), Proc::booted(Pid(2)))?;
-    boxed.swap_part(&mut Part::Regs(later()));
+    boxed.swap_part(&mut Part::Answer(LATER));
+    boxed.swap_part(&mut Part::Register(Register {
+        number: 7,
+        value: 5,
+    }));
     boxed.swap_part(&mut Part::Parent(Pid(9)));
     boxed.swap_part(&mut Part::Status(Some(3)));
     let mut ids = Cred::root();
@@ -96,6 +97,7 @@ fn exchanges_each_part(rt: HostRuntime) -> Result<(), Fail> {
         (proc.regs.point, proc.parent, proc.status),
         (7, Pid(9), Some(3))
     );
+    assert_eq!(rt; proc.regs.slots, [0, 0, 0, 0, 0, 0, 0, 5]);
     assert_eq!(rt; proc.cred.real_user, 5);
     assert!(rt; proc.space.page(4).is_some());
     assert_eq!(rt; proc.descriptors.get(15), Some(DescNo(63)));
@@ -140,17 +142,20 @@ fn exchanges_entries_of_the_queue(rt: HostRuntime) -> Result<(), Fail> {
 #[test]
 fn exchanges_the_newest_frame(rt: HostRuntime) -> Result<(), Fail> {
     let mut boxed = BoxedProc::new(rt.alloc(), Proc::booted(Pid(2)))?;
-    boxed.swap_part(&mut Part::Frame(None));
+    let none = BoxedFrame::new(rt.alloc(), None)?;
+    boxed.swap_part(&mut Part::Frame(none));
     assert_eq!(rt; boxed.get().frames.len(), 0);
     for count in [1, 2, 3, 4, 4] {
         let frame = Frame {
-            registers: later(),
+            registers: boxed.get().regs,
             mask: SigSet::HUP,
         };
-        boxed.swap_part(&mut Part::Frame(Some(frame)));
+        let coming = BoxedFrame::new(rt.alloc(), Some(frame))?;
+        boxed.swap_part(&mut Part::Frame(coming));
         assert_eq!(rt; boxed.get().frames.len(), count);
     }
-    boxed.swap_part(&mut Part::Frame(None));
+    let none = BoxedFrame::new(rt.alloc(), None)?;
+    boxed.swap_part(&mut Part::Frame(none));
     assert_eq!(rt; boxed.get().frames.len(), 3);
     Ok(())
 }
