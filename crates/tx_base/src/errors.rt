@@ -62,25 +62,3 @@ impl<T: Drop> From<AllocFailed<T>> for NoMemory {
         NoMemory
     }
 }
-
-#[cfg(test)]
-mod tests {
-    use super::*;
-
-    #[test]
-    fn numbers_are_those_of_linux(rt: HostRuntime) {
-        for (error, number) in [
-            (Errno::NotPermitted, 1),
-            (Errno::NoSuchProcess, 3),
-            (Errno::BadDescriptor, 9),
-            (Errno::NoChild, 10),
-            (Errno::TryAgain, 11),
-            (Errno::BadAddress, 14),
-            (Errno::InvalidArgument, 22),
-            (Errno::TooManyDescriptors, 24),
-            (Errno::BrokenPipe, 32),
-        ] {
-            assert_eq!(rt; error.number(), number, "of {error:?}");
-        }
-    }
-}

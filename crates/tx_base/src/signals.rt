@@ -81,22 +81,3 @@ pub enum How {
     /// They are the mask.
     Set,
 }
-
-#[cfg(test)]
-mod tests {
-    use super::*;
-
-    #[test]
-    fn the_bit_of_signal_n_is_two_to_the_n(rt: HostRuntime) {
-        for (set, bits) in [
-            (SigSet::HUP, 0b10),
-            (SigSet::KILL, 0b10_0000_0000),
-            (SigSet::CHLD, 0x2_0000),
-            (SigSet::REALTIME_0, 0x1_0000_0000),
-            (SigSet::REALTIME_7, 0x80_0000_0000),
-        ] {
-            assert_eq!(rt; set.bits(), bits, "of {set:?}");
-        }
-        assert_eq!(rt; SigSet::all().bits(), 0xff_0002_f64e);
-    }
-}

@@ -7,8 +7,6 @@ mod laws;
 mod parts;
 mod pipes;
 mod run;
-#[cfg(test)]
-mod tests;
 
 pub use change::Change;
 pub use laws::{

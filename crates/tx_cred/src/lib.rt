@@ -2,7 +2,5 @@
 #![tactic(auto)]
 
 mod cred;
-#[cfg(test)]
-mod tests;
 
 pub use cred::{Cred, may_signal};

@@ -7,8 +7,6 @@ mod numbers;
 mod page;
 mod plans;
 mod space;
-#[cfg(test)]
-mod tests;
 
 pub use errors::PageError;
 pub use page::Page;

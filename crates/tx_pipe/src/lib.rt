@@ -3,8 +3,6 @@
 
 mod laws;
 mod pipe;
-#[cfg(test)]
-mod tests;
 
 pub use laws::{back_twice, front_twice, put_back_undoes_read, take_back_undoes_write};
 pub use pipe::Pipe;

@@ -7,8 +7,6 @@ mod laws;
 mod part;
 mod proc;
 mod table;
-#[cfg(test)]
-mod tests;
 
 pub use boxed::{BoxedFrame, BoxedProc};
 pub use laws::{commute, nothing_else, twice_is_nothing};

@@ -8,8 +8,6 @@ mod laws;
 mod pending;
 mod queued;
 mod sets;
-#[cfg(test)]
-mod tests;
 
 pub use actions::{Actions, is_bad, is_fatal, is_ignored, kept};
 pub use frames::{Frame, Frames};

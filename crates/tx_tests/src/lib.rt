@@ -1,0 +1,19 @@
+//! Tests of the libraries, in one crate over all of them: what no contract says, and each public
+//! call on its happy path. They stand here, and not in their crates, since a crate with tests is
+//! proved once more for them.
+#![tactic(auto)]
+
+#[cfg(test)]
+mod base;
+#[cfg(test)]
+mod change;
+#[cfg(test)]
+mod cred;
+#[cfg(test)]
+mod pages;
+#[cfg(test)]
+mod pipe;
+#[cfg(test)]
+mod proc;
+#[cfg(test)]
+mod signal;
