@@ -5,6 +5,7 @@ mod errors;
 mod limits;
 mod marks;
 mod names;
+mod numbers;
 mod signals;
 mod slots;
 mod steps;
@@ -17,6 +18,7 @@ pub use limits::{
 };
 pub use marks::Mark;
 pub use names::{DescNo, Missed, Pid, PipeNo, Regs, Sending, Signo};
-pub use signals::{Action, How, SigSet};
+pub use numbers::number_below;
+pub use signals::{Action, How, SIGCHLD, SIGKILL, SIGPIPE, SigSet};
 pub use slots::Slots;
 pub use steps::{Accepted, Call, Refusal, Reply, Step, When};

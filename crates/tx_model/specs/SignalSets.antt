@@ -2,6 +2,7 @@
 -- The numbers are own ones, those of Linux.
 use Rattle.std.specs.Prelude.{ℕ, ◌-◌, ◌^◌, Bool, false, ◌||◌, List, [], ◌∷◌, ◌==◌, bit_and, bit_or}
 use Rattle.std.specs.Int.{bit_at}
+use Rattle.tx_base.specs.declared.signals.TheConstants.{SIGKILL, SIGPIPE, SIGCHLD}
 
 -- SIGHUP, SIGINT, SIGQUIT, SIGABRT, SIGKILL, SIGUSR1, SIGUSR2, SIGPIPE, SIGALRM, SIGTERM, SIGCHLD
 abbrev pub standard_signals : List ℕ
@@ -12,13 +13,13 @@ abbrev pub realtime_signals : List ℕ
 realtime_signals = 32 ∷ 33 ∷ 34 ∷ 35 ∷ 36 ∷ 37 ∷ 38 ∷ 39 ∷ []
 
 abbrev pub kill_signo : ℕ
-kill_signo = 9
+kill_signo = SIGKILL.0
 
 abbrev pub broken_pipe_signo : ℕ
-broken_pipe_signo = 13
+broken_pipe_signo = SIGPIPE.0
 
 abbrev pub child_signo : ℕ
-child_signo = 17
+child_signo = SIGCHLD.0
 
 abbrev pub is_one_of : List ℕ → ℕ → Bool
 is_one_of [] n = false

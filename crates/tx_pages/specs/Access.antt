@@ -1,8 +1,8 @@
 -- What a range of bytes is wanted for.
 use Rattle.std.specs.Prelude.{Bool, Option}
 use Rattle.tx_model.specs.Memory.{PageView, is_mapped, is_writable}
-use Rattle.tx_pages.specs.declared.numbers.Access.{Access}
-use Rattle.tx_pages.specs.declared.numbers.Access.TheVariants.{Read, Write}
+use Rattle.tx_pages.specs.declared.access.Access.{Access}
+use Rattle.tx_pages.specs.declared.access.Access.TheVariants.{Read, Write}
 
 -- the test that a page has to pass
 abbrev pub test_of : Access → Option PageView → Bool

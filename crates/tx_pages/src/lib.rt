@@ -2,12 +2,13 @@
 //! goes into a new frame.
 #![tactic(auto)]
 
+mod access;
 mod errors;
-mod numbers;
 mod page;
 mod plans;
 mod space;
 
+pub use access::Access;
 pub use errors::PageError;
 pub use page::Page;
 pub use plans::{NewPage, NewPages};

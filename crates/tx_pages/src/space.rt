@@ -2,19 +2,19 @@
 ghost use Rattle.std.specs.Bool.{OnTrue};
 ghost use Rattle.std.specs.Option.{option_copied};
 ghost use Rattle.std.specs.Prelude.{◌≡◌, ◌<◌, ◌≤◌, ◌+◌, ◌/◌, IfOk, length, slice_set};
-ghost use Rattle.tx_model.specs.Memory.{no_memory, page_at, below, all_good, loaded, byte_or_zero, bytes_from, put_bytes};
+ghost use Rattle.tx_model.specs.Memory.{no_memory, page_at, below, all_good, loaded, byte_or_zero, bytes_from, put_bytes, is_good};
 ghost use Rattle.tx_pages.specs.Access.{test_of};
 ghost use Rattle.tx_pages.specs.Frames.{written};
 ghost use Rattle.tx_pages.specs.Outcomes.{Maps, Unmaps, Protects, Stores, Loads, Takes, PlansMap, PlansUnmap, PlansProtect, PlansStore, with_pages, AreNumbered};
 
+use crate::access::Access;
 use crate::errors::PageError;
-use crate::numbers::{Access, number_below};
 use crate::page::Page;
 use crate::plans::{NewPage, NewPages};
 use std::alloc::Global;
 use std::marker::Model;
 use std::mem;
-use tx_base::{ADDRESSES, NoMemory, PAGE_BYTES, PAGES};
+use tx_base::{ADDRESSES, NoMemory, PAGE_BYTES, PAGES, number_below};
 
 /// The pages of a process: numbers 0 to 15, addresses 0 to 1,023. Contracts see what each number
 /// has.
@@ -134,6 +134,20 @@ impl Space {
         let new = self.plan_store(alloc, address, bytes)?;
         self.put_pages(new);
         Ok(())
+    }
+
+    /// Whether so many bytes from an address on are good for the purpose: there are none, or they
+    /// lie in 0 to 1,023 on mapped pages, which may be written where that is the purpose. Own rule.
+    pub fn is_good(&self, access: Access, address: i64, count: usize) -> bool
+        ensures { result ≡ is_good (test_of access) self.now address count }
+    {
+        if count == 0 {
+            return true;
+        }
+        match number_below(ADDRESSES, address) {
+            Some(start) => self.is_good_at(access, start, count),
+            None => false,
+        }
     }
 
     /// The byte at an address. Own rule.

@@ -5,7 +5,7 @@ ghost use Rattle.tx_proc.specs.Parts.{edited_once, part_of, queue_swapped, queue
 use crate::boxed::BoxedFrame;
 use crate::proc::Proc;
 use std::mem;
-use tx_base::{DescNo, Pid, Regs, Signo};
+use tx_base::{DescNo, LAST_POINT, Pid, Regs, Signo};
 use tx_cred::Cred;
 use tx_pages::Page;
 use tx_signal::{Action, Pending, Queued, SigSet};
@@ -15,6 +15,19 @@ use tx_signal::{Action, Pending, Queued, SigSet};
 pub struct Answer {
     pub point: u32,
     pub ret: i64,
+}
+
+impl Answer {
+    ghost use Rattle.tx_model.specs.Effects.{next_point};
+
+    /// What a call with this answer leaves that was made at the point: the next point, which is the
+    /// same at the last one. Own rule.
+    pub fn at(point: u32, ret: i64) -> Answer
+        ensures { result ≡ record { point = next_point point; ret = ret } }
+    {
+        let point = if point < LAST_POINT { point + 1 } else { point };
+        Answer { point, ret }
+    }
 }
 
 /// What a slot of the registers keeps: slots 0 to 7.

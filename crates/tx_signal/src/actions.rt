@@ -8,10 +8,7 @@ ghost use Rattle.tx_signal.specs.Parts.{with_actions};
 use crate::sets::maskable;
 use std::marker::Model;
 use std::mem;
-use tx_base::{Action, LAST_POINT, SIGNALS, Signo};
-
-/// The number of SIGCHLD.
-const CHILD: Signo = Signo(17);
+use tx_base::{Action, LAST_POINT, SIGCHLD, SIGNALS, Signo};
 
 /// What a process does about each signal of numbers 0 to 39. Contracts see the list of the actions.
 #[derive(Drop)]
@@ -112,7 +109,7 @@ pub fn is_ignored(signo: Signo, action: Action) -> bool
     ensures { result ≡ is_ignored signo.0 action }
 {
     match action {
-        Action::Usual => signo == CHILD,
+        Action::Usual => signo == SIGCHLD,
         Action::Ignore => true,
         Action::Catch { .. } => false,
     }
@@ -124,7 +121,7 @@ pub fn is_fatal(signo: Signo, action: Action) -> bool
     ensures { result ≡ is_fatal signo.0 action }
 {
     match action {
-        Action::Usual => signo != CHILD,
+        Action::Usual => signo != SIGCHLD,
         Action::Ignore => false,
         Action::Catch { .. } => false,
     }

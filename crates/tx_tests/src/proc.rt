@@ -159,3 +159,27 @@ fn exchanges_the_newest_frame(rt: HostRuntime) -> Result<(), Fail> {
     assert_eq!(rt; boxed.get().frames.len(), 3);
     Ok(())
 }
+
+#[test]
+fn forks_and_ends(rt: HostRuntime) -> Result<(), Fail> {
+    let mut parent = Proc::booted(Pid(2));
+    parent.regs.point = 65_535;
+    parent.regs.ret = -1;
+    parent.mask = SigSet::HUP;
+    parent.cred.real_user = 5;
+    parent.space.map(rt.alloc(), 3)?;
+    let child = parent.child(Pid(2))?;
+    assert_eq!(rt;
+        (child.regs.point, child.regs.ret, child.parent),
+        (65_535, 0, Pid(2))
+    );
+    assert_eq!(rt; (child.mask, child.cred), (SigSet::HUP, parent.cred));
+    assert!(rt; child.space.page(3).is_some());
+    let over = child.ended(259);
+    assert_eq!(rt;
+        (over.status, over.parent, over.cred),
+        (Some(259), Pid(2), child.cred)
+    );
+    assert!(rt; over.space.page(3).is_none());
+    Ok(())
+}

@@ -1,15 +1,8 @@
-//! Numbers that a program computes, and what its ranges of bytes are wanted for.
+//! Numbers that programs compute.
 ghost use Rattle.std.specs.Prelude.{◌≡◌, ◌<◌, ◌^◌};
-ghost use Rattle.tx_model.specs.Memory.{below};
+ghost use Rattle.tx_base.specs.Numbers.{below};
 
-/// What a range of bytes is wanted for.
-#[derive(Clone, Copy)]
-pub enum Access {
-    Read,
-    Write,
-}
-
-/// A number that a program computed, where it lies below the limit.
+/// A number that a program computed, where it is 0 or more and lies below the limit.
 pub fn number_below(limit: usize, number: i64) -> Option<usize>
     requires { limit < 2 ^ 32 }
     ensures { result ≡ below limit number }

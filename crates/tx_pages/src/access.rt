@@ -1,0 +1,8 @@
+//! What ranges of bytes are wanted for.
+
+/// What a range of bytes is wanted for.
+#[derive(Clone, Copy, PartialEq, Eq, Debug)]
+pub enum Access {
+    Read,
+    Write,
+}
