@@ -7,7 +7,7 @@ use Rattle.tx_base.specs.Slots.{slot_at}
 use Rattle.tx_base.specs.declared.names.Pid.{Pid}
 use Rattle.tx_base.specs.declared.steps.Call.TheVariants.{SysXabort}
 use Rattle.tx_base.specs.declared.steps.Step.{Step}
-use Rattle.tx_base.specs.declared.steps.Step.TheVariants.{Call as Calls}
+use Rattle.tx_base.specs.declared.steps.Step.TheVariants.{Call as Calls, KernelAbort}
 use Rattle.tx_change.specs.Exchange.{object_of}
 use Rattle.tx_change.specs.declared.change.Change.{Change}
 use Rattle.tx_core.specs.Content.{view_of}
@@ -46,12 +46,17 @@ pub record IsStep (old : Kernel) (step : Step) (reply : Reply) (inverse : Invers
 abbrev pub IsXabort : Kernel → Step → Type 0
 IsXabort old step = (pid : Pid) × (step ≡ Calls pid SysXabort) × IsSome (slot_at old.marks pid.0)
 
+-- the step is the kernel's abort
+abbrev pub IsKernelAbort : Step → Type 0
+IsKernelAbort (KernelAbort starter) = Unit {0}
+IsKernelAbort step = ⊥
+
 -- the step was refused, and changed nothing: for want of memory, where nothing else refused it and it
--- is no member's sys_xabort; or as the answer says
+-- is neither a member's sys_xabort nor the kernel's abort; or as the answer says
 abbrev pub IsRefused : Kernel → Step → Reply → Kernel → Type 0
 IsRefused old step reply new =
     (new ≡ old)
-    × ((reply ≡ No NoMemory) × IsAccepted (answer (view_of old) step) × (IsXabort old step → ⊥)
+    × ((reply ≡ No NoMemory) × IsAccepted (answer (view_of old) step) × (IsXabort old step → ⊥) × (IsKernelAbort step → ⊥)
     ⊎ (answer (view_of old) step ≡ reply) × (IsAccepted reply → ⊥) × (reply ≢ No NoMemory))
 
 -- what a step answers and leaves: with an inverse exactly where it was accepted

@@ -9,7 +9,7 @@ ghost use Rattle.tx_core.specs.Content.{view_of, state_of};
 ghost use Rattle.tx_core.specs.Plans.{IsRunning, IsPlainCall};
 ghost use Rattle.tx_base.specs.declared.steps.Accepted.{Accepted};
 ghost use Rattle.tx_base.specs.declared.steps.Reply.TheVariants.{Aborted, No};
-ghost use Rattle.tx_core.specs.Steps.{IsStep, Steps, IsXabort};
+ghost use Rattle.tx_core.specs.Steps.{IsStep, Steps, IsXabort, IsKernelAbort};
 ghost use Rattle.tx_core.specs.Undo.{undone_by, LeadsBack};
 ghost use Rattle.tx_model.specs.Answer.{answer, IsAccepted, Lawful};
 ghost use Rattle.tx_model.specs.Membership.{Beginning, Leaving, Aborting, kind_of, is_live};
@@ -240,7 +240,7 @@ impl Machine {
     /// Makes a step. Answers its reply, and where it was accepted the inverse that takes it back.
     ///
     /// A refused step changes nothing. `NoMemory` comes only where nothing else refuses the step,
-    /// and never to a member's sys_xabort. The step has to be one that the machine makes so far: a
+    /// and never to a member's sys_xabort or to the kernel's abort. The step has to be one that the machine makes so far: a
     /// call on memory, one of a transaction, or the kernel's abort.
     ///
     /// The inverse changes only what the step names: objects of its footprint, the processes that its
@@ -255,6 +255,7 @@ impl Machine {
         ensures history { IsAccepted result.0 → (start : State) (earlier : List Accepted) → Lawful start earlier → view_of self.old ≡ view start earlier →
             Lawful start (record { step = step; reply = result.0 } ∷ earlier) × (view_of self.new ≡ view start (record { step = step; reply = result.0 } ∷ earlier)) }
         ensures xabort { IsXabort self.old step → result.0 ≢ No Refusal.NoMemory }
+        ensures kernel { IsKernelAbort step → result.0 ≢ No Refusal.NoMemory }
     {
         laws();
         self.take(alloc, &step)

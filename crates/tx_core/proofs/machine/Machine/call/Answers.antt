@@ -27,4 +27,4 @@ returns-in-Err c =
     = ap (λ (x : Kernel). slot_at x.parts.procs c.args.pid.0) (sym c.self.view_is) ∙ search (rules, c.in-Some.ensures, c.proc.ensures) in
     let runs : IsRunning (slot_at k.parts.procs c.args.pid.0) = running_of (slot_at k.parts.procs c.args.pid.0) c.in-Some.proc.now here (search (rules, c.is_some.ensures, c.if-is_some.false)) in
     let content : IsContent k = subst IsContent c.self.view_is c.self.invariant in
-    (c.in-Err.ensures.err, inl (refl, accepted_at c.laws.ensures k c.args.pid c.args.call.now c.requires.built content runs, not_xabort k c.args.pid c.args.call.now c.in-Err.ensures.memory))
+    (c.in-Err.ensures.err, inl (refl, accepted_at c.laws.ensures k c.args.pid c.args.call.now c.requires.built content runs, not_xabort k c.args.pid c.args.call.now c.in-Err.ensures.memory, (λ x. x)))
