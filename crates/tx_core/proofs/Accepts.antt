@@ -20,7 +20,7 @@ use Rattle.tx_core.specs.Runs.{IsAfter}
 use Rattle.tx_core.specs.Steps.{IsStep, IsXabort, Steps}
 use Rattle.tx_core.specs.Laws.{MachineLaws}
 use Rattle.tx_core.specs.declared.inverse.Inverse.{Inverse}
-use Rattle.tx_core.specs.declared.kernel.Kernel.{Kernel}
+use Rattle.tx_core.specs.declared.content.Content.{Content}
 use Rattle.tx_core.proofs.Cases.{plain_role, plain_case, begins_case, commits_case, aborts_case}
 use Rattle.tx_core.proofs.OfBuilt.{begins_built}
 use Rattle.tx_core.proofs.Outcomes.{reply_of_case}
@@ -32,7 +32,7 @@ use Rattle.tx_model.specs.Membership.{Begins, Within, Commits, Aborts, Beginning
 use Rattle.tx_model.specs.State.{State}
 use Rattle.tx_model.specs.View.{View, view, present, next, kernel_status}
 
-module _ (laws : MachineLaws) (k : Kernel) (pid : Pid) (q : Proc) (i : IsContent k) (here : slot_at k.parts.procs pid.0 ≡ Some q) (runs : q.status ≡ None) where
+module _ (laws : MachineLaws) (k : Content) (pid : Pid) (q : Proc) (i : IsContent k) (here : slot_at k.parts.procs pid.0 ≡ Some q) (runs : q.status ≡ None) where
   plain_accepted : (call : Call) (mark : Option Mark) → slot_at k.marks pid.0 ≡ mark → IsPlainCall call mark → IsAccepted (answer (view_of k) (Calls pid call))
   plain_accepted call mark is plain =
       let pc = plain_case laws k pid call mark q here runs is plain in
@@ -82,7 +82,7 @@ module _ (laws : MachineLaws) (k : Kernel) (pid : Pid) (q : Proc) (i : IsContent
   running_accepted SysXabort (Some m) is b = abort_accepted m is
   running_accepted call mark is b = absurd b
 
-pub accepted_at : (laws : MachineLaws) (k : Kernel) (pid : Pid) (call : Call) → IsBuiltCall call → IsContent k → IsRunning (slot_at k.parts.procs pid.0) → IsAccepted (answer (view_of k) (Calls pid call))
+pub accepted_at : (laws : MachineLaws) (k : Content) (pid : Pid) (call : Call) → IsBuiltCall call → IsContent k → IsRunning (slot_at k.parts.procs pid.0) → IsAccepted (answer (view_of k) (Calls pid call))
 accepted_at laws k pid call built i runs = by (slot_at k.parts.procs pid.0) refl runs
   where
     by : (x : Option Proc) → slot_at k.parts.procs pid.0 ≡ x → IsRunning x → IsAccepted (answer (view_of k) (Calls pid call))
@@ -90,7 +90,7 @@ accepted_at laws k pid call built i runs = by (slot_at k.parts.procs pid.0) refl
     by (Some q) here r = running_accepted laws k pid q i here r call (slot_at k.marks pid.0) refl built
 
 -- one more entry of a history whose view the machine has
-pub along : (laws : MachineLaws) (old new : Kernel) (step : Step) (reply : Reply) (inverse : Inverse) → IsStep old step reply inverse new → (start : State) (earlier : List Accepted) → IsAfter start earlier old
+pub along : (laws : MachineLaws) (old new : Content) (step : Step) (reply : Reply) (inverse : Inverse) → IsStep old step reply inverse new → (start : State) (earlier : List Accepted) → IsAfter start earlier old
     → IsAfter start (record { step = step; reply = reply } ∷ earlier) new
 unfolding Lawful
 along laws old new step reply inverse made start earlier a =
@@ -104,7 +104,7 @@ not_accepted : (reply : Reply) → reply ≡ No NoMemory → IsAccepted reply �
 not_accepted reply e a = subst IsAccepted e a
 
 -- what a step's answer and inverse say, clause by clause
-module _ (old new : Kernel) (step : Step) (reply : Reply) where
+module _ (old new : Content) (step : Step) (reply : Reply) where
   pub steps_answer : (o : Option Inverse) → Steps old step reply o new → (reply ≡ No NoMemory) ⊎ (answer (view_of old) step ≡ reply)
   steps_answer None h = elim h.1 [ inl a ↦ inl a.0 | inr b ↦ inr b.0 ]
   steps_answer (Some inverse) h = inr h.answered
@@ -136,7 +136,7 @@ some_of None h = cc
 some_of (Some n) h = (n, refl)
 
 -- a call that answers want of memory is no member's sys_xabort
-pub not_xabort : (k : Kernel) (pid : Pid) (call : Call) → (kind_of call ≡ Aborting → slot_at k.marks pid.0 ≡ None) → IsXabort k (Calls pid call) → ⊥
+pub not_xabort : (k : Content) (pid : Pid) (call : Call) → (kind_of call ≡ Aborting → slot_at k.marks pid.0 ≡ None) → IsXabort k (Calls pid call) → ⊥
 not_xabort k pid call h (p, same, marked) =
     let who : pid ≡ p = cc in
     let what : call ≡ SysXabort = cc in
@@ -152,7 +152,7 @@ running_of (Some p) q here h = let z : p ≡ q = cc in none_of p.status (ap (λ 
     none_of (Some n) h = cc
 
 -- the kernel's abort where there is no such transaction
-pub dead_answer : (k : Kernel) (s : Pid) → (is_live (view_of k).table s.0 ≡ true → false ≡ true) → answer (view_of k) (KernelAbort s) ≡ No NoTransaction
+pub dead_answer : (k : Content) (s : Pid) → (is_live (view_of k).table s.0 ≡ true → false ≡ true) → answer (view_of k) (KernelAbort s) ≡ No NoTransaction
 unfolding answer
 dead_answer k s h = by (is_live (view_of k).table s.0) refl
   where

@@ -31,7 +31,7 @@ use Rattle.tx_core.specs.Undo.{log_in, last_of, first_of, undone_by, HasSlot}
 use Rattle.tx_core.specs.Laws.{MachineLaws}
 use Rattle.tx_core.specs.declared.inverse.Inverse.{Inverse}
 use Rattle.tx_core.specs.declared.inverse.Inverse.TheVariants.{Outside as OutsideLog, Inside, Begun, Committed as CommittedLog, Aborted as AbortedLog}
-use Rattle.tx_core.specs.declared.kernel.Kernel.{Kernel}
+use Rattle.tx_core.specs.declared.content.Content.{Content}
 use Rattle.tx_core.proofs.Cases.{IsCase, plain_case, begins_case, own_mark, commits_case, aborts_case}
 use Rattle.tx_core.proofs.LogFacts.{length_exchanged}
 use Rattle.tx_core.proofs.OfBuilt.{begins_built}
@@ -52,7 +52,7 @@ use Rattle.tx_model.specs.SignalSets.{kill_signo}
 use Rattle.tx_proc.proofs.Twice.{still_sized}
 
 -- a step, and that what it leaves is what a machine may keep
-pub record IsDone (k : Kernel) (step : Step) (reply : Reply) (inverse : Inverse) (new : Kernel) : Type 0 where
+pub record IsDone (k : Content) (step : Step) (reply : Reply) (inverse : Inverse) (new : Content) : Type 0 where
   pub made : IsStep k step reply inverse new
   pub content : IsContent new
 
@@ -97,7 +97,7 @@ log_again parts p q (c ∷ cs) low high here sized own =
     (λ j. (twice U c name places) j ∷ exchanged ((back U c name) j) (reverted parts cs))
     ∙ ap (λ (xs : List Change). c ∷ xs) (log_again parts p q cs low high here sized own.1)
 
-module _ (laws : MachineLaws) (k : Kernel) (pid : Pid) (q : Proc) (cs : List Change) (i : IsContent k) (here : slot_at k.parts.procs pid.0 ≡ Some q) (own : AreOf pid.0 cs) where
+module _ (laws : MachineLaws) (k : Content) (pid : Pid) (q : Proc) (cs : List Change) (i : IsContent k) (here : slot_at k.parts.procs pid.0 ≡ Some q) (own : AreOf pid.0 cs) where
   abbrev slot : HasSlot k pid.0
   slot = has_slot k i pid.0 q here
 
@@ -139,7 +139,7 @@ module _ (laws : MachineLaws) (k : Kernel) (pid : Pid) (q : Proc) (cs : List Cha
       → IsDone k (Calls pid call) (Done (memory_call q.space call).ret) (OutsideLog (exchanged k.parts cs)) (record k { parts = applied k.parts cs })
   outside_done call runs free plain gives =
       let r : ℤ = (memory_call q.space call).ret in
-      let new : Kernel = record k { parts = applied k.parts cs } in
+      let new : Content = record k { parts = applied k.parts cs } in
       let pc = plain_case laws k pid call None q here runs free plain in
       let y = process_in (Some (proc_after q (memory_call q.space call))) in
       let is : effect pc.event (state_of k.parts) ≡ set_effect pid.0 (process_in (Some (edited q cs))) (Done r)
@@ -194,7 +194,7 @@ module _ (laws : MachineLaws) (k : Kernel) (pid : Pid) (q : Proc) (cs : List Cha
         (record k { parts = applied k.parts cs; logs = with_slot k.logs pid.0 (Some (log_in (slot_at k.logs pid.0) ++ exchanged k.parts cs)) })
     inside_done call runs plain gives =
         let r : ℤ = (memory_call q.space call).ret in
-        let new : Kernel = record k { parts = applied k.parts cs; logs = with_slot k.logs pid.0 (Some (log ++ ex)) } in
+        let new : Content = record k { parts = applied k.parts cs; logs = with_slot k.logs pid.0 (Some (log ++ ex)) } in
         let pc = plain_case laws k pid call (Some m) q here runs mark plain in
         let case : IsCase k (Calls pid call) (Within pid.0 Continues) pc.event = subst (λ (s : ℕ). IsCase k (Calls pid call) (Within s Continues) pc.event) starter pc.is_case in
         let y = process_in (Some (proc_after q (memory_call q.space call))) in
@@ -240,7 +240,7 @@ module _ (laws : MachineLaws) (k : Kernel) (pid : Pid) (q : Proc) (cs : List Cha
         → IsDone k (Calls pid SysXend) (Committed (record { items = [] })) (CommittedLog pid m (log_in (slot_at k.logs pid.0) ++ exchanged k.parts cs) (length cs))
         (record { parts = applied k.parts cs; marks = with_slot k.marks pid.0 None; logs = with_slot k.logs pid.0 None })
     commit_done runs gives =
-        let new : Kernel = record { parts = applied k.parts cs; marks = with_slot k.marks pid.0 None; logs = with_slot k.logs pid.0 None } in
+        let new : Content = record { parts = applied k.parts cs; marks = with_slot k.marks pid.0 None; logs = with_slot k.logs pid.0 None } in
         let inverse : Inverse = CommittedLog pid m (log ++ ex) (length cs) in
         let ev : Event = Note pid.0 (pos 0) in
         let case = commits_case k pid m i mark in
@@ -279,7 +279,7 @@ module _ (laws : MachineLaws) (k : Kernel) (pid : Pid) (q : Proc) (cs : List Cha
       (record { parts = applied k.parts cs; marks = with_slot k.marks pid.0 (Some (new_mark pid.0 defers)); logs = with_slot k.logs pid.0 (Some (exchanged k.parts cs)) })
   begin_done call defers kind runs free gives =
       let mark : Mark = new_mark pid.0 defers in
-      let new : Kernel = record { parts = applied k.parts cs; marks = with_slot k.marks pid.0 (Some mark); logs = with_slot k.logs pid.0 (Some ex) } in
+      let new : Content = record { parts = applied k.parts cs; marks = with_slot k.marks pid.0 (Some mark); logs = with_slot k.logs pid.0 (Some ex) } in
       let ev : Event = Note pid.0 (pos 0) in
       let case = begins_case k pid call defers kind free in
       let y = process_in (Some (proc_after q (only_answers q (pos 0)))) in
@@ -322,7 +322,7 @@ module _ (laws : MachineLaws) (k : Kernel) (pid : Pid) (q : Proc) (cs : List Cha
       }
 
 -- the abort of the transaction of p
-module _ (laws : MachineLaws) (k : Kernel) (pid : Pid) (m : Mark) (i : IsContent k) (mark : slot_at k.marks pid.0 ≡ Some m) (ret : ℤ) where
+module _ (laws : MachineLaws) (k : Content) (pid : Pid) (m : Mark) (i : IsContent k) (mark : slot_at k.marks pid.0 ≡ Some m) (ret : ℤ) where
   abbrev old_log : List Change
   old_log = log_in (slot_at k.logs pid.0)
 
@@ -404,7 +404,7 @@ module _ (laws : MachineLaws) (k : Kernel) (pid : Pid) (m : Mark) (i : IsContent
         logs = with_slot k.logs pid.0 None;
       })
   aborted_done step status who case names answered =
-      let new : Kernel = record { parts = parts_after before note; marks = with_slot k.marks pid.0 None; logs = with_slot k.logs pid.0 None } in
+      let new : Content = record { parts = parts_after before note; marks = with_slot k.marks pid.0 None; logs = with_slot k.logs pid.0 None } in
       let noted : Change = change_after before note in
       let redo : List Change = reverted k.parts old_log in
       let inverse : Inverse = AbortedLog pid m redo noted in
@@ -452,7 +452,7 @@ module _ (laws : MachineLaws) (k : Kernel) (pid : Pid) (m : Mark) (i : IsContent
       own_exchanged_one parts = AreOf-exchanged pid.0 parts (note ∷ []) ((refl, tt), tt)
 
 -- a member's sys_xabort
-pub xabort_done : (laws : MachineLaws) (k : Kernel) (pid : Pid) (q : Proc) (m : Mark) (i : IsContent k) → slot_at k.parts.procs pid.0 ≡ Some q → q.status ≡ None → (mark : slot_at k.marks pid.0 ≡ Some m)
+pub xabort_done : (laws : MachineLaws) (k : Content) (pid : Pid) (q : Proc) (m : Mark) (i : IsContent k) → slot_at k.parts.procs pid.0 ≡ Some q → q.status ≡ None → (mark : slot_at k.marks pid.0 ≡ Some m)
     → IsDone k (Calls pid SysXabort) (Aborted called_by_status) (AbortedLog pid m (reverted k.parts (log_in (slot_at k.logs pid.0))) (change_after (undone k.parts (log_in (slot_at k.logs pid.0))) (SetPart pid (SetRegs (answered (negsuc 200) (regs_in (slot_at (undone k.parts (log_in (slot_at k.logs pid.0))).procs pid.0)))))))
     (record {
       parts = parts_after (undone k.parts (log_in (slot_at k.logs pid.0))) (SetPart pid (SetRegs (answered (negsuc 200) (regs_in (slot_at (undone k.parts (log_in (slot_at k.logs pid.0))).procs pid.0)))));
@@ -468,10 +468,10 @@ xabort_done laws k pid q m i here runs mark =
     aborted_done laws k pid m i mark (negsuc 200) (Calls pid SysXabort) called_by_status refl case (own_named (view_of k) pid SysXabort) answered
 
 -- the kernel's abort
-kernel_is : (k : Kernel) → IsContent k → (s : ℕ) → kernel_status (view_of k) s ≡ 202
+kernel_is : (k : Content) → IsContent k → (s : ℕ) → kernel_status (view_of k) s ≡ 202
 kernel_is k i s = ap (λ (b : Bool). if b then 203 else 202) (not_doomed k i s)
 
-pub kernel_done : (laws : MachineLaws) (k : Kernel) (pid : Pid) (m : Mark) (i : IsContent k) → (mark : slot_at k.marks pid.0 ≡ Some m)
+pub kernel_done : (laws : MachineLaws) (k : Content) (pid : Pid) (m : Mark) (i : IsContent k) → (mark : slot_at k.marks pid.0 ≡ Some m)
     → IsDone k (KernelAbort pid) (Aborted 202) (AbortedLog pid m (reverted k.parts (log_in (slot_at k.logs pid.0))) (change_after (undone k.parts (log_in (slot_at k.logs pid.0))) (SetPart pid (SetRegs (answered (negsuc 201) (regs_in (slot_at (undone k.parts (log_in (slot_at k.logs pid.0))).procs pid.0)))))))
     (record {
       parts = parts_after (undone k.parts (log_in (slot_at k.logs pid.0))) (SetPart pid (SetRegs (answered (negsuc 201) (regs_in (slot_at (undone k.parts (log_in (slot_at k.logs pid.0))).procs pid.0)))));
@@ -490,7 +490,7 @@ kernel_done laws k pid m i mark =
     aborted_done laws k pid m i mark (negsuc 201) (KernelAbort pid) 202 refl case (starter_named (view_of k) (KernelAbort pid) pid.0 202 i.sound case.role_is live) answered
 
 -- a starter with no live transaction
-pub no_transaction : (k : Kernel) (pid : Pid) → slot_at k.marks pid.0 ≡ None → answer (view_of k) (KernelAbort pid) ≡ No NoTransaction
+pub no_transaction : (k : Content) (pid : Pid) → slot_at k.marks pid.0 ≡ None → answer (view_of k) (KernelAbort pid) ≡ No NoTransaction
 unfolding answer
 no_transaction k pid free =
     let dead : is_of pid.0 ((view_of k).table.marks pid.0) ≡ false = ap (λ (t : Table). is_of pid.0 (t.marks pid.0)) (table_is k) ∙ ap (is_of pid.0) free in

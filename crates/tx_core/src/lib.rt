@@ -4,7 +4,7 @@
 
 mod act;
 mod inverse;
-mod kernel;
+mod content;
 mod laws;
 mod log;
 mod machine;
@@ -13,7 +13,7 @@ mod schedules;
 mod tests;
 
 pub use inverse::Inverse;
-pub use kernel::Kernel;
+pub use content::Content;
 pub use log::Log;
 pub use machine::{Machine, NoTransaction};
 pub use schedules::{Ran, run, run_wide};

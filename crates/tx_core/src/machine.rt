@@ -18,7 +18,7 @@ ghost use Rattle.tx_model.specs.View.{view, present};
 
 use crate::act::{CallKind, call_kind, plan_answer, plan_call};
 use crate::inverse::Inverse;
-use crate::kernel::Kernel;
+use crate::content::Content;
 use crate::laws::laws;
 use arrayvec::ArrayVec;
 use std::alloc::Global;
@@ -42,18 +42,18 @@ pub struct NoTransaction;
 /// A kernel that takes steps, one after another.
 #[derive(Drop)]
 pub struct Machine {
-    kernel: Kernel,
+    content: Content,
 }
 
 impl Model for Machine {
     ghost use Rattle.tx_core.specs.Content.{IsContent};
-    ghost use Rattle.tx_core.specs.declared.kernel.Kernel.{Kernel as TheKernel};
+    ghost use Rattle.tx_core.specs.declared.content.Content.{Content as TheContent};
 
-    ghost Value = { TheKernel };
+    ghost Value = { TheContent };
 
-    ghost view = { λ machine. machine.kernel };
+    ghost view = { λ machine. machine.content };
 
-    ghost invariant = { λ machine. IsContent machine.kernel };
+    ghost invariant = { λ machine. IsContent machine.content };
 }
 
 impl Machine {
@@ -71,9 +71,9 @@ impl Machine {
         ensures err { OnErr result (self.new ≡ self.old) }
     {
         laws();
-        let proc = self.kernel.parts.proc(pid).unwrap();
+        let proc = self.content.parts.proc(pid).unwrap();
         let plan = plan_call(alloc, pid, proc, call)?;
-        let inverse = self.kernel.change_outside(plan.changes);
+        let inverse = self.content.change_outside(plan.changes);
         Ok((Reply::Done(plan.ret), inverse))
     }
 
@@ -92,9 +92,9 @@ impl Machine {
         ensures err { OnErr result (self.new ≡ self.old) }
     {
         laws();
-        let proc = self.kernel.parts.proc(pid).unwrap();
+        let proc = self.content.parts.proc(pid).unwrap();
         let plan = plan_call(alloc, pid, proc, call)?;
-        let inverse = self.kernel.change_inside(pid, plan.changes)?;
+        let inverse = self.content.change_inside(pid, plan.changes)?;
         Ok((Reply::Done(plan.ret), inverse))
     }
 
@@ -113,9 +113,9 @@ impl Machine {
         ensures err { OnErr result (self.new ≡ self.old) }
     {
         laws();
-        let proc = self.kernel.parts.proc(pid).unwrap();
+        let proc = self.content.parts.proc(pid).unwrap();
         let plan = plan_answer(alloc, pid, proc, 0)?;
-        let inverse = self.kernel.begin(pid, defers, plan.changes);
+        let inverse = self.content.begin(pid, defers, plan.changes);
         Ok((Reply::Done(0), inverse))
     }
 
@@ -134,9 +134,9 @@ impl Machine {
         ensures err { OnErr result (self.new ≡ self.old) }
     {
         laws();
-        let proc = self.kernel.parts.proc(pid).unwrap();
+        let proc = self.content.parts.proc(pid).unwrap();
         let plan = plan_answer(alloc, pid, proc, 0)?;
-        let inverse = self.kernel.commit(pid, mark, plan.changes)?;
+        let inverse = self.content.commit(pid, mark, plan.changes)?;
         let undelivered = ArrayVec::new();
         Ok((Reply::Committed { undelivered }, inverse))
     }
@@ -149,7 +149,7 @@ impl Machine {
         ensures { IsStep self.old (Calls pid _call.now) result.0 result.1 self.new }
     {
         laws();
-        let inverse = self.kernel.abort(pid, mark, BY_CALL);
+        let inverse = self.content.abort(pid, mark, BY_CALL);
         (Reply::Aborted(ABORTED_BY_CALL), inverse)
     }
 
@@ -161,7 +161,7 @@ impl Machine {
         ensures err { OnErr result (self.new ≡ self.old) }
         ensures memory { OnErr result (kind_of call.now ≡ Aborting → slot_at self.old.marks pid.0 ≡ None) }
     {
-        let mark = self.kernel.marks.get(pid).copied();
+        let mark = self.content.marks.get(pid).copied();
         match call_kind(call) {
             CallKind::OfProcess => match mark {
                 None => self.outside(alloc, pid, call),
@@ -188,7 +188,7 @@ impl Machine {
         ensures { Steps self.old (Calls pid call.now) result.0 result.1 self.new }
     {
         laws();
-        let status = match self.kernel.parts.proc(pid) {
+        let status = match self.content.parts.proc(pid) {
             Some(proc) => proc.status,
             None => return (Reply::No(Refusal::NoProcess), None),
         };
@@ -215,9 +215,9 @@ impl Machine {
             × (view_of self.new ≡ view start (record { step = KernelAbort starter; reply = Aborted 202 } ∷ earlier))) }
     {
         laws();
-        let mark = self.kernel.marks.get(starter).copied();
+        let mark = self.content.marks.get(starter).copied();
         match mark {
-            Some(mark) => Ok(self.kernel.abort(starter, mark, BY_KERNEL)),
+            Some(mark) => Ok(self.content.abort(starter, mark, BY_KERNEL)),
             None => Err(NoTransaction),
         }
     }
@@ -267,14 +267,14 @@ impl Machine {
         requires { LeadsBack self.old inverse }
         ensures { self.new ≡ undone_by self.old inverse }
     {
-        self.kernel.undo(inverse);
+        self.content.undo(inverse);
     }
 
     /// How many process numbers there are: 64, or 256 of a wide machine.
     pub fn processes(&self) -> u16
         ensures { result ≡ length self.now.parts.procs }
     {
-        self.kernel.parts.procs.width() as u16
+        self.content.parts.procs.width() as u16
     }
 
     /// The parts, whose state is that of the machine's view.
@@ -283,7 +283,7 @@ impl Machine {
         ensures state { state_of result.now ≡ present (view_of self.now) }
     {
         laws();
-        &self.kernel.parts
+        &self.content.parts
     }
 
     /// For each process number its mark, if it is a member of a live transaction.
@@ -291,14 +291,14 @@ impl Machine {
         ensures marks { result.now ≡ self.now.marks }
         ensures table { (n : ℕ) → slot_at result.now n ≡ (view_of self.now).table.marks n }
     {
-        &self.kernel.marks
+        &self.content.marks
     }
 
     /// The starter of the live transaction that the process is a member of.
     pub fn txn_of(&self, pid: Pid) -> Option<Pid>
         ensures { result ≡ option_map (λ m. m.starter) ((view_of self.now).table.marks pid.0) }
     {
-        let mark = self.kernel.marks.get(pid).copied();
+        let mark = self.content.marks.get(pid).copied();
         match mark {
             Some(mark) => Some(mark.starter),
             None => None,
@@ -317,7 +317,7 @@ impl Machine {
         let marks = Slots::new(alloc, width)?;
         let logs = Slots::new(alloc, width)?;
         Ok(Machine {
-            kernel: Kernel { parts, marks, logs },
+            content: Content { parts, marks, logs },
         })
     }
 

@@ -9,14 +9,14 @@ use Rattle.tx_proc.specs.declared.proc.Proc.{Proc}
 use Rattle.tx_core.specs.Content.{IsContent}
 use Rattle.tx_core.specs.Plans.{IsRunning, memory_call}
 use Rattle.tx_core.specs.Steps.{IsStep}
-use Rattle.tx_core.specs.declared.kernel.Kernel.{Kernel}
+use Rattle.tx_core.specs.declared.content.Content.{Content}
 use Rattle.tx_core.proofs.StepFacts.{IsDone}
 use Rattle.tx_core.proofs.MachineFacts.{runs_at, plan_named, inside_from}
 use Rattle.tx_core.proofs.machine.Machine.inside.Goals as goal
 
 pub change_inside-requires-clause-named : goal.change_inside-requires-clause-named
 change_inside-requires-clause-named c =
-    let k : Kernel = c.self.inside.kernel in
+    let k : Content = c.self.inside.content in
     let q : Proc = c.unwrap-proc.result.now in
     let here : slot_at k.parts.procs c.args.pid.0 ≡ Some q = search (rules, c.unwrap-proc.ensures, c.proc.ensures) in
     plan_named k c.args.pid q c.in_ok-plan.plan (memory_call q.space c.args.call.now) c.self.invariant here c.in_ok-plan.ensures
@@ -26,23 +26,23 @@ invariant_of-self c = subst IsContent (sym c.in_err-inverse.ensures.refused) c.s
 
 pub invariant_of-self-2 : goal.invariant_of-self-2
 invariant_of-self-2 c =
-    let k : Kernel = c.self.inside.kernel in
+    let k : Content = c.self.inside.content in
     let q : Proc = c.unwrap-proc.result.now in
     let here : slot_at k.parts.procs c.args.pid.0 ≡ Some q = search (rules, c.unwrap-proc.ensures, c.proc.ensures) in
-    let runs : q.status ≡ None = runs_at (slot_at k.parts.procs c.args.pid.0) q (subst (λ (x : Kernel). IsRunning (slot_at x.parts.procs c.args.pid.0)) (sym c.self.view_is) c.requires.running) here in
-    let mark : slot_at k.marks c.args.pid.0 ≡ Some c.args.mark = ap (λ (x : Kernel). slot_at x.marks c.args.pid.0) c.self.view_is ∙ c.requires.marked in
+    let runs : q.status ≡ None = runs_at (slot_at k.parts.procs c.args.pid.0) q (subst (λ (x : Content). IsRunning (slot_at x.parts.procs c.args.pid.0)) (sym c.self.view_is) c.requires.running) here in
+    let mark : slot_at k.marks c.args.pid.0 ≡ Some c.args.mark = ap (λ (x : Content). slot_at x.marks c.args.pid.0) c.self.view_is ∙ c.requires.marked in
     (inside_from c.laws.ensures k c.change_inside.new.self c.args.pid c.args.call.now q c.args.mark c.in_ok-plan.plan c.in_ok-inverse.inverse c.self.invariant here runs mark c.requires.plain c.in_ok-plan.ensures
     c.in_ok-inverse.ensures.parts c.in_ok-inverse.ensures.marks c.in_ok-inverse.ensures.logs c.in_ok-inverse.ensures.inverse).content
 
 pub returns-clause-ok : goal.returns-clause-ok
 returns-clause-ok c =
-    let k : Kernel = c.self.inside.kernel in
+    let k : Content = c.self.inside.content in
     let q : Proc = c.unwrap-proc.result.now in
     let here : slot_at k.parts.procs c.args.pid.0 ≡ Some q = search (rules, c.unwrap-proc.ensures, c.proc.ensures) in
-    let runs : q.status ≡ None = runs_at (slot_at k.parts.procs c.args.pid.0) q (subst (λ (x : Kernel). IsRunning (slot_at x.parts.procs c.args.pid.0)) (sym c.self.view_is) c.requires.running) here in
-    let mark : slot_at k.marks c.args.pid.0 ≡ Some c.args.mark = ap (λ (x : Kernel). slot_at x.marks c.args.pid.0) c.self.view_is ∙ c.requires.marked in
+    let runs : q.status ≡ None = runs_at (slot_at k.parts.procs c.args.pid.0) q (subst (λ (x : Content). IsRunning (slot_at x.parts.procs c.args.pid.0)) (sym c.self.view_is) c.requires.running) here in
+    let mark : slot_at k.marks c.args.pid.0 ≡ Some c.args.mark = ap (λ (x : Content). slot_at x.marks c.args.pid.0) c.self.view_is ∙ c.requires.marked in
     let fits : FitsSigned w64 c.in_ok-plan.plan.ret = search rules in
     let done : IsDone k (Calls c.args.pid c.args.call.now) (Done c.in_ok-plan.plan.ret) c.in_ok-inverse.inverse c.change_inside.new.self
     = inside_from c.laws.ensures k c.change_inside.new.self c.args.pid c.args.call.now q c.args.mark c.in_ok-plan.plan c.in_ok-inverse.inverse c.self.invariant here runs mark c.requires.plain c.in_ok-plan.ensures
     c.in_ok-inverse.ensures.parts c.in_ok-inverse.ensures.marks c.in_ok-inverse.ensures.logs c.in_ok-inverse.ensures.inverse in
-    simp to_z-of_z (subst (λ (x : Kernel). IsStep x (Calls c.args.pid c.args.call.now) (Done c.in_ok-plan.plan.ret) c.in_ok-inverse.inverse c.change_inside.new.self) c.self.view_is done.made)
+    simp to_z-of_z (subst (λ (x : Content). IsStep x (Calls c.args.pid c.args.call.now) (Done c.in_ok-plan.plan.ret) c.in_ok-inverse.inverse c.change_inside.new.self) c.self.view_is done.made)

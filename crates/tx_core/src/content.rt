@@ -22,17 +22,17 @@ use tx_proc::Part;
 /// The parts of the kernel; for each process number its mark, if it is a member of a live
 /// transaction; and for each starter of one the old parts of what it changed.
 #[derive(Drop)]
-pub struct Kernel {
+pub struct Content {
     pub parts: Parts,
     pub marks: Slots<Mark>,
     pub logs: Slots<Log>,
 }
 
-impl Kernel {
+impl Content {
     /// Makes the exchanges of a step outside of transactions.
     pub fn change_outside(&mut self, mut changes: Vec<Change>) -> Inverse
         requires { AreNamed self.old.parts changes.items }
-        ensures kernel { self.new ≡ record self.old { parts = applied self.old.parts changes.items } }
+        ensures content { self.new ≡ record self.old { parts = applied self.old.parts changes.items } }
         ensures inverse { result ≡ Outside (exchanged self.old.parts changes.items) }
     {
         apply(&mut self.parts, &mut changes);

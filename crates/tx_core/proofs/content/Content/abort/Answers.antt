@@ -1,7 +1,7 @@
 use Rattle.std.proofs.Common.{◌≡◌, ◌≤◌, ℕ, length, ap, sym, subst, ◌∙◌}
 use Rattle.tx_change.specs.declared.parts.Parts.{Parts}
 use Rattle.tx_change.proofs.Applied.{length-undone}
-use Rattle.tx_core.proofs.kernel.Kernel.abort.Goals as goal
+use Rattle.tx_core.proofs.content.Content.abort.Goals as goal
 
 pub swap-requires-2 : goal.swap-requires-2
 swap-requires-2 c =
