@@ -79,16 +79,15 @@ begin_from laws k new pid call defers q plan inverse i here runs free kind gives
     moved k (Calls pid call) (Done (pos 0)) (Done (pos 0)) (Begun pid) inverse x new
     (begin_done laws k pid q plan.changes.items i here gives.own call defers kind runs free gives.proc) refl is_inverse (same_content new x parts marks logs)
 
-pub commit_from : (laws : MachineLaws) (k new : Content) (pid : Pid) (q : Proc) (m : Mark) (plan : Plan) (reply : Reply) (inverse : Inverse) → IsContent k → slot_at k.parts.procs pid.0 ≡ Some q → q.status ≡ None
+pub commit_from : (laws : MachineLaws) (k new : Content) (pid : Pid) (q : Proc) (m : Mark) (plan : Plan) (inverse : Inverse) → IsContent k → slot_at k.parts.procs pid.0 ≡ Some q → q.status ≡ None
     → slot_at k.marks pid.0 ≡ Some m → Gives pid.0 q plan (only_answers q (pos 0))
     → new.parts ≡ applied k.parts plan.changes.items → new.marks ≡ with_slot k.marks pid.0 None → new.logs ≡ with_slot k.logs pid.0 None
-    → reply ≡ Committed (record { items = [] })
     → inverse ≡ CommittedLog pid m (log_in (slot_at k.logs pid.0) ++ exchanged k.parts plan.changes.items) (length plan.changes.items)
-    → IsDone k (Calls pid SysXend) reply inverse new
-commit_from laws k new pid q m plan reply inverse i here runs mark gives parts marks logs is_reply is_inverse =
+    → IsDone k (Calls pid SysXend) (Committed (record { items = [] })) inverse new
+commit_from laws k new pid q m plan inverse i here runs mark gives parts marks logs is_inverse =
     let x : Content = record { parts = applied k.parts plan.changes.items; marks = with_slot k.marks pid.0 None; logs = with_slot k.logs pid.0 None } in
-    moved k (Calls pid SysXend) (Committed (record { items = [] })) reply (CommittedLog pid m (log_in (slot_at k.logs pid.0) ++ exchanged k.parts plan.changes.items) (length plan.changes.items)) inverse x new
-    (commit_done laws k pid q plan.changes.items i here gives.own m mark runs gives.proc) is_reply is_inverse (same_content new x parts marks logs)
+    moved k (Calls pid SysXend) (Committed (record { items = [] })) (Committed (record { items = [] })) (CommittedLog pid m (log_in (slot_at k.logs pid.0) ++ exchanged k.parts plan.changes.items) (length plan.changes.items)) inverse x new
+    (commit_done laws k pid q plan.changes.items i here gives.own m mark runs gives.proc) refl is_inverse (same_content new x parts marks logs)
 
 -- what an abort leaves, and its inverse
 abbrev pub led_parts : Content → Pid → Parts

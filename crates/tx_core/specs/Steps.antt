@@ -1,5 +1,6 @@
 -- What a step of the machine is to be.
-use Rattle.std.specs.Prelude.{◌≡◌, ◌≢◌, ◌⊎◌, ℕ, true, Option, None, Some, IsSome}
+use Rattle.std.specs.Prelude.{◌≡◌, ◌≢◌, ◌⊎◌, ℕ, true, Result, Ok, Err, IsSome}
+use Rattle.tx_base.specs.declared.steps.Refusal.{Refusal}
 use Rattle.tx_base.specs.declared.steps.Refusal.TheVariants.{NoMemory}
 use Rattle.tx_base.specs.declared.steps.Reply.{Reply}
 use Rattle.tx_base.specs.declared.steps.Reply.TheVariants.{No}
@@ -11,9 +12,11 @@ use Rattle.tx_base.specs.declared.steps.Step.TheVariants.{Call as Calls, KernelA
 use Rattle.tx_change.specs.Exchange.{object_of}
 use Rattle.tx_change.specs.declared.change.Change.{Change}
 use Rattle.tx_core.specs.Content.{view_of}
+use Rattle.tx_core.specs.Outcomes.{replied}
 use Rattle.tx_core.specs.Undo.{changes_of, undone_by, LeadsBack, IsAmong}
 use Rattle.tx_core.specs.declared.inverse.Inverse.{Inverse}
 use Rattle.tx_core.specs.declared.content.Content.{Content}
+use Rattle.tx_core.specs.declared.outcome.Outcome.{Outcome}
 use Rattle.tx_model.specs.Answer.{answer, IsAccepted}
 use Rattle.tx_laws.specs.Fits.{ends_it}
 use Rattle.tx_model.specs.Events.{effect}
@@ -53,13 +56,13 @@ IsKernelAbort step = ⊥
 
 -- the step was refused, and changed nothing: for want of memory, where nothing else refused it and it
 -- is neither a member's sys_xabort nor the kernel's abort; or as the answer says
-abbrev pub IsRefused : Content → Step → Reply → Content → Type 0
-IsRefused old step reply new =
+abbrev pub IsRefused : Content → Step → Refusal → Content → Type 0
+IsRefused old step why new =
     (new ≡ old)
-    × ((reply ≡ No NoMemory) × IsAccepted (answer (view_of old) step) × (IsXabort old step → ⊥) × (IsKernelAbort step → ⊥)
-    ⊎ (answer (view_of old) step ≡ reply) × (IsAccepted reply → ⊥) × (reply ≢ No NoMemory))
+    × ((why ≡ NoMemory) × IsAccepted (answer (view_of old) step) × (IsXabort old step → ⊥) × (IsKernelAbort step → ⊥)
+    ⊎ (answer (view_of old) step ≡ No why) × (why ≢ NoMemory))
 
--- what a step answers and leaves: with an inverse exactly where it was accepted
-abbrev pub Steps : Content → Step → Reply → Option Inverse → Content → Type 0
-Steps old step reply None new = IsRefused old step reply new
-Steps old step reply (Some inverse) new = IsStep old step reply inverse new
+-- what a step answers and leaves
+abbrev pub Takes : Content → Step → Result (Outcome × Inverse) Refusal → Content → Type 0
+Takes old step (Ok made) new = IsStep old step (replied made.0) made.1 new
+Takes old step (Err why) new = IsRefused old step why new

@@ -102,12 +102,12 @@ fn takes_each_step_back(rt: HostRuntime) -> Result<(), Fail> {
     let steps = side_by_side();
     for i in 0..steps.len() {
         let before = [1, 2, 3].map(|number| shown(&machine, number));
-        let (_reply, inverse) = machine.step(rt.alloc(), steps[i].copy());
+        let (_reply, inverse) = machine.step(rt.alloc(), &steps[i]);
         if let Some(inverse) = inverse {
             machine.undo(inverse);
         }
         assert_eq!(rt; [1, 2, 3].map(|number| shown(&machine, number)), before);
-        let _again = machine.step(rt.alloc(), steps[i].copy());
+        let _again = machine.step(rt.alloc(), &steps[i]);
     }
     assert_eq!(rt; shown(&machine, 2), (Some((6, 0, Some(255))), None));
     Ok(())
@@ -116,7 +116,7 @@ fn takes_each_step_back(rt: HostRuntime) -> Result<(), Fail> {
 #[test]
 fn aborts_by_the_kernel_and_back(rt: HostRuntime) -> Result<(), Fail> {
     let mut machine = Machine::boot(rt.alloc(), 3)?;
-    let (reply, _inverse) = machine.step(rt.alloc(), call(2, Call::SysXbegin));
+    let (reply, _inverse) = machine.step(rt.alloc(), &call(2, Call::SysXbegin));
     assert!(rt; matches!(reply, Reply::Done(0)), "it begins");
     assert_eq!(rt; machine.txn_of(Pid(2)), Some(Pid(2)));
     assert!(rt; machine.marks().get(Pid(2)).is_some(), "it has a mark");

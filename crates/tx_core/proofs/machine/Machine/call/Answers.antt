@@ -11,14 +11,14 @@ pub returns-in-None : goal.returns-in-None
 returns-in-None c =
     let none : slot_at c.args.self.now.parts.procs c.args.pid.0 ≡ None
     = ap (λ (k : Content). slot_at k.parts.procs c.args.pid.0) (sym c.self.view_is) ∙ search (rules, c.in-None.ensures, c.proc.ensures) in
-    (refl, inr (no_process c.laws.ensures c.args.self.now c.args.pid c.args.call.now none, (λ x. x), (λ e. cc)))
+    (refl, inr (no_process c.laws.ensures c.args.self.now c.args.pid c.args.call.now none, (λ e. cc)))
 
 pub returns-then-is_some : goal.returns-then-is_some
 returns-then-is_some c =
     let here : slot_at c.args.self.now.parts.procs c.args.pid.0 ≡ Some c.in-Some.proc.now
     = ap (λ (k : Content). slot_at k.parts.procs c.args.pid.0) (sym c.self.view_is) ∙ search (rules, c.in-Some.ensures, c.proc.ensures) in
     let ended = some_of c.in-Some.proc.now.status (search (rules, c.is_some.ensures, c.if-is_some.true)) in
-    (refl, inr (not_running c.laws.ensures c.args.self.now c.args.pid c.args.call.now c.in-Some.proc.now ended.0 here ended.1, (λ x. x), (λ e. cc)))
+    (refl, inr (not_running c.laws.ensures c.args.self.now c.args.pid c.args.call.now c.in-Some.proc.now ended.0 here ended.1, (λ e. cc)))
 
 pub returns-in-Err : goal.returns-in-Err
 returns-in-Err c =

@@ -1,4 +1,4 @@
-use Rattle.std.proofs.Common.{◌≡◌, [], Some, None, pos, ◌∙◌, sym, ap, subst, rules, refl}
+use Rattle.std.proofs.Common.{◌≡◌, [], Some, None, pos, ◌∙◌, sym, ap, subst, rules}
 use Rattle.tx_base.specs.Slots.{slot_at}
 use Rattle.tx_base.specs.declared.steps.Call.{Call}
 use Rattle.tx_base.specs.declared.steps.Call.TheVariants.{SysXend}
@@ -30,8 +30,8 @@ invariant_of-self-2 c =
     let here : slot_at k.parts.procs c.args.pid.0 ≡ Some q = search (rules, c.unwrap-proc.ensures, c.proc.ensures) in
     let runs : q.status ≡ None = runs_at (slot_at k.parts.procs c.args.pid.0) q (subst (λ (x : Content). IsRunning (slot_at x.parts.procs c.args.pid.0)) (sym c.self.view_is) c.requires.running) here in
     let mark : slot_at k.marks c.args.pid.0 ≡ Some c.args.mark = ap (λ (x : Content). slot_at x.marks c.args.pid.0) c.self.view_is ∙ c.requires.marked in
-    (commit_from c.laws.ensures k c.commit.new.self c.args.pid q c.args.mark c.in_ok-plan.plan (Committed (record { items = [] })) c.in_ok-inverse.inverse c.self.invariant here runs mark c.in_ok-plan.ensures
-    c.in_ok-inverse.ensures.parts c.in_ok-inverse.ensures.marks c.in_ok-inverse.ensures.logs refl c.in_ok-inverse.ensures.inverse).content
+    (commit_from c.laws.ensures k c.commit.new.self c.args.pid q c.args.mark c.in_ok-plan.plan c.in_ok-inverse.inverse c.self.invariant here runs mark c.in_ok-plan.ensures
+    c.in_ok-inverse.ensures.parts c.in_ok-inverse.ensures.marks c.in_ok-inverse.ensures.logs c.in_ok-inverse.ensures.inverse).content
 
 pub returns-clause-ok : goal.returns-clause-ok
 returns-clause-ok c =
@@ -40,9 +40,8 @@ returns-clause-ok c =
     let here : slot_at k.parts.procs c.args.pid.0 ≡ Some q = search (rules, c.unwrap-proc.ensures, c.proc.ensures) in
     let runs : q.status ≡ None = runs_at (slot_at k.parts.procs c.args.pid.0) q (subst (λ (x : Content). IsRunning (slot_at x.parts.procs c.args.pid.0)) (sym c.self.view_is) c.requires.running) here in
     let mark : slot_at k.marks c.args.pid.0 ≡ Some c.args.mark = ap (λ (x : Content). slot_at x.marks c.args.pid.0) c.self.view_is ∙ c.requires.marked in
-    let is : Committed c.new-undelivered.result ≡ Committed (record { items = [] }) = search (rules, c.new-undelivered.ensures) in
-    let done : IsDone k (Calls c.args.pid SysXend) (Committed c.new-undelivered.result) c.in_ok-inverse.inverse c.commit.new.self
-    = commit_from c.laws.ensures k c.commit.new.self c.args.pid q c.args.mark c.in_ok-plan.plan (Committed c.new-undelivered.result) c.in_ok-inverse.inverse c.self.invariant here runs mark c.in_ok-plan.ensures
-    c.in_ok-inverse.ensures.parts c.in_ok-inverse.ensures.marks c.in_ok-inverse.ensures.logs is c.in_ok-inverse.ensures.inverse in
-    subst (λ (y : Call). IsStep c.args.self.now (Calls c.args.pid y) (Committed c.new-undelivered.result) c.in_ok-inverse.inverse c.commit.new.self) (sym (ending_call c.args._call.now c.requires.kind))
-    (subst (λ (x : Content). IsStep x (Calls c.args.pid SysXend) (Committed c.new-undelivered.result) c.in_ok-inverse.inverse c.commit.new.self) c.self.view_is done.made)
+    let done : IsDone k (Calls c.args.pid SysXend) (Committed (record { items = [] })) c.in_ok-inverse.inverse c.commit.new.self
+    = commit_from c.laws.ensures k c.commit.new.self c.args.pid q c.args.mark c.in_ok-plan.plan c.in_ok-inverse.inverse c.self.invariant here runs mark c.in_ok-plan.ensures
+    c.in_ok-inverse.ensures.parts c.in_ok-inverse.ensures.marks c.in_ok-inverse.ensures.logs c.in_ok-inverse.ensures.inverse in
+    subst (λ (y : Call). IsStep c.args.self.now (Calls c.args.pid y) (Committed (record { items = [] })) c.in_ok-inverse.inverse c.commit.new.self) (sym (ending_call c.args._call.now c.requires.kind))
+    (subst (λ (x : Content). IsStep x (Calls c.args.pid SysXend) (Committed (record { items = [] })) c.in_ok-inverse.inverse c.commit.new.self) c.self.view_is done.made)
