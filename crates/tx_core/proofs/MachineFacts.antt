@@ -9,7 +9,7 @@ use Rattle.tx_base.specs.declared.steps.Reply.{Reply}
 use Rattle.tx_base.specs.declared.steps.Reply.TheVariants.{Done, Committed, Aborted}
 use Rattle.tx_base.specs.declared.steps.Step.{Step}
 use Rattle.tx_base.specs.declared.steps.Step.TheVariants.{Call as Calls, KernelAbort}
-use Rattle.tx_change.specs.Exchange.{parts_after, change_after, applied, exchanged, undone, reverted, AreNamed}
+use Rattle.tx_change.specs.Exchange.{parts_after, applied, exchanged, undone, reverted, AreNamed}
 use Rattle.tx_change.specs.declared.change.Change.{Change}
 use Rattle.tx_change.specs.declared.change.Change.TheVariants.{Part as SetPart}
 use Rattle.tx_proc.specs.declared.part.Part.TheVariants.{Regs as SetRegs}
@@ -99,21 +99,21 @@ note_of k pid ret = SetPart pid (SetRegs (answered ret (regs_in (slot_at (led_pa
 abbrev pub aborted : Content → Pid → ℤ → Content
 aborted k pid ret = record { parts = parts_after (led_parts k pid) (note_of k pid ret); marks = with_slot k.marks pid.0 None; logs = with_slot k.logs pid.0 None }
 
-abbrev pub abort_inverse : Content → Pid → Mark → ℤ → Inverse
-abort_inverse k pid m ret = AbortedLog pid m (reverted k.parts (log_in (slot_at k.logs pid.0))) (change_after (led_parts k pid) (note_of k pid ret))
+abbrev pub abort_inverse : Content → Pid → Mark → Inverse
+abort_inverse k pid m = AbortedLog pid m (reverted k.parts (log_in (slot_at k.logs pid.0))) (regs_in (slot_at (led_parts k pid).procs pid.0)).point (regs_in (slot_at (led_parts k pid).procs pid.0)).ret
 
 pub xabort_from : (laws : MachineLaws) (k new : Content) (pid : Pid) (q : Proc) (m : Mark) (inverse : Inverse) → IsContent k → slot_at k.parts.procs pid.0 ≡ Some q → q.status ≡ None → slot_at k.marks pid.0 ≡ Some m
-    → new.parts ≡ parts_after (led_parts k pid) (note_of k pid (negsuc 200)) → new.marks ≡ with_slot k.marks pid.0 None → new.logs ≡ with_slot k.logs pid.0 None → inverse ≡ abort_inverse k pid m (negsuc 200)
+    → new.parts ≡ parts_after (led_parts k pid) (note_of k pid (negsuc 200)) → new.marks ≡ with_slot k.marks pid.0 None → new.logs ≡ with_slot k.logs pid.0 None → inverse ≡ abort_inverse k pid m
     → IsDone k (Calls pid SysXabort) (Aborted called_by_status) inverse new
 xabort_from laws k new pid q m inverse i here runs mark parts marks logs is_inverse =
-    moved k (Calls pid SysXabort) (Aborted called_by_status) (Aborted called_by_status) (abort_inverse k pid m (negsuc 200)) inverse (aborted k pid (negsuc 200)) new
+    moved k (Calls pid SysXabort) (Aborted called_by_status) (Aborted called_by_status) (abort_inverse k pid m) inverse (aborted k pid (negsuc 200)) new
     (xabort_done laws k pid q m i here runs mark) refl is_inverse (same_content new (aborted k pid (negsuc 200)) parts marks logs)
 
 pub kernel_from : (laws : MachineLaws) (k new : Content) (pid : Pid) (m : Mark) (inverse : Inverse) → IsContent k → slot_at k.marks pid.0 ≡ Some m
-    → new.parts ≡ parts_after (led_parts k pid) (note_of k pid (negsuc 201)) → new.marks ≡ with_slot k.marks pid.0 None → new.logs ≡ with_slot k.logs pid.0 None → inverse ≡ abort_inverse k pid m (negsuc 201)
+    → new.parts ≡ parts_after (led_parts k pid) (note_of k pid (negsuc 201)) → new.marks ≡ with_slot k.marks pid.0 None → new.logs ≡ with_slot k.logs pid.0 None → inverse ≡ abort_inverse k pid m
     → IsDone k (KernelAbort pid) (Aborted 202) inverse new
 kernel_from laws k new pid m inverse i mark parts marks logs is_inverse =
-    moved k (KernelAbort pid) (Aborted 202) (Aborted 202) (abort_inverse k pid m (negsuc 201)) inverse (aborted k pid (negsuc 201)) new
+    moved k (KernelAbort pid) (Aborted 202) (Aborted 202) (abort_inverse k pid m) inverse (aborted k pid (negsuc 201)) new
     (kernel_done laws k pid m i mark) refl is_inverse (same_content new (aborted k pid (negsuc 201)) parts marks logs)
 
 -- the process of a marked number

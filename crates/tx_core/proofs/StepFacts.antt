@@ -11,7 +11,7 @@ use Rattle.tx_base.specs.declared.steps.Refusal.TheVariants.{NoTransaction}
 use Rattle.tx_base.specs.declared.steps.Step.{Step}
 use Rattle.tx_base.specs.declared.steps.Step.TheVariants.{Call as Calls, KernelAbort}
 use Rattle.tx_change.proofs.Applied.{length-undone, undone_exchanged, applied_reverted}
-use Rattle.tx_change.proofs.Own.{with_edit, AreNamed-own, AreOf-reverted, AreOf-exchanged, applied-own, undone-own, edited_sized, back_sized}
+use Rattle.tx_change.proofs.Own.{with_edit, AreNamed-own, AreOf-reverted, applied-own, undone-own, edited_sized, back_sized}
 use Rattle.tx_base.proofs.SlotFacts.{slot_now, slot_at-with_slot, length-with_slot}
 use Rattle.tx_change.proofs.Twice.{back, twice}
 use Rattle.tx_change.specs.Exchange.{parts_after, change_after, applied, exchanged, undone, reverted, IsNamed, AreNamed}
@@ -21,13 +21,14 @@ use Rattle.tx_change.specs.declared.change.Change.{Change}
 use Rattle.tx_change.specs.declared.change.Change.TheVariants.{Slot, Part as SetPart, Description, Pipe}
 use Rattle.tx_proc.specs.declared.part.Part.TheVariants.{Regs as SetRegs}
 use Rattle.tx_proc.specs.Laws.{IsSized}
+use Rattle.tx_proc.specs.Parts.{part_in}
 use Rattle.tx_proc.specs.Processes.{process_of, process_in}
 use Rattle.tx_change.specs.declared.parts.Parts.{Parts}
 use Rattle.tx_proc.specs.declared.proc.Proc.{Proc}
 use Rattle.tx_core.specs.Content.{state_of, kept_in, starter_in, two_parts_of, view_of, IsMarked, IsContent}
 use Rattle.tx_core.specs.Plans.{proc_after, only_answers, regs_in, IsPlainCall, memory_call}
 use Rattle.tx_core.specs.Steps.{IsNamedBy, IsStep}
-use Rattle.tx_core.specs.Undo.{log_in, last_of, first_of, undone_by, HasSlot}
+use Rattle.tx_core.specs.Undo.{log_in, last_of, first_of, unnoted, undone_by, HasSlot}
 use Rattle.tx_core.specs.Laws.{MachineLaws}
 use Rattle.tx_core.specs.declared.inverse.Inverse.{Inverse}
 use Rattle.tx_core.specs.declared.inverse.Inverse.TheVariants.{Outside as OutsideLog, Inside, Begun, Committed as CommittedLog, Aborted as AbortedLog}
@@ -380,6 +381,14 @@ module _ (laws : MachineLaws) (k : Content) (pid : Pid) (m : Mark) (i : IsConten
       by true = refl
       by false = refl
 
+  -- the change that the abort's inverse makes of the starter is what was there before the note
+  note_back : unnoted (parts_after before note) pid (regs_in (slot_at before.procs pid.0)).point (regs_in (slot_at before.procs pid.0)).ret ≡ change_after before note
+  note_back =
+      let led : Proc = edited_back abort_facts.proc old_log in
+      let now : slot_at (parts_after before note).procs pid.0 ≡ Some stands = after_at pid.0 ∙ ap (λ (b : Bool). if b then Some stands else slot_at k.parts.procs pid.0) (eq-eqb pid.0 pid.0 refl) in
+      (λ j. SetPart pid (SetRegs (record { point = (regs_in (before_at j)).point; ret = (regs_in (before_at j)).ret; slots = (regs_in (now j)).slots })))
+      ∙ sym (ap (λ (x : Option Proc). SetPart pid (part_in x (SetRegs (answered ret (regs_in (slot_at before.procs pid.0)))))) before_at)
+
   answered_sized : IsSized (edited_back abort_facts.proc old_log) → IsSized stands
   answered_sized sized = still_sized (edited_back abort_facts.proc old_log) (SetRegs (answered ret (edited_back abort_facts.proc old_log).regs)) sized
 
@@ -397,7 +406,7 @@ module _ (laws : MachineLaws) (k : Content) (pid : Pid) (m : Mark) (i : IsConten
   after_pipes n = ap (λ (x : Parts). (state_of x).pipes n) after_parts
 
   pub aborted_done : (step : Step) (status : ℕ) → process_of_step step ≡ pid.0 → IsCase k step (Aborts pid.0 status) (Note pid.0 ret) → IsNamedBy (view_of k) step (TheProc pid.0) → answer (view_of k) step ≡ Aborted status
-      → IsDone k step (Aborted status) (AbortedLog pid m (reverted k.parts (log_in (slot_at k.logs pid.0))) (change_after (undone k.parts (log_in (slot_at k.logs pid.0))) (SetPart pid (SetRegs (answered ret (regs_in (slot_at (undone k.parts (log_in (slot_at k.logs pid.0))).procs pid.0)))))))
+      → IsDone k step (Aborted status) (AbortedLog pid m (reverted k.parts (log_in (slot_at k.logs pid.0))) (regs_in (slot_at (undone k.parts (log_in (slot_at k.logs pid.0))).procs pid.0)).point (regs_in (slot_at (undone k.parts (log_in (slot_at k.logs pid.0))).procs pid.0)).ret)
       (record {
         parts = parts_after (undone k.parts (log_in (slot_at k.logs pid.0))) (SetPart pid (SetRegs (answered ret (regs_in (slot_at (undone k.parts (log_in (slot_at k.logs pid.0))).procs pid.0)))));
         marks = with_slot k.marks pid.0 None;
@@ -405,9 +414,9 @@ module _ (laws : MachineLaws) (k : Content) (pid : Pid) (m : Mark) (i : IsConten
       })
   aborted_done step status who case names answered =
       let new : Content = record { parts = parts_after before note; marks = with_slot k.marks pid.0 None; logs = with_slot k.logs pid.0 None } in
-      let noted : Change = change_after before note in
+      let noted : Change = unnoted new.parts pid (regs_in (slot_at before.procs pid.0)).point (regs_in (slot_at before.procs pid.0)).ret in
       let redo : List Change = reverted k.parts old_log in
-      let inverse : Inverse = AbortedLog pid m redo noted in
+      let inverse : Inverse = AbortedLog pid m redo (regs_in (slot_at before.procs pid.0)).point (regs_in (slot_at before.procs pid.0)).ret in
       let in_logs : pid.0 ≤ length k.logs = subst (λ (w : ℕ). pid.0 ≤ w) (sym i.logs) abort_slot.high in
       let in_marks : pid.0 ≤ length k.marks = subst (λ (w : ℕ). pid.0 ≤ w) (sym i.marks) abort_slot.high in
       let width : length new.parts.procs ≡ length k.parts.procs = length-with_slot before.procs pid.0 (option_map (λ proc. edited_by proc note) (slot_at before.procs pid.0)) ∙ before_width in
@@ -421,12 +430,11 @@ module _ (laws : MachineLaws) (k : Content) (pid : Pid) (m : Mark) (i : IsConten
       (subst (λ (p : ℕ). view_of new ≡ parts_view (parts_next (Aborts pid.0 status) (Note pid.0 ret) p (two_parts_of k))) (sym who) same) in
       let wide : pid.0 ≤ length new.parts.procs = subst (λ (w : ℕ). pid.0 ≤ w) (sym width) abort_slot.high in
       let name : IsNamed before note = (record { low = abort_slot.low; high = subst (λ (w : ℕ). pid.0 ≤ w) (sym before_width) abort_slot.high }, tt) in
-      let unnoted : parts_after new.parts noted ≡ before = back before note name in
+      let led : parts_after new.parts noted ≡ before = ap (parts_after new.parts) note_back ∙ back before note name in
       let redo_own : AreOf pid.0 redo = AreOf-reverted pid.0 k.parts old_log abort_facts.own in
-      let noted_own : AreOf pid.0 (noted ∷ []) = own_exchanged_one before in
-      let parts_is : applied (parts_after new.parts noted) redo ≡ k.parts = ap (λ (x : Parts). applied x redo) unnoted ∙ applied_reverted k.parts old_log abort_named in
+      let parts_is : applied (parts_after new.parts noted) redo ≡ k.parts = ap (λ (x : Parts). applied x redo) led ∙ applied_reverted k.parts old_log abort_named in
       let log_is : exchanged (parts_after new.parts noted) redo ≡ old_log
-      = ap (λ (x : Parts). exchanged x redo) unnoted ∙ log_again k.parts pid.0 abort_facts.proc old_log abort_slot.low abort_slot.high abort_facts.is_proc (has_places k i pid.0 abort_facts.proc abort_facts.is_proc) abort_facts.own in
+      = ap (λ (x : Parts). exchanged x redo) led ∙ log_again k.parts pid.0 abort_facts.proc old_log abort_slot.low abort_slot.high abort_facts.is_proc (has_places k i pid.0 abort_facts.proc abort_facts.is_proc) abort_facts.own in
       let marks_is : with_slot new.marks pid.0 (Some m) ≡ k.marks = slot_back k.marks pid.0 None (Some m) abort_slot.low (sym mark) in
       let logs_is : with_slot new.logs pid.0 (Some (exchanged (parts_after new.parts noted) redo)) ≡ k.logs
       = ap (λ (x : List Change). with_slot new.logs pid.0 (Some x)) log_is ∙ slot_back k.logs pid.0 None (Some old_log) abort_slot.low (sym abort_facts.there) in
@@ -439,21 +447,18 @@ module _ (laws : MachineLaws) (k : Content) (pid : Pid) (m : Mark) (i : IsConten
           next = next.view;
           back = back_is;
           leads_back = record {
-            goes = (new_slot, (AreNamed-own pid.0 new.parts (noted ∷ []) abort_slot.low wide noted_own).0, AreNamed-own pid.0 new.parts redo abort_slot.low wide redo_own);
+            goes = (new_slot, AreNamed-own pid.0 new.parts redo abort_slot.low wide redo_own);
             content = subst IsContent (sym back_is) i;
           };
-          local = local_of k new step pid.0 inverse names (noted_own.0, redo_own);
+          local = local_of k new step pid.0 inverse names ((refl, tt), redo_own);
         };
         content = content_of k new pid.0 stands None None i (answered_sized (back_sized abort_facts.proc old_log (has_places k i pid.0 abort_facts.proc abort_facts.is_proc))) (record { now = stands_calm; kept = stands_calm }) tt width
             (length-with_slot k.marks pid.0 None) (length-with_slot k.logs pid.0 None) after_at marks logs next.sound;
       }
-    where
-      own_exchanged_one : (parts : Parts) → AreOf pid.0 (change_after parts note ∷ [])
-      own_exchanged_one parts = AreOf-exchanged pid.0 parts (note ∷ []) ((refl, tt), tt)
 
 -- a member's sys_xabort
 pub xabort_done : (laws : MachineLaws) (k : Content) (pid : Pid) (q : Proc) (m : Mark) (i : IsContent k) → slot_at k.parts.procs pid.0 ≡ Some q → q.status ≡ None → (mark : slot_at k.marks pid.0 ≡ Some m)
-    → IsDone k (Calls pid SysXabort) (Aborted called_by_status) (AbortedLog pid m (reverted k.parts (log_in (slot_at k.logs pid.0))) (change_after (undone k.parts (log_in (slot_at k.logs pid.0))) (SetPart pid (SetRegs (answered (negsuc 200) (regs_in (slot_at (undone k.parts (log_in (slot_at k.logs pid.0))).procs pid.0)))))))
+    → IsDone k (Calls pid SysXabort) (Aborted called_by_status) (AbortedLog pid m (reverted k.parts (log_in (slot_at k.logs pid.0))) (regs_in (slot_at (undone k.parts (log_in (slot_at k.logs pid.0))).procs pid.0)).point (regs_in (slot_at (undone k.parts (log_in (slot_at k.logs pid.0))).procs pid.0)).ret)
     (record {
       parts = parts_after (undone k.parts (log_in (slot_at k.logs pid.0))) (SetPart pid (SetRegs (answered (negsuc 200) (regs_in (slot_at (undone k.parts (log_in (slot_at k.logs pid.0))).procs pid.0)))));
       marks = with_slot k.marks pid.0 None;
@@ -472,7 +477,7 @@ kernel_is : (k : Content) → IsContent k → (s : ℕ) → kernel_status (view_
 kernel_is k i s = ap (λ (b : Bool). if b then 203 else 202) (not_doomed k i s)
 
 pub kernel_done : (laws : MachineLaws) (k : Content) (pid : Pid) (m : Mark) (i : IsContent k) → (mark : slot_at k.marks pid.0 ≡ Some m)
-    → IsDone k (KernelAbort pid) (Aborted 202) (AbortedLog pid m (reverted k.parts (log_in (slot_at k.logs pid.0))) (change_after (undone k.parts (log_in (slot_at k.logs pid.0))) (SetPart pid (SetRegs (answered (negsuc 201) (regs_in (slot_at (undone k.parts (log_in (slot_at k.logs pid.0))).procs pid.0)))))))
+    → IsDone k (KernelAbort pid) (Aborted 202) (AbortedLog pid m (reverted k.parts (log_in (slot_at k.logs pid.0))) (regs_in (slot_at (undone k.parts (log_in (slot_at k.logs pid.0))).procs pid.0)).point (regs_in (slot_at (undone k.parts (log_in (slot_at k.logs pid.0))).procs pid.0)).ret)
     (record {
       parts = parts_after (undone k.parts (log_in (slot_at k.logs pid.0))) (SetPart pid (SetRegs (answered (negsuc 201) (regs_in (slot_at (undone k.parts (log_in (slot_at k.logs pid.0))).procs pid.0)))));
       marks = with_slot k.marks pid.0 None;

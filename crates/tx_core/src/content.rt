@@ -2,8 +2,7 @@
 //! that steps make of them.
 ghost use Rattle.std.specs.Prelude.{◌≡◌, ◌<◌, ◌≤◌, ◌++◌, false, length, Some, None, IfOk, OnOk, OnErr, IsSome};
 ghost use Rattle.tx_base.specs.Slots.{slot_at, with_slot};
-ghost use Rattle.tx_base.specs.declared.names.Regs.{Regs as TheRegs};
-ghost use Rattle.tx_change.specs.Exchange.{applied, exchanged, undone, reverted, parts_after, change_after, AreNamed};
+ghost use Rattle.tx_change.specs.Exchange.{applied, exchanged, undone, reverted, parts_after, AreNamed};
 ghost use Rattle.tx_change.specs.declared.change.Change.TheVariants.{Part as SetPart};
 ghost use Rattle.tx_proc.specs.declared.part.Part.TheVariants.{Regs as SetRegs};
 ghost use Rattle.tx_core.specs.Plans.{regs_in};
@@ -15,7 +14,7 @@ ghost use Rattle.tx_model.specs.Membership.{new_mark};
 use crate::act::answer_in;
 use crate::inverse::Inverse;
 use crate::log::Log;
-use tx_base::{Mark, NoMemory, Pid, Slots};
+use tx_base::{Mark, NoMemory, Pid, Regs, Slots};
 use tx_change::{Change, Parts, apply};
 use tx_proc::Part;
 
@@ -140,36 +139,46 @@ impl Content {
             self.new.parts ≡ parts_after before (SetPart starter (SetRegs (answered ret (regs_in (slot_at before.procs starter.0))))) }
         ensures marks { self.new.marks ≡ with_slot self.old.marks starter.0 None }
         ensures logs { self.new.logs ≡ with_slot self.old.logs starter.0 None }
-        ensures inverse { let log = log_in (slot_at self.old.logs starter.0) in let before = undone self.old.parts log in
-            result ≡ Aborted starter mark (reverted self.old.parts log) (change_after before (SetPart starter (SetRegs (answered ret (regs_in (slot_at before.procs starter.0)))))) }
+        ensures inverse { let log = log_in (slot_at self.old.logs starter.0) in let before = regs_in (slot_at (undone self.old.parts log).procs starter.0) in
+            result ≡ Aborted starter mark (reverted self.old.parts log) before.point before.ret }
     {
         let mut slot = None;
         self.logs.swap(starter, &mut slot);
         let mut log = slot.unwrap();
         log.lead_back(&mut self.parts);
-        let mut noted = Change::Part(starter, Part::Regs(answer_in(&self.regs(starter), ret)));
-        noted.swap(&mut self.parts);
+        let before = self.regs(starter);
+        self.set_regs(starter, answer_in(&before, ret));
         self.marks.swap(starter, &mut None);
         Inverse::Aborted {
             starter,
             mark,
             log,
-            noted,
+            point: before.point,
+            ret: before.ret,
         }
     }
 
     /// The registers of a process; those of the start where there is none.
-    fn regs(&self, pid: Pid) -> tx_base::Regs
+    fn regs(&self, pid: Pid) -> Regs
         ensures { result ≡ regs_in (slot_at self.now.parts.procs pid.0) }
     {
         match self.parts.proc(pid) {
             Some(proc) => proc.regs,
-            None => tx_base::Regs {
+            None => Regs {
                 point: 0,
                 ret: 0,
                 slots: [0; 8],
             },
         }
+    }
+
+    /// Gives a process these registers. Nothing happens where there is no process.
+    fn set_regs(&mut self, pid: Pid, regs: Regs)
+        requires low { 1 ≤ pid.0 }
+        requires high { pid.0 ≤ length self.old.parts.procs }
+        ensures { self.new ≡ record self.old { parts = parts_after self.old.parts (SetPart pid (SetRegs regs)) } }
+    {
+        Change::Part(pid, Part::Regs(regs)).swap(&mut self.parts);
     }
 
     /// Takes the step back whose inverse this is. It takes no memory.
@@ -208,9 +217,11 @@ impl Content {
                 starter,
                 mark,
                 mut log,
-                mut noted,
+                point,
+                ret,
             } => {
-                noted.swap(&mut self.parts);
+                let slots = self.regs(starter).slots;
+                self.set_regs(starter, Regs { point, ret, slots });
                 log.lead_forward(&mut self.parts);
                 self.marks.swap(starter, &mut Some(mark));
                 self.logs.swap(starter, &mut Some(log));

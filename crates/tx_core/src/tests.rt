@@ -2,8 +2,9 @@
 ghost use Rattle.std.specs.Prelude.{◌≡◌};
 ghost use Rattle.tx_core.specs.Built.{AreBuilt, IsBuiltCall, IsBuilt};
 
-use crate::{Machine, NoTransaction, run, run_wide};
+use crate::{Inverse, Machine, NoTransaction, run, run_wide};
 use arrayvec::ArrayVec;
+use std::mem;
 use std::test::Fail;
 use tx_base::{Call, Pid, Reply, Step};
 
@@ -76,6 +77,11 @@ fn boots(rt: HostRuntime) -> Result<(), Fail> {
     assert_eq!(rt; wide.processes(), 256);
     assert_eq!(rt; shown(&wide, 256), (Some((0, 0, None)), None));
     Ok(())
+}
+
+#[test]
+fn an_inverse_is_small(rt: HostRuntime) {
+    assert!(rt; mem::size_of::<Inverse>() <= 56);
 }
 
 #[test]
