@@ -63,6 +63,25 @@ impl<T: Drop> Slots<T> {
     {
         mem::swap(&mut self.slots[pid.0 as usize - 1], slot);
     }
+
+    /// Takes out what stands in the slot of a number, and leaves the slot empty.
+    pub fn take(&mut self, pid: Pid) -> Option<T>
+        requires low { 1 ≤ pid.0 }
+        requires high { pid.0 ≤ length self.old }
+        ensures emptied { self.new ≡ with_slot self.old pid.0 None }
+        ensures taken { result ≡ slot_at self.old pid.0 }
+    {
+        self.slots[pid.0 as usize - 1].take()
+    }
+
+    /// Puts a value into the slot of a number, in place of what stands there.
+    pub fn put(&mut self, pid: Pid, value: T)
+        requires low { 1 ≤ pid.0 }
+        requires high { pid.0 ≤ length self.old }
+        ensures { self.new ≡ with_slot self.old pid.0 (Some value) }
+    {
+        self.slots[pid.0 as usize - 1] = Some(value);
+    }
 }
 
 #[cfg(test)]
@@ -86,6 +105,9 @@ mod tests {
             assert_eq!(rt; first, Some(8), "at {width}");
             assert_eq!(rt; slots.get(Pid(1)).copied(), Some(7));
             assert_eq!(rt; slots.get(Pid(width)).copied(), None);
+            slots.put(Pid(width), 9);
+            assert_eq!(rt; slots.take(Pid(width)), Some(9), "at {width}");
+            assert_eq!(rt; slots.take(Pid(width)), None, "at {width}");
         }
         Ok(())
     }

@@ -1,6 +1,6 @@
 //! The parts of the kernel with the marks and the logs of its live transactions, and the changes
 //! that steps make of them.
-ghost use Rattle.std.specs.Prelude.{◌≡◌, ◌<◌, ◌≤◌, ◌++◌, false, length, Some, None, IfOk, OnOk, OnErr, IsSome};
+ghost use Rattle.std.specs.Prelude.{◌≡◌, ◌≤◌, ◌-◌, ◌++◌, length, take, drop, Some, None, IsSome};
 ghost use Rattle.tx_base.specs.Slots.{slot_at, with_slot};
 ghost use Rattle.tx_change.specs.Exchange.{applied, exchanged, undone, reverted, parts_after, AreNamed};
 ghost use Rattle.tx_change.specs.declared.change.Change.TheVariants.{Part as SetPart};
@@ -14,8 +14,8 @@ ghost use Rattle.tx_model.specs.Membership.{new_mark};
 use crate::act::answer_in;
 use crate::inverse::Inverse;
 use crate::log::Log;
-use tx_base::{Mark, NoMemory, Pid, Regs, Slots};
-use tx_change::{Change, Parts, apply};
+use tx_base::{Mark, Pid, Regs, Slots};
+use tx_change::{Change, Parts};
 use tx_proc::Part;
 
 /// The parts of the kernel; for each process number its mark, if it is a member of a live
@@ -29,103 +29,71 @@ pub struct Content {
 
 impl Content {
     /// Makes the exchanges of a step outside of transactions.
-    pub fn change_outside(&mut self, mut changes: Vec<Change>) -> Inverse
-        requires { AreNamed self.old.parts changes.items }
-        ensures content { self.new ≡ record self.old { parts = applied self.old.parts changes.items } }
-        ensures inverse { result ≡ Outside (exchanged self.old.parts changes.items) }
+    pub fn change_outside(&mut self, mut log: Log) -> Inverse
+        requires { AreNamed self.old.parts log }
+        ensures content { self.new ≡ record self.old { parts = applied self.old.parts log } }
+        ensures inverse { result ≡ Outside (exchanged self.old.parts log) }
     {
-        apply(&mut self.parts, &mut changes);
-        Inverse::Outside {
-            log: Log::of(changes),
-        }
+        log.lead_forward(&mut self.parts);
+        Inverse::Outside { log }
     }
 
-    /// Makes the exchanges of a step inside the transaction of the starter, and keeps what was
-    /// there in its log. After want of memory all is as it was.
-    #[tactic(auto, using(crate::proofs::Slotted::slot_again, crate::proofs::Slotted::slot_back, crate::proofs::Slotted::named_undone))]
-    pub fn change_inside(&mut self, starter: Pid, changes: Vec<Change>) -> Result<Inverse, NoMemory>
+    /// Makes the exchanges of a step inside the transaction of the starter: those from a place on of
+    /// its log, which was taken out and is put back.
+    pub fn change_inside(&mut self, starter: Pid, mut log: Log, from: usize) -> Inverse
         requires slot { HasSlot self.old starter.0 }
-        requires log { IsSome (slot_at self.old.logs starter.0) }
-        requires named { AreNamed self.old.parts changes.items }
-        ensures parts { OnOk result (self.new.parts ≡ applied self.old.parts changes.items) }
-        ensures logs { OnOk result (self.new.logs ≡ with_slot self.old.logs starter.0 (Some (log_in (slot_at self.old.logs starter.0) ++ exchanged self.old.parts changes.items))) }
+        requires few { from ≤ length log }
+        requires named { AreNamed self.old.parts (drop from log) }
+        ensures parts { self.new.parts ≡ applied self.old.parts (drop from log) }
         ensures marks { self.new.marks ≡ self.old.marks }
-        ensures inverse { IfOk result (λ inverse. inverse ≡ Inside starter (length changes.items)) }
-        ensures refused { OnErr result (self.new ≡ self.old) }
+        ensures logs { self.new.logs ≡ with_slot self.old.logs starter.0 (Some (take from log ++ exchanged self.old.parts (drop from log))) }
+        ensures inverse { result ≡ Inside starter (length log - from) }
     {
-        let count = changes.len();
-        let mut slot = None;
-        self.logs.swap(starter, &mut slot);
-        let mut log = slot.unwrap();
-        match log.keep(&mut self.parts, changes) {
-            Ok(()) => {
-                self.logs.swap(starter, &mut Some(log));
-                Ok(Inverse::Inside { starter, count })
-            }
-            Err(refused) => {
-                self.logs.swap(starter, &mut Some(log));
-                Err(refused)
-            }
-        }
+        let count = log.len() - from;
+        log.make_from(&mut self.parts, from);
+        self.logs.put(starter, log);
+        Inverse::Inside { starter, count }
     }
 
     /// Makes the exchanges of a transaction's first step, which are its log from now on.
-    pub fn begin(&mut self, starter: Pid, defers: bool, mut changes: Vec<Change>) -> Inverse
+    pub fn begin(&mut self, starter: Pid, defers: bool, mut log: Log) -> Inverse
         requires slot { HasSlot self.old starter.0 }
-        requires named { AreNamed self.old.parts changes.items }
-        ensures parts { self.new.parts ≡ applied self.old.parts changes.items }
+        requires named { AreNamed self.old.parts log }
+        ensures parts { self.new.parts ≡ applied self.old.parts log }
         ensures marks { self.new.marks ≡ with_slot self.old.marks starter.0 (Some (new_mark starter.0 defers)) }
-        ensures logs { self.new.logs ≡ with_slot self.old.logs starter.0 (Some (exchanged self.old.parts changes.items)) }
+        ensures logs { self.new.logs ≡ with_slot self.old.logs starter.0 (Some (exchanged self.old.parts log)) }
         ensures inverse { result ≡ Begun starter }
     {
-        apply(&mut self.parts, &mut changes);
+        log.lead_forward(&mut self.parts);
         let mark = Mark {
             starter,
             ended: false,
             defers,
         };
-        self.marks.swap(starter, &mut Some(mark));
-        self.logs.swap(starter, &mut Some(Log::of(changes)));
+        self.marks.put(starter, mark);
+        self.logs.put(starter, log);
         Inverse::Begun { starter }
     }
 
-    /// Makes the exchanges of the step that commits the starter's transaction, which is over then.
-    /// After want of memory all is as it was.
-    #[tactic(auto, using(crate::proofs::Slotted::slot_again, crate::proofs::Slotted::slot_back, crate::proofs::Slotted::named_undone))]
-    pub fn commit(
-        &mut self,
-        starter: Pid,
-        mark: Mark,
-        changes: Vec<Change>,
-    ) -> Result<Inverse, NoMemory>
+    /// Makes the exchanges of the step that commits the starter's transaction, which is over then:
+    /// those from a place on of its log, which was taken out.
+    pub fn commit(&mut self, starter: Pid, mark: Mark, mut log: Log, from: usize) -> Inverse
         requires slot { HasSlot self.old starter.0 }
-        requires log { IsSome (slot_at self.old.logs starter.0) }
-        requires named { AreNamed self.old.parts changes.items }
-        ensures parts { OnOk result (self.new.parts ≡ applied self.old.parts changes.items) }
-        ensures marks { OnOk result (self.new.marks ≡ with_slot self.old.marks starter.0 None) }
-        ensures logs { OnOk result (self.new.logs ≡ with_slot self.old.logs starter.0 None) }
-        ensures inverse { IfOk result (λ inverse. inverse ≡
-            Committed starter mark (log_in (slot_at self.old.logs starter.0) ++ exchanged self.old.parts changes.items) (length changes.items)) }
-        ensures refused { OnErr result (self.new ≡ self.old) }
+        requires few { from ≤ length log }
+        requires named { AreNamed self.old.parts (drop from log) }
+        ensures parts { self.new.parts ≡ applied self.old.parts (drop from log) }
+        ensures marks { self.new.marks ≡ with_slot self.old.marks starter.0 None }
+        ensures logs { self.new.logs ≡ self.old.logs }
+        ensures inverse { result ≡ Committed starter mark (take from log ++ exchanged self.old.parts (drop from log)) (length log - from) }
     {
-        let count = changes.len();
-        let mut slot = None;
-        self.logs.swap(starter, &mut slot);
-        let mut log = slot.unwrap();
-        match log.keep(&mut self.parts, changes) {
-            Ok(()) => {
-                self.marks.swap(starter, &mut None);
-                Ok(Inverse::Committed {
-                    starter,
-                    mark,
-                    log,
-                    count,
-                })
-            }
-            Err(refused) => {
-                self.logs.swap(starter, &mut Some(log));
-                Err(refused)
-            }
+        let added = log.len() - from;
+        log.make_from(&mut self.parts, from);
+        let _committed = self.marks.take(starter);
+        Inverse::Committed {
+            starter,
+            mark,
+            log,
+            count: added,
         }
     }
 
@@ -142,13 +110,11 @@ impl Content {
         ensures inverse { let log = log_in (slot_at self.old.logs starter.0) in let before = regs_in (slot_at (undone self.old.parts log).procs starter.0) in
             result ≡ Aborted starter mark (reverted self.old.parts log) before.point before.ret }
     {
-        let mut slot = None;
-        self.logs.swap(starter, &mut slot);
-        let mut log = slot.unwrap();
+        let mut log = self.logs.take(starter).unwrap();
         log.lead_back(&mut self.parts);
         let before = self.regs(starter);
         self.set_regs(starter, answer_in(&before, ret));
-        self.marks.swap(starter, &mut None);
+        let _aborted = self.marks.take(starter);
         Inverse::Aborted {
             starter,
             mark,
@@ -190,18 +156,14 @@ impl Content {
         match inverse {
             Inverse::Outside { mut log } => log.lead_back(&mut self.parts),
             Inverse::Inside { starter, count } => {
-                let mut slot = None;
-                self.logs.swap(starter, &mut slot);
-                let mut log = slot.unwrap();
+                let mut log = self.logs.take(starter).unwrap();
                 log.give_back(&mut self.parts, count);
-                self.logs.swap(starter, &mut Some(log));
+                self.logs.put(starter, log);
             }
             Inverse::Begun { starter } => {
-                let mut slot = None;
-                self.logs.swap(starter, &mut slot);
-                let mut log = slot.unwrap();
+                let mut log = self.logs.take(starter).unwrap();
                 log.lead_back(&mut self.parts);
-                self.marks.swap(starter, &mut None);
+                let _begun = self.marks.take(starter);
             }
             Inverse::Committed {
                 starter,
@@ -210,8 +172,8 @@ impl Content {
                 count,
             } => {
                 log.give_back(&mut self.parts, count);
-                self.marks.swap(starter, &mut Some(mark));
-                self.logs.swap(starter, &mut Some(log));
+                self.marks.put(starter, mark);
+                self.logs.put(starter, log);
             }
             Inverse::Aborted {
                 starter,
@@ -223,8 +185,8 @@ impl Content {
                 let slots = self.regs(starter).slots;
                 self.set_regs(starter, Regs { point, ret, slots });
                 log.lead_forward(&mut self.parts);
-                self.marks.swap(starter, &mut Some(mark));
-                self.logs.swap(starter, &mut Some(log));
+                self.marks.put(starter, mark);
+                self.logs.put(starter, log);
             }
         }
     }

@@ -21,6 +21,7 @@ use crate::act::{CallKind, call_kind, plan_answer, plan_call};
 use crate::content::Content;
 use crate::inverse::Inverse;
 use crate::laws::laws;
+use crate::log::Log;
 use crate::outcome::Outcome;
 use std::alloc::Global;
 use std::marker::Model;
@@ -73,9 +74,10 @@ impl Machine {
     {
         laws();
         let proc = self.content.parts.proc(pid).unwrap();
-        let plan = plan_call(alloc, pid, proc, call)?;
-        let inverse = self.content.change_outside(plan.changes);
-        Ok((Outcome::Done(plan.ret), inverse))
+        let mut log = Log::with_room(alloc, 2)?;
+        let ret = plan_call(alloc, pid, proc, call, &mut log)?;
+        let inverse = self.content.change_outside(log);
+        Ok((Outcome::Done(ret), inverse))
     }
 
     /// A call that opens and closes no transaction, of a member of one.
@@ -94,9 +96,18 @@ impl Machine {
     {
         laws();
         let proc = self.content.parts.proc(pid).unwrap();
-        let plan = plan_call(alloc, pid, proc, call)?;
-        let inverse = self.content.change_inside(pid, plan.changes)?;
-        Ok((Outcome::Done(plan.ret), inverse))
+        let mut log = self.content.logs.take(pid).unwrap();
+        let from = log.len();
+        match plan_call(alloc, pid, proc, call, &mut log) {
+            Ok(ret) => {
+                let inverse = self.content.change_inside(pid, log, from);
+                Ok((Outcome::Done(ret), inverse))
+            }
+            Err(refused) => {
+                self.content.logs.put(pid, log);
+                Err(refused)
+            }
+        }
     }
 
     /// The first step of a transaction.
@@ -115,19 +126,14 @@ impl Machine {
     {
         laws();
         let proc = self.content.parts.proc(pid).unwrap();
-        let plan = plan_answer(alloc, pid, proc, 0)?;
-        let inverse = self.content.begin(pid, defers, plan.changes);
+        let mut log = Log::with_room(alloc, 4)?;
+        plan_answer(pid, proc, 0, &mut log)?;
+        let inverse = self.content.begin(pid, defers, log);
         Ok((Outcome::Done(0), inverse))
     }
 
     /// The step that ends the part of a transaction's only member.
-    fn commit(
-        &mut self,
-        alloc: Global,
-        pid: Pid,
-        mark: Mark,
-        _call: &Call,
-    ) -> Result<(Outcome, Inverse), NoMemory>
+    fn commit(&mut self, pid: Pid, mark: Mark, _call: &Call) -> Result<(Outcome, Inverse), NoMemory>
         requires running { IsRunning (slot_at self.old.parts.procs pid.0) }
         requires marked { slot_at self.old.marks pid.0 ≡ Some mark }
         requires kind { kind_of _call.now ≡ Leaving }
@@ -136,9 +142,18 @@ impl Machine {
     {
         laws();
         let proc = self.content.parts.proc(pid).unwrap();
-        let plan = plan_answer(alloc, pid, proc, 0)?;
-        let inverse = self.content.commit(pid, mark, plan.changes)?;
-        Ok((Outcome::Committed, inverse))
+        let mut log = self.content.logs.take(pid).unwrap();
+        let from = log.len();
+        match plan_answer(pid, proc, 0, &mut log) {
+            Ok(_ret) => {
+                let inverse = self.content.commit(pid, mark, log, from);
+                Ok((Outcome::Committed, inverse))
+            }
+            Err(refused) => {
+                self.content.logs.put(pid, log);
+                Err(refused)
+            }
+        }
     }
 
     /// A member aborts its transaction. It takes no memory.
@@ -173,7 +188,7 @@ impl Machine {
             },
             CallKind::Ends => match mark {
                 None => self.outside(alloc, pid, call),
-                Some(mark) => self.commit(alloc, pid, mark, call),
+                Some(mark) => self.commit(pid, mark, call),
             },
             CallKind::Aborts => match mark {
                 None => self.outside(alloc, pid, call),
