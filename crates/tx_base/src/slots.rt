@@ -63,4 +63,23 @@ impl<T: Drop> Slots<T> {
     {
         mem::swap(&mut self.slots[pid.0 as usize - 1], slot);
     }
+
+    /// Takes out what stands in the slot of a number, and leaves the slot empty.
+    pub fn take(&mut self, pid: Pid) -> Option<T>
+        requires low { 1 ≤ pid.0 }
+        requires high { pid.0 ≤ length self.old }
+        ensures emptied { self.new ≡ with_slot self.old pid.0 None }
+        ensures taken { result ≡ slot_at self.old pid.0 }
+    {
+        self.slots[pid.0 as usize - 1].take()
+    }
+
+    /// Puts a value into the slot of a number, in place of what stands there.
+    pub fn put(&mut self, pid: Pid, value: T)
+        requires low { 1 ≤ pid.0 }
+        requires high { pid.0 ≤ length self.old }
+        ensures { self.new ≡ with_slot self.old pid.0 (Some value) }
+    {
+        self.slots[pid.0 as usize - 1] = Some(value);
+    }
 }

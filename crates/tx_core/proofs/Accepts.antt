@@ -1,11 +1,12 @@
 -- A running process's step is always accepted, and what a step says of histories.
-use Rattle.std.proofs.Common.{◌≡◌, ℕ, Bool, true, false, List, [], ◌∷◌, ℤ, pos, negsuc, Option, Some, None, is_some, if◌then◌else◌, refl, sym, ap, ◌∙◌, subst, inl, inr, ◌⊎◌}
+use Rattle.std.proofs.Common.{◌≡◌, ℕ, Bool, true, false, List, [], ◌∷◌, ℤ, pos, negsuc, Option, Some, None, is_some, Result, Ok, Err, IfOk, IfErr, OnErr, ◌≢◌, if◌then◌else◌, refl, sym, ap, ◌∙◌, subst, inl, inr, ◌⊎◌}
 use Rattle.tx_base.specs.Slots.{slot_at}
 use Rattle.tx_base.specs.declared.marks.Mark.{Mark}
 use Rattle.tx_base.specs.declared.names.Pid.{Pid}
 use Rattle.tx_base.specs.declared.steps.Accepted.{Accepted}
 use Rattle.tx_base.specs.declared.steps.Call.{Call}
 use Rattle.tx_base.specs.declared.steps.Call.TheVariants.{Map, Unmap, Protect, Store, Load, SysXbegin, SysXbeginDefer, SysXend, SysXabort}
+use Rattle.tx_base.specs.declared.steps.Refusal.{Refusal}
 use Rattle.tx_base.specs.declared.steps.Refusal.TheVariants.{NoMemory, NoTransaction}
 use Rattle.tx_base.specs.declared.steps.Reply.{Reply}
 use Rattle.tx_base.specs.declared.steps.Reply.TheVariants.{Done, Committed, Aborted, No}
@@ -17,10 +18,12 @@ use Rattle.tx_proc.specs.Processes.{process_in}
 use Rattle.tx_core.specs.Content.{view_of, IsContent}
 use Rattle.tx_core.specs.Plans.{proc_after, only_answers, IsPlainCall, IsRunning, memory_call}
 use Rattle.tx_core.specs.Runs.{IsAfter}
-use Rattle.tx_core.specs.Steps.{IsStep, IsXabort, Steps}
+use Rattle.tx_core.specs.Outcomes.{replied}
+use Rattle.tx_core.specs.Steps.{IsStep, IsXabort, IsKernelAbort, Takes}
 use Rattle.tx_core.specs.Laws.{MachineLaws}
 use Rattle.tx_core.specs.declared.inverse.Inverse.{Inverse}
-use Rattle.tx_core.specs.declared.kernel.Kernel.{Kernel}
+use Rattle.tx_core.specs.declared.content.Content.{Content}
+use Rattle.tx_core.specs.declared.outcome.Outcome.{Outcome}
 use Rattle.tx_core.proofs.Cases.{plain_role, plain_case, begins_case, commits_case, aborts_case}
 use Rattle.tx_core.proofs.OfBuilt.{begins_built}
 use Rattle.tx_core.proofs.Outcomes.{reply_of_case}
@@ -32,7 +35,7 @@ use Rattle.tx_model.specs.Membership.{Begins, Within, Commits, Aborts, Beginning
 use Rattle.tx_model.specs.State.{State}
 use Rattle.tx_model.specs.View.{View, view, present, next, kernel_status}
 
-module _ (laws : MachineLaws) (k : Kernel) (pid : Pid) (q : Proc) (i : IsContent k) (here : slot_at k.parts.procs pid.0 ≡ Some q) (runs : q.status ≡ None) where
+module _ (laws : MachineLaws) (k : Content) (pid : Pid) (q : Proc) (i : IsContent k) (here : slot_at k.parts.procs pid.0 ≡ Some q) (runs : q.status ≡ None) where
   plain_accepted : (call : Call) (mark : Option Mark) → slot_at k.marks pid.0 ≡ mark → IsPlainCall call mark → IsAccepted (answer (view_of k) (Calls pid call))
   plain_accepted call mark is plain =
       let pc = plain_case laws k pid call mark q here runs is plain in
@@ -82,7 +85,7 @@ module _ (laws : MachineLaws) (k : Kernel) (pid : Pid) (q : Proc) (i : IsContent
   running_accepted SysXabort (Some m) is b = abort_accepted m is
   running_accepted call mark is b = absurd b
 
-pub accepted_at : (laws : MachineLaws) (k : Kernel) (pid : Pid) (call : Call) → IsBuiltCall call → IsContent k → IsRunning (slot_at k.parts.procs pid.0) → IsAccepted (answer (view_of k) (Calls pid call))
+pub accepted_at : (laws : MachineLaws) (k : Content) (pid : Pid) (call : Call) → IsBuiltCall call → IsContent k → IsRunning (slot_at k.parts.procs pid.0) → IsAccepted (answer (view_of k) (Calls pid call))
 accepted_at laws k pid call built i runs = by (slot_at k.parts.procs pid.0) refl runs
   where
     by : (x : Option Proc) → slot_at k.parts.procs pid.0 ≡ x → IsRunning x → IsAccepted (answer (view_of k) (Calls pid call))
@@ -90,7 +93,7 @@ accepted_at laws k pid call built i runs = by (slot_at k.parts.procs pid.0) refl
     by (Some q) here r = running_accepted laws k pid q i here r call (slot_at k.marks pid.0) refl built
 
 -- one more entry of a history whose view the machine has
-pub along : (laws : MachineLaws) (old new : Kernel) (step : Step) (reply : Reply) (inverse : Inverse) → IsStep old step reply inverse new → (start : State) (earlier : List Accepted) → IsAfter start earlier old
+pub along : (laws : MachineLaws) (old new : Content) (step : Step) (reply : Reply) (inverse : Inverse) → IsStep old step reply inverse new → (start : State) (earlier : List Accepted) → IsAfter start earlier old
     → IsAfter start (record { step = step; reply = reply } ∷ earlier) new
 unfolding Lawful
 along laws old new step reply inverse made start earlier a =
@@ -100,35 +103,32 @@ along laws old new step reply inverse made start earlier a =
       view = made.next ∙ ap (λ (V : View). next V step) a.view ∙ sym (laws.history start (record { step = step; reply = reply }) earlier law);
     }
 
-not_accepted : (reply : Reply) → reply ≡ No NoMemory → IsAccepted reply → ⊥
-not_accepted reply e a = subst IsAccepted e a
+-- what a step answers and leaves, clause by clause
+module _ (old new : Content) (step : Step) where
+  pub takes_history : (laws : MachineLaws) (r : Result (Outcome × Inverse) Refusal) → Takes old step r new → IfOk r (λ made. (start : State) (earlier : List Accepted) → Lawful start earlier → view_of old ≡ view start earlier
+      → Lawful start (record { step = step; reply = replied made.0 } ∷ earlier) × (view_of new ≡ view start (record { step = step; reply = replied made.0 } ∷ earlier)))
+  takes_history laws (Err why) h = tt
+  takes_history laws (Ok made) h = λ start earlier l v. let z = along laws old new step (replied made.0) made.1 h start earlier (record { lawful = l; view = v }) in (z.lawful, z.view)
 
--- what a step's answer and inverse say, clause by clause
-module _ (old new : Kernel) (step : Step) (reply : Reply) where
-  pub steps_answer : (o : Option Inverse) → Steps old step reply o new → (reply ≡ No NoMemory) ⊎ (answer (view_of old) step ≡ reply)
-  steps_answer None h = elim h.1 [ inl a ↦ inl a.0 | inr b ↦ inr b.0 ]
-  steps_answer (Some inverse) h = inr h.answered
+  pub takes_answer : (r : Result (Outcome × Inverse) Refusal) → Takes old step r new → IfErr r (λ why. (why ≡ NoMemory) ⊎ (answer (view_of old) step ≡ No why))
+  takes_answer (Ok made) h = tt
+  takes_answer (Err why) h = elim h.1 [ inl a ↦ inl a.0 | inr b ↦ inr b.0 ]
 
-  pub steps_memory : (o : Option Inverse) → Steps old step reply o new → reply ≡ No NoMemory → IsAccepted (answer (view_of old) step)
-  steps_memory None h e = elim h.1 [ inl a ↦ a.1 | inr b ↦ absurd (b.2 e) ]
-  steps_memory (Some inverse) h e = absurd (not_accepted reply e h.accepted)
+  pub takes_memory : (r : Result (Outcome × Inverse) Refusal) → Takes old step r new → IfErr r (λ why. why ≡ NoMemory → IsAccepted (answer (view_of old) step))
+  takes_memory (Ok made) h = tt
+  takes_memory (Err why) h = λ e. elim h.1 [ inl a ↦ a.1 | inr b ↦ absurd (b.1 e) ]
 
-  pub steps_refused : (o : Option Inverse) → Steps old step reply o new → is_some o ≡ false → new ≡ old
-  steps_refused None h e = h.0
-  steps_refused (Some inverse) h e = cc
+  pub takes_xabort : (r : Result (Outcome × Inverse) Refusal) → Takes old step r new → IsXabort old step → IfErr r (λ why. why ≢ NoMemory)
+  takes_xabort (Ok made) h x = tt
+  takes_xabort (Err why) h x = λ e. elim h.1 [ inl a ↦ a.2 x | inr b ↦ b.1 e ]
 
-  pub steps_some : (o : Option Inverse) → Steps old step reply o new → is_some o ≡ true → IsAccepted reply
-  steps_some None h e = cc
-  steps_some (Some inverse) h e = h.accepted
+  pub takes_kernel : (r : Result (Outcome × Inverse) Refusal) → Takes old step r new → IsKernelAbort step → IfErr r (λ why. why ≢ NoMemory)
+  takes_kernel (Ok made) h x = tt
+  takes_kernel (Err why) h x = λ e. elim h.1 [ inl a ↦ a.3 x | inr b ↦ b.1 e ]
 
-  pub steps_accepted : (o : Option Inverse) → Steps old step reply o new → IsAccepted reply → is_some o ≡ true
-  steps_accepted None h a = elim h.1 [ inl n ↦ absurd (not_accepted reply n.0 a) | inr b ↦ absurd (b.1 a) ]
-  steps_accepted (Some inverse) h a = refl
-
-  pub steps_along : (laws : MachineLaws) (o : Option Inverse) → Steps old step reply o new → IsAccepted reply → (start : State) (earlier : List Accepted) → Lawful start earlier → view_of old ≡ view start earlier
-      → Lawful start (record { step = step; reply = reply } ∷ earlier) × (view_of new ≡ view start (record { step = step; reply = reply } ∷ earlier))
-  steps_along laws None h a start earlier l v = elim h.1 [ inl n ↦ absurd (not_accepted reply n.0 a) | inr b ↦ absurd (b.1 a) ]
-  steps_along laws (Some inverse) h a start earlier l v = let z = along laws old new step reply inverse h start earlier (record { lawful = l; view = v }) in (z.lawful, z.view)
+  pub takes_refused : (r : Result (Outcome × Inverse) Refusal) → Takes old step r new → OnErr r (new ≡ old)
+  takes_refused (Ok made) h = tt
+  takes_refused (Err why) h = h.0
 
 -- what there is
 pub some_of : (x : Option ℕ) → is_some x ≡ true → (n : ℕ) × (x ≡ Some n)
@@ -136,7 +136,7 @@ some_of None h = cc
 some_of (Some n) h = (n, refl)
 
 -- a call that answers want of memory is no member's sys_xabort
-pub not_xabort : (k : Kernel) (pid : Pid) (call : Call) → (kind_of call ≡ Aborting → slot_at k.marks pid.0 ≡ None) → IsXabort k (Calls pid call) → ⊥
+pub not_xabort : (k : Content) (pid : Pid) (call : Call) → (kind_of call ≡ Aborting → slot_at k.marks pid.0 ≡ None) → IsXabort k (Calls pid call) → ⊥
 not_xabort k pid call h (p, same, marked) =
     let who : pid ≡ p = cc in
     let what : call ≡ SysXabort = cc in
@@ -152,7 +152,7 @@ running_of (Some p) q here h = let z : p ≡ q = cc in none_of p.status (ap (λ 
     none_of (Some n) h = cc
 
 -- the kernel's abort where there is no such transaction
-pub dead_answer : (k : Kernel) (s : Pid) → (is_live (view_of k).table s.0 ≡ true → false ≡ true) → answer (view_of k) (KernelAbort s) ≡ No NoTransaction
+pub dead_answer : (k : Content) (s : Pid) → (is_live (view_of k).table s.0 ≡ true → false ≡ true) → answer (view_of k) (KernelAbort s) ≡ No NoTransaction
 unfolding answer
 dead_answer k s h = by (is_live (view_of k).table s.0) refl
   where

@@ -8,7 +8,7 @@ use Rattle.tx_change.specs.Laws.{HaveAllPlaces}
 use Rattle.tx_change.specs.declared.change.Change.{Change}
 use Rattle.tx_core.specs.Content.{kept_in, state_of, starter_in, two_parts_of, view_of, IsContent}
 use Rattle.tx_core.specs.Laws.{MachineLaws}
-use Rattle.tx_core.specs.declared.kernel.Kernel.{Kernel}
+use Rattle.tx_core.specs.declared.content.Content.{Content}
 use Rattle.tx_core.proofs.Cases.{own_mark}
 use Rattle.tx_core.proofs.Replies.{present_is, table_is}
 use Rattle.tx_model.specs.Membership.{Table, is_of, is_live}
@@ -28,7 +28,7 @@ none_at : {A : Type 0} (slots : List (Option A)) (w n : ℕ) → slots ≡ repli
 none_at slots w zero h = refl
 none_at {A} slots w (suc n) h = ap (λ (xs : List (Option A)). get_or xs n None) h ∙ same_in w n None
 
-module _ (laws : MachineLaws) (k : Kernel) (width count : ℕ) (state : state_of k.parts ≡ booted width count) (places : HaveAllPlaces k.parts)
+module _ (laws : MachineLaws) (k : Content) (width count : ℕ) (state : state_of k.parts ≡ booted width count) (places : HaveAllPlaces k.parts)
     (marks : k.marks ≡ replicate width None) (logs : k.logs ≡ replicate width None) where
   no_mark : (n : ℕ) → slot_at k.marks n ≡ None
   no_mark n = none_at k.marks width n marks
@@ -72,12 +72,12 @@ module _ (laws : MachineLaws) (k : Kernel) (width count : ℕ) (state : state_of
       calm_kept (Some proc) (Some log) e h = cc
 
 -- what the readers say
-pub state_read : (laws : MachineLaws) (k : Kernel) → state_of k.parts ≡ present (view_of k)
+pub state_read : (laws : MachineLaws) (k : Content) → state_of k.parts ≡ present (view_of k)
 state_read laws k = sym (present_is laws k)
 
-pub marks_read : (k : Kernel) (n : ℕ) → slot_at k.marks n ≡ (view_of k).table.marks n
+pub marks_read : (k : Content) (n : ℕ) → slot_at k.marks n ≡ (view_of k).table.marks n
 marks_read k n = sym (ap (λ (t : Table). t.marks n) (table_is k))
 
-pub live_read : (k : Kernel) → IsContent k → (n : ℕ) (x : Option Mark) → slot_at k.marks n ≡ x → (x ≡ None → is_live (view_of k).table n ≡ false) × (IsSome x → is_live (view_of k).table n ≡ true)
+pub live_read : (k : Content) → IsContent k → (n : ℕ) (x : Option Mark) → slot_at k.marks n ≡ x → (x ≡ None → is_live (view_of k).table n ≡ false) × (IsSome x → is_live (view_of k).table n ≡ true)
 live_read k i n None e = (λ h. ap (λ (t : Table). is_live t n) (table_is k) ∙ ap (is_of n) e, λ h. cc)
 live_read k i n (Some m) e = (λ h. cc, λ h. ap (λ (t : Table). is_live t n) (table_is k) ∙ ap (is_of n) e ∙ eq-eqb m.starter.0 n (own_mark k i n m e))

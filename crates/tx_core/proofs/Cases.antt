@@ -15,7 +15,7 @@ use Rattle.tx_proc.specs.Processes.{process_in}
 use Rattle.tx_core.specs.Content.{table_in, view_of, IsMarked, IsContent}
 use Rattle.tx_core.specs.Plans.{proc_after, IsPlainCall, memory_call}
 use Rattle.tx_core.specs.Laws.{MachineLaws}
-use Rattle.tx_core.specs.declared.kernel.Kernel.{Kernel}
+use Rattle.tx_core.specs.declared.content.Content.{Content}
 use Rattle.tx_core.proofs.Replies.{IsPlain, do_plain, note_plain, plain_reply_is}
 use Rattle.tx_model.specs.Events.{Event, Do, Note, Commit, reply_of}
 use Rattle.tx_model.specs.Membership.{inside_by, Continues, Begins, Role, Outside, Within, Commits, Aborts, Kind, Ordinary, Beginning, Leaving, Aborting, kind_of, says_ended, others_open, is_open_of, member_end_role, ordinary_role, called_by_status, kind_role, kind_event, event_in}
@@ -24,11 +24,11 @@ use Rattle.tx_laws.specs.TwoParts.{parts_view}
 use Rattle.tx_model.specs.View.{present, role_on, event_on}
 
 -- what a step is on the machine's view
-pub record IsCase (k : Kernel) (step : Step) (R : Role) (ev : Event) : Type 0 where
+pub record IsCase (k : Content) (step : Step) (R : Role) (ev : Event) : Type 0 where
   pub role_is : role_on (view_of k) step ≡ R
   pub event_is : event_on (view_of k) step ≡ ev
 
-module _ (k : Kernel) (pid : Pid) (call : Call) (kind : Kind) (mark : Option Mark) (kind_is : kind_of call ≡ kind) (mark_is : slot_at k.marks pid.0 ≡ mark) where
+module _ (k : Content) (pid : Pid) (call : Call) (kind : Kind) (mark : Option Mark) (kind_is : kind_of call ≡ kind) (mark_is : slot_at k.marks pid.0 ≡ mark) where
   abbrev first : Kind → Option Mark → Event
   first x m = kind_event (table_in k) pid.0 (Calls pid call) x m
 
@@ -49,12 +49,12 @@ plain_role None = Outside
 plain_role (Some m) = Within m.starter.0 Continues
 
 -- a call that opens and closes nothing, with its event
-pub record IsPlainCase (k : Kernel) (pid : Pid) (call : Call) (mark : Option Mark) (q : Proc) : Type 0 where
+pub record IsPlainCase (k : Content) (pid : Pid) (call : Call) (mark : Option Mark) (q : Proc) : Type 0 where
   pub event : Event
   pub is_case : IsCase k (Calls pid call) (plain_role mark) event
   pub plain : IsPlain k pid.0 event (process_in (Some (proc_after q (memory_call q.space call)))) (memory_call q.space call).ret
 
-ordinary_case : (laws : MachineLaws) (k : Kernel) (pid : Pid) (call : Call) (mark : Option Mark) (q : Proc) → slot_at k.parts.procs pid.0 ≡ Some q → q.status ≡ None → slot_at k.marks pid.0 ≡ mark → IsBuiltCall call → kind_of call ≡ Ordinary → IsPlainCase k pid call mark q
+ordinary_case : (laws : MachineLaws) (k : Content) (pid : Pid) (call : Call) (mark : Option Mark) (q : Proc) → slot_at k.parts.procs pid.0 ≡ Some q → q.status ≡ None → slot_at k.marks pid.0 ≡ mark → IsBuiltCall call → kind_of call ≡ Ordinary → IsPlainCase k pid call mark q
 ordinary_case laws k pid call None q here runs mark built kind = record {
   event = Do (Calls pid call) None;
   is_case = case_of k pid call Ordinary None kind mark;
@@ -73,7 +73,7 @@ ordinary_case laws k pid call (Some m) q here runs mark built kind =
       plain = plain;
     }
 
-pub plain_case : (laws : MachineLaws) (k : Kernel) (pid : Pid) (call : Call) (mark : Option Mark) (q : Proc) → slot_at k.parts.procs pid.0 ≡ Some q → q.status ≡ None → slot_at k.marks pid.0 ≡ mark → IsPlainCall call mark → IsPlainCase k pid call mark q
+pub plain_case : (laws : MachineLaws) (k : Content) (pid : Pid) (call : Call) (mark : Option Mark) (q : Proc) → slot_at k.parts.procs pid.0 ≡ Some q → q.status ≡ None → slot_at k.marks pid.0 ≡ mark → IsPlainCall call mark → IsPlainCase k pid call mark q
 plain_case laws k pid (Map page) mark q here runs is h = ordinary_case laws k pid (Map page) mark q here runs is tt refl
 plain_case laws k pid (Unmap page) mark q here runs is h = ordinary_case laws k pid (Unmap page) mark q here runs is tt refl
 plain_case laws k pid (Protect page w) mark q here runs is h = ordinary_case laws k pid (Protect page w) mark q here runs is tt refl
@@ -89,11 +89,11 @@ plain_case laws k pid SysXabort None q here runs is h = record { event = Note pi
 plain_case laws k pid SysXabort (Some m) q here runs is h = absurd h.1
 plain_case laws k pid call mark q here runs is h = absurd h.0
 
-pub begins_case : (k : Kernel) (pid : Pid) (call : Call) (defers : Bool) → kind_of call ≡ Beginning defers → slot_at k.marks pid.0 ≡ None → IsCase k (Calls pid call) (Within pid.0 (Begins defers)) (Note pid.0 (pos 0))
+pub begins_case : (k : Content) (pid : Pid) (call : Call) (defers : Bool) → kind_of call ≡ Beginning defers → slot_at k.marks pid.0 ≡ None → IsCase k (Calls pid call) (Within pid.0 (Begins defers)) (Note pid.0 (pos 0))
 begins_case k pid call defers kind free = case_of k pid call (Beginning defers) None kind free
 
 -- a mark is of its own number
-pub own_mark : (k : Kernel) → IsContent k → (n : ℕ) (m : Mark) → slot_at k.marks n ≡ Some m → m.starter.0 ≡ n
+pub own_mark : (k : Content) → IsContent k → (n : ℕ) (m : Mark) → slot_at k.marks n ≡ Some m → m.starter.0 ≡ n
 own_mark k i n m e = by (slot_at k.marks n) (slot_at k.logs n) (slot_at k.parts.procs n) (i.marked n) e
   where
     by : (x : Option Mark) (log : Option (List Change)) (slot : Option Proc) → IsMarked n x log slot → x ≡ Some m → m.starter.0 ≡ n
@@ -111,7 +111,7 @@ not_open n p (Some m) own e = rw (own m refl, e) (by m.ended)
     by true = refl
     by false = refl
 
-alone : (k : Kernel) → IsContent k → (p n : ℕ) → others_open (table_in k) p p n ≡ false
+alone : (k : Content) → IsContent k → (p n : ℕ) → others_open (table_in k) p p n ≡ false
 unfolding others_open
 alone k i p zero = refl
 alone k i p (suc n) = rw (alone k i p n) (by (suc n == p) refl)
@@ -120,7 +120,7 @@ alone k i p (suc n) = rw (alone k i p n) (by (suc n == p) refl)
     by true e = refl
     by false e = not_open (suc n) p (slot_at k.marks (suc n)) (own_mark k i (suc n)) e
 
-pub commits_case : (k : Kernel) (pid : Pid) (m : Mark) → IsContent k → slot_at k.marks pid.0 ≡ Some m → IsCase k (Calls pid SysXend) (Commits pid.0) (Commit pid.0 (Note pid.0 (pos 0)))
+pub commits_case : (k : Content) (pid : Pid) (m : Mark) → IsContent k → slot_at k.marks pid.0 ≡ Some m → IsCase k (Calls pid SysXend) (Commits pid.0) (Commit pid.0 (Note pid.0 (pos 0)))
 commits_case k pid m i mark =
     let z = case_of k pid SysXend Leaving (Some m) refl mark in
     let s : m.starter.0 ≡ pid.0 = own_mark k i pid.0 m mark in
@@ -128,7 +128,7 @@ commits_case k pid m i mark =
     = ap (λ (x : ℕ). member_end_role (others_open (table_in k) x pid.0 (table_in k).width) x) s ∙ ap (λ (b : Bool). member_end_role b pid.0) (alone k i pid.0 (table_in k).width) in
     record { role_is = z.role_is ∙ same; event_is = z.event_is ∙ ap (λ (R : Role). event_in R (Note pid.0 (pos 0))) same }
 
-pub aborts_case : (k : Kernel) (pid : Pid) (m : Mark) → IsContent k → slot_at k.marks pid.0 ≡ Some m → IsCase k (Calls pid SysXabort) (Aborts pid.0 called_by_status) (Note pid.0 (negative called_by_status))
+pub aborts_case : (k : Content) (pid : Pid) (m : Mark) → IsContent k → slot_at k.marks pid.0 ≡ Some m → IsCase k (Calls pid SysXabort) (Aborts pid.0 called_by_status) (Note pid.0 (negative called_by_status))
 aborts_case k pid m i mark =
     let z = case_of k pid SysXabort Aborting (Some m) refl mark in
     let s : m.starter.0 ≡ pid.0 = own_mark k i pid.0 m mark in

@@ -1,8 +1,7 @@
 -- Logs, one old part more or less.
-use Rattle.std.proofs.Common.{◌≡◌, ℕ, suc, ◌-◌, List, [], ◌∷◌, ◌++◌, map, drop, length, slice_set, refl, ap, sym, ◌∙◌, arith, append_assoc, length-append}
-use Rattle.std.proofs.lemmas.List.{drop_at}
+use Rattle.std.proofs.Common.{◌≡◌, ℕ, ℤ, pos, suc, ◌+◌, ◌-◌, ◌≤◌, List, [], ◌∷◌, ◌++◌, map, take, drop, length, slice_set, refl, ap, sym, subst, ◌∙◌, arith, append_assoc, length-append}
+use Rattle.std.proofs.lemmas.List.{append-nil, drop_at, take_at}
 use Rattle.tx_base.specs.declared.names.Pid.{Pid}
-use Rattle.tx_base.specs.declared.names.Regs.{Regs}
 use Rattle.tx_change.specs.declared.change.Change.{Change}
 use Rattle.tx_change.specs.declared.change.Change.TheVariants.{Part as SetPart}
 use Rattle.tx_change.specs.declared.parts.Parts.{Parts}
@@ -10,7 +9,9 @@ use Rattle.tx_proc.specs.declared.part.Part.TheVariants.{Regs as SetRegs}
 use Rattle.tx_proc.specs.declared.proc.Proc.{Proc}
 use Rattle.tx_change.specs.Exchange.{parts_after, exchanged, Sizes, IsWithin, AreWithin}
 use Rattle.tx_change.specs.Own.{edited_by, edited, AreOf}
-use Rattle.tx_core.specs.Plans.{page_change}
+use Rattle.tx_core.specs.Plans.{only_answers, Gives, Plans, Extends, page_change}
+use Rattle.tx_model.specs.Effects.{answered}
+use Rattle.tx_model.specs.Pages.{Remembered}
 use Rattle.tx_pages.specs.declared.plans.NewPage.{NewPage}
 use Rattle.tx_pages.specs.Outcomes.{with_pages, AreNumbered}
 
@@ -48,11 +49,58 @@ pub pages_own : (pid : Pid) (pages : List NewPage) → AreNumbered pages → Are
 pages_own pid [] numbered = tt
 pages_own pid (new ∷ pages) numbered = ((refl, numbered.0), pages_own pid pages numbered.1)
 
+-- a log with more at its end
+pub extends_same : (before now : List Change) → now ≡ before → Extends before now
+extends_same before now same = record { more = []; added = same ∙ sym (append-nil before) }
+
+pub extends_more : (before more between now : List Change) → between ≡ before ++ more → now ≡ between → Extends before now
+extends_more before more between now added same = record { more = more; added = same ∙ added }
+
+-- it is cut back
+pub cut_back : (before between now : List Change) → Extends before between → now ≡ take (length before) between → now ≡ before
+cut_back before between now more cut = cut ∙ ap (take (length before)) more.added ∙ take_at before more.more (length before) refl
+
+-- an answer is a plan
+pub answer_plans : (pid : Pid) (p : Proc) (ret : ℤ) (before now : List Change) → now ≡ before ++ SetPart pid (SetRegs (answered ret p.regs)) ∷ [] → Plans pid.0 p before now ret (only_answers p ret)
+answer_plans pid p ret before now added = record {
+  plan = SetPart pid (SetRegs (answered ret p.regs)) ∷ [];
+  added = added;
+  gives = record { own = ((refl, tt), tt); proc = refl; answer = refl };
+}
+
 -- new pages, and then an answer
-pub pages_give : (pid : Pid) (p : Proc) (pages : List NewPage) (regs : Regs) (changes : List Change) → AreNumbered pages → changes ≡ map (page_change pid) pages ++ SetPart pid (SetRegs regs) ∷ [] →
-    AreOf pid.0 changes × (edited p changes ≡ record p { regs = regs; space = with_pages p.space pages })
-pages_give pid p pages regs changes numbered is =
-    rw is (
-      AreOf_append pid.0 (map (page_change pid) pages) (SetPart pid (SetRegs regs) ∷ []) (pages_own pid pages numbered) ((refl, tt), tt),
-      edited_append p (map (page_change pid) pages) (SetPart pid (SetRegs regs) ∷ []) ∙ ap (λ (q : Proc). edited_by q (SetPart pid (SetRegs regs))) (pages_edited pid p pages),
-    )
+pub pages_plan : (pid : Pid) (p : Proc) (pages : List NewPage) (before between now : List Change) → AreNumbered pages → between ≡ before ++ map (page_change pid) pages → now ≡ between ++ SetPart pid (SetRegs (answered (pos 0) p.regs)) ∷ []
+    → Plans pid.0 p before now (pos 0) (record { memory = with_pages p.space pages; ret = pos 0 })
+pages_plan pid p pages before between now numbered first last =
+    let regs : List Change = SetPart pid (SetRegs (answered (pos 0) p.regs)) ∷ [] in
+    record {
+      plan = map (page_change pid) pages ++ regs;
+      added = last ∙ ap (λ (xs : List Change). xs ++ regs) first ∙ append_assoc before (map (page_change pid) pages) regs;
+      gives = record {
+        own = AreOf_append pid.0 (map (page_change pid) pages) regs (pages_own pid pages numbered) ((refl, tt), tt);
+        proc = edited_append p (map (page_change pid) pages) regs ∙ ap (λ (q : Proc). edited_by q (SetPart pid (SetRegs (answered (pos 0) p.regs)))) (pages_edited pid p pages);
+        answer = refl;
+      };
+    }
+
+-- a log that was empty has its plan and nothing else
+pub whole_plan : (n : ℕ) (p : Proc) (before now : List Change) (ret : ℤ) (after : Remembered) → before ≡ [] → Plans n p before now ret after → Gives n p now ret after
+whole_plan n p before now ret after none plans =
+    subst (λ (xs : List Change). Gives n p xs ret after) (sym (plans.added ∙ ap (λ (xs : List Change). xs ++ plans.plan) none)) plans.gives
+
+-- the two parts of a log with a plan at its end
+pub record IsCut (before now plan : List Change) (from : ℕ) : Type 0 where
+  pub behind : drop from now ≡ plan
+  pub front : take from now ≡ before
+  pub count : length now - from ≡ length plan
+  pub few : from ≤ length now
+
+pub cut_at : (n : ℕ) (p : Proc) (before now : List Change) (ret : ℤ) (after : Remembered) (plans : Plans n p before now ret after) (from : ℕ) → from ≡ length before → IsCut before now plans.plan from
+cut_at n p before now ret after plans from is =
+    let long : length now ≡ length before + length plans.plan = ap length plans.added ∙ length-append before plans.plan in
+    record {
+      behind = ap (drop from) plans.added ∙ drop_at before plans.plan from (sym is);
+      front = ap (take from) plans.added ∙ take_at before plans.plan from (sym is);
+      count = omega (arith, long, is);
+      few = omega (arith, long, is);
+    }

@@ -25,7 +25,7 @@ use Rattle.tx_core.specs.Steps.{IsNamedBy, InFootprint, WasTouched, IsLocal}
 use Rattle.tx_core.specs.Undo.{changes_of, IsAmong}
 use Rattle.tx_core.specs.Laws.{MachineLaws}
 use Rattle.tx_core.specs.declared.inverse.Inverse.{Inverse}
-use Rattle.tx_core.specs.declared.kernel.Kernel.{Kernel}
+use Rattle.tx_core.specs.declared.content.Content.{Content}
 use Rattle.tx_core.proofs.Cases.{IsCase}
 use Rattle.tx_core.specs.Built.{IsBuiltCall}
 use Rattle.tx_core.proofs.Replies.{IsOwn, answer_is, no_holder}
@@ -49,11 +49,11 @@ if_at {A} slots p x n h = by (n == p) (λ e. eqb-true n p e)
     by false e = refl
 
 -- a step whose two parts are right has the next view, and the view stays sound
-pub record IsNext (k : Kernel) (step : Step) (new : Kernel) : Type 0 where
+pub record IsNext (k : Content) (step : Step) (new : Content) : Type 0 where
   pub view : view_of new ≡ next (view_of k) step
   pub sound : IsSound (view_of new)
 
-pub next_of : (laws : MachineLaws) (k new : Kernel) (step : Step) (R : Role) (ev : Event) → IsContent k → IsCase k step R ev → IsAccepted (answer (view_of k) step)
+pub next_of : (laws : MachineLaws) (k new : Content) (step : Step) (R : Role) (ev : Event) → IsContent k → IsCase k step R ev → IsAccepted (answer (view_of k) step)
     → view_of new ≡ parts_view (parts_next R ev (process_of step) (two_parts_of k)) → IsNext k step new
 unfolding view_of
 next_of laws k new step R ev i is acc same =
@@ -65,7 +65,7 @@ next_of laws k new step R ev i is acc same =
     record { view = all; sound = subst IsSound (sym all) (laws.next_sound V step i.sound acc) }
 
 -- the reply to a step that nobody is in the way of
-pub reply_of_case : (laws : MachineLaws) (k : Kernel) (pid : Pid) (call : Call) (q : Proc) (R : Role) (ev : Event) (reply : Reply) → IsBuiltCall call → IsContent k → slot_at k.parts.procs pid.0 ≡ Some q → q.status ≡ None
+pub reply_of_case : (laws : MachineLaws) (k : Content) (pid : Pid) (call : Call) (q : Proc) (R : Role) (ev : Event) (reply : Reply) → IsBuiltCall call → IsContent k → slot_at k.parts.procs pid.0 ≡ Some q → q.status ≡ None
     → IsCase k (Calls pid call) R ev → IsOwn k pid.0 ev → plain_reply called_by_status R ev (present (view_of k)) ≡ reply → answer (view_of k) (Calls pid call) ≡ reply
 reply_of_case laws k pid call q R ev reply built i here runs is own r =
     answer_is laws k pid call q built i here runs (subst (λ (x : Event). holder (view_of k) x ≡ None) (sym is.event_is) (no_holder k pid.0 ev own))
@@ -77,7 +77,7 @@ among_own n c (x ∷ cs) own (inl h) = ap object_of h ∙ object-own n x own.0
 among_own n c (x ∷ cs) own (inr h) = among_own n c cs own.1 h
 
 -- an inverse that changes process p alone, which the step names
-pub local_of : (k new : Kernel) (step : Step) (p : ℕ) (inverse : Inverse) → IsNamedBy (view_of k) step (TheProc p) → AreOf p (changes_of new inverse) → IsLocal k step new inverse
+pub local_of : (k new : Content) (step : Step) (p : ℕ) (inverse : Inverse) → IsNamedBy (view_of k) step (TheProc p) → AreOf p (changes_of new inverse) → IsLocal k step new inverse
 local_of k new step p inverse names own change among = subst (IsNamedBy (view_of k) step) (sym (among_own p change (changes_of new inverse) own among)) names
 
 -- a call names its process
@@ -98,7 +98,7 @@ back_append q [] behind = refl
 back_append q (c ∷ front) behind = ap (λ (x : Proc). edited_by x c) (back_append q front behind)
 
 -- the exchanges of a plan of process p, which is q
-module _ (k : Kernel) (p : ℕ) (q : Proc) (cs : List Change) (low : 1 ≤ p) (high : p ≤ length k.parts.procs) (here : slot_at k.parts.procs p ≡ Some q) (own : AreOf p cs) where
+module _ (k : Content) (p : ℕ) (q : Proc) (cs : List Change) (low : 1 ≤ p) (high : p ≤ length k.parts.procs) (here : slot_at k.parts.procs p ≡ Some q) (own : AreOf p cs) where
   pub named : AreNamed k.parts cs
   named = AreNamed-own p k.parts cs low high own
 
@@ -135,7 +135,7 @@ places_if procs p q sized places n = by (n == p)
     by true = sized
     by false = places n
 
-pub has_places : (k : Kernel) → IsContent k → (p : ℕ) (q : Proc) → slot_at k.parts.procs p ≡ Some q → IsSized q
+pub has_places : (k : Content) → IsContent k → (p : ℕ) (q : Proc) → slot_at k.parts.procs p ≡ Some q → IsSized q
 has_places k i p q here = let z : HasPlaces (slot_at k.parts.procs p) = i.places p in rw here at z
 
 -- no signal is pending at a process, also without its transaction
@@ -143,7 +143,7 @@ pub record IsCalm (slot : Option Proc) (log : Option (List Change)) : Type 0 whe
   pub now : has_pending kill_signo (process_in slot) ≡ false
   pub kept : has_pending kill_signo (kept_in slot log) ≡ false
 
-pub marked_if : (k : Kernel) (p : ℕ) (mark : Option Mark) (log : Option (List Change)) (slot : Option Proc) → IsContent k → IsMarked p mark log slot
+pub marked_if : (k : Content) (p : ℕ) (mark : Option Mark) (log : Option (List Change)) (slot : Option Proc) → IsContent k → IsMarked p mark log slot
     → (n : ℕ) → IsMarked n (if n == p then mark else slot_at k.marks n) (if n == p then log else slot_at k.logs n) (if n == p then slot else slot_at k.parts.procs n)
 marked_if k p mark log slot i h n = by (n == p) (λ e. eqb-true n p e)
   where
@@ -152,7 +152,7 @@ marked_if k p mark log slot i h n = by (n == p) (λ e. eqb-true n p e)
     by false e = i.marked n
 
 -- what the machine keeps after number p's slot, mark and log were replaced
-pub content_of : (k new : Kernel) (p : ℕ) (q : Proc) (mark : Option Mark) (log : Option (List Change)) → IsContent k → IsSized q → IsCalm (Some q) log → IsMarked p mark log (Some q)
+pub content_of : (k new : Content) (p : ℕ) (q : Proc) (mark : Option Mark) (log : Option (List Change)) → IsContent k → IsSized q → IsCalm (Some q) log → IsMarked p mark log (Some q)
     → length new.parts.procs ≡ length k.parts.procs → length new.marks ≡ length k.marks → length new.logs ≡ length k.logs
     → ((n : ℕ) → slot_at new.parts.procs n ≡ (if n == p then Some q else slot_at k.parts.procs n))
     → ((n : ℕ) → slot_at new.marks n ≡ (if n == p then mark else slot_at k.marks n))

@@ -17,7 +17,7 @@ use Rattle.tx_core.specs.Plans.{proc_after, only_answers, memory_call}
 use Rattle.tx_core.specs.Undo.{HasSlot}
 use Rattle.tx_core.specs.Built.{IsBuiltCall}
 use Rattle.tx_core.specs.Laws.{MachineLaws}
-use Rattle.tx_core.specs.declared.kernel.Kernel.{Kernel}
+use Rattle.tx_core.specs.declared.content.Content.{Content}
 use Rattle.tx_core.proofs.OfBuilt.{built_effect, built_objects, built_numbers}
 use Rattle.tx_core.proofs.Views.{set_effect}
 use Rattle.tx_model.specs.Answer.{is_running, is_there, is_doomed_at, is_parked, is_held_by_kill, has_bad_number, has_number_in_use, refusal, accepted_reply, unless_refused, answer}
@@ -31,11 +31,11 @@ use Rattle.tx_model.specs.State.{Process, State, Sending, written, Object, Proc 
 use Rattle.tx_laws.specs.TwoParts.{in_set, is_owner, parts_view}
 use Rattle.tx_model.specs.View.{View, present, has_pending, is_doomed, event_on, meets, differs_at, has_two_answers, meets_touched, blocks, in_way, least, holder}
 
-pub present_is : (laws : MachineLaws) (k : Kernel) → present (view_of k) ≡ state_of k.parts
+pub present_is : (laws : MachineLaws) (k : Content) → present (view_of k) ≡ state_of k.parts
 unfolding view_of parts_view
 present_is laws k = laws.present (two_parts_of k)
 
-pub table_is : (k : Kernel) → (view_of k).table ≡ table_in k
+pub table_is : (k : Content) → (view_of k).table ≡ table_in k
 unfolding view_of parts_view
 table_is k = refl
 
@@ -49,11 +49,11 @@ pub between_is : {A : Type 0} (slots : List (Option A)) (p : ℕ) (x : A) → sl
 between_is slots zero x h = cc
 between_is slots (suc n) x h = let z = slot_in slots n x h in (omega arith, omega arith, lt-ltb n (length slots) z)
 
-pub has_slot : (k : Kernel) → IsContent k → (p : ℕ) (q : Proc) → slot_at k.parts.procs p ≡ Some q → HasSlot k p
+pub has_slot : (k : Content) → IsContent k → (p : ℕ) (q : Proc) → slot_at k.parts.procs p ≡ Some q → HasSlot k p
 has_slot k i p q h = let z = between_is k.parts.procs p q h in record { low = z.0; high = z.1; marks = i.marks; logs = i.logs }
 
 -- no signal is ever pending
-pub not_doomed : (k : Kernel) → IsContent k → (s : ℕ) → is_doomed (view_of k) s ≡ false
+pub not_doomed : (k : Content) → IsContent k → (s : ℕ) → is_doomed (view_of k) s ≡ false
 unfolding view_of parts_view
 not_doomed k i s = by (in_set (just s) (starter_in (slot_at k.marks s)))
   where
@@ -61,7 +61,7 @@ not_doomed k i s = by (in_set (just s) (starter_in (slot_at k.marks s)))
     by true = i.calm_kept s
     by false = i.calm s
 
-not_doomed_at : (k : Kernel) → IsContent k → (x : Option Mark) → is_doomed_at (view_of k) x ≡ false
+not_doomed_at : (k : Content) → IsContent k → (x : Option Mark) → is_doomed_at (view_of k) x ≡ false
 not_doomed_at k i None = refl
 not_doomed_at k i (Some m) = not_doomed k i m.starter.0
 
@@ -98,13 +98,13 @@ other_parts true false h = refl
 other_parts false y h = cc
 
 -- an event of process p that names it alone, or what it holds, and posts nothing
-pub record IsOwn (k : Kernel) (p : ℕ) (ev : Event) : Type 0 where
+pub record IsOwn (k : Content) (p : ℕ) (ev : Event) : Type 0 where
   pub actor_is : actor ev ≡ p
   pub objects_are : AreOwn p (event_footprint (table_in k) ev (present (view_of k)))
   pub sends_are : (effect ev (present (view_of k))).sends ≡ []
 
 -- nobody is in the way of such an event
-pub no_holder : (k : Kernel) (p : ℕ) (ev : Event) → IsOwn k p ev → holder (view_of k) ev ≡ None
+pub no_holder : (k : Content) (p : ℕ) (ev : Event) → IsOwn k p ev → holder (view_of k) ev ≡ None
 unfolding in_way view_of parts_view differs_at
 no_holder k p ev own = least_all (in_way (view_of k) ev) (length k.parts.procs) (λ s. by s (if is_live (table_in k) s then not (is_member_of (table_in k) s (actor ev)) else false) refl)
   where
@@ -125,7 +125,7 @@ no_holder k p ev own = least_all (in_way (view_of k) ev) (length k.parts.procs) 
         two = ap (λ (ms : List Sending). differs_at s ms (send_answers (effect ev (present (view_of k))) (present (view_of k))) (send_answers (effect ev (present (view_of k))) ((view_of k).without (just s)))) own.sends_are
 
 -- a step of a running process that nobody is in the way of is accepted
-pub answer_is : (laws : MachineLaws) (k : Kernel) (pid : Pid) (call : Call) (q : Proc) → IsBuiltCall call → IsContent k → slot_at k.parts.procs pid.0 ≡ Some q → q.status ≡ None → holder (view_of k) (event_on (view_of k) (Calls pid call)) ≡ None
+pub answer_is : (laws : MachineLaws) (k : Content) (pid : Pid) (call : Call) (q : Proc) → IsBuiltCall call → IsContent k → slot_at k.parts.procs pid.0 ≡ Some q → q.status ≡ None → holder (view_of k) (event_on (view_of k) (Calls pid call)) ≡ None
     → answer (view_of k) (Calls pid call) ≡ accepted_reply (view_of k) (Calls pid call)
 unfolding answer
 answer_is laws k pid call q built i here runs clear = ap (λ (x : Option Refusal). unless_refused x (accepted_reply (view_of k) (Calls pid call))) none
@@ -162,7 +162,7 @@ answer_is laws k pid call q built i here runs clear = ap (λ (x : Option Refusal
     none : refusal V pid.0 (Calls pid call) ≡ None
     none = rw (there, running, numbers.0, numbers.1, not_doomed_at k i (V.table.marks pid.0), parked, kill, clear) refl
 
-pub no_process : (laws : MachineLaws) (k : Kernel) (pid : Pid) (call : Call) → slot_at k.parts.procs pid.0 ≡ None → answer (view_of k) (Calls pid call) ≡ No NoProcess
+pub no_process : (laws : MachineLaws) (k : Content) (pid : Pid) (call : Call) → slot_at k.parts.procs pid.0 ≡ None → answer (view_of k) (Calls pid call) ≡ No NoProcess
 unfolding answer
 no_process laws k pid call none = rw (gone) refl
   where
@@ -179,7 +179,7 @@ no_process laws k pid call none = rw (gone) refl
         by true = refl
         by false = refl
 
-pub not_running : (laws : MachineLaws) (k : Kernel) (pid : Pid) (call : Call) (q : Proc) (status : ℕ) → slot_at k.parts.procs pid.0 ≡ Some q → q.status ≡ Some status → answer (view_of k) (Calls pid call) ≡ No NotRunning
+pub not_running : (laws : MachineLaws) (k : Content) (pid : Pid) (call : Call) (q : Proc) (status : ℕ) → slot_at k.parts.procs pid.0 ≡ Some q → q.status ≡ Some status → answer (view_of k) (Calls pid call) ≡ No NotRunning
 unfolding answer
 not_running laws k pid call q status here ended = rw (there, running) refl
   where
@@ -198,7 +198,7 @@ not_running laws k pid call q status here ended = rw (there, running) refl
     running = rw (at_p, ended) refl
 
 -- the effects of the events that there are, on the state
-pub do_effect : (k : Kernel) (pid : Pid) (call : Call) (inside : Option Inside) (q : Proc) → IsBuiltCall call → slot_at k.parts.procs pid.0 ≡ Some q → q.status ≡ None
+pub do_effect : (k : Content) (pid : Pid) (call : Call) (inside : Option Inside) (q : Proc) → IsBuiltCall call → slot_at k.parts.procs pid.0 ≡ Some q → q.status ≡ None
     → effect (Do (Calls pid call) inside) (state_of k.parts) ≡ set_effect pid.0 (process_in (Some (proc_after q (memory_call q.space call)))) (Done (memory_call q.space call).ret)
 unfolding effect
 do_effect k pid call inside q built here runs =
@@ -206,18 +206,18 @@ do_effect k pid call inside q built here runs =
     ∙ ap (running_effect inside pid.0 (MakesCall call) (state_of k.parts) (process_of q)) runs
     ∙ built_effect inside pid.0 call (process_of q) (state_of k.parts) built
 
-pub note_effect_is : (k : Kernel) (p : ℕ) (r : ℤ) (q : Proc) → slot_at k.parts.procs p ≡ Some q
+pub note_effect_is : (k : Content) (p : ℕ) (r : ℤ) (q : Proc) → slot_at k.parts.procs p ≡ Some q
     → effect (Note p r) (state_of k.parts) ≡ set_effect p (process_in (Some (proc_after q (only_answers q r)))) (Done r)
 unfolding effect
 note_effect_is k p r q here = rw here refl
 
 -- an event with such an effect
-pub record IsPlain (k : Kernel) (p : ℕ) (ev : Event) (y : Option Process) (r : ℤ) : Type 0 where
+pub record IsPlain (k : Content) (p : ℕ) (ev : Event) (y : Option Process) (r : ℤ) : Type 0 where
   pub actor_is : actor ev ≡ p
   pub objects_are : (S : State) → objects ev S ≡ TheProc p ∷ []
   pub effect_is : effect ev (state_of k.parts) ≡ set_effect p y (Done r)
 
-pub do_plain : (k : Kernel) (pid : Pid) (call : Call) (inside : Option Inside) (q : Proc) → IsBuiltCall call → slot_at k.parts.procs pid.0 ≡ Some q → q.status ≡ None
+pub do_plain : (k : Content) (pid : Pid) (call : Call) (inside : Option Inside) (q : Proc) → IsBuiltCall call → slot_at k.parts.procs pid.0 ≡ Some q → q.status ≡ None
     → IsPlain k pid.0 (Do (Calls pid call) inside) (process_in (Some (proc_after q (memory_call q.space call)))) (memory_call q.space call).ret
 unfolding objects
 do_plain k pid call inside q built here runs = record {
@@ -226,11 +226,11 @@ do_plain k pid call inside q built here runs = record {
   effect_is = do_effect k pid call inside q built here runs;
 }
 
-pub note_plain : (k : Kernel) (p : ℕ) (r : ℤ) (q : Proc) → slot_at k.parts.procs p ≡ Some q → IsPlain k p (Note p r) (process_in (Some (proc_after q (only_answers q r)))) r
+pub note_plain : (k : Content) (p : ℕ) (r : ℤ) (q : Proc) → slot_at k.parts.procs p ≡ Some q → IsPlain k p (Note p r) (process_in (Some (proc_after q (only_answers q r)))) r
 unfolding objects
 note_plain k p r q here = record { actor_is = refl; objects_are = λ S. refl; effect_is = note_effect_is k p r q here }
 
-module _ (laws : MachineLaws) (k : Kernel) (p : ℕ) (ev : Event) (y : Option Process) (r : ℤ) (plain : IsPlain k p ev y r) where
+module _ (laws : MachineLaws) (k : Content) (p : ℕ) (ev : Event) (y : Option Process) (r : ℤ) (plain : IsPlain k p ev y r) where
   pub plain_foot : event_footprint (table_in k) ev (state_of k.parts) ≡ TheProc p ∷ []
   unfolding event_footprint targets
   plain_foot = ap₂ (λ (os : List Object) (f : Effect). os ++ targets (table_in k) (actor ev) f.sends) (plain.objects_are (state_of k.parts)) plain.effect_is

@@ -8,7 +8,7 @@ use Rattle.tx_base.specs.declared.steps.Reply.TheVariants.{Done, Ended, Committe
 use Rattle.tx_base.specs.declared.steps.Step.{Step}
 use Rattle.tx_core.specs.Content.{view_of}
 use Rattle.tx_core.specs.Runs.{RunsFrom, RunsSoFar}
-use Rattle.tx_core.specs.declared.kernel.Kernel.{Kernel}
+use Rattle.tx_core.specs.declared.content.Content.{Content}
 use Rattle.tx_core.specs.declared.schedules.Ran.{Ran}
 use Rattle.tx_laws.specs.Laws.{PrefixesAgree}
 use Rattle.tx_model.specs.Answer.{answer, IsAccepted, Lawful, Agreement}
@@ -16,7 +16,7 @@ use Rattle.tx_model.specs.Schedules.{recorded, history_of}
 use Rattle.tx_model.specs.State.{State}
 use Rattle.tx_model.specs.View.{View, view}
 
-pub so_far_start : (start : State) (steps : List Step) (k : Kernel) (entries : List Accepted) → entries ≡ [] → view_of k ≡ view start [] → RunsSoFar start steps steps k entries
+pub so_far_start : (start : State) (steps : List Step) (k : Content) (entries : List Accepted) → entries ≡ [] → view_of k ≡ view start [] → RunsSoFar start steps steps k entries
 unfolding Lawful
 so_far_start start steps k entries none same =
     let empty : reverse entries ≡ [] = ap reverse none in
@@ -43,13 +43,13 @@ recorded_refused h step (Aborted status) a = absurd (a tt)
 recorded_refused h step (Out bytes) a = absurd (a tt)
 
 -- the history with one more step, by its reply
-one_more : (start : State) (all rest : List Step) (step : Step) (old : Kernel) (entries : List Accepted) (reply : Reply) → RunsSoFar start all (step ∷ rest) old entries → answer (view_of old) step ≡ reply
+one_more : (start : State) (all rest : List Step) (step : Step) (old : Content) (entries : List Accepted) (reply : Reply) → RunsSoFar start all (step ∷ rest) old entries → answer (view_of old) step ≡ reply
     → history_of start (recorded (reverse entries) step reply) rest ≡ history_of start [] all
 unfolding history_of
 one_more start all rest step old entries reply so answered =
     ap (λ (r : Reply). history_of start (recorded (reverse entries) step r) rest) (sym answered ∙ ap (λ (V : View). answer V step) so.view) ∙ so.history
 
-pub so_far_accepted : (start : State) (all rest : List Step) (step : Step) (old new : Kernel) (entries : List Accepted) (reply : Reply) → RunsSoFar start all (step ∷ rest) old entries
+pub so_far_accepted : (start : State) (all rest : List Step) (step : Step) (old new : Content) (entries : List Accepted) (reply : Reply) → RunsSoFar start all (step ∷ rest) old entries
     → answer (view_of old) step ≡ reply → IsAccepted reply
     → Lawful start (record { step = step; reply = reply } ∷ reverse entries) × (view_of new ≡ view start (record { step = step; reply = reply } ∷ reverse entries))
     → RunsSoFar start all rest new (entries ++ record { step = step; reply = reply } ∷ [])
@@ -62,7 +62,7 @@ so_far_accepted start all rest step old new entries reply so answered acc along 
       view = along.1 ∙ ap (view start) (sym list);
     }
 
-pub so_far_refused : (start : State) (all rest : List Step) (step : Step) (old new : Kernel) (entries : List Accepted) (reply : Reply) → RunsSoFar start all (step ∷ rest) old entries
+pub so_far_refused : (start : State) (all rest : List Step) (step : Step) (old new : Content) (entries : List Accepted) (reply : Reply) → RunsSoFar start all (step ∷ rest) old entries
     → answer (view_of old) step ≡ reply → (IsAccepted reply → ⊥) → new ≡ old → RunsSoFar start all rest new entries
 so_far_refused start all rest step old new entries reply so answered ref same = record {
   history = ap (λ (h : List Accepted). history_of start h rest) (sym (recorded_refused (reverse entries) step reply ref)) ∙ one_more start all rest step old entries reply so answered;

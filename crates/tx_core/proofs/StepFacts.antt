@@ -11,7 +11,7 @@ use Rattle.tx_base.specs.declared.steps.Refusal.TheVariants.{NoTransaction}
 use Rattle.tx_base.specs.declared.steps.Step.{Step}
 use Rattle.tx_base.specs.declared.steps.Step.TheVariants.{Call as Calls, KernelAbort}
 use Rattle.tx_change.proofs.Applied.{length-undone, undone_exchanged, applied_reverted}
-use Rattle.tx_change.proofs.Own.{with_edit, AreNamed-own, AreOf-reverted, AreOf-exchanged, applied-own, undone-own, edited_sized, back_sized}
+use Rattle.tx_change.proofs.Own.{with_edit, AreNamed-own, AreOf-reverted, applied-own, undone-own, edited_sized, back_sized}
 use Rattle.tx_base.proofs.SlotFacts.{slot_now, slot_at-with_slot, length-with_slot}
 use Rattle.tx_change.proofs.Twice.{back, twice}
 use Rattle.tx_change.specs.Exchange.{parts_after, change_after, applied, exchanged, undone, reverted, IsNamed, AreNamed}
@@ -21,17 +21,18 @@ use Rattle.tx_change.specs.declared.change.Change.{Change}
 use Rattle.tx_change.specs.declared.change.Change.TheVariants.{Slot, Part as SetPart, Description, Pipe}
 use Rattle.tx_proc.specs.declared.part.Part.TheVariants.{Regs as SetRegs}
 use Rattle.tx_proc.specs.Laws.{IsSized}
+use Rattle.tx_proc.specs.Parts.{part_in}
 use Rattle.tx_proc.specs.Processes.{process_of, process_in}
 use Rattle.tx_change.specs.declared.parts.Parts.{Parts}
 use Rattle.tx_proc.specs.declared.proc.Proc.{Proc}
 use Rattle.tx_core.specs.Content.{state_of, kept_in, starter_in, two_parts_of, view_of, IsMarked, IsContent}
 use Rattle.tx_core.specs.Plans.{proc_after, only_answers, regs_in, IsPlainCall, memory_call}
 use Rattle.tx_core.specs.Steps.{IsNamedBy, IsStep}
-use Rattle.tx_core.specs.Undo.{log_in, last_of, first_of, undone_by, HasSlot}
+use Rattle.tx_core.specs.Undo.{log_in, last_of, first_of, unnoted, undone_by, HasSlot}
 use Rattle.tx_core.specs.Laws.{MachineLaws}
 use Rattle.tx_core.specs.declared.inverse.Inverse.{Inverse}
 use Rattle.tx_core.specs.declared.inverse.Inverse.TheVariants.{Outside as OutsideLog, Inside, Begun, Committed as CommittedLog, Aborted as AbortedLog}
-use Rattle.tx_core.specs.declared.kernel.Kernel.{Kernel}
+use Rattle.tx_core.specs.declared.content.Content.{Content}
 use Rattle.tx_core.proofs.Cases.{IsCase, plain_case, begins_case, own_mark, commits_case, aborts_case}
 use Rattle.tx_core.proofs.LogFacts.{length_exchanged}
 use Rattle.tx_core.proofs.OfBuilt.{begins_built}
@@ -52,7 +53,7 @@ use Rattle.tx_model.specs.SignalSets.{kill_signo}
 use Rattle.tx_proc.proofs.Twice.{still_sized}
 
 -- a step, and that what it leaves is what a machine may keep
-pub record IsDone (k : Kernel) (step : Step) (reply : Reply) (inverse : Inverse) (new : Kernel) : Type 0 where
+pub record IsDone (k : Content) (step : Step) (reply : Reply) (inverse : Inverse) (new : Content) : Type 0 where
   pub made : IsStep k step reply inverse new
   pub content : IsContent new
 
@@ -97,7 +98,7 @@ log_again parts p q (c ∷ cs) low high here sized own =
     (λ j. (twice U c name places) j ∷ exchanged ((back U c name) j) (reverted parts cs))
     ∙ ap (λ (xs : List Change). c ∷ xs) (log_again parts p q cs low high here sized own.1)
 
-module _ (laws : MachineLaws) (k : Kernel) (pid : Pid) (q : Proc) (cs : List Change) (i : IsContent k) (here : slot_at k.parts.procs pid.0 ≡ Some q) (own : AreOf pid.0 cs) where
+module _ (laws : MachineLaws) (k : Content) (pid : Pid) (q : Proc) (cs : List Change) (i : IsContent k) (here : slot_at k.parts.procs pid.0 ≡ Some q) (own : AreOf pid.0 cs) where
   abbrev slot : HasSlot k pid.0
   slot = has_slot k i pid.0 q here
 
@@ -139,7 +140,7 @@ module _ (laws : MachineLaws) (k : Kernel) (pid : Pid) (q : Proc) (cs : List Cha
       → IsDone k (Calls pid call) (Done (memory_call q.space call).ret) (OutsideLog (exchanged k.parts cs)) (record k { parts = applied k.parts cs })
   outside_done call runs free plain gives =
       let r : ℤ = (memory_call q.space call).ret in
-      let new : Kernel = record k { parts = applied k.parts cs } in
+      let new : Content = record k { parts = applied k.parts cs } in
       let pc = plain_case laws k pid call None q here runs free plain in
       let y = process_in (Some (proc_after q (memory_call q.space call))) in
       let is : effect pc.event (state_of k.parts) ≡ set_effect pid.0 (process_in (Some (edited q cs))) (Done r)
@@ -194,7 +195,7 @@ module _ (laws : MachineLaws) (k : Kernel) (pid : Pid) (q : Proc) (cs : List Cha
         (record k { parts = applied k.parts cs; logs = with_slot k.logs pid.0 (Some (log_in (slot_at k.logs pid.0) ++ exchanged k.parts cs)) })
     inside_done call runs plain gives =
         let r : ℤ = (memory_call q.space call).ret in
-        let new : Kernel = record k { parts = applied k.parts cs; logs = with_slot k.logs pid.0 (Some (log ++ ex)) } in
+        let new : Content = record k { parts = applied k.parts cs; logs = with_slot k.logs pid.0 (Some (log ++ ex)) } in
         let pc = plain_case laws k pid call (Some m) q here runs mark plain in
         let case : IsCase k (Calls pid call) (Within pid.0 Continues) pc.event = subst (λ (s : ℕ). IsCase k (Calls pid call) (Within s Continues) pc.event) starter pc.is_case in
         let y = process_in (Some (proc_after q (memory_call q.space call))) in
@@ -240,7 +241,7 @@ module _ (laws : MachineLaws) (k : Kernel) (pid : Pid) (q : Proc) (cs : List Cha
         → IsDone k (Calls pid SysXend) (Committed (record { items = [] })) (CommittedLog pid m (log_in (slot_at k.logs pid.0) ++ exchanged k.parts cs) (length cs))
         (record { parts = applied k.parts cs; marks = with_slot k.marks pid.0 None; logs = with_slot k.logs pid.0 None })
     commit_done runs gives =
-        let new : Kernel = record { parts = applied k.parts cs; marks = with_slot k.marks pid.0 None; logs = with_slot k.logs pid.0 None } in
+        let new : Content = record { parts = applied k.parts cs; marks = with_slot k.marks pid.0 None; logs = with_slot k.logs pid.0 None } in
         let inverse : Inverse = CommittedLog pid m (log ++ ex) (length cs) in
         let ev : Event = Note pid.0 (pos 0) in
         let case = commits_case k pid m i mark in
@@ -279,7 +280,7 @@ module _ (laws : MachineLaws) (k : Kernel) (pid : Pid) (q : Proc) (cs : List Cha
       (record { parts = applied k.parts cs; marks = with_slot k.marks pid.0 (Some (new_mark pid.0 defers)); logs = with_slot k.logs pid.0 (Some (exchanged k.parts cs)) })
   begin_done call defers kind runs free gives =
       let mark : Mark = new_mark pid.0 defers in
-      let new : Kernel = record { parts = applied k.parts cs; marks = with_slot k.marks pid.0 (Some mark); logs = with_slot k.logs pid.0 (Some ex) } in
+      let new : Content = record { parts = applied k.parts cs; marks = with_slot k.marks pid.0 (Some mark); logs = with_slot k.logs pid.0 (Some ex) } in
       let ev : Event = Note pid.0 (pos 0) in
       let case = begins_case k pid call defers kind free in
       let y = process_in (Some (proc_after q (only_answers q (pos 0)))) in
@@ -322,7 +323,7 @@ module _ (laws : MachineLaws) (k : Kernel) (pid : Pid) (q : Proc) (cs : List Cha
       }
 
 -- the abort of the transaction of p
-module _ (laws : MachineLaws) (k : Kernel) (pid : Pid) (m : Mark) (i : IsContent k) (mark : slot_at k.marks pid.0 ≡ Some m) (ret : ℤ) where
+module _ (laws : MachineLaws) (k : Content) (pid : Pid) (m : Mark) (i : IsContent k) (mark : slot_at k.marks pid.0 ≡ Some m) (ret : ℤ) where
   abbrev old_log : List Change
   old_log = log_in (slot_at k.logs pid.0)
 
@@ -380,6 +381,14 @@ module _ (laws : MachineLaws) (k : Kernel) (pid : Pid) (m : Mark) (i : IsContent
       by true = refl
       by false = refl
 
+  -- the change that the abort's inverse makes of the starter is what was there before the note
+  note_back : unnoted (parts_after before note) pid (regs_in (slot_at before.procs pid.0)).point (regs_in (slot_at before.procs pid.0)).ret ≡ change_after before note
+  note_back =
+      let led : Proc = edited_back abort_facts.proc old_log in
+      let now : slot_at (parts_after before note).procs pid.0 ≡ Some stands = after_at pid.0 ∙ ap (λ (b : Bool). if b then Some stands else slot_at k.parts.procs pid.0) (eq-eqb pid.0 pid.0 refl) in
+      (λ j. SetPart pid (SetRegs (record { point = (regs_in (before_at j)).point; ret = (regs_in (before_at j)).ret; slots = (regs_in (now j)).slots })))
+      ∙ sym (ap (λ (x : Option Proc). SetPart pid (part_in x (SetRegs (answered ret (regs_in (slot_at before.procs pid.0)))))) before_at)
+
   answered_sized : IsSized (edited_back abort_facts.proc old_log) → IsSized stands
   answered_sized sized = still_sized (edited_back abort_facts.proc old_log) (SetRegs (answered ret (edited_back abort_facts.proc old_log).regs)) sized
 
@@ -397,17 +406,17 @@ module _ (laws : MachineLaws) (k : Kernel) (pid : Pid) (m : Mark) (i : IsContent
   after_pipes n = ap (λ (x : Parts). (state_of x).pipes n) after_parts
 
   pub aborted_done : (step : Step) (status : ℕ) → process_of_step step ≡ pid.0 → IsCase k step (Aborts pid.0 status) (Note pid.0 ret) → IsNamedBy (view_of k) step (TheProc pid.0) → answer (view_of k) step ≡ Aborted status
-      → IsDone k step (Aborted status) (AbortedLog pid m (reverted k.parts (log_in (slot_at k.logs pid.0))) (change_after (undone k.parts (log_in (slot_at k.logs pid.0))) (SetPart pid (SetRegs (answered ret (regs_in (slot_at (undone k.parts (log_in (slot_at k.logs pid.0))).procs pid.0)))))))
+      → IsDone k step (Aborted status) (AbortedLog pid m (reverted k.parts (log_in (slot_at k.logs pid.0))) (regs_in (slot_at (undone k.parts (log_in (slot_at k.logs pid.0))).procs pid.0)).point (regs_in (slot_at (undone k.parts (log_in (slot_at k.logs pid.0))).procs pid.0)).ret)
       (record {
         parts = parts_after (undone k.parts (log_in (slot_at k.logs pid.0))) (SetPart pid (SetRegs (answered ret (regs_in (slot_at (undone k.parts (log_in (slot_at k.logs pid.0))).procs pid.0)))));
         marks = with_slot k.marks pid.0 None;
         logs = with_slot k.logs pid.0 None;
       })
   aborted_done step status who case names answered =
-      let new : Kernel = record { parts = parts_after before note; marks = with_slot k.marks pid.0 None; logs = with_slot k.logs pid.0 None } in
-      let noted : Change = change_after before note in
+      let new : Content = record { parts = parts_after before note; marks = with_slot k.marks pid.0 None; logs = with_slot k.logs pid.0 None } in
+      let noted : Change = unnoted new.parts pid (regs_in (slot_at before.procs pid.0)).point (regs_in (slot_at before.procs pid.0)).ret in
       let redo : List Change = reverted k.parts old_log in
-      let inverse : Inverse = AbortedLog pid m redo noted in
+      let inverse : Inverse = AbortedLog pid m redo (regs_in (slot_at before.procs pid.0)).point (regs_in (slot_at before.procs pid.0)).ret in
       let in_logs : pid.0 ≤ length k.logs = subst (λ (w : ℕ). pid.0 ≤ w) (sym i.logs) abort_slot.high in
       let in_marks : pid.0 ≤ length k.marks = subst (λ (w : ℕ). pid.0 ≤ w) (sym i.marks) abort_slot.high in
       let width : length new.parts.procs ≡ length k.parts.procs = length-with_slot before.procs pid.0 (option_map (λ proc. edited_by proc note) (slot_at before.procs pid.0)) ∙ before_width in
@@ -421,12 +430,11 @@ module _ (laws : MachineLaws) (k : Kernel) (pid : Pid) (m : Mark) (i : IsContent
       (subst (λ (p : ℕ). view_of new ≡ parts_view (parts_next (Aborts pid.0 status) (Note pid.0 ret) p (two_parts_of k))) (sym who) same) in
       let wide : pid.0 ≤ length new.parts.procs = subst (λ (w : ℕ). pid.0 ≤ w) (sym width) abort_slot.high in
       let name : IsNamed before note = (record { low = abort_slot.low; high = subst (λ (w : ℕ). pid.0 ≤ w) (sym before_width) abort_slot.high }, tt) in
-      let unnoted : parts_after new.parts noted ≡ before = back before note name in
+      let led : parts_after new.parts noted ≡ before = ap (parts_after new.parts) note_back ∙ back before note name in
       let redo_own : AreOf pid.0 redo = AreOf-reverted pid.0 k.parts old_log abort_facts.own in
-      let noted_own : AreOf pid.0 (noted ∷ []) = own_exchanged_one before in
-      let parts_is : applied (parts_after new.parts noted) redo ≡ k.parts = ap (λ (x : Parts). applied x redo) unnoted ∙ applied_reverted k.parts old_log abort_named in
+      let parts_is : applied (parts_after new.parts noted) redo ≡ k.parts = ap (λ (x : Parts). applied x redo) led ∙ applied_reverted k.parts old_log abort_named in
       let log_is : exchanged (parts_after new.parts noted) redo ≡ old_log
-      = ap (λ (x : Parts). exchanged x redo) unnoted ∙ log_again k.parts pid.0 abort_facts.proc old_log abort_slot.low abort_slot.high abort_facts.is_proc (has_places k i pid.0 abort_facts.proc abort_facts.is_proc) abort_facts.own in
+      = ap (λ (x : Parts). exchanged x redo) led ∙ log_again k.parts pid.0 abort_facts.proc old_log abort_slot.low abort_slot.high abort_facts.is_proc (has_places k i pid.0 abort_facts.proc abort_facts.is_proc) abort_facts.own in
       let marks_is : with_slot new.marks pid.0 (Some m) ≡ k.marks = slot_back k.marks pid.0 None (Some m) abort_slot.low (sym mark) in
       let logs_is : with_slot new.logs pid.0 (Some (exchanged (parts_after new.parts noted) redo)) ≡ k.logs
       = ap (λ (x : List Change). with_slot new.logs pid.0 (Some x)) log_is ∙ slot_back k.logs pid.0 None (Some old_log) abort_slot.low (sym abort_facts.there) in
@@ -439,21 +447,18 @@ module _ (laws : MachineLaws) (k : Kernel) (pid : Pid) (m : Mark) (i : IsContent
           next = next.view;
           back = back_is;
           leads_back = record {
-            goes = (new_slot, (AreNamed-own pid.0 new.parts (noted ∷ []) abort_slot.low wide noted_own).0, AreNamed-own pid.0 new.parts redo abort_slot.low wide redo_own);
+            goes = (new_slot, AreNamed-own pid.0 new.parts redo abort_slot.low wide redo_own);
             content = subst IsContent (sym back_is) i;
           };
-          local = local_of k new step pid.0 inverse names (noted_own.0, redo_own);
+          local = local_of k new step pid.0 inverse names ((refl, tt), redo_own);
         };
         content = content_of k new pid.0 stands None None i (answered_sized (back_sized abort_facts.proc old_log (has_places k i pid.0 abort_facts.proc abort_facts.is_proc))) (record { now = stands_calm; kept = stands_calm }) tt width
             (length-with_slot k.marks pid.0 None) (length-with_slot k.logs pid.0 None) after_at marks logs next.sound;
       }
-    where
-      own_exchanged_one : (parts : Parts) → AreOf pid.0 (change_after parts note ∷ [])
-      own_exchanged_one parts = AreOf-exchanged pid.0 parts (note ∷ []) ((refl, tt), tt)
 
 -- a member's sys_xabort
-pub xabort_done : (laws : MachineLaws) (k : Kernel) (pid : Pid) (q : Proc) (m : Mark) (i : IsContent k) → slot_at k.parts.procs pid.0 ≡ Some q → q.status ≡ None → (mark : slot_at k.marks pid.0 ≡ Some m)
-    → IsDone k (Calls pid SysXabort) (Aborted called_by_status) (AbortedLog pid m (reverted k.parts (log_in (slot_at k.logs pid.0))) (change_after (undone k.parts (log_in (slot_at k.logs pid.0))) (SetPart pid (SetRegs (answered (negsuc 200) (regs_in (slot_at (undone k.parts (log_in (slot_at k.logs pid.0))).procs pid.0)))))))
+pub xabort_done : (laws : MachineLaws) (k : Content) (pid : Pid) (q : Proc) (m : Mark) (i : IsContent k) → slot_at k.parts.procs pid.0 ≡ Some q → q.status ≡ None → (mark : slot_at k.marks pid.0 ≡ Some m)
+    → IsDone k (Calls pid SysXabort) (Aborted called_by_status) (AbortedLog pid m (reverted k.parts (log_in (slot_at k.logs pid.0))) (regs_in (slot_at (undone k.parts (log_in (slot_at k.logs pid.0))).procs pid.0)).point (regs_in (slot_at (undone k.parts (log_in (slot_at k.logs pid.0))).procs pid.0)).ret)
     (record {
       parts = parts_after (undone k.parts (log_in (slot_at k.logs pid.0))) (SetPart pid (SetRegs (answered (negsuc 200) (regs_in (slot_at (undone k.parts (log_in (slot_at k.logs pid.0))).procs pid.0)))));
       marks = with_slot k.marks pid.0 None;
@@ -468,11 +473,11 @@ xabort_done laws k pid q m i here runs mark =
     aborted_done laws k pid m i mark (negsuc 200) (Calls pid SysXabort) called_by_status refl case (own_named (view_of k) pid SysXabort) answered
 
 -- the kernel's abort
-kernel_is : (k : Kernel) → IsContent k → (s : ℕ) → kernel_status (view_of k) s ≡ 202
+kernel_is : (k : Content) → IsContent k → (s : ℕ) → kernel_status (view_of k) s ≡ 202
 kernel_is k i s = ap (λ (b : Bool). if b then 203 else 202) (not_doomed k i s)
 
-pub kernel_done : (laws : MachineLaws) (k : Kernel) (pid : Pid) (m : Mark) (i : IsContent k) → (mark : slot_at k.marks pid.0 ≡ Some m)
-    → IsDone k (KernelAbort pid) (Aborted 202) (AbortedLog pid m (reverted k.parts (log_in (slot_at k.logs pid.0))) (change_after (undone k.parts (log_in (slot_at k.logs pid.0))) (SetPart pid (SetRegs (answered (negsuc 201) (regs_in (slot_at (undone k.parts (log_in (slot_at k.logs pid.0))).procs pid.0)))))))
+pub kernel_done : (laws : MachineLaws) (k : Content) (pid : Pid) (m : Mark) (i : IsContent k) → (mark : slot_at k.marks pid.0 ≡ Some m)
+    → IsDone k (KernelAbort pid) (Aborted 202) (AbortedLog pid m (reverted k.parts (log_in (slot_at k.logs pid.0))) (regs_in (slot_at (undone k.parts (log_in (slot_at k.logs pid.0))).procs pid.0)).point (regs_in (slot_at (undone k.parts (log_in (slot_at k.logs pid.0))).procs pid.0)).ret)
     (record {
       parts = parts_after (undone k.parts (log_in (slot_at k.logs pid.0))) (SetPart pid (SetRegs (answered (negsuc 201) (regs_in (slot_at (undone k.parts (log_in (slot_at k.logs pid.0))).procs pid.0)))));
       marks = with_slot k.marks pid.0 None;
@@ -490,7 +495,7 @@ kernel_done laws k pid m i mark =
     aborted_done laws k pid m i mark (negsuc 201) (KernelAbort pid) 202 refl case (starter_named (view_of k) (KernelAbort pid) pid.0 202 i.sound case.role_is live) answered
 
 -- a starter with no live transaction
-pub no_transaction : (k : Kernel) (pid : Pid) → slot_at k.marks pid.0 ≡ None → answer (view_of k) (KernelAbort pid) ≡ No NoTransaction
+pub no_transaction : (k : Content) (pid : Pid) → slot_at k.marks pid.0 ≡ None → answer (view_of k) (KernelAbort pid) ≡ No NoTransaction
 unfolding answer
 no_transaction k pid free =
     let dead : is_of pid.0 ((view_of k).table.marks pid.0) ≡ false = ap (λ (t : Table). is_of pid.0 (t.marks pid.0)) (table_is k) ∙ ap (is_of pid.0) free in

@@ -9,7 +9,7 @@ use Rattle.tx_proc.specs.declared.proc.Proc.{Proc}
 use Rattle.tx_proc.specs.Processes.{process_in}
 use Rattle.tx_core.specs.Content.{state_of, kept_in, kept_of, starter_in, owner_at, table_in, two_parts_of, view_of}
 use Rattle.tx_core.specs.Laws.{MachineLaws}
-use Rattle.tx_core.specs.declared.kernel.Kernel.{Kernel}
+use Rattle.tx_core.specs.declared.content.Content.{Content}
 use Rattle.tx_model.specs.Effects.{Effect, Replies, send_answers, applied, noted_if, committing}
 use Rattle.tx_model.specs.Events.{Event, Note, Commit, effect}
 use Rattle.tx_model.specs.History.{just, event_footprint}
@@ -57,7 +57,7 @@ just_mark n p None own e = refl
 just_mark n p (Some m) own e = ap (λ (s : ℕ). s == p) (own m refl) ∙ e
 
 -- what number p has is replaced, and no other
-module _ (laws : MachineLaws) (k new : Kernel) (p : ℕ) (slot : Option Proc) (width : length new.parts.procs ≡ length k.parts.procs)
+module _ (laws : MachineLaws) (k new : Content) (p : ℕ) (slot : Option Proc) (width : length new.parts.procs ≡ length k.parts.procs)
     (procs : (n : ℕ) → slot_at new.parts.procs n ≡ (if n == p then slot else slot_at k.parts.procs n))
     (descs : (n : ℕ) → (state_of new.parts).descs n ≡ (state_of k.parts).descs n) (pipes : (n : ℕ) → (state_of new.parts).pipes n ≡ (state_of k.parts).pipes n) where
   procs_at : (n : ℕ) → process_in (slot_at new.parts.procs n) ≡ (if n == p then process_in slot else process_in (slot_at k.parts.procs n))

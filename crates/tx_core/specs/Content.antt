@@ -9,7 +9,7 @@ use Rattle.tx_change.specs.declared.change.Change.{Change}
 use Rattle.tx_change.specs.declared.parts.Parts.{Parts}
 use Rattle.tx_proc.specs.Processes.{process_of}
 use Rattle.tx_proc.specs.declared.proc.Proc.{Proc}
-use Rattle.tx_core.specs.declared.kernel.Kernel.{Kernel}
+use Rattle.tx_core.specs.declared.content.Content.{Content}
 use Rattle.tx_model.specs.Membership.{Table}
 use Rattle.tx_laws.specs.Sound.{IsSound}
 use Rattle.tx_model.specs.State.{Process, State, Object, Proc as TheProc, Desc, Pipe, Held}
@@ -27,7 +27,7 @@ kept_in None log = None
 kept_in (Some p) None = Some (process_of p)
 kept_in (Some p) (Some log) = Some (process_of (edited_back p log))
 
-abbrev pub kept_of : Kernel → State
+abbrev pub kept_of : Content → State
 kept_of k = record (state_of k.parts) { procs = λ n. kept_in (slot_at k.parts.procs n) (slot_at k.logs n) }
 
 abbrev pub starter_in : Option Mark → Option ℕ
@@ -35,20 +35,20 @@ starter_in None = None
 starter_in (Some m) = Some m.starter.0
 
 -- a transaction owns its member, and what it holds
-abbrev pub owner_at : Kernel → Object → Option ℕ
+abbrev pub owner_at : Content → Object → Option ℕ
 owner_at k (TheProc n) = starter_in (slot_at k.marks n)
 owner_at k (Desc n) = None
 owner_at k (Pipe n) = None
 owner_at k (Held n) = starter_in (slot_at k.marks n)
 
-abbrev pub table_in : Kernel → Table
+abbrev pub table_in : Content → Table
 table_in k = record { width = length k.parts.procs; marks = slot_at k.marks }
 
-abbrev pub two_parts_of : Kernel → TwoParts
+abbrev pub two_parts_of : Content → TwoParts
 two_parts_of k = record { now = state_of k.parts; kept = kept_of k; owner = owner_at k; table = table_in k }
 
 -- the view that the machine has
-unfoldable pub view_of : Kernel → View
+unfoldable pub view_of : Content → View
 view_of k = parts_view (two_parts_of k)
 
 -- a marked number is the starter and only member of a live transaction, with a log of its own parts
@@ -60,7 +60,7 @@ IsMarked n (Some m) (Some log) None = ⊥
 IsMarked n (Some m) (Some log) (Some p) = (m.starter.0 ≡ n) × (m.ended ≡ false) × AreOf n log
 
 -- what is so of every machine
-pub record IsContent (k : Kernel) : Type 0 where
+pub record IsContent (k : Content) : Type 0 where
   pub few : length k.parts.procs ≤ 256
   pub marks : length k.marks ≡ length k.parts.procs
   pub logs : length k.logs ≡ length k.parts.procs

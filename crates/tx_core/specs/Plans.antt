@@ -1,5 +1,5 @@
 -- What a plan makes of the process that it is for.
-use Rattle.std.specs.Prelude.{◌≡◌, ℕ, Option, Some, None, ℤ}
+use Rattle.std.specs.Prelude.{◌≡◌, ℕ, List, ◌++◌, Option, Some, None, ℤ}
 use Rattle.tx_change.specs.Own.{edited, AreOf}
 use Rattle.tx_change.specs.declared.change.Change.{Change}
 use Rattle.tx_change.specs.declared.change.Change.TheVariants.{Part}
@@ -13,7 +13,6 @@ use Rattle.tx_model.specs.State.{first_registers}
 use Rattle.tx_core.specs.Built.{IsBuiltCall}
 use Rattle.tx_core.specs.declared.act.CallKind.{CallKind}
 use Rattle.tx_core.specs.declared.act.CallKind.TheVariants.{OfProcess, Begins, Ends, Aborts}
-use Rattle.tx_core.specs.declared.act.Plan.{Plan}
 use Rattle.tx_model.specs.Membership.{Kind, Ordinary, Forking, Beginning, Leaving, Aborting, kind_of}
 use Rattle.tx_model.specs.Memory.{Memory}
 use Rattle.tx_model.specs.Numbers.{failing}
@@ -42,10 +41,21 @@ abbrev pub only_answers : Proc → ℤ → Remembered
 only_answers p ret = record { memory = p.space; ret = ret }
 
 -- the plan is for parts of process n, which is p, and gives what the call is to give
-pub record Gives (n : ℕ) (p : Proc) (plan : Plan) (after : Remembered) : Type 0 where
-  pub own : AreOf n plan.changes.items
-  pub proc : edited p plan.changes.items ≡ proc_after p after
-  pub ret : plan.ret ≡ after.ret
+pub record Gives (n : ℕ) (p : Proc) (plan : List Change) (ret : ℤ) (after : Remembered) : Type 0 where
+  pub own : AreOf n plan
+  pub proc : edited p plan ≡ proc_after p after
+  pub answer : ret ≡ after.ret
+
+-- a log that has such a plan at its end now
+pub record Plans (n : ℕ) (p : Proc) (before now : List Change) (ret : ℤ) (after : Remembered) : Type 0 where
+  pub plan : List Change
+  pub added : now ≡ before ++ plan
+  pub gives : Gives n p plan ret after
+
+-- a log that has more at its end now
+pub record Extends (before now : List Change) : Type 0 where
+  pub more : List Change
+  pub added : now ≡ before ++ more
 
 -- the change that puts a new page in place
 abbrev pub page_change : Pid → NewPage → Change

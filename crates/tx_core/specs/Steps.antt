@@ -1,5 +1,6 @@
 -- What a step of the machine is to be.
-use Rattle.std.specs.Prelude.{◌≡◌, ◌≢◌, ◌⊎◌, ℕ, true, Option, None, Some, IsSome}
+use Rattle.std.specs.Prelude.{◌≡◌, ◌≢◌, ◌⊎◌, ℕ, true, Result, Ok, Err, IsSome}
+use Rattle.tx_base.specs.declared.steps.Refusal.{Refusal}
 use Rattle.tx_base.specs.declared.steps.Refusal.TheVariants.{NoMemory}
 use Rattle.tx_base.specs.declared.steps.Reply.{Reply}
 use Rattle.tx_base.specs.declared.steps.Reply.TheVariants.{No}
@@ -7,13 +8,15 @@ use Rattle.tx_base.specs.Slots.{slot_at}
 use Rattle.tx_base.specs.declared.names.Pid.{Pid}
 use Rattle.tx_base.specs.declared.steps.Call.TheVariants.{SysXabort}
 use Rattle.tx_base.specs.declared.steps.Step.{Step}
-use Rattle.tx_base.specs.declared.steps.Step.TheVariants.{Call as Calls}
+use Rattle.tx_base.specs.declared.steps.Step.TheVariants.{Call as Calls, KernelAbort}
 use Rattle.tx_change.specs.Exchange.{object_of}
 use Rattle.tx_change.specs.declared.change.Change.{Change}
 use Rattle.tx_core.specs.Content.{view_of}
+use Rattle.tx_core.specs.Outcomes.{replied}
 use Rattle.tx_core.specs.Undo.{changes_of, undone_by, LeadsBack, IsAmong}
 use Rattle.tx_core.specs.declared.inverse.Inverse.{Inverse}
-use Rattle.tx_core.specs.declared.kernel.Kernel.{Kernel}
+use Rattle.tx_core.specs.declared.content.Content.{Content}
+use Rattle.tx_core.specs.declared.outcome.Outcome.{Outcome}
 use Rattle.tx_model.specs.Answer.{answer, IsAccepted}
 use Rattle.tx_laws.specs.Fits.{ends_it}
 use Rattle.tx_model.specs.Events.{effect}
@@ -30,11 +33,11 @@ pub data IsNamedBy (view : View) (step : Step) (object : Object) : Type 0 where
   WasTouched : (starter : ℕ) → ends_it starter (role_on view step) ≡ true → view.touched starter object ≡ true → IsNamedBy view step object
 
 -- each change of the inverse is of an object that the step names
-abbrev pub IsLocal : Kernel → Step → Kernel → Inverse → Type 0
+abbrev pub IsLocal : Content → Step → Content → Inverse → Type 0
 IsLocal old step new inverse = (change : Change) → IsAmong change (changes_of new inverse) → IsNamedBy (view_of old) step (object_of change)
 
--- the step was accepted with this reply, and left the kernel so, with this inverse
-pub record IsStep (old : Kernel) (step : Step) (reply : Reply) (inverse : Inverse) (new : Kernel) : Type 0 where
+-- the step was accepted with this reply, and left the content so, with this inverse
+pub record IsStep (old : Content) (step : Step) (reply : Reply) (inverse : Inverse) (new : Content) : Type 0 where
   pub answered : answer (view_of old) step ≡ reply
   pub accepted : IsAccepted reply
   pub next : view_of new ≡ next (view_of old) step
@@ -43,18 +46,23 @@ pub record IsStep (old : Kernel) (step : Step) (reply : Reply) (inverse : Invers
   pub local : IsLocal old step new inverse
 
 -- the step is a sys_xabort by a member
-abbrev pub IsXabort : Kernel → Step → Type 0
+abbrev pub IsXabort : Content → Step → Type 0
 IsXabort old step = (pid : Pid) × (step ≡ Calls pid SysXabort) × IsSome (slot_at old.marks pid.0)
 
--- the step was refused, and changed nothing: for want of memory, where nothing else refused it and it
--- is no member's sys_xabort; or as the answer says
-abbrev pub IsRefused : Kernel → Step → Reply → Kernel → Type 0
-IsRefused old step reply new =
-    (new ≡ old)
-    × ((reply ≡ No NoMemory) × IsAccepted (answer (view_of old) step) × (IsXabort old step → ⊥)
-    ⊎ (answer (view_of old) step ≡ reply) × (IsAccepted reply → ⊥) × (reply ≢ No NoMemory))
+-- the step is the kernel's abort
+abbrev pub IsKernelAbort : Step → Type 0
+IsKernelAbort (KernelAbort starter) = Unit {0}
+IsKernelAbort step = ⊥
 
--- what a step answers and leaves: with an inverse exactly where it was accepted
-abbrev pub Steps : Kernel → Step → Reply → Option Inverse → Kernel → Type 0
-Steps old step reply None new = IsRefused old step reply new
-Steps old step reply (Some inverse) new = IsStep old step reply inverse new
+-- the step was refused, and changed nothing: for want of memory, where nothing else refused it and it
+-- is neither a member's sys_xabort nor the kernel's abort; or as the answer says
+abbrev pub IsRefused : Content → Step → Refusal → Content → Type 0
+IsRefused old step why new =
+    (new ≡ old)
+    × ((why ≡ NoMemory) × IsAccepted (answer (view_of old) step) × (IsXabort old step → ⊥) × (IsKernelAbort step → ⊥)
+    ⊎ (answer (view_of old) step ≡ No why) × (why ≢ NoMemory))
+
+-- what a step answers and leaves
+abbrev pub Takes : Content → Step → Result (Outcome × Inverse) Refusal → Content → Type 0
+Takes old step (Ok made) new = IsStep old step (replied made.0) made.1 new
+Takes old step (Err why) new = IsRefused old step why new

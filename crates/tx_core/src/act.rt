@@ -1,12 +1,16 @@
 //! The plan of a call: which parts of its process it exchanges, and its answer.
-ghost use Rattle.std.specs.Prelude.{◌≡◌, ◌<◌, List, map, pos, IfOk, slice_set};
+ghost use Rattle.std.specs.Prelude.{◌≡◌, ◌<◌, ◌++◌, ◌∷◌, [], map, pos, IfOk, OnOk, OnErr, slice_set};
 ghost use Rattle.tx_base.specs.declared.steps.Call.TheVariants.{Map, Unmap, Protect, Store, Load};
+ghost use Rattle.tx_change.specs.declared.change.Change.TheVariants.{Part as SetPart};
+ghost use Rattle.tx_proc.specs.declared.part.Part.TheVariants.{Regs as SetRegs};
 ghost use Rattle.tx_core.specs.Built.{IsBuiltCall};
-ghost use Rattle.tx_core.specs.Plans.{Gives, only_answers, page_change, named_kind, memory_call};
+ghost use Rattle.tx_core.specs.Plans.{Plans, Extends, only_answers, page_change, named_kind, memory_call};
 ghost use Rattle.tx_model.specs.Effects.{answered, next_point};
 ghost use Rattle.tx_model.specs.Membership.{kind_of};
 ghost use Rattle.tx_pages.specs.Outcomes.{with_pages, AreNumbered};
 
+use crate::log::Log;
+use arrayvec::ArrayVec;
 use std::alloc::Global;
 use tx_base::{Call, LAST_POINT, NoMemory, Pid, Regs};
 use tx_change::Change;
@@ -50,13 +54,6 @@ pub fn call_kind(call: &Call) -> CallKind
     }
 }
 
-/// What a call is to exchange, and its answer.
-#[derive(Drop)]
-pub struct Plan {
-    pub changes: Vec<Change>,
-    pub ret: i64,
-}
-
 /// The registers with an answer, at the next point.
 pub fn answer_in(regs: &Regs, ret: i64) -> Regs
     ensures { result ≡ answered ret regs.now }
@@ -72,106 +69,156 @@ pub fn answer_in(regs: &Regs, ret: i64) -> Regs
     }
 }
 
-/// The plan of a call that answers, and does nothing else.
-pub fn plan_answer(alloc: Global, pid: Pid, proc: &Proc, ret: i64) -> Result<Plan, NoMemory>
-    ensures { IfOk result (λ plan. Gives pid.0 proc.now plan (only_answers proc.now ret)) }
+/// Appends the exchange that answers. After want of memory the log is as it was.
+fn push_answer(pid: Pid, proc: &Proc, ret: i64, log: &mut Log) -> Result<(), NoMemory>
+    ensures ok { OnOk result (log.new ≡ log.old ++ SetPart pid (SetRegs (answered ret proc.now.regs)) ∷ []) }
+    ensures err { OnErr result (log.new ≡ log.old) }
 {
-    let mut changes = Vec::new(alloc);
-    changes.push(Change::Part(pid, Part::Regs(answer_in(&proc.regs, ret))))?;
-    Ok(Plan { changes, ret })
+    log.push(Change::Part(pid, Part::Regs(answer_in(&proc.regs, ret))))
 }
 
-/// The plan of a call that puts one page number in place, and answers 0.
-fn plan_page(alloc: Global, pid: Pid, proc: &Proc, new: NewPage) -> Result<Plan, NoMemory>
+/// Plans an answer, and nothing else. After want of memory the log is as it was.
+pub fn plan_answer(pid: Pid, proc: &Proc, ret: i64, log: &mut Log) -> Result<i64, NoMemory>
+    ensures ok { IfOk result (λ answer. Plans pid.0 proc.now log.old log.new answer (only_answers proc.now ret)) }
+    ensures err { OnErr result (log.new ≡ log.old) }
+{
+    push_answer(pid, proc, ret, log)?;
+    Ok(ret)
+}
+
+/// Plans to put one page number in place, and to answer 0.
+fn plan_page(pid: Pid, proc: &Proc, new: NewPage, log: &mut Log) -> Result<i64, NoMemory>
     requires { new.number < 16 }
-    ensures { IfOk result (λ plan. Gives pid.0 proc.now plan (record { memory = slice_set proc.now.space new.number new.page; ret = pos 0 })) }
+    ensures ok { IfOk result (λ answer. Plans pid.0 proc.now log.old log.new answer (record { memory = slice_set proc.now.space new.number new.page; ret = pos 0 })) }
+    ensures err { OnErr result (Extends log.old log.new) }
 {
-    let mut changes = Vec::new(alloc);
-    changes.push(Change::Part(pid, Part::Page(new.number, new.page)))?;
-    changes.push(Change::Part(pid, Part::Regs(answer_in(&proc.regs, 0))))?;
-    Ok(Plan { changes, ret: 0 })
+    log.push(Change::Part(pid, Part::Page(new.number, new.page)))?;
+    push_answer(pid, proc, 0, log)?;
+    Ok(0)
 }
 
-/// The plan of a map.
-fn plan_map(alloc: Global, pid: Pid, proc: &Proc, page: i64) -> Result<Plan, NoMemory>
-    ensures { IfOk result (λ plan. Gives pid.0 proc.now plan (memory_call proc.now.space (Map page))) }
+/// Plans a map.
+fn plan_map(alloc: Global, pid: Pid, proc: &Proc, page: i64, log: &mut Log) -> Result<i64, NoMemory>
+    ensures ok { IfOk result (λ answer. Plans pid.0 proc.now log.old log.new answer (memory_call proc.now.space (Map page))) }
+    ensures err { OnErr result (Extends log.old log.new) }
 {
     match proc.space.plan_map(alloc, page) {
-        Ok(new) => plan_page(alloc, pid, proc, new),
+        Ok(new) => plan_page(pid, proc, new, log),
         Err(PageError::NoMemory) => Err(NoMemory),
-        Err(_) => plan_answer(alloc, pid, proc, INVALID),
+        Err(_) => plan_answer(pid, proc, INVALID, log),
     }
 }
 
-/// The plan that takes a page out.
-fn plan_unmap(alloc: Global, pid: Pid, proc: &Proc, page: i64) -> Result<Plan, NoMemory>
-    ensures { IfOk result (λ plan. Gives pid.0 proc.now plan (memory_call proc.now.space (Unmap page))) }
+/// Plans to take a page out.
+fn plan_unmap(pid: Pid, proc: &Proc, page: i64, log: &mut Log) -> Result<i64, NoMemory>
+    ensures ok { IfOk result (λ answer. Plans pid.0 proc.now log.old log.new answer (memory_call proc.now.space (Unmap page))) }
+    ensures err { OnErr result (Extends log.old log.new) }
 {
     match proc.space.plan_unmap(page) {
-        Ok(new) => plan_page(alloc, pid, proc, new),
-        Err(_) => plan_answer(alloc, pid, proc, INVALID),
+        Ok(new) => plan_page(pid, proc, new, log),
+        Err(_) => plan_answer(pid, proc, INVALID, log),
     }
 }
 
-/// The plan of a page's flag.
+/// Plans a page's flag.
 fn plan_protect(
-    alloc: Global,
     pid: Pid,
     proc: &Proc,
     page: i64,
     writable: bool,
-) -> Result<Plan, NoMemory>
-    ensures { IfOk result (λ plan. Gives pid.0 proc.now plan (memory_call proc.now.space (Protect page writable))) }
+    log: &mut Log,
+) -> Result<i64, NoMemory>
+    ensures ok { IfOk result (λ answer. Plans pid.0 proc.now log.old log.new answer (memory_call proc.now.space (Protect page writable))) }
+    ensures err { OnErr result (Extends log.old log.new) }
 {
     match proc.space.plan_protect(page, writable) {
-        Ok(new) => plan_page(alloc, pid, proc, new),
+        Ok(new) => plan_page(pid, proc, new, log),
         Err(PageError::NoMemory) => Err(NoMemory),
-        Err(_) => plan_answer(alloc, pid, proc, INVALID),
+        Err(_) => plan_answer(pid, proc, INVALID, log),
     }
 }
 
-/// The exchanges that put these pages in place.
-fn page_changes(alloc: Global, pid: Pid, new: NewPages) -> Result<Vec<Change>, NoMemory>
-    ensures { IfOk result (λ changes. changes.items ≡ map (page_change pid) new.pages.items) }
-{
-    let changes = new
-        .pages
-        .into_iter()
-        .map(|page| Change::Part(pid, Part::Page(page.number, page.page)))
-        .collect(alloc)?;
-    Ok(changes)
-}
-
-/// The plan of a store that puts these pages in place, and answers 0.
-fn plan_pages(alloc: Global, pid: Pid, proc: &Proc, new: NewPages) -> Result<Plan, NoMemory>
+/// Plans to put these pages in place, and to answer 0.
+fn plan_pages(pid: Pid, proc: &Proc, new: NewPages, log: &mut Log) -> Result<i64, NoMemory>
     requires { AreNumbered new.pages.items }
-    ensures { IfOk result (λ plan. Gives pid.0 proc.now plan (record { memory = with_pages proc.now.space new.pages.items; ret = pos 0 })) }
+    ensures ok { IfOk result (λ answer. Plans pid.0 proc.now log.old log.new answer (record { memory = with_pages proc.now.space new.pages.items; ret = pos 0 })) }
+    ensures err { OnErr result (Extends log.old log.new) }
 {
-    let mut changes = page_changes(alloc, pid, new)?;
-    changes.push(Change::Part(pid, Part::Regs(answer_in(&proc.regs, 0))))?;
-    Ok(Plan { changes, ret: 0 })
+    push_pages(pid, new, log)?;
+    push_answer(pid, proc, 0, log)?;
+    Ok(0)
 }
 
-/// The plan of a call on memory. The transaction calls have none of their own.
-pub fn plan_call(alloc: Global, pid: Pid, proc: &Proc, call: &Call) -> Result<Plan, NoMemory>
-    ensures { IfOk result (λ plan. Gives pid.0 proc.now plan (memory_call proc.now.space call.now)) }
+/// Appends the exchanges that put these pages in place.
+fn push_pages(pid: Pid, new: NewPages, log: &mut Log) -> Result<(), NoMemory>
+    ensures ok { OnOk result (log.new ≡ log.old ++ map (page_change pid) new.pages.items) }
+    ensures err { OnErr result (Extends log.old log.new) }
+{
+    for page in new.pages {
+        log.push(Change::Part(pid, Part::Page(page.number, page.page)))?;
+    }
+    Ok(())
+}
+
+/// Plans a store.
+fn plan_store(
+    alloc: Global,
+    pid: Pid,
+    proc: &Proc,
+    address: i64,
+    bytes: &ArrayVec<u8, 64>,
+    log: &mut Log,
+) -> Result<i64, NoMemory>
+    ensures ok { IfOk result (λ answer. Plans pid.0 proc.now log.old log.new answer (memory_call proc.now.space (Store address bytes.now))) }
+    ensures err { OnErr result (Extends log.old log.new) }
+{
+    match proc.space.plan_store(alloc, address, bytes.as_slice()) {
+        Ok(new) => plan_pages(pid, proc, new, log),
+        Err(PageError::NoMemory) => Err(NoMemory),
+        Err(_) => plan_answer(pid, proc, BAD_ADDRESS, log),
+    }
+}
+
+/// Plans a call on memory. The transaction calls have no plan of their own.
+fn plan_memory(
+    alloc: Global,
+    pid: Pid,
+    proc: &Proc,
+    call: &Call,
+    log: &mut Log,
+) -> Result<i64, NoMemory>
+    ensures ok { IfOk result (λ answer. Plans pid.0 proc.now log.old log.new answer (memory_call proc.now.space call.now)) }
+    ensures err { OnErr result (Extends log.old log.new) }
 {
     match call {
-        Call::Map(page) => plan_map(alloc, pid, proc, *page),
-        Call::Unmap(page) => plan_unmap(alloc, pid, proc, *page),
-        Call::Protect(page, writable) => plan_protect(alloc, pid, proc, *page, *writable),
-        Call::Store(address, bytes) => match proc
-            .space
-            .plan_store(alloc, *address, bytes.as_slice())
-        {
-            Ok(new) => plan_pages(alloc, pid, proc, new),
-            Err(PageError::NoMemory) => Err(NoMemory),
-            Err(_) => plan_answer(alloc, pid, proc, BAD_ADDRESS),
-        },
+        Call::Map(page) => plan_map(alloc, pid, proc, *page, log),
+        Call::Unmap(page) => plan_unmap(pid, proc, *page, log),
+        Call::Protect(page, writable) => plan_protect(pid, proc, *page, *writable, log),
+        Call::Store(address, bytes) => plan_store(alloc, pid, proc, *address, bytes, log),
         Call::Load(address) => match proc.space.load(*address) {
-            Ok(byte) => plan_answer(alloc, pid, proc, byte as i64),
-            Err(_) => plan_answer(alloc, pid, proc, BAD_ADDRESS),
+            Ok(byte) => plan_answer(pid, proc, byte as i64, log),
+            Err(_) => plan_answer(pid, proc, BAD_ADDRESS, log),
         },
-        _ => plan_answer(alloc, pid, proc, INVALID),
+        _ => plan_answer(pid, proc, INVALID, log),
     }
+}
+
+/// Plans a call that neither begins, commits nor aborts a transaction: appends its exchanges, and
+/// answers what it is to answer. After want of memory the log is as it was.
+pub fn plan_call(
+    alloc: Global,
+    pid: Pid,
+    proc: &Proc,
+    call: &Call,
+    log: &mut Log,
+) -> Result<i64, NoMemory>
+    ensures ok { IfOk result (λ answer. Plans pid.0 proc.now log.old log.new answer (memory_call proc.now.space call.now)) }
+    ensures err { OnErr result (log.new ≡ log.old) }
+{
+    let before = log.len();
+    let planned = plan_memory(alloc, pid, proc, call, log);
+    if planned.is_err() {
+        log.truncate(before);
+    }
+    planned
 }

@@ -1,7 +1,6 @@
 //! What takes an accepted step back.
 use crate::log::Log;
 use tx_base::{Mark, Pid};
-use tx_change::Change;
 
 /// What takes an accepted step back, on the machine as the step left it.
 #[derive(Drop)]
@@ -26,11 +25,13 @@ pub enum Inverse {
         log: Log,
         count: usize,
     },
-    /// Of an abort: the transaction's mark, what its log took back, and the starter's old registers.
+    /// Of an abort: the transaction's mark, what its log took back, and the point and the answer at
+    /// which the starter stood then.
     Aborted {
         starter: Pid,
         mark: Mark,
         log: Log,
-        noted: Change,
+        point: u32,
+        ret: i64,
     },
 }

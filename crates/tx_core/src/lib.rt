@@ -3,17 +3,19 @@
 #![tactic(auto)]
 
 mod act;
+mod content;
 mod inverse;
-mod kernel;
 mod laws;
 mod log;
 mod machine;
+mod outcome;
 mod schedules;
 #[cfg(test)]
 mod tests;
 
+pub use content::Content;
 pub use inverse::Inverse;
-pub use kernel::Kernel;
 pub use log::Log;
 pub use machine::{Machine, NoTransaction};
+pub use outcome::Outcome;
 pub use schedules::{Ran, run, run_wide};

@@ -1,7 +1,8 @@
 //! Old parts of the kernel, the oldest first.
-ghost use Rattle.std.specs.Prelude.{◌≡◌, ◌≤◌, ◌-◌, ◌++◌, length, take, drop, OnOk, OnErr};
+ghost use Rattle.std.specs.Prelude.{◌≡◌, ◌≤◌, ◌-◌, ◌++◌, ◌∷◌, [], length, take, drop, IfOk, OnOk, OnErr};
 ghost use Rattle.tx_change.specs.Exchange.{applied, exchanged, undone, reverted, AreNamed};
 
+use std::alloc::Global;
 use std::marker::Model;
 use tx_base::NoMemory;
 use tx_change::{Change, Parts, apply, revert};
@@ -22,11 +23,12 @@ impl Model for Log {
 }
 
 impl Log {
-    /// A log of these.
-    pub fn of(changes: Vec<Change>) -> Log
-        ensures { result ≡ changes.items }
+    /// An empty log with room for so many. NoMemory where that is refused.
+    pub fn with_room(alloc: Global, room: usize) -> Result<Log, NoMemory>
+        ensures { IfOk result (λ log. log ≡ []) }
     {
-        Log { changes }
+        let changes = Vec::with_capacity(alloc, room)?;
+        Ok(Log { changes })
     }
 
     /// How many old parts it has.
@@ -36,20 +38,29 @@ impl Log {
         self.changes.len()
     }
 
-    /// Makes the exchanges, the first one first, and keeps what was there. Room for it is made
-    /// first: a refused growth leaves all as it was.
-    #[tactic(auto, using(crate::proofs::LogFacts::length_exchanged))]
-    pub fn keep(&mut self, parts: &mut Parts, mut changes: Vec<Change>) -> Result<(), NoMemory>
-        requires { AreNamed parts.old changes.items }
-        ensures parts { OnOk result (parts.new ≡ applied parts.old changes.items) }
-        ensures log { OnOk result (self.new ≡ self.old ++ exchanged parts.old changes.items) }
-        ensures same_parts { OnErr result (parts.new ≡ parts.old) }
-        ensures same_log { OnErr result (self.new ≡ self.old) }
+    /// Appends a new part, which is to be exchanged. After want of memory the log is as it was.
+    pub fn push(&mut self, change: Change) -> Result<(), NoMemory>
+        ensures ok { OnOk result (self.new ≡ self.old ++ change ∷ []) }
+        ensures err { OnErr result (self.new ≡ self.old) }
     {
-        self.changes.reserve(changes.len())?;
-        apply(parts, &mut changes);
-        self.changes.append(&mut changes).unwrap();
+        self.changes.push(change)?;
         Ok(())
+    }
+
+    /// Forgets all but the first so many.
+    pub fn truncate(&mut self, count: usize)
+        ensures { self.new ≡ take count self.old }
+    {
+        self.changes.truncate(count);
+    }
+
+    /// Makes the exchanges from that place on, the first one first. The log then has what was there.
+    pub fn make_from(&mut self, parts: &mut Parts, from: usize)
+        requires { AreNamed parts.old (drop from self.old) }
+        ensures parts { parts.new ≡ applied parts.old (drop from self.old) }
+        ensures log { self.new ≡ take from self.old ++ exchanged parts.old (drop from self.old) }
+    {
+        apply_from(&mut self.changes, parts, from);
     }
 
     /// Leads the last few old parts back, and forgets them.
@@ -78,6 +89,17 @@ impl Log {
         ensures log { self.new ≡ exchanged parts.old self.old }
     {
         apply(parts, &mut self.changes);
+    }
+}
+
+/// Makes the exchanges from that place on, the first one first.
+fn apply_from(changes: &mut Vec<Change>, parts: &mut Parts, from: usize)
+    requires { AreNamed parts.old (drop from changes.old.items) }
+    ensures parts { parts.new ≡ applied parts.old (drop from changes.old.items) }
+    ensures changes { changes.new.items ≡ take from changes.old.items ++ exchanged parts.old (drop from changes.old.items) }
+{
+    for i in from..changes.len() {
+        changes[i].swap(parts);
     }
 }
 

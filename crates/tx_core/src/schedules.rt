@@ -80,7 +80,7 @@ fn run_step(
     ensures { OnOk result ((start : State) (all rest : List TheStep) →
         RunsSoFar start all (step.now ∷ rest) machine.old history.old.items → RunsSoFar start all rest machine.new history.new.items) }
 {
-    let (reply, inverse) = machine.step(alloc, step.copy());
+    let (reply, inverse) = machine.step(alloc, step);
     if inverse.is_some() {
         let step = step.copy();
         history.push(Accepted { step, reply })?;

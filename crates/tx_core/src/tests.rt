@@ -2,10 +2,11 @@
 ghost use Rattle.std.specs.Prelude.{◌≡◌};
 ghost use Rattle.tx_core.specs.Built.{AreBuilt, IsBuiltCall, IsBuilt};
 
-use crate::{Machine, NoTransaction, run, run_wide};
+use crate::{Inverse, Machine, NoTransaction, Outcome, run, run_wide};
 use arrayvec::ArrayVec;
+use std::mem;
 use std::test::Fail;
-use tx_base::{Call, Pid, Reply, Step};
+use tx_base::{Call, Pid, Step};
 
 /// The call of a process.
 fn call(number: u16, call: Call) -> Step
@@ -79,6 +80,11 @@ fn boots(rt: HostRuntime) -> Result<(), Fail> {
 }
 
 #[test]
+fn an_inverse_is_small(rt: HostRuntime) {
+    assert!(rt; mem::size_of::<Inverse>() <= 56);
+}
+
+#[test]
 fn runs_and_takes_back(rt: HostRuntime) -> Result<(), Fail> {
     let ran = run(rt.alloc(), 2, &taken_back())?;
     assert_eq!(rt; ran.history.len(), 4);
@@ -102,12 +108,13 @@ fn takes_each_step_back(rt: HostRuntime) -> Result<(), Fail> {
     let steps = side_by_side();
     for i in 0..steps.len() {
         let before = [1, 2, 3].map(|number| shown(&machine, number));
-        let (_reply, inverse) = machine.step(rt.alloc(), steps[i].copy());
+        let (reply, inverse) = machine.step(rt.alloc(), &steps[i]);
+        assert!(rt; !reply.wants_memory());
         if let Some(inverse) = inverse {
             machine.undo(inverse);
         }
         assert_eq!(rt; [1, 2, 3].map(|number| shown(&machine, number)), before);
-        let _again = machine.step(rt.alloc(), steps[i].copy());
+        let _again = machine.step(rt.alloc(), &steps[i]);
     }
     assert_eq!(rt; shown(&machine, 2), (Some((6, 0, Some(255))), None));
     Ok(())
@@ -116,8 +123,8 @@ fn takes_each_step_back(rt: HostRuntime) -> Result<(), Fail> {
 #[test]
 fn aborts_by_the_kernel_and_back(rt: HostRuntime) -> Result<(), Fail> {
     let mut machine = Machine::boot(rt.alloc(), 3)?;
-    let (reply, _inverse) = machine.step(rt.alloc(), call(2, Call::SysXbegin));
-    assert!(rt; matches!(reply, Reply::Done(0)), "it begins");
+    let begun = machine.take(rt.alloc(), &call(2, Call::SysXbegin));
+    assert!(rt; matches!(begun, Ok((Outcome::Done(0), _))), "it begins");
     assert_eq!(rt; machine.txn_of(Pid(2)), Some(Pid(2)));
     assert!(rt; machine.marks().get(Pid(2)).is_some(), "it has a mark");
     assert!(rt;

@@ -8,7 +8,7 @@ use Rattle.tx_base.specs.declared.steps.Step.{Step}
 use Rattle.tx_core.specs.Content.{view_of}
 use Rattle.tx_core.specs.Runs.{IsAfter}
 use Rattle.tx_core.specs.declared.inverse.Inverse.{Inverse}
-use Rattle.tx_core.specs.declared.kernel.Kernel.{Kernel}
+use Rattle.tx_core.specs.declared.content.Content.{Content}
 use Rattle.tx_model.specs.Answer.{answer, IsAccepted, Lawful}
 use Rattle.tx_model.specs.Schedules.{recorded, answers_of, history_of}
 use Rattle.tx_model.specs.State.{State}
@@ -21,7 +21,7 @@ none_of None h = refl
 none_of (Some inverse) h = absurd (h refl)
 
 -- a step that was answered so leaves the machine after the history with it, if it was accepted
-pub recorded_after : (start : State) (history : List Accepted) (step : Step) (reply : Reply) (old new : Kernel) → IsAfter start history old
+pub recorded_after : (start : State) (history : List Accepted) (step : Step) (reply : Reply) (old new : Content) → IsAfter start history old
     → (IsAccepted reply → Lawful start (record { step = step; reply = reply } ∷ history) × (view_of new ≡ view start (record { step = step; reply = reply } ∷ history)))
     → ((IsAccepted reply → ⊥) → new ≡ old) → IsAfter start (recorded history step reply) new
 recorded_after start history step (No why) old new after made same = subst (IsAfter start history) (sym (same (λ a. a))) after
@@ -33,14 +33,14 @@ recorded_after start history step (Out bytes) old new after made same = record {
 
 -- so far: the steps that are left lead from the history so far to that of the whole schedule, and their lines from the
 -- text so far to the whole text
-pub record RepliesSoFar (start : State) (earlier : List Accepted) (steps : List Step) (before : List ℕ) (machine : Kernel) (text : List ℕ) (number : ℕ) (left : List Step) : Type 0 where
+pub record RepliesSoFar (start : State) (earlier : List Accepted) (steps : List Step) (before : List ℕ) (machine : Content) (text : List ℕ) (number : ℕ) (left : List Step) : Type 0 where
   pub history : List Accepted
   pub after : IsAfter start history machine
   pub leads : history_of start earlier steps ≡ history_of start history left
   pub lines : before ++ lines_text 1 (answers_of start earlier steps) ≡ text ++ lines_text number (answers_of start history left)
 
 -- one step more
-pub one_reply_more : (start : State) (earlier : List Accepted) (steps : List Step) (before : List ℕ) (old new : Kernel) (text more : List ℕ) (number : ℕ) (step : Step) (left : List Step) (reply : Reply)
+pub one_reply_more : (start : State) (earlier : List Accepted) (steps : List Step) (before : List ℕ) (old new : Content) (text more : List ℕ) (number : ℕ) (step : Step) (left : List Step) (reply : Reply)
     → RepliesSoFar start earlier steps before old text number (step ∷ left) → reply ≡ answer (view_of old) step
     → ((history : List Accepted) → IsAfter start history old → IsAfter start (recorded history step reply) new)
     → more ≡ text ++ line_text number reply → RepliesSoFar start earlier steps before new more (number + 1) left
@@ -60,7 +60,7 @@ one_reply_more start earlier steps before old new text more number step left rep
     }
 
 -- no step is left
-pub replies_whole : (start : State) (earlier : List Accepted) (steps : List Step) (before : List ℕ) (machine : Kernel) (text : List ℕ) (number : ℕ) (left : List Step)
+pub replies_whole : (start : State) (earlier : List Accepted) (steps : List Step) (before : List ℕ) (machine : Content) (text : List ℕ) (number : ℕ) (left : List Step)
     → RepliesSoFar start earlier steps before machine text number left → left ≡ []
     → (text ≡ before ++ lines_text 1 (answers_of start earlier steps)) × IsAfter start (history_of start earlier steps) machine
 unfolding history_of answers_of
@@ -70,6 +70,6 @@ replies_whole start earlier steps before machine text number left so none = (
 )
 
 -- the machine at the start
-pub after_nothing : (start : State) (machine : Kernel) → view_of machine ≡ view start [] → IsAfter start [] machine
+pub after_nothing : (start : State) (machine : Content) → view_of machine ≡ view start [] → IsAfter start [] machine
 unfolding Lawful
 after_nothing start machine same = record { lawful = tt; view = same }

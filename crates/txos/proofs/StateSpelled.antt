@@ -3,7 +3,7 @@ use Rattle.std.proofs.Common.{◌≡◌, ℕ, List, ◌++◌, Option, length, co
 use Rattle.tx_base.specs.Slots.{slot_at}
 use Rattle.tx_base.specs.declared.marks.Mark.{Mark}
 use Rattle.tx_change.specs.declared.parts.Parts.{Parts}
-use Rattle.tx_core.specs.declared.kernel.Kernel.{Kernel}
+use Rattle.tx_core.specs.declared.content.Content.{Content}
 use Rattle.tx_core.specs.Content.{state_of, table_in, view_of}
 use Rattle.tx_model.specs.Membership.{Table}
 use Rattle.tx_model.specs.State.{State}
@@ -13,11 +13,11 @@ use Rattle.txos.specs.Report.{state_text}
 use Rattle.txos.specs.State.{procs_text}
 use Rattle.txos.specs.Txns.{txns_text}
 
-table_is : (k : Kernel) → (view_of k).table ≡ table_in k
+table_is : (k : Content) → (view_of k).table ≡ table_in k
 unfolding view_of parts_view
 table_is k = refl
 
-pub state_spelled : (k : Kernel) (parts : Parts) (marks : List (Option Mark)) (width : ℕ) (before one two three : List ℕ) → parts ≡ k.parts → state_of parts ≡ present (view_of k) → marks ≡ k.marks → width ≡ length k.parts.procs →
+pub state_spelled : (k : Content) (parts : Parts) (marks : List (Option Mark)) (width : ℕ) (before one two three : List ℕ) → parts ≡ k.parts → state_of parts ≡ present (view_of k) → marks ≡ k.marks → width ≡ length k.parts.procs →
     one ≡ before ++ codes "state\n" → two ≡ one ++ procs_text width (state_of parts).procs → three ≡ two ++ txns_text width (slot_at marks) →
     three ≡ before ++ state_text (view_of k)
 state_spelled k parts marks width before one two three p same m count first second third =

@@ -1,7 +1,7 @@
 //! Writes words, numbers and bytes to a text in memory.
 ghost use Rattle.std.specs.Prelude.{◌≡◌, ◌++◌, ◌∷◌, [], ◌<◌, ◌/◌, ◌%◌, OnOk, slice_index, string_bytes};
 ghost use Rattle.std.specs.Fmt.{decimal, signed_decimal};
-ghost use Rattle.hex.specs.Hex.{encode_lower, lower_digits};
+ghost use Rattle.hex.specs.Hex.{lower_digits};
 
 use itoa::Buffer;
 use std::alloc::AllocError;
@@ -27,16 +27,6 @@ pub fn put_count(text: &mut String, count: u64) -> Result<(), AllocError>
 {
     let mut buffer = Buffer::new();
     text.push_str(buffer.format(count))
-}
-
-/// Appends some bytes, two lower-case hex digits each.
-pub fn put_bytes(text: &mut String, bytes: &[u8]) -> Result<(), AllocError>
-    ensures { OnOk result (string_bytes text.new ≡ string_bytes text.old ++ encode_lower bytes.now) }
-{
-    for i in 0..bytes.len() {
-        put_byte(text, bytes[i])?;
-    }
-    Ok(())
 }
 
 /// Appends a byte, as two lower-case hex digits.

@@ -3,6 +3,7 @@ ghost use Rattle.std.specs.Prelude.{◌≡◌, ◌++◌, [], List, IfErr, IfOk, 
 ghost use Rattle.tx_base.specs.declared.steps.Accepted.{Accepted};
 ghost use Rattle.tx_core.specs.Built.{AreBuilt, IsBuilt};
 ghost use Rattle.tx_core.specs.Content.{view_of};
+ghost use Rattle.tx_core.specs.Outcomes.{reply_to};
 ghost use Rattle.tx_core.specs.Runs.{IsAfter};
 ghost use Rattle.tx_model.specs.Answer.{answer};
 ghost use Rattle.tx_model.specs.Schedules.{recorded, answers_of, history_of};
@@ -19,8 +20,8 @@ use crate::write::replies::put_reply_line;
 use crate::write::state::put_procs;
 use crate::write::txns::put_txns;
 use std::alloc::Global;
-use tx_base::{Reply, Step};
-use tx_core::Machine;
+use tx_base::{Refusal, Step};
+use tx_core::{Machine, Outcome};
 
 /// The report of a schedule: a line for each step's reply, and the text of the state after the
 /// last one. The only fault is `NoMemory`.
@@ -65,25 +66,29 @@ fn put_replies(
     ensures fault { IfErr result (λ fault. fault ≡ NoMemory) }
 {
     for i in 0..steps.len() {
-        let reply = make_step(alloc, machine, steps[i].copy())?;
-        put_reply_line(text, i as u64 + 1, &reply)?;
+        let made = make_step(alloc, machine, &steps[i])?;
+        put_reply_line(text, i as u64 + 1, made)?;
     }
     Ok(())
 }
 
-/// Makes a step, which is never taken back, and answers its reply.
-fn make_step(alloc: Global, machine: &mut Machine, step: Step) -> Result<Reply, Fault>
-    requires { IsBuilt step }
-    ensures reply { IfOk result (λ reply. reply ≡ answer (view_of machine.old) step) }
-    ensures after { IfOk result (λ reply. (start : State) (earlier : List Accepted) → IsAfter start earlier machine.old →
-        IsAfter start (recorded earlier step reply) machine.new) }
+/// Makes a step, which is never taken back. Answers its outcome, or why it was refused.
+fn make_step(
+    alloc: Global,
+    machine: &mut Machine,
+    step: &Step,
+) -> Result<Result<Outcome, Refusal>, Fault>
+    requires { IsBuilt step.now }
+    ensures answer { IfOk result (λ made. reply_to made ≡ answer (view_of machine.old) step.now) }
+    ensures after { IfOk result (λ made. (start : State) (earlier : List Accepted) → IsAfter start earlier machine.old →
+        IsAfter start (recorded earlier step.now (reply_to made)) machine.new) }
     ensures fault { IfErr result (λ fault. fault ≡ NoMemory) }
 {
-    let (reply, _inverse) = machine.step(alloc, step);
-    if reply.wants_memory() {
-        return Err(Fault::NoMemory);
+    match machine.take(alloc, step) {
+        Ok((outcome, _inverse)) => Ok(Ok(outcome)),
+        Err(Refusal::NoMemory) => Err(Fault::NoMemory),
+        Err(refusal) => Ok(Err(refusal)),
     }
-    Ok(reply)
 }
 
 /// Appends the text of the state.

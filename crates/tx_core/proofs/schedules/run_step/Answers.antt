@@ -9,25 +9,23 @@ use Rattle.tx_core.proofs.schedules.run_step.Goals as goal
 
 pub returns-then-is_some : goal.returns-then-is_some
 returns-then-is_some c start all rest so =
-    let step = c.copy.result in
+    let step = c.args.step.now in
     let reply = c.step-reply.result.0 in
     let entries = c.args.history.now.items in
     let made : IsAccepted reply = c.step-reply.ensures.inverse.0 (sym c.if-is_some.ensures) in
-    let here : RunsSoFar start all (step ∷ rest) c.args.machine.now entries = subst (λ (s : Step). RunsSoFar start all (s ∷ rest) c.args.machine.now entries) (sym c.copy.ensures) so in
     let items : entries ++ record { step = step; reply = reply } ∷ [] ≡ c.push.new.self.items =
-    ap (λ (s : Step). entries ++ record { step = s; reply = reply } ∷ []) (c.copy.ensures ∙ sym c.copy-step.ensures) ∙ sym c.in_ok-push.ensures.items in
+    ap (λ (s : Step). entries ++ record { step = s; reply = reply } ∷ []) (sym c.copy-step.ensures) ∙ sym c.in_ok-push.ensures.items in
     subst (λ (xs : List Accepted). RunsSoFar start all rest c.step-reply.new.self xs) items
-    (so_far_accepted start all rest step c.args.machine.now c.step-reply.new.self entries reply here
+    (so_far_accepted start all rest step c.args.machine.now c.step-reply.new.self entries reply so
     (answered_of (view_of c.args.machine.now) step reply c.step-reply.ensures.answer (accepted_not reply made)) made
     (c.step-reply.ensures.history made start (reverse entries) so.lawful so.view))
 
 pub returns : goal.returns
 returns c start all rest so =
-    let step = c.copy.result in
+    let step = c.args.step.now in
     let reply = c.step-reply.result.0 in
     let entries = c.args.history.now.items in
-    let here : RunsSoFar start all (step ∷ rest) c.args.machine.now entries = subst (λ (s : Step). RunsSoFar start all (s ∷ rest) c.args.machine.now entries) (sym c.copy.ensures) so in
-    so_far_refused start all rest step c.args.machine.now c.step-reply.new.self entries reply here
+    so_far_refused start all rest step c.args.machine.now c.step-reply.new.self entries reply so
     (answered_of (view_of c.args.machine.now) step reply c.step-reply.ensures.answer (λ want. true≢false (sym (c.if-wants_memory.ensures.1 want))))
     (λ (made : IsAccepted reply). true≢false (sym (c.step-reply.ensures.inverse.1 made) ∙ sym c.if-is_some.ensures))
     (c.step-reply.ensures.refused (sym c.if-is_some.ensures))

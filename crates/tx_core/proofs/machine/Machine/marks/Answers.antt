@@ -1,8 +1,8 @@
 use Rattle.std.proofs.Common.{◌∙◌, ap}
 use Rattle.tx_core.specs.Content.{view_of}
-use Rattle.tx_core.specs.declared.kernel.Kernel.{Kernel}
+use Rattle.tx_core.specs.declared.content.Content.{Content}
 use Rattle.tx_core.proofs.Boots.{marks_read}
 use Rattle.tx_core.proofs.machine.Machine.marks.Goals as goal
 
 pub returns-clause-table : goal.returns-clause-table
-returns-clause-table c n = marks_read c.self.inside.kernel n ∙ ap (λ (k : Kernel). (view_of k).table.marks n) c.self.view_is
+returns-clause-table c n = marks_read c.self.inside.content n ∙ ap (λ (k : Content). (view_of k).table.marks n) c.self.view_is

@@ -1,11 +1,5 @@
-use Rattle.std.proofs.Common.{◌∙◌, ap, inr}
-use Rattle.tx_core.specs.Content.{view_of}
-use Rattle.tx_core.proofs.Accepts.{dead_answer}
-use Rattle.tx_model.specs.Answer.{answer}
+use Rattle.tx_core.proofs.Accepts.{takes_history}
 use Rattle.tx_core.proofs.machine.Machine.take.Goals as goal
 
-pub returns-in-Err : goal.returns-in-Err
-returns-in-Err c = (
-  c.in-Err.ensures.err,
-  inr (ap (answer (view_of c.args.self.now)) c.in-KernelAbort.is ∙ dead_answer c.args.self.now c.in-KernelAbort.starter c.in-Err.ensures.none.1, (λ x. x), (λ e. cc)),
-)
+pub returns-clause-history : goal.returns-clause-history
+returns-clause-history c = takes_history c.args.self.now c.any.new.self c.args.step.now c.laws.ensures c.any.result c.any.ensures

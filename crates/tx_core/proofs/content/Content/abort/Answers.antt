@@ -1,10 +1,10 @@
 use Rattle.std.proofs.Common.{◌≡◌, ◌≤◌, ℕ, length, ap, sym, subst, ◌∙◌}
 use Rattle.tx_change.specs.declared.parts.Parts.{Parts}
 use Rattle.tx_change.proofs.Applied.{length-undone}
-use Rattle.tx_core.proofs.kernel.Kernel.abort.Goals as goal
+use Rattle.tx_core.proofs.content.Content.abort.Goals as goal
 
-pub swap-requires-2 : goal.swap-requires-2
-swap-requires-2 c =
+pub set_regs-requires-clause-high : goal.set_regs-requires-clause-high
+set_regs-requires-clause-high c =
     let width : length c.lead_back.new.parts.procs ≡ length c.args.self.now.parts.procs
     = ap (λ (p : Parts). length p.procs) c.lead_back.ensures.parts ∙ length-undone c.args.self.now.parts c.unwrap-log.result in
-    (record { low = c.requires.slot.low; high = subst (λ (w : ℕ). c.args.starter.0 ≤ w) (sym width) c.requires.slot.high }, tt)
+    subst (λ (w : ℕ). c.args.starter.0 ≤ w) (sym width) c.requires.slot.high
