@@ -1,7 +1,7 @@
 //! Each public call on its happy path, and the size of a change.
 use crate::{
     BoxedPipe, Change, Parts, PipePart, PipeTable, apply, apply_then_revert, changes_state,
-    commute, counts_agree, exchanges_back, names_its_object, nothing_else, revert,
+    commute, counts_agree, counts_in_turn, exchanges_back, names_its_object, nothing_else, revert,
     revert_then_apply, room_for_names, twice_is_nothing,
 };
 use std::alloc::Global;
@@ -173,6 +173,7 @@ fn a_change_is_small(rt: HostRuntime) {
     changes_state();
     names_its_object();
     counts_agree();
+    counts_in_turn();
     room_for_names();
     assert!(rt; mem::size_of::<Change>() <= 128);
 }

@@ -178,7 +178,7 @@ flag_keeps on x D = record {
 }
 
 -- whatever other processes name
-keeps_over : (t u : Descriptors) (ts us : List Descriptors) (D E : List (Option Opened)) (rest : ℕ → ℕ) →
+pub keeps_over : (t u : Descriptors) (ts us : List Descriptors) (D E : List (Option Opened)) (rest : ℕ → ℕ) →
     ((e : ℕ) → names_in e ts ≡ count_in e t + rest e) → ((e : ℕ) → names_in e us ≡ count_in e u + rest e) → KeepsCounts t u D E → Agrees ts D → Agrees us E
 keeps_over t u ts us D E rest before after keeps a = record {
   counted = λ e.
