@@ -1,6 +1,6 @@
 -- The plan of a whole table: each description that it names, once, with its new count.
-use Rattle.std.proofs.Common.{◌≡◌, ◌≢◌, ℕ, ◌+◌, ◌-◌, ◌<◌, ◌≤◌, ◌⊎◌, Bool, true, false, List, [], ◌∷◌, ◌++◌, length, take, Option, Some, None, if◌then◌else◌, nat_lt, get_or, refl, sym, ap, ◌∙◌, subst, inl, inr, arith, length-set, get_or-set_same, get_or-set_other}
-use Rattle.std.proofs.lemmas.Bool.{ltb-true, ltb-false, lt-ltb}
+use Rattle.std.proofs.Common.{◌≡◌, ◌≢◌, ℕ, ◌+◌, ◌-◌, ◌<◌, ◌≤◌, ◌⊎◌, Bool, true, false, List, [], ◌∷◌, ◌++◌, length, take, Option, Some, None, if◌then◌else◌, ◌==◌, eq-eqb, nat_lt, get_or, refl, sym, ap, ◌∙◌, subst, inl, inr, arith, length-set, get_or-set_same, get_or-set_other}
+use Rattle.std.proofs.lemmas.Bool.{ne_eqb, ltb-true, ltb-false, lt-ltb}
 use Rattle.std.proofs.lemmas.List.{take_more, length_push}
 use Rattle.std.proofs.lemmas.List.Sums.{sum_by_push}
 use Rattle.std.proofs.Math.ListN.{set}
@@ -12,7 +12,7 @@ use Rattle.tx_desc.specs.declared.counts.Names.TheVariants.{Fewer}
 use Rattle.tx_desc.specs.declared.opened.Opened.{Opened}
 use Rattle.tx_desc.specs.declared.plans.NewDesc.{NewDesc}
 use Rattle.tx_desc.specs.Places.{Descriptors}
-use Rattle.tx_desc.specs.Plans.{put_descs, AreNumbers}
+use Rattle.tx_desc.specs.Plans.{put_descs, entries_of, AreNumbers}
 use Rattle.tx_desc.specs.Descriptions.{HasDescs, described, recounted, with_fewer}
 use Rattle.tx_desc.specs.Counts.{count_in, HasNames, KeepsCounts, Agrees, IsBacked, HasNamed}
 use Rattle.tx_desc.proofs.Counting.{count-cons, hit, hit_is, hit_cases, same_names, keeps_go, room_entry, room_inside}
@@ -39,6 +39,7 @@ planned names n all p = if nat_lt 0 n then recounted names all p else p
 -- the descriptions that the first i descriptors name are planned, each with all its names
 pub record Planned (names : Names) (table : Descriptors) (D : List (Option Opened)) (i : ℕ) (news : List NewDesc) : Type 0 where
   pub after : (d : ℕ) → get_or (put_descs news D) d None ≡ planned names (count_in d (take i table)) (count_in d table) (get_or D d None)
+  pub once : (d : ℕ) → entries_of d news ≡ (if nat_lt 0 (count_in d (take i table)) then 1 else 0)
   pub numbers : AreNumbers news
   pub few : length news ≤ i
 
@@ -53,6 +54,7 @@ pub planned_skip : (names : Names) (i : ℕ) (table : Descriptors) (D : List (Op
     ((e : ℕ) → get_or table i None ≡ Some e → 0 < count_in e (take i table)) → Planned names table D i news → Planned names table D (i + 1) news
 planned_skip names i table D news inside before plan = record {
   after = λ e. plan.after e ∙ planned_same names (count_in e (take i table)) (count_in e (take (i + 1) table)) (count_in e table) (get_or D e None) (same e);
+  once = λ e. plan.once e ∙ ap (λ (b : Bool). if b then 1 else 0) (same e);
   numbers = plan.numbers;
   few = let few = plan.few in omega arith;
 }
@@ -76,10 +78,32 @@ pub planned_push : (names : Names) (i : ℕ) (d : DescNo) (table : Descriptors) 
     new.opened ≡ recounted names (count_in d.0 table) (get_or D d.0 None) → Planned names table D i news → Planned names table D (i + 1) (news ++ new ∷ [])
 planned_push names i d table D news new inside sized is first below number opened plan = record {
   after = λ e. ap (λ (l : List (Option Opened)). get_or l e None) (put-push news new D) ∙ at e;
+  once = λ e. sum_by_push (λ (entry : NewDesc). if e == entry.number.0 then 1 else 0) news new ∙ entries e;
   numbers = numbers-push news new plan.numbers (subst (λ (k : DescNo). k.0 < 64) (sym number) below);
   few = let few = plan.few in omega (arith, length_push news new);
 }
   where
+    entries : (e : ℕ) → entries_of e news + (if e == new.number.0 then 1 else 0) ≡ (if nat_lt 0 (count_in e (take (i + 1) table)) then 1 else 0)
+    entries e =
+        let next = count_next e i table inside in
+        ap (λ (k : DescNo). entries_of e news + (if e == k.0 then 1 else 0)) number
+        ∙ elim (hit_cases e (get_or table i None)) [
+          | inl here ↦
+              let same : e ≡ d.0 = cc in
+              let one = hit_is e (get_or table i None) here in
+              let none : count_in e (take i table) ≡ 0 = ap (λ (k : ℕ). count_in k (take i table)) same ∙ first in
+              let old : entries_of e news ≡ 0 = plan.once e ∙ ap (λ (n : ℕ). if nat_lt 0 n then 1 else 0) none in
+              let now : count_in e (take (i + 1) table) ≡ 1 = omega arith in
+              ap (λ (b : Bool). entries_of e news + (if b then 1 else 0)) (eq-eqb e d.0 same) ∙ ap (λ (n : ℕ). n + 1) old
+              ∙ ap (λ (n : ℕ). if nat_lt 0 n then 1 else 0) (sym now)
+          | inr other ↦
+              let apart : e ≢ d.0 = λ z. let one = hit_is e (get_or table i None) (is ∙ ap Some (sym z)) in omega arith in
+              let equal : count_in e (take i table) ≡ count_in e (take (i + 1) table) = omega arith in
+              let same : entries_of e news + 0 ≡ entries_of e news = omega arith in
+              ap (λ (b : Bool). entries_of e news + (if b then 1 else 0)) (ne_eqb e d.0 apart) ∙ same ∙ plan.once e
+              ∙ ap (λ (n : ℕ). if nat_lt 0 n then 1 else 0) equal
+        ]
+
     at : (e : ℕ) → get_or (set (put_descs news D) new.number.0 new.opened) e None ≡ planned names (count_in e (take (i + 1) table)) (count_in e table) (get_or D e None)
     at e =
         let next = count_next e i table inside in

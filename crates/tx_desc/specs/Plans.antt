@@ -1,5 +1,5 @@
 -- What plans of calls put in place.
-use Rattle.std.specs.Prelude.{◌≡◌, ℕ, ◌<◌, List, [], ◌∷◌, Option, Some, None, Result, Ok, Err, length, slice_index_or, slice_set}
+use Rattle.std.specs.Prelude.{◌≡◌, ℕ, ◌<◌, List, [], ◌∷◌, Option, Some, None, Result, Ok, Err, if◌then◌else◌, nat_lt, ◌==◌, count_by, length, slice_index_or, slice_set}
 use Rattle.tx_base.specs.declared.errors.Errno.{Errno}
 use Rattle.tx_base.specs.declared.names.DescNo.{DescNo}
 use Rattle.tx_desc.specs.declared.given.Given.{Given}
@@ -12,6 +12,7 @@ use Rattle.tx_desc.specs.declared.plans.Dup2Plan.{Dup2Plan}
 use Rattle.tx_desc.specs.declared.plans.Rename.{Rename}
 use Rattle.tx_desc.specs.declared.plans.ClosePlan.{ClosePlan}
 use Rattle.tx_desc.specs.Places.{Descriptors, number_in}
+use Rattle.tx_desc.specs.Counts.{count_in}
 use Rattle.tx_desc.specs.Descriptions.{gone_between, with_fewer}
 
 -- the descriptors with these names put in place, the first one first
@@ -33,6 +34,14 @@ AreFds (new ∷ news) = (new.fd < 16) × AreFds news
 abbrev pub AreNumbers : List NewDesc → Type 0
 AreNumbers [] = Unit {0}
 AreNumbers (new ∷ news) = (new.number.0 < 64) × AreNumbers news
+
+-- how many of these are of a number
+abbrev pub entries_of : ℕ → List NewDesc → ℕ
+entries_of d news = count_by (λ new. d == new.number.0) news
+
+-- each description that these descriptors name has one entry, and no other has any
+abbrev pub IsOnceEach : Descriptors → List NewDesc → Type 0
+IsOnceEach table news = (d : ℕ) → entries_of d news ≡ (if nat_lt 0 (count_in d table) then 1 else 0)
 
 -- what a call puts in place
 pub record Puts : Type 0 where

@@ -6,7 +6,7 @@ ghost use Rattle.tx_model.specs.State.{State, written};
 ghost use Rattle.tx_desc.specs.Counts.{Agrees, HasNamed, HasSpace, IsBacked, KeepsCounts, count_in};
 ghost use Rattle.tx_desc.specs.Descriptions.{HasDescs, recounted, with_more, with_fewer, with_flag};
 ghost use Rattle.tx_desc.specs.Places.{Descriptors};
-ghost use Rattle.tx_desc.specs.Plans.{AreNumbers, desc_fewer, given_fewer, put_descs};
+ghost use Rattle.tx_desc.specs.Plans.{AreNumbers, IsOnceEach, desc_fewer, given_fewer, put_descs};
 
 use crate::descs::Descs;
 use crate::given::Given;
@@ -30,6 +30,7 @@ impl Descs {
         requires { IsBacked 16 table.now self.now }
         ensures counts { KeepsCounts [] table.now self.now (put_descs result.items self.now) }
         ensures descriptions { (S : State) → HasDescs S self.now → HasDescs S (put_descs result.items self.now) }
+        ensures once { IsOnceEach table.now result.items }
         ensures numbers { AreNumbers result.items }
     {
         self.plan_all(table, Names::More)
@@ -44,6 +45,7 @@ impl Descs {
         ensures descriptions { (others : List Descriptors) (S : State) →
             Agrees (table.now ∷ others) self.now → HasDescs S self.now → HasNamed S others →
             HasDescs (written (unnamed_go (open_in table.now) S) S) (put_descs result.items self.now) }
+        ensures once { IsOnceEach table.now result.items }
         ensures numbers { AreNumbers result.items }
     {
         self.plan_all(table, Names::Fewer)
@@ -80,6 +82,7 @@ impl Descs {
         requires { IsBacked 16 table.now self.now }
         ensures after { (d : ℕ) → slice_index_or (put_descs result.items self.now) d None
             ≡ recounted names (count_in d table.now) (slice_index_or self.now d None) }
+        ensures once { IsOnceEach table.now result.items }
         ensures numbers { AreNumbers result.items }
     {
         table.sized();

@@ -1,5 +1,7 @@
-use Rattle.std.proofs.Common.{◌≡◌, ◌≢◌, ◌<◌, ◌∙◌, ◌+◌, ℕ, length, Some, None, take, get_or, sym, ap, subst, arith}
+use Rattle.std.proofs.Common.{◌≡◌, ◌≢◌, if◌then◌else◌, nat_lt, ◌<◌, ◌∙◌, ◌+◌, ℕ, length, Some, None, take, get_or, sym, ap, subst, arith}
 use Rattle.arrayvec.specs.ArrayVec.{ArrayVec}
+use Rattle.std.proofs.lemmas.List.{take_all}
+use Rattle.tx_desc.specs.Places.{Descriptors}
 use Rattle.tx_desc.specs.Counts.{count_in}
 use Rattle.tx_desc.specs.declared.plans.NewDesc.{NewDesc}
 use Rattle.tx_desc.proofs.Whole.{Planned, planned_push, planned_skip, named_inside}
@@ -34,3 +36,8 @@ loop-fd-preserved c =
           (planned_skip c.args.names i table c.args.self.now c.loop-fd.plan.items inside
           (λ e is. let never : None ≡ Some e = w.in_default.ensures ∙ is in absurd (let no : ⊥ = cc in no)) c.loop-fd.invariant)
     ]
+
+pub returns-clause-once : goal.returns-clause-once
+returns-clause-once c = λ d.
+    let all : take c.loop-fd.fd c.args.table.now ≡ c.args.table.now = take_all c.loop-fd.fd c.args.table.now (omega arith) in
+    c.loop-fd.invariant.once d ∙ ap (λ (t : Descriptors). if nat_lt 0 (count_in d t) then 1 else 0) all
