@@ -1,5 +1,5 @@
 -- What plans of calls put in place.
-use Rattle.std.specs.Prelude.{◌≡◌, ℕ, ◌<◌, List, [], ◌∷◌, Option, Some, None, Result, Ok, Err, if◌then◌else◌, nat_lt, ◌==◌, count_by, length, slice_index_or, slice_set}
+use Rattle.std.specs.Prelude.{◌≡◌, ℕ, ◌<◌, List, [], ◌∷◌, Option, Some, None, Result, Ok, Err, if◌then◌else◌, nat_lt, ◌==◌, count_by, option_map, length, slice_index_or, slice_set}
 use Rattle.tx_base.specs.declared.errors.Errno.{Errno}
 use Rattle.tx_base.specs.declared.names.DescNo.{DescNo}
 use Rattle.tx_desc.specs.declared.given.Given.{Given}
@@ -79,6 +79,11 @@ close_puts (Err errno) = record { names = []; descs = [] }
 abbrev pub nonblock_puts : Result NewDesc Errno → Puts
 nonblock_puts (Ok plan) = record { names = []; descs = plan ∷ [] }
 nonblock_puts (Err errno) = record { names = []; descs = [] }
+
+-- the descriptions that a rename changes: the one that is to have a name more, and the one that is to have a name fewer
+abbrev pub RenamesOf : Option ℕ → Option ℕ → Option Rename → Type 0
+RenamesOf named left None = Unit {0}
+RenamesOf named left (Some rename) = (named ≡ Some rename.named.number.0) × (left ≡ option_map (λ new. new.number.0) rename.left)
 
 -- the answer of a call, of its plan
 abbrev pub answer_of : {A B : Type 0} → (A → B) → Result A Errno → Result B Errno

@@ -8,7 +8,7 @@ ghost use Rattle.tx_desc.specs.Counts.{Agrees, HasRoom, KeepsCounts, others_of};
 ghost use Rattle.tx_desc.specs.Descriptions.{HasDescs, IsGone, changed_at, with_more, with_fewer};
 ghost use Rattle.tx_desc.specs.Outcomes.{RunsWith, given_up, pipe_outcome, dup_outcome, dup2_outcome, close_outcome, nonblock_outcome};
 ghost use Rattle.tx_desc.specs.Places.{named_in};
-ghost use Rattle.tx_desc.specs.Plans.{AreFree, AreInRange, answer_of, put_names, put_descs, pipe_puts, dup_puts, dup2_puts, rename_puts, close_puts, nonblock_puts};
+ghost use Rattle.tx_desc.specs.Plans.{AreFree, AreInRange, RenamesOf, answer_of, put_names, put_descs, pipe_puts, dup_puts, dup2_puts, rename_puts, close_puts, nonblock_puts};
 
 use crate::descs::Descs;
 use crate::given::{Given, Renamed};
@@ -37,6 +37,7 @@ impl FdTable {
             HasDescs (before_sends (pipe_effect p pipe.0 read.0 write.0 me S) S) (put_descs (pipe_puts result).descs descs) }
         ensures counts { (descs : List (Option Opened)) → AreFree read.0 write.0 descs →
             KeepsCounts self.now (put_names (pipe_puts result).names self.now) descs (put_descs (pipe_puts result).descs descs) }
+        ensures named { IfOk result (λ plan. (plan.read.number ≡ read) × (plan.write.number ≡ write)) }
         ensures numbers { AreInRange (pipe_puts result) }
     {
         self.sized();
@@ -75,6 +76,7 @@ impl FdTable {
         ensures descriptions { (p : ℕ) (me : Process) (S : State) → me.descriptors ≡ self.now → HasDescs S descs.now →
             HasDescs (before_sends (dup_effect p me (named me (descriptor fd))) S) (put_descs (dup_puts result).descs descs.now) }
         ensures counts { KeepsCounts self.now (put_names (dup_puts result).names self.now) descs.now (put_descs (dup_puts result).descs descs.now) }
+        ensures named { IfOk result (λ plan. named_in self.now (descriptor fd) ≡ Some plan.desc.number.0) }
         ensures numbers { AreInRange (dup_puts result) }
     {
         self.sized();
@@ -108,6 +110,7 @@ impl FdTable {
             HasDescs (before_sends (dup2_effect p (descriptor fd) (descriptor other) me S) S) (put_descs (dup2_puts result).descs descs.now) }
         ensures counts { KeepsCounts self.now (put_names (dup2_puts result).names self.now) descs.now (put_descs (dup2_puts result).descs descs.now) }
         ensures gone { IfOk result (λ plan. IsGone plan.renamed.given descs.now (put_descs (dup2_puts result).descs descs.now)) }
+        ensures changed { IfOk result (λ plan. RenamesOf (named_in self.now (descriptor fd)) (named_in self.now (descriptor other)) plan.rename) }
         ensures numbers { AreInRange (dup2_puts result) }
     {
         self.sized();
@@ -143,6 +146,7 @@ impl FdTable {
             HasDescs (before_sends (close_effect p (descriptor fd) me S) S) (put_descs (close_puts result).descs descs.now) }
         ensures counts { KeepsCounts self.now (put_names (close_puts result).names self.now) descs.now (put_descs (close_puts result).descs descs.now) }
         ensures gone { IfOk result (λ plan. IsGone (Some plan.given) descs.now (put_descs (close_puts result).descs descs.now)) }
+        ensures named { IfOk result (λ plan. named_in self.now (descriptor fd) ≡ Some plan.desc.number.0) }
         ensures numbers { AreInRange (close_puts result) }
     {
         self.sized();
@@ -171,6 +175,7 @@ impl FdTable {
         ensures descriptions { (p : ℕ) (me : Process) (S : State) → me.descriptors ≡ self.now → HasDescs S descs.now →
             HasDescs (before_sends (nonblock_effect p on me (named me (descriptor fd)) S) S) (put_descs (nonblock_puts result).descs descs.now) }
         ensures counts { KeepsCounts [] [] descs.now (put_descs (nonblock_puts result).descs descs.now) }
+        ensures named { IfOk result (λ plan. named_in self.now (descriptor fd) ≡ Some plan.number.0) }
         ensures numbers { AreInRange (nonblock_puts result) }
     {
         self.sized();
@@ -194,6 +199,7 @@ impl FdTable {
         ensures after { put_descs (rename_puts result.rename).descs descs.now
             ≡ changed_at (with_fewer 1) (slice_index_or self.now target None) (changed_at (with_more 1) (Some d.0) descs.now) }
         ensures gone { IsGone result.renamed.given descs.now (put_descs (rename_puts result.rename).descs descs.now) }
+        ensures changed { RenamesOf (Some d.0) (slice_index_or self.now target None) result.rename }
         ensures numbers { AreInRange (rename_puts result.rename) }
     {
         self.sized();
