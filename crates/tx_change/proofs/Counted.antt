@@ -103,18 +103,24 @@ counts_removed parts n ended there agree here over =
     (λ others a. subst (λ (ts : List Descriptors). Agrees (ts ++ others) parts.descs) (ap table_in here ∙ ended_none ended.status ended.descriptors over) a)
 
 -- a part that is no status and no descriptor
+pub names_same : (proc : Proc) (pid : Pid) (part : ProcPart) → IsNameless (Part pid part) →
+    ((edited_once proc part).status ≡ proc.status) × ((edited_once proc part).descriptors ≡ proc.descriptors)
+names_same proc pid (Status status) free = absurd free
+names_same proc pid (Descriptor number name) free = absurd free
+names_same proc pid (Regs regs) free = (refl, refl)
+names_same proc pid (Parent parent) free = (refl, refl)
+names_same proc pid (Cred cred) free = (refl, refl)
+names_same proc pid (Page number page) free = (refl, refl)
+names_same proc pid (Mask mask) free = (refl, refl)
+names_same proc pid (Action signo action) free = (refl, refl)
+names_same proc pid (Pending set) free = (refl, refl)
+names_same proc pid (Queued place entry) free = (refl, refl)
+names_same proc pid (Frame frame) free = (refl, refl)
+
 same_table : (proc : Proc) (pid : Pid) (part : ProcPart) → IsNameless (Part pid part) → table_in (Some (edited_once proc part)) ≡ table_in (Some proc)
-same_table proc pid (Status status) free = absurd free
-same_table proc pid (Descriptor number name) free = absurd free
-same_table proc pid (Regs regs) free = refl
-same_table proc pid (Parent parent) free = refl
-same_table proc pid (Cred cred) free = refl
-same_table proc pid (Page number page) free = refl
-same_table proc pid (Mask mask) free = refl
-same_table proc pid (Action signo action) free = refl
-same_table proc pid (Pending set) free = refl
-same_table proc pid (Queued place entry) free = refl
-same_table proc pid (Frame frame) free = refl
+same_table proc pid part free =
+    let same = names_same proc pid part free in
+    ap₂ (λ (status : Option ℕ) (table : Descriptors). if is_some status then [] else table ∷ []) same.0 same.1
 
 pub same_table_in : (slot : Option Proc) (pid : Pid) (part : ProcPart) → IsNameless (Part pid part) → table_in (option_map (λ proc. edited_once proc part) slot) ≡ table_in slot
 same_table_in None pid part free = refl

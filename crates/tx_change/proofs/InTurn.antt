@@ -1,13 +1,13 @@
 -- What changes in turn do to process numbers, to descriptions and to the counts of names.
-use Rattle.std.proofs.Common.{◌≡◌, ◌≢◌, ℕ, ◌+◌, Bool, true, false, List, [], ◌∷◌, ◌++◌, Option, Some, None, is_some, option_map, if◌then◌else◌, ◌==◌, length, slice_set, arith, refl, sym, ap, subst, ◌∙◌, eq-eqb, eqb-true}
+use Rattle.std.proofs.Common.{◌≡◌, ◌≢◌, ℕ, ◌+◌, Bool, true, false, List, [], ◌∷◌, ◌++◌, Option, Some, None, is_some, option_map, if◌then◌else◌, ◌==◌, length, slice_set, arith, refl, sym, ap, ap₂, subst, ◌∙◌, eq-eqb, eqb-true}
 use Rattle.std.proofs.lemmas.Bool.{ne_eqb}
 use Rattle.tx_base.specs.Slots.{slot_at}
 use Rattle.tx_base.specs.declared.names.Pid.{Pid}
 use Rattle.tx_base.proofs.SlotFacts.{slot_at-with_slot}
 use Rattle.tx_change.proofs.Applied.{still_sized, length-applied, AreNamed-sized, AreWithin-append}
-use Rattle.tx_change.proofs.Counted.{plain, table_in, same_table_in}
+use Rattle.tx_change.proofs.Counted.{plain, table_in, names_same, same_table_in}
 use Rattle.tx_change.proofs.Tables.{split, others_same}
-use Rattle.tx_change.specs.Counts.{tables_of, CountsAgree, counted_in, slot_after, descs_after, IsNameless, IsNamesOf, AreNamesOf, name_changes, desc_changes, with_put}
+use Rattle.tx_change.specs.Counts.{tables_of, CountsAgree, counted_in, slot_after, descs_after, IsNameless, AreNameless, IsNamesOf, AreNamesOf, name_changes, desc_changes, with_put}
 use Rattle.tx_change.specs.Exchange.{parts_after, applied, sizes_of, Sizes, IsPid, IsNamed, AreWithin, AreNamed}
 use Rattle.tx_change.specs.declared.change.Change.{Change}
 use Rattle.tx_change.specs.declared.change.Change.TheVariants.{Slot, Part, Description, Pipe}
@@ -15,7 +15,7 @@ use Rattle.tx_change.specs.declared.parts.Parts.{Parts}
 use Rattle.tx_desc.proofs.Counting.{names-cons, keeps_over}
 use Rattle.tx_desc.specs.Counts.{Agrees, count_in, names_in, KeepsCounts, others_below, others_of}
 use Rattle.tx_desc.specs.Places.{Descriptors}
-use Rattle.tx_desc.specs.Plans.{AreFds, AreNumbers, put_descs}
+use Rattle.tx_desc.specs.Plans.{AreFds, AreNumbers, put_names, put_descs}
 use Rattle.tx_desc.specs.declared.opened.Opened.{Opened}
 use Rattle.tx_desc.specs.declared.plans.NewName.{NewName}
 use Rattle.tx_desc.specs.declared.plans.NewDesc.{NewDesc}
@@ -217,3 +217,98 @@ plans_in_turn pid names descs changes slot before = (
       ∙ ap (descs_after changes) (descs_append (name_changes pid names) (desc_changes descs) before
       ∙ descs_descs descs (descs_after (name_changes pid names) before) ∙ ap (put_descs descs) (descs_names pid names before)),
 )
+
+-- changes that name nothing
+
+nameless_of : (n : ℕ) (change : Change) → IsNameless change → IsNamesOf n change
+nameless_of n (Slot pid slot) free = absurd free
+nameless_of n (Description number opened) free = absurd free
+nameless_of n (Pipe number part) free = tt
+nameless_of n (Part pid (Status status)) free = absurd free
+nameless_of n (Part pid (Descriptor number name)) free = absurd free
+nameless_of n (Part pid (Regs regs)) free = tt
+nameless_of n (Part pid (Parent parent)) free = tt
+nameless_of n (Part pid (Cred cred)) free = tt
+nameless_of n (Part pid (Page number page)) free = tt
+nameless_of n (Part pid (Mask mask)) free = tt
+nameless_of n (Part pid (Action signo action)) free = tt
+nameless_of n (Part pid (Pending set)) free = tt
+nameless_of n (Part pid (Queued place entry)) free = tt
+nameless_of n (Part pid (Frame frame)) free = tt
+
+others_of_none : (n : ℕ) (changes : List Change) → AreNameless changes → AreNamesOf n changes
+others_of_none n [] free = tt
+others_of_none n (change ∷ changes) free = (nameless_of n change free.0, others_of_none n changes free.1)
+
+counted_part : (b : Bool) (pid : Pid) (part : ProcPart) (slot : Option Proc) → IsNameless (Part pid part) →
+    counted_in (if b then option_map (λ proc. edited_once proc part) slot else slot) ≡ counted_in slot
+counted_part false pid part slot free = refl
+counted_part true pid part None free = refl
+counted_part true pid part (Some proc) free =
+    let same = names_same proc pid part free in
+    ap₂ (λ (status : Option ℕ) (table : Descriptors). if is_some status then [] else table) same.0 same.1
+
+counted_once : (n : ℕ) (change : Change) (slot : Option Proc) → IsNameless change → counted_in (slot_once n change slot) ≡ counted_in slot
+unfolding slot_once
+counted_once n (Slot pid new) slot free = absurd free
+counted_once n (Description number opened) slot free = absurd free
+counted_once n (Pipe number part) slot free = refl
+counted_once n (Part pid part) slot free = counted_part (n == pid.0) pid part slot free
+
+counted_after : (n : ℕ) (changes : List Change) (slot : Option Proc) → AreNameless changes → counted_in (slot_after n changes slot) ≡ counted_in slot
+counted_after n [] slot free = refl
+counted_after n (change ∷ changes) slot free =
+    ap counted_in (slot_first n change changes slot) ∙ counted_after n changes (slot_once n change slot) free.1 ∙ counted_once n change slot free.0
+
+descs_stay : (changes : List Change) (descs : List (Option Opened)) → AreNameless changes → descs_after changes descs ≡ descs
+descs_stay [] descs free = refl
+descs_stay (Slot pid new ∷ changes) descs free = absurd free.0
+descs_stay (Part pid part ∷ changes) descs free = descs_stay changes descs free.1
+descs_stay (Description number opened ∷ changes) descs free = absurd free.0
+descs_stay (Pipe number part ∷ changes) descs free = descs_stay changes descs free.1
+
+-- changes that leave these descriptors and descriptions
+counts_left : (parts : Parts) (changes : List Change) (n : ℕ) (table new : Descriptors) (after : List (Option Opened)) → IsPid (sizes_of parts) n → AreNamed parts changes →
+    AreNamesOf n changes → CountsAgree parts → counted_in (slot_at parts.procs n) ≡ table → counted_in (slot_after n changes (slot_at parts.procs n)) ≡ new →
+    descs_after changes parts.descs ≡ after → KeepsCounts table new parts.descs after → CountsAgree (applied parts changes)
+counts_left parts changes n table new after there named of agree first last left keeps =
+    counts_in_turn parts changes n there named of agree
+    (subst (λ (t : Descriptors). KeepsCounts t (counted_in (slot_after n changes (slot_at parts.procs n))) parts.descs (descs_after changes parts.descs)) (sym first)
+    (subst (λ (t : Descriptors). KeepsCounts table t parts.descs (descs_after changes parts.descs)) (sym last)
+    (subst (λ (descs : List (Option Opened)). KeepsCounts table new parts.descs descs) (sym left) keeps)))
+
+runs_counted : (proc : Proc) → proc.status ≡ None → counted_in (Some proc) ≡ proc.descriptors
+runs_counted proc runs = ap (λ (status : Option ℕ). if is_some status then [] else proc.descriptors) runs
+
+pub counts_planned : (parts : Parts) (pid : Pid) (proc : Proc) (names : List NewName) (descs : List NewDesc) (others : List Change) → IsPid (sizes_of parts) pid.0 →
+    length parts.descs ≡ 64 → AreFds names → AreNumbers descs → AreNamed parts others → AreNameless others → CountsAgree parts →
+    slot_at parts.procs pid.0 ≡ Some proc → proc.status ≡ None →
+    KeepsCounts proc.descriptors (put_names names proc.descriptors) parts.descs (put_descs descs parts.descs) →
+    CountsAgree (applied parts (name_changes pid names ++ desc_changes descs ++ others))
+counts_planned parts pid proc names descs others there full fds numbers named free agree here runs keeps =
+    let planned = name_changes pid names ++ desc_changes descs in
+    let good = plans_are_named parts pid names descs there full fds numbers in
+    let leaves = plans_in_turn pid names descs others (slot_at parts.procs pid.0) parts.descs in
+    counts_left parts (planned ++ others) pid.0 proc.descriptors (put_names names proc.descriptors) (put_descs descs parts.descs) there
+    (AreWithin-append (sizes_of parts) planned others good.0 named) (of_append pid.0 planned others good.1 (others_of_none pid.0 others free)) agree
+    (ap counted_in here ∙ runs_counted proc runs)
+    (ap counted_in leaves.0 ∙ counted_after pid.0 others (option_map (with_put names) (slot_at parts.procs pid.0)) free
+    ∙ ap (λ (slot : Option Proc). counted_in (option_map (with_put names) slot)) here ∙ runs_counted (with_put names proc) runs)
+    (leaves.1 ∙ descs_stay others (put_descs descs parts.descs) free) keeps
+
+pub counts_replaced : (parts : Parts) (pid : Pid) (slot : Option Proc) (descs : List NewDesc) (others : List Change) → IsPid (sizes_of parts) pid.0 →
+    length parts.descs ≡ 64 → AreNumbers descs → AreNamed parts others → AreNameless others → CountsAgree parts →
+    KeepsCounts (counted_in (slot_at parts.procs pid.0)) (counted_in slot) parts.descs (put_descs descs parts.descs) →
+    CountsAgree (applied parts (desc_changes descs ++ Slot pid slot ∷ others))
+counts_replaced parts pid slot descs others there full numbers named free agree keeps =
+    let last = Slot pid slot ∷ others in
+    let good = plans_are_named parts pid [] descs there full tt numbers in
+    let old = slot_at parts.procs pid.0 in
+    let leaves = plans_in_turn pid [] descs last old parts.descs in
+    counts_left parts (desc_changes descs ++ last) pid.0 (counted_in old) (counted_in slot) (put_descs descs parts.descs) there
+    (AreWithin-append (sizes_of parts) (desc_changes descs) last good.0 (there, named)) (of_append pid.0 (desc_changes descs) last good.1 (refl, others_of_none pid.0 others free)) agree
+    refl
+    (ap counted_in leaves.0
+    ∙ ap (λ (b : Bool). counted_in (slot_after pid.0 others (if b then slot else option_map (with_put []) old))) (eq-eqb pid.0 pid.0 refl)
+    ∙ counted_after pid.0 others slot free)
+    (leaves.1 ∙ descs_stay others (put_descs descs parts.descs) free) keeps

@@ -151,6 +151,26 @@ PlansInTurn = (pid : Pid) (names : List NewName) (descs : List NewDesc) (changes
     (slot_after pid.0 (name_changes pid names ++ desc_changes descs ++ changes) slot ≡ slot_after pid.0 changes (option_map (with_put names) slot))
     × (descs_after (name_changes pid names ++ desc_changes descs ++ changes) before ≡ descs_after changes (put_descs descs before))
 
+-- the changes are of nothing which names or is named
+abbrev pub AreNameless : List Change → Type 0
+AreNameless [] = Unit {0}
+AreNameless (change ∷ changes) = IsNameless change × AreNameless changes
+
+-- a call's plan of the names of a process that runs and of descriptions, before changes that name nothing
+abbrev pub CountsPlanned : Type 0
+CountsPlanned = (parts : Parts) (pid : Pid) (proc : Proc) (names : List NewName) (descs : List NewDesc) (others : List Change) → IsPid (sizes_of parts) pid.0 →
+    length parts.descs ≡ 64 → AreFds names → AreNumbers descs → AreNamed parts others → AreNameless others → CountsAgree parts →
+    slot_at parts.procs pid.0 ≡ Some proc → proc.status ≡ None →
+    KeepsCounts proc.descriptors (put_names names proc.descriptors) parts.descs (put_descs descs parts.descs) →
+    CountsAgree (applied parts (name_changes pid names ++ desc_changes descs ++ others))
+
+-- a plan of descriptions for a process that comes to a number, or ends there, before changes that name nothing
+abbrev pub CountsReplaced : Type 0
+CountsReplaced = (parts : Parts) (pid : Pid) (slot : Option Proc) (descs : List NewDesc) (others : List Change) → IsPid (sizes_of parts) pid.0 →
+    length parts.descs ≡ 64 → AreNumbers descs → AreNamed parts others → AreNameless others → CountsAgree parts →
+    KeepsCounts (counted_in (slot_at parts.procs pid.0)) (counted_in slot) parts.descs (put_descs descs parts.descs) →
+    CountsAgree (applied parts (desc_changes descs ++ Slot pid slot ∷ others))
+
 -- what the calls of tx_desc on one descriptor of a process ask, open or not
 abbrev pub RoomForName : Type 0
 RoomForName = (parts : Parts) (n : ℕ) (table : Descriptors) (fd : Option ℕ) (room : ℕ) → room ≤ 16 → IsPid (sizes_of parts) n → CountsAgree parts → HaveAllPlaces parts →

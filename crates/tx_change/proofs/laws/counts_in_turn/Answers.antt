@@ -1,4 +1,4 @@
-use Rattle.tx_change.proofs.InTurn.{slot_in_turn, descs_in_turn, counts_in_turn, plans_are_named, plans_in_turn}
+use Rattle.tx_change.proofs.InTurn.{slot_in_turn, descs_in_turn, counts_in_turn, plans_are_named, plans_in_turn, counts_planned, counts_replaced}
 use Rattle.tx_change.proofs.laws.counts_in_turn.Goals as goal
 
 pub returns-clause-slot : goal.returns-clause-slot
@@ -15,3 +15,9 @@ returns-clause-named c = plans_are_named
 
 pub returns-clause-planned : goal.returns-clause-planned
 returns-clause-planned c = plans_in_turn
+
+pub returns-clause-call : goal.returns-clause-call
+returns-clause-call c = counts_planned
+
+pub returns-clause-process : goal.returns-clause-process
+returns-clause-process c = counts_replaced
