@@ -13,10 +13,10 @@ use Rattle.tx_change.specs.States.{state_of}
 use Rattle.tx_change.specs.declared.change.Change.{Change}
 use Rattle.tx_change.specs.declared.change.Change.TheVariants.{Slot, Part, Description, Pipe}
 use Rattle.tx_change.specs.declared.parts.Parts.{Parts}
-use Rattle.tx_desc.proofs.Counting.{agrees_same}
+use Rattle.tx_desc.proofs.Counting.{agrees_same, backed_room}
 use Rattle.tx_desc.proofs.Totals.{room, none_agrees, names-empty}
-use Rattle.tx_desc.specs.Counts.{Agrees, IsBacked, count_in, names_in, table_of, others_below, others_of}
-use Rattle.tx_desc.specs.Places.{Descriptors}
+use Rattle.tx_desc.specs.Counts.{Agrees, HasRoom, IsBacked, count_in, names_in, table_of, others_below, others_of}
+use Rattle.tx_desc.specs.Places.{Descriptors, named_in}
 use Rattle.tx_desc.specs.declared.opened.Opened.{Opened}
 use Rattle.tx_model.specs.State.{State, booted, booted_process, is_between}
 use Rattle.tx_proc.specs.Parts.{edited_once}
@@ -26,10 +26,10 @@ use Rattle.tx_proc.specs.declared.part.Part.TheVariants.{Answer, Register, Paren
 use Rattle.tx_proc.specs.declared.proc.Proc.{Proc}
 
 -- the parts as a state, of which nothing is held
-abbrev plain : Parts → State
+abbrev pub plain : Parts → State
 plain parts = state_of (λ starter. []) parts
 
-abbrev table_in : Option Proc → List Descriptors
+abbrev pub table_in : Option Proc → List Descriptors
 table_in slot = table_of (process_in slot)
 
 -- the names that all have are those of one process and of the others
@@ -43,7 +43,7 @@ others_stay : (parts : Parts) (n : ℕ) (slot : Option Proc) (descs : List (Opti
 others_stay parts n slot descs there =
     let sized : length (with_slot parts.procs n slot) ≡ length parts.procs = length-with_slot parts.procs n slot in
     let new : State = plain (with_names n slot descs parts) in
-    others_same n (length (with_slot parts.procs n slot) + 1) new (plain parts) (λ q apart. ap process_in (slot_other parts.procs n q slot there.low apart))
+    others_same n (length (with_slot parts.procs n slot) + 1) new (plain parts) (λ q apart. ap table_in (slot_other parts.procs n q slot there.low apart))
     ∙ ap (λ (w : ℕ). others_below n (w + 1) (plain parts)) sized
 
 -- a process and the descriptions are replaced, in a way that keeps the counts whatever the others name
@@ -103,21 +103,27 @@ counts_removed parts n ended there agree here over =
     (λ others a. subst (λ (ts : List Descriptors). Agrees (ts ++ others) parts.descs) (ap table_in here ∙ ended_none ended.status ended.descriptors over) a)
 
 -- a part that is no status and no descriptor
-same_table : (proc : Proc) (pid : Pid) (part : ProcPart) → IsNameless (Part pid part) → table_in (Some (edited_once proc part)) ≡ table_in (Some proc)
-same_table proc pid (Status status) free = absurd free
-same_table proc pid (Descriptor number name) free = absurd free
-same_table proc pid (Answer answer) free = refl
-same_table proc pid (Register kept) free = refl
-same_table proc pid (Parent parent) free = refl
-same_table proc pid (Cred cred) free = refl
-same_table proc pid (Page number page) free = refl
-same_table proc pid (Mask mask) free = refl
-same_table proc pid (Action signo action) free = refl
-same_table proc pid (Pending set) free = refl
-same_table proc pid (Queued place entry) free = refl
-same_table proc pid (Frame frame) free = refl
+pub names_same : (proc : Proc) (pid : Pid) (part : ProcPart) → IsNameless (Part pid part) →
+    ((edited_once proc part).status ≡ proc.status) × ((edited_once proc part).descriptors ≡ proc.descriptors)
+names_same proc pid (Status status) free = absurd free
+names_same proc pid (Descriptor number name) free = absurd free
+names_same proc pid (Answer answer) free = (refl, refl)
+names_same proc pid (Register kept) free = (refl, refl)
+names_same proc pid (Parent parent) free = (refl, refl)
+names_same proc pid (Cred cred) free = (refl, refl)
+names_same proc pid (Page number page) free = (refl, refl)
+names_same proc pid (Mask mask) free = (refl, refl)
+names_same proc pid (Action signo action) free = (refl, refl)
+names_same proc pid (Pending set) free = (refl, refl)
+names_same proc pid (Queued place entry) free = (refl, refl)
+names_same proc pid (Frame frame) free = (refl, refl)
 
-same_table_in : (slot : Option Proc) (pid : Pid) (part : ProcPart) → IsNameless (Part pid part) → table_in (option_map (λ proc. edited_once proc part) slot) ≡ table_in slot
+same_table : (proc : Proc) (pid : Pid) (part : ProcPart) → IsNameless (Part pid part) → table_in (Some (edited_once proc part)) ≡ table_in (Some proc)
+same_table proc pid part free =
+    let same = names_same proc pid part free in
+    ap₂ (λ (status : Option ℕ) (table : Descriptors). if is_some status then [] else table ∷ []) same.0 same.1
+
+pub same_table_in : (slot : Option Proc) (pid : Pid) (part : ProcPart) → IsNameless (Part pid part) → table_in (option_map (λ proc. edited_once proc part) slot) ≡ table_in slot
 same_table_in None pid part free = refl
 same_table_in (Some proc) pid part free = same_table proc pid part free
 
@@ -154,6 +160,11 @@ room_for_names parts n table there agree places few here =
     (tables_all (λ (each : Descriptors). length each ≡ 16) (length parts.procs + 1) (plain parts) (λ q. sized_in (slot_at parts.procs q) (places q)))
     (tables_contain n (length parts.procs + 1) (plain parts) table (let high = there.high in omega (arith, high))
     (subst (λ (ts : List Descriptors). Contains ts table) (sym (running_at parts n table here)) (0, omega arith, refl)))
+
+pub room_for_name : (parts : Parts) (n : ℕ) (table : Descriptors) (fd : Option ℕ) (room : ℕ) → room ≤ 16 → IsPid (sizes_of parts) n → CountsAgree parts →
+    HaveAllPlaces parts → length parts.procs ≤ 256 → RunsAt parts n table → HasRoom room (named_in table fd) parts.descs
+room_for_name parts n table fd room less there agree places few here =
+    backed_room fd room 16 table parts.descs less (room_for_names parts n table there agree places few here)
 
 -- the booted parts
 pub counts_booted : (parts : Parts) (width count : ℕ) → plain parts ≡ booted width count → parts.descs ≡ replicate 64 None → CountsAgree parts

@@ -7,3 +7,4 @@ pub mod Booted
 pub mod Own
 pub mod Tables
 pub mod Counted
+pub mod InTurn

@@ -39,13 +39,13 @@ split d p (suc n) S below = elim (cases_Bool (n == p)) [
       omega (arith, rest, first, last))
 ]
 
--- the same processes have the same descriptors
-pub others_same : (p n : ℕ) (S T : State) → ((q : ℕ) → q ≢ p → S.procs q ≡ T.procs q) → others_below p n S ≡ others_below p n T
+-- processes that have the same descriptors
+pub others_same : (p n : ℕ) (S T : State) → ((q : ℕ) → q ≢ p → table_of (S.procs q) ≡ table_of (T.procs q)) → others_below p n S ≡ others_below p n T
 unfolding others_below
 others_same p zero S T same = refl
 others_same p (suc n) S T same = elim (cases_Bool (n == p)) [
   | inl e ↦ rw e (others_same p n S T same)
-  | inr e ↦ rw e (ap₂ (λ (x : Option Process) (ts : List Descriptors). table_of x ++ ts) (same n (eqb-false n p e)) (others_same p n S T same))
+  | inr e ↦ rw e (ap₂ (λ (ts us : List Descriptors). ts ++ us) (same n (eqb-false n p e)) (others_same p n S T same))
 ]
 
 pub tables_same : (n : ℕ) (S T : State) → ((q : ℕ) → table_of (S.procs q) ≡ table_of (T.procs q)) → tables_below n S ≡ tables_below n T

@@ -1,5 +1,5 @@
 //! The laws of exchanges, as the contracts of functions that do nothing.
-ghost use Rattle.tx_change.specs.Counts.{CountsKept, CountsForked, CountsEnded, CountsRemoved, CountsElsewhere, RoomForNames};
+ghost use Rattle.tx_change.specs.Counts.{CountsKept, CountsForked, CountsEnded, CountsRemoved, CountsElsewhere, SlotInTurn, DescsInTurn, CountsInTurn, PlansAreNamed, PlansInTurn, CountsPlanned, CountsReplaced, RoomForNames, RoomForName};
 ghost use Rattle.tx_change.specs.Laws.{ApplyThenRevert, RevertThenApply, TwiceIsNothing, ExchangesBack, NothingElse, Commute, ChangesState, ChangesStateInTurn, NamesItsObject};
 
 /// Two exchanges of one part are nothing: the parts and the change come back.
@@ -55,8 +55,22 @@ pub fn counts_agree()
     ensures elsewhere { CountsElsewhere }
 {}
 
+/// What changes in turn do to a process number and to the descriptions, and so to the counts: of a
+/// call, a fork, an end or a wait, as the plans of names and descriptions make them. `call` is what
+/// a kernel's call needs, `process` its fork, end and wait.
+pub fn counts_in_turn()
+    ensures slot { SlotInTurn }
+    ensures descs { DescsInTurn }
+    ensures counts { CountsInTurn }
+    ensures named { PlansAreNamed }
+    ensures planned { PlansInTurn }
+    ensures call { CountsPlanned }
+    ensures process { CountsReplaced }
+{}
+
 /// Where the counts agree, what the calls on the descriptors of a process ask holds of those of
-/// every process that runs.
+/// every process that runs: of all of them, and of one that may be open or not.
 pub fn room_for_names()
-    ensures { RoomForNames }
+    ensures all { RoomForNames }
+    ensures one { RoomForName }
 {}

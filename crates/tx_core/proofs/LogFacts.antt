@@ -5,7 +5,7 @@ use Rattle.tx_base.specs.declared.names.Pid.{Pid}
 use Rattle.tx_change.specs.declared.change.Change.{Change}
 use Rattle.tx_change.specs.declared.change.Change.TheVariants.{Part as SetPart}
 use Rattle.tx_change.specs.declared.parts.Parts.{Parts}
-use Rattle.tx_proc.specs.declared.part.Part.TheVariants.{Regs as SetRegs}
+use Rattle.tx_proc.specs.declared.part.Part.TheVariants.{Answer as SetAnswer}
 use Rattle.tx_proc.specs.declared.proc.Proc.{Proc}
 use Rattle.tx_change.specs.Exchange.{parts_after, exchanged, Sizes, IsWithin, AreWithin}
 use Rattle.tx_change.specs.Own.{edited_by, edited, AreOf}
@@ -61,24 +61,24 @@ pub cut_back : (before between now : List Change) → Extends before between →
 cut_back before between now more cut = cut ∙ ap (take (length before)) more.added ∙ take_at before more.more (length before) refl
 
 -- an answer is a plan
-pub answer_plans : (pid : Pid) (p : Proc) (ret : ℤ) (before now : List Change) → now ≡ before ++ SetPart pid (SetRegs (answered ret p.regs)) ∷ [] → Plans pid.0 p before now ret (only_answers p ret)
+pub answer_plans : (pid : Pid) (p : Proc) (ret : ℤ) (before now : List Change) → now ≡ before ++ SetPart pid (SetAnswer (next_answer ret (answer_in (Some p)))) ∷ [] → Plans pid.0 p before now ret (only_answers p ret)
 answer_plans pid p ret before now added = record {
-  plan = SetPart pid (SetRegs (answered ret p.regs)) ∷ [];
+  plan = SetPart pid (SetAnswer (next_answer ret (answer_in (Some p)))) ∷ [];
   added = added;
   gives = record { own = ((refl, tt), tt); proc = refl; answer = refl };
 }
 
 -- new pages, and then an answer
-pub pages_plan : (pid : Pid) (p : Proc) (pages : List NewPage) (before between now : List Change) → AreNumbered pages → between ≡ before ++ map (page_change pid) pages → now ≡ between ++ SetPart pid (SetRegs (answered (pos 0) p.regs)) ∷ []
+pub pages_plan : (pid : Pid) (p : Proc) (pages : List NewPage) (before between now : List Change) → AreNumbered pages → between ≡ before ++ map (page_change pid) pages → now ≡ between ++ SetPart pid (SetAnswer (next_answer (pos 0) (answer_in (Some p)))) ∷ []
     → Plans pid.0 p before now (pos 0) (record { memory = with_pages p.space pages; ret = pos 0 })
 pages_plan pid p pages before between now numbered first last =
-    let regs : List Change = SetPart pid (SetRegs (answered (pos 0) p.regs)) ∷ [] in
+    let regs : List Change = SetPart pid (SetAnswer (next_answer (pos 0) (answer_in (Some p)))) ∷ [] in
     record {
       plan = map (page_change pid) pages ++ regs;
       added = last ∙ ap (λ (xs : List Change). xs ++ regs) first ∙ append_assoc before (map (page_change pid) pages) regs;
       gives = record {
         own = AreOf_append pid.0 (map (page_change pid) pages) regs (pages_own pid pages numbered) ((refl, tt), tt);
-        proc = edited_append p (map (page_change pid) pages) regs ∙ ap (λ (q : Proc). edited_by q (SetPart pid (SetRegs (answered (pos 0) p.regs)))) (pages_edited pid p pages);
+        proc = edited_append p (map (page_change pid) pages) regs ∙ ap (λ (q : Proc). edited_by q (SetPart pid (SetAnswer (next_answer (pos 0) (answer_in (Some p)))))) (pages_edited pid p pages);
         answer = refl;
       };
     }

@@ -12,11 +12,11 @@ use Rattle.tx_base.specs.declared.steps.Step.TheVariants.{Call as Calls, KernelA
 use Rattle.tx_change.specs.Exchange.{parts_after, applied, exchanged, undone, reverted, AreNamed}
 use Rattle.tx_change.specs.declared.change.Change.{Change}
 use Rattle.tx_change.specs.declared.change.Change.TheVariants.{Part as SetPart}
-use Rattle.tx_proc.specs.declared.part.Part.TheVariants.{Regs as SetRegs}
+use Rattle.tx_proc.specs.declared.part.Part.TheVariants.{Answer as SetAnswer}
 use Rattle.tx_change.specs.declared.parts.Parts.{Parts}
 use Rattle.tx_proc.specs.declared.proc.Proc.{Proc}
 use Rattle.tx_core.specs.Content.{IsContent}
-use Rattle.tx_core.specs.Plans.{Gives, Plans, only_answers, regs_in, IsPlainCall, IsRunning, memory_call}
+use Rattle.tx_core.specs.Plans.{Gives, Plans, only_answers, answer_in, IsPlainCall, IsRunning, memory_call}
 use Rattle.tx_core.specs.Undo.{log_in, HasSlot}
 use Rattle.tx_core.specs.Laws.{MachineLaws}
 use Rattle.tx_core.specs.declared.inverse.Inverse.{Inverse}
@@ -127,13 +127,13 @@ abbrev pub led_parts : Content → Pid → Parts
 led_parts k pid = undone k.parts (log_in (slot_at k.logs pid.0))
 
 abbrev pub note_of : Content → Pid → ℤ → Change
-note_of k pid ret = SetPart pid (SetRegs (answered ret (regs_in (slot_at (led_parts k pid).procs pid.0))))
+note_of k pid ret = SetPart pid (SetAnswer (next_answer ret (answer_in (slot_at (led_parts k pid).procs pid.0))))
 
 abbrev pub aborted : Content → Pid → ℤ → Content
 aborted k pid ret = record { parts = parts_after (led_parts k pid) (note_of k pid ret); marks = with_slot k.marks pid.0 None; logs = with_slot k.logs pid.0 None }
 
 abbrev pub abort_inverse : Content → Pid → Mark → Inverse
-abort_inverse k pid m = AbortedLog pid m (reverted k.parts (log_in (slot_at k.logs pid.0))) (regs_in (slot_at (led_parts k pid).procs pid.0)).point (regs_in (slot_at (led_parts k pid).procs pid.0)).ret
+abort_inverse k pid m = AbortedLog pid m (reverted k.parts (log_in (slot_at k.logs pid.0))) (answer_in (slot_at (led_parts k pid).procs pid.0))
 
 pub xabort_from : (laws : MachineLaws) (k new : Content) (pid : Pid) (q : Proc) (m : Mark) (inverse : Inverse) → IsContent k → slot_at k.parts.procs pid.0 ≡ Some q → q.status ≡ None → slot_at k.marks pid.0 ≡ Some m
     → new.parts ≡ parts_after (led_parts k pid) (note_of k pid (negsuc 200)) → new.marks ≡ with_slot k.marks pid.0 None → new.logs ≡ with_slot k.logs pid.0 None → inverse ≡ abort_inverse k pid m

@@ -19,14 +19,14 @@ use Rattle.tx_change.specs.Laws.{HasPlaces, HasPlacesFor}
 use Rattle.tx_change.specs.Own.{edited_by, edited, edited_back, IsOf, AreOf}
 use Rattle.tx_change.specs.declared.change.Change.{Change}
 use Rattle.tx_change.specs.declared.change.Change.TheVariants.{Slot, Part as SetPart, Description, Pipe}
-use Rattle.tx_proc.specs.declared.part.Part.TheVariants.{Regs as SetRegs}
+use Rattle.tx_proc.specs.declared.part.Part.TheVariants.{Answer as SetAnswer}
 use Rattle.tx_proc.specs.Laws.{IsSized}
 use Rattle.tx_proc.specs.Parts.{part_in}
 use Rattle.tx_proc.specs.Processes.{process_of, process_in}
 use Rattle.tx_change.specs.declared.parts.Parts.{Parts}
 use Rattle.tx_proc.specs.declared.proc.Proc.{Proc}
 use Rattle.tx_core.specs.Content.{state_of, kept_in, starter_in, two_parts_of, view_of, IsMarked, IsContent}
-use Rattle.tx_core.specs.Plans.{proc_after, only_answers, regs_in, IsPlainCall, memory_call}
+use Rattle.tx_core.specs.Plans.{proc_after, only_answers, answer_in, IsPlainCall, memory_call}
 use Rattle.tx_core.specs.Steps.{IsNamedBy, IsStep}
 use Rattle.tx_core.specs.Undo.{log_in, last_of, first_of, unnoted, undone_by, HasSlot}
 use Rattle.tx_core.specs.Laws.{MachineLaws}
@@ -331,7 +331,7 @@ module _ (laws : MachineLaws) (k : Content) (pid : Pid) (m : Mark) (i : IsConten
   before = undone k.parts (log_in (slot_at k.logs pid.0))
 
   abbrev note : Change
-  note = SetPart pid (SetRegs (answered ret (regs_in (slot_at (undone k.parts (log_in (slot_at k.logs pid.0))).procs pid.0))))
+  note = SetPart pid (SetAnswer (next_answer ret (answer_in (slot_at (undone k.parts (log_in (slot_at k.logs pid.0))).procs pid.0))))
 
   abort_facts : IsLogged pid.0 m (slot_at k.logs pid.0) (slot_at k.parts.procs pid.0)
   abort_facts = logged pid.0 (slot_at k.marks pid.0) (slot_at k.logs pid.0) (slot_at k.parts.procs pid.0) m (i.marked pid.0) mark
@@ -375,22 +375,20 @@ module _ (laws : MachineLaws) (k : Content) (pid : Pid) (m : Mark) (i : IsConten
       ∙ by (n == pid.0)
     where
       at_p : option_map (λ proc. edited_by proc note) (slot_at before.procs pid.0) ≡ Some stands
-      at_p = ap (λ (x : Option Proc). option_map (λ proc. edited_by proc (SetPart pid (SetRegs (answered ret (regs_in x))))) x) before_at
+      at_p = ap (λ (x : Option Proc). option_map (λ proc. edited_by proc (SetPart pid (SetAnswer (next_answer ret (answer_in x))))) x) before_at
 
       by : (b : Bool) → (if b then Some stands else (if b then Some (edited_back abort_facts.proc old_log) else slot_at k.parts.procs n)) ≡ (if b then Some stands else slot_at k.parts.procs n)
       by true = refl
       by false = refl
 
   -- the change that the abort's inverse makes of the starter is what was there before the note
-  note_back : unnoted (parts_after before note) pid (regs_in (slot_at before.procs pid.0)).point (regs_in (slot_at before.procs pid.0)).ret ≡ change_after before note
+  note_back : unnoted pid (answer_in (slot_at before.procs pid.0)) ≡ change_after before note
   note_back =
-      let led : Proc = edited_back abort_facts.proc old_log in
-      let now : slot_at (parts_after before note).procs pid.0 ≡ Some stands = after_at pid.0 ∙ ap (λ (b : Bool). if b then Some stands else slot_at k.parts.procs pid.0) (eq-eqb pid.0 pid.0 refl) in
-      (λ j. SetPart pid (SetRegs (record { point = (regs_in (before_at j)).point; ret = (regs_in (before_at j)).ret; slots = (regs_in (now j)).slots })))
-      ∙ sym (ap (λ (x : Option Proc). SetPart pid (part_in x (SetRegs (answered ret (regs_in (slot_at before.procs pid.0)))))) before_at)
+      ap (λ (x : Option Proc). SetPart pid (SetAnswer (answer_in x))) before_at
+      ∙ sym (ap (λ (x : Option Proc). SetPart pid (part_in x (SetAnswer (next_answer ret (answer_in (slot_at before.procs pid.0)))))) before_at)
 
   answered_sized : IsSized (edited_back abort_facts.proc old_log) → IsSized stands
-  answered_sized sized = still_sized (edited_back abort_facts.proc old_log) (SetRegs (answered ret (edited_back abort_facts.proc old_log).regs)) sized
+  answered_sized sized = still_sized (edited_back abort_facts.proc old_log) (SetAnswer (next_answer ret (answer_in (Some (edited_back abort_facts.proc old_log))))) sized
 
   stands_calm : has_pending kill_signo (process_in (Some stands)) ≡ false
   stands_calm =
@@ -406,17 +404,17 @@ module _ (laws : MachineLaws) (k : Content) (pid : Pid) (m : Mark) (i : IsConten
   after_pipes n = ap (λ (x : Parts). (state_of x).pipes n) after_parts
 
   pub aborted_done : (step : Step) (status : ℕ) → process_of_step step ≡ pid.0 → IsCase k step (Aborts pid.0 status) (Note pid.0 ret) → IsNamedBy (view_of k) step (TheProc pid.0) → answer (view_of k) step ≡ Aborted status
-      → IsDone k step (Aborted status) (AbortedLog pid m (reverted k.parts (log_in (slot_at k.logs pid.0))) (regs_in (slot_at (undone k.parts (log_in (slot_at k.logs pid.0))).procs pid.0)).point (regs_in (slot_at (undone k.parts (log_in (slot_at k.logs pid.0))).procs pid.0)).ret)
+      → IsDone k step (Aborted status) (AbortedLog pid m (reverted k.parts (log_in (slot_at k.logs pid.0))) (answer_in (slot_at (undone k.parts (log_in (slot_at k.logs pid.0))).procs pid.0)))
       (record {
-        parts = parts_after (undone k.parts (log_in (slot_at k.logs pid.0))) (SetPart pid (SetRegs (answered ret (regs_in (slot_at (undone k.parts (log_in (slot_at k.logs pid.0))).procs pid.0)))));
+        parts = parts_after (undone k.parts (log_in (slot_at k.logs pid.0))) (SetPart pid (SetAnswer (next_answer ret (answer_in (slot_at (undone k.parts (log_in (slot_at k.logs pid.0))).procs pid.0)))));
         marks = with_slot k.marks pid.0 None;
         logs = with_slot k.logs pid.0 None;
       })
   aborted_done step status who case names answered =
       let new : Content = record { parts = parts_after before note; marks = with_slot k.marks pid.0 None; logs = with_slot k.logs pid.0 None } in
-      let noted : Change = unnoted new.parts pid (regs_in (slot_at before.procs pid.0)).point (regs_in (slot_at before.procs pid.0)).ret in
+      let noted : Change = unnoted pid (answer_in (slot_at before.procs pid.0)) in
       let redo : List Change = reverted k.parts old_log in
-      let inverse : Inverse = AbortedLog pid m redo (regs_in (slot_at before.procs pid.0)).point (regs_in (slot_at before.procs pid.0)).ret in
+      let inverse : Inverse = AbortedLog pid m redo (answer_in (slot_at before.procs pid.0)) in
       let in_logs : pid.0 ≤ length k.logs = subst (λ (w : ℕ). pid.0 ≤ w) (sym i.logs) abort_slot.high in
       let in_marks : pid.0 ≤ length k.marks = subst (λ (w : ℕ). pid.0 ≤ w) (sym i.marks) abort_slot.high in
       let width : length new.parts.procs ≡ length k.parts.procs = length-with_slot before.procs pid.0 (option_map (λ proc. edited_by proc note) (slot_at before.procs pid.0)) ∙ before_width in
@@ -458,9 +456,9 @@ module _ (laws : MachineLaws) (k : Content) (pid : Pid) (m : Mark) (i : IsConten
 
 -- a member's sys_xabort
 pub xabort_done : (laws : MachineLaws) (k : Content) (pid : Pid) (q : Proc) (m : Mark) (i : IsContent k) → slot_at k.parts.procs pid.0 ≡ Some q → q.status ≡ None → (mark : slot_at k.marks pid.0 ≡ Some m)
-    → IsDone k (Calls pid SysXabort) (Aborted called_by_status) (AbortedLog pid m (reverted k.parts (log_in (slot_at k.logs pid.0))) (regs_in (slot_at (undone k.parts (log_in (slot_at k.logs pid.0))).procs pid.0)).point (regs_in (slot_at (undone k.parts (log_in (slot_at k.logs pid.0))).procs pid.0)).ret)
+    → IsDone k (Calls pid SysXabort) (Aborted called_by_status) (AbortedLog pid m (reverted k.parts (log_in (slot_at k.logs pid.0))) (answer_in (slot_at (undone k.parts (log_in (slot_at k.logs pid.0))).procs pid.0)))
     (record {
-      parts = parts_after (undone k.parts (log_in (slot_at k.logs pid.0))) (SetPart pid (SetRegs (answered (negsuc 200) (regs_in (slot_at (undone k.parts (log_in (slot_at k.logs pid.0))).procs pid.0)))));
+      parts = parts_after (undone k.parts (log_in (slot_at k.logs pid.0))) (SetPart pid (SetAnswer (next_answer (negsuc 200) (answer_in (slot_at (undone k.parts (log_in (slot_at k.logs pid.0))).procs pid.0)))));
       marks = with_slot k.marks pid.0 None;
       logs = with_slot k.logs pid.0 None;
     })
@@ -477,9 +475,9 @@ kernel_is : (k : Content) → IsContent k → (s : ℕ) → kernel_status (view_
 kernel_is k i s = ap (λ (b : Bool). if b then 203 else 202) (not_doomed k i s)
 
 pub kernel_done : (laws : MachineLaws) (k : Content) (pid : Pid) (m : Mark) (i : IsContent k) → (mark : slot_at k.marks pid.0 ≡ Some m)
-    → IsDone k (KernelAbort pid) (Aborted 202) (AbortedLog pid m (reverted k.parts (log_in (slot_at k.logs pid.0))) (regs_in (slot_at (undone k.parts (log_in (slot_at k.logs pid.0))).procs pid.0)).point (regs_in (slot_at (undone k.parts (log_in (slot_at k.logs pid.0))).procs pid.0)).ret)
+    → IsDone k (KernelAbort pid) (Aborted 202) (AbortedLog pid m (reverted k.parts (log_in (slot_at k.logs pid.0))) (answer_in (slot_at (undone k.parts (log_in (slot_at k.logs pid.0))).procs pid.0)))
     (record {
-      parts = parts_after (undone k.parts (log_in (slot_at k.logs pid.0))) (SetPart pid (SetRegs (answered (negsuc 201) (regs_in (slot_at (undone k.parts (log_in (slot_at k.logs pid.0))).procs pid.0)))));
+      parts = parts_after (undone k.parts (log_in (slot_at k.logs pid.0))) (SetPart pid (SetAnswer (next_answer (negsuc 201) (answer_in (slot_at (undone k.parts (log_in (slot_at k.logs pid.0))).procs pid.0)))));
       marks = with_slot k.marks pid.0 None;
       logs = with_slot k.logs pid.0 None;
     })

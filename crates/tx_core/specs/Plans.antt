@@ -1,5 +1,5 @@
 -- What a plan makes of the process that it is for.
-use Rattle.std.specs.Prelude.{◌≡◌, ℕ, List, ◌++◌, Option, Some, None, ℤ}
+use Rattle.std.specs.Prelude.{◌≡◌, ℕ, List, ◌++◌, Option, Some, None, ℤ, pos}
 use Rattle.tx_change.specs.Own.{edited, AreOf}
 use Rattle.tx_change.specs.declared.change.Change.{Change}
 use Rattle.tx_change.specs.declared.change.Change.TheVariants.{Part}
@@ -8,8 +8,7 @@ use Rattle.tx_proc.specs.declared.proc.Proc.{Proc}
 use Rattle.tx_base.specs.declared.marks.Mark.{Mark}
 use Rattle.tx_base.specs.declared.names.Pid.{Pid}
 use Rattle.tx_base.specs.declared.steps.Call.{Call}
-use Rattle.tx_base.specs.declared.names.Regs.{Regs}
-use Rattle.tx_model.specs.State.{first_registers}
+use Rattle.tx_proc.specs.declared.part.Answer.{Answer}
 use Rattle.tx_core.specs.Built.{IsBuiltCall}
 use Rattle.tx_core.specs.declared.act.CallKind.{CallKind}
 use Rattle.tx_core.specs.declared.act.CallKind.TheVariants.{OfProcess, Begins, Ends, Aborts}
@@ -19,7 +18,7 @@ use Rattle.tx_model.specs.Numbers.{failing}
 use Rattle.tx_model.specs.Pages.{Remembered, page_of, map_page, unmap_page, protect_page, store_bytes, load_byte}
 use Rattle.tx_base.specs.declared.errors.Errno.TheVariants.{InvalidArgument}
 use Rattle.tx_base.specs.declared.steps.Call.TheVariants.{Map, Unmap, Protect, Store, Load}
-use Rattle.tx_model.specs.Effects.{answered}
+use Rattle.tx_model.specs.Effects.{answered, next_point}
 use Rattle.tx_pages.specs.declared.plans.NewPage.{NewPage}
 
 -- the process that the code keeps, as a call leaves it
@@ -61,10 +60,14 @@ pub record Extends (before now : List Change) : Type 0 where
 abbrev pub page_change : Pid → NewPage → Change
 page_change pid new = Part pid (Page new.number new.page)
 
--- the registers of a slot, those of the start where it has no process
-abbrev pub regs_in : Option Proc → Regs
-regs_in None = first_registers
-regs_in (Some p) = p.regs
+-- the point and the answer of a slot, those of the start where it has no process
+abbrev pub answer_in : Option Proc → Answer
+answer_in None = record { point = 0; ret = pos 0 }
+answer_in (Some p) = record { point = p.regs.point; ret = p.regs.ret }
+
+-- what an answer leaves of what was there: it is given at the next point
+abbrev pub next_answer : ℤ → Answer → Answer
+next_answer ret before = record { point = next_point before.point; ret = ret }
 
 -- a call of this kind, by a process with this mark, neither begins, commits nor aborts a transaction
 abbrev pub IsPlainKind : Kind → Option Mark → Type 0

@@ -1,13 +1,12 @@
 -- What an inverse takes back.
-use Rattle.std.specs.Prelude.{◌≡◌, ℕ, ℤ, ◌-◌, ◌≤◌, List, [], ◌∷◌, ◌⊎◌, length, take, drop, Option, Some, None, IsSome}
+use Rattle.std.specs.Prelude.{◌≡◌, ℕ, ◌-◌, ◌≤◌, List, [], ◌∷◌, ◌⊎◌, length, take, drop, Option, Some, None, IsSome}
 use Rattle.tx_base.specs.Slots.{slot_at, with_slot}
 use Rattle.tx_base.specs.declared.names.Pid.{Pid}
 use Rattle.tx_change.specs.Exchange.{parts_after, applied, exchanged, undone, AreNamed}
 use Rattle.tx_change.specs.declared.change.Change.{Change}
 use Rattle.tx_change.specs.declared.change.Change.TheVariants.{Part as SetPart}
-use Rattle.tx_change.specs.declared.parts.Parts.{Parts}
-use Rattle.tx_proc.specs.declared.part.Part.TheVariants.{Regs as SetRegs}
-use Rattle.tx_core.specs.Plans.{regs_in}
+use Rattle.tx_proc.specs.declared.part.Answer.{Answer}
+use Rattle.tx_proc.specs.declared.part.Part.TheVariants.{Answer as SetAnswer}
 use Rattle.tx_core.specs.Content.{IsContent}
 use Rattle.tx_core.specs.declared.inverse.Inverse.{Inverse}
 use Rattle.tx_core.specs.declared.inverse.Inverse.TheVariants.{Outside, Inside, Begun, Committed, Aborted}
@@ -25,8 +24,8 @@ abbrev pub first_of : ℕ → List Change → List Change
 first_of count log = take (length log - count) log
 
 -- the change that puts the starter of an aborted transaction back to this point and answer
-abbrev pub unnoted : Parts → Pid → ℕ → ℤ → Change
-unnoted parts starter point ret = SetPart starter (SetRegs (record { point = point; ret = ret; slots = (regs_in (slot_at parts.procs starter.0)).slots }))
+abbrev pub unnoted : Pid → Answer → Change
+unnoted starter stood = SetPart starter (SetAnswer stood)
 
 -- the changes that an inverse exchanges
 abbrev pub changes_of : Content → Inverse → List Change
@@ -34,7 +33,7 @@ changes_of k (Outside log) = log
 changes_of k (Inside starter count) = last_of count (log_in (slot_at k.logs starter.0))
 changes_of k (Begun starter) = log_in (slot_at k.logs starter.0)
 changes_of k (Committed starter mark log count) = last_of count log
-changes_of k (Aborted starter mark log point ret) = unnoted k.parts starter point ret ∷ log
+changes_of k (Aborted starter mark log stood) = unnoted starter stood ∷ log
 
 -- the content as it was before the step whose inverse this is
 abbrev pub undone_by : Content → Inverse → Content
@@ -53,10 +52,10 @@ undone_by k (Committed starter mark log count) = record {
   marks = with_slot k.marks starter.0 (Some mark);
   logs = with_slot k.logs starter.0 (Some (first_of count log));
 }
-undone_by k (Aborted starter mark log point ret) = record {
-  parts = applied (parts_after k.parts (unnoted k.parts starter point ret)) log;
+undone_by k (Aborted starter mark log stood) = record {
+  parts = applied (parts_after k.parts (unnoted starter stood)) log;
   marks = with_slot k.marks starter.0 (Some mark);
-  logs = with_slot k.logs starter.0 (Some (exchanged (parts_after k.parts (unnoted k.parts starter point ret)) log));
+  logs = with_slot k.logs starter.0 (Some (exchanged (parts_after k.parts (unnoted starter stood)) log));
 }
 
 -- a number has a slot
@@ -72,7 +71,7 @@ GoesWith k (Outside log) = AreNamed k.parts log
 GoesWith k (Inside starter count) = HasSlot k starter.0 × IsSome (slot_at k.logs starter.0) × (count ≤ length (log_in (slot_at k.logs starter.0))) × AreNamed k.parts (log_in (slot_at k.logs starter.0))
 GoesWith k (Begun starter) = HasSlot k starter.0 × IsSome (slot_at k.logs starter.0) × AreNamed k.parts (log_in (slot_at k.logs starter.0))
 GoesWith k (Committed starter mark log count) = HasSlot k starter.0 × (count ≤ length log) × AreNamed k.parts log
-GoesWith k (Aborted starter mark log point ret) = HasSlot k starter.0 × AreNamed k.parts log
+GoesWith k (Aborted starter mark log stood) = HasSlot k starter.0 × AreNamed k.parts log
 
 -- the content is as the step left it whose inverse this is: it leads back to what a machine may keep
 pub record LeadsBack (k : Content) (inverse : Inverse) : Type 0 where

@@ -2,7 +2,7 @@
 ghost use Rattle.std.specs.Prelude.{◌≡◌, ◌<◌, ◌++◌, ◌∷◌, [], map, pos, IfOk, OnOk, OnErr, slice_set};
 ghost use Rattle.tx_base.specs.declared.steps.Call.TheVariants.{Map, Unmap, Protect, Store, Load};
 ghost use Rattle.tx_change.specs.declared.change.Change.TheVariants.{Part as SetPart};
-ghost use Rattle.tx_proc.specs.declared.part.Part.TheVariants.{Regs as SetRegs};
+ghost use Rattle.tx_proc.specs.declared.part.Part.TheVariants.{Answer as SetAnswer};
 ghost use Rattle.tx_core.specs.Built.{IsBuiltCall};
 ghost use Rattle.tx_core.specs.Plans.{Plans, Extends, only_answers, page_change, named_kind, memory_call};
 ghost use Rattle.tx_model.specs.Effects.{answered, next_point};
@@ -12,10 +12,10 @@ ghost use Rattle.tx_pages.specs.Outcomes.{with_pages, AreNumbered};
 use crate::log::Log;
 use arrayvec::ArrayVec;
 use std::alloc::Global;
-use tx_base::{Call, LAST_POINT, NoMemory, Pid, Regs};
+use tx_base::{Call, NoMemory, Pid};
 use tx_change::Change;
 use tx_pages::{NewPage, NewPages, PageError};
-use tx_proc::{Part, Proc};
+use tx_proc::{Answer, Part, Proc};
 
 /// The answers of a page number and of an address that are not good: EINVAL and EFAULT.
 pub const INVALID: i64 = -22;
@@ -54,27 +54,12 @@ pub fn call_kind(call: &Call) -> CallKind
     }
 }
 
-/// The registers with an answer, at the next point.
-pub fn answer_in(regs: &Regs, ret: i64) -> Regs
-    ensures { result ≡ answered ret regs.now }
-{
-    Regs {
-        point: if regs.point < LAST_POINT {
-            regs.point + 1
-        } else {
-            regs.point
-        },
-        ret,
-        slots: regs.slots,
-    }
-}
-
 /// Appends the exchange that answers. After want of memory the log is as it was.
 fn push_answer(pid: Pid, proc: &Proc, ret: i64, log: &mut Log) -> Result<(), NoMemory>
-    ensures ok { OnOk result (log.new ≡ log.old ++ SetPart pid (SetRegs (answered ret proc.now.regs)) ∷ []) }
+    ensures ok { OnOk result (log.new ≡ log.old ++ SetPart pid (SetAnswer (next_answer ret (answer_in (Some proc.now)))) ∷ []) }
     ensures err { OnErr result (log.new ≡ log.old) }
 {
-    log.push(Change::Part(pid, Part::Regs(answer_in(&proc.regs, ret))))
+    log.push(Change::Part(pid, Part::Answer(Answer::at(proc.regs.point, ret))))
 }
 
 /// Plans an answer, and nothing else. After want of memory the log is as it was.

@@ -4,19 +4,18 @@ ghost use Rattle.std.specs.Prelude.{◌≡◌, ◌≤◌, ◌-◌, ◌++◌, len
 ghost use Rattle.tx_base.specs.Slots.{slot_at, with_slot};
 ghost use Rattle.tx_change.specs.Exchange.{applied, exchanged, undone, reverted, parts_after, AreNamed};
 ghost use Rattle.tx_change.specs.declared.change.Change.TheVariants.{Part as SetPart};
-ghost use Rattle.tx_proc.specs.declared.part.Part.TheVariants.{Regs as SetRegs};
-ghost use Rattle.tx_core.specs.Plans.{regs_in};
+ghost use Rattle.tx_proc.specs.declared.part.Part.TheVariants.{Answer as SetAnswer};
+ghost use Rattle.tx_core.specs.Plans.{answer_in};
 ghost use Rattle.tx_core.specs.Undo.{log_in, undone_by, HasSlot, GoesWith};
 ghost use Rattle.tx_core.specs.declared.inverse.Inverse.TheVariants.{Outside, Inside, Begun, Committed, Aborted};
 ghost use Rattle.tx_model.specs.Effects.{answered};
 ghost use Rattle.tx_model.specs.Membership.{new_mark};
 
-use crate::act::answer_in;
 use crate::inverse::Inverse;
 use crate::log::Log;
-use tx_base::{Mark, Pid, Regs, Slots};
+use tx_base::{Mark, Pid, Slots};
 use tx_change::{Change, Parts};
-use tx_proc::Part;
+use tx_proc::{Answer, Part};
 
 /// The parts of the kernel; for each process number its mark, if it is a member of a live
 /// transaction; and for each starter of one the old parts of what it changed.
@@ -104,47 +103,45 @@ impl Content {
         requires log { IsSome (slot_at self.old.logs starter.0) }
         requires named { AreNamed self.old.parts (log_in (slot_at self.old.logs starter.0)) }
         ensures parts { let before = undone self.old.parts (log_in (slot_at self.old.logs starter.0)) in
-            self.new.parts ≡ parts_after before (SetPart starter (SetRegs (answered ret (regs_in (slot_at before.procs starter.0))))) }
+            self.new.parts ≡ parts_after before (SetPart starter (SetAnswer (next_answer ret (answer_in (slot_at before.procs starter.0))))) }
         ensures marks { self.new.marks ≡ with_slot self.old.marks starter.0 None }
         ensures logs { self.new.logs ≡ with_slot self.old.logs starter.0 None }
-        ensures inverse { let log = log_in (slot_at self.old.logs starter.0) in let before = regs_in (slot_at (undone self.old.parts log).procs starter.0) in
-            result ≡ Aborted starter mark (reverted self.old.parts log) before.point before.ret }
+        ensures inverse { let log = log_in (slot_at self.old.logs starter.0) in
+            result ≡ Aborted starter mark (reverted self.old.parts log) (answer_in (slot_at (undone self.old.parts log).procs starter.0)) }
     {
         let mut log = self.logs.take(starter).unwrap();
         log.lead_back(&mut self.parts);
-        let before = self.regs(starter);
-        self.set_regs(starter, answer_in(&before, ret));
+        let stood = self.answer(starter);
+        self.set_answer(starter, Answer::at(stood.point, ret));
         let _aborted = self.marks.take(starter);
         Inverse::Aborted {
             starter,
             mark,
             log,
-            point: before.point,
-            ret: before.ret,
+            stood,
         }
     }
 
-    /// The registers of a process; those of the start where there is none.
-    fn regs(&self, pid: Pid) -> Regs
-        ensures { result ≡ regs_in (slot_at self.now.parts.procs pid.0) }
+    /// The point and the answer of a process; those of the start where there is none.
+    fn answer(&self, pid: Pid) -> Answer
+        ensures { result ≡ answer_in (slot_at self.now.parts.procs pid.0) }
     {
         match self.parts.proc(pid) {
-            Some(proc) => proc.regs,
-            None => Regs {
-                point: 0,
-                ret: 0,
-                slots: [0; 8],
+            Some(proc) => Answer {
+                point: proc.regs.point,
+                ret: proc.regs.ret,
             },
+            None => Answer { point: 0, ret: 0 },
         }
     }
 
-    /// Gives a process these registers. Nothing happens where there is no process.
-    fn set_regs(&mut self, pid: Pid, regs: Regs)
+    /// Gives a process this point and answer. Nothing happens where there is no process.
+    fn set_answer(&mut self, pid: Pid, answer: Answer)
         requires low { 1 ≤ pid.0 }
         requires high { pid.0 ≤ length self.old.parts.procs }
-        ensures { self.new ≡ record self.old { parts = parts_after self.old.parts (SetPart pid (SetRegs regs)) } }
+        ensures { self.new ≡ record self.old { parts = parts_after self.old.parts (SetPart pid (SetAnswer answer)) } }
     {
-        Change::Part(pid, Part::Regs(regs)).swap(&mut self.parts);
+        Change::Part(pid, Part::Answer(answer)).swap(&mut self.parts);
     }
 
     /// Takes the step back whose inverse this is. It takes no memory.
@@ -179,11 +176,9 @@ impl Content {
                 starter,
                 mark,
                 mut log,
-                point,
-                ret,
+                stood,
             } => {
-                let slots = self.regs(starter).slots;
-                self.set_regs(starter, Regs { point, ret, slots });
+                self.set_answer(starter, stood);
                 log.lead_forward(&mut self.parts);
                 self.marks.put(starter, mark);
                 self.logs.put(starter, log);

@@ -1,6 +1,7 @@
 //! What takes an accepted step back.
 use crate::log::Log;
 use tx_base::{Mark, Pid};
+use tx_proc::Answer;
 
 /// What takes an accepted step back, on the machine as the step left it.
 #[derive(Drop)]
@@ -31,7 +32,6 @@ pub enum Inverse {
         starter: Pid,
         mark: Mark,
         log: Log,
-        point: u32,
-        ret: i64,
+        stood: Answer,
     },
 }

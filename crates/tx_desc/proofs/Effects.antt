@@ -1,50 +1,52 @@
 -- The effects of the calls, by what the code found.
-use Rattle.std.proofs.Common.{◌≡◌, ◌≢◌, ℕ, Bool, false, List, [], ◌∷◌, length, ℤ, pos, Option, Some, None, Result, Ok, if◌then◌else◌, ◌==◌, get_or, refl, sym, ap, ◌∙◌, subst, eq-eqb, eqb-true, arith}
+use Rattle.std.proofs.Common.{◌≡◌, ◌≢◌, ℕ, Bool, false, List, [], ◌∷◌, length, ℤ, pos, Option, Some, None, Result, Ok, Err, IsErr, if◌then◌else◌, ◌==◌, get_or, refl, sym, ap, ◌∙◌, subst, eq-eqb, eqb-true}
 use Rattle.std.proofs.lemmas.Bool.{false_from_ne_true}
 use Rattle.std.proofs.Math.ListN.{set}
-use Rattle.tx_base.specs.declared.names.DescNo.{DescNo}
 use Rattle.tx_base.specs.declared.errors.Errno.{Errno}
 use Rattle.tx_base.specs.declared.errors.Errno.TheVariants.{BadDescriptor, TooManyDescriptors}
 use Rattle.tx_model.specs.Numbers.{failing}
-use Rattle.tx_model.specs.State.{Process, Description, State, SetDesc, written, booted_process}
+use Rattle.tx_model.specs.State.{Process, Description, State, SetDesc, written}
 use Rattle.tx_model.specs.Effects.{Effect, done, done_with, before_sends}
 use Rattle.tx_model.specs.Descriptors.{named, first_free, lowest_free, listed, gives_up, pipes_of, unnamed_go, endless_go, dup_effect, dups_to, dup2_effect, dup2_named, renames, close_effect, closes, nonblock_effect, flags}
 use Rattle.tx_desc.specs.declared.opened.Opened.{Opened}
-use Rattle.tx_desc.specs.Places.{Descriptors, looked_up}
+use Rattle.tx_desc.specs.declared.plans.NewDesc.{NewDesc}
+use Rattle.tx_desc.specs.Places.{Descriptors, named_in}
+use Rattle.tx_desc.specs.Plans.{put_descs}
 use Rattle.tx_desc.specs.Descriptions.{HasDescs, described, with_flag}
-use Rattle.tx_desc.specs.Counts.{Agrees, IsBacked, IsEnough, others_of, count_in}
+use Rattle.tx_desc.specs.Counts.{Agrees, HasRoom, others_of}
 use Rattle.tx_desc.specs.Outcomes.{RunsWith, with_table, described_again}
-use Rattle.tx_desc.proofs.Counting.{backed_entry, hit_same, count-single}
+use Rattle.tx_desc.proofs.Counting.{room_there}
 use Rattle.tx_desc.proofs.Gone.{Sheds}
 use Rattle.tx_desc.proofs.Running.{running_gives}
 
--- what was looked up
+named_is : (me : Process) (table : Descriptors) (x : Option ℕ) → me.descriptors ≡ table → named me x ≡ named_in table x
+named_is me table None same = refl
+named_is me table (Some f) same = ap (λ (t : Descriptors). get_or t f None) same
 
-pub looked_some : (x : Option ℕ) (d : DescNo) → Ok d ≡ looked_up x → x ≡ Some d.0
-looked_some None d h = let never : ⊥ = cc in absurd never
-looked_some (Some k) d h = let same : d ≡ record { 0 = k } = cc in ap (λ (e : DescNo). Some e.0) (sym same)
+-- what was found
 
-pub looked_none : (x : Option ℕ) (r : Result DescNo Errno) → r ≡ looked_up x → ((d : DescNo) → r ≡ Ok d → ⊥) → x ≡ None
-looked_none None r h no_other = refl
-looked_none (Some k) r h no_other = absurd (no_other (record { 0 = k }) h)
+pub found_named : (me : Process) (table : Descriptors) (x : Option ℕ) (f d : ℕ) → me.descriptors ≡ table → x ≡ Some f → get_or table f None ≡ Some d → named me x ≡ Some d
+found_named me table x f d same h is = named_is me table x same ∙ ap (named_in table) h ∙ is
 
--- some process with these descriptors
-abbrev pub holder : Descriptors → Process
-holder t = with_table t (booted_process 1)
+pub none_named : (me : Process) (table : Descriptors) (x : Option ℕ) → me.descriptors ≡ table → named_in table x ≡ None → named me x ≡ None
+none_named me table x same h = named_is me table x same ∙ h
 
-named_entry : (x : Option ℕ) (t : Descriptors) (D : List (Option Opened)) (d : ℕ) → IsBacked 16 t D → named (holder t) x ≡ Some d → IsBacked 1 (Some d ∷ []) D
-named_entry None t D d b h = let never : ⊥ = cc in absurd never
-named_entry (Some f) t D d b h = subst (λ (y : Option ℕ). IsBacked 1 (y ∷ []) D) h (backed_entry f 1 16 t D (omega arith) b)
-
-pub look_backed : (x : Option ℕ) (t : Descriptors) (D : List (Option Opened)) (d : DescNo) → IsBacked 16 t D → Ok d ≡ looked_up (named (holder t) x) →
-    IsBacked 1 (Some d.0 ∷ []) D
-look_backed x t D d b h = named_entry x t D d.0 b (looked_some (named (holder t) x) d h)
+pub found_room : (room : ℕ) (table : Descriptors) (D : List (Option Opened)) (x : Option ℕ) (f d : ℕ) → x ≡ Some f → get_or table f None ≡ Some d →
+    HasRoom room (named_in table x) D → HasRoom room (Some d) D
+found_room room table D x f d h is r = subst (λ (y : Option ℕ). HasRoom room y D) (ap (named_in table) h ∙ is) r
 
 -- what an effect keeps
 
 pub done_keeps : (E : Effect) (p : ℕ) (r : ℤ) (me : Process) (S : State) (D : List (Option Opened)) → E ≡ done p r me → HasDescs S D → HasDescs (before_sends E S) D
 unfolding written
 done_keeps E p r me S D e has d = ap (λ (F : Effect). (before_sends F S).descs d) e ∙ has d
+
+-- an error puts nothing in place
+pub error_keeps : {A : Type 0} (r : Result A Errno) (news : Result A Errno → List NewDesc) → IsErr r → ((e : Errno) → news (Err e) ≡ []) →
+    (E : Effect) (p : ℕ) (n : ℤ) (me : Process) (S : State) (D : List (Option Opened)) → E ≡ done p n me → HasDescs S D → HasDescs (before_sends E S) (put_descs (news r) D)
+error_keeps (Ok x) news err none E p n me S D e has = let never : ⊥ = cc in absurd never
+error_keeps (Err e) news err none E p n me S D is has =
+    subst (λ (l : List NewDesc). HasDescs (before_sends E S) (put_descs l D)) (sym (none e)) (done_keeps E p n me S D is has)
 
 pub gives_keeps : (E : Effect) (ds : List ℕ) (p : ℕ) (r : ℤ) (me : Process) (S : State) (table new : Descriptors) (before after : List (Option Opened)) →
     E ≡ gives_up ds p r (with_table new me) S → RunsWith p me S table → length new ≡ 16 → HasDescs S before → Agrees (new ∷ others_of p S) after →
@@ -56,8 +58,8 @@ module _ (p : ℕ) (me : Process) (table : Descriptors) (same : me.descriptors �
   as_table : with_table table me ≡ me
   as_table = sym (ap (λ (t : Descriptors). with_table t me) same)
 
-  at_table : (f : ℕ) (x : Option ℕ) → x ≡ get_or table f None → named me (Some f) ≡ x
-  at_table f x h = ap (λ (t : Descriptors). get_or t f None) same ∙ sym h
+  at_table : (f : ℕ) (x : Option ℕ) → get_or table f None ≡ x → named me (Some f) ≡ x
+  at_table f x h = ap (λ (t : Descriptors). get_or t f None) same ∙ h
 
   -- dup
 
@@ -78,30 +80,26 @@ module _ (p : ℕ) (me : Process) (table : Descriptors) (same : me.descriptors �
 
   -- close
 
-  pub close_bad : (x : Option ℕ) (S : State) → None ≡ x → close_effect p x me S ≡ done p (failing BadDescriptor) me
-  close_bad x S h = ap (λ (y : Option ℕ). close_effect p y me S) (sym h)
+  pub close_bad : (x : Option ℕ) (S : State) → named_in table x ≡ None → close_effect p x me S ≡ done p (failing BadDescriptor) me
+  close_bad None S h = refl
+  close_bad (Some f) S h = ap (closes p me S f) (none_named me table (Some f) same h)
 
-  pub close_free : (x : Option ℕ) (f : ℕ) (S : State) → Some f ≡ x → None ≡ get_or table f None → close_effect p x me S ≡ done p (failing BadDescriptor) me
-  close_free x f S h free = ap (λ (y : Option ℕ). close_effect p y me S) (sym h) ∙ ap (closes p me S f) (at_table f None free)
-
-  pub close_done : (x : Option ℕ) (f d : ℕ) (S : State) (new : Descriptors) → Some f ≡ x → Some d ≡ get_or table f None → new ≡ set table f None →
+  pub close_done : (x : Option ℕ) (f d : ℕ) (S : State) (new : Descriptors) → x ≡ Some f → get_or table f None ≡ Some d → new ≡ set table f None →
       close_effect p x me S ≡ gives_up (d ∷ []) p (pos 0) (with_table new me) S
   close_done x f d S new h is changed =
-      ap (λ (y : Option ℕ). close_effect p y me S) (sym h) ∙ ap (closes p me S f) (at_table f (Some d) is)
+      ap (λ (y : Option ℕ). close_effect p y me S) h ∙ ap (closes p me S f) (at_table f (Some d) is)
       ∙ ap (λ (t : Descriptors). gives_up (d ∷ []) p (pos 0) (with_table t me) S) (ap (λ (t : Descriptors). set t f None) same ∙ sym changed)
 
   -- dup2
 
-  pub dup2_bad : (x y : Option ℕ) (S : State) → None ≡ x → dup2_effect p x y me S ≡ done p (failing BadDescriptor) me
-  dup2_bad x y S h = ap (λ (z : Option ℕ). dup2_effect p z y me S) (sym h)
+  pub dup2_bad : (x y : Option ℕ) (S : State) → named_in table x ≡ None → dup2_effect p x y me S ≡ done p (failing BadDescriptor) me
+  dup2_bad None y S h = refl
+  dup2_bad (Some f) y S h = ap (dup2_named p me S f y) (none_named me table (Some f) same h)
 
-  pub dup2_free : (x y : Option ℕ) (f : ℕ) (S : State) → Some f ≡ x → None ≡ get_or table f None → dup2_effect p x y me S ≡ done p (failing BadDescriptor) me
-  dup2_free x y f S h free = ap (λ (z : Option ℕ). dup2_effect p z y me S) (sym h) ∙ ap (dup2_named p me S f y) (at_table f None free)
+  dup2_from : (x y : Option ℕ) (f d : ℕ) (S : State) → x ≡ Some f → get_or table f None ≡ Some d → dup2_effect p x y me S ≡ renames p me S f d y
+  dup2_from x y f d S h is = ap (λ (z : Option ℕ). dup2_effect p z y me S) h ∙ ap (dup2_named p me S f y) (at_table f (Some d) is)
 
-  dup2_from : (x y : Option ℕ) (f d : ℕ) (S : State) → Some f ≡ x → Some d ≡ get_or table f None → dup2_effect p x y me S ≡ renames p me S f d y
-  dup2_from x y f d S h is = ap (λ (z : Option ℕ). dup2_effect p z y me S) (sym h) ∙ ap (dup2_named p me S f y) (at_table f (Some d) is)
-
-  pub dup2_other : (x y : Option ℕ) (f d : ℕ) (S : State) → Some f ≡ x → Some d ≡ get_or table f None → None ≡ y →
+  pub dup2_other : (x y : Option ℕ) (f d : ℕ) (S : State) → x ≡ Some f → get_or table f None ≡ Some d → None ≡ y →
       dup2_effect p x y me S ≡ done p (failing BadDescriptor) me
   dup2_other x y f d S h is other = dup2_from x y f d S h is ∙ ap (renames p me S f d) (sym other)
 
@@ -109,14 +107,14 @@ module _ (p : ℕ) (me : Process) (table : Descriptors) (same : me.descriptors �
   unfolding unnamed_go endless_go pipes_of
   gives_none r S = refl
 
-  pub dup2_same : (x y : Option ℕ) (f d g : ℕ) (S : State) → Some f ≡ x → Some d ≡ get_or table f None → Some g ≡ y → f ≡ g →
+  pub dup2_same : (x y : Option ℕ) (f d g : ℕ) (S : State) → x ≡ Some f → get_or table f None ≡ Some d → Some g ≡ y → f ≡ g →
       dup2_effect p x y me S ≡ gives_up [] p (pos g) (with_table table me) S
   dup2_same x y f d g S h is other z =
       dup2_from x y f d S h is ∙ ap (renames p me S f d) (sym other)
       ∙ ap (λ (b : Bool). if b then done p (pos g) me else gives_up (listed (named me (Some g))) p (pos g) (with_table (set me.descriptors g (Some d)) me) S) (eq-eqb f g z)
       ∙ gives_none (pos g) S ∙ ap (λ (q : Process). gives_up [] p (pos g) q S) (sym as_table)
 
-  pub dup2_done : (x y : Option ℕ) (f d g : ℕ) (S : State) (new : Descriptors) (ds : List ℕ) → Some f ≡ x → Some d ≡ get_or table f None → Some g ≡ y → f ≢ g →
+  pub dup2_done : (x y : Option ℕ) (f d g : ℕ) (S : State) (new : Descriptors) (ds : List ℕ) → x ≡ Some f → get_or table f None ≡ Some d → Some g ≡ y → f ≢ g →
       new ≡ set table g (Some d) → ds ≡ listed (get_or table g None) → dup2_effect p x y me S ≡ gives_up ds p (pos g) (with_table new me) S
   dup2_done x y f d g S new ds h is other apart changed names =
       let differ : (f == g) ≡ false = false_from_ne_true (f == g) (λ k. apart (eqb-true f g k)) in
@@ -135,17 +133,10 @@ flag_effect : (p : ℕ) (on : Bool) (me : Process) (d : ℕ) (o : Option Opened)
 flag_effect p on me d None there = absurd (there refl)
 flag_effect p on me d (Some o) there = refl
 
-pub backed_there : (d : ℕ) (D : List (Option Opened)) → IsBacked 1 (Some d ∷ []) D → get_or D d None ≢ None
-backed_there d D b = by (get_or D d None) (count-single d (Some d) ∙ hit_same d) (b.enough d)
-  where
-    by : (o : Option Opened) → count_in d (Some d ∷ []) ≡ 1 → IsEnough (count_in d (Some d ∷ [])) 1 o → o ≢ None
-    by None one h = λ z. let never : ⊥ = omega (arith, h) in never
-    by (Some o) one h = λ z. cc
-
 pub nonblock_done : (p : ℕ) (on : Bool) (me : Process) (x : Option ℕ) (d : ℕ) (S : State) (D new : List (Option Opened)) → x ≡ Some d →
-    IsBacked 1 (Some d ∷ []) D → get_or new d None ≡ with_flag on (get_or D d None) → HasDescs S D →
+    HasRoom 0 (Some d) D → get_or new d None ≡ with_flag on (get_or D d None) → HasDescs S D →
     nonblock_effect p on me x S ≡ done_with (described_again x new) p (pos 0) me
 nonblock_done p on me x d S D new h b now has =
-    ap (λ (y : Option ℕ). nonblock_effect p on me y S) h ∙ ap (flags p me d on) (has d) ∙ flag_effect p on me d (get_or D d None) (backed_there d D b)
+    ap (λ (y : Option ℕ). nonblock_effect p on me y S) h ∙ ap (flags p me d on) (has d) ∙ flag_effect p on me d (get_or D d None) (room_there d 0 D b)
     ∙ ap (λ (y : Option Description). done_with (SetDesc d y ∷ []) p (pos 0) me) (ap described (sym now))
     ∙ ap (λ (y : Option ℕ). done_with (described_again y new) p (pos 0) me) (sym h)

@@ -47,9 +47,6 @@ free_any n zero d e (x ∷ t) = refl
 free_any n (suc f) d e (None ∷ t) = refl
 free_any n (suc f) d e (Some k ∷ t) = free_any (n + 1) f d e t
 
-pub two_first : (d : ℕ) (t : Descriptors) → first_free 0 t ≡ None → two_free d t ≡ None
-two_first d t h = ap (λ (x : Option ℕ). with_second x (free_beside d t x)) h
-
 pub two_second : (d f : ℕ) (t taken : Descriptors) (r : Option ℕ) → first_free 0 t ≡ Some f → taken ≡ set t f (Some 0) → r ≡ first_free 0 taken →
     with_second (Some f) r ≡ two_free d t
 two_second d f t taken r first is second =

@@ -24,19 +24,19 @@ Sheds ds old new = (k : ℕ) → (description_at new k ≡ description_at old k)
 abbrev pub SameDescs : List (Option Opened) → List (Option Opened) → Type 0
 SameDescs old new = (k : ℕ) → description_at new k ≡ description_at old k
 
-described_more : (p : Option Opened) → described (with_more 1 p) ≡ described p
-described_more None = refl
-described_more (Some o) = refl
+pub described_more : (n : ℕ) (p : Option Opened) → described (with_more n p) ≡ described p
+described_more n None = refl
+described_more n (Some o) = refl
 
 pub raise_same : (x : Option ℕ) (D : List (Option Opened)) → SameDescs D (changed_at (with_more 1) x D)
-raise_same x D = changed_each (λ e p. described p ≡ description_at D e) (with_more 1) x D refl (λ e is. described_more (get_or D e None)) (λ e other. refl)
+raise_same x D = changed_each (λ e p. described p ≡ description_at D e) (with_more 1) x D refl (λ e is. described_more 1 (get_or D e None)) (λ e other. refl)
 
-fewer_cases : (p : Option Opened) → (described (with_fewer 1 p) ≡ described p) ⊎ (with_fewer 1 p ≡ None)
-fewer_cases None = inr refl
-fewer_cases (Some o) = by (nat_lt 1 o.names)
+pub fewer_cases : (n : ℕ) (p : Option Opened) → (described (with_fewer n p) ≡ described p) ⊎ (with_fewer n p ≡ None)
+fewer_cases n None = inr refl
+fewer_cases n (Some o) = by (nat_lt n o.names)
   where
-    by : (b : Bool) → (described (if b then Some (record { desc = o.desc; names = o.names - 1 }) else None) ≡ described (Some o))
-        ⊎ (◌≡◌ {A = Option Opened} (if b then Some (record { desc = o.desc; names = o.names - 1 }) else None) None)
+    by : (b : Bool) → (described (if b then Some (record { desc = o.desc; names = o.names - n }) else None) ≡ described (Some o))
+        ⊎ (◌≡◌ {A = Option Opened} (if b then Some (record { desc = o.desc; names = o.names - n }) else None) None)
     by true = inl refl
     by false = inr refl
 
@@ -45,14 +45,11 @@ pub lower_sheds : (ds : List ℕ) (x : Option ℕ) (old mid : List (Option Opene
     Sheds ds old mid → Sheds ds old (changed_at (with_fewer 1) x mid)
 lower_sheds ds x old mid among sheds =
     changed_each (λ e p. (described p ≡ description_at old e) ⊎ (IsIn e ds × (p ≡ None))) (with_fewer 1) x mid refl
-    (λ e is. elim (fewer_cases (get_or mid e None)) [
+    (λ e is. elim (fewer_cases 1 (get_or mid e None)) [
       | inl same ↦ elim (sheds e) [ inl as_was ↦ inl (same ∙ as_was) | inr gone ↦ inr (gone.0, ap (with_fewer 1) gone.1) ]
       | inr none ↦ inr (among e is, none)
     ])
     (λ e other. sheds e)
-
-pub same_sheds : (ds : List ℕ) (old new : List (Option Opened)) → SameDescs old new → Sheds ds old new
-same_sheds ds old new same = λ k. inl (same k)
 
 pub same_descs : (S : State) (old new : List (Option Opened)) → SameDescs old new → HasDescs S old → HasDescs S new
 same_descs S old new same has = λ d. has d ∙ sym (same d)

@@ -1,70 +1,75 @@
--- What the calls make of the counts and of the descriptions, by what the code changed.
-use Rattle.std.proofs.Common.{◌≡◌, ◌≢◌, ℕ, ◌<◌, Bool, List, [], ◌∷◌, length, pos, Option, Some, None, get_or, refl, sym, ap, ◌∙◌, subst, inl, inr, arith}
+-- What the calls make of the counts and of the descriptions, by what they put in place.
+use Rattle.std.proofs.Common.{◌≡◌, ◌≢◌, ℕ, ◌+◌, ◌-◌, ◌<◌, Bool, List, length, pos, Option, Some, None, if◌then◌else◌, get_or, refl, sym, ap, ◌∙◌, subst, inl, inr, arith, get_or-set_same, length-set}
+use Rattle.std.proofs.lemmas.Bool.{lt-ltb}
+use Rattle.std.proofs.lemmas.List.{set-set, set-get_or}
 use Rattle.std.proofs.Math.ListN.{set}
 use Rattle.tx_model.specs.State.{Process, State, written}
 use Rattle.tx_model.specs.Effects.{Effect, done_with, before_sends}
 use Rattle.tx_model.specs.Descriptors.{listed}
 use Rattle.tx_model.specs.StateLaws.{put_cases}
+use Rattle.std.specs.Prelude.{option_map}
+use Rattle.tx_base.specs.declared.names.DescNo.{DescNo}
 use Rattle.tx_desc.specs.declared.opened.Opened.{Opened}
-use Rattle.tx_desc.specs.declared.given.Given.{Given}
-use Rattle.tx_desc.specs.Places.{Descriptors}
+use Rattle.tx_desc.specs.Places.{Descriptors, number_in}
+use Rattle.tx_desc.specs.Plans.{desc_fewer, given_fewer, listed_desc, put_descs}
 use Rattle.tx_desc.specs.Descriptions.{HasDescs, IsGone, gone_between, description_at, described, changed_at, with_more, with_fewer, with_flag}
-use Rattle.tx_desc.specs.Counts.{Agrees, IsBacked, count_in}
+use Rattle.tx_desc.specs.Counts.{HasRoom, IsEnough, KeepsCounts}
 use Rattle.tx_desc.specs.Outcomes.{described_again}
-use Rattle.tx_desc.proofs.Counting.{hit_cases, count-single, enough_less, moves_agrees, backed_raise, backed_entry, changed_each, changed_other}
+use Rattle.tx_desc.proofs.Counting.{hit_cases, moves_keeps, changed_other, room_inside}
 use Rattle.tx_desc.proofs.Gone.{IsIn, Sheds, SameDescs, raise_same, lower_sheds}
 
-pub backed_nothing : (t : Descriptors) (D : List (Option Opened)) → IsBacked 16 t D → IsBacked 1 (None ∷ []) D
-backed_nothing t D b = record {
-  enough = λ e.
-      let none = count-single e None in
-      enough_less (count_in e (None ∷ [])) (count_in e t) 1 16 (get_or D e None) (omega arith) (omega arith) (b.enough e);
-}
-
 -- descriptor f came to name y, where it named x
-pub moved : (f : ℕ) (x y : Option ℕ) (t new : Descriptors) (ts : List Descriptors) (D mid after : List (Option Opened)) → f < length t → IsBacked 1 (y ∷ []) D →
-    x ≡ get_or t f None → new ≡ set t f y → mid ≡ changed_at (with_more 1) y D → after ≡ changed_at (with_fewer 1) x mid → Agrees (t ∷ ts) D → Agrees (new ∷ ts) after
-moved f x y t new ts D mid after inside b is changed raised lowered a =
-    let end : after ≡ changed_at (with_fewer 1) (get_or t f None) (changed_at (with_more 1) y D) = lowered ∙ (λ i. changed_at (with_fewer 1) (is i) (raised i)) in
-    subst (λ (l : List (Option Opened)). Agrees (new ∷ ts) l) (sym end)
-    (subst (λ (l : Descriptors). Agrees (l ∷ ts) (changed_at (with_fewer 1) (get_or t f None) (changed_at (with_more 1) y D))) (sym changed)
-    (moves_agrees f y t ts D inside b a))
+pub moved : (f : ℕ) (x y : Option ℕ) (t new : Descriptors) (D after : List (Option Opened)) → f < length t → HasRoom 1 y D →
+    get_or t f None ≡ x → new ≡ set t f y → after ≡ changed_at (with_fewer 1) x (changed_at (with_more 1) y D) → KeepsCounts t new D after
+moved f x y t new D after inside room is changed moves =
+    let end : after ≡ changed_at (with_fewer 1) (get_or t f None) (changed_at (with_more 1) y D)
+    = moves ∙ ap (λ (z : Option ℕ). changed_at (with_fewer 1) z (changed_at (with_more 1) y D)) (sym is) in
+    subst (λ (l : List (Option Opened)). KeepsCounts t new D l) (sym end)
+    (subst (λ (l : Descriptors). KeepsCounts t l D (changed_at (with_fewer 1) (get_or t f None) (changed_at (with_more 1) y D))) (sym changed)
+    (moves_keeps f y t D inside room))
 
--- what the other descriptor named can be lowered
-pub backed_other : (f : ℕ) (x y : Option ℕ) (t : Descriptors) (D mid : List (Option Opened)) → IsBacked 16 t D → x ≡ get_or t f None →
-    mid ≡ changed_at (with_more 1) y D → IsBacked 0 (x ∷ []) mid
-backed_other f x y t D mid b is raised =
-    subst (λ (l : List (Option Opened)). IsBacked 0 (x ∷ []) l) (sym raised)
-    (subst (λ (z : Option ℕ). IsBacked 0 (z ∷ []) (changed_at (with_more 1) y D)) (sym is)
-    (backed_entry f 0 15 t (changed_at (with_more 1) y D) (omega arith) (backed_raise y 15 16 t D (omega arith) b)))
+pub moved_sheds : (x y : Option ℕ) (D after : List (Option Opened)) → after ≡ changed_at (with_fewer 1) x (changed_at (with_more 1) y D) → Sheds (listed x) D after
+moved_sheds x y D after moves =
+    subst (Sheds (listed x) D) (sym moves)
+    (lower_sheds (listed x) x D (changed_at (with_more 1) y D) (λ e is. subst (λ (z : Option ℕ). IsIn e (listed z)) (sym is) (inl refl)) (λ k. inl (raise_same y D k)))
+
+-- one more and one fewer is nothing
+more_fewer : (room : ℕ) (p : Option Opened) → IsEnough 1 room p → with_fewer 1 (with_more 1 p) ≡ p
+more_fewer room None h = absurd (omega (arith, h))
+more_fewer room (Some o) h =
+    let some : 1 < o.names + 1 = omega (arith, h.0) in
+    let same : o.names + 1 - 1 ≡ o.names = omega arith in
+    ap (λ (b : Bool). if b then Some (record { desc = o.desc; names = o.names + 1 - 1 }) else None) (lt-ltb 1 (o.names + 1) some)
+    ∙ ap (λ (n : ℕ). Some (record { desc = o.desc; names = n })) same
+
+pub rename_same : (d : ℕ) (D : List (Option Opened)) → HasRoom 1 (Some d) D → D ≡ changed_at (with_fewer 1) (Some d) (changed_at (with_more 1) (Some d) D)
+rename_same d D room =
+    let raised = set D d (with_more 1 (get_or D d None)) in
+    sym (ap (λ (p : Option Opened). set raised d (with_fewer 1 p)) (get_or-set_same D d (with_more 1 (get_or D d None)) None (room_inside d 1 D room))
+    ∙ set-set D d (with_more 1 (get_or D d None)) (with_fewer 1 (with_more 1 (get_or D d None)))
+    ∙ ap (set D d) (more_fewer 1 (get_or D d None) room) ∙ set-get_or D d None)
+
+-- a name that was given up says what went, also where another description was changed before
+left_gone : (d e : ℕ) (y : Option Opened) (D : List (Option Opened)) → HasRoom 0 (Some e) D →
+    gone_between (get_or D e None) (with_fewer 1 (get_or D e None)) ≡ gone_between (get_or D e None) (get_or (set (set D d y) e (with_fewer 1 (get_or D e None))) e None)
+left_gone d e y D room =
+    let inside = room_inside e 0 D room in
+    let all = length-set D d y in
+    ap (gone_between (get_or D e None)) (sym (get_or-set_same (set D d y) e (with_fewer 1 (get_or D e None)) None (omega arith)))
+
+pub rename_gone : (d : ℕ) (x : Option DescNo) (y : Option Opened) (D : List (Option Opened)) {z : Option ℕ} → number_in x ≡ z → HasRoom 0 z D →
+    IsGone (option_map (given_fewer D) x) D (put_descs (listed_desc (option_map (desc_fewer D) x)) (set D d y))
+rename_gone d None y D is room = tt
+rename_gone d (Some e) y D is room = left_gone d e.0 y D (subst (λ (k : Option ℕ). HasRoom 0 k D) (sym is) room)
 
 pub raised_same : (y : Option ℕ) (D mid : List (Option Opened)) → mid ≡ changed_at (with_more 1) y D → SameDescs D mid
 raised_same y D mid raised = subst (SameDescs D) (sym raised) (raise_same y D)
 
-pub lowered_sheds : (x : Option ℕ) (D mid after : List (Option Opened)) → SameDescs D mid → after ≡ changed_at (with_fewer 1) x mid → Sheds (listed x) D after
-lowered_sheds x D mid after same lowered =
-    subst (Sheds (listed x) D) (sym lowered)
-    (lower_sheds (listed x) x D mid (λ e is. subst (λ (y : Option ℕ). IsIn e (listed y)) (sym is) (inl refl)) (λ k. inl (same k)))
-
-gone_more : (p new : Option Opened) → gone_between (with_more 1 p) new ≡ gone_between p new
-gone_more None new = refl
-gone_more (Some o) None = refl
-gone_more (Some o) (Some n) = refl
-
--- a count that was raised before does not change what went
-pub gone_raised : (given : Option Given) (y : Option ℕ) (D mid after : List (Option Opened)) → mid ≡ changed_at (with_more 1) y D →
-    IsGone given mid after → IsGone given D after
-gone_raised None y D mid after raised h = h
-gone_raised (Some given) y D mid after raised h =
-    h ∙ ap (λ (l : List (Option Opened)). gone_between (get_or l given.number.0 None) (get_or after given.number.0 None)) raised
-    ∙ changed_each (λ e p. gone_between p (get_or after given.number.0 None) ≡ gone_between (get_or D e None) (get_or after given.number.0 None)) (with_more 1) y D refl
-    (λ e is. gone_more (get_or D e None) (get_or after given.number.0 None)) (λ e other. refl) given.number.0
-
 -- a description has another flag, and the rest is as it was
-pub flag_keeps : (E : Effect) (p : ℕ) (on : Bool) (me : Process) (x : Option ℕ) (d : ℕ) (S : State) (D new : List (Option Opened)) →
+pub flag_descs : (E : Effect) (p : ℕ) (on : Bool) (me : Process) (x : Option ℕ) (d : ℕ) (S : State) (D new : List (Option Opened)) →
     E ≡ done_with (described_again x new) p (pos 0) me → x ≡ Some d → new ≡ changed_at (with_flag on) (Some d) D → HasDescs S D → HasDescs (before_sends E S) new
 unfolding written
-flag_keeps E p on me x d S D new e is changed has k =
+flag_descs E p on me x d S D new e is changed has k =
     ap (λ (F : Effect). (before_sends F S).descs k) (e ∙ ap (λ (y : Option ℕ). done_with (described_again y new) p (pos 0) me) is)
     ∙ elim (put_cases S.descs d (description_at new d) k) [
       | inl z ↦ z.1 ∙ ap (description_at new) (sym z.0)

@@ -1,5 +1,5 @@
 -- A new pipe with its two descriptions.
-use Rattle.std.proofs.Common.{◌≡◌, ◌≢◌, ℕ, ◌<◌, Bool, true, false, List, [], ◌∷◌, length, pos, Option, Some, None, is_some, if◌then◌else◌, get_or, sym, ap, ◌∙◌, subst, inl, inr, arith, get_or-set_same, get_or-set_other, length-set}
+use Rattle.std.proofs.Common.{◌≡◌, ◌≢◌, ℕ, ◌<◌, Bool, true, false, List, [], ◌∷◌, length, pos, Option, Some, None, is_some, if◌then◌else◌, get_or, sym, ap, ◌∙◌, inl, inr, arith, get_or-set_same, get_or-set_other, length-set}
 use Rattle.std.proofs.Math.ListN.{set}
 use Rattle.tx_base.specs.declared.names.PipeNo.{PipeNo}
 use Rattle.tx_base.specs.declared.errors.Errno.TheVariants.{TooManyDescriptors}
@@ -12,10 +12,8 @@ use Rattle.tx_model.specs.StateLaws.{put_cases}
 use Rattle.tx_desc.specs.declared.opened.Opened.{Opened}
 use Rattle.tx_desc.specs.Places.{Descriptors, two_free}
 use Rattle.tx_desc.specs.Descriptions.{HasDescs, description_at, described}
-use Rattle.tx_desc.specs.Counts.{Agrees}
 use Rattle.tx_desc.specs.Outcomes.{with_table}
-use Rattle.tx_desc.proofs.Counting.{open_agrees, rename_agrees, lower_agrees}
-use Rattle.tx_desc.proofs.Free.{free_inside, free_none, two_none}
+use Rattle.tx_desc.proofs.Free.{two_none}
 
 module _ (p : ℕ) (pipe : PipeNo) (r w : ℕ) (me : Process) (S : State) (table : Descriptors) (D : List (Option Opened))
     (same : me.descriptors ≡ table) (has : HasDescs S D) (no_pipe : S.pipes pipe.0 ≡ None) (no_read : get_or D r None ≡ None) (no_write : get_or D w None ≡ None) where
@@ -86,13 +84,3 @@ pipe_keeps E p q r w me S x y D mid after e one two has k =
             ∙ ap (λ (l : List (Option Opened)). get_or l k None) one ∙ get_or-set_other D r k (Some x) None v.0))
       ]
     ]
-
--- a free descriptor comes to name a new description
-pub open_moves : (d : ℕ) (o : Opened) (f : ℕ) (t new : Descriptors) (ts : List Descriptors) (D after : List (Option Opened)) → d < length D → get_or D d None ≡ None →
-    o.names ≡ 1 → first_free 0 t ≡ Some f → new ≡ set t f (Some d) → after ≡ set D d (Some o) → Agrees (t ∷ ts) D → Agrees (new ∷ ts) after
-open_moves d o f t new ts D after inside free one first changed opened a =
-    subst (λ (l : List (Option Opened)). Agrees (new ∷ ts) l) (sym opened)
-    (subst (λ (l : Descriptors). Agrees (l ∷ ts) (set D d (Some o))) (sym changed)
-    (lower_agrees None (set t f (Some d) ∷ ts) (set D d (Some o))
-    (subst (λ (x : Option ℕ). Agrees ((x ∷ []) ∷ set t f (Some d) ∷ ts) (set D d (Some o))) (free_none t f first)
-    (rename_agrees f (Some d) t ts (set D d (Some o)) (free_inside t f first) (open_agrees d o (t ∷ ts) D inside free one a)))))

@@ -1,97 +1,190 @@
--- The counts of a whole table, raised or lowered one descriptor after another.
-use Rattle.std.proofs.Common.{◌≡◌, ℕ, zero, suc, ◌+◌, ◌-◌, ◌<◌, ◌≤◌, List, [], ◌∷◌, length, take, drop, Option, Some, None, get_or, refl, sym, ap, ◌∙◌, subst, inl, inr, arith}
-use Rattle.std.proofs.lemmas.List.{take_all, drop_all}
+-- The plan of a whole table: each description that it names, once, with its new count.
+use Rattle.std.proofs.Common.{◌≡◌, ◌≢◌, ℕ, ◌+◌, ◌-◌, ◌<◌, ◌≤◌, ◌⊎◌, Bool, true, false, List, [], ◌∷◌, ◌++◌, length, take, Option, Some, None, if◌then◌else◌, ◌==◌, eq-eqb, nat_lt, get_or, refl, sym, ap, ◌∙◌, subst, inl, inr, arith, length-set, get_or-set_same, get_or-set_other}
+use Rattle.std.proofs.lemmas.Bool.{ne_eqb, ltb-true, ltb-false, lt-ltb}
+use Rattle.std.proofs.lemmas.List.{take_more, length_push}
+use Rattle.std.proofs.lemmas.List.Sums.{sum_by_push}
+use Rattle.std.proofs.Math.ListN.{set}
+use Rattle.tx_base.specs.declared.names.DescNo.{DescNo}
 use Rattle.tx_model.specs.State.{State, written}
 use Rattle.tx_model.specs.Descriptors.{open_in, unnamed_go}
+use Rattle.tx_desc.specs.declared.counts.Names.{Names}
+use Rattle.tx_desc.specs.declared.counts.Names.TheVariants.{Fewer}
 use Rattle.tx_desc.specs.declared.opened.Opened.{Opened}
+use Rattle.tx_desc.specs.declared.plans.NewDesc.{NewDesc}
 use Rattle.tx_desc.specs.Places.{Descriptors}
-use Rattle.tx_desc.specs.Descriptions.{changed_at, with_more, with_fewer, HasDescs}
-use Rattle.tx_desc.specs.Counts.{Agrees, IsBacked, HasNamed}
-use Rattle.tx_desc.proofs.Counting.{agrees_same, empty_names, backed_entry, backed_raise, backed_less, backed_more, backed_first, raise_more, lower_more}
-use Rattle.tx_desc.proofs.Gone.{IsIn, Sheds, SameDescs, raise_same, lower_sheds, shed_descs}
+use Rattle.tx_desc.specs.Plans.{put_descs, entries_of, AreNumbers}
+use Rattle.tx_desc.specs.Descriptions.{HasDescs, described, recounted, with_fewer}
+use Rattle.tx_desc.specs.Counts.{count_in, HasNames, KeepsCounts, Agrees, IsBacked, HasNamed}
+use Rattle.tx_desc.proofs.Counting.{count-cons, hit, hit_is, hit_cases, same_names, keeps_go, room_entry, room_inside}
+use Rattle.tx_desc.proofs.Gone.{IsIn, Sheds, fewer_cases, shed_descs}
 
--- the names of a table's first descriptors are counted
-pub record Raised (table : Descriptors) (first : List (Option Opened)) (i : ℕ) (now : List (Option Opened)) : Type 0 where
-  pub backed : IsBacked (16 - i) table now
-  pub counts : (others : List Descriptors) → Agrees others first → Agrees (take i table ∷ others) now
-  pub same : SameDescs first now
+-- planned descriptions, one more at the end
 
-pub raised_none : (table : Descriptors) (first : List (Option Opened)) → IsBacked 16 table first → Raised table first 0 first
-raised_none table first b = record {
-  backed = b;
-  counts = λ others a. agrees_same others ([] ∷ others) first (λ e. empty_names e others) a;
-  same = λ k. refl;
+put-push : (news : List NewDesc) (new : NewDesc) (D : List (Option Opened)) → put_descs (news ++ new ∷ []) D ≡ set (put_descs news D) new.number.0 new.opened
+put-push [] new D = refl
+put-push (first ∷ news) new D = put-push news new (set D first.number.0 first.opened)
+
+length-put : (news : List NewDesc) (D : List (Option Opened)) → length (put_descs news D) ≡ length D
+length-put [] D = refl
+length-put (first ∷ news) D = length-put news (set D first.number.0 first.opened) ∙ length-set D first.number.0 first.opened
+
+numbers-push : (news : List NewDesc) (new : NewDesc) → AreNumbers news → new.number.0 < 64 → AreNumbers (news ++ new ∷ [])
+numbers-push [] new all inside = (inside, tt)
+numbers-push (first ∷ news) new all inside = (all.0, numbers-push news new all.1 inside)
+
+-- what a number has once the first descriptors, so many of which name it, are planned
+abbrev pub planned : Names → ℕ → ℕ → Option Opened → Option Opened
+planned names n all p = if nat_lt 0 n then recounted names all p else p
+
+-- the descriptions that the first i descriptors name are planned, each with all its names
+pub record Planned (names : Names) (table : Descriptors) (D : List (Option Opened)) (i : ℕ) (news : List NewDesc) : Type 0 where
+  pub after : (d : ℕ) → get_or (put_descs news D) d None ≡ planned names (count_in d (take i table)) (count_in d table) (get_or D d None)
+  pub once : (d : ℕ) → entries_of d news ≡ (if nat_lt 0 (count_in d (take i table)) then 1 else 0)
+  pub numbers : AreNumbers news
+  pub few : length news ≤ i
+
+count_next : (e i : ℕ) (table : Descriptors) → i < length table → count_in e (take (i + 1) table) ≡ count_in e (take i table) + hit e (get_or table i None)
+count_next e i table inside = ap (count_in e) (take_more table i None inside) ∙ sum_by_push (hit e) (take i table) (get_or table i None)
+
+planned_same : (names : Names) (m n all : ℕ) (p : Option Opened) → nat_lt 0 m ≡ nat_lt 0 n → planned names m all p ≡ planned names n all p
+planned_same names m n all p same = ap (λ (b : Bool). if b then recounted names all p else p) same
+
+-- a descriptor that is free, or names a description that an earlier one names
+pub planned_skip : (names : Names) (i : ℕ) (table : Descriptors) (D : List (Option Opened)) (news : List NewDesc) → i < length table →
+    ((e : ℕ) → get_or table i None ≡ Some e → 0 < count_in e (take i table)) → Planned names table D i news → Planned names table D (i + 1) news
+planned_skip names i table D news inside before plan = record {
+  after = λ e. plan.after e ∙ planned_same names (count_in e (take i table)) (count_in e (take (i + 1) table)) (count_in e table) (get_or D e None) (same e);
+  once = λ e. plan.once e ∙ ap (λ (b : Bool). if b then 1 else 0) (same e);
+  numbers = plan.numbers;
+  few = let few = plan.few in omega arith;
+}
+  where
+    same : (e : ℕ) → nat_lt 0 (count_in e (take i table)) ≡ nat_lt 0 (count_in e (take (i + 1) table))
+    same e =
+        let next = count_next e i table inside in
+        elim (hit_cases e (get_or table i None)) [
+          | inl is ↦
+              let some : 0 < count_in e (take i table) = before e is in
+              let more : 0 < count_in e (take (i + 1) table) = omega arith in
+              lt-ltb 0 (count_in e (take i table)) some ∙ sym (lt-ltb 0 (count_in e (take (i + 1) table)) more)
+          | inr none ↦
+              let equal : count_in e (take i table) ≡ count_in e (take (i + 1) table) = omega arith in
+              ap (nat_lt 0) equal
+        ]
+
+-- the first descriptor that names a description
+pub planned_push : (names : Names) (i : ℕ) (d : DescNo) (table : Descriptors) (D : List (Option Opened)) (news : List NewDesc) (new : NewDesc) →
+    i < length table → length D ≡ 64 → get_or table i None ≡ Some d.0 → count_in d.0 (take i table) ≡ 0 → d.0 < 64 → new.number ≡ d →
+    new.opened ≡ recounted names (count_in d.0 table) (get_or D d.0 None) → Planned names table D i news → Planned names table D (i + 1) (news ++ new ∷ [])
+planned_push names i d table D news new inside sized is first below number opened plan = record {
+  after = λ e. ap (λ (l : List (Option Opened)). get_or l e None) (put-push news new D) ∙ at e;
+  once = λ e. sum_by_push (λ (entry : NewDesc). if e == entry.number.0 then 1 else 0) news new ∙ entries e;
+  numbers = numbers-push news new plan.numbers (subst (λ (k : DescNo). k.0 < 64) (sym number) below);
+  few = let few = plan.few in omega (arith, length_push news new);
+}
+  where
+    entries : (e : ℕ) → entries_of e news + (if e == new.number.0 then 1 else 0) ≡ (if nat_lt 0 (count_in e (take (i + 1) table)) then 1 else 0)
+    entries e =
+        let next = count_next e i table inside in
+        ap (λ (k : DescNo). entries_of e news + (if e == k.0 then 1 else 0)) number
+        ∙ elim (hit_cases e (get_or table i None)) [
+          | inl here ↦
+              let same : e ≡ d.0 = cc in
+              let one = hit_is e (get_or table i None) here in
+              let none : count_in e (take i table) ≡ 0 = ap (λ (k : ℕ). count_in k (take i table)) same ∙ first in
+              let old : entries_of e news ≡ 0 = plan.once e ∙ ap (λ (n : ℕ). if nat_lt 0 n then 1 else 0) none in
+              let now : count_in e (take (i + 1) table) ≡ 1 = omega arith in
+              ap (λ (b : Bool). entries_of e news + (if b then 1 else 0)) (eq-eqb e d.0 same) ∙ ap (λ (n : ℕ). n + 1) old
+              ∙ ap (λ (n : ℕ). if nat_lt 0 n then 1 else 0) (sym now)
+          | inr other ↦
+              let apart : e ≢ d.0 = λ z. let one = hit_is e (get_or table i None) (is ∙ ap Some (sym z)) in omega arith in
+              let equal : count_in e (take i table) ≡ count_in e (take (i + 1) table) = omega arith in
+              let same : entries_of e news + 0 ≡ entries_of e news = omega arith in
+              ap (λ (b : Bool). entries_of e news + (if b then 1 else 0)) (ne_eqb e d.0 apart) ∙ same ∙ plan.once e
+              ∙ ap (λ (n : ℕ). if nat_lt 0 n then 1 else 0) equal
+        ]
+
+    at : (e : ℕ) → get_or (set (put_descs news D) new.number.0 new.opened) e None ≡ planned names (count_in e (take (i + 1) table)) (count_in e table) (get_or D e None)
+    at e =
+        let next = count_next e i table inside in
+        let all = length-put news D in
+        ap (λ (k : DescNo). get_or (set (put_descs news D) k.0 new.opened) e None) number
+        ∙ elim (hit_cases e (get_or table i None)) [
+          | inl here ↦
+              let same : e ≡ d.0 = cc in
+              let one = hit_is e (get_or table i None) here in
+              let more : 0 < count_in e (take (i + 1) table) = omega arith in
+              let room : d.0 < length (put_descs news D) = omega arith in
+              ap (λ (k : ℕ). get_or (set (put_descs news D) d.0 new.opened) k None) same
+              ∙ get_or-set_same (put_descs news D) d.0 new.opened None room ∙ opened
+              ∙ ap (λ (k : ℕ). recounted names (count_in k table) (get_or D k None)) (sym same)
+              ∙ ap (λ (b : Bool). if b then recounted names (count_in e table) (get_or D e None) else get_or D e None) (sym (lt-ltb 0 (count_in e (take (i + 1) table)) more))
+          | inr other ↦
+              let apart : e ≢ d.0 = λ z. let one = hit_is e (get_or table i None) (is ∙ ap Some (sym z)) in omega arith in
+              let equal : count_in e (take i table) ≡ count_in e (take (i + 1) table) = omega arith in
+              get_or-set_other (put_descs news D) d.0 e new.opened None apart ∙ plan.after e
+              ∙ planned_same names (count_in e (take i table)) (count_in e (take (i + 1) table)) (count_in e table) (get_or D e None) (ap (nat_lt 0) equal)
+        ]
+
+-- what a planned description asks
+
+pub named_inside : (i d : ℕ) (table : Descriptors) (D : List (Option Opened)) → IsBacked 16 table D → get_or table i None ≡ Some d → d < length D
+named_inside i d table D b is = room_inside d 16 D (room_entry i 16 16 (Some d) table D (omega arith) b is)
+
+-- all names come
+
+-- all names are given up
+
+fewer_all : (n others : ℕ) (p : Option Opened) → HasNames (n + others) p → HasNames (0 + others) (recounted Fewer n p)
+fewer_all n others p h = by (nat_lt 0 n) refl
+  where
+    left : (o : Opened) (b : Bool) → nat_lt n o.names ≡ b → HasNames (n + others) (Some o) →
+        HasNames (0 + others) (if b then Some (record { desc = o.desc; names = o.names - n }) else None)
+    left o true k m = let above = ltb-true n o.names k in (omega (arith, m.1), omega (arith, m.1))
+    left o false k m = let below = ltb-false n o.names k in omega (arith, m.1)
+
+    go : (q : Option Opened) → 0 < n → HasNames (n + others) q → HasNames (0 + others) (with_fewer n q)
+    go None some k = absurd (omega (arith, k))
+    go (Some o) some k = left o (nat_lt n o.names) refl k
+
+    by : (b : Bool) → nat_lt 0 n ≡ b → HasNames (0 + others) (if b then with_fewer n p else p)
+    by true k = go p (ltb-true 0 n k) h
+    by false k =
+        let none = ltb-false 0 n k in
+        let same : 0 + others ≡ n + others = omega arith in
+        same_names (0 + others) (n + others) p same h
+
+pub dropped_keeps : (table : Descriptors) (D E : List (Option Opened)) →
+    ((d : ℕ) → get_or E d None ≡ recounted Fewer (count_in d table) (get_or D d None)) → KeepsCounts table [] D E
+dropped_keeps table D E after = record {
+  each = λ d others h. subst (HasNames (0 + others)) (sym (after d)) (fewer_all (count_in d table) others (get_or D d None) h);
 }
 
-raised_next : (i : ℕ) (table : Descriptors) (first now : List (Option Opened)) → i < 16 → length table ≡ 16 →
-    Raised table first i now → Raised table first (i + 1) (changed_at (with_more 1) (get_or table i None) now)
-raised_next i table first now inside full r = record {
-  backed = backed_raise (get_or table i None) (16 - (i + 1)) (16 - i) table now (omega arith) r.backed;
-  counts = λ others a. raise_more i table others now (omega arith) (backed_entry i 1 (16 - i) table now (omega arith) r.backed) (r.counts others a);
-  same = λ k. raise_same (get_or table i None) now k ∙ r.same k;
-}
-
-pub raised_step : (i : ℕ) (table : Descriptors) (first now new : List (Option Opened)) (x : Option ℕ) → i < 16 → length table ≡ 16 →
-    x ≡ get_or table i None → new ≡ changed_at (with_more 1) x now → Raised table first i now → Raised table first (i + 1) new
-raised_step i table first now new x inside full is changed r =
-    subst (Raised table first (i + 1)) (sym (changed ∙ ap (λ (y : Option ℕ). changed_at (with_more 1) y now) is)) (raised_next i table first now inside full r)
-
-pub raised_entry : (i : ℕ) (table : Descriptors) (first now : List (Option Opened)) (x : Option ℕ) → i < 16 →
-    x ≡ get_or table i None → Raised table first i now → IsBacked 1 (x ∷ []) now
-raised_entry i table first now x inside is r =
-    subst (λ (y : Option ℕ). IsBacked 1 (y ∷ []) now) (sym is) (backed_entry i 1 (16 - i) table now (omega arith) r.backed)
-
-pub raised_all : (i : ℕ) (table : Descriptors) (first now : List (Option Opened)) (others : List Descriptors) → 16 ≤ i → length table ≡ 16 →
-    Raised table first i now → Agrees others first → Agrees (table ∷ others) now
-raised_all i table first now others past full r a = subst (λ (t : Descriptors). Agrees (t ∷ others) now) (take_all i table (omega arith)) (r.counts others a)
-
--- the names of a table's last descriptors are counted
-pub record Dropped (table : Descriptors) (first : List (Option Opened)) (i : ℕ) (now : List (Option Opened)) : Type 0 where
-  pub backed : IsBacked 0 (drop i table) now
-  pub counts : (others : List Descriptors) → Agrees (table ∷ others) first → Agrees (drop i table ∷ others) now
-  pub sheds : Sheds (open_in table) first now
-
-pub dropped_none : (table : Descriptors) (first : List (Option Opened)) → IsBacked 16 table first → Dropped table first 0 first
-dropped_none table first b = record {
-  backed = backed_less 0 16 table first (omega arith) b;
-  counts = λ others a. a;
-  sheds = λ k. inl refl;
-}
-
-open-in : (i : ℕ) (table : Descriptors) (d : ℕ) → get_or table i None ≡ Some d → IsIn d (open_in table)
+open-in : (d : ℕ) (table : Descriptors) → 0 < count_in d table → IsIn d (open_in table)
 unfolding open_in
-open-in i [] d is = let never : ⊥ = cc in absurd never
-open-in zero (None ∷ rest) d is = let never : ⊥ = cc in absurd never
-open-in zero (Some e ∷ rest) d is = inl (let same : e ≡ d = cc in sym same)
-open-in (suc i) (None ∷ rest) d is = open-in i rest d is
-open-in (suc i) (Some e ∷ rest) d is = inr (open-in i rest d is)
+open-in d [] some = absurd (let none : count_in d [] ≡ 0 = refl in omega arith)
+open-in d (None ∷ rest) some = open-in d rest (let sum = count-cons d None rest in omega arith)
+open-in d (Some e ∷ rest) some = elim (hit_cases d (Some e)) [
+  | inl is ↦ inl (let same : e ≡ d = cc in sym same)
+  | inr other ↦ inr (open-in d rest (let sum = count-cons d (Some e) rest in omega arith))
+]
 
-dropped_next : (i : ℕ) (table : Descriptors) (first now : List (Option Opened)) → i < 16 → length table ≡ 16 →
-    Dropped table first i now → Dropped table first (i + 1) (changed_at (with_fewer 1) (get_or table i None) now)
-dropped_next i table first now inside full r = record {
-  backed = backed_more i table now (omega arith) r.backed;
-  counts = λ others a. lower_more i table others now (omega arith) (r.counts others a);
-  sheds = lower_sheds (open_in table) (get_or table i None) first now (λ d is. open-in i table d is) r.sheds;
-}
+dropped_sheds : (table : Descriptors) (D E : List (Option Opened)) →
+    ((d : ℕ) → get_or E d None ≡ recounted Fewer (count_in d table) (get_or D d None)) → Sheds (open_in table) D E
+dropped_sheds table D E after d = by (nat_lt 0 (count_in d table)) refl
+  where
+    by : (b : Bool) → nat_lt 0 (count_in d table) ≡ b → (described (get_or E d None) ≡ described (get_or D d None)) ⊎ (IsIn d (open_in table) × (get_or E d None ≡ None))
+    by true k =
+        let now : get_or E d None ≡ with_fewer (count_in d table) (get_or D d None)
+        = after d ∙ ap (λ (b : Bool). if b then with_fewer (count_in d table) (get_or D d None) else get_or D d None) k in
+        elim (fewer_cases (count_in d table) (get_or D d None)) [
+          | inl same ↦ inl (ap described now ∙ same)
+          | inr none ↦ inr (open-in d table (ltb-true 0 (count_in d table) k), now ∙ none)
+        ]
+    by false k = inl (ap described (after d ∙ ap (λ (b : Bool). if b then with_fewer (count_in d table) (get_or D d None) else get_or D d None) k))
 
-pub dropped_step : (i : ℕ) (table : Descriptors) (first now new : List (Option Opened)) (x : Option ℕ) → i < 16 → length table ≡ 16 →
-    x ≡ get_or table i None → new ≡ changed_at (with_fewer 1) x now → Dropped table first i now → Dropped table first (i + 1) new
-dropped_step i table first now new x inside full is changed r =
-    subst (Dropped table first (i + 1)) (sym (changed ∙ ap (λ (y : Option ℕ). changed_at (with_fewer 1) y now) is)) (dropped_next i table first now inside full r)
-
-pub dropped_entry : (i : ℕ) (table : Descriptors) (first now : List (Option Opened)) (x : Option ℕ) → i < 16 → length table ≡ 16 →
-    x ≡ get_or table i None → Dropped table first i now → IsBacked 0 (x ∷ []) now
-dropped_entry i table first now x inside full is r =
-    subst (λ (y : Option ℕ). IsBacked 0 (y ∷ []) now) (sym is) (backed_first i table now (omega arith) r.backed)
-
-pub dropped_all : (i : ℕ) (table : Descriptors) (first now : List (Option Opened)) (others : List Descriptors) → 16 ≤ i → length table ≡ 16 →
-    Dropped table first i now → Agrees (table ∷ others) first → Agrees others now
-dropped_all i table first now others past full r a =
-    let none : drop i table ≡ [] = drop_all i table (omega arith) in
-    agrees_same ([] ∷ others) others now (λ e. sym (empty_names e others)) (subst (λ (t : Descriptors). Agrees (t ∷ others) now) none (r.counts others a))
-
-pub dropped_descs : (i : ℕ) (table : Descriptors) (first now : List (Option Opened)) (others : List Descriptors) (S : State) → 16 ≤ i → length table ≡ 16 →
-    Dropped table first i now → Agrees (table ∷ others) first → HasDescs S first → HasNamed S others →
-    HasDescs (written (unnamed_go (open_in table) S) S) now
-dropped_descs i table first now others S past full r a has named =
-    shed_descs (open_in table) others S first now (dropped_all i table first now others past full r a) named has r.sheds
+pub dropped_descs : (table : Descriptors) (D E : List (Option Opened)) (others : List Descriptors) (S : State) →
+    ((d : ℕ) → get_or E d None ≡ recounted Fewer (count_in d table) (get_or D d None)) → Agrees (table ∷ others) D → HasDescs S D → HasNamed S others →
+    HasDescs (written (unnamed_go (open_in table) S) S) E
+dropped_descs table D E others S after a has named =
+    shed_descs (open_in table) others S D E (keeps_go table others D E (dropped_keeps table D E after) a) named has (dropped_sheds table D E after)

@@ -31,6 +31,20 @@ IsEnough n room (Some opened) = (n ≤ opened.names) × (opened.names + room < 2
 pub record IsBacked (room : ℕ) (table : Descriptors) (descs : List (Option Opened)) : Type 0 where
   pub enough : (d : ℕ) → IsEnough (count_in d table) room (slice_index_or descs d None)
 
+-- the count of what is there has room for so many more
+abbrev pub HasSpace : ℕ → Option Opened → Type 0
+HasSpace room None = Unit {0}
+HasSpace room (Some opened) = opened.names + room < 2 ^ 16
+
+-- the description, if it is one, is there with a name at least, and its count has room for so many more
+abbrev pub HasRoom : ℕ → Option ℕ → List (Option Opened) → Type 0
+HasRoom room None descs = Unit {0}
+HasRoom room (Some d) descs = IsEnough 1 room (slice_index_or descs d None)
+
+-- where these descriptors become new ones, and the descriptions those after, counts that are right stay so: of each number, however many others name it
+pub record KeepsCounts (table new : Descriptors) (descs after : List (Option Opened)) : Type 0 where
+  pub each : (d others : ℕ) → HasNames (count_in d table + others) (slice_index_or descs d None) → HasNames (count_in d new + others) (slice_index_or after d None)
+
 -- a descriptor of the state names a description exactly where one of these does
 abbrev pub HasNamed : State → List Descriptors → Type 0
 HasNamed S tables = (d : ℕ) → is_named d S ≡ nat_lt 0 (names_in d tables)

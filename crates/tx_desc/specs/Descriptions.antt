@@ -9,6 +9,8 @@ use Rattle.tx_desc.specs.declared.opened.Side.TheVariants.{Read, Write}
 use Rattle.tx_desc.specs.declared.opened.Desc.{Desc}
 use Rattle.tx_desc.specs.declared.opened.Opened.{Opened}
 use Rattle.tx_desc.specs.declared.given.Given.{Given}
+use Rattle.tx_desc.specs.declared.counts.Names.{Names}
+use Rattle.tx_desc.specs.declared.counts.Names.TheVariants.{More, Fewer}
 
 abbrev pub end_for : Side → End
 end_for Read = ReadSide
@@ -56,6 +58,11 @@ with_fewer n (Some opened) = if nat_lt n opened.names then Some (record { desc =
 abbrev pub with_flag : Bool → Option Opened → Option Opened
 with_flag on None = None
 with_flag on (Some opened) = Some (record { desc = record { pipe = opened.desc.pipe; side = opened.desc.side; nonblock = on }; names = opened.names })
+
+-- what is there once so many names came or were given up; as it was where there are none
+abbrev pub recounted : Names → ℕ → Option Opened → Option Opened
+recounted More n place = if nat_lt 0 n then with_more n place else place
+recounted Fewer n place = if nat_lt 0 n then with_fewer n place else place
 
 -- the descriptions with what a number has changed so, if there is a number
 abbrev pub changed_at : (Option Opened → Option Opened) → Option ℕ → List (Option Opened) → List (Option Opened)

@@ -2,3 +2,4 @@ pub mod Places
 pub mod Descriptions
 pub mod Counts
 pub mod Outcomes
+pub mod Plans

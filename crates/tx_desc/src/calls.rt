@@ -1,17 +1,16 @@
-//! The calls that change what descriptors name, and the counts of names with them.
+//! The calls that change what descriptors name, and the counts of names with them. Each is its plan,
+//! put in place.
 ghost use Rattle.std.specs.Prelude.{◌≡◌, ◌≢◌, ◌<◌, ℕ, List, [], ◌∷◌, None, Some, IfOk, OnErr, slice_index_or};
 ghost use Rattle.tx_model.specs.Descriptors.{named, descriptor, pipe_effect, dup_effect, dup2_effect, close_effect, nonblock_effect};
 ghost use Rattle.tx_model.specs.Effects.{before_sends};
 ghost use Rattle.tx_model.specs.State.{Process, State};
-ghost use Rattle.tx_desc.specs.Counts.{Agrees, IsBacked, others_of};
+ghost use Rattle.tx_desc.specs.Counts.{Agrees, HasRoom, others_of};
 ghost use Rattle.tx_desc.specs.Descriptions.{HasDescs, IsGone};
 ghost use Rattle.tx_desc.specs.Outcomes.{RunsWith, pipe_outcome, dup_outcome, dup2_outcome, close_outcome, nonblock_outcome};
-ghost use Rattle.tx_desc.specs.Places.{Descriptors};
+ghost use Rattle.tx_desc.specs.Places.{Descriptors, named_in};
 
 use crate::descs::Descs;
 use crate::given::{Given, Renamed};
-use crate::numbers::descriptor_at;
-use crate::opened::Side;
 use crate::table::FdTable;
 use tx_base::{DescNo, Errno, PipeNo};
 
@@ -21,6 +20,7 @@ impl FdTable {
     /// caller's choice.
     ///
     /// TooManyDescriptors where fewer than two descriptors are free. All is then as it was.
+    #[tactic(auto, using(crate::proofs::Counting::keeps_agree))]
     pub fn pipe_pair(
         &mut self,
         descs: &mut Descs,
@@ -43,16 +43,13 @@ impl FdTable {
         ensures err_table { OnErr result (self.new ≡ self.old) }
         ensures err_descs { OnErr result (descs.new ≡ descs.old) }
     {
-        self.sized();
         descs.sized();
-        let Some((first, second)) = self.two_lowest_free() else {
-            return Err(Errno::TooManyDescriptors);
-        };
-        descs.open(read, pipe, Side::Read);
-        descs.open(write, pipe, Side::Write);
-        self.swap(first, &mut Some(read));
-        self.swap(second, &mut Some(write));
-        Ok((first, second))
+        let plan = self.plan_pipe(pipe, read, write)?;
+        self.put(plan.read_name);
+        self.put(plan.write_name);
+        descs.put(plan.read);
+        descs.put(plan.write);
+        Ok((plan.read_name.fd, plan.write_name.fd))
     }
 
     /// The lowest free descriptor names what this one names, and is answered (POSIX.1-2017, XSH,
@@ -60,8 +57,9 @@ impl FdTable {
     ///
     /// BadDescriptor where the number is not one of an open descriptor; TooManyDescriptors where all
     /// 16 are open. All is then as it was.
+    #[tactic(auto, using(crate::proofs::Counting::keeps_agree))]
     pub fn dup(&mut self, descs: &mut Descs, fd: i64) -> Result<usize, Errno>
-        requires { IsBacked 16 self.old descs.old }
+        requires { HasRoom 1 (named_in self.old (descriptor fd)) descs.old }
 
         ensures answer { (p : ℕ) (me : Process) → me.descriptors ≡ self.old →
             dup_effect p me (named me (descriptor fd)) ≡ dup_outcome p me result self.new }
@@ -72,16 +70,10 @@ impl FdTable {
         ensures err_table { OnErr result (self.new ≡ self.old) }
         ensures err_descs { OnErr result (descs.new ≡ descs.old) }
     {
-        self.sized();
-        let Ok(d) = self.look(fd) else {
-            return Err(Errno::BadDescriptor);
-        };
-        let Some(free) = self.lowest_free() else {
-            return Err(Errno::TooManyDescriptors);
-        };
-        descs.raise(d);
-        self.swap(free, &mut Some(d));
-        Ok(free)
+        let plan = self.plan_dup(descs, fd)?;
+        self.put(plan.name);
+        descs.put(plan.desc);
+        Ok(plan.name.fd)
     }
 
     /// The other descriptor gives up what it names, if it names anything, and names what this one
@@ -89,8 +81,10 @@ impl FdTable {
     ///
     /// BadDescriptor where the first number is not one of an open descriptor, or the second is not 0
     /// to 15. All is then as it was.
+    #[tactic(auto, using(crate::proofs::Counting::keeps_agree))]
     pub fn dup2(&mut self, descs: &mut Descs, fd: i64, other: i64) -> Result<Renamed, Errno>
-        requires { IsBacked 16 self.old descs.old }
+        requires named { HasRoom 1 (named_in self.old (descriptor fd)) descs.old }
+        requires left { HasRoom 0 (named_in self.old (descriptor other)) descs.old }
 
         ensures answer { (p : ℕ) (me : Process) (S : State) → me.descriptors ≡ self.old →
             dup2_effect p (descriptor fd) (descriptor other) me S ≡ dup2_outcome p me S result self.new }
@@ -103,35 +97,24 @@ impl FdTable {
         ensures err_table { OnErr result (self.new ≡ self.old) }
         ensures err_descs { OnErr result (descs.new ≡ descs.old) }
     {
-        self.sized();
-        let Some(place) = descriptor_at(fd) else {
-            return Err(Errno::BadDescriptor);
-        };
-        let Some(d) = self.get(place) else {
-            return Err(Errno::BadDescriptor);
-        };
-        let Some(target) = descriptor_at(other) else {
-            return Err(Errno::BadDescriptor);
-        };
-        if place == target {
-            return Ok(Renamed {
-                fd: target,
-                given: None,
-            });
+        let plan = self.plan_dup2(descs, fd, other)?;
+        if let Some(rename) = plan.rename {
+            self.put(rename.name);
+            descs.put(rename.named);
+            if let Some(left) = rename.left {
+                descs.put(left);
+            }
         }
-        descs.raise(d);
-        let mut name = Some(d);
-        self.swap(target, &mut name);
-        let given = descs.give_up(name);
-        Ok(Renamed { fd: target, given })
+        Ok(plan.renamed)
     }
 
     /// The descriptor is free, and the description that it named goes with its last name
     /// (POSIX.1-2017, XSH, close()).
     ///
     /// BadDescriptor where the number is not one of an open descriptor. All is then as it was.
+    #[tactic(auto, using(crate::proofs::Counting::keeps_agree))]
     pub fn close(&mut self, descs: &mut Descs, fd: i64) -> Result<Given, Errno>
-        requires { IsBacked 16 self.old descs.old }
+        requires { HasRoom 0 (named_in self.old (descriptor fd)) descs.old }
 
         ensures answer { (p : ℕ) (me : Process) (S : State) → me.descriptors ≡ self.old →
             close_effect p (descriptor fd) me S ≡ close_outcome p me S result self.new }
@@ -144,23 +127,19 @@ impl FdTable {
         ensures err_table { OnErr result (self.new ≡ self.old) }
         ensures err_descs { OnErr result (descs.new ≡ descs.old) }
     {
-        self.sized();
-        let Some(place) = descriptor_at(fd) else {
-            return Err(Errno::BadDescriptor);
-        };
-        let Some(d) = self.get(place) else {
-            return Err(Errno::BadDescriptor);
-        };
-        self.swap(place, &mut None);
-        Ok(descs.lower(d))
+        let plan = self.plan_close(descs, fd)?;
+        self.put(plan.name);
+        descs.put(plan.desc);
+        Ok(plan.given)
     }
 
     /// Sets O_NONBLOCK of the description that the descriptor names, or clears it (POSIX.1-2017, XSH,
     /// fcntl(), F_SETFL).
     ///
     /// BadDescriptor where the number is not one of an open descriptor. All is then as it was.
+    #[tactic(auto, using(crate::proofs::Counting::keeps_stay))]
     pub fn set_nonblock(&self, descs: &mut Descs, fd: i64, on: bool) -> Result<(), Errno>
-        requires { IsBacked 16 self.now descs.old }
+        requires { HasRoom 0 (named_in self.now (descriptor fd)) descs.old }
 
         ensures answer { (p : ℕ) (me : Process) (S : State) → me.descriptors ≡ self.now → HasDescs S descs.old →
             nonblock_effect p on me (named me (descriptor fd)) S ≡ nonblock_outcome p me (named me (descriptor fd)) result descs.new }
@@ -169,10 +148,8 @@ impl FdTable {
         ensures counts { (tables : List Descriptors) → Agrees tables descs.old → Agrees tables descs.new }
         ensures err_descs { OnErr result (descs.new ≡ descs.old) }
     {
-        let Ok(d) = self.look(fd) else {
-            return Err(Errno::BadDescriptor);
-        };
-        descs.flag(d, on);
+        let plan = self.plan_nonblock(descs, fd, on)?;
+        descs.put(plan);
         Ok(())
     }
 }

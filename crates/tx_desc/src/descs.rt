@@ -1,10 +1,12 @@
 //! The open descriptions, each with the count of its names.
-ghost use Rattle.std.specs.Prelude.{◌≡◌, ◌<◌, None, length, replicate, slice_index_or, slice_set};
+ghost use Rattle.std.specs.Prelude.{◌≡◌, ◌<◌, [], ◌∷◌, None, length, replicate, slice_index_or, slice_set};
 ghost use Rattle.tx_model.specs.Descriptors.{has_description};
 ghost use Rattle.tx_model.specs.State.{State};
 ghost use Rattle.tx_desc.specs.Descriptions.{HasDescs, has_side, is_end_of};
+ghost use Rattle.tx_desc.specs.Plans.{AreNumbers, put_descs};
 
 use crate::opened::{Opened, Side};
+use crate::plans::NewDesc;
 use std::marker::Model;
 use std::mem;
 use tx_base::{DESCRIPTIONS, DescNo, PipeNo};
@@ -81,6 +83,25 @@ impl Descs {
         ensures given { opened.new ≡ slice_index_or self.old d.0 None }
     {
         mem::swap(&mut self.places[d.0 as usize], opened);
+    }
+
+    /// Puts a planned description in place.
+    pub(crate) fn put(&mut self, new: NewDesc)
+        requires { new.number.0 < 64 }
+        ensures { self.new ≡ put_descs (new ∷ []) self.old }
+    {
+        let mut opened = new.opened;
+        self.swap(new.number, &mut opened);
+    }
+
+    /// Puts planned descriptions in place, the first one first.
+    pub(crate) fn put_all(&mut self, news: &[NewDesc])
+        requires { AreNumbers news.now }
+        ensures { self.new ≡ put_descs news.now self.old }
+    {
+        for new in news {
+            self.put(*new);
+        }
     }
 }
 

@@ -2,9 +2,9 @@
 ghost use Rattle.std.specs.Prelude.{◌≡◌, ◌<◌, ◌≤◌, ◌↔◌, ℕ, List, [], ◌∷◌, Option, Some, None, All, Contains, IsSome, IsPermutation, length, replicate, slice_index_or};
 ghost use Rattle.tx_desc.specs.declared.opened.Opened.{Opened};
 ghost use Rattle.tx_model.specs.State.{Process, State, SetProc, write_one};
-ghost use Rattle.tx_desc.specs.Counts.{Agrees, HasNamed, IsBacked, names_in, others_of};
+ghost use Rattle.tx_desc.specs.Counts.{Agrees, HasNamed, HasRoom, IsBacked, KeepsCounts, names_in, others_of};
 ghost use Rattle.tx_desc.specs.Outcomes.{RunsWith};
-ghost use Rattle.tx_desc.specs.Places.{Descriptors};
+ghost use Rattle.tx_desc.specs.Places.{Descriptors, named_in};
 
 /// With no description, the counts are right where there is no process, and where each one has its
 /// descriptors free.
@@ -19,11 +19,28 @@ pub fn there_while_named()
         IsSome (slice_index_or descs d None) ↔ (0 < names_in d tables) }
 {}
 
-/// Where the counts are right, for 256 processes of 16 descriptors at most, what a call on the
-/// descriptors of one of them requires holds, with room for those of one process more.
+/// What a plan says of the counts of one process's names holds whatever all other processes name:
+/// of a process that has other descriptors then, of one that comes, of one that ends, and of no
+/// process.
+pub fn counts_kept()
+    ensures changed { (table new : Descriptors) (others : List Descriptors) (descs after : List (Option Opened)) →
+        KeepsCounts table new descs after → Agrees (table ∷ others) descs → Agrees (new ∷ others) after }
+    ensures comes { (table : Descriptors) (others : List Descriptors) (descs after : List (Option Opened)) →
+        KeepsCounts [] table descs after → Agrees others descs → Agrees (table ∷ others) after }
+    ensures ends { (table : Descriptors) (others : List Descriptors) (descs after : List (Option Opened)) →
+        KeepsCounts table [] descs after → Agrees (table ∷ others) descs → Agrees others after }
+    ensures nobody { (tables : List Descriptors) (descs after : List (Option Opened)) →
+        KeepsCounts [] [] descs after → Agrees tables descs → Agrees tables after }
+{}
+
+/// Where the counts are right, for 256 processes of 16 descriptors at most, what a fork and an end
+/// of one of them require holds; and with it what a call on one of its descriptors requires, open or
+/// not.
 pub fn room_for_names()
-    ensures { (tables : List Descriptors) (descs : List (Option Opened)) (table : Descriptors) → Agrees tables descs →
+    ensures all { (tables : List Descriptors) (descs : List (Option Opened)) (table : Descriptors) → Agrees tables descs →
         length tables ≤ 256 → All (λ each. length each ≡ 16) tables → Contains tables table → IsBacked 16 table descs }
+    ensures one { (table : Descriptors) (descs : List (Option Opened)) (fd : Option ℕ) (room : ℕ) →
+        room ≤ 16 → IsBacked 16 table descs → HasRoom room (named_in table fd) descs }
 {}
 
 /// Whether the counts are right does not depend on the order of the processes.

@@ -8,6 +8,8 @@ mod given;
 mod laws;
 mod numbers;
 mod opened;
+mod planning;
+mod plans;
 mod table;
 #[cfg(test)]
 mod tests;
@@ -15,7 +17,9 @@ mod tests;
 pub use descs::Descs;
 pub use given::{Given, Renamed};
 pub use laws::{
-    any_order, named_by_processes, none_named_at_first, room_for_names, there_while_named,
+    any_order, counts_kept, named_by_processes, none_named_at_first, room_for_names,
+    there_while_named,
 };
 pub use opened::{Desc, Opened, Side};
+pub use plans::{ClosePlan, Dup2Plan, DupPlan, NewDesc, NewName, PipePlan, Rename};
 pub use table::FdTable;

@@ -1,6 +1,6 @@
 //! An open description, and the count of its names.
 ghost use Rattle.std.specs.Prelude.{◌≡◌, ◌<◌, ◌+◌, ◌^◌, Some};
-ghost use Rattle.tx_desc.specs.Descriptions.{with_more, with_fewer};
+ghost use Rattle.tx_desc.specs.Descriptions.{first_named, with_more, with_fewer};
 
 use tx_base::PipeNo;
 
@@ -42,6 +42,18 @@ pub struct Opened {
 }
 
 impl Opened {
+    /// A new description of a side of a pipe, with its first name.
+    pub(crate) fn first(pipe: PipeNo, side: Side) -> Opened
+        ensures { result ≡ first_named pipe side }
+    {
+        let desc = Desc {
+            pipe,
+            side,
+            nonblock: false,
+        };
+        Opened { desc, names: 1 }
+    }
+
     /// The same description with so many names more.
     pub fn more(&self, count: u16) -> Opened
         requires { self.now.names + count < 2 ^ 16 }

@@ -1,11 +1,13 @@
 //! The descriptors of a process.
-ghost use Rattle.std.specs.Prelude.{◌≡◌, ◌<◌, ℕ, None, is_none, length, position, replicate, slice_index_or, slice_set};
+ghost use Rattle.std.specs.Prelude.{◌≡◌, ◌<◌, ℕ, [], ◌∷◌, None, is_none, length, map, position, replicate, slice_index_or, slice_set, take};
 ghost use Rattle.tx_model.specs.Descriptors.{named, descriptor, first_free};
 ghost use Rattle.tx_model.specs.State.{Process};
 ghost use Rattle.tx_desc.specs.Counts.{count_in};
-ghost use Rattle.tx_desc.specs.Places.{number_in, looked_up, two_free};
+ghost use Rattle.tx_desc.specs.Places.{Finds, number_in, looked_up, two_free};
+ghost use Rattle.tx_desc.specs.Plans.{put_names};
 
 use crate::numbers::descriptor_at;
+use crate::plans::NewName;
 use std::marker::Model;
 use std::mem;
 use tx_base::{DESCRIPTORS, DescNo, Errno};
@@ -64,11 +66,21 @@ impl FdTable {
     pub fn look(&self, fd: i64) -> Result<DescNo, Errno>
         ensures { (me : Process) → me.descriptors ≡ self.now → result ≡ looked_up (named me (descriptor fd)) }
     {
+        let (_, d) = self.find(fd)?;
+        Ok(d)
+    }
+
+    /// The descriptor of a number that a program computed, and the description that it names.
+    ///
+    /// BadDescriptor as at `look`.
+    pub(crate) fn find(&self, fd: i64) -> Result<(usize, DescNo), Errno>
+        ensures { Finds self.now (descriptor fd) result }
+    {
         let Some(place) = descriptor_at(fd) else {
             return Err(Errno::BadDescriptor);
         };
         match self.get(place) {
-            Some(d) => Ok(d),
+            Some(d) => Ok((place, d)),
             None => Err(Errno::BadDescriptor),
         }
     }
@@ -97,10 +109,15 @@ impl FdTable {
     pub fn names_of(&self, d: DescNo) -> usize
         ensures { result ≡ count_in d.0 self.now }
     {
-        self.places
-            .iter()
-            .filter(|place| **place == Some(d))
-            .count()
+        count_of(&self.places, d)
+    }
+
+    /// How many of the descriptors below this one name a description.
+    pub(crate) fn names_below(&self, fd: usize, d: DescNo) -> usize
+        requires { fd < 16 }
+        ensures { result ≡ count_in d.0 (take fd self.now) }
+    {
+        count_of(&self.places[..fd], d)
     }
 
     /// Exchanges what a descriptor names: 0 to 15. A second exchange takes the first one back. It
@@ -111,6 +128,15 @@ impl FdTable {
         ensures given { number_in name.new ≡ slice_index_or self.old fd None }
     {
         mem::swap(&mut self.places[fd], name);
+    }
+
+    /// Puts a planned name in place.
+    pub(crate) fn put(&mut self, new: NewName)
+        requires { new.fd < 16 }
+        ensures { self.new ≡ put_names (new ∷ []) self.old }
+    {
+        let mut name = new.name;
+        self.swap(new.fd, &mut name);
     }
 
     /// Equal descriptors, as a child has them (POSIX.1-2017, XSH, fork()). It counts no names.
@@ -128,4 +154,11 @@ fn first_vacant(places: &[Option<DescNo>; DESCRIPTORS]) -> Option<usize>
     ensures { result ≡ position (λ x. is_none x) places.now }
 {
     places.iter().position(|place| place.is_none())
+}
+
+/// How many of these places name a description.
+fn count_of(places: &[Option<DescNo>], d: DescNo) -> usize
+    ensures { result ≡ count_in d.0 (map number_in places.now) }
+{
+    places.iter().filter(|place| **place == Some(d)).count()
 }

@@ -4,9 +4,11 @@ ghost use Rattle.std.specs.Prelude.{[], ◌∷◌, IfOk};
 ghost use Rattle.tx_desc.specs.Counts.{Agrees};
 
 use crate::{
-    Desc, Descs, FdTable, Given, Opened, Renamed, Side, any_order, named_by_processes,
-    none_named_at_first, room_for_names, there_while_named,
+    ClosePlan, Desc, Descs, Dup2Plan, DupPlan, FdTable, Given, NewDesc, NewName, Opened, PipePlan,
+    Rename, Renamed, Side, any_order, counts_kept, named_by_processes, none_named_at_first,
+    room_for_names, there_while_named,
 };
+use arrayvec::ArrayVec;
 use std::test::Fail;
 use tx_base::Errno::{BadDescriptor, TooManyDescriptors};
 use tx_base::{DescNo, Errno, PipeNo};
@@ -63,7 +65,7 @@ fn opened() -> Result<(FdTable, Descs), Fail>
 }
 
 /// The call, in a process that is alone.
-#[tactic(auto, using(crate::proofs::Totals::one_backed))]
+#[tactic(auto, using(crate::proofs::Totals::one_room))]
 fn dup(table: &mut FdTable, descs: &mut Descs, fd: i64) -> Result<usize, Errno>
     requires { Agrees (table.old ∷ []) descs.old }
     ensures { Agrees (table.new ∷ []) descs.new }
@@ -73,7 +75,7 @@ fn dup(table: &mut FdTable, descs: &mut Descs, fd: i64) -> Result<usize, Errno>
 }
 
 /// The call, in a process that is alone.
-#[tactic(auto, using(crate::proofs::Totals::one_backed))]
+#[tactic(auto, using(crate::proofs::Totals::one_room))]
 fn dup2(table: &mut FdTable, descs: &mut Descs, fd: i64, other: i64) -> Result<Renamed, Errno>
     requires { Agrees (table.old ∷ []) descs.old }
     ensures { Agrees (table.new ∷ []) descs.new }
@@ -83,7 +85,7 @@ fn dup2(table: &mut FdTable, descs: &mut Descs, fd: i64, other: i64) -> Result<R
 }
 
 /// The call, in a process that is alone.
-#[tactic(auto, using(crate::proofs::Totals::one_backed))]
+#[tactic(auto, using(crate::proofs::Totals::one_room))]
 fn close(table: &mut FdTable, descs: &mut Descs, fd: i64) -> Result<Given, Errno>
     requires { Agrees (table.old ∷ []) descs.old }
     ensures { Agrees (table.new ∷ []) descs.new }
@@ -93,7 +95,7 @@ fn close(table: &mut FdTable, descs: &mut Descs, fd: i64) -> Result<Given, Errno
 }
 
 /// The call, in a process that is alone.
-#[tactic(auto, using(crate::proofs::Totals::one_backed))]
+#[tactic(auto, using(crate::proofs::Totals::one_room))]
 fn set_nonblock(table: &FdTable, descs: &mut Descs, fd: i64, on: bool) -> Result<(), Errno>
     requires { Agrees (table.now ∷ []) descs.old }
     ensures { Agrees (table.now ∷ []) descs.new }
@@ -301,11 +303,121 @@ fn changes_by_exchanges(rt: HostRuntime) -> Result<(), Fail> {
     Ok(())
 }
 
+/// A descriptor that is to name this description.
+fn names(fd: usize, d: u8) -> NewName {
+    NewName {
+        fd,
+        name: Some(DescNo(d)),
+    }
+}
+
+/// The reading side with so many names, as a plan has it.
+fn to_read(names: u16) -> NewDesc {
+    NewDesc {
+        number: DescNo(5),
+        opened: reading(names),
+    }
+}
+
+/// The writing side with so many names, as a plan has it.
+fn to_write(names: u16) -> NewDesc {
+    NewDesc {
+        number: DescNo(9),
+        opened: writing(names),
+    }
+}
+
+#[test]
+fn plans_a_pipe(rt: HostRuntime) {
+    let table = FdTable::new();
+    let plan = PipePlan {
+        read_name: names(0, 5),
+        write_name: names(1, 9),
+        read: to_read(1),
+        write: to_write(1),
+    };
+    assert_eq!(rt; table.plan_pipe(PipeNo(3), DescNo(5), DescNo(9)), Ok(plan));
+    assert_eq!(rt; table.get(0), None);
+}
+
+#[test]
+#[tactic(auto, using(crate::proofs::Totals::one_room))]
+fn plans_calls(rt: HostRuntime) -> Result<(), Fail> {
+    let (table, descs) = opened()?;
+    table.sized();
+    let dup = DupPlan {
+        name: names(2, 9),
+        desc: to_write(2),
+    };
+    assert_eq!(rt; table.plan_dup(&descs, 1), Ok(dup));
+    let gone = NewDesc {
+        number: DescNo(9),
+        opened: None,
+    };
+    let given = gave_writing(Some(WRITE));
+    let dup2 = Dup2Plan {
+        renamed: Renamed {
+            fd: 1,
+            given: Some(given),
+        },
+        rename: Some(Rename {
+            name: names(1, 5),
+            named: to_read(2),
+            left: Some(gone),
+        }),
+    };
+    assert_eq!(rt; table.plan_dup2(&descs, 0, 1), Ok(dup2));
+    let close = ClosePlan {
+        name: NewName { fd: 1, name: None },
+        desc: gone,
+        given,
+    };
+    assert_eq!(rt; table.plan_close(&descs, 1), Ok(close));
+    let flagged = NewDesc {
+        number: DescNo(9),
+        opened: Some(Opened {
+            desc: WRITE.with_nonblock(true),
+            names: 1,
+        }),
+    };
+    assert_eq!(rt; table.plan_nonblock(&descs, 1, true), Ok(flagged));
+    Ok(())
+}
+
+/// What a fork and an end of a process that is alone are to change.
+#[tactic(auto, using(crate::proofs::Totals::one_backed))]
+fn plans_of(table: &FdTable, descs: &Descs) -> (ArrayVec<NewDesc, 16>, ArrayVec<NewDesc, 16>)
+    requires { Agrees (table.now ∷ []) descs.now }
+{
+    table.sized();
+    (descs.plan_raise_all(table), descs.plan_drop_all(table))
+}
+
+#[test]
+fn plans_each_description_once(rt: HostRuntime) -> Result<(), Fail> {
+    let (mut table, mut descs) = opened()?;
+    assert_eq!(rt; dup(&mut table, &mut descs, 0), Ok(2));
+    let child = fork(&table, &mut descs);
+    end_child(&child, &table, &mut descs);
+    let (fork, end) = plans_of(&table, &descs);
+    assert_eq!(rt; fork.as_slice(), [to_read(4), to_write(2)].as_slice());
+    let gone = |number| NewDesc {
+        number,
+        opened: None,
+    };
+    assert_eq!(rt;
+        end.as_slice(),
+        [gone(DescNo(5)), gone(DescNo(9))].as_slice()
+    );
+    Ok(())
+}
+
 #[test]
 fn laws_do_nothing(_rt: HostRuntime) {
     none_named_at_first();
     there_while_named();
     room_for_names();
     any_order();
+    counts_kept();
     named_by_processes();
 }

@@ -5,7 +5,7 @@ use std::test::Fail;
 use tx_base::{DescNo, Pid, PipeNo};
 use tx_change::{
     BoxedPipe, Change, Parts, PipePart, PipeTable, apply, apply_then_revert, changes_state,
-    commute, counts_agree, exchanges_back, names_its_object, nothing_else, revert,
+    commute, counts_agree, counts_in_turn, exchanges_back, names_its_object, nothing_else, revert,
     revert_then_apply, room_for_names, twice_is_nothing,
 };
 use tx_desc::{Desc, Opened, Side};
@@ -142,6 +142,7 @@ fn a_change_is_small(rt: HostRuntime) {
     changes_state();
     names_its_object();
     counts_agree();
+    counts_in_turn();
     room_for_names();
     assert!(rt; mem::size_of::<Change>() <= 56);
 }

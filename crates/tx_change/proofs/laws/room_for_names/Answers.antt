@@ -1,5 +1,8 @@
-use Rattle.tx_change.proofs.Counted.{room_for_names}
+use Rattle.tx_change.proofs.Counted.{room_for_name, room_for_names}
 use Rattle.tx_change.proofs.laws.room_for_names.Goals as goal
 
-pub returns : goal.returns
-returns c = room_for_names
+pub returns-clause-all : goal.returns-clause-all
+returns-clause-all c = room_for_names
+
+pub returns-clause-one : goal.returns-clause-one
+returns-clause-one c = room_for_name
