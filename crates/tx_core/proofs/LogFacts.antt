@@ -9,7 +9,7 @@ use Rattle.tx_proc.specs.declared.part.Part.TheVariants.{Answer as SetAnswer}
 use Rattle.tx_proc.specs.declared.proc.Proc.{Proc}
 use Rattle.tx_change.specs.Exchange.{parts_after, exchanged, Sizes, IsWithin, AreWithin}
 use Rattle.tx_change.specs.Own.{edited_by, edited, AreOf}
-use Rattle.tx_core.specs.Plans.{only_answers, Gives, Plans, Extends, page_change}
+use Rattle.tx_core.specs.Plans.{only_answers, answer_in, next_answer, Gives, Plans, Extends, page_change}
 use Rattle.tx_model.specs.Effects.{answered}
 use Rattle.tx_model.specs.Pages.{Remembered}
 use Rattle.tx_pages.specs.declared.plans.NewPage.{NewPage}

@@ -16,7 +16,7 @@ use Rattle.tx_proc.specs.declared.part.Part.TheVariants.{Answer as SetAnswer}
 use Rattle.tx_change.specs.declared.parts.Parts.{Parts}
 use Rattle.tx_proc.specs.declared.proc.Proc.{Proc}
 use Rattle.tx_core.specs.Content.{IsContent}
-use Rattle.tx_core.specs.Plans.{Gives, Plans, only_answers, answer_in, IsPlainCall, IsRunning, memory_call}
+use Rattle.tx_core.specs.Plans.{Gives, Plans, only_answers, answer_in, next_answer, IsPlainCall, IsRunning, memory_call}
 use Rattle.tx_core.specs.Undo.{log_in, HasSlot}
 use Rattle.tx_core.specs.Laws.{MachineLaws}
 use Rattle.tx_core.specs.declared.inverse.Inverse.{Inverse}

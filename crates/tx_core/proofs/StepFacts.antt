@@ -26,7 +26,7 @@ use Rattle.tx_proc.specs.Processes.{process_of, process_in}
 use Rattle.tx_change.specs.declared.parts.Parts.{Parts}
 use Rattle.tx_proc.specs.declared.proc.Proc.{Proc}
 use Rattle.tx_core.specs.Content.{state_of, kept_in, starter_in, two_parts_of, view_of, IsMarked, IsContent}
-use Rattle.tx_core.specs.Plans.{proc_after, only_answers, answer_in, IsPlainCall, memory_call}
+use Rattle.tx_core.specs.Plans.{proc_after, only_answers, answer_in, next_answer, IsPlainCall, memory_call}
 use Rattle.tx_core.specs.Steps.{IsNamedBy, IsStep}
 use Rattle.tx_core.specs.Undo.{log_in, last_of, first_of, unnoted, undone_by, HasSlot}
 use Rattle.tx_core.specs.Laws.{MachineLaws}

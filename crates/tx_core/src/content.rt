@@ -5,7 +5,7 @@ ghost use Rattle.tx_base.specs.Slots.{slot_at, with_slot};
 ghost use Rattle.tx_change.specs.Exchange.{applied, exchanged, undone, reverted, parts_after, AreNamed};
 ghost use Rattle.tx_change.specs.declared.change.Change.TheVariants.{Part as SetPart};
 ghost use Rattle.tx_proc.specs.declared.part.Part.TheVariants.{Answer as SetAnswer};
-ghost use Rattle.tx_core.specs.Plans.{answer_in};
+ghost use Rattle.tx_core.specs.Plans.{answer_in, next_answer};
 ghost use Rattle.tx_core.specs.Undo.{log_in, undone_by, HasSlot, GoesWith};
 ghost use Rattle.tx_core.specs.declared.inverse.Inverse.TheVariants.{Outside, Inside, Begun, Committed, Aborted};
 ghost use Rattle.tx_model.specs.Effects.{answered};

@@ -10,8 +10,6 @@ mod log;
 mod machine;
 mod outcome;
 mod schedules;
-#[cfg(test)]
-mod tests;
 
 pub use content::Content;
 pub use inverse::Inverse;

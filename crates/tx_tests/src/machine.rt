@@ -2,7 +2,7 @@
 ghost use Rattle.std.specs.Prelude.{◌≡◌};
 ghost use Rattle.tx_core.specs.Built.{AreBuilt, IsBuiltCall, IsBuilt};
 
-use crate::{Inverse, Machine, NoTransaction, Outcome, run, run_wide};
+use tx_core::{Inverse, Machine, NoTransaction, Outcome, run, run_wide};
 use arrayvec::ArrayVec;
 use std::mem;
 use std::test::Fail;
