@@ -3,7 +3,7 @@ use Rattle.std.proofs.Common.{◌≡◌, ℕ, zero, suc, ◌<◌, List, [], ◌�
 use Rattle.std.specs.Prelude.{All}
 use Rattle.std.proofs.lemmas.List.Elements.{All-append}
 use Rattle.tx_base.specs.declared.steps.Step.{Step}
-use Rattle.txos.specs.declared.header.Header.{Header}
+use Rattle.txos.specs.declared.read.header.Header.{Header}
 use Rattle.txos.specs.Lines.{header_text, step_text, IsOf}
 use Rattle.txos.specs.Schedule.{steps_text, schedule_text, IsSchedule}
 

@@ -2,8 +2,8 @@
 use Rattle.std.proofs.Common.{◌≡◌, ◌≤◌, ◌++◌, ◌∙◌, List, ℕ, sym}
 use Rattle.std.proofs.lemmas.List.{append_cancel_left}
 use Rattle.std.specs.Fmt.{decimal}
-use Rattle.txos.specs.declared.header.Header.{Header}
-use Rattle.txos.specs.declared.header.Version.{Version}
+use Rattle.txos.specs.declared.read.header.Header.{Header}
+use Rattle.txos.specs.declared.read.header.Version.{Version}
 use Rattle.txos.specs.Lines.{header_front, header_text, most_of}
 
 -- what follows the front is the number

@@ -1,8 +1,8 @@
 -- What one read or write does to an end.
 use Rattle.std.specs.Prelude.{◌≡◌, ℕ, ◌+◌, ◌^◌, ◌<◌, ◌≤◌, List, Option, length, take}
 use Rattle.std.specs.Io.KnownBytes.{Keeps, Appends, Consumes, IsAtEnd}
-use Rattle.txos.specs.declared.ends.Flow.{Flow}
-use Rattle.txos.specs.declared.ends.Flow.TheVariants.{Bytes, Again, Failed}
+use Rattle.txos.specs.declared.ends.flow.Flow.{Flow}
+use Rattle.txos.specs.declared.ends.flow.Flow.TheVariants.{Bytes, Again, Failed}
 
 -- how often an end was interrupted, failed, and took no byte
 pub record Counts : Type 0 where

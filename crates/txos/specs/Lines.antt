@@ -8,9 +8,9 @@ use Rattle.tx_base.specs.declared.steps.Call.TheVariants.{Map, Unmap, Protect, S
 use Rattle.tx_base.specs.declared.steps.Step.{Step}
 use Rattle.tx_base.specs.declared.steps.Step.TheVariants as steps
 use Rattle.tx_core.specs.Built.{IsBuilt}
-use Rattle.txos.specs.declared.header.Version.{Version}
-use Rattle.txos.specs.declared.header.Version.TheVariants.{One, Two}
-use Rattle.txos.specs.declared.header.Header.{Header}
+use Rattle.txos.specs.declared.read.header.Version.{Version}
+use Rattle.txos.specs.declared.read.header.Version.TheVariants.{One, Two}
+use Rattle.txos.specs.declared.read.header.Header.{Header}
 
 -- the spelling of what may be done with a page
 abbrev pub access_text : Bool → List ℕ

@@ -1,7 +1,7 @@
 -- The counts of the ends over a reader and a writer.
 use Rattle.txos.specs.Ends.{Counts}
-use Rattle.txos.specs.declared.over.OverRead.{OverRead}
-use Rattle.txos.specs.declared.over.OverWrite.{OverWrite}
+use Rattle.txos.specs.declared.ends.over.OverRead.{OverRead}
+use Rattle.txos.specs.declared.ends.over.OverWrite.{OverWrite}
 
 -- nothing was counted so far
 abbrev pub no_counts : Counts

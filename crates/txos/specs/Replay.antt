@@ -6,7 +6,7 @@ use Rattle.txos.specs.Ends.{Counts}
 use Rattle.txos.specs.Report.{report_text}
 use Rattle.txos.specs.Schedule.{schedule_text, IsSchedule, IsFaultOf}
 use Rattle.txos.specs.Whole.{IsCalm}
-use Rattle.txos.specs.declared.header.Header.{Header}
+use Rattle.txos.specs.declared.read.header.Header.{Header}
 use Rattle.txos.specs.declared.faults.Fault.{Fault}
 use Rattle.txos.specs.declared.faults.Fault.TheVariants.{NotALine, TooLong, Reader, Writer, NoMemory}
 

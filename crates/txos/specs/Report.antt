@@ -5,7 +5,7 @@ use Rattle.tx_base.specs.declared.steps.Step.{Step}
 use Rattle.tx_model.specs.Schedules.{answers_of, history_of}
 use Rattle.tx_model.specs.State.{State, booted}
 use Rattle.tx_model.specs.View.{View, view, present}
-use Rattle.txos.specs.declared.header.Header.{Header}
+use Rattle.txos.specs.declared.read.header.Header.{Header}
 use Rattle.txos.specs.Lines.{most_of}
 use Rattle.txos.specs.Replies.{line_text}
 use Rattle.txos.specs.State.{procs_text}

@@ -3,9 +3,9 @@ use Rattle.std.specs.Prelude.{◌≡◌, ◌≢◌, ℕ, ◌+◌, ◌<◌, ◌�
 use Rattle.tx_base.specs.declared.steps.Step.{Step}
 use Rattle.txos.specs.declared.faults.Fault.{Fault}
 use Rattle.txos.specs.declared.faults.Fault.TheVariants.{NotALine, TooLong, NoMemory}
-use Rattle.txos.specs.declared.header.Version.{Version}
-use Rattle.txos.specs.declared.header.Header.{Header}
-use Rattle.txos.specs.declared.schedule.Schedule.{Schedule}
+use Rattle.txos.specs.declared.read.header.Version.{Version}
+use Rattle.txos.specs.declared.read.header.Header.{Header}
+use Rattle.txos.specs.declared.read.schedule.Schedule.{Schedule}
 use Rattle.txos.specs.Lines.{header_text, step_text, FitsHeader, FitsStep, IsOf}
 
 -- the bytes before the first line's end, or all where no line has an end

@@ -4,31 +4,16 @@
 ghost use Rattle.std.specs.Prelude.{◌≡◌, OnErr, OnOk};
 ghost use Rattle.std.specs.Process.{exit_status};
 
-mod byte_words;
 mod ends;
 mod faults;
-mod header;
-mod heads;
-mod lines;
-mod numbers;
-mod over;
-mod pids;
-mod print;
+mod read;
 mod replays;
-mod replies;
-mod reports;
-mod schedule;
-mod split;
-mod state;
-mod steps;
-mod text;
-mod txns;
-mod whole;
 mod words;
+mod write;
 
 use clap::error::ErrorKind;
+use ends::over::{OverRead, OverWrite};
 use faults::Fault;
-use over::{OverRead, OverWrite};
 use replays::replay;
 use std::process::ExitCode;
 use std::{env, io};

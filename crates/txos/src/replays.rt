@@ -3,11 +3,11 @@ ghost use Rattle.std.specs.Prelude.{◌≡◌};
 ghost use Rattle.txos.specs.Ends.{IsFresh};
 ghost use Rattle.txos.specs.Replay.{Replays};
 
-use crate::ends::{Sink, Source};
+use crate::ends::flow::{Sink, Source};
+use crate::ends::whole::{read_whole, write_whole};
 use crate::faults::Fault;
-use crate::reports::report;
-use crate::text::read_schedule;
-use crate::whole::{read_whole, write_whole};
+use crate::read::text::read_schedule;
+use crate::write::reports::report;
 use std::alloc::Global;
 
 /// Reads the text of a schedule to its end, runs it, and writes the report. Nothing is written

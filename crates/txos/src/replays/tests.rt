@@ -1,6 +1,6 @@
 use super::replay;
+use crate::ends::over::{OverRead, OverWrite};
 use crate::faults::Fault;
-use crate::over::{OverRead, OverWrite};
 use std::alloc::Global;
 use std::io::{Error, ErrorKind, Result, Write};
 use std::str;

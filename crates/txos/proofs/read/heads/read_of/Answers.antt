@@ -1,0 +1,20 @@
+use Rattle.std.proofs.Common.{◌≡◌, ◌∙◌, ap, sym, Some, ℕ}
+use Rattle.std.specs.Prelude.{Option}
+use Rattle.txos.specs.declared.read.header.Header.{Header}
+use Rattle.txos.specs.declared.read.header.Version.{Version}
+use Rattle.txos.proofs.Heading.{counted, few}
+use Rattle.txos.proofs.read.heads.read_of.Goals as goal
+
+pub returns-in-Some-read_count-clause-only : goal.returns-in-Some-read_count-clause-only
+returns-in-Some-read_count-clause-only c h same fits e =
+    let word = counted h c.args.version c.front.result.now c.args.line.now c.in-Some.word.now c.front.ensures same c.in-Some.ensures e in
+    let read : Some c.in-Some-read_count.count ≡ Some h.count = c.in-Some-read_count.ensures.only (record { 0 = h.count }) fits.0 (few h c.args.version c.most.result same c.most.ensures fits.1) word in
+    let count : c.in-Some-read_count.count ≡ h.count = cc in
+    let made : Version → ℕ → Option Header = λ version n. Some (record { version = version; count = n }) in
+    ap (made c.args.version) count ∙ ap (λ v. made v h.count) (sym same)
+
+pub returns-in-None-read_count-clause-only : goal.returns-in-None-read_count-clause-only
+returns-in-None-read_count-clause-only c h same fits e =
+    let word = counted h c.args.version c.front.result.now c.args.line.now c.in-Some.word.now c.front.ensures same c.in-Some.ensures e in
+    let none = c.in-None-read_count.ensures.only (record { 0 = h.count }) fits.0 (few h c.args.version c.most.result same c.most.ensures fits.1) word in
+    cc none

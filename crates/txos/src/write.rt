@@ -1,0 +1,7 @@
+//! Writes the report of a schedule.
+
+pub mod print;
+pub mod replies;
+pub mod reports;
+pub mod state;
+pub mod txns;
