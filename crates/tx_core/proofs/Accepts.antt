@@ -1,5 +1,5 @@
 -- A running process's step is always accepted, and what a step says of histories.
-use Rattle.std.proofs.Common.{◌≡◌, ℕ, Bool, true, false, List, [], ◌∷◌, ℤ, pos, negsuc, Option, Some, None, is_some, Result, Ok, Err, IfOk, IfErr, OnErr, ◌≢◌, if◌then◌else◌, refl, sym, ap, ◌∙◌, subst, inl, inr, ◌⊎◌}
+use Rattle.std.proofs.Common.{◌≡◌, ℕ, Bool, true, false, List, [], ◌∷◌, ℤ, pos, negsuc, Option, Some, None, is_some, Result, Ok, Err, IfOk, if◌then◌else◌, refl, sym, ap, ◌∙◌, subst}
 use Rattle.tx_base.specs.Slots.{slot_at}
 use Rattle.tx_base.specs.declared.marks.Mark.{Mark}
 use Rattle.tx_base.specs.declared.names.Pid.{Pid}
@@ -7,7 +7,7 @@ use Rattle.tx_base.specs.declared.steps.Accepted.{Accepted}
 use Rattle.tx_base.specs.declared.steps.Call.{Call}
 use Rattle.tx_base.specs.declared.steps.Call.TheVariants.{Map, Unmap, Protect, Store, Load, SysXbegin, SysXbeginDefer, SysXend, SysXabort}
 use Rattle.tx_base.specs.declared.steps.Refusal.{Refusal}
-use Rattle.tx_base.specs.declared.steps.Refusal.TheVariants.{NoMemory, NoTransaction}
+use Rattle.tx_base.specs.declared.steps.Refusal.TheVariants.{NoTransaction}
 use Rattle.tx_base.specs.declared.steps.Reply.{Reply}
 use Rattle.tx_base.specs.declared.steps.Reply.TheVariants.{Done, Committed, Aborted, No}
 use Rattle.tx_base.specs.declared.steps.Step.{Step}
@@ -19,7 +19,7 @@ use Rattle.tx_core.specs.Content.{view_of, IsContent}
 use Rattle.tx_core.specs.Plans.{proc_after, only_answers, IsPlainCall, IsRunning, memory_call}
 use Rattle.tx_core.specs.Runs.{IsAfter}
 use Rattle.tx_core.specs.Outcomes.{replied}
-use Rattle.tx_core.specs.Steps.{IsStep, IsXabort, IsKernelAbort, Takes}
+use Rattle.tx_core.specs.Steps.{IsStep, IsXabort, Takes}
 use Rattle.tx_core.specs.Laws.{MachineLaws}
 use Rattle.tx_core.specs.declared.inverse.Inverse.{Inverse}
 use Rattle.tx_core.specs.declared.content.Content.{Content}
@@ -103,32 +103,12 @@ along laws old new step reply inverse made start earlier a =
       view = made.next ∙ ap (λ (V : View). next V step) a.view ∙ sym (laws.history start (record { step = step; reply = reply }) earlier law);
     }
 
--- what a step answers and leaves, clause by clause
-module _ (old new : Content) (step : Step) where
-  pub takes_history : (laws : MachineLaws) (r : Result (Outcome × Inverse) Refusal) → Takes old step r new → IfOk r (λ made. (start : State) (earlier : List Accepted) → Lawful start earlier → view_of old ≡ view start earlier
-      → Lawful start (record { step = step; reply = replied made.0 } ∷ earlier) × (view_of new ≡ view start (record { step = step; reply = replied made.0 } ∷ earlier)))
-  takes_history laws (Err why) h = tt
-  takes_history laws (Ok made) h = λ start earlier l v. let z = along laws old new step (replied made.0) made.1 h start earlier (record { lawful = l; view = v }) in (z.lawful, z.view)
-
-  pub takes_answer : (r : Result (Outcome × Inverse) Refusal) → Takes old step r new → IfErr r (λ why. (why ≡ NoMemory) ⊎ (answer (view_of old) step ≡ No why))
-  takes_answer (Ok made) h = tt
-  takes_answer (Err why) h = elim h.1 [ inl a ↦ inl a.0 | inr b ↦ inr b.0 ]
-
-  pub takes_memory : (r : Result (Outcome × Inverse) Refusal) → Takes old step r new → IfErr r (λ why. why ≡ NoMemory → IsAccepted (answer (view_of old) step))
-  takes_memory (Ok made) h = tt
-  takes_memory (Err why) h = λ e. elim h.1 [ inl a ↦ a.1 | inr b ↦ absurd (b.1 e) ]
-
-  pub takes_xabort : (r : Result (Outcome × Inverse) Refusal) → Takes old step r new → IsXabort old step → IfErr r (λ why. why ≢ NoMemory)
-  takes_xabort (Ok made) h x = tt
-  takes_xabort (Err why) h x = λ e. elim h.1 [ inl a ↦ a.2 x | inr b ↦ b.1 e ]
-
-  pub takes_kernel : (r : Result (Outcome × Inverse) Refusal) → Takes old step r new → IsKernelAbort step → IfErr r (λ why. why ≢ NoMemory)
-  takes_kernel (Ok made) h x = tt
-  takes_kernel (Err why) h x = λ e. elim h.1 [ inl a ↦ a.3 x | inr b ↦ b.1 e ]
-
-  pub takes_refused : (r : Result (Outcome × Inverse) Refusal) → Takes old step r new → OnErr r (new ≡ old)
-  takes_refused (Ok made) h = tt
-  takes_refused (Err why) h = h.0
+-- what a step says of histories, where it is accepted
+pub takes_history : (old new : Content) (step : Step) (laws : MachineLaws) (r : Result (Outcome × Inverse) Refusal) → Takes old step r new
+    → IfOk r (λ made. (start : State) (earlier : List Accepted) → Lawful start earlier → view_of old ≡ view start earlier
+    → Lawful start (record { step = step; reply = replied made.0 } ∷ earlier) × (view_of new ≡ view start (record { step = step; reply = replied made.0 } ∷ earlier)))
+takes_history old new step laws (Err why) h = tt
+takes_history old new step laws (Ok made) h = λ start earlier l v. let z = along laws old new step (replied made.0) made.1 h start earlier (record { lawful = l; view = v }) in (z.lawful, z.view)
 
 -- what there is
 pub some_of : (x : Option ℕ) → is_some x ≡ true → (n : ℕ) × (x ≡ Some n)

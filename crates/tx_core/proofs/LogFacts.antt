@@ -1,6 +1,6 @@
 -- Logs, one old part more or less.
 use Rattle.std.proofs.Common.{◌≡◌, ℕ, ℤ, pos, suc, ◌+◌, ◌-◌, ◌≤◌, List, [], ◌∷◌, ◌++◌, map, take, drop, length, slice_set, refl, ap, sym, subst, ◌∙◌, arith, append_assoc, length-append}
-use Rattle.std.proofs.lemmas.List.{append-nil, drop_at, take_at}
+use Rattle.std.proofs.lemmas.List.{drop_at, take_at}
 use Rattle.tx_base.specs.declared.names.Pid.{Pid}
 use Rattle.tx_change.specs.declared.change.Change.{Change}
 use Rattle.tx_change.specs.declared.change.Change.TheVariants.{Part as SetPart}
@@ -9,7 +9,7 @@ use Rattle.tx_proc.specs.declared.part.Part.TheVariants.{Answer as SetAnswer}
 use Rattle.tx_proc.specs.declared.proc.Proc.{Proc}
 use Rattle.tx_change.specs.Exchange.{parts_after, exchanged, Sizes, IsWithin, AreWithin}
 use Rattle.tx_change.specs.Own.{edited_by, edited, AreOf}
-use Rattle.tx_core.specs.Plans.{only_answers, answer_in, next_answer, Gives, Plans, Extends, page_change}
+use Rattle.tx_core.specs.Plans.{Gives, Plans, page_change, answer_in, next_answer}
 use Rattle.tx_model.specs.Effects.{answered}
 use Rattle.tx_model.specs.Pages.{Remembered}
 use Rattle.tx_pages.specs.declared.plans.NewPage.{NewPage}
@@ -48,25 +48,6 @@ pages_edited pid p (new ∷ pages) = pages_edited pid (record p { space = slice_
 pub pages_own : (pid : Pid) (pages : List NewPage) → AreNumbered pages → AreOf pid.0 (map (page_change pid) pages)
 pages_own pid [] numbered = tt
 pages_own pid (new ∷ pages) numbered = ((refl, numbered.0), pages_own pid pages numbered.1)
-
--- a log with more at its end
-pub extends_same : (before now : List Change) → now ≡ before → Extends before now
-extends_same before now same = record { more = []; added = same ∙ sym (append-nil before) }
-
-pub extends_more : (before more between now : List Change) → between ≡ before ++ more → now ≡ between → Extends before now
-extends_more before more between now added same = record { more = more; added = same ∙ added }
-
--- it is cut back
-pub cut_back : (before between now : List Change) → Extends before between → now ≡ take (length before) between → now ≡ before
-cut_back before between now more cut = cut ∙ ap (take (length before)) more.added ∙ take_at before more.more (length before) refl
-
--- an answer is a plan
-pub answer_plans : (pid : Pid) (p : Proc) (ret : ℤ) (before now : List Change) → now ≡ before ++ SetPart pid (SetAnswer (next_answer ret (answer_in (Some p)))) ∷ [] → Plans pid.0 p before now ret (only_answers p ret)
-answer_plans pid p ret before now added = record {
-  plan = SetPart pid (SetAnswer (next_answer ret (answer_in (Some p)))) ∷ [];
-  added = added;
-  gives = record { own = ((refl, tt), tt); proc = refl; answer = refl };
-}
 
 -- new pages, and then an answer
 pub pages_plan : (pid : Pid) (p : Proc) (pages : List NewPage) (before between now : List Change) → AreNumbered pages → between ≡ before ++ map (page_change pid) pages → now ≡ between ++ SetPart pid (SetAnswer (next_answer (pos 0) (answer_in (Some p)))) ∷ []
