@@ -15,10 +15,7 @@ pub fn read_header(line: &[u8]) -> Option<Header>
     ensures fits { IfSome result FitsHeader }
     ensures only { (h : Header) → FitsHeader h → line.now ≡ header_text h → result ≡ Some h }
 {
-    match read_of(Version::One, line) {
-        None => read_of(Version::Two, line),
-        found => found,
-    }
+    read_of(Version::One, line).or_else(|| read_of(Version::Two, line))
 }
 
 /// The header of that version that a line spells.
