@@ -1,4 +1,5 @@
 pub mod CommandNamed
+pub mod Digits
 pub mod FirstWord
 pub mod Growing
 pub mod Heading

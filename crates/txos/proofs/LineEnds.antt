@@ -1,9 +1,9 @@
 -- The first line of a text, and what follows it.
-use Rattle.std.proofs.Common.{◌≡◌, ℕ, zero, suc, ◌+◌, ◌-◌, ◌<◌, ◌≤◌, List, [], ◌∷◌, ◌++◌, Some, None, false, take, drop, get_or, length, refl, ap, ◌∙◌, sym, arith, eqb, eq-eqb, inl, inr, add-one, length-drop}
+use Rattle.std.proofs.Common.{◌≡◌, ℕ, zero, suc, ◌+◌, ◌-◌, ◌<◌, ◌≤◌, List, [], ◌∷◌, ◌++◌, Some, None, false, take, drop, get_or, length, refl, ap, ◌∙◌, sym, arith, eqb, eq-eqb, inl, inr, add-one, length-append, length-drop}
 use Rattle.std.proofs.lemmas.List.{take_all}
 use Rattle.std.proofs.lemmas.Bool.{ne_eqb}
 use Rattle.std.proofs.lemmas.Bool.Decides.{eqb_tells}
-use Rattle.txos.specs.Schedule.{first_line, after_line}
+use Rattle.txos.specs.Schedule.{first_line, after_line, IsLine}
 
 pub first_line-none : (text : List ℕ) → ((k : ℕ) → k < length text → get_or text k 0 ≡ 10 → ⊥) → text ≡ first_line text
 first_line-none [] none = refl
@@ -54,7 +54,11 @@ line_parts (byte ∷ bytes) rest e =
     ]
 
 -- a text with a line that is spelled so
-pub line_spelled : (text line spelling rest : List ℕ) → line ≡ first_line text → after_line text ≡ Some rest → line ≡ spelling → text ≡ spelling ++ 10 ∷ rest
-line_spelled text line spelling rest first after spelled =
-    let same : first_line text ≡ spelling = sym first ∙ spelled in
-    line_parts text rest after ∙ ap (λ (t : List ℕ). t ++ 10 ∷ rest) same
+pub line_spelled : (text line spelling rest : List ℕ) → IsLine text line rest → line ≡ spelling → text ≡ spelling ++ 10 ∷ rest
+line_spelled text line spelling rest is spelled =
+    let same : first_line text ≡ spelling = sym is.first ∙ spelled in
+    line_parts text rest is.after ∙ ap (λ (t : List ℕ). t ++ 10 ∷ rest) same
+
+-- what follows a line is shorter
+pub shorter_rest : (text line rest : List ℕ) → IsLine text line rest → length rest < length text
+shorter_rest text line rest is = omega (arith, ap length (line_parts text rest is.after), length-append (first_line text) (10 ∷ rest))

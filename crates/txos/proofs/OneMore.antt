@@ -1,12 +1,9 @@
--- One item more.
-use Rattle.std.proofs.Common.{◌≡◌, ℕ, zero, suc, ◌+◌, ◌<◌, ◌/◌, ◌%◌, List, [], ◌∷◌, ◌++◌, take, get_or, length, slice_index, refl, ap, ◌∙◌, sym, arith, add-one, append_assoc}
-use Rattle.std.proofs.lemmas.List.{append-nil}
-use Rattle.hex.specs.Hex.{encode_with, encode_lower, lower_digits}
+-- One item more, of what stands behind the first ones.
+use Rattle.std.proofs.Common.{◌≡◌, ℕ, zero, suc, ◌+◌, ◌<◌, List, [], ◌∷◌, ◌++◌, take, get_or, length, refl, ap, ◌∙◌, sym, arith, add-one, append_assoc}
+use Rattle.std.proofs.lemmas.List.{append-nil, take_more}
+use Rattle.hex.specs.Hex.{encode_with, encode_lower}
+use Rattle.txos.proofs.Hexed.{hex_push, pair_text}
 use Rattle.txos.specs.Each.{each_text}
-
--- what stands behind the first i items and the next one
-abbrev pub pair_text : ℕ → List ℕ
-pair_text byte = slice_index lower_digits (byte / 16) ∷ slice_index lower_digits (byte % 16) ∷ []
 
 each_suc : {A : Type 0} (text : A → List ℕ) (items : List A) (i : ℕ) (d : A) → i < length items → each_text text (take (suc i) items) ≡ each_text text (take i items) ++ text (get_or items i d)
 each_suc text [] i d inside = absurd (omega arith)
@@ -20,17 +17,10 @@ each_more text items i d before now after inside so_far more =
     let one : each_text text (take (i + 1) items) ≡ each_text text (take i items) ++ text (get_or items i d) = rw add-one (each_suc text items i d inside) in
     more ∙ ap (λ (t : List ℕ). t ++ text (get_or items i d)) so_far ∙ append_assoc before (each_text text (take i items)) (text (get_or items i d)) ∙ ap (λ (t : List ℕ). before ++ t) (sym one)
 
-hex_suc : (bytes : List ℕ) (i : ℕ) → i < length bytes → encode_lower (take (suc i) bytes) ≡ encode_lower (take i bytes) ++ pair_text (get_or bytes i 0)
-unfolding encode_with
-hex_suc [] i inside = absurd (omega arith)
-hex_suc (byte ∷ bytes) zero inside = refl
-hex_suc (byte ∷ bytes) (suc i) inside =
-    ap (λ (t : List ℕ). slice_index lower_digits (byte / 16) ∷ slice_index lower_digits (byte % 16) ∷ t) (hex_suc bytes i (omega arith))
-
 pub hex_more : (bytes : List ℕ) (i : ℕ) (before now after : List ℕ) → i < length bytes →
     now ≡ before ++ encode_lower (take i bytes) → after ≡ now ++ pair_text (get_or bytes i 0) → after ≡ before ++ encode_lower (take (i + 1) bytes)
 hex_more bytes i before now after inside so_far more =
-    let one : encode_lower (take (i + 1) bytes) ≡ encode_lower (take i bytes) ++ pair_text (get_or bytes i 0) = rw add-one (hex_suc bytes i inside) in
+    let one : encode_lower (take (i + 1) bytes) ≡ encode_lower (take i bytes) ++ pair_text (get_or bytes i 0) = ap encode_lower (take_more bytes i 0 inside) ∙ hex_push (take i bytes) (get_or bytes i 0) in
     more ∙ ap (λ (t : List ℕ). t ++ pair_text (get_or bytes i 0)) so_far ∙ append_assoc before (encode_lower (take i bytes)) (pair_text (get_or bytes i 0)) ∙ ap (λ (t : List ℕ). before ++ t) (sym one)
 
 pub hex_none : encode_lower [] ≡ []

@@ -10,7 +10,8 @@ use Rattle.tx_base.specs.declared.steps.Call.{Call}
 use Rattle.tx_base.specs.declared.steps.Step.{Step}
 use Rattle.tx_base.specs.declared.steps.Step.TheVariants as steps
 use Rattle.txos.specs.Words.{first_word}
-use Rattle.txos.specs.Lines.{call_text, step_text, FitsStep}
+use Rattle.txos.specs.Lines.{call_text, step_text, FitsStep, IsCallOf, IsOf}
+use Rattle.txos.specs.declared.read.header.Version.{Version}
 use Rattle.txos.proofs.Spelled.{pid_fits}
 use Rattle.txos.proofs.FirstWord.{first_word-word, spaceless_signed}
 
@@ -49,8 +50,8 @@ aborts (steps.Deliver pid signo) fits first rest read f r kernel only = absurd f
 aborts (steps.KernelAbort starter) fits first rest read f r kernel only = only starter fits r
 
 -- after another word it is a call
-pub calls : (s : Step) → FitsStep s → (first rest : List ℕ) (read : Option Step) → first ≡ first_of s → rest ≡ rest_of s → first ≢ codes "kernel" →
-    ((p : Pid) (c : Call) → FitsStep (steps.Call p c) → first ≡ decimal p.0 → rest ≡ call_text c → read ≡ Some (steps.Call p c)) → read ≡ Some s
-calls (steps.Call pid call) fits first rest read f r other only = only pid call fits f r
-calls (steps.Deliver pid signo) fits first rest read f r other only = absurd fits
-calls (steps.KernelAbort starter) fits first rest read f r other only = absurd (other f)
+pub calls : (version : Version) (s : Step) → FitsStep s → IsOf version s → (first rest : List ℕ) (read : Option Step) → first ≡ first_of s → rest ≡ rest_of s → first ≢ codes "kernel" →
+    ((p : Pid) (c : Call) → FitsStep (steps.Call p c) → IsCallOf version c → first ≡ decimal p.0 → rest ≡ call_text c → read ≡ Some (steps.Call p c)) → read ≡ Some s
+calls version (steps.Call pid call) fits within first rest read f r other only = only pid call fits within f r
+calls version (steps.Deliver pid signo) fits within first rest read f r other only = absurd fits
+calls version (steps.KernelAbort starter) fits within first rest read f r other only = absurd (other f)

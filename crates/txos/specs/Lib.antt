@@ -2,6 +2,7 @@ pub mod CommandLine
 pub mod Each
 pub mod Ends
 pub mod Lines
+pub mod Links
 pub mod Over
 pub mod Replay
 pub mod Replies

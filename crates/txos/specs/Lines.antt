@@ -7,7 +7,7 @@ use Rattle.tx_base.specs.declared.steps.Call.{Call}
 use Rattle.tx_base.specs.declared.steps.Call.TheVariants.{Map, Unmap, Protect, Store, Load, SysXbegin, SysXbeginDefer, SysXend, SysXabort}
 use Rattle.tx_base.specs.declared.steps.Step.{Step}
 use Rattle.tx_base.specs.declared.steps.Step.TheVariants as steps
-use Rattle.tx_core.specs.Built.{IsBuilt}
+use Rattle.tx_core.specs.Built.{IsBuiltCall}
 use Rattle.txos.specs.declared.read.header.Version.{Version}
 use Rattle.txos.specs.declared.read.header.Version.TheVariants.{One, Two}
 use Rattle.txos.specs.declared.read.header.Header.{Header}
@@ -43,26 +43,14 @@ FitsCall SysXend = Unit {0}
 FitsCall SysXabort = Unit {0}
 FitsCall _ = ⊥
 
--- it has no argument
-abbrev pub is_bare : Call → Bool
-is_bare SysXbegin = true
-is_bare SysXbeginDefer = true
-is_bare SysXend = true
-is_bare SysXabort = true
-is_bare _ = false
-
--- it has one argument, a number
-abbrev pub is_of_number : Call → Bool
-is_of_number (Map page) = true
-is_of_number (Unmap page) = true
-is_of_number (Load address) = true
-is_of_number _ = false
-
--- it has two arguments, of which the first is a number
-abbrev pub is_of_two : Call → Bool
-is_of_two (Protect page writable) = true
-is_of_two (Store address bytes) = true
-is_of_two _ = false
+-- it is one of the calls on memory
+abbrev pub is_on_memory : Call → Bool
+is_on_memory (Map page) = true
+is_on_memory (Unmap page) = true
+is_on_memory (Protect page writable) = true
+is_on_memory (Store address bytes) = true
+is_on_memory (Load address) = true
+is_on_memory _ = false
 
 -- the spelling of a step, without the line's end
 abbrev pub step_text : Step → List ℕ
@@ -77,9 +65,14 @@ FitsStep (steps.Deliver pid signo) = ⊥
 FitsStep (steps.KernelAbort starter) = starter.0 < 2 ^ 16
 
 -- it stands in the texts of a version: what the machine makes, but what defers deliveries came with the second
+abbrev pub IsCallOf : Version → Call → Type 0
+IsCallOf One SysXbeginDefer = ⊥
+IsCallOf version call = IsBuiltCall call
+
 abbrev pub IsOf : Version → Step → Type 0
-IsOf One (steps.Call pid SysXbeginDefer) = ⊥
-IsOf version step = IsBuilt step
+IsOf version (steps.Call pid call) = IsCallOf version call
+IsOf version (steps.Deliver pid signo) = ⊥
+IsOf version (steps.KernelAbort starter) = Unit {0}
 
 -- the most processes that a text of a version begins with
 abbrev pub most_of : Version → ℕ

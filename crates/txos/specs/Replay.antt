@@ -26,9 +26,9 @@ Replays left reads written writes (Ok _) reads' written' writes' =
     ((header : Header) × (steps : List Step) × IsTextOf left header steps × Appends written written' (report_text header steps))
     × IsCalm reads reads' × IsCalm writes writes'
 Replays left reads written writes (Err (NotALine line)) reads' written' writes' =
-    IfSome left (λ bytes. IsFaultOf bytes (NotALine line)) × Keeps written written'
+    IfSome left (λ bytes. (length bytes ≤ 1048576) × IsFaultOf bytes (NotALine line)) × Keeps written written'
 Replays left reads written writes (Err (TooLong line)) reads' written' writes' =
-    IfSome left (λ bytes. ((line ≡ 0) × (1048576 < length bytes)) ⊎ IsFaultOf bytes (TooLong line)) × Keeps written written'
+    IfSome left (λ bytes. ((line ≡ 0) × (1048576 < length bytes)) ⊎ ((length bytes ≤ 1048576) × IsFaultOf bytes (TooLong line))) × Keeps written written'
 Replays left reads written writes (Err Reader) reads' written' writes' =
     ((reads.failed < reads'.failed) ⊎ (reads'.again ≡ reads.again + 1001)) × Keeps written written'
 Replays left reads written writes (Err Writer) reads' written' writes' =

@@ -30,7 +30,8 @@ schedule_text header steps = header_text header ++ 10 ∷ steps_text steps
 -- a text can hold these steps after that header
 pub record IsSchedule (header : Header) (steps : List Step) : Type 0 where
   pub header_fits : FitsHeader header
-  pub steps_fit : All (λ step. IsOf header.version step) steps
+  pub steps_fit : All FitsStep steps
+  pub steps_of : All (λ step. IsOf header.version step) steps
   pub few : length steps ≤ 4096
 
 -- no header is spelled so
@@ -40,6 +41,18 @@ IsNoHeader line = (header : Header) → FitsHeader header → line ≢ header_te
 -- no step of that version is spelled so
 abbrev pub IsNoStep : Version → List ℕ → Type 0
 IsNoStep version line = (step : Step) → FitsStep step → IsOf version step → line ≢ step_text step
+
+-- the first line of the text, which is not too long, and what follows its end
+pub record IsLine (text line rest : List ℕ) : Type 0 where
+  pub first : line ≡ first_line text
+  pub after : after_line text ≡ Some rest
+  pub short : length line ≤ 512
+
+-- the first line of the text, which has that number, is at fault: it is too long, or else it has no end
+abbrev pub FaultsAtLine : ℕ → List ℕ → Fault → Type 0
+FaultsAtLine number text (TooLong line) = (line ≡ number) × (512 < length (first_line text))
+FaultsAtLine number text (NotALine line) = (line ≡ number) × (length (first_line text) ≤ 512) × (after_line text ≡ None)
+FaultsAtLine number text _ = ⊥
 
 -- the first line of the text is at fault: it is too long; or else it has no end, or is no header
 abbrev pub FaultsAtHeader : List ℕ → Fault → Type 0
@@ -76,9 +89,3 @@ ReadsSchedule text (Err fault) = IsFaultOf text fault
 pub record SpellsHeader (text : List ℕ) (header : Header) (rest : List ℕ) : Type 0 where
   pub spelled : text ≡ header_text header ++ 10 ∷ rest
   pub fits : FitsHeader header
-
--- the text begins with the line of that step, which may stand there
-pub record SpellsStep (version : Version) (count : ℕ) (text : List ℕ) (step : Step) (rest : List ℕ) : Type 0 where
-  pub spelled : text ≡ step_text step ++ 10 ∷ rest
-  pub fits : IsOf version step
-  pub few : count < 4096

@@ -32,6 +32,7 @@ fn main(rt: HostRuntime) -> ExitCode {
             if error.kind() == io::ErrorKind::OutOfMemory {
                 return out_of_memory(&rt);
             }
+            let _ = eprintln!(rt; "error: a word is not UTF-8");
             return ExitCode::from(UNREAD);
         }
     };

@@ -17,18 +17,9 @@ pub fn replay<S: Source, W: Sink>(alloc: Global, source: &mut S, sink: &mut W) -
     requires sink { IsFresh (W.counts sink.old) }
     ensures { Replays (S.left source.old) (S.counts source.old) (W.written sink.old) (W.counts sink.old) result (S.counts source.new) (W.written sink.new) (W.counts sink.new) }
 {
-    let text = match read_whole(alloc, source) {
-        Ok(text) => text,
-        Err(fault) => return Err(fault),
-    };
-    let schedule = match read_schedule(alloc, text.as_slice()) {
-        Ok(schedule) => schedule,
-        Err(fault) => return Err(fault),
-    };
-    let report = match report(alloc, &schedule) {
-        Ok(report) => report,
-        Err(fault) => return Err(fault),
-    };
+    let text = read_whole(alloc, source)?;
+    let schedule = read_schedule(alloc, text.as_slice())?;
+    let report = report(alloc, &schedule)?;
     write_whole(sink, report.as_bytes())
 }
 

@@ -1,5 +1,6 @@
 //! Writes the report of a schedule.
 
+pub mod links;
 pub mod print;
 pub mod replies;
 pub mod reports;

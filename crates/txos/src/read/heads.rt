@@ -15,10 +15,7 @@ pub fn read_header(line: &[u8]) -> Option<Header>
     ensures fits { IfSome result FitsHeader }
     ensures only { (h : Header) → FitsHeader h → line.now ≡ header_text h → result ≡ Some h }
 {
-    match read_of(Version::One, line) {
-        Some(header) => Some(header),
-        None => read_of(Version::Two, line),
-    }
+    read_of(Version::One, line).or_else(|| read_of(Version::Two, line))
 }
 
 /// The header of that version that a line spells.
@@ -28,13 +25,9 @@ fn read_of(version: Version, line: &[u8]) -> Option<Header>
     ensures same { IfSome result (λ h. h.version ≡ version) }
     ensures only { (h : Header) → h.version ≡ version → FitsHeader h → line.now ≡ header_text h → result ≡ Some h }
 {
-    match after_front(front(version), line) {
-        Some(word) => match read_count(word, most(version)) {
-            Some(count) => Some(Header { version, count }),
-            None => None,
-        },
-        None => None,
-    }
+    let word = after_front(front(version), line)?;
+    let count = read_count(word, most(version))?;
+    Some(Header { version, count })
 }
 
 /// What stands before the number in a header.
@@ -71,13 +64,12 @@ fn read_count(word: &[u8], most: u16) -> Option<u16>
     ensures below { IfSome result (λ n. n ≤ most) }
     ensures only { (p : Pid) → 0 < p.0 → p.0 ≤ most → word.now ≡ decimal p.0 → result ≡ Some p.0 }
 {
-    match read_pid(word) {
-        Some(Pid(count)) => {
-            if count == 0 || count > most {
-                return None;
-            }
-            Some(count)
-        }
-        None => None,
+    let Pid(count) = read_pid(word)?;
+    if count == 0 {
+        return None;
     }
+    if count > most {
+        return None;
+    }
+    Some(count)
 }

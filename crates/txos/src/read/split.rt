@@ -22,13 +22,10 @@ pub fn split_word(line: &[u8]) -> Option<(&[u8], &[u8])>
 /// no space, or no number before it.
 pub fn split_number(line: &[u8]) -> Option<(i64, &[u8])>
     ensures found { IfSome result (λ r. line.now ≡ signed_decimal r.0 ++ 32 ∷ r.1.now) }
+    ensures fits { IfSome result (λ r. FitsSigned w64 r.0) }
     ensures only { (z : ℤ) (rest : List ℕ) → FitsSigned w64 z → line.now ≡ signed_decimal z ++ 32 ∷ rest → IsSomeAnd result (λ r. (r.0 ≡ z) × (r.1.now ≡ rest)) }
 {
-    match split_word(line) {
-        Some((first, rest)) => match number(first) {
-            Some(number) => Some((number, rest)),
-            None => None,
-        },
-        None => None,
-    }
+    let (first, rest) = split_word(line)?;
+    let number = number(first)?;
+    Some((number, rest))
 }

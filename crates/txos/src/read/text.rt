@@ -1,14 +1,14 @@
 //! Reads the text of a schedule, line by line.
-ghost use Rattle.std.specs.Prelude.{◌≡◌, ◌≢◌, ◌≤◌, [], length, option_map, MatchResult};
-ghost use Rattle.txos.specs.Schedule.{after_line, first_line, FaultsAtHeader, FaultsAtStep, ReadsSchedule, SpellsHeader, SpellsStep};
+ghost use Rattle.std.specs.Prelude.{◌≡◌, ◌<◌, ◌≤◌, IfErr, IfOk, OnOk, option_map, MatchResult};
+ghost use Rattle.txos.specs.Schedule.{after_line, first_line, FaultsAtHeader, FaultsAtLine, FaultsAtStep, IsLine, ReadsSchedule, SpellsHeader};
+ghost use Rattle.txos.specs.declared.read.header.Version.{Version};
 
 use crate::faults::Fault;
-use crate::read::header::{Header, Version};
+use crate::read::header::Header;
 use crate::read::heads::read_header;
 use crate::read::schedule::Schedule;
 use crate::read::steps::read_step;
 use std::alloc::Global;
-use tx_base::Step;
 
 /// How long a line may be, in bytes, without its end.
 pub const LINE_BYTES: usize = 512;
@@ -16,27 +16,28 @@ pub const LINE_BYTES: usize = 512;
 /// How many steps a text may have.
 pub const STEPS: usize = 4_096;
 
+/// How many bytes the line of a step has at least, with its end, as `1 map 0`.
+const STEP_BYTES: usize = 8;
+
 /// The schedule whose text this is. The first line at fault decides: `TooLong` where it has more
 /// than `LINE_BYTES` bytes or stands after `STEPS` steps, and else `NotALine` where it has no end
 /// or is none of the grammar's. A refused growth is `NoMemory`.
 pub fn read_schedule(alloc: Global, text: &[u8]) -> Result<Schedule, Fault>
     ensures { ReadsSchedule text.now result }
 {
-    let (header, mut left) = match first_header(text) {
-        Ok(parts) => parts,
-        Err(fault) => return Err(fault),
-    };
-    let mut steps = Vec::new(alloc);
+    let (header, mut left) = first_header(text)?;
+    let mut steps = Vec::with_capacity(alloc, STEPS.min(left.len() / STEP_BYTES))?;
     while !left.is_empty() {
-        match next_step(header.version, steps.len(), left) {
-            Ok((step, rest)) => {
-                if steps.push(step).is_err() {
-                    return Err(Fault::NoMemory);
-                }
-                left = rest;
-            }
-            Err(fault) => return Err(fault),
+        let (line, rest) = next_line(steps.len(), left)?;
+        let Some(step) = read_step(header.version, line) else {
+            return Err(Fault::NotALine {
+                line: steps.len() as u64 + 2,
+            });
+        };
+        if steps.push(step).is_err() {
+            return Err(Fault::NoMemory);
         }
+        left = rest;
     }
     Ok(Schedule { header, steps })
 }
@@ -45,38 +46,37 @@ pub fn read_schedule(alloc: Global, text: &[u8]) -> Result<Schedule, Fault>
 fn first_header(text: &[u8]) -> Result<(Header, &[u8]), Fault>
     ensures { MatchResult result (λ r. SpellsHeader text.now r.0 r.1.now) (FaultsAtHeader text.now) }
 {
-    let (line, rest) = take_line(text);
-    if line.len() > LINE_BYTES {
-        return Err(Fault::TooLong { line: 1 });
-    }
-    let Some(rest) = rest else {
-        return Err(Fault::NotALine { line: 1 });
-    };
+    let (line, rest) = line_of(1, text)?;
     match read_header(line) {
         Some(header) => Ok((header, rest)),
         None => Err(Fault::NotALine { line: 1 }),
     }
 }
 
-/// The step in the first line of what is left of a text after so many steps, and the text after
-/// that line.
-fn next_step(version: Version, count: usize, left: &[u8]) -> Result<(Step, &[u8]), Fault>
+/// The first line of what is left of a text after so many steps, and the text after that line.
+fn next_line(count: usize, left: &[u8]) -> Result<(&[u8], &[u8]), Fault>
     requires { count ≤ 4096 }
-    ensures { MatchResult result (λ r. SpellsStep version count left.now r.0 r.1.now) (FaultsAtStep version count left.now) }
+    ensures line { IfOk result (λ r. IsLine left.now r.0.now r.1.now) }
+    ensures few { OnOk result (count < 4096) }
+    ensures fault { IfErr result (λ fault. (version : Version) → FaultsAtStep version count left.now fault) }
 {
     let number = count as u64 + 2;
-    let (line, rest) = take_line(left);
-    if line.len() > LINE_BYTES {
-        return Err(Fault::TooLong { line: number });
-    }
     if count == STEPS {
         return Err(Fault::TooLong { line: number });
     }
-    let Some(rest) = rest else {
-        return Err(Fault::NotALine { line: number });
-    };
-    match read_step(version, line) {
-        Some(step) => Ok((step, rest)),
+    line_of(number, left)
+}
+
+/// The first line of a text, which has that number, and the text after its end.
+fn line_of(number: u64, text: &[u8]) -> Result<(&[u8], &[u8]), Fault>
+    ensures { MatchResult result (λ r. IsLine text.now r.0.now r.1.now) (FaultsAtLine number text.now) }
+{
+    let (line, rest) = take_line(text);
+    if line.len() > LINE_BYTES {
+        return Err(Fault::TooLong { line: number });
+    }
+    match rest {
+        Some(rest) => Ok((line, rest)),
         None => Err(Fault::NotALine { line: number }),
     }
 }

@@ -117,6 +117,44 @@ fn faults_write_nothing(rt: HostRuntime) {
     }
 }
 
+/// What the replay of so many bytes answers, of which the first are a text and the others `x`.
+fn answer_of_long(
+    alloc: Global,
+    front: &[u8],
+    count: usize,
+) -> std::result::Result<std::result::Result<(), Fault>, Fail> {
+    let mut bytes = vec![in alloc; b'x'; count]?;
+    if front.len() <= bytes.len() {
+        bytes[..front.len()].copy_from_slice(front);
+    }
+    let mut taken = Vec::new(alloc);
+    let writer = Taking {
+        room: 10_000,
+        taken: &mut taken,
+    };
+    Ok(replay(
+        alloc,
+        &mut OverRead::new(bytes.as_slice()),
+        &mut OverWrite::new(writer),
+    ))
+}
+
+#[test]
+fn longest_text(rt: HostRuntime) -> std::result::Result<(), Fail> {
+    let rows: [(&[u8], Fault); 3] = [
+        (b"", Fault::TooLong { line: 1 }),
+        (b"\n", Fault::NotALine { line: 1 }),
+        (b"txos 1 schedule 1\n1 map 0\n", Fault::TooLong { line: 3 }),
+    ];
+    for (front, fault) in rows {
+        let longest = answer_of_long(rt.alloc(), front, 1_048_576)?;
+        assert_eq!(rt; longest, Err(fault), "{front:?}");
+        let longer = answer_of_long(rt.alloc(), front, 1_048_577)?;
+        assert_eq!(rt; longer, Err(Fault::TooLong { line: 0 }), "{front:?}");
+    }
+    Ok(())
+}
+
 /// The steps of a schedule, and its report on a machine of 256 processes up to those that the
 /// steps left alone, of which the first is named.
 const WIDE_ROWS: [(&str, &str, u16); 2] = [
