@@ -340,16 +340,50 @@ fn plans_a_pipe(rt: HostRuntime) {
     assert_eq!(rt; table.get(0), None);
 }
 
-#[test]
+/// The plan, in a process that is alone.
 #[tactic(auto, using(crate::proofs::Totals::one_room))]
+fn plan_dup(table: &FdTable, descs: &Descs, fd: i64) -> Result<DupPlan, Errno>
+    requires { Agrees (table.now ∷ []) descs.now }
+{
+    table.sized();
+    table.plan_dup(descs, fd)
+}
+
+/// The plan, in a process that is alone.
+#[tactic(auto, using(crate::proofs::Totals::one_room))]
+fn plan_dup2(table: &FdTable, descs: &Descs, fd: i64, other: i64) -> Result<Dup2Plan, Errno>
+    requires { Agrees (table.now ∷ []) descs.now }
+{
+    table.sized();
+    table.plan_dup2(descs, fd, other)
+}
+
+/// The plan, in a process that is alone.
+#[tactic(auto, using(crate::proofs::Totals::one_room))]
+fn plan_close(table: &FdTable, descs: &Descs, fd: i64) -> Result<ClosePlan, Errno>
+    requires { Agrees (table.now ∷ []) descs.now }
+{
+    table.sized();
+    table.plan_close(descs, fd)
+}
+
+/// The plan, in a process that is alone.
+#[tactic(auto, using(crate::proofs::Totals::one_room))]
+fn plan_nonblock(table: &FdTable, descs: &Descs, fd: i64, on: bool) -> Result<NewDesc, Errno>
+    requires { Agrees (table.now ∷ []) descs.now }
+{
+    table.sized();
+    table.plan_nonblock(descs, fd, on)
+}
+
+#[test]
 fn plans_calls(rt: HostRuntime) -> Result<(), Fail> {
     let (table, descs) = opened()?;
-    table.sized();
     let dup = DupPlan {
         name: names(2, 9),
         desc: to_write(2),
     };
-    assert_eq!(rt; table.plan_dup(&descs, 1), Ok(dup));
+    assert_eq!(rt; plan_dup(&table, &descs, 1), Ok(dup));
     let gone = NewDesc {
         number: DescNo(9),
         opened: None,
@@ -366,13 +400,13 @@ fn plans_calls(rt: HostRuntime) -> Result<(), Fail> {
             left: Some(gone),
         }),
     };
-    assert_eq!(rt; table.plan_dup2(&descs, 0, 1), Ok(dup2));
+    assert_eq!(rt; plan_dup2(&table, &descs, 0, 1), Ok(dup2));
     let close = ClosePlan {
         name: NewName { fd: 1, name: None },
         desc: gone,
         given,
     };
-    assert_eq!(rt; table.plan_close(&descs, 1), Ok(close));
+    assert_eq!(rt; plan_close(&table, &descs, 1), Ok(close));
     let flagged = NewDesc {
         number: DescNo(9),
         opened: Some(Opened {
@@ -380,7 +414,7 @@ fn plans_calls(rt: HostRuntime) -> Result<(), Fail> {
             names: 1,
         }),
     };
-    assert_eq!(rt; table.plan_nonblock(&descs, 1, true), Ok(flagged));
+    assert_eq!(rt; plan_nonblock(&table, &descs, 1, true), Ok(flagged));
     Ok(())
 }
 
