@@ -1,5 +1,5 @@
 -- Logs, one old part more or less.
-use Rattle.std.proofs.Common.{◌≡◌, ℕ, ℤ, pos, suc, ◌+◌, ◌-◌, ◌≤◌, List, [], ◌∷◌, ◌++◌, map, take, drop, length, slice_set, refl, ap, sym, subst, ◌∙◌, arith, append_assoc, length-append}
+use Rattle.std.proofs.Common.{◌≡◌, ℕ, ℤ, pos, suc, ◌+◌, ◌-◌, ◌≤◌, List, [], ◌∷◌, ◌++◌, map, take, drop, length, slice_set, Some, refl, ap, sym, subst, ◌∙◌, arith, append_assoc, length-append}
 use Rattle.std.proofs.lemmas.List.{drop_at, take_at}
 use Rattle.tx_base.specs.declared.names.Pid.{Pid}
 use Rattle.tx_change.specs.declared.change.Change.{Change}
@@ -10,7 +10,6 @@ use Rattle.tx_proc.specs.declared.proc.Proc.{Proc}
 use Rattle.tx_change.specs.Exchange.{parts_after, exchanged, Sizes, IsWithin, AreWithin}
 use Rattle.tx_change.specs.Own.{edited_by, edited, AreOf}
 use Rattle.tx_core.specs.Plans.{Gives, Plans, page_change, answer_in, next_answer}
-use Rattle.tx_model.specs.Effects.{answered}
 use Rattle.tx_model.specs.Pages.{Remembered}
 use Rattle.tx_pages.specs.declared.plans.NewPage.{NewPage}
 use Rattle.tx_pages.specs.Outcomes.{with_pages, AreNumbered}

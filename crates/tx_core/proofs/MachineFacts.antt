@@ -29,7 +29,6 @@ use Rattle.tx_core.proofs.Outcomes.{named}
 use Rattle.tx_core.proofs.Replies.{has_slot}
 use Rattle.tx_core.proofs.StepFacts.{IsDone, logged, outside_done, inside_done, begin_done, commit_done, xabort_done, kernel_done}
 use Rattle.tx_model.specs.Pages.{Remembered}
-use Rattle.tx_model.specs.Effects.{answered}
 use Rattle.tx_model.specs.Membership.{Beginning, Leaving, Aborting, kind_of, new_mark, called_by_status}
 
 pub runs_at : (slot : Option Proc) (q : Proc) → IsRunning slot → slot ≡ Some q → q.status ≡ None

@@ -5,7 +5,6 @@ ghost use Rattle.tx_change.specs.declared.change.Change.TheVariants.{Part as Set
 ghost use Rattle.tx_proc.specs.declared.part.Part.TheVariants.{Answer as SetAnswer};
 ghost use Rattle.tx_core.specs.Built.{IsBuiltCall};
 ghost use Rattle.tx_core.specs.Plans.{Plans, Extends, only_answers, answer_in, next_answer, page_change, named_kind, memory_call};
-
 ghost use Rattle.tx_model.specs.Membership.{kind_of};
 ghost use Rattle.tx_pages.specs.Outcomes.{with_pages, AreNumbered};
 

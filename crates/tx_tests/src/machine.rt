@@ -2,11 +2,11 @@
 ghost use Rattle.std.specs.Prelude.{◌≡◌};
 ghost use Rattle.tx_core.specs.Built.{AreBuilt, IsBuiltCall, IsBuilt};
 
-use tx_core::{Inverse, Machine, NoTransaction, Outcome, run, run_wide};
 use arrayvec::ArrayVec;
 use std::mem;
 use std::test::Fail;
 use tx_base::{Call, Pid, Step};
+use tx_core::{Inverse, Machine, NoTransaction, Outcome, run, run_wide};
 
 /// The call of a process.
 fn call(number: u16, call: Call) -> Step
