@@ -8,3 +8,4 @@ pub mod Own
 pub mod Tables
 pub mod Counted
 pub mod InTurn
+pub mod InLists

@@ -81,7 +81,7 @@ changes_state_in_turn held parts (change ∷ changes) named =
     changes_state_in_turn held (parts_after parts change) changes (AreNamed-sized parts (parts_after parts change) changes (still_sized parts change) named.1)
     ∙ ap (changed_by changes) (changes_state held parts change named.0)
 
-other_object : (change : Change) (S : State) (o : Object) → same_object o (object_of change) ≡ false → AgreePart (changed change S) S o
+pub other_object : (change : Change) (S : State) (o : Object) → same_object o (object_of change) ≡ false → AgreePart (changed change S) S o
 other_object (Slot pid slot) S (TheProc n) apart = rw apart refl
 other_object (Slot pid slot) S (Desc n) apart = refl
 other_object (Slot pid slot) S (ThePipe n) apart = refl

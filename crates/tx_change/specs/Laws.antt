@@ -1,13 +1,18 @@
 -- The laws of exchanges.
-use Rattle.std.specs.Prelude.{◌≡◌, ℕ, Bool, true, false, not, List, Option, Some, None, if◌then◌else◌, ◌==◌}
+use Rattle.std.specs.Prelude.{◌≡◌, ◌≤◌, ℕ, ◌+◌, Bool, true, false, not, List, [], ◌∷◌, ◌++◌, length, drop, option_map, Option, Some, None, if◌then◌else◌, ◌==◌}
+use Rattle.tx_base.specs.declared.limits.TheConstants.{PIPE_BYTES}
 use Rattle.tx_base.specs.Slots.{slot_at}
 use Rattle.tx_change.specs.Exchange.{parts_after, change_after, object_of, IsNamed, AreNamed, applied, exchanged, undone, reverted}
 use Rattle.tx_change.specs.States.{changed, changed_by, state_of}
 use Rattle.tx_change.specs.declared.change.Change.{Change}
 use Rattle.tx_change.specs.declared.change.Change.TheVariants.{Slot, Part, Description, Pipe}
 use Rattle.tx_change.specs.declared.parts.Parts.{Parts}
-use Rattle.tx_model.specs.State.{Object, Sending, AgreePart, same_object}
+use Rattle.tx_change.specs.Own.{AreOf}
+use Rattle.tx_change.specs.Pipes.{piped_in}
+use Rattle.tx_change.specs.declared.pipes.PipePart.TheVariants.{Front, Back}
+use Rattle.tx_model.specs.State.{Object, Process, State, Sending, AgreePart, same_object, SetProc, write_one}
 use Rattle.tx_proc.specs.Laws.{is_same_part, IsSized}
+use Rattle.tx_proc.specs.Processes.{revised}
 use Rattle.tx_proc.specs.declared.proc.Proc.{Proc}
 
 -- a process that is there has a place for each number
@@ -75,3 +80,53 @@ ChangesStateInTurn = (held : ℕ → List Sending) (parts : Parts) (changes : Li
 abbrev pub NamesItsObject : Type 0
 NamesItsObject = (held : ℕ → List Sending) (parts : Parts) (change : Change) → IsNamed parts change → (o : Object) → same_object o (object_of change) ≡ false →
     AgreePart (state_of held (parts_after parts change)) (state_of held parts) o
+
+-- what one list of changes and another one behind it do, the one does and then the other
+abbrev pub AppliedAppended : Type 0
+AppliedAppended = (parts : Parts) (front behind : List Change) → applied parts (front ++ behind) ≡ applied (applied parts front) behind
+
+abbrev pub ExchangedAppended : Type 0
+ExchangedAppended = (parts : Parts) (front behind : List Change) → exchanged parts (front ++ behind) ≡ exchanged parts front ++ exchanged (applied parts front) behind
+
+abbrev pub UndoneAppended : Type 0
+UndoneAppended = (parts : Parts) (front behind : List Change) → undone parts (front ++ behind) ≡ undone (undone parts behind) front
+
+abbrev pub RevertedAppended : Type 0
+RevertedAppended = (parts : Parts) (front behind : List Change) → reverted parts (front ++ behind) ≡ reverted (undone parts behind) front ++ reverted parts behind
+
+abbrev pub ChangedAppended : Type 0
+ChangedAppended = (S : State) (front behind : List Change) → changed_by (front ++ behind) S ≡ changed_by behind (changed_by front S)
+
+abbrev pub NamedAppended : Type 0
+NamedAppended = (parts : Parts) (front behind : List Change) → AreNamed parts front → AreNamed parts behind → AreNamed parts (front ++ behind)
+
+-- none of the changes names the object
+abbrev pub AreElsewhere : Object → List Change → Type 0
+AreElsewhere o [] = Unit {0}
+AreElsewhere o (change ∷ changes) = (same_object o (object_of change) ≡ false) × AreElsewhere o changes
+
+-- a list of changes leaves the state as it was at each object that none of them names
+abbrev pub ListNamesItsObjects : Type 0
+ListNamesItsObjects = (changes : List Change) (S : State) (o : Object) → AreElsewhere o changes → AgreePart (changed_by changes S) S o
+
+-- a process with each part replaced that the changes have, the first one first
+abbrev pub revised_once : Change → Process → Process
+revised_once (Part pid part) me = revised part me
+revised_once change me = me
+
+abbrev pub revised_by : List Change → Process → Process
+revised_by [] me = me
+revised_by (change ∷ changes) me = revised_by changes (revised_once change me)
+
+-- changes of parts of one process replace that process, and nothing else
+abbrev pub PartsReplaceProcess : Type 0
+PartsReplaceProcess = (n : ℕ) (changes : List Change) (S : State) → AreOf n changes →
+    changed_by changes S ≡ write_one (SetProc n (option_map (revised_by changes) (S.procs n))) S
+
+-- no bytes in place of the first few are a read of these
+abbrev pub FrontIsRead : Type 0
+FrontIsRead = (held : List ℕ) (count : ℕ) → count ≤ length held → length held ≤ PIPE_BYTES → piped_in (Some held) (Front count []) ≡ Some (drop count held)
+
+-- bytes in place of none at the back are a write of these
+abbrev pub BackIsWrite : Type 0
+BackIsWrite = (held bytes : List ℕ) → length held + length bytes ≤ PIPE_BYTES → piped_in (Some held) (Back 0 bytes) ≡ Some (held ++ bytes)

@@ -1,6 +1,6 @@
 //! The laws of exchanges, as the contracts of functions that do nothing.
 ghost use Rattle.tx_change.specs.Counts.{CountsKept, CountsForked, CountsEnded, CountsRemoved, CountsElsewhere, SlotInTurn, DescsInTurn, CountsInTurn, PlansAreNamed, PlansInTurn, CountsPlanned, CountsReplaced, RoomForNames, RoomForName};
-ghost use Rattle.tx_change.specs.Laws.{ApplyThenRevert, RevertThenApply, TwiceIsNothing, ExchangesBack, NothingElse, Commute, ChangesState, ChangesStateInTurn, NamesItsObject};
+ghost use Rattle.tx_change.specs.Laws.{ApplyThenRevert, RevertThenApply, TwiceIsNothing, ExchangesBack, NothingElse, Commute, ChangesState, ChangesStateInTurn, NamesItsObject, AppliedAppended, ExchangedAppended, UndoneAppended, RevertedAppended, ChangedAppended, NamedAppended, ListNamesItsObjects, PartsReplaceProcess, FrontIsRead, BackIsWrite};
 
 /// Two exchanges of one part are nothing: the parts and the change come back.
 pub fn twice_is_nothing()
@@ -73,4 +73,29 @@ pub fn counts_in_turn()
 pub fn room_for_names()
     ensures all { RoomForNames }
     ensures one { RoomForName }
+{}
+
+/// What a list of changes does that is made of two, the first does and then the other one: to the
+/// parts and to the changes, forward and back, and to the state.
+pub fn appended()
+    ensures applied { AppliedAppended }
+    ensures exchanged { ExchangedAppended }
+    ensures undone { UndoneAppended }
+    ensures reverted { RevertedAppended }
+    ensures state { ChangedAppended }
+    ensures named { NamedAppended }
+{}
+
+/// What a list of changes makes of the state: at an object that none of them names nothing; and
+/// changes of parts of one process replace that process alone.
+pub fn lists_change_state()
+    ensures elsewhere { ListNamesItsObjects }
+    ensures process { PartsReplaceProcess }
+{}
+
+/// An exchange of the first bytes of a pipe for none is a read of these, and one of none at its back
+/// for some is a write of these.
+pub fn bytes_are_read_and_written()
+    ensures front { FrontIsRead }
+    ensures back { BackIsWrite }
 {}

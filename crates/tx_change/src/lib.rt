@@ -10,8 +10,9 @@ mod run;
 
 pub use change::Change;
 pub use laws::{
-    apply_then_revert, changes_state, commute, counts_agree, counts_in_turn, exchanges_back,
-    names_its_object, nothing_else, revert_then_apply, room_for_names, twice_is_nothing,
+    appended, apply_then_revert, bytes_are_read_and_written, changes_state, commute, counts_agree,
+    counts_in_turn, exchanges_back, lists_change_state, names_its_object, nothing_else,
+    revert_then_apply, room_for_names, twice_is_nothing,
 };
 pub use parts::Parts;
 pub use pipes::{BoxedPipe, PipePart, PipeTable};

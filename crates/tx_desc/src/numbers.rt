@@ -2,14 +2,11 @@
 ghost use Rattle.std.specs.Prelude.{◌≡◌};
 ghost use Rattle.tx_model.specs.Descriptors.{descriptor};
 
-use tx_base::DESCRIPTORS;
+use tx_base::{DESCRIPTORS, number_below};
 
 /// A number that a program computed, where it is one of a descriptor: 0 to 15.
 pub fn descriptor_at(fd: i64) -> Option<usize>
     ensures { result ≡ descriptor fd }
 {
-    if fd < 0 || fd >= DESCRIPTORS as i64 {
-        return None;
-    }
-    Some(fd as usize)
+    number_below(DESCRIPTORS, fd)
 }

@@ -11,7 +11,7 @@ use Rattle.std.proofs.lemmas.Option.{slice_get-get_or, slice_get_past}
 use Rattle.std.proofs.lemmas.Nat.Bits.{same_from_bits, bit_at_or}
 use Rattle.tx_model.specs.Deliveries.{first_value, less_first, has_lower, is_blocked, relieved}
 use Rattle.tx_model.specs.SignalSets.{is_in_set, is_realtime}
-use Rattle.tx_model.specs.Signals.{queued_signals}
+use Rattle.tx_model.specs.Signals.{queued_signals, queued_others}
 use Rattle.tx_model.specs.State.{Process, Queued}
 use Rattle.tx_signal.specs.Entries.{place_of, entry_swapped, entry_given, is_lower, IsFirstOf}
 use Rattle.tx_signal.specs.Parts.{PendingView, with_pending_part}
@@ -144,3 +144,38 @@ pub relieved-absent : (signo : ℕ) (view : PendingView) (me : Process) → is_r
     → with_pending_part view me ≡ relieved signo (with_pending_part view me)
 relieved-absent signo view me standard absent =
     rw standard (ap (λ (n : ℕ). record me { pending = n; queued = view.queued }) (without_one-absent view.standard signo absent))
+
+-- to take the first entry of the signal out leaves the other signals' entries
+others_step : (b : Bool) (signo : ℕ) (entry : Queued) (entries : List Queued) → eqb entry.signo signo ≡ b → queued_others signo (less_first signo entries) ≡ queued_others signo entries
+    → queued_others signo (cond b entries (entry ∷ less_first signo entries)) ≡ cond b (queued_others signo entries) (entry ∷ queued_others signo entries)
+others_step true signo entry entries is rest = refl
+others_step false signo entry entries is rest = rw is (ap (λ (xs : List Queued). entry ∷ xs) rest)
+
+others_less : (signo : ℕ) (queue : List Queued) → queued_others signo (less_first signo queue) ≡ queued_others signo queue
+unfolding less_first
+others_less signo [] = refl
+others_less signo (entry ∷ entries) = others_step (eqb entry.signo signo) signo entry entries refl (others_less signo entries)
+
+less_when : (signo : ℕ) (queue : List Queued) (found : Option ℕ) (place : ℕ) → found ≡ Some place → IfSome found (λ place. entry_swapped place None queue ≡ less_first signo queue)
+    → entry_swapped place None queue ≡ less_first signo queue
+less_when signo queue found place is same = rw is at same
+
+pub discard-one : (signo place : ℕ) (queue : List Queued) → place_of signo queue ≡ Some place → queued_others signo (entry_swapped place None queue) ≡ queued_others signo queue
+discard-one signo place queue is = ap (queued_others signo) (less_when signo queue (place_of signo queue) place is (place-swapped signo queue)) ∙ others_less signo queue
+
+-- where there is none, all are of other signals
+none_step : (b : Bool) (entry : Queued) (entries others : List Queued) (value : Option ℤ) → cond b (Some entry.value) value ≡ None → (value ≡ None → others ≡ entries)
+    → cond b others (entry ∷ others) ≡ entry ∷ entries
+none_step true entry entries others value none rest = cc
+none_step false entry entries others value none rest = ap (λ (xs : List Queued). entry ∷ xs) (rest none)
+
+others_none : (signo : ℕ) (queue : List Queued) → first_value signo queue ≡ None → queued_others signo queue ≡ queue
+unfolding first_value
+others_none signo [] none = refl
+others_none signo (entry ∷ entries) none = none_step (eqb entry.signo signo) entry entries (queued_others signo entries) (first_value signo entries) none (others_none signo entries)
+
+none_found : (queue : List Queued) (found : Option ℕ) (value : Option ℤ) → found ≡ None → IfNone found (value ≡ None) → value ≡ None
+none_found queue found value is none = rw is at none
+
+pub discard-none : (signo : ℕ) (queue : List Queued) → place_of signo queue ≡ None → queued_others signo queue ≡ queue
+discard-none signo queue is = others_none signo queue (none_found queue (place_of signo queue) (first_value signo queue) is (place-none signo queue))

@@ -1,13 +1,13 @@
 //! What the exchanges and the parts of a process come to, as the contracts of functions that do
 //! nothing.
-ghost use Rattle.std.specs.Prelude.{◌≡◌, ◌<◌, ◌≤◌, ℕ, ℤ, false, List, length, Option, Some, slice_index_or, slice_set};
+ghost use Rattle.std.specs.Prelude.{◌≡◌, ◌<◌, ◌≤◌, ℕ, ℤ, false, List, length, Option, None, Some, slice_index_or, slice_set};
 ghost use Rattle.tx_base.specs.declared.signals.Action.{Action};
 ghost use Rattle.tx_base.specs.declared.limits.TheConstants.{QUEUED};
 ghost use Rattle.tx_model.specs.Deliveries.{delivered_value, relieved};
-ghost use Rattle.tx_model.specs.Signals.{discarded, kept_action, with_action};
+ghost use Rattle.tx_model.specs.Signals.{discarded, kept_action, queued_others, with_action};
 ghost use Rattle.tx_model.specs.Posts.{is_quiet, room_answer, with_queued};
 ghost use Rattle.tx_model.specs.State.{Process, Queued, Sender};
-ghost use Rattle.tx_signal.specs.Entries.{entry_given, entry_swapped};
+ghost use Rattle.tx_signal.specs.Entries.{entry_given, entry_swapped, place_of};
 ghost use Rattle.tx_signal.specs.Parts.{PendingView, alone, answer_of, pending_of, post_result, sending_of, with_actions, with_pending_part};
 
 /// A second exchange of an entry at the same place takes the first one back: the queue and the
@@ -80,4 +80,13 @@ pub fn set_is_with_action()
     ensures { (signo : ℕ) (action : Action) (actions : List Action) (me : Process) →
         with_action signo action (with_actions actions me)
         ≡ with_actions (slice_set actions signo (kept_action action)) me }
+{}
+
+/// Every occurrence of a signal is discarded one after another: to take the first one out leaves the
+/// entries of all other signals, and where there is none these are all.
+pub fn discarded_in_turn()
+    ensures one { (signo place : ℕ) (queue : List Queued) → place_of signo queue ≡ Some place →
+        queued_others signo (entry_swapped place None queue) ≡ queued_others signo queue }
+    ensures none { (signo : ℕ) (queue : List Queued) → place_of signo queue ≡ None →
+        queued_others signo queue ≡ queue }
 {}

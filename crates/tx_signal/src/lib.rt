@@ -12,8 +12,8 @@ mod sets;
 pub use actions::{Actions, is_bad, is_fatal, is_ignored, kept};
 pub use frames::{Frame, Frames};
 pub use laws::{
-    last_place_posts, pending_suffices, post_answers, set_is_with_action, swap_action_twice,
-    swap_entry_fits, swap_entry_twice,
+    discarded_in_turn, last_place_posts, pending_suffices, post_answers, set_is_with_action,
+    swap_action_twice, swap_entry_fits, swap_entry_twice,
 };
 pub use pending::Pending;
 pub use queued::Queued;

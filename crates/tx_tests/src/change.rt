@@ -4,9 +4,10 @@ use std::mem;
 use std::test::Fail;
 use tx_base::{DescNo, Pid, PipeNo};
 use tx_change::{
-    BoxedPipe, Change, Parts, PipePart, PipeTable, apply, apply_then_revert, changes_state,
-    commute, counts_agree, counts_in_turn, exchanges_back, names_its_object, nothing_else, revert,
-    revert_then_apply, room_for_names, twice_is_nothing,
+    BoxedPipe, Change, Parts, PipePart, PipeTable, appended, apply, apply_then_revert,
+    bytes_are_read_and_written, changes_state, commute, counts_agree, counts_in_turn,
+    exchanges_back, lists_change_state, names_its_object, nothing_else, revert, revert_then_apply,
+    room_for_names, twice_is_nothing,
 };
 use tx_desc::{Desc, Opened, Side};
 use tx_pipe::Pipe;
@@ -142,6 +143,9 @@ fn a_change_is_small(rt: HostRuntime) {
     changes_state();
     names_its_object();
     counts_agree();
+    appended();
+    lists_change_state();
+    bytes_are_read_and_written();
     counts_in_turn();
     room_for_names();
     assert!(rt; mem::size_of::<Change>() <= 56);

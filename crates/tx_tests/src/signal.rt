@@ -4,10 +4,10 @@ use bitflags::Flags;
 use std::test::Fail;
 use tx_base::{Errno, Regs, SIGCHLD};
 use tx_signal::{
-    Action, Actions, Frame, Frames, How, Pending, Queued, SigSet, Signo, has, is_bad, is_fatal,
-    is_ignored, is_known, is_realtime, kept, known, last_place_posts, maskable, masked,
-    pending_suffices, post_answers, set_is_with_action, single, swap_action_twice, swap_entry_fits,
-    swap_entry_twice, with, without,
+    Action, Actions, Frame, Frames, How, Pending, Queued, SigSet, Signo, discarded_in_turn, has,
+    is_bad, is_fatal, is_ignored, is_known, is_realtime, kept, known, last_place_posts, maskable,
+    masked, pending_suffices, post_answers, set_is_with_action, single, swap_action_twice,
+    swap_entry_fits, swap_entry_twice, with, without,
 };
 
 const KILL: Signo = Signo(9);
@@ -264,5 +264,6 @@ fn laws_can_be_cited(rt: HostRuntime) {
     post_answers();
     pending_suffices();
     set_is_with_action();
+    discarded_in_turn();
     assert!(rt; Pending::new().is_empty());
 }
