@@ -1,6 +1,7 @@
 //! What a process asks for, and what it is answered.
 ghost use Rattle.std.specs.Prelude.{◌≡◌, ◌↔◌, IsTrue};
 
+use crate::errors::NoMemory;
 use crate::names::{DescNo, Missed, Pid, PipeNo, Signo};
 use crate::signals::{Action, How, SigSet};
 use arrayvec::ArrayVec;
@@ -135,6 +136,16 @@ pub enum Refusal {
     NoMemory,
     /// N14: the transaction defers the delivery.
     Deferred,
+}
+
+impl From<NoMemory> for Refusal {
+    ghost use Rattle.tx_base.specs.declared.steps.Refusal.TheVariants.{NoMemory};
+
+    ghost from_gives = { λ _ refusal. refusal ≡ NoMemory };
+
+    fn from(_refused: NoMemory) -> Refusal {
+        Refusal::NoMemory
+    }
 }
 
 /// What a step is answered.

@@ -9,3 +9,5 @@ pub mod Tables
 pub mod Counted
 pub mod InTurn
 pub mod InLists
+pub mod Logged
+pub mod Placed

@@ -29,6 +29,15 @@ abbrev pub HasPlacesFor : Parts → Change → Type 0
 HasPlacesFor parts (Part pid part) = HasPlaces (slot_at parts.procs pid.0)
 HasPlacesFor parts change = Unit {0}
 
+-- a process that comes has a place for each number
+abbrev pub BringsPlaces : Change → Type 0
+BringsPlaces (Slot pid slot) = HasPlaces slot
+BringsPlaces change = Unit {0}
+
+abbrev pub BringPlaces : List Change → Type 0
+BringPlaces [] = Unit {0}
+BringPlaces (change ∷ changes) = BringsPlaces change × BringPlaces changes
+
 -- whether neither change has a part that the other has, or holds: a process number holds all parts of its process
 abbrev pub are_apart : Change → Change → Bool
 are_apart (Slot pid slot) (Slot other new) = not (pid.0 == other.0)
@@ -130,3 +139,7 @@ FrontIsRead = (held : List ℕ) (count : ℕ) → count ≤ length held → leng
 -- bytes in place of none at the back are a write of these
 abbrev pub BackIsWrite : Type 0
 BackIsWrite = (held bytes : List ℕ) → length held + length bytes ≤ PIPE_BYTES → piped_in (Some held) (Back 0 bytes) ≡ Some (held ++ bytes)
+
+-- where each process has its places, and each one that comes, each has them after the changes
+abbrev pub PlacesKept : Type 0
+PlacesKept = (parts : Parts) (changes : List Change) → AreNamed parts changes → BringPlaces changes → HaveAllPlaces parts → HaveAllPlaces (applied parts changes)

@@ -1,6 +1,6 @@
 //! The laws of exchanges, as the contracts of functions that do nothing.
 ghost use Rattle.tx_change.specs.Counts.{CountsKept, CountsForked, CountsEnded, CountsRemoved, CountsElsewhere, SlotInTurn, DescsInTurn, CountsInTurn, PlansAreNamed, PlansInTurn, CountsPlanned, CountsReplaced, RoomForNames, RoomForName};
-ghost use Rattle.tx_change.specs.Laws.{ApplyThenRevert, RevertThenApply, TwiceIsNothing, ExchangesBack, NothingElse, Commute, ChangesState, ChangesStateInTurn, NamesItsObject, AppliedAppended, ExchangedAppended, UndoneAppended, RevertedAppended, ChangedAppended, NamedAppended, ListNamesItsObjects, PartsReplaceProcess, FrontIsRead, BackIsWrite};
+ghost use Rattle.tx_change.specs.Laws.{ApplyThenRevert, RevertThenApply, TwiceIsNothing, ExchangesBack, NothingElse, Commute, ChangesState, ChangesStateInTurn, NamesItsObject, AppliedAppended, ExchangedAppended, UndoneAppended, RevertedAppended, ChangedAppended, NamedAppended, ListNamesItsObjects, PartsReplaceProcess, FrontIsRead, BackIsWrite, PlacesKept};
 
 /// Two exchanges of one part are nothing: the parts and the change come back.
 pub fn twice_is_nothing()
@@ -98,4 +98,9 @@ pub fn lists_change_state()
 pub fn bytes_are_read_and_written()
     ensures front { FrontIsRead }
     ensures back { BackIsWrite }
+{}
+
+/// Changes leave each process a place for each number, where each process that comes has them.
+pub fn places_kept()
+    ensures { PlacesKept }
 {}

@@ -4,6 +4,7 @@
 
 mod change;
 mod laws;
+mod log;
 mod parts;
 mod pipes;
 mod run;
@@ -11,9 +12,10 @@ mod run;
 pub use change::Change;
 pub use laws::{
     appended, apply_then_revert, bytes_are_read_and_written, changes_state, commute, counts_agree,
-    counts_in_turn, exchanges_back, lists_change_state, names_its_object, nothing_else,
+    counts_in_turn, exchanges_back, lists_change_state, names_its_object, nothing_else, places_kept,
     revert_then_apply, room_for_names, twice_is_nothing,
 };
+pub use log::Log;
 pub use parts::Parts;
 pub use pipes::{BoxedPipe, PipePart, PipeTable};
 pub use run::{apply, revert};

@@ -18,19 +18,6 @@ pub length_exchanged : (parts : Parts) (changes : List Change) → length (excha
 length_exchanged parts [] = refl
 length_exchanged parts (change ∷ changes) = ap suc (length_exchanged (parts_after parts change) changes)
 
--- a log whose last few are gone, and one more
-pub one_back : (all rest : List Change) (last : Change) (k : ℕ) → (rest ++ last ∷ []) ++ drop k all ≡ all → length (rest ++ last ∷ []) ≡ k →
-    (drop (k - 1) all ≡ last ∷ drop k all) × (rest ++ drop (k - 1) all ≡ all) × (length rest ≡ k - 1)
-one_back all rest last k whole long =
-    let few : length rest ≡ k - 1 = omega (arith, length-append {A = Change}, long) in
-    let split : all ≡ rest ++ (last ∷ drop k all) = sym whole ∙ append_assoc rest (last ∷ []) (drop k all) in
-    let back : drop (k - 1) all ≡ last ∷ drop k all = ap (drop (k - 1)) split ∙ drop_at rest (last ∷ drop k all) (k - 1) few in
-    (back, ap (λ (xs : List Change). rest ++ xs) back ∙ sym split, few)
-
-pub named_last : (sizes : Sizes) (front : List Change) (change : Change) (behind : List Change) → AreWithin sizes ((front ++ change ∷ []) ++ behind) → IsWithin sizes change
-named_last sizes [] change behind named = named.0
-named_last sizes (first ∷ front) change behind named = named_last sizes front change behind named.1
-
 pub edited_append : (p : Proc) (front behind : List Change) → edited p (front ++ behind) ≡ edited (edited p front) behind
 edited_append p [] behind = refl
 edited_append p (change ∷ front) behind = edited_append (edited_by p change) front behind

@@ -8,11 +8,10 @@ ghost use Rattle.tx_core.specs.Plans.{Plans, Extends, only_answers, answer_in, n
 ghost use Rattle.tx_model.specs.Membership.{kind_of};
 ghost use Rattle.tx_pages.specs.Outcomes.{with_pages, AreNumbered};
 
-use crate::log::Log;
 use arrayvec::ArrayVec;
 use std::alloc::Global;
 use tx_base::{Call, NoMemory, Pid};
-use tx_change::Change;
+use tx_change::{Change, Log};
 use tx_pages::{NewPage, NewPages, PageError};
 use tx_proc::{Answer, Part, Proc};
 

@@ -12,9 +12,8 @@ ghost use Rattle.tx_model.specs.Effects.{answered};
 ghost use Rattle.tx_model.specs.Membership.{new_mark};
 
 use crate::inverse::Inverse;
-use crate::log::Log;
 use tx_base::{Mark, Pid, Slots};
-use tx_change::{Change, Parts};
+use tx_change::{Change, Log, Parts};
 use tx_proc::{Answer, Part};
 
 /// The parts of the kernel; for each process number its mark, if it is a member of a live

@@ -1,6 +1,6 @@
 //! What takes an accepted step back.
-use crate::log::Log;
 use tx_base::{Mark, Pid};
+use tx_change::Log;
 use tx_proc::Answer;
 
 /// What takes an accepted step back, on the machine as the step left it.

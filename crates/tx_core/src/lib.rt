@@ -6,14 +6,12 @@ mod act;
 mod content;
 mod inverse;
 mod laws;
-mod log;
 mod machine;
 mod outcome;
 mod schedules;
 
 pub use content::Content;
 pub use inverse::Inverse;
-pub use log::Log;
 pub use machine::{Machine, NoTransaction};
 pub use outcome::Outcome;
 pub use schedules::{Ran, run, run_wide};

@@ -21,7 +21,6 @@ use crate::act::{CallKind, call_kind, plan_answer, plan_call};
 use crate::content::Content;
 use crate::inverse::Inverse;
 use crate::laws::laws;
-use crate::log::Log;
 use crate::outcome::Outcome;
 use std::alloc::Global;
 use std::marker::Model;
@@ -29,7 +28,7 @@ use tx_base::{
     ABORTED_BY_CALL, ABORTED_BY_KERNEL, Call, Mark, NoMemory, PROCESSES, Pid, Refusal, Reply,
     Slots, Step, WIDE_PROCESSES,
 };
-use tx_change::Parts;
+use tx_change::{Log, Parts};
 
 /// The answer of a starter whose transaction a member aborted.
 const BY_CALL: i64 = -(ABORTED_BY_CALL as i64);

@@ -76,6 +76,26 @@ impl Descs {
         self.has_end(pipe, Side::Read) || self.has_end(pipe, Side::Write)
     }
 
+    /// Whether a description of either side of the pipe is there once these were put in place: where
+    /// none is, the pipe goes. Each number must be 0 to 63.
+    pub fn names_pipe_with(&self, pipe: PipeNo, news: &[NewDesc]) -> bool
+        requires { AreNumbers news.now }
+        ensures { (S : State) → HasDescs S (put_descs news.now self.now) → result ≡ has_description pipe.0 S }
+    {
+        let mut after = self.copy();
+        after.put_all(news);
+        after.names_pipe(pipe)
+    }
+
+    /// An equal value.
+    fn copy(&self) -> Descs
+        ensures { result ≡ self.now }
+    {
+        Descs {
+            places: self.places,
+        }
+    }
+
     /// Exchanges what a number has: 0 to 63. A second exchange takes the first one back. Own rule.
     pub fn swap(&mut self, d: DescNo, opened: &mut Option<Opened>)
         requires { d.0 < 64 }

@@ -2,10 +2,12 @@
 ghost use Rattle.std.specs.Prelude.{◌≡◌, ◌≤◌, ◌-◌, ◌++◌, ◌∷◌, [], length, take, drop, IfOk, OnOk, OnErr};
 ghost use Rattle.tx_change.specs.Exchange.{applied, exchanged, undone, reverted, AreNamed};
 
+use crate::change::Change;
+use crate::parts::Parts;
+use crate::run::{apply, revert};
 use std::alloc::Global;
 use std::marker::Model;
 use tx_base::NoMemory;
-use tx_change::{Change, Parts, apply, revert};
 
 /// Old parts, the oldest first. Led back, it gives the parts before the oldest was kept.
 #[derive(Drop)]

@@ -1,6 +1,6 @@
 use Rattle.std.proofs.Common.{◌≡◌, ◌-◌, ◌++◌, length, drop}
 use Rattle.tx_change.specs.Exchange.{undone}
-use Rattle.tx_core.proofs.log.lead_back_last.Given as goal
+use Rattle.tx_change.proofs.log.lead_back_last.Given as goal
 
 abbrev pub invariant-loop-done : goal.invariant-loop-done
 invariant-loop-done l =

@@ -3,8 +3,8 @@ use Rattle.tx_change.specs.declared.change.Change.{Change}
 use Rattle.tx_change.specs.declared.parts.Parts.{Parts}
 use Rattle.tx_change.specs.Exchange.{Sizes, sizes_of, IsWithin, AreWithin}
 use Rattle.tx_change.proofs.Applied.{sizes-undone}
-use Rattle.tx_core.proofs.LogFacts.{named_last}
-use Rattle.tx_core.proofs.log.lead_back_last.Goals as goal
+use Rattle.tx_change.proofs.Logged.{named_last}
+use Rattle.tx_change.proofs.log.lead_back_last.Goals as goal
 
 pub swap-requires : goal.swap-requires
 swap-requires c =

@@ -1,6 +1,6 @@
 use Rattle.std.proofs.Common.{◌≡◌, ◌++◌, take, drop}
 use Rattle.tx_change.specs.Exchange.{applied, exchanged, AreWithin, sizes_of}
-use Rattle.tx_core.proofs.log.apply_from.Given as goal
+use Rattle.tx_change.proofs.log.apply_from.Given as goal
 
 abbrev pub invariant-loop-i : goal.invariant-loop-i
 invariant-loop-i l = record {

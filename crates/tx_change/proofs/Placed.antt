@@ -1,0 +1,42 @@
+-- Processes keep their places.
+use Rattle.std.proofs.Common.{◌≤◌, ℕ, Bool, true, false, List, [], ◌∷◌, length, option_map, Option, Some, None, ◌==◌, if◌then◌else◌, sym, subst}
+use Rattle.tx_base.specs.Slots.{slot_at, with_slot}
+use Rattle.tx_base.proofs.SlotFacts.{slot_at-with_slot}
+use Rattle.tx_change.specs.Exchange.{parts_after, applied, Sizes, AreWithin, IsNamed, AreNamed}
+use Rattle.tx_change.specs.Laws.{HasPlaces, HaveAllPlaces, BringsPlaces, BringPlaces}
+use Rattle.tx_change.specs.declared.change.Change.{Change}
+use Rattle.tx_change.specs.declared.change.Change.TheVariants.{Slot, Part, Description, Pipe}
+use Rattle.tx_change.specs.declared.parts.Parts.{Parts}
+use Rattle.tx_change.proofs.Applied.{still_sized}
+use Rattle.tx_change.proofs.Own.{once_sized}
+use Rattle.tx_proc.specs.Parts.{edited_once}
+use Rattle.tx_proc.specs.declared.part.Part.{Part as ThePart}
+use Rattle.tx_proc.specs.declared.proc.Proc.{Proc}
+
+-- a number's process is another one, which has its places
+placed : (procs : List (Option Proc)) (p : ℕ) (slot : Option Proc) → 1 ≤ p → p ≤ length procs → HasPlaces slot → ((n : ℕ) → HasPlaces (slot_at procs n)) →
+    (n : ℕ) → HasPlaces (slot_at (with_slot procs p slot) n)
+placed procs p slot low high new old n = subst HasPlaces (sym (slot_at-with_slot procs p slot n low high)) (by (n == p))
+  where
+    by : (b : Bool) → HasPlaces (if b then slot else slot_at procs n)
+    by true = new
+    by false = old n
+
+edited_placed : (slot : Option Proc) (part : ThePart) → HasPlaces slot → HasPlaces (option_map (λ proc. edited_once proc part) slot)
+edited_placed None part sized = tt
+edited_placed (Some proc) part sized = once_sized proc (Part (record { 0 = 0 }) part) sized
+
+once_placed : (parts : Parts) (change : Change) → IsNamed parts change → BringsPlaces change → HaveAllPlaces parts → HaveAllPlaces (parts_after parts change)
+once_placed parts (Slot pid slot) named brings places = placed parts.procs pid.0 slot named.low named.high brings places
+once_placed parts (Part pid part) named brings places =
+    placed parts.procs pid.0 (option_map (λ proc. edited_once proc part) (slot_at parts.procs pid.0)) named.0.low named.0.high
+    (edited_placed (slot_at parts.procs pid.0) part (places pid.0)) places
+once_placed parts (Description number opened) named brings places = places
+once_placed parts (Pipe number part) named brings places = places
+
+pub places_kept : (parts : Parts) (changes : List Change) → AreNamed parts changes → BringPlaces changes → HaveAllPlaces parts → HaveAllPlaces (applied parts changes)
+places_kept parts [] named brings places = places
+places_kept parts (change ∷ changes) named brings places =
+    places_kept (parts_after parts change) changes
+    (subst (λ (sizes : Sizes). AreWithin sizes changes) (sym (still_sized parts change)) named.1)
+    brings.1 (once_placed parts change named.0 brings.0 places)

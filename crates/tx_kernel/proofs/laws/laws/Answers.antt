@@ -1,0 +1,19 @@
+use Rattle.tx_kernel.proofs.laws.laws.Goals as goal
+
+pub returns : goal.returns
+returns c = record {
+  changes = c.changes_state.ensures.in_turn;
+  process = c.lists_change_state.ensures.process;
+  applied = c.appended.ensures.applied;
+  changed = c.appended.ensures.state;
+  named = c.appended.ensures.named;
+  places = c.places_kept.ensures;
+  plans = c.counts_in_turn.ensures.named;
+  call = c.counts_in_turn.ensures.call;
+  replaced = c.counts_in_turn.ensures.process;
+  elsewhere = c.counts_agree.ensures.elsewhere;
+  room = c.room_for_names.ensures.one;
+  rooms = c.room_for_names.ensures.all;
+  front = c.bytes_are_read_and_written.ensures.front;
+  back = c.bytes_are_read_and_written.ensures.back;
+}

@@ -1,0 +1,55 @@
+-- The process that makes a step, and the transaction that it makes it in.
+use Rattle.std.specs.Prelude.{◌≡◌, ℕ, ◌≤◌, List, Option, Some, None, IsSome, length, slice_index_or}
+use Rattle.tx_base.specs.Slots.{slot_at}
+use Rattle.tx_change.specs.Counts.{CountsAgree}
+use Rattle.tx_change.specs.Exchange.{IsPid, pipe_at, sizes_of}
+use Rattle.tx_change.specs.Laws.{HaveAllPlaces}
+use Rattle.tx_change.specs.declared.parts.Parts.{Parts}
+use Rattle.tx_desc.specs.declared.opened.Opened.{Opened}
+use Rattle.tx_kernel.specs.declared.actor.Actor.{Actor}
+use Rattle.tx_kernel.specs.declared.inside.Inside.{Inside}
+use Rattle.tx_model.specs.Effects.{Inside as TheInside}
+use Rattle.tx_model.specs.Membership.{is_of}
+use Rattle.tx_model.specs.Sends.{sent_by_members}
+use Rattle.tx_model.specs.State.{Process, Sending}
+use Rattle.tx_proc.specs.Processes.{process_of}
+
+-- the transaction, as the definitions have it
+abbrev pub transaction_of : Inside → TheInside
+transaction_of inside = record {
+  starter = inside.starter.0;
+  members = λ n. is_of inside.starter.0 (slot_at inside.marks.now n);
+  defers = inside.defers;
+}
+
+abbrev pub inside_of : Option Inside → Option TheInside
+inside_of None = None
+inside_of (Some inside) = Some (transaction_of inside)
+
+-- the number of held sends is that of the sends that members handed out
+abbrev pub CountsHeld : Option Inside → (ℕ → List Sending) → Type 0
+CountsHeld None held = Unit {0}
+CountsHeld (Some inside) held = sent_by_members (held inside.starter.0) ≡ inside.held
+
+-- the pipe of a description is there
+abbrev pub HasPipe : List (Option (List ℕ)) → Option Opened → Type 0
+HasPipe pipes None = Unit {0}
+HasPipe pipes (Some opened) = IsSome (pipe_at pipes opened.desc.pipe.0)
+
+-- the counts of names are right, each process has its places, and each description has its pipe
+pub record IsWhole (parts : Parts) : Type 0 where
+  pub counts : CountsAgree parts
+  pub places : HaveAllPlaces parts
+  pub few : length parts.procs ≤ 256
+  pub piped : (d : ℕ) → HasPipe parts.pipes (slice_index_or parts.descs d None)
+
+-- the process is the one of its number, and runs
+pub record IsActor (actor : Actor) : Type 0 where
+  pub whole : IsWhole actor.parts.now
+  pub number : IsPid (sizes_of actor.parts.now) actor.pid.0
+  pub there : slot_at actor.parts.now.procs actor.pid.0 ≡ Some actor.proc.now
+  pub runs : actor.proc.now.status ≡ None
+
+-- the process, as the definitions have it
+abbrev pub me_of : Actor → Process
+me_of actor = process_of actor.proc.now

@@ -1,0 +1,4 @@
+pub mod Actors
+pub mod Plans
+pub mod Own
+pub mod Laws

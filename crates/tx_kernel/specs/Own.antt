@@ -1,0 +1,38 @@
+-- Plans of calls that concern their own process alone.
+use Rattle.std.specs.Prelude.{◌≡◌, ℤ, List, ◌++◌}
+use Rattle.tx_change.specs.Counts.{AreNameless}
+use Rattle.tx_change.specs.Laws.{revised_by}
+use Rattle.tx_change.specs.Own.{AreOf}
+use Rattle.tx_base.specs.declared.names.Pid.{Pid}
+use Rattle.tx_change.specs.declared.change.Change.{Change}
+use Rattle.tx_change.specs.declared.change.Change.TheVariants.{Part}
+use Rattle.tx_kernel.specs.Actors.{me_of}
+use Rattle.tx_kernel.specs.Plans.{reply_of}
+use Rattle.tx_kernel.specs.declared.actor.Actor.{Actor}
+use Rattle.tx_kernel.specs.declared.planned.Outcome.{Outcome}
+use Rattle.tx_model.specs.Effects.{Own, next_point}
+use Rattle.tx_model.specs.State.{Process}
+use Rattle.tx_pages.specs.declared.plans.NewPage.{NewPage}
+use Rattle.tx_proc.specs.declared.part.Answer.{Answer}
+use Rattle.tx_proc.specs.declared.part.Part.TheVariants.{Page}
+
+-- the answer at the next point
+abbrev pub answer_after : ℤ → Actor → Answer
+answer_after ret actor = record { point = next_point actor.proc.now.regs.point; ret = ret }
+
+-- changes of parts of the process that make of it what the rule makes of it, and an answer that is the rule's
+pub record GivesOwn (actor : Actor) (plan : List Change) (outcome : Outcome) (rule : Own) : Type 0 where
+  pub own : AreOf actor.pid.0 plan
+  pub nameless : AreNameless plan
+  pub process : revised_by plan (me_of actor) ≡ rule.process
+  pub reply : reply_of (me_of actor).memory outcome ≡ rule.reply
+
+-- a log that has such a plan at its end now
+pub record PlansOwn (actor : Actor) (before now : List Change) (outcome : Outcome) (rule : Process → Own) : Type 0 where
+  pub plan : List Change
+  pub added : now ≡ before ++ plan
+  pub gives : GivesOwn actor plan outcome (rule (me_of actor))
+
+-- the change that puts a new page in place
+abbrev pub page_change : Pid → NewPage → Change
+page_change pid new = Part pid (Page new.number new.page)

@@ -1,0 +1,21 @@
+//! The laws that the plans stand on.
+ghost use Rattle.tx_kernel.specs.Laws.{PlanLaws};
+
+use tx_change::{
+    appended, bytes_are_read_and_written, changes_state, counts_agree, counts_in_turn,
+    lists_change_state, places_kept, room_for_names,
+};
+
+/// The laws on which the proofs of the plans stand. It does nothing.
+pub(crate) fn laws()
+    ensures { PlanLaws }
+{
+    changes_state();
+    lists_change_state();
+    appended();
+    places_kept();
+    counts_agree();
+    counts_in_turn();
+    room_for_names();
+    bytes_are_read_and_written();
+}

@@ -1,0 +1,14 @@
+//! The calls, the deliveries and the posts of the kernel: what each is to change, and its answer.
+//! Nothing is changed here; a plan is a list of exchanges at the end of a log.
+#![tactic(auto)]
+
+mod actor;
+mod answers;
+mod inside;
+mod laws;
+mod memory;
+mod planned;
+
+pub use actor::Actor;
+pub use inside::Inside;
+pub use planned::{Conclusion, Outcome, Planned, Sends, Shown};

@@ -1,0 +1,125 @@
+//! The calls on the memory of their process.
+ghost use Rattle.std.specs.Prelude.{◌≡◌, ◌<◌, ◌++◌, map, pos, IfOk, OnOk, OnErr, slice_set};
+ghost use Rattle.tx_kernel.specs.Own.{PlansOwn, page_change};
+ghost use Rattle.tx_kernel.specs.Plans.{Extends};
+ghost use Rattle.tx_model.specs.Effects.{answers_with};
+ghost use Rattle.tx_model.specs.Pages.{remembers, page_of, map_page, unmap_page, protect_page, store_bytes, load_byte};
+ghost use Rattle.tx_pages.specs.Outcomes.{with_pages, AreNumbered};
+
+use crate::actor::Actor;
+use crate::planned::Outcome;
+use arrayvec::ArrayVec;
+use std::alloc::Global;
+use tx_base::{Errno, NoMemory};
+use tx_change::Log;
+use tx_pages::{NewPage, NewPages, PageError};
+use tx_proc::Part;
+
+impl Actor<'_> {
+    /// Maps a page of zeros that may be written. Own rule.
+    pub(crate) fn plan_map(
+        &self,
+        alloc: Global,
+        page: i64,
+        log: &mut Log,
+    ) -> Result<Outcome, NoMemory>
+        ensures ok { IfOk result (λ outcome. PlansOwn self.now log.old log.new outcome (λ me. remembers (map_page (page_of page) me.memory) me)) }
+        ensures err { OnErr result (Extends log.old log.new) }
+    {
+        match self.proc.space.plan_map(alloc, page) {
+            Ok(new) => self.plan_page(new, log),
+            Err(PageError::NoMemory) => Err(NoMemory),
+            Err(_) => self.plan_error(Errno::InvalidArgument, log),
+        }
+    }
+
+    /// Takes a page out. Own rule.
+    pub(crate) fn plan_unmap(&self, page: i64, log: &mut Log) -> Result<Outcome, NoMemory>
+        ensures ok { IfOk result (λ outcome. PlansOwn self.now log.old log.new outcome (λ me. remembers (unmap_page (page_of page) me.memory) me)) }
+        ensures err { OnErr result (Extends log.old log.new) }
+    {
+        match self.proc.space.plan_unmap(page) {
+            Ok(new) => self.plan_page(new, log),
+            Err(_) => self.plan_error(Errno::InvalidArgument, log),
+        }
+    }
+
+    /// Says whether a page may be written. Own rule.
+    pub(crate) fn plan_protect(
+        &self,
+        page: i64,
+        writable: bool,
+        log: &mut Log,
+    ) -> Result<Outcome, NoMemory>
+        ensures ok { IfOk result (λ outcome. PlansOwn self.now log.old log.new outcome (λ me. remembers (protect_page (page_of page) writable me.memory) me)) }
+        ensures err { OnErr result (Extends log.old log.new) }
+    {
+        match self.proc.space.plan_protect(page, writable) {
+            Ok(new) => self.plan_page(new, log),
+            Err(PageError::NoMemory) => Err(NoMemory),
+            Err(_) => self.plan_error(Errno::InvalidArgument, log),
+        }
+    }
+
+    /// Stores bytes from an address on, all of them or none. Own rule.
+    pub(crate) fn plan_store(
+        &self,
+        alloc: Global,
+        address: i64,
+        bytes: &ArrayVec<u8, 64>,
+        log: &mut Log,
+    ) -> Result<Outcome, NoMemory>
+        ensures ok { IfOk result (λ outcome. PlansOwn self.now log.old log.new outcome (λ me. remembers (store_bytes address bytes.now.items me.memory) me)) }
+        ensures err { OnErr result (Extends log.old log.new) }
+    {
+        match self.proc.space.plan_store(alloc, address, bytes.as_slice()) {
+            Ok(new) => self.plan_pages(new, log),
+            Err(PageError::NoMemory) => Err(NoMemory),
+            Err(_) => self.plan_error(Errno::BadAddress, log),
+        }
+    }
+
+    /// Reads the byte at an address. Own rule.
+    pub(crate) fn plan_load(&self, address: i64, log: &mut Log) -> Result<Outcome, NoMemory>
+        ensures ok { IfOk result (λ outcome. PlansOwn self.now log.old log.new outcome (λ me. remembers (load_byte address me.memory) me)) }
+        ensures err { OnErr result (log.new ≡ log.old) }
+    {
+        match self.proc.space.load(address) {
+            Ok(byte) => self.plan_answer(byte as i64, log),
+            Err(_) => self.plan_error(Errno::BadAddress, log),
+        }
+    }
+
+    /// Plans to put one page number in place, and to answer 0.
+    fn plan_page(&self, new: NewPage, log: &mut Log) -> Result<Outcome, NoMemory>
+        requires { new.number < 16 }
+        ensures ok { IfOk result (λ outcome. PlansOwn self.now log.old log.new outcome (λ me. answers_with (pos 0) (record me { memory = slice_set me.memory new.number new.page }))) }
+        ensures err { OnErr result (Extends log.old log.new) }
+    {
+        self.push(Part::Page(new.number, new.page), log)?;
+        self.push_answer(0, log)?;
+        Ok(Outcome::Done(0))
+    }
+
+    /// Plans to put these pages in place, and to answer 0.
+    fn plan_pages(&self, new: NewPages, log: &mut Log) -> Result<Outcome, NoMemory>
+        requires { AreNumbered new.pages.items }
+        ensures ok { IfOk result (λ outcome. PlansOwn self.now log.old log.new outcome (λ me. answers_with (pos 0) (record me { memory = with_pages me.memory new.pages.items }))) }
+        ensures err { OnErr result (Extends log.old log.new) }
+    {
+        self.push_pages(new, log)?;
+        self.push_answer(0, log)?;
+        Ok(Outcome::Done(0))
+    }
+
+    /// Appends the exchanges that put these pages in place.
+    pub(crate) fn push_pages(&self, new: NewPages, log: &mut Log) -> Result<(), NoMemory>
+        ensures ok { OnOk result (log.new ≡ log.old ++ map (page_change self.now.pid) new.pages.items) }
+        ensures err { OnErr result (Extends log.old log.new) }
+    {
+        for page in new.pages {
+            self.push(Part::Page(page.number, page.page), log)?;
+        }
+        Ok(())
+    }
+}

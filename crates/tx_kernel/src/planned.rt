@@ -1,0 +1,63 @@
+//! What a planned step comes to: its answer, and the signal that it sends.
+use tx_base::Sending;
+
+/// Bytes of memory that are to be shown.
+#[derive(Clone, Copy, PartialEq, Eq, Debug)]
+pub struct Shown {
+    /// The address of the first byte: 0 to 1,023.
+    pub address: usize,
+    /// How many: 0 to 64.
+    pub count: usize,
+}
+
+/// What an accepted step is answered, in few bytes.
+#[derive(Clone, Copy, PartialEq, Eq, Debug)]
+pub enum Outcome {
+    /// The call's answer; a POSIX error is the negative error number.
+    Done(i64),
+    /// The process ended.
+    Ended,
+    /// These bytes of the process's memory are for the console.
+    Out(Shown),
+}
+
+/// How a step concludes.
+#[derive(Clone, Copy, PartialEq, Eq, Debug)]
+pub enum Conclusion {
+    /// With an answer that is known before its post.
+    Replies(Outcome),
+    /// With the answer of its one post, which becomes that of the process.
+    AnswersPost,
+}
+
+/// The signal that a step sends.
+#[derive(Clone, Copy, Debug)]
+pub enum Sends {
+    Nothing,
+    /// It is posted with the step.
+    AtOnce(Sending),
+    /// It is handed out, and held until the transaction commits.
+    AtCommit(Sending),
+}
+
+/// What a planned step comes to, beside its changes.
+#[derive(Clone, Copy, Debug)]
+pub struct Planned {
+    pub conclusion: Conclusion,
+    pub sends: Sends,
+}
+
+impl Planned {
+    ghost use Rattle.std.specs.Prelude.{◌≡◌};
+    ghost use Rattle.tx_kernel.specs.Plans.{quiet};
+
+    /// A step with this answer, which sends nothing.
+    pub fn quiet(outcome: Outcome) -> Planned
+        ensures { result ≡ quiet outcome }
+    {
+        Planned {
+            conclusion: Conclusion::Replies(outcome),
+            sends: Sends::Nothing,
+        }
+    }
+}
