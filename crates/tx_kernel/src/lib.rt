@@ -4,10 +4,12 @@
 
 mod actor;
 mod answers;
+mod ids;
 mod inside;
 mod laws;
 mod memory;
 mod planned;
+mod script;
 
 pub use actor::Actor;
 pub use inside::Inside;
