@@ -1,2 +1,5 @@
 pub mod Owned
 pub mod OwnPlans
+pub mod PartsOwned
+pub mod Discarded
+pub mod Returned

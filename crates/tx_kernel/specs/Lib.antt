@@ -2,3 +2,5 @@ pub mod Actors
 pub mod Plans
 pub mod Own
 pub mod Laws
+pub mod Discards
+pub mod Returns

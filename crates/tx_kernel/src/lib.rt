@@ -10,6 +10,7 @@ mod laws;
 mod memory;
 mod planned;
 mod script;
+mod signals;
 
 pub use actor::Actor;
 pub use inside::Inside;

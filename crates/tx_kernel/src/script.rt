@@ -21,7 +21,12 @@ impl Actor<'_> {
     /// Goes on at another point; the last answer stays. Own rule.
     ///
     /// EINVAL where the point is over 65,535.
-    pub(crate) fn plan_jump(&self, point: u32, when: When, log: &mut Log) -> Result<Outcome, NoMemory>
+    pub(crate) fn plan_jump(
+        &self,
+        point: u32,
+        when: When,
+        log: &mut Log,
+    ) -> Result<Outcome, NoMemory>
         ensures ok { IfOk result (λ outcome. PlansOwn self.now log.old log.new outcome (jumps point when)) }
         ensures err { OnErr result (Extends log.old log.new) }
     {
@@ -56,7 +61,12 @@ impl Actor<'_> {
     ///
     /// -200 inside a transaction. EINVAL where the count is not 0 to 64, EFAULT where the bytes may
     /// not be read.
-    pub(crate) fn plan_console_write(&self, address: i64, count: i64, log: &mut Log) -> Result<Outcome, NoMemory>
+    pub(crate) fn plan_console_write(
+        &self,
+        address: i64,
+        count: i64,
+        log: &mut Log,
+    ) -> Result<Outcome, NoMemory>
         ensures ok { IfOk result (λ outcome. PlansOwn self.now log.old log.new outcome (writes_console (inside_of self.now.inside) address count)) }
         ensures err { OnErr result (Extends log.old log.new) }
     {
