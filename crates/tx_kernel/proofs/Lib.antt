@@ -3,3 +3,4 @@ pub mod OwnPlans
 pub mod PartsOwned
 pub mod Discarded
 pub mod Returned
+pub mod Posted

@@ -9,9 +9,11 @@ mod inside;
 mod laws;
 mod memory;
 mod planned;
+mod posts;
 mod script;
 mod signals;
 
 pub use actor::Actor;
 pub use inside::Inside;
+pub use posts::{Face, plan_post};
 pub use planned::{Conclusion, Outcome, Planned, Sends, Shown};

@@ -1,0 +1,107 @@
+//! Posts: what a signal that is sent does to its target (POSIX.1-2017, XSH, Signal Concepts and
+//! kill()).
+ghost use Rattle.std.specs.Prelude.{◌≡◌, ◌<◌, true, Some, length};
+ghost use Rattle.tx_kernel.specs.Plans.{sending_of, sender_of};
+ghost use Rattle.tx_kernel.specs.Posts.{HasFace, posted, without_part};
+ghost use Rattle.tx_model.specs.Posts.{is_quiet, is_realtime, may_signal, post_answer, received, with_signal};
+ghost use Rattle.tx_base.specs.declared.limits.TheConstants.{QUEUED};
+ghost use Rattle.tx_model.specs.State.{Process};
+ghost use Rattle.tx_cred.specs.Cred.{ids_of};
+ghost use Rattle.tx_proc.specs.Processes.{process_of, revised};
+ghost use Rattle.tx_signal.specs.Parts.{answer_of};
+
+use tx_base::{Errno, QUEUED, Sending};
+use tx_cred::{Cred, may_signal};
+use tx_proc::{Part, Proc};
+use tx_signal::{Queued, is_realtime, with};
+
+/// What of a process decides how a post to it is answered.
+#[derive(Clone, Copy, PartialEq, Eq, Debug)]
+pub struct Face {
+    pub ids: Cred,
+    /// Whether it has ended.
+    pub ended: bool,
+    /// How many realtime signals are queued: 0 to 16.
+    pub queued: usize,
+}
+
+impl Face {
+    /// The face of a process.
+    pub fn of(proc: &Proc) -> Face
+        ensures { HasFace result (process_of proc.now) }
+    {
+        Face {
+            ids: proc.cred,
+            ended: proc.status.is_some(),
+            queued: proc.pending.queued().len(),
+        }
+    }
+
+    /// How a post to a process with this face is answered. Nothing is sent.
+    ///
+    /// NotPermitted where the sender may not signal the process; TryAgain for a realtime signal where
+    /// 16 are queued. Signal 0, process 1 and a process that has ended need no room.
+    pub fn answer(&self, sending: &Sending) -> Result<(), Errno>
+        ensures { (q : Process) → HasFace self.now q → answer_of result ≡ post_answer (sending_of sending.now) (Some q) }
+    {
+        if !self.permits(sending) {
+            return Err(Errno::NotPermitted);
+        }
+        if self.is_quiet(sending) || !is_realtime(sending.signo) || self.queued < QUEUED {
+            return Ok(());
+        }
+        Err(Errno::TryAgain)
+    }
+
+    /// Whether the sender may signal the process; the kernel always may.
+    fn permits(&self, sending: &Sending) -> bool
+        ensures { result ≡ may_signal (sender_of sending.now.from) (ids_of self.now.ids) }
+    {
+        match sending.from {
+            Some((real, effective)) => may_signal(real, effective, &self.ids),
+            None => true,
+        }
+    }
+
+    /// Whether the signal changes nothing: it only asks, or goes to process 1 or one that has ended.
+    fn is_quiet(&self, sending: &Sending) -> bool
+        ensures { (q : Process) → HasFace self.now q → result ≡ is_quiet (sending_of sending.now) q }
+    {
+        sending.signo.0 == 0 || sending.target.0 == 1 || self.ended
+    }
+}
+
+/// What a post to the process is to exchange: nothing where it changes nothing. The signal's number
+/// must be below 64.
+///
+/// NotPermitted and TryAgain as at `Face::answer`; such a post changes nothing.
+pub fn plan_post(proc: &Proc, sending: &Sending) -> Result<Option<Part>, Errno>
+    requires { sending.now.signo.0 < 64 }
+    ensures answer { answer_of (without_part result) ≡ post_answer (sending_of sending.now) (Some (process_of proc.now)) }
+    ensures after { received (sending_of sending.now) (Some (process_of proc.now)) ≡ Some (posted result (process_of proc.now)) }
+{
+    let face = Face::of(proc);
+    if let Err(errno) = face.answer(sending) {
+        return Err(errno);
+    }
+    if face.is_quiet(sending) {
+        return Ok(None);
+    }
+    Ok(Some(plan_pending(proc, sending)))
+}
+
+/// What a post that is let through is to exchange, where there is room for it.
+fn plan_pending(proc: &Proc, sending: &Sending) -> Part
+    requires number { sending.now.signo.0 < 64 }
+    requires room { is_realtime sending.now.signo.0 ≡ true → length proc.now.pending.queued < QUEUED }
+    ensures { with_signal (sending_of sending.now) (process_of proc.now) ≡ revised result (process_of proc.now) }
+{
+    if !is_realtime(sending.signo) {
+        return Part::Pending(with(proc.pending.standard(), sending.signo));
+    }
+    let entry = Queued {
+        signo: sending.signo,
+        value: sending.value,
+    };
+    Part::Queued(proc.pending.last_place(), Some(entry))
+}
