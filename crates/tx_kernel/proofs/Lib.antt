@@ -1,2 +1,4 @@
 pub mod Owned
 pub mod OwnPlans
+pub mod Beside
+pub mod Waited

@@ -2,3 +2,4 @@ pub mod Actors
 pub mod Plans
 pub mod Own
 pub mod Laws
+pub mod Trees

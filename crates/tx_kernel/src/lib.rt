@@ -8,6 +8,7 @@ mod inside;
 mod laws;
 mod memory;
 mod planned;
+mod trees;
 
 pub use actor::Actor;
 pub use inside::Inside;
