@@ -1,30 +1,30 @@
 -- A plan of what another number has, of descriptions that stay the same, and of parts of the process.
-use Rattle.std.proofs.Common.{◌≡◌, ◌≢◌, ℕ, ◌≤◌, Bool, true, false, List, [], ◌∷◌, ◌++◌, length, option_map, Option, Some, None, if◌then◌else◌, ◌==◌, ℤ, pos, slice_set, refl, ap, sym, subst, ◌∙◌, eq-eqb, eqb-true}
+use Rattle.std.proofs.Common.{◌≡◌, ◌≢◌, ℕ, Bool, true, false, List, [], ◌∷◌, ◌++◌, length, option_map, Option, Some, if◌then◌else◌, ◌==◌, ℤ, slice_set, refl, ap, sym, subst, ◌∙◌, eq-eqb, eqb-true}
 use Rattle.tx_base.specs.Slots.{slot_at}
 use Rattle.tx_base.specs.declared.names.Pid.{Pid}
-use Rattle.tx_change.specs.Counts.{AreNameless, CountsAgree, counted_in, desc_changes}
+use Rattle.tx_change.specs.Counts.{AreNameless, counted_in, desc_changes}
 use Rattle.tx_change.specs.Exchange.{applied, sizes_of, IsPid, AreNamed}
 use Rattle.tx_change.specs.Laws.{HasPlaces, BringPlaces, revised_by}
 use Rattle.tx_change.specs.Own.{AreOf}
 use Rattle.tx_change.specs.States.{state_of, changed_by}
 use Rattle.tx_change.specs.declared.change.Change.{Change}
-use Rattle.tx_change.specs.declared.change.Change.TheVariants.{Slot, Part, Description, Pipe}
+use Rattle.tx_change.specs.declared.change.Change.TheVariants.{Slot}
 use Rattle.tx_change.specs.declared.parts.Parts.{Parts}
 use Rattle.tx_desc.specs.Counts.{KeepsCounts}
 use Rattle.tx_desc.specs.Descriptions.{HasDescs}
 use Rattle.tx_desc.specs.Plans.{AreNumbers, put_descs}
 use Rattle.tx_desc.specs.declared.plans.NewDesc.{NewDesc}
 use Rattle.tx_kernel.proofs.OwnPlans.{own_named, own_brings, own_among, held_quiet}
-use Rattle.tx_kernel.specs.Actors.{me_of, inside_of, IsActor, CountsHeld}
+use Rattle.tx_kernel.specs.Actors.{me_of, IsActor, CountsHeld}
 use Rattle.tx_kernel.specs.Laws.{PlanLaws}
 use Rattle.tx_kernel.specs.Plans.{Plans, Gives, AreAmong, quiet}
 use Rattle.tx_kernel.specs.declared.actor.Actor.{Actor}
 use Rattle.tx_kernel.specs.declared.planned.Outcome.TheVariants.{Done}
 use Rattle.tx_kernel.specs.declared.planned.Planned.{Planned}
 use Rattle.tx_model.specs.Effects.{Effect, done_with, noted}
-use Rattle.tx_model.specs.State.{Object, Proc as TheProc, Desc, Pipe as ThePipe, Held, Process, Sending, State, SetProc, AgreePart, has, write_one, written, put_at}
+use Rattle.tx_model.specs.State.{Object, Proc as TheProc, Desc, Pipe as ThePipe, Held, Process, Sending, State, SetProc, AgreePart, has, write_one, written}
 use Rattle.tx_model.specs.StateLaws.{put_there, state_ext}
-use Rattle.tx_proc.specs.Processes.{process_of, process_in}
+use Rattle.tx_proc.specs.Processes.{process_in}
 use Rattle.tx_proc.specs.declared.proc.Proc.{Proc}
 
 -- a rule that does and names the same has the same plans
@@ -102,6 +102,15 @@ AreDescsAmong objects (new ∷ descs) = (has (Desc new.number.0) objects ≡ tru
 pub descs_among : (objects : List Object) (descs : List NewDesc) (behind : List Change) → AreDescsAmong objects descs → AreAmong objects behind → AreAmong objects (desc_changes descs ++ behind)
 descs_among objects [] behind first last = last
 descs_among objects (new ∷ descs) behind first last = (first.0, descs_among objects descs behind first.1 last)
+
+-- the other process is the second object
+pub second-first : (p c : ℕ) (more : List Object) → has (TheProc c) (TheProc p ∷ TheProc c ∷ more) ≡ true
+unfolding has
+second-first p c more = by (c == p)
+  where
+    by : (b : Bool) → (if b then true else (if c == c then true else has (TheProc c) more)) ≡ true
+    by true = refl
+    by false = rw (eq-eqb c c refl) refl
 
 -- what such a plan has
 pub record Beside (actor : Actor) (descs : List NewDesc) (other : Pid) (slot : Option Proc) (mine : List Change) : Type 0 where

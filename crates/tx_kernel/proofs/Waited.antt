@@ -1,20 +1,18 @@
 -- The wait for a child.
-use Rattle.std.proofs.Common.{◌≡◌, ◌≢◌, ◌<◌, ◌≤◌, ℕ, zero, suc, Bool, true, false, List, [], ◌∷◌, ◌++◌, length, Option, Some, None, is_some, if◌then◌else◌, ◌==◌, ℤ, pos, negsuc, slice_set, nat_lt, refl, ap, sym, subst, ◌∙◌, arith, eq-eqb, eqb-true, append_assoc, inl, inr, FitsSigned, w64, to_z, of_z}
+use Rattle.std.proofs.Common.{◌≡◌, ◌≤◌, ℕ, zero, suc, Bool, true, false, List, [], ◌∷◌, ◌++◌, length, Option, Some, None, is_some, if◌then◌else◌, ◌==◌, ℤ, pos, negsuc, refl, ap, sym, subst, ◌∙◌, arith, append_assoc, FitsSigned, w64, to_z, of_z}
 use Rattle.std.proofs.lemmas.Int.{to_z-of_z}
-use Rattle.std.proofs.lemmas.Bool.{ltb-true, both_ways}
+use Rattle.std.proofs.lemmas.Bool.{ltb-true}
 use Rattle.tx_base.specs.Slots.{slot_at}
 use Rattle.tx_base.specs.declared.errors.Errno.TheVariants.{NoChild}
 use Rattle.tx_base.specs.declared.names.Pid.{Pid}
-use Rattle.tx_base.specs.declared.steps.Refusal.TheVariants.{Wait}
 use Rattle.tx_change.specs.Counts.{counted_in}
-use Rattle.tx_change.specs.Exchange.{sizes_of, IsPid}
 use Rattle.tx_change.specs.States.{state_of}
 use Rattle.tx_change.specs.declared.change.Change.{Change}
 use Rattle.tx_change.specs.declared.change.Change.TheVariants.{Slot, Part}
 use Rattle.tx_change.specs.declared.parts.Parts.{Parts}
 use Rattle.tx_desc.specs.Counts.{KeepsCounts}
 use Rattle.tx_desc.specs.Places.{Descriptors}
-use Rattle.tx_kernel.proofs.Beside.{Beside, beside_plans, plans_same}
+use Rattle.tx_kernel.proofs.Beside.{beside_plans, plans_same, second-first}
 use Rattle.tx_kernel.specs.Actors.{me_of, IsActor}
 use Rattle.tx_kernel.specs.Laws.{PlanLaws}
 use Rattle.tx_kernel.specs.Own.{answer_after}
@@ -24,11 +22,11 @@ use Rattle.tx_kernel.specs.declared.actor.Actor.{Actor}
 use Rattle.tx_kernel.specs.declared.planned.Outcome.TheVariants.{Done}
 use Rattle.tx_kernel.specs.declared.planned.Planned.{Planned}
 use Rattle.tx_kernel.specs.declared.trees.Child.{Child}
-use Rattle.tx_model.specs.Effects.{Effect, done, idle}
+use Rattle.tx_model.specs.Effects.{done}
 use Rattle.tx_model.specs.Numbers.{failing}
 use Rattle.tx_model.specs.Processes.{numbered, with_status, waits_by, waits_for, waits_at, waitpid_effect, waitpid_objects, numbered_objects}
-use Rattle.tx_model.specs.State.{Object, Proc as TheProc, Process, Sending, State, has, is_between}
-use Rattle.tx_proc.specs.Processes.{process_of, process_in}
+use Rattle.tx_model.specs.State.{Proc as TheProc, Process, Sending, is_between}
+use Rattle.tx_proc.specs.Processes.{process_in}
 use Rattle.tx_proc.specs.declared.part.Part.TheVariants.{Answer as SetAnswer, Register as SetRegister}
 use Rattle.tx_proc.specs.declared.proc.Proc.{Proc}
 
@@ -127,14 +125,6 @@ wait_plans actor before now planned number nohang child is plans =
 
 -- the removal
 
-second_there : (p t : ℕ) → has (TheProc t) (TheProc p ∷ TheProc t ∷ []) ≡ true
-unfolding has
-second_there p t = by (t == p)
-  where
-    by : (b : Bool) → (if b then true else (if t == t then true else false)) ≡ true
-    by true = refl
-    by false = rw (eq-eqb t t refl) refl
-
 none_counted : (slot : Option Proc) (status : ℕ) (proc : Proc) → slot ≡ Some proc → proc.status ≡ Some status → counted_in slot ≡ []
 none_counted slot status proc there ended = ap counted_in there ∙ ap (λ (x : Option ℕ). if is_some x then [] else proc.descriptors) ended
 
@@ -167,4 +157,4 @@ removal_plans laws actor child status nohang before first second now sized is en
     })
     (three ∙ ap (λ (xs : List Change). xs ++ answer ∷ []) (two ∙ ap (λ (xs : List Change). xs ++ kept ∷ []) one ∙ append_assoc before (Slot child None ∷ []) (kept ∷ []))
     ∙ append_assoc before (Slot child None ∷ kept ∷ []) (answer ∷ []))
-    refl (λ held. tt) (λ held. second_there actor.pid.0 child.0)
+    refl (λ held. tt) (λ held. second-first actor.pid.0 child.0 [])

@@ -1,18 +1,24 @@
 //! The calls on children: fork, and the wait for a child that has ended.
-ghost use Rattle.std.specs.Prelude.{◌≡◌, ◌≤◌, ℕ, Bool, ◌∷◌, [], List, length, option_map, IfOk, IfErr, OnErr};
+ghost use Rattle.std.specs.Prelude.{◌≡◌, ◌≤◌, ◌⊎◌, ℕ, Bool, ◌∷◌, ◌++◌, [], List, length, option_map, IfOk, IfErr, OnOk, OnErr};
 ghost use Rattle.tx_base.specs.declared.steps.Refusal.TheVariants.{NoMemory};
 ghost use Rattle.tx_kernel.specs.Actors.{IsActor, me_of};
-ghost use Rattle.tx_kernel.specs.Plans.{Plans, Extends, RefusedBy};
+ghost use Rattle.tx_base.specs.Slots.{slot_at};
+ghost use Rattle.tx_change.specs.Counts.{desc_changes};
+ghost use Rattle.tx_change.specs.Exchange.{IsPid, sizes_of};
+ghost use Rattle.tx_kernel.specs.Plans.{Plans, Extends, IsBadChoice, RefusedBy};
 ghost use Rattle.tx_kernel.specs.Trees.{child_at, IsEndedChild};
-ghost use Rattle.tx_model.specs.Processes.{numbered, waits_by, waitpid_effect, waitpid_objects};
+ghost use Rattle.tx_model.specs.Answer.{ChoosesProcess};
+ghost use Rattle.tx_model.specs.Processes.{fork_effect, fork_objects, forks, numbered, waits_by, waitpid_effect, waitpid_objects};
 ghost use Rattle.tx_model.specs.State.{Proc as TheProc};
 
 use crate::actor::Actor;
 use crate::laws::laws;
 use crate::planned::{Outcome, Planned};
+use std::alloc::Global;
 use tx_base::{Errno, NoMemory, Pid, Refusal};
 use tx_change::{Change, Log};
-use tx_proc::{Part, Register};
+use tx_desc::NewDesc;
+use tx_proc::{BoxedProc, Part, Register};
 
 /// A child of a process.
 #[derive(Clone, Copy)]
@@ -23,6 +29,49 @@ struct Child {
 }
 
 impl Actor<'_> {
+    /// Makes a child of this number, a copy of the process but for its pending signals, and answers
+    /// the number; the child is answered 0 (POSIX.1-2017, XSH, fork()).
+    ///
+    /// Refuses by BadNumber where the number is not 1 to the width, by NumberTaken where a process
+    /// has it, and by NoMemory. A refusal may leave more in the log.
+    pub(crate) fn plan_fork(
+        &self,
+        alloc: Global,
+        child: Pid,
+        log: &mut Log,
+    ) -> Result<Planned, Refusal>
+        requires { IsActor self.now }
+        ensures ok { IfOk result (λ planned. Plans self.now log.old log.new planned (λ S. fork_effect self.now.pid.0 child.0 (me_of self.now) S) (λ S. fork_objects child.0 (me_of self.now))) }
+        ensures refused { IfErr result (λ why. RefusedBy self.now why (λ S. fork_effect self.now.pid.0 child.0 (me_of self.now) S) ⊎ IsBadChoice self.now why (ChoosesProcess child.0)) }
+        ensures log { OnErr result (Extends log.old log.new) }
+    {
+        if child.0 == 0 || child.0 as usize > self.parts.procs.width() {
+            return Err(Refusal::BadNumber);
+        }
+        if !self.parts.procs.free(child) {
+            return Err(Refusal::NumberTaken);
+        }
+        Ok(self.plan_child(alloc, child, log)?)
+    }
+
+    /// Plans to put a child at a free number, to count its names and to answer its number.
+    fn plan_child(&self, alloc: Global, child: Pid, log: &mut Log) -> Result<Planned, NoMemory>
+        requires actor { IsActor self.now }
+        requires number { IsPid (sizes_of self.now.parts.now) child.0 }
+        requires free { slot_at self.now.parts.now.procs child.0 ≡ None }
+        ensures ok { IfOk result (λ planned. Plans self.now log.old log.new planned (λ S. forks self.now.pid.0 child.0 (me_of self.now) None) (λ S. fork_objects child.0 (me_of self.now))) }
+        ensures err { OnErr result (Extends log.old log.new) }
+    {
+        laws();
+        self.parts.descs.sized();
+        let descs = self.parts.descs.plan_raise_all(&self.proc.descriptors);
+        let boxed = BoxedProc::new(alloc, self.proc.child(self.pid)?)?;
+        push_descs(descs.as_slice(), log)?;
+        log.push(Change::Slot(child, Some(boxed)))?;
+        self.push_answer(child.0 as i64, log)?;
+        Ok(Planned::quiet(Outcome::Done(child.0 as i64)))
+    }
+
     /// Answers the number of an ended child, which is removed, and keeps its status in slot 0; 0
     /// for one that runs, with `nohang` (POSIX.1-2017, XSH, waitpid()).
     ///
@@ -96,4 +145,15 @@ impl Actor<'_> {
         self.push_answer(child.0 as i64, log)?;
         Ok(Planned::quiet(Outcome::Done(child.0 as i64)))
     }
+}
+
+/// Appends the exchanges that put planned descriptions in place.
+pub(crate) fn push_descs(news: &[NewDesc], log: &mut Log) -> Result<(), NoMemory>
+    ensures ok { OnOk result (log.new ≡ log.old ++ desc_changes news.now) }
+    ensures err { OnErr result (Extends log.old log.new) }
+{
+    for new in news {
+        log.push(Change::Description(new.number, new.opened))?;
+    }
+    Ok(())
 }

@@ -1,11 +1,10 @@
-use Rattle.std.proofs.Common.{◌≡◌, ℤ, ℕ, Option, Some, None, length, w64, true, false, sym, subst, ap, if◌then◌else◌, Bool, ◌∷◌, [], pos, ◌∙◌}
+use Rattle.std.proofs.Common.{◌≡◌, ℤ, ℕ, Option, None, length, w64, sym, subst, ap, if◌then◌else◌, Bool, ◌∷◌, [], pos, ◌∙◌}
 use Rattle.tx_base.specs.declared.steps.Refusal.TheVariants.{Wait}
 use Rattle.std.proofs.lemmas.Int.{to_z-of_z}
-use Rattle.tx_kernel.proofs.Waited.{IsChild, found_child, child_ended, failure_plans, wait_plans}
+use Rattle.tx_kernel.proofs.Waited.{found_child, child_ended, failure_plans, wait_plans}
 use Rattle.tx_kernel.specs.Actors.{me_of}
 use Rattle.tx_kernel.specs.Plans.{Plans}
 use Rattle.tx_kernel.specs.Trees.{child_at}
-use Rattle.tx_kernel.specs.declared.trees.Child.{Child}
 use Rattle.tx_model.specs.Effects.{Effect, done, idle}
 use Rattle.tx_model.specs.Processes.{numbered, waits_by, waitpid_objects}
 use Rattle.tx_model.specs.State.{Proc as TheProc}
