@@ -1,5 +1,6 @@
 -- The process that makes a step, and the transaction that it makes it in.
-use Rattle.std.specs.Prelude.{◌≡◌, ℕ, ◌≤◌, List, Option, Some, None, IsSome, length, slice_index_or}
+use Rattle.std.specs.Prelude.{◌≡◌, ℕ, ◌<◌, ◌≤◌, ◌^◌, List, Option, Some, None, IsSome, length, slice_index_or}
+use Rattle.tx_base.specs.Signals.{bits_of}
 use Rattle.tx_base.specs.Slots.{slot_at}
 use Rattle.tx_change.specs.Counts.{CountsAgree}
 use Rattle.tx_change.specs.Exchange.{IsPid, pipe_at, sizes_of}
@@ -43,12 +44,13 @@ pub record IsWhole (parts : Parts) : Type 0 where
   pub few : length parts.procs ≤ 256
   pub piped : (d : ℕ) → HasPipe parts.pipes (slice_index_or parts.descs d None)
 
--- the process is the one of its number, and runs
+-- the process is the one of its number, and runs; its mask holds signals of numbers 0 to 39
 pub record IsActor (actor : Actor) : Type 0 where
   pub whole : IsWhole actor.parts.now
   pub number : IsPid (sizes_of actor.parts.now) actor.pid.0
   pub there : slot_at actor.parts.now.procs actor.pid.0 ≡ Some actor.proc.now
   pub runs : actor.proc.now.status ≡ None
+  pub mask : bits_of actor.proc.now.mask < 2 ^ 40
 
 -- the process, as the definitions have it
 abbrev pub me_of : Actor → Process

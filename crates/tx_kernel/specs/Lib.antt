@@ -3,3 +3,5 @@ pub mod Plans
 pub mod Own
 pub mod Laws
 pub mod Trees
+pub mod Discards
+pub mod Returns

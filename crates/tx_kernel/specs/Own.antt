@@ -27,6 +27,14 @@ pub record GivesOwn (actor : Actor) (plan : List Change) (outcome : Outcome) (ru
   pub process : revised_by plan (me_of actor) ≡ rule.process
   pub reply : reply_of (me_of actor).memory outcome ≡ rule.reply
 
+-- a log that has changes of parts of the process at its end now that make this of it
+pub record PlansPart (actor : Actor) (before now : List Change) (rule : Process → Process) : Type 0 where
+  pub plan : List Change
+  pub added : now ≡ before ++ plan
+  pub own : AreOf actor.pid.0 plan
+  pub nameless : AreNameless plan
+  pub process : revised_by plan (me_of actor) ≡ rule (me_of actor)
+
 -- a log that has such a plan at its end now
 pub record PlansOwn (actor : Actor) (before now : List Change) (outcome : Outcome) (rule : Process → Own) : Type 0 where
   pub plan : List Change

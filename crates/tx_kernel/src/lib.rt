@@ -4,11 +4,14 @@
 
 mod actor;
 mod answers;
+mod ids;
 mod inside;
 mod laws;
 mod memory;
 mod planned;
 mod trees;
+mod script;
+mod signals;
 
 pub use actor::Actor;
 pub use inside::Inside;

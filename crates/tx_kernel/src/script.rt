@@ -1,0 +1,106 @@
+//! The calls on the script of their process, and the console.
+ghost use Rattle.std.specs.Prelude.{◌≡◌, ◌≤◌, true, Some, IfOk, OnErr};
+ghost use Rattle.tx_base.specs.declared.limits.TheConstants.{SLOTS};
+ghost use Rattle.tx_kernel.specs.Actors.{inside_of};
+ghost use Rattle.tx_kernel.specs.Own.{PlansOwn};
+ghost use Rattle.tx_kernel.specs.Plans.{Extends};
+ghost use Rattle.tx_model.specs.Memory.{is_good, is_mapped};
+ghost use Rattle.tx_model.specs.Numbers.{below};
+ghost use Rattle.tx_model.specs.Scripts.{does_jump, jumps, keeps_at, shows, writes_console};
+
+use crate::actor::Actor;
+use crate::planned::{Outcome, Shown};
+use tx_base::{
+    ADDRESSES, CLOSED_INSIDE, CONSOLE_BYTES, Errno, LAST_POINT, NoMemory, SLOTS, When, number_below,
+};
+use tx_change::Log;
+use tx_pages::Access;
+use tx_proc::{Answer, Part, Register};
+
+impl Actor<'_> {
+    /// Goes on at another point; the last answer stays. Own rule.
+    ///
+    /// EINVAL where the point is over 65,535.
+    pub(crate) fn plan_jump(
+        &self,
+        point: u32,
+        when: When,
+        log: &mut Log,
+    ) -> Result<Outcome, NoMemory>
+        ensures ok { IfOk result (λ outcome. PlansOwn self.now log.old log.new outcome (jumps point when)) }
+        ensures err { OnErr result (Extends log.old log.new) }
+    {
+        let ret = self.proc.regs.ret;
+        if point > LAST_POINT {
+            return self.plan_error(Errno::InvalidArgument, log);
+        }
+        if !does_jump(when, ret) {
+            return self.plan_answer(ret, log);
+        }
+        self.push(Part::Answer(Answer { point, ret }), log)?;
+        Ok(Outcome::Done(ret))
+    }
+
+    /// Keeps the last answer in a slot; it stays. Own rule.
+    ///
+    /// EINVAL where the slot is not 0 to 7.
+    pub(crate) fn plan_keep(&self, slot: i64, log: &mut Log) -> Result<Outcome, NoMemory>
+        ensures ok { IfOk result (λ outcome. PlansOwn self.now log.old log.new outcome (keeps_at (below SLOTS slot))) }
+        ensures err { OnErr result (Extends log.old log.new) }
+    {
+        let ret = self.proc.regs.ret;
+        let Some(number) = number_below(SLOTS, slot) else {
+            return self.plan_error(Errno::InvalidArgument, log);
+        };
+        self.push(Part::Register(Register { number, value: ret }), log)?;
+        self.push_answer(ret, log)?;
+        Ok(Outcome::Done(ret))
+    }
+
+    /// Shows so many bytes at an address. Own rule.
+    ///
+    /// -200 inside a transaction. EINVAL where the count is not 0 to 64, EFAULT where the bytes may
+    /// not be read.
+    pub(crate) fn plan_console_write(
+        &self,
+        address: i64,
+        count: i64,
+        log: &mut Log,
+    ) -> Result<Outcome, NoMemory>
+        ensures ok { IfOk result (λ outcome. PlansOwn self.now log.old log.new outcome (writes_console (inside_of self.now.inside) address count)) }
+        ensures err { OnErr result (Extends log.old log.new) }
+    {
+        if self.inside.is_some() {
+            return self.plan_answer(-(CLOSED_INSIDE as i64), log);
+        }
+        let Some(count) = number_below(CONSOLE_BYTES + 1, count) else {
+            return self.plan_error(Errno::InvalidArgument, log);
+        };
+        if !self.proc.space.is_good(Access::Read, address, count) {
+            return self.plan_error(Errno::BadAddress, log);
+        }
+        self.plan_shown(address, count, log)
+    }
+
+    /// Plans to show bytes that may be read.
+    fn plan_shown(&self, address: i64, count: usize, log: &mut Log) -> Result<Outcome, NoMemory>
+        requires few { count ≤ 64 }
+        requires good { is_good is_mapped self.now.proc.now.space address count ≡ true }
+        ensures ok { IfOk result (λ outcome. PlansOwn self.now log.old log.new outcome (shows address (Some count))) }
+        ensures err { OnErr result (Extends log.old log.new) }
+    {
+        let address = number_below(ADDRESSES, address).unwrap_or(0);
+        self.push_answer(count as i64, log)?;
+        Ok(Outcome::Out(Shown { address, count }))
+    }
+}
+
+/// Whether a jump is made where this is the last answer.
+fn does_jump(when: When, ret: i64) -> bool
+    ensures { result ≡ does_jump when ret }
+{
+    match when {
+        When::Always => true,
+        When::IfRet(value) => ret == value,
+    }
+}
