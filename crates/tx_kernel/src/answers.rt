@@ -1,6 +1,7 @@
 //! Answers that change nothing else.
-ghost use Rattle.std.specs.Prelude.{◌≡◌, ◌++◌, ◌∷◌, [], List, IfOk, OnOk, OnErr};
+ghost use Rattle.std.specs.Prelude.{◌≡◌, ◌++◌, ◌∷◌, [], List, IfOk, IfErr, OnOk, OnErr};
 ghost use Rattle.tx_base.specs.Errors.{error_number};
+ghost use Rattle.tx_base.specs.declared.steps.Refusal.TheVariants as refusal;
 ghost use Rattle.tx_change.specs.declared.change.Change.TheVariants.{Part as SetPart};
 ghost use Rattle.tx_kernel.specs.Actors.{IsActor, me_of};
 ghost use Rattle.tx_kernel.specs.Own.{PlansOwn, answer_after};
@@ -13,7 +14,7 @@ ghost use Rattle.tx_proc.specs.declared.part.Part.TheVariants.{Answer as SetAnsw
 use crate::actor::Actor;
 use crate::laws::laws;
 use crate::planned::{Outcome, Planned};
-use tx_base::{Errno, NoMemory};
+use tx_base::{Errno, NoMemory, Refusal};
 use tx_change::{Change, Log};
 use tx_proc::{Answer, Part};
 
@@ -58,12 +59,13 @@ impl Actor<'_> {
         self.plan_answer(failing(errno), log)
     }
 
-    /// Plans an answer of a call of any group, and nothing else. After want of memory the log is as
-    /// it was.
-    pub(crate) fn plan_done(&self, ret: i64, log: &mut Log) -> Result<Planned, NoMemory>
+    /// Plans this answer, and nothing else, as the whole of a step. After want of memory the log is
+    /// as it was.
+    pub(crate) fn plan_done(&self, ret: i64, log: &mut Log) -> Result<Planned, Refusal>
         requires { IsActor self.now }
         ensures ok { IfOk result (λ planned. (objects : State → List Object) → Plans self.now log.old log.new planned (λ S. done self.now.pid.0 ret (me_of self.now)) objects) }
-        ensures err { OnErr result (log.new ≡ log.old) }
+        ensures refused { IfErr result (λ why. why ≡ refusal.NoMemory) }
+        ensures log { OnErr result (log.new ≡ log.old) }
     {
         laws();
         self.parts.descs.sized();
@@ -71,12 +73,13 @@ impl Actor<'_> {
         Ok(Planned::quiet(outcome))
     }
 
-    /// Plans an error as the answer of a call of any group, and nothing else. After want of memory
+    /// Plans an error as the answer, and nothing else, as the whole of a step. After want of memory
     /// the log is as it was.
-    pub(crate) fn plan_failure(&self, errno: Errno, log: &mut Log) -> Result<Planned, NoMemory>
+    pub(crate) fn plan_failure(&self, errno: Errno, log: &mut Log) -> Result<Planned, Refusal>
         requires { IsActor self.now }
         ensures ok { IfOk result (λ planned. (objects : State → List Object) → Plans self.now log.old log.new planned (λ S. done self.now.pid.0 (failing errno) (me_of self.now)) objects) }
-        ensures err { OnErr result (log.new ≡ log.old) }
+        ensures refused { IfErr result (λ why. why ≡ refusal.NoMemory) }
+        ensures log { OnErr result (log.new ≡ log.old) }
     {
         self.plan_done(failing(errno), log)
     }

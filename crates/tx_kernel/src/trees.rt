@@ -89,11 +89,11 @@ impl Actor<'_> {
         ensures log { OnErr result (Extends log.old log.new) }
     {
         let Some(child) = self.child(number) else {
-            return Ok(self.plan_failure(Errno::NoChild, log)?);
+            return self.plan_failure(Errno::NoChild, log);
         };
         match child.status {
             Some(status) => Ok(self.plan_removal(child.pid, status, log)?),
-            None if nohang => Ok(self.plan_done(0, log)?),
+            None if nohang => self.plan_done(0, log),
             None => Err(Refusal::Wait),
         }
     }
