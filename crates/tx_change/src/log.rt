@@ -40,6 +40,14 @@ impl Log {
         self.changes.len()
     }
 
+    /// Makes room for so many more. The log is as it was; NoMemory where a growth is refused.
+    pub fn reserve(&mut self, count: usize) -> Result<(), NoMemory>
+        ensures { self.new ≡ self.old }
+    {
+        self.changes.reserve(count)?;
+        Ok(())
+    }
+
     /// Appends a new part, which is to be exchanged. After want of memory the log is as it was.
     pub fn push(&mut self, change: Change) -> Result<(), NoMemory>
         ensures ok { OnOk result (self.new ≡ self.old ++ change ∷ []) }

@@ -3,5 +3,7 @@ pub mod Plans
 pub mod Own
 pub mod Posts
 pub mod Laws
+pub mod Trees
 pub mod Discards
 pub mod Returns
+pub mod Sends

@@ -11,7 +11,9 @@ mod memory;
 mod planned;
 mod posts;
 mod script;
+mod sends;
 mod signals;
+mod trees;
 
 pub use actor::Actor;
 pub use inside::Inside;

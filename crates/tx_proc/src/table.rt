@@ -55,6 +55,14 @@ impl ProcTable {
         }
     }
 
+    /// The parent of the process of a number; nothing where there is none, or no such number.
+    pub fn parent_of(&self, pid: Pid) -> Option<Pid>
+        ensures { result ≡ option_map (λ proc. proc.parent) (slot_at self.now pid.0) }
+    {
+        let proc = self.get(pid)?;
+        Some(proc.parent)
+    }
+
     /// Whether a number has no process.
     pub fn free(&self, pid: Pid) -> bool
         ensures { IsTrue result ↔ (slot_at self.now pid.0 ≡ None) }

@@ -1,0 +1,26 @@
+-- What a call that sends a signal comes to.
+use Rattle.std.specs.Prelude.{ℕ, List, [], ◌∷◌, ◌++◌, pos, Option, Some, None}
+use Rattle.tx_kernel.specs.Plans.{sending_of}
+use Rattle.tx_kernel.specs.declared.sends.Send.{Send}
+use Rattle.tx_kernel.specs.declared.sends.Send.TheVariants.{Answers, Posts, Holds}
+use Rattle.tx_kernel.specs.declared.planned.Sends.{Sends}
+use Rattle.tx_kernel.specs.declared.planned.Sends.TheVariants.{Nothing, AtOnce, AtCommit}
+use Rattle.tx_model.specs.Effects.{Effect, Inside, done, done_with}
+use Rattle.tx_model.specs.Sends.{posts_now}
+use Rattle.tx_model.specs.State.{Process, Sending, State, Write, SetHeld}
+
+-- what is handed out is held
+abbrev pub holds_more : Option Inside → Sending → State → List Write
+holds_more None m S = []
+holds_more (Some inside) m S = SetHeld inside.starter (S.held inside.starter ++ m ∷ []) ∷ []
+
+abbrev pub sent_effect : ℕ → Option Inside → Process → Send → State → Effect
+sent_effect p inside me (Answers ret) S = done p ret me
+sent_effect p inside me (Posts m) S = posts_now p (sending_of m)
+sent_effect p inside me (Holds m) S = done_with (holds_more inside (sending_of m) S) p (pos 0) me
+
+-- the signal that it sends
+abbrev pub sends_by : Send → Sends
+sends_by (Answers ret) = Nothing
+sends_by (Posts m) = AtOnce m
+sends_by (Holds m) = AtCommit m

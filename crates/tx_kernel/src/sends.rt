@@ -1,0 +1,99 @@
+//! Signals that a process sends (POSIX.1-2017, XSH, kill() and sigqueue()).
+ghost use Rattle.std.specs.Prelude.{◌≡◌, ◌<◌, ◌≤◌, ℕ, List, length, option_map, IfOk, IfErr, IfSome, OnErr};
+ghost use Rattle.tx_kernel.specs.Actors.{CountsHeld, IsActor, inside_of, me_of};
+ghost use Rattle.tx_kernel.specs.Plans.{Extends, Plans, RefusedBy, sending_of};
+ghost use Rattle.tx_kernel.specs.Sends.{sends_by, sent_effect};
+ghost use Rattle.tx_change.specs.States.{state_of};
+ghost use Rattle.tx_model.specs.Processes.{held_objects};
+ghost use Rattle.tx_model.specs.Sends.{hands_out, send_effect, sendable};
+ghost use Rattle.tx_model.specs.State.{Sending as TheSending};
+ghost use Rattle.tx_signal.specs.Numbers.{number_of};
+
+use crate::actor::Actor;
+use crate::answers::failing;
+use crate::laws::laws;
+use crate::planned::{Conclusion, Outcome, Planned, Sends};
+use tx_base::{CLOSED_INSIDE, Errno, HELD_SENDS, Pid, Refusal, Sending, Signo};
+use tx_change::Log;
+use tx_signal::known;
+
+/// What a call that sends a signal comes to.
+#[derive(Clone, Copy, Debug)]
+pub(crate) enum Send {
+    /// Nothing is sent, and this is the answer.
+    Answers(i64),
+    /// It is posted, and the answer of the post is the answer.
+    Posts(Sending),
+    /// It is held until the transaction commits, and the answer is 0.
+    Holds(Sending),
+}
+
+impl Send {
+    /// The signal that it sends.
+    pub(crate) fn sends(&self) -> Sends
+        ensures { result ≡ sends_by self.now }
+    {
+        match self {
+            Send::Answers(_) => Sends::Nothing,
+            Send::Posts(sending) => Sends::AtOnce(*sending),
+            Send::Holds(sending) => Sends::AtCommit(*sending),
+        }
+    }
+}
+
+/// The signal that a program computed, or 0, which only asks; nothing where there is no such signal.
+fn sendable(number: i64) -> Option<Signo>
+    ensures number { option_map number_of result ≡ sendable number }
+    ensures low { IfSome result (λ signo. signo.0 < 40) }
+{
+    if number == 0 {
+        return Some(Signo(0));
+    }
+    known(number)
+}
+
+impl Actor<'_> {
+    /// What a sigqueue comes to, or with the value 0 a kill. It takes no memory.
+    pub(crate) fn decide_send(&self, target: i64, signo: i64, value: i64) -> Send
+        requires { IsActor self.now }
+        ensures { (held : ℕ → List TheSending) → CountsHeld self.now.inside held →
+            send_effect self.now.pid.0 (inside_of self.now.inside) (me_of self.now) target signo value (state_of held self.now.parts.now)
+            ≡ sent_effect self.now.pid.0 (inside_of self.now.inside) (me_of self.now) result (state_of held self.now.parts.now) }
+    {
+        let Some(signo) = sendable(signo) else {
+            return Send::Answers(failing(Errno::InvalidArgument));
+        };
+        let Some(target) = self.numbered(target) else {
+            return Send::Answers(failing(Errno::NoSuchProcess));
+        };
+        self.hand_out(Sending {
+            target,
+            signo,
+            value,
+            from: Some((self.proc.cred.real_user, self.proc.cred.effective_user)),
+        })
+    }
+
+    /// Posts a signal, but holds a member's to a process that is no member. Own rule: signal 0 is
+    /// closed there, and 32 may be held.
+    fn hand_out(&self, sending: Sending) -> Send
+        ensures { (held : ℕ → List TheSending) → CountsHeld self.now.inside held →
+            hands_out self.now.pid.0 (inside_of self.now.inside) (me_of self.now) (sending_of sending) (state_of held self.now.parts.now)
+            ≡ sent_effect self.now.pid.0 (inside_of self.now.inside) (me_of self.now) result (state_of held self.now.parts.now) }
+    {
+        let Some(inside) = self.inside else {
+            return Send::Posts(sending);
+        };
+        if inside.has_member(sending.target) {
+            return Send::Posts(sending);
+        }
+        if sending.signo.0 == 0 {
+            return Send::Answers(-(CLOSED_INSIDE as i64));
+        }
+        if inside.held < HELD_SENDS {
+            Send::Holds(sending)
+        } else {
+            Send::Answers(failing(Errno::TryAgain))
+        }
+    }
+}

@@ -1,0 +1,159 @@
+//! The calls on children: fork, and the wait for a child that has ended.
+ghost use Rattle.std.specs.Prelude.{◌≡◌, ◌≤◌, ◌⊎◌, ℕ, Bool, ◌∷◌, ◌++◌, [], List, length, option_map, IfOk, IfErr, OnOk, OnErr};
+ghost use Rattle.tx_base.specs.declared.steps.Refusal.TheVariants.{NoMemory};
+ghost use Rattle.tx_kernel.specs.Actors.{IsActor, me_of};
+ghost use Rattle.tx_base.specs.Slots.{slot_at};
+ghost use Rattle.tx_change.specs.Counts.{desc_changes};
+ghost use Rattle.tx_change.specs.Exchange.{IsPid, sizes_of};
+ghost use Rattle.tx_kernel.specs.Plans.{Plans, Extends, IsBadChoice, RefusedBy};
+ghost use Rattle.tx_kernel.specs.Trees.{child_at, IsEndedChild};
+ghost use Rattle.tx_model.specs.Answer.{ChoosesProcess};
+ghost use Rattle.tx_model.specs.Processes.{fork_effect, fork_objects, forks, numbered, waits_by, waitpid_effect, waitpid_objects};
+ghost use Rattle.tx_model.specs.State.{Proc as TheProc};
+
+use crate::actor::Actor;
+use crate::laws::laws;
+use crate::planned::{Outcome, Planned};
+use std::alloc::Global;
+use tx_base::{Errno, NoMemory, Pid, Refusal};
+use tx_change::{Change, Log};
+use tx_desc::NewDesc;
+use tx_proc::{BoxedProc, Part, Register};
+
+/// A child of a process.
+#[derive(Clone, Copy)]
+struct Child {
+    pid: Pid,
+    /// Nothing while it runs; else the status that it ended with.
+    status: Option<u16>,
+}
+
+impl Actor<'_> {
+    /// Makes a child of this number, a copy of the process but for its pending signals, and answers
+    /// the number; the child is answered 0 (POSIX.1-2017, XSH, fork()).
+    ///
+    /// Refuses by BadNumber where the number is not 1 to the width, by NumberTaken where a process
+    /// has it, and by NoMemory. A refusal may leave more in the log.
+    pub(crate) fn plan_fork(
+        &self,
+        alloc: Global,
+        child: Pid,
+        log: &mut Log,
+    ) -> Result<Planned, Refusal>
+        requires { IsActor self.now }
+        ensures ok { IfOk result (λ planned. Plans self.now log.old log.new planned (λ S. fork_effect self.now.pid.0 child.0 (me_of self.now) S) (λ S. fork_objects child.0 (me_of self.now))) }
+        ensures refused { IfErr result (λ why. RefusedBy self.now why (λ S. fork_effect self.now.pid.0 child.0 (me_of self.now) S) ⊎ IsBadChoice self.now why (ChoosesProcess child.0)) }
+        ensures log { OnErr result (Extends log.old log.new) }
+    {
+        if child.0 == 0 || child.0 as usize > self.parts.procs.width() {
+            return Err(Refusal::BadNumber);
+        }
+        if !self.parts.procs.free(child) {
+            return Err(Refusal::NumberTaken);
+        }
+        Ok(self.plan_child(alloc, child, log)?)
+    }
+
+    /// Plans to put a child at a free number, to count its names and to answer its number.
+    fn plan_child(&self, alloc: Global, child: Pid, log: &mut Log) -> Result<Planned, NoMemory>
+        requires actor { IsActor self.now }
+        requires number { IsPid (sizes_of self.now.parts.now) child.0 }
+        requires free { slot_at self.now.parts.now.procs child.0 ≡ None }
+        ensures ok { IfOk result (λ planned. Plans self.now log.old log.new planned (λ S. forks self.now.pid.0 child.0 (me_of self.now) None) (λ S. fork_objects child.0 (me_of self.now))) }
+        ensures err { OnErr result (Extends log.old log.new) }
+    {
+        laws();
+        self.parts.descs.sized();
+        let descs = self.parts.descs.plan_raise_all(&self.proc.descriptors);
+        let boxed = BoxedProc::new(alloc, self.proc.child(self.pid)?)?;
+        push_descs(descs.as_slice(), log)?;
+        log.push(Change::Slot(child, Some(boxed)))?;
+        self.push_answer(child.0 as i64, log)?;
+        Ok(Planned::quiet(Outcome::Done(child.0 as i64)))
+    }
+
+    /// Answers the number of an ended child, which is removed, and keeps its status in slot 0; 0
+    /// for one that runs, with `nohang` (POSIX.1-2017, XSH, waitpid()).
+    ///
+    /// Answers NoChild where the number is none of a child of the process. Refuses by Wait where
+    /// the child runs, without `nohang`, and by NoMemory. A refusal may leave more in the log.
+    pub(crate) fn plan_waitpid(
+        &self,
+        number: i64,
+        nohang: bool,
+        log: &mut Log,
+    ) -> Result<Planned, Refusal>
+        requires { IsActor self.now }
+        ensures ok { IfOk result (λ planned. Plans self.now log.old log.new planned (λ S. waitpid_effect self.now.pid.0 number nohang (me_of self.now) S) (λ S. waitpid_objects number S)) }
+        ensures refused { IfErr result (λ why. RefusedBy self.now why (λ S. waitpid_effect self.now.pid.0 number nohang (me_of self.now) S)) }
+        ensures log { OnErr result (Extends log.old log.new) }
+    {
+        let Some(child) = self.child(number) else {
+            return self.plan_failure(Errno::NoChild, log);
+        };
+        match child.status {
+            Some(status) => Ok(self.plan_removal(child.pid, status, log)?),
+            None if nohang => self.plan_done(0, log),
+            None => Err(Refusal::Wait),
+        }
+    }
+
+    /// The process number that a program computed; nothing where it is not 1 to the width.
+    pub(crate) fn numbered(&self, number: i64) -> Option<Pid>
+        requires { length self.now.parts.now.procs ≤ 256 }
+        ensures { option_map (λ pid. pid.0) result ≡ numbered (length self.now.parts.now.procs) number }
+    {
+        let width = self.parts.procs.width();
+        if number < 1 || number > width as i64 {
+            return None;
+        }
+        Some(Pid(number as u16))
+    }
+
+    /// The child of a number that a program computed; nothing where the number is none of a child.
+    fn child(&self, number: i64) -> Option<Child>
+        requires { length self.now.parts.now.procs ≤ 256 }
+        ensures { result ≡ child_at self.now.pid.0 self.now.parts.now.procs (numbered (length self.now.parts.now.procs) number) }
+    {
+        let pid = self.numbered(number)?;
+        let child = self.parts.procs.get(pid)?;
+        if child.parent != self.pid {
+            return None;
+        }
+        Some(Child {
+            pid,
+            status: child.status,
+        })
+    }
+
+    /// Plans to remove a child that has ended with this status, to keep the status in slot 0 and to
+    /// answer the child's number.
+    fn plan_removal(&self, child: Pid, status: u16, log: &mut Log) -> Result<Planned, NoMemory>
+        requires actor { IsActor self.now }
+        requires ended { IsEndedChild self.now child.0 status }
+        ensures ok { IfOk result (λ planned. (nohang : Bool) → Plans self.now log.old log.new planned (λ S. waits_by self.now.pid.0 child.0 nohang (me_of self.now) (Some status)) (λ S. TheProc child.0 ∷ [])) }
+        ensures err { OnErr result (Extends log.old log.new) }
+    {
+        laws();
+        self.parts.descs.sized();
+        log.push(Change::Slot(child, None))?;
+        let kept = Register {
+            number: 0,
+            value: status as i64,
+        };
+        self.push(Part::Register(kept), log)?;
+        self.push_answer(child.0 as i64, log)?;
+        Ok(Planned::quiet(Outcome::Done(child.0 as i64)))
+    }
+}
+
+/// Appends the exchanges that put planned descriptions in place.
+pub(crate) fn push_descs(news: &[NewDesc], log: &mut Log) -> Result<(), NoMemory>
+    ensures ok { OnOk result (log.new ≡ log.old ++ desc_changes news.now) }
+    ensures err { OnErr result (Extends log.old log.new) }
+{
+    for new in news {
+        log.push(Change::Description(new.number, new.opened))?;
+    }
+    Ok(())
+}
