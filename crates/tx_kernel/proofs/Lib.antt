@@ -7,3 +7,4 @@ pub mod PartsOwned
 pub mod Discarded
 pub mod Returned
 pub mod Posted
+pub mod Sent

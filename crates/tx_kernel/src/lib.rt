@@ -17,5 +17,5 @@ mod trees;
 
 pub use actor::Actor;
 pub use inside::Inside;
-pub use posts::{Face, plan_post};
 pub use planned::{Conclusion, Outcome, Planned, Sends, Shown};
+pub use posts::{Face, plan_post};

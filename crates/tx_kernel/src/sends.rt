@@ -3,6 +3,7 @@ ghost use Rattle.std.specs.Prelude.{◌≡◌, ◌<◌, ◌≤◌, ℕ, List, le
 ghost use Rattle.tx_kernel.specs.Actors.{CountsHeld, IsActor, inside_of, me_of};
 ghost use Rattle.tx_kernel.specs.Plans.{Extends, Plans, RefusedBy, sending_of};
 ghost use Rattle.tx_kernel.specs.Sends.{sends_by, sent_effect};
+ghost use Rattle.tx_base.specs.declared.steps.Refusal.TheVariants as refusal;
 ghost use Rattle.tx_change.specs.States.{state_of};
 ghost use Rattle.tx_model.specs.Processes.{held_objects};
 ghost use Rattle.tx_model.specs.Sends.{hands_out, send_effect, sendable};
@@ -94,6 +95,43 @@ impl Actor<'_> {
             Send::Holds(sending)
         } else {
             Send::Answers(failing(Errno::TryAgain))
+        }
+    }
+
+    /// Sends a process a signal with a value, and answers the answer of its post, or 0 where it is
+    /// held (POSIX.1-2017, XSH, sigqueue(), and with the value 0 kill()).
+    ///
+    /// Answers InvalidArgument where there is no such signal, then NoSuchProcess where the number is
+    /// not 1 to the width; inside a transaction, to a process that is no member, -200 for signal 0 and
+    /// TryAgain where 32 are held. Refuses by NoMemory, and the log is then as it was.
+    pub(crate) fn plan_send(
+        &self,
+        target: i64,
+        signo: i64,
+        value: i64,
+        log: &mut Log,
+    ) -> Result<Planned, Refusal>
+        requires { IsActor self.now }
+        ensures ok { IfOk result (λ planned. Plans self.now log.old log.new planned
+            (λ S. send_effect self.now.pid.0 (inside_of self.now.inside) (me_of self.now) target signo value S) (λ S. held_objects (inside_of self.now.inside))) }
+        ensures refused { IfErr result (λ why. why ≡ refusal.NoMemory) }
+        ensures log { OnErr result (log.new ≡ log.old) }
+    {
+        laws();
+        self.parts.descs.sized();
+        match self.decide_send(target, signo, value) {
+            Send::Answers(ret) => Ok(self.plan_done(ret, log)?),
+            Send::Posts(sending) => Ok(Planned {
+                conclusion: Conclusion::AnswersPost,
+                sends: Sends::AtOnce(sending),
+            }),
+            Send::Holds(sending) => {
+                let outcome = self.plan_answer(0, log)?;
+                Ok(Planned {
+                    conclusion: Conclusion::Replies(outcome),
+                    sends: Sends::AtCommit(sending),
+                })
+            }
         }
     }
 }

@@ -1,0 +1,91 @@
+-- Plans of calls that send a signal.
+use Rattle.std.proofs.Common.{◌≡◌, ℕ, ℤ, pos, List, [], ◌∷◌, ◌++◌, length, Option, Some, None, refl, ap, sym, ◌∙◌, append-nil}
+use Rattle.tx_base.specs.declared.names.Sending.{Sending as TheSending}
+use Rattle.tx_change.specs.Exchange.{applied, AreNamed}
+use Rattle.tx_change.specs.States.{state_of}
+use Rattle.tx_change.specs.declared.change.Change.{Change}
+use Rattle.tx_change.specs.declared.parts.Parts.{Parts}
+use Rattle.tx_kernel.proofs.OwnPlans.{own_named, own_brings, own_among, own_state}
+use Rattle.tx_kernel.specs.Actors.{me_of, inside_of, CountsHeld, IsActor}
+use Rattle.tx_kernel.specs.Laws.{PlanLaws}
+use Rattle.tx_kernel.specs.Own.{GivesOwn, PlansOwn}
+use Rattle.tx_kernel.specs.Plans.{Plans, held_after, sending_of}
+use Rattle.tx_kernel.specs.Sends.{holds_more}
+use Rattle.tx_kernel.specs.declared.actor.Actor.{Actor}
+use Rattle.tx_kernel.specs.declared.inside.Inside.{Inside}
+use Rattle.tx_kernel.specs.declared.planned.Conclusion.TheVariants.{Replies, AnswersPost}
+use Rattle.tx_kernel.specs.declared.planned.Outcome.{Outcome}
+use Rattle.tx_kernel.specs.declared.planned.Sends.TheVariants.{AtOnce, AtCommit}
+use Rattle.tx_model.specs.Effects.{Inside as TheInside, Effect, answers_with, before_sends, done_with, noted}
+use Rattle.tx_model.specs.Effects as effects
+use Rattle.tx_model.specs.Sends.{posts_now, send_effect}
+use Rattle.tx_model.specs.State.{Object, Process, Sending, State, SetProc, write_one, written}
+
+abbrev IsRule : Actor → (State → Effect) → (State → Effect) → Type 0
+IsRule actor rule other = (held : ℕ → List Sending) → CountsHeld actor.inside held → rule (state_of held actor.parts.now) ≡ other (state_of held actor.parts.now)
+
+same_held : (inside : Option Inside) (m : TheSending) (held : ℕ → List Sending) → held_after (inside_of inside) (AtOnce m) held ≡ held
+same_held None m held = refl
+same_held (Some inside) m held = refl
+
+-- a signal that is posted: nothing is exchanged before
+pub posts_plans : (actor : Actor) (log : List Change) (m : TheSending) (rule : State → Effect) (objects : State → List Object) → IsActor actor →
+    IsRule actor rule (λ S. posts_now actor.pid.0 (sending_of m)) → Plans actor log log (record { conclusion = AnswersPost; sends = AtOnce m }) rule objects
+unfolding written
+posts_plans actor log m rule objects is does = record {
+  plan = [];
+  added = sym (append-nil log);
+  named = tt;
+  counts = is.whole.counts;
+  places = is.whole.places;
+  gives = λ held counted. record {
+    state = ap (λ (f : Effect). before_sends f (state_of held actor.parts.now)) (does held counted) ∙ ap (λ (h : ℕ → List Sending). state_of h actor.parts.now) (sym (same_held actor.inside m held));
+    sends = ap (λ (f : Effect). f.sends) (does held counted);
+    conclusion = ap (λ (f : Effect). f.conclusion) (does held counted);
+  };
+  among = λ held. tt;
+}
+
+-- what is written, where a signal is handed out with an answer
+held_state : (inside : Option Inside) (m : TheSending) (n : ℕ) (q : Process) (parts : Parts) (held : ℕ → List Sending) →
+    written (SetProc n (Some q) ∷ holds_more (inside_of inside) (sending_of m) (state_of held parts)) (state_of held parts)
+    ≡ write_one (SetProc n (Some q)) (state_of (held_after (inside_of inside) (AtCommit m) held) parts)
+unfolding written
+held_state None m n q parts held = refl
+held_state (Some inside) m n q parts held = refl
+
+-- a signal that is held: the process is given its answer
+pub holds_plans : (laws : PlanLaws) (actor : Actor) (before now : List Change) (outcome : Outcome) (m : TheSending) (rule : State → Effect) (objects : State → List Object) →
+    length actor.parts.now.descs ≡ 64 → IsActor actor →
+    IsRule actor rule (λ S. done_with (holds_more (inside_of actor.inside) (sending_of m) S) actor.pid.0 (pos 0) (me_of actor)) →
+    PlansOwn actor before now outcome (answers_with (pos 0)) →
+    Plans actor before now (record { conclusion = Replies outcome; sends = AtCommit m }) rule objects
+holds_plans laws actor before now outcome m rule objects sized is does own =
+    let parts : Parts = actor.parts.now in
+    let n : ℕ = actor.pid.0 in
+    let plan : List Change = own.plan in
+    let gives : GivesOwn actor plan outcome (answers_with (pos 0) (me_of actor)) = own.gives in
+    let named : AreNamed parts plan = own_named parts n plan is.number gives.own in
+    record {
+      plan = plan;
+      added = own.added;
+      named = named;
+      counts = laws.call parts actor.pid actor.proc.now [] [] plan is.number sized tt tt named gives.nameless is.whole.counts is.there is.runs (record { each = λ d others z. z });
+      places = laws.places parts plan named (own_brings n plan gives.own) is.whole.places;
+      gives = λ held counted.
+          let after : ℕ → List Sending = held_after (inside_of actor.inside) (AtCommit m) held in
+          record {
+            state = ap (λ (f : Effect). before_sends f (state_of held parts)) (does held counted)
+                ∙ held_state actor.inside m n (noted (pos 0) (me_of actor)) parts held
+                ∙ ap (λ (q : Process). write_one (SetProc n (Some q)) (state_of after parts)) (sym gives.process)
+                ∙ sym (own_state laws actor plan after is gives.own);
+            sends = ap (λ (f : Effect). f.sends) (does held counted);
+            conclusion = ap (λ (f : Effect). f.conclusion) (does held counted) ∙ ap effects.Replies (sym gives.reply);
+          };
+      among = λ held. own_among n (objects (state_of held parts)) plan gives.own;
+    }
+
+-- the numbers that a call is handed on with are its own
+pub send_passed : (p : ℕ) (inside : Option TheInside) (me : Process) (t u signo other v w : ℤ) → u ≡ t → other ≡ signo → w ≡ v → (S : State) →
+    send_effect p inside me t signo v S ≡ send_effect p inside me u other w S
+send_passed p inside me t u signo other v w a b c S = λ j. send_effect p inside me (sym a j) (sym b j) (sym c j) S
