@@ -2,14 +2,14 @@
 use Rattle.std.proofs.Common.{◌≡◌, ℕ, zero, suc, ◌*◌, ◌<◌, ◌≤◌, ◌↔◌, List, [], ◌∷◌, length, All, Contains, IsSome, Option, Some, None, replicate, get_or, refl, sym, ap, subst, arith, false}
 use Rattle.std.proofs.lemmas.List.Sorted.{sum_by-IsPermutation}
 use Rattle.std.proofs.lemmas.List.Sums.{count_by-le-length, sum_by-set}
-use Rattle.std.proofs.lemmas.List.Elements.{All-head, All-tail, All-cons, All-nil}
+use Rattle.std.proofs.lemmas.List.Elements.{All-head, All-tail}
 use Rattle.std.proofs.lemmas.Bool.{both_ways}
 use Rattle.std.specs.Prelude.{IsPermutation}
 use Rattle.tx_model.specs.State.{is_number}
 use Rattle.tx_desc.specs.declared.opened.Opened.{Opened}
-use Rattle.tx_desc.specs.Places.{Descriptors, named_in}
-use Rattle.tx_desc.specs.Counts.{count_in, names_in, HasNames, HasRoom, Agrees, IsEnough, IsBacked}
-use Rattle.tx_desc.proofs.Counting.{count-cons, names-cons, agrees_same, backed_room}
+use Rattle.tx_desc.specs.Places.{Descriptors}
+use Rattle.tx_desc.specs.Counts.{count_in, names_in, HasNames, Agrees, IsEnough, IsBacked}
+use Rattle.tx_desc.proofs.Counting.{count-cons, names-cons, agrees_same}
 
 get_or-empty : (n d : ℕ) → get_or (replicate {A = Option Opened} n None) d None ≡ None
 get_or-empty zero d = refl
@@ -68,21 +68,3 @@ room ts D t a few all among = record {
 
 pub permuted : (ts us : List Descriptors) (D : List (Option Opened)) → IsPermutation ts us → Agrees ts D → Agrees us D
 permuted ts us D p a = agrees_same ts us D (λ d. sum_by-IsPermutation (count_in d) ts us p) a
-
-pub one_backed : (t : Descriptors) (D : List (Option Opened)) → length t ≡ 16 → Agrees (t ∷ []) D → IsBacked 16 t D
-one_backed t D full a =
-    room (t ∷ []) D t a (omega arith) (All-cons (λ (each : Descriptors). length each ≡ 16) t [] full (All-nil (λ (each : Descriptors). length each ≡ 16))) (0, omega arith, refl)
-
-pub one_room : (room : ℕ) (x : Option ℕ) (t : Descriptors) (D : List (Option Opened)) → room ≤ 16 → length t ≡ 16 → Agrees (t ∷ []) D → HasRoom room (named_in t x) D
-one_room room x t D less full a = backed_room x room 16 t D less (one_backed t D full a)
-
-pub two_backed : (t u : Descriptors) (D : List (Option Opened)) → length t ≡ 16 → length u ≡ 16 → Agrees (t ∷ u ∷ []) D → IsBacked 16 t D
-two_backed t u D full other a =
-    room (t ∷ u ∷ []) D t a (omega arith)
-    (All-cons (λ (each : Descriptors). length each ≡ 16) t (u ∷ []) full
-    (All-cons (λ (each : Descriptors). length each ≡ 16) u [] other (All-nil (λ (each : Descriptors). length each ≡ 16)))) (0, omega arith, refl)
-
-pub first_agrees : (t : Descriptors) (D : List (Option Opened)) → t ≡ replicate 16 None → D ≡ replicate 64 None → Agrees (t ∷ []) D
-first_agrees t D empty none =
-    subst (λ (l : Descriptors). Agrees (l ∷ []) D) (sym empty)
-    (subst (λ (l : List (Option Opened)). Agrees (replicate 16 None ∷ []) l) (sym none) (none_agrees 64 (replicate 16 None ∷ []) (λ d. names-empty d 1 16)))

@@ -11,8 +11,6 @@ mod opened;
 mod planning;
 mod plans;
 mod table;
-#[cfg(test)]
-mod tests;
 
 pub use descs::Descs;
 pub use given::{Given, Renamed};

@@ -10,6 +10,8 @@ mod change;
 #[cfg(test)]
 mod cred;
 #[cfg(test)]
+mod desc;
+#[cfg(test)]
 mod machine;
 #[cfg(test)]
 mod pages;

@@ -1,8 +1,6 @@
 -- One item more, of what stands behind the first ones.
-use Rattle.std.proofs.Common.{◌≡◌, ℕ, zero, suc, ◌+◌, ◌<◌, List, [], ◌∷◌, ◌++◌, take, get_or, length, refl, ap, ◌∙◌, sym, arith, add-one, append_assoc}
-use Rattle.std.proofs.lemmas.List.{append-nil, take_more}
-use Rattle.hex.specs.Hex.{encode_with, encode_lower}
-use Rattle.txos.proofs.Hexed.{hex_push, pair_text}
+use Rattle.std.proofs.Common.{◌≡◌, ℕ, zero, suc, ◌+◌, ◌<◌, List, [], ◌∷◌, ◌++◌, take, get_or, length, ap, ◌∙◌, sym, arith, add-one, append_assoc}
+use Rattle.std.proofs.lemmas.List.{append-nil}
 use Rattle.txos.specs.Each.{each_text}
 
 each_suc : {A : Type 0} (text : A → List ℕ) (items : List A) (i : ℕ) (d : A) → i < length items → each_text text (take (suc i) items) ≡ each_text text (take i items) ++ text (get_or items i d)
@@ -16,13 +14,3 @@ pub each_more : {A : Type 0} (text : A → List ℕ) (items : List A) (i : ℕ) 
 each_more text items i d before now after inside so_far more =
     let one : each_text text (take (i + 1) items) ≡ each_text text (take i items) ++ text (get_or items i d) = rw add-one (each_suc text items i d inside) in
     more ∙ ap (λ (t : List ℕ). t ++ text (get_or items i d)) so_far ∙ append_assoc before (each_text text (take i items)) (text (get_or items i d)) ∙ ap (λ (t : List ℕ). before ++ t) (sym one)
-
-pub hex_more : (bytes : List ℕ) (i : ℕ) (before now after : List ℕ) → i < length bytes →
-    now ≡ before ++ encode_lower (take i bytes) → after ≡ now ++ pair_text (get_or bytes i 0) → after ≡ before ++ encode_lower (take (i + 1) bytes)
-hex_more bytes i before now after inside so_far more =
-    let one : encode_lower (take (i + 1) bytes) ≡ encode_lower (take i bytes) ++ pair_text (get_or bytes i 0) = ap encode_lower (take_more bytes i 0 inside) ∙ hex_push (take i bytes) (get_or bytes i 0) in
-    more ∙ ap (λ (t : List ℕ). t ++ pair_text (get_or bytes i 0)) so_far ∙ append_assoc before (encode_lower (take i bytes)) (pair_text (get_or bytes i 0)) ∙ ap (λ (t : List ℕ). before ++ t) (sym one)
-
-pub hex_none : encode_lower [] ≡ []
-unfolding encode_with
-hex_none = refl

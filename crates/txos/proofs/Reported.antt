@@ -1,35 +1,18 @@
 -- What some steps of a schedule leave: the lines of their answers, and a machine that has the view of their history.
-use Rattle.std.proofs.Common.{◌≡◌, ℕ, ◌+◌, List, [], ◌∷◌, ◌++◌, Option, Some, None, IsSome, IsNone, refl, sym, ap, ◌∙◌, subst, append_assoc}
+use Rattle.std.proofs.Common.{◌≡◌, ℕ, ◌+◌, List, [], ◌∷◌, ◌++◌, sym, ap, ◌∙◌, subst, append_assoc}
 use Rattle.std.proofs.lemmas.List.{append-nil}
 use Rattle.tx_base.specs.declared.steps.Accepted.{Accepted}
 use Rattle.tx_base.specs.declared.steps.Reply.{Reply}
-use Rattle.tx_base.specs.declared.steps.Reply.TheVariants.{Done, Ended, Committed, Aborted, Out, No}
 use Rattle.tx_base.specs.declared.steps.Step.{Step}
 use Rattle.tx_core.specs.Content.{view_of}
 use Rattle.tx_core.specs.Runs.{IsAfter}
-use Rattle.tx_core.specs.declared.inverse.Inverse.{Inverse}
 use Rattle.tx_core.specs.declared.content.Content.{Content}
-use Rattle.tx_model.specs.Answer.{answer, IsAccepted, Lawful}
+use Rattle.tx_model.specs.Answer.{answer, Lawful}
 use Rattle.tx_model.specs.Schedules.{recorded, answers_of, history_of}
 use Rattle.tx_model.specs.State.{State}
 use Rattle.tx_model.specs.View.{View, view}
 use Rattle.txos.specs.Replies.{line_text}
 use Rattle.txos.specs.Report.{lines_text}
-
-pub none_of : (inverse : Option Inverse) → (IsSome inverse → ⊥) → IsNone inverse
-none_of None h = refl
-none_of (Some inverse) h = absurd (h refl)
-
--- a step that was answered so leaves the machine after the history with it, if it was accepted
-pub recorded_after : (start : State) (history : List Accepted) (step : Step) (reply : Reply) (old new : Content) → IsAfter start history old
-    → (IsAccepted reply → Lawful start (record { step = step; reply = reply } ∷ history) × (view_of new ≡ view start (record { step = step; reply = reply } ∷ history)))
-    → ((IsAccepted reply → ⊥) → new ≡ old) → IsAfter start (recorded history step reply) new
-recorded_after start history step (No why) old new after made same = subst (IsAfter start history) (sym (same (λ a. a))) after
-recorded_after start history step (Done ret) old new after made same = record { lawful = (made tt).0; view = (made tt).1 }
-recorded_after start history step Ended old new after made same = record { lawful = (made tt).0; view = (made tt).1 }
-recorded_after start history step (Committed undelivered) old new after made same = record { lawful = (made tt).0; view = (made tt).1 }
-recorded_after start history step (Aborted status) old new after made same = record { lawful = (made tt).0; view = (made tt).1 }
-recorded_after start history step (Out bytes) old new after made same = record { lawful = (made tt).0; view = (made tt).1 }
 
 -- so far: the steps that are left lead from the history so far to that of the whole schedule, and their lines from the
 -- text so far to the whole text

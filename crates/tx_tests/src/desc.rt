@@ -1,28 +1,36 @@
 //! Each public call on its happy path, and a last close. What the calls require is had from right
 //! counts alone.
-ghost use Rattle.std.specs.Prelude.{[], ◌∷◌, IfOk};
-ghost use Rattle.tx_desc.specs.Counts.{Agrees};
+ghost use Rattle.std.specs.Prelude.{ℕ, ◌≤◌, [], ◌∷◌, Option, IfOk};
+ghost use Rattle.tx_desc.specs.Counts.{Agrees, HasRoom, IsBacked};
+ghost use Rattle.tx_desc.specs.Places.{named_in};
 
-use crate::{
+use std::test::Fail;
+use tx_base::Errno::{BadDescriptor, TooManyDescriptors};
+use tx_base::{DescNo, Errno, PipeNo};
+use tx_desc::{
     ClosePlan, Desc, Descs, Dup2Plan, DupPlan, FdTable, Given, NewDesc, NewName, Opened, PipePlan,
     Rename, Renamed, Side, any_order, counts_kept, named_by_processes, none_named_at_first,
     room_for_names, there_while_named,
 };
-use arrayvec::ArrayVec;
-use std::test::Fail;
-use tx_base::Errno::{BadDescriptor, TooManyDescriptors};
-use tx_base::{DescNo, Errno, PipeNo};
 
+/// The reading side of the pipe.
 const READ: Desc = Desc {
     pipe: PipeNo(3),
     side: Side::Read,
     nonblock: false,
 };
 
+/// The writing side of the pipe.
 const WRITE: Desc = Desc {
     pipe: PipeNo(3),
     side: Side::Write,
     nonblock: false,
+};
+
+/// The writing side, gone.
+const GONE: NewDesc = NewDesc {
+    number: DescNo(9),
+    opened: None,
 };
 
 /// What is there of the reading side, under so many names.
@@ -51,11 +59,35 @@ fn gave_writing(gone: Option<Desc>) -> Given {
     }
 }
 
+/// A descriptor that is to name this description.
+fn names(fd: usize, d: u8) -> NewName {
+    NewName {
+        fd,
+        name: Some(DescNo(d)),
+    }
+}
+
+/// The reading side with so many names, as a plan has it.
+fn to_read(names: u16) -> NewDesc {
+    NewDesc {
+        number: DescNo(5),
+        opened: reading(names),
+    }
+}
+
+/// The writing side with so many names, as a plan has it.
+fn to_write(names: u16) -> NewDesc {
+    NewDesc {
+        number: DescNo(9),
+        opened: writing(names),
+    }
+}
+
 /// A process that opened pipe 3, with descriptions 5 and 9 at descriptors 0 and 1.
-#[tactic(auto, using(crate::proofs::Totals::first_agrees))]
 fn opened() -> Result<(FdTable, Descs), Fail>
     ensures { IfOk result (λ pair. Agrees (pair.0 ∷ []) pair.1) }
 {
+    none_named_at_first();
     let mut table = FdTable::new();
     let mut descs = Descs::new();
     match table.pipe_pair(&mut descs, PipeNo(3), DescNo(5), DescNo(9)) {
@@ -64,64 +96,51 @@ fn opened() -> Result<(FdTable, Descs), Fail>
     }
 }
 
+/// What the calls of a process that is alone require.
+fn is_alone(table: &FdTable, descs: &Descs)
+    requires { Agrees (table.now ∷ []) descs.now }
+    ensures backed { IsBacked 16 table.now descs.now }
+    ensures room { (fd : Option ℕ) (room : ℕ) → room ≤ 16 → HasRoom room (named_in table.now fd) descs.now }
+{
+    room_for_names();
+    table.sized();
+}
+
 /// The call, in a process that is alone.
-#[tactic(auto, using(crate::proofs::Totals::one_room))]
 fn dup(table: &mut FdTable, descs: &mut Descs, fd: i64) -> Result<usize, Errno>
     requires { Agrees (table.old ∷ []) descs.old }
     ensures { Agrees (table.new ∷ []) descs.new }
 {
-    table.sized();
+    is_alone(table, descs);
     table.dup(descs, fd)
 }
 
 /// The call, in a process that is alone.
-#[tactic(auto, using(crate::proofs::Totals::one_room))]
-fn dup2(table: &mut FdTable, descs: &mut Descs, fd: i64, other: i64) -> Result<Renamed, Errno>
-    requires { Agrees (table.old ∷ []) descs.old }
-    ensures { Agrees (table.new ∷ []) descs.new }
-{
-    table.sized();
-    table.dup2(descs, fd, other)
-}
-
-/// The call, in a process that is alone.
-#[tactic(auto, using(crate::proofs::Totals::one_room))]
 fn close(table: &mut FdTable, descs: &mut Descs, fd: i64) -> Result<Given, Errno>
     requires { Agrees (table.old ∷ []) descs.old }
     ensures { Agrees (table.new ∷ []) descs.new }
 {
-    table.sized();
+    is_alone(table, descs);
     table.close(descs, fd)
 }
 
-/// The call, in a process that is alone.
-#[tactic(auto, using(crate::proofs::Totals::one_room))]
-fn set_nonblock(table: &FdTable, descs: &mut Descs, fd: i64, on: bool) -> Result<(), Errno>
-    requires { Agrees (table.now ∷ []) descs.old }
-    ensures { Agrees (table.now ∷ []) descs.new }
-{
-    table.sized();
-    table.set_nonblock(descs, fd, on)
-}
-
 /// The descriptors of a child of a process that is alone.
-#[tactic(auto, using(crate::proofs::Totals::one_backed))]
 fn fork(table: &FdTable, descs: &mut Descs) -> FdTable
     requires { Agrees (table.now ∷ []) descs.old }
     ensures { Agrees (result ∷ table.now ∷ []) descs.new }
 {
-    table.sized();
+    is_alone(table, descs);
     let child = table.copy();
     descs.raise_all(&child);
     child
 }
 
 /// The end of a child, which leaves its parent alone.
-#[tactic(auto, using(crate::proofs::Totals::two_backed))]
 fn end_child(child: &FdTable, table: &FdTable, descs: &mut Descs)
     requires { Agrees (child.now ∷ table.now ∷ []) descs.old }
     ensures { Agrees (table.now ∷ []) descs.new }
 {
+    room_for_names();
     child.sized();
     table.sized();
     descs.drop_all(child);
@@ -130,7 +149,6 @@ fn end_child(child: &FdTable, table: &FdTable, descs: &mut Descs)
 #[test]
 fn begins_with_nothing(rt: HostRuntime) {
     let table = FdTable::new();
-    let descs = Descs::new();
     assert_eq!(rt;
         (table.get(0), table.get(16), table.look(0)),
         (None, None, Err(BadDescriptor))
@@ -139,7 +157,7 @@ fn begins_with_nothing(rt: HostRuntime) {
         (table.lowest_free(), table.two_lowest_free()),
         (Some(0), Some((0, 1)))
     );
-    assert_eq!(rt; descs.get(DescNo(0)), None);
+    assert_eq!(rt; Descs::new().get(DescNo(0)), None);
 }
 
 #[test]
@@ -168,8 +186,7 @@ fn opens_a_pipe_while_two_are_free(rt: HostRuntime) {
         table.pipe_pair(&mut descs, PipeNo(4), DescNo(6), DescNo(7)),
         Err(TooManyDescriptors)
     );
-    assert_eq!(rt; table.get(15), None);
-    assert_eq!(rt; descs.get(DescNo(6)), None);
+    assert_eq!(rt; (table.get(15), descs.get(DescNo(6))), (None, None));
 }
 
 #[test]
@@ -191,10 +208,8 @@ fn takes_the_lowest_free(rt: HostRuntime) -> Result<(), Fail> {
 fn renames(rt: HostRuntime) -> Result<(), Fail> {
     let (mut table, mut descs) = opened()?;
     let given = Some(gave_writing(Some(WRITE)));
-    assert_eq!(rt;
-        dup2(&mut table, &mut descs, 0, 1),
-        Ok(Renamed { fd: 1, given })
-    );
+    is_alone(&table, &descs);
+    assert_eq!(rt; table.dup2(&mut descs, 0, 1), Ok(Renamed { fd: 1, given }));
     assert_eq!(rt;
         (descs.get(DescNo(9)), descs.get(DescNo(5))),
         (None, reading(2))
@@ -217,7 +232,8 @@ fn goes_with_its_last_name(rt: HostRuntime) -> Result<(), Fail> {
 #[test]
 fn blocks_or_not(rt: HostRuntime) -> Result<(), Fail> {
     let (table, mut descs) = opened()?;
-    assert_eq!(rt; set_nonblock(&table, &mut descs, 1, true), Ok(()));
+    is_alone(&table, &descs);
+    assert_eq!(rt; table.set_nonblock(&mut descs, 1, true), Ok(()));
     let desc = WRITE.with_nonblock(true);
     assert_eq!(rt; descs.get(DescNo(9)), Some(Opened { desc, names: 1 }));
     Ok(())
@@ -257,30 +273,6 @@ fn changes_by_exchanges(rt: HostRuntime) -> Result<(), Fail> {
     Ok(())
 }
 
-/// A descriptor that is to name this description.
-fn names(fd: usize, d: u8) -> NewName {
-    NewName {
-        fd,
-        name: Some(DescNo(d)),
-    }
-}
-
-/// The reading side with so many names, as a plan has it.
-fn to_read(names: u16) -> NewDesc {
-    NewDesc {
-        number: DescNo(5),
-        opened: reading(names),
-    }
-}
-
-/// The writing side with so many names, as a plan has it.
-fn to_write(names: u16) -> NewDesc {
-    NewDesc {
-        number: DescNo(9),
-        opened: writing(names),
-    }
-}
-
 #[test]
 fn plans_a_pipe(rt: HostRuntime) {
     let table = FdTable::new();
@@ -294,48 +286,6 @@ fn plans_a_pipe(rt: HostRuntime) {
     assert_eq!(rt; table.get(0), None);
 }
 
-/// The plan, in a process that is alone.
-#[tactic(auto, using(crate::proofs::Totals::one_room))]
-fn plan_dup(table: &FdTable, descs: &Descs, fd: i64) -> Result<DupPlan, Errno>
-    requires { Agrees (table.now ∷ []) descs.now }
-{
-    table.sized();
-    table.plan_dup(descs, fd)
-}
-
-/// The plan, in a process that is alone.
-#[tactic(auto, using(crate::proofs::Totals::one_room))]
-fn plan_dup2(table: &FdTable, descs: &Descs, fd: i64, other: i64) -> Result<Dup2Plan, Errno>
-    requires { Agrees (table.now ∷ []) descs.now }
-{
-    table.sized();
-    table.plan_dup2(descs, fd, other)
-}
-
-/// The plan, in a process that is alone.
-#[tactic(auto, using(crate::proofs::Totals::one_room))]
-fn plan_close(table: &FdTable, descs: &Descs, fd: i64) -> Result<ClosePlan, Errno>
-    requires { Agrees (table.now ∷ []) descs.now }
-{
-    table.sized();
-    table.plan_close(descs, fd)
-}
-
-/// The plan, in a process that is alone.
-#[tactic(auto, using(crate::proofs::Totals::one_room))]
-fn plan_nonblock(table: &FdTable, descs: &Descs, fd: i64, on: bool) -> Result<NewDesc, Errno>
-    requires { Agrees (table.now ∷ []) descs.now }
-{
-    table.sized();
-    table.plan_nonblock(descs, fd, on)
-}
-
-/// The writing side, gone.
-const GONE: NewDesc = NewDesc {
-    number: DescNo(9),
-    opened: None,
-};
-
 #[test]
 fn plans_a_dup(rt: HostRuntime) -> Result<(), Fail> {
     let (table, descs) = opened()?;
@@ -343,7 +293,8 @@ fn plans_a_dup(rt: HostRuntime) -> Result<(), Fail> {
         name: names(2, 9),
         desc: to_write(2),
     };
-    assert_eq!(rt; plan_dup(&table, &descs, 1), Ok(plan));
+    is_alone(&table, &descs);
+    assert_eq!(rt; table.plan_dup(&descs, 1), Ok(plan));
     Ok(())
 }
 
@@ -359,7 +310,8 @@ fn plans_a_dup2(rt: HostRuntime) -> Result<(), Fail> {
             left: Some(GONE),
         }),
     };
-    assert_eq!(rt; plan_dup2(&table, &descs, 0, 1), Ok(plan));
+    is_alone(&table, &descs);
+    assert_eq!(rt; table.plan_dup2(&descs, 0, 1), Ok(plan));
     Ok(())
 }
 
@@ -371,39 +323,31 @@ fn plans_a_close(rt: HostRuntime) -> Result<(), Fail> {
         desc: GONE,
         given: gave_writing(Some(WRITE)),
     };
-    assert_eq!(rt; plan_close(&table, &descs, 1), Ok(plan));
+    is_alone(&table, &descs);
+    assert_eq!(rt; table.plan_close(&descs, 1), Ok(plan));
     Ok(())
 }
 
 #[test]
 fn plans_a_flag(rt: HostRuntime) -> Result<(), Fail> {
     let (table, descs) = opened()?;
+    let desc = WRITE.with_nonblock(true);
     let flagged = NewDesc {
         number: DescNo(9),
-        opened: Some(Opened {
-            desc: WRITE.with_nonblock(true),
-            names: 1,
-        }),
+        opened: Some(Opened { desc, names: 1 }),
     };
-    assert_eq!(rt; plan_nonblock(&table, &descs, 1, true), Ok(flagged));
+    is_alone(&table, &descs);
+    assert_eq!(rt; table.plan_nonblock(&descs, 1, true), Ok(flagged));
     Ok(())
-}
-
-/// What a fork and an end of a process that is alone are to change.
-#[tactic(auto, using(crate::proofs::Totals::one_backed))]
-fn plans_of(table: &FdTable, descs: &Descs) -> (ArrayVec<NewDesc, 16>, ArrayVec<NewDesc, 16>)
-    requires { Agrees (table.now ∷ []) descs.now }
-{
-    table.sized();
-    (descs.plan_raise_all(table), descs.plan_drop_all(table))
 }
 
 #[test]
 fn plans_each_description_once(rt: HostRuntime) -> Result<(), Fail> {
     let (table, descs) = opened()?;
-    let (fork, end) = plans_of(&table, &descs);
+    is_alone(&table, &descs);
+    let fork = descs.plan_raise_all(&table);
     assert_eq!(rt; fork.as_slice(), [to_read(2), to_write(2)].as_slice());
-    assert_eq!(rt; end.len(), 2);
+    assert_eq!(rt; descs.plan_drop_all(&table).len(), 2);
     Ok(())
 }
 
