@@ -8,3 +8,5 @@ pub mod Discarded
 pub mod Returned
 pub mod Posted
 pub mod Sent
+pub mod PostPlans
+pub mod StepPlans

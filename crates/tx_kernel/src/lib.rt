@@ -13,6 +13,7 @@ mod posts;
 mod script;
 mod sends;
 mod signals;
+mod steps;
 mod trees;
 
 pub use actor::Actor;
