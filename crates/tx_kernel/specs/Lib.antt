@@ -6,5 +6,5 @@ pub mod Laws
 pub mod Trees
 pub mod Discards
 pub mod Returns
-pub mod Sends
 pub mod Steps
+pub mod Sends

@@ -17,10 +17,16 @@ use Rattle.tx_kernel.specs.declared.planned.Sends.TheVariants.{Nothing, AtOnce, 
 use Rattle.tx_model.specs.Effects.{Effect, applied, concluding_reply, send_answers}
 use Rattle.tx_model.specs.State.{Object, Proc, Sending, State}
 
--- what is written before the post leaves of its target what a post sees, and its number is below 64
+-- the number of the signal that is posted with the step is below 64
+abbrev pub HasSignal : Sends → Type 0
+HasSignal Nothing = Unit {0}
+HasSignal (AtOnce m) = m.signo.0 < 64
+HasSignal (AtCommit m) = Unit {0}
+
+-- what is written before the post leaves of its target what a post sees
 abbrev pub SeesTarget : Parts → Sends → State → Type 0
 SeesTarget parts Nothing after = Unit {0}
-SeesTarget parts (AtOnce m) after = (m.signo.0 < 64) × IsSeen (slot_at parts.procs m.target.0) (after.procs m.target.0)
+SeesTarget parts (AtOnce m) after = IsSeen (slot_at parts.procs m.target.0) (after.procs m.target.0)
 SeesTarget parts (AtCommit m) after = Unit {0}
 
 -- the process that a signal is posted to with the step

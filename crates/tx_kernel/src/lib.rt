@@ -18,5 +18,5 @@ mod trees;
 
 pub use actor::Actor;
 pub use inside::Inside;
-pub use planned::{Conclusion, Outcome, Planned, Sends, Shown};
+pub use planned::{Outcome, Planned, Sends, Shown};
 pub use posts::{Face, plan_post};
