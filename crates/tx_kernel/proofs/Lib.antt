@@ -6,3 +6,4 @@ pub mod Forked
 pub mod PartsOwned
 pub mod Discarded
 pub mod Returned
+pub mod Told

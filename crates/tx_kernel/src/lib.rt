@@ -4,14 +4,15 @@
 
 mod actor;
 mod answers;
+mod ending;
 mod ids;
 mod inside;
 mod laws;
 mod memory;
 mod planned;
-mod trees;
 mod script;
 mod signals;
+mod trees;
 
 pub use actor::Actor;
 pub use inside::Inside;
