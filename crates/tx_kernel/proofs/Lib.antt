@@ -7,3 +7,8 @@ pub mod PartsOwned
 pub mod Discarded
 pub mod Returned
 pub mod Told
+pub mod Ends
+pub mod EndStates
+pub mod Ended
+pub mod EndPlans
+pub mod Exited

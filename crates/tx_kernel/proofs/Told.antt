@@ -1,5 +1,5 @@
 -- How the parent of a process that ends is told.
-use Rattle.std.proofs.Common.{◌≡◌, ℕ, Bool, true, false, [], ◌∷◌, ◌++◌, Option, Some, None, if◌then◌else◌, ◌==◌, pos, ap, sym, ◌∙◌}
+use Rattle.std.proofs.Common.{◌≡◌, ℕ, Bool, true, false, Option, Some, None, if◌then◌else◌, ◌==◌, pos, ap, sym, ◌∙◌}
 use Rattle.tx_kernel.specs.Actors.{inside_of, transaction_of}
 use Rattle.tx_kernel.specs.Plans.{held_after}
 use Rattle.tx_kernel.specs.declared.inside.Inside.{Inside}

@@ -5,3 +5,4 @@ pub mod Laws
 pub mod Trees
 pub mod Discards
 pub mod Returns
+pub mod Endings

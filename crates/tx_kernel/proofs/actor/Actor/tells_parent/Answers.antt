@@ -1,4 +1,4 @@
-use Rattle.std.proofs.Common.{◌≡◌, refl, Option, None, Some, pos, true, false, eq-eqb, sym, subst, ap}
+use Rattle.std.proofs.Common.{◌≡◌, refl, Option, None, pos, true, false, eq-eqb, sym, subst}
 use Rattle.std.proofs.lemmas.Bool.{ne_eqb}
 use Rattle.tx_base.specs.declared.names.Sending.{Sending}
 use Rattle.tx_kernel.proofs.Told.{tells_nobody, tells_outside, tells_member, tells_later}
@@ -7,7 +7,7 @@ use Rattle.tx_kernel.specs.Plans.{held_after}
 use Rattle.tx_kernel.specs.declared.inside.Inside.{Inside}
 use Rattle.tx_kernel.specs.declared.planned.Sends.TheVariants.{AtOnce, AtCommit}
 use Rattle.tx_model.specs.Processes.{telling, told_at_commit}
-use Rattle.tx_model.specs.State.{State, written}
+use Rattle.tx_model.specs.State.{written}
 use Rattle.tx_kernel.proofs.actor.Actor.tells_parent.Goals as goal
 
 pub returns-then-parent-eq1-clause-at_commit : goal.returns-then-parent-eq1-clause-at_commit
