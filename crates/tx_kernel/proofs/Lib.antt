@@ -10,3 +10,9 @@ pub mod Posted
 pub mod Sent
 pub mod PostPlans
 pub mod StepPlans
+pub mod Told
+pub mod Ends
+pub mod EndStates
+pub mod Ended
+pub mod EndPlans
+pub mod Exited

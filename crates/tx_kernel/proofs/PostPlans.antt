@@ -1,5 +1,5 @@
 -- Plans of posts.
-use Rattle.std.proofs.Common.{◌≡◌, ◌≤◌, ◌<◌, ℕ, zero, suc, Bool, true, false, nat_lt, pos, List, [], ◌∷◌, ◌++◌, length, option_map, Option, Some, None, Result, Ok, Err, refl, ap, sym, subst, ◌∙◌, arith, append-nil}
+use Rattle.std.proofs.Common.{◌≡◌, ℕ, zero, suc, Bool, true, false, nat_lt, List, [], ◌∷◌, ◌++◌, length, option_map, Option, Some, None, Result, Ok, Err, refl, ap, sym, subst, ◌∙◌, arith, append-nil}
 use Rattle.std.proofs.lemmas.List.{get_or_past}
 use Rattle.std.proofs.lemmas.Bool.{ltb-true, ltb-false}
 use Rattle.tx_base.specs.Slots.{slot_at}
@@ -11,7 +11,7 @@ use Rattle.tx_change.specs.Exchange.{sizes_of, IsPid}
 use Rattle.tx_change.specs.declared.change.Change.{Change}
 use Rattle.tx_change.specs.declared.change.Change.TheVariants.{Part as SetPart}
 use Rattle.tx_change.specs.declared.parts.Parts.{Parts}
-use Rattle.tx_kernel.specs.Posts.{IsOfPending, IsSeen, PlansPost, posted, seen_as, without_part}
+use Rattle.tx_kernel.specs.Posts.{IsOfPending, IsSeen, PlansPost, seen_as}
 use Rattle.tx_model.specs.Posts.{post_answer, received}
 use Rattle.tx_model.specs.State.{Process, Sending}
 use Rattle.tx_proc.specs.Parts.{HasPlace}

@@ -1,7 +1,7 @@
 -- Plans of calls that send a signal.
-use Rattle.std.proofs.Common.{◌≡◌, ℕ, ℤ, pos, List, [], ◌∷◌, ◌++◌, length, Option, Some, None, refl, ap, sym, ◌∙◌, append-nil}
+use Rattle.std.proofs.Common.{◌≡◌, ℕ, ℤ, pos, List, [], ◌∷◌, length, Option, Some, None, refl, ap, sym, ◌∙◌}
 use Rattle.tx_base.specs.declared.names.Sending.{Sending as TheSending}
-use Rattle.tx_change.specs.Exchange.{applied, AreNamed}
+use Rattle.tx_change.specs.Exchange.{AreNamed}
 use Rattle.tx_change.specs.States.{state_of}
 use Rattle.tx_change.specs.declared.change.Change.{Change}
 use Rattle.tx_change.specs.declared.parts.Parts.{Parts}
@@ -17,7 +17,7 @@ use Rattle.tx_kernel.specs.declared.planned.Outcome.{Outcome}
 use Rattle.tx_kernel.specs.declared.planned.Sends.TheVariants.{AtOnce, AtCommit}
 use Rattle.tx_model.specs.Effects.{Inside as TheInside, Effect, answers_with, before_sends, done_with, noted}
 use Rattle.tx_model.specs.Effects as effects
-use Rattle.tx_model.specs.Sends.{posts_now, send_effect}
+use Rattle.tx_model.specs.Sends.{send_effect}
 use Rattle.tx_model.specs.State.{Object, Process, Sending, State, SetProc, write_one, written}
 
 abbrev IsRule : Actor → (State → Effect) → (State → Effect) → Type 0

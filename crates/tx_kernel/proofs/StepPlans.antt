@@ -1,12 +1,11 @@
 -- Plans of whole steps, of the plan of what they write and that of their post.
-use Rattle.std.proofs.Common.{◌≡◌, ◌<◌, ℕ, Bool, true, false, if◌then◌else◌, inl, inr, ℤ, eq-eqb, List, [], ◌∷◌, ◌++◌, length, option_map, Option, Some, None, Result, refl, ap, sym, subst, ◌∙◌, append_assoc}
+use Rattle.std.proofs.Common.{◌≡◌, ℕ, Bool, true, false, if◌then◌else◌, inl, inr, ℤ, eq-eqb, List, [], ◌∷◌, ◌++◌, option_map, Option, Some, None, Result, refl, ap, sym, subst, ◌∙◌, append_assoc}
 use Rattle.tx_base.specs.Slots.{slot_at}
 use Rattle.tx_base.specs.declared.errors.Errno.{Errno}
 use Rattle.tx_base.specs.declared.names.Sending.{Sending as TheSending}
-use Rattle.tx_base.specs.declared.steps.Reply.{Reply}
 use Rattle.tx_base.specs.declared.steps.Reply.TheVariants.{Done as TheDone}
-use Rattle.tx_change.specs.Counts.{CountsAgree, IsNameless, AreNameless}
-use Rattle.tx_change.specs.Exchange.{applied as exchanged_in, parts_after, object_of, sizes_of, Sizes, IsWithin, AreWithin, IsNamed, AreNamed}
+use Rattle.tx_change.specs.Counts.{CountsAgree}
+use Rattle.tx_change.specs.Exchange.{applied as exchanged_in, object_of, sizes_of, Sizes, AreWithin, AreNamed}
 use Rattle.tx_change.specs.Laws.{revised_by, HaveAllPlaces}
 use Rattle.tx_change.specs.Own.{AreOf}
 use Rattle.tx_change.specs.States.{state_of}
@@ -16,14 +15,13 @@ use Rattle.tx_change.specs.declared.parts.Parts.{Parts}
 use Rattle.tx_kernel.proofs.OwnPlans.{own_named, own_brings, own_among}
 use Rattle.tx_kernel.specs.Actors.{me_of, inside_of, CountsHeld, IsActor}
 use Rattle.tx_kernel.specs.Laws.{PlanLaws}
-use Rattle.tx_kernel.specs.Plans.{Plans, Gives, AreAmong, held_after, reply_of, conclusion_of, sending_of, sent_at_once}
+use Rattle.tx_kernel.specs.Plans.{Plans, Gives, AreAmong, held_after, conclusion_of, sending_of, sent_at_once}
 use Rattle.tx_kernel.specs.Posts.{IsSeen, PlansPost}
 use Rattle.tx_kernel.specs.Steps.{PlansStep, SeesTarget, target_objects}
 use Rattle.tx_kernel.specs.declared.actor.Actor.{Actor}
 use Rattle.tx_kernel.specs.declared.planned.Outcome.{Outcome}
-use Rattle.tx_kernel.specs.declared.planned.Planned.{Planned}
 use Rattle.tx_kernel.specs.declared.planned.Sends.{Sends}
-use Rattle.tx_kernel.specs.declared.planned.Sends.TheVariants.{Nothing, AtOnce, AtCommit}
+use Rattle.tx_kernel.specs.declared.planned.Sends.TheVariants.{AtOnce}
 use Rattle.tx_model.specs.Effects.{Conclusion, Effect, applied, before_sends, concluded, concluding_reply, send_answers}
 use Rattle.tx_model.specs.Effects as effects
 use Rattle.tx_model.specs.Posts.{answers, post, post_answer, posts, received}

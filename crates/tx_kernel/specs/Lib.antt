@@ -8,3 +8,4 @@ pub mod Discards
 pub mod Returns
 pub mod Steps
 pub mod Sends
+pub mod Endings

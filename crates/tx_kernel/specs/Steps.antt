@@ -1,5 +1,5 @@
 -- What the plan of a whole step is to be: the writes of the rule, its post, and the answer.
-use Rattle.std.specs.Prelude.{◌≡◌, ◌<◌, ℕ, List, [], ◌∷◌, ◌++◌, Option, Some, None}
+use Rattle.std.specs.Prelude.{◌≡◌, ◌<◌, ℕ, List, [], ◌∷◌, ◌++◌}
 use Rattle.tx_base.specs.Slots.{slot_at}
 use Rattle.tx_change.specs.Counts.{CountsAgree}
 use Rattle.tx_change.specs.Exchange.{applied as exchanged_in, AreNamed}

@@ -1,14 +1,11 @@
-use Rattle.std.proofs.Common.{◌≡◌, List, ℕ, ap, sym, subst}
+use Rattle.std.proofs.Common.{ap, sym, subst}
 use Rattle.tx_base.specs.declared.names.Sending.{Sending as TheSending}
 use Rattle.tx_change.specs.States.{state_of}
 use Rattle.tx_kernel.proofs.StepPlans.{quiet_step, posted_step}
-use Rattle.tx_kernel.specs.Actors.{CountsHeld}
 use Rattle.tx_kernel.specs.Plans.{Plans, sent_at_once}
 use Rattle.tx_kernel.specs.Steps.{PlansStep, SeesTarget}
 use Rattle.tx_kernel.specs.declared.planned.Sends.{Sends}
-use Rattle.tx_kernel.specs.declared.planned.Sends.TheVariants.{AtOnce}
 use Rattle.tx_model.specs.Effects.{before_sends}
-use Rattle.tx_model.specs.State.{Sending}
 use Rattle.tx_kernel.proofs.actor.Actor.push_sends.Goals as goal
 
 pub returns-in-Nothing-clause-ok : goal.returns-in-Nothing-clause-ok
