@@ -1,2 +1,4 @@
 pub mod Owned
 pub mod OwnPlans
+pub mod Named
+pub mod NamedCalls

@@ -20,7 +20,7 @@ use Rattle.tx_model.specs.State.{Object, Proc, Process, Sending, State, SetProc,
 use Rattle.tx_proc.specs.Processes.{process_in}
 
 -- parts of a process of a number that there is are named
-own_named : (parts : Parts) (n : ℕ) (plan : List Change) → IsPid (sizes_of parts) n → AreOf n plan → AreNamed parts plan
+pub own_named : (parts : Parts) (n : ℕ) (plan : List Change) → IsPid (sizes_of parts) n → AreOf n plan → AreNamed parts plan
 own_named parts n [] number own = tt
 own_named parts n (Slot pid slot ∷ plan) number own = absurd own.0
 own_named parts n (Part pid part ∷ plan) number own = ((subst (IsPid (sizes_of parts)) (sym own.0.0) number, own.0.1), own_named parts n plan number own.1)

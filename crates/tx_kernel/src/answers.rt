@@ -1,15 +1,20 @@
 //! Answers that change nothing else.
-ghost use Rattle.std.specs.Prelude.{◌≡◌, ◌++◌, ◌∷◌, [], IfOk, OnOk, OnErr};
+ghost use Rattle.std.specs.Prelude.{◌≡◌, ◌++◌, ◌∷◌, [], List, IfOk, IfErr, OnOk, OnErr};
 ghost use Rattle.tx_base.specs.Errors.{error_number};
+ghost use Rattle.tx_base.specs.declared.steps.Refusal.TheVariants as refusal;
 ghost use Rattle.tx_change.specs.declared.change.Change.TheVariants.{Part as SetPart};
+ghost use Rattle.tx_kernel.specs.Actors.{IsActor, me_of};
 ghost use Rattle.tx_kernel.specs.Own.{PlansOwn, answer_after};
-ghost use Rattle.tx_model.specs.Effects.{answers_with};
+ghost use Rattle.tx_kernel.specs.Plans.{Plans};
+ghost use Rattle.tx_model.specs.Effects.{answers_with, done};
 ghost use Rattle.tx_model.specs.Numbers.{failing};
+ghost use Rattle.tx_model.specs.State.{Object, State};
 ghost use Rattle.tx_proc.specs.declared.part.Part.TheVariants.{Answer as SetAnswer};
 
 use crate::actor::Actor;
-use crate::planned::Outcome;
-use tx_base::{Errno, NoMemory};
+use crate::laws::laws;
+use crate::planned::{Outcome, Planned};
+use tx_base::{Errno, NoMemory, Refusal};
 use tx_change::{Change, Log};
 use tx_proc::{Answer, Part};
 
@@ -52,5 +57,30 @@ impl Actor<'_> {
         ensures err { OnErr result (log.new ≡ log.old) }
     {
         self.plan_answer(failing(errno), log)
+    }
+
+    /// Plans this answer, and nothing else, as the whole of a step. After want of memory the log is
+    /// as it was.
+    pub(crate) fn plan_done(&self, ret: i64, log: &mut Log) -> Result<Planned, Refusal>
+        requires { IsActor self.now }
+        ensures ok { IfOk result (λ planned. (objects : State → List Object) → Plans self.now log.old log.new planned (λ S. done self.now.pid.0 ret (me_of self.now)) objects) }
+        ensures refused { IfErr result (λ why. why ≡ refusal.NoMemory) }
+        ensures log { OnErr result (log.new ≡ log.old) }
+    {
+        laws();
+        self.parts.descs.sized();
+        let outcome = self.plan_answer(ret, log)?;
+        Ok(Planned::quiet(outcome))
+    }
+
+    /// Plans an error as the answer, and nothing else, as the whole of a step. After want of memory
+    /// the log is as it was.
+    pub(crate) fn plan_failure(&self, errno: Errno, log: &mut Log) -> Result<Planned, Refusal>
+        requires { IsActor self.now }
+        ensures ok { IfOk result (λ planned. (objects : State → List Object) → Plans self.now log.old log.new planned (λ S. done self.now.pid.0 (failing errno) (me_of self.now)) objects) }
+        ensures refused { IfErr result (λ why. why ≡ refusal.NoMemory) }
+        ensures log { OnErr result (log.new ≡ log.old) }
+    {
+        self.plan_done(failing(errno), log)
     }
 }

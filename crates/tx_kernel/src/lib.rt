@@ -4,6 +4,7 @@
 
 mod actor;
 mod answers;
+mod descriptors;
 mod inside;
 mod laws;
 mod memory;

@@ -1,0 +1,89 @@
+//! The calls on descriptors, descriptions and new pipes.
+ghost use Rattle.std.specs.Prelude.{◌≡◌, ◌++◌, ◌∷◌, [], IfOk, IfErr, OnOk, OnErr};
+ghost use Rattle.tx_change.specs.Counts.{name_changes, desc_changes};
+ghost use Rattle.tx_kernel.specs.Actors.{IsActor, me_of};
+ghost use Rattle.tx_kernel.specs.Plans.{Plans, RefusedBy, Extends};
+ghost use Rattle.tx_model.specs.Descriptors.{descriptor, desc_objects, dup_effect, listed, named, nonblock_effect};
+
+use crate::actor::Actor;
+use crate::laws::laws;
+use crate::planned::{Outcome, Planned};
+use tx_base::{NoMemory, Refusal};
+use tx_change::{Change, Log};
+use tx_desc::{NewDesc, NewName};
+use tx_proc::Part;
+
+impl Actor<'_> {
+    /// Names the description of a descriptor with the lowest free one too (POSIX.1-2017, XSH,
+    /// dup()).
+    ///
+    /// Answers EBADF where the descriptor is not 0 to 15 or is not open, and EMFILE where no
+    /// descriptor is free. NoMemory where a growth is refused; the log then has more at its end at
+    /// most.
+    pub(crate) fn plan_dup(&self, fd: i64, log: &mut Log) -> Result<Planned, Refusal>
+        requires { IsActor self.now }
+        ensures ok { IfOk result (λ planned. Plans self.now log.old log.new planned
+            (λ S. dup_effect self.now.pid.0 (me_of self.now) (named (me_of self.now) (descriptor fd)))
+            (λ S. desc_objects (listed (named (me_of self.now) (descriptor fd))))) }
+        ensures refused { IfErr result (λ why. RefusedBy self.now why (λ S. dup_effect self.now.pid.0 (me_of self.now) (named (me_of self.now) (descriptor fd)))) }
+        ensures log { OnErr result (Extends log.old log.new) }
+    {
+        laws();
+        self.parts.descs.sized();
+        match self.proc.descriptors.plan_dup(&self.parts.descs, fd) {
+            Ok(plan) => {
+                self.push_name(plan.name, log)?;
+                self.push_desc(plan.desc, log)?;
+                let ret = plan.name.fd as i64;
+                self.push_answer(ret, log)?;
+                Ok(Planned::quiet(Outcome::Done(ret)))
+            }
+            Err(errno) => self.plan_failure(errno, log),
+        }
+    }
+
+    /// Says whether reads and writes of the description of a descriptor are refused where they
+    /// would wait (POSIX.1-2017, XSH, fcntl(), O_NONBLOCK).
+    ///
+    /// Answers EBADF where the descriptor is not 0 to 15 or is not open. NoMemory where a growth is
+    /// refused; the log then has more at its end at most.
+    pub(crate) fn plan_nonblock(&self, fd: i64, on: bool, log: &mut Log) -> Result<Planned, Refusal>
+        requires { IsActor self.now }
+        ensures ok { IfOk result (λ planned. Plans self.now log.old log.new planned
+            (λ S. nonblock_effect self.now.pid.0 on (me_of self.now) (named (me_of self.now) (descriptor fd)) S)
+            (λ S. desc_objects (listed (named (me_of self.now) (descriptor fd))))) }
+        ensures refused { IfErr result (λ why. RefusedBy self.now why (λ S. nonblock_effect self.now.pid.0 on (me_of self.now) (named (me_of self.now) (descriptor fd)) S)) }
+        ensures log { OnErr result (Extends log.old log.new) }
+    {
+        laws();
+        self.parts.descs.sized();
+        match self
+            .proc
+            .descriptors
+            .plan_nonblock(&self.parts.descs, fd, on)
+        {
+            Ok(new) => {
+                self.push_desc(new, log)?;
+                self.push_answer(0, log)?;
+                Ok(Planned::quiet(Outcome::Done(0)))
+            }
+            Err(errno) => self.plan_failure(errno, log),
+        }
+    }
+
+    /// Appends what a descriptor is to name. After want of memory the log is as it was.
+    fn push_name(&self, new: NewName, log: &mut Log) -> Result<(), NoMemory>
+        ensures ok { OnOk result (log.new ≡ log.old ++ name_changes self.now.pid (new ∷ [])) }
+        ensures err { OnErr result (log.new ≡ log.old) }
+    {
+        self.push(Part::Descriptor(new.fd, new.name), log)
+    }
+
+    /// Appends what a description number is to have. After want of memory the log is as it was.
+    fn push_desc(&self, new: NewDesc, log: &mut Log) -> Result<(), NoMemory>
+        ensures ok { OnOk result (log.new ≡ log.old ++ desc_changes (new ∷ [])) }
+        ensures err { OnErr result (log.new ≡ log.old) }
+    {
+        log.push(Change::Description(new.number, new.opened))
+    }
+}
