@@ -18,7 +18,7 @@ use Rattle.tx_desc.proofs.Totals.{room, none_agrees, names-empty}
 use Rattle.tx_desc.specs.Counts.{Agrees, HasRoom, IsBacked, count_in, names_in, table_of, others_below, others_of}
 use Rattle.tx_desc.specs.Places.{Descriptors, named_in}
 use Rattle.tx_desc.specs.declared.opened.Opened.{Opened}
-use Rattle.tx_model.specs.State.{State, booted, booted_process, is_between}
+use Rattle.tx_model.specs.State.{Sending, State, booted, booted_process, is_between}
 use Rattle.tx_proc.specs.Parts.{edited_once}
 use Rattle.tx_proc.specs.Processes.{process_in}
 use Rattle.tx_proc.specs.declared.part.Part.{Part as ProcPart}
@@ -79,6 +79,14 @@ counts_kept parts n table new descs there agree here runs keeps =
     counts_replaced parts n (Some new) descs there agree
     (λ others a. subst (λ (ts : List Descriptors). Agrees (ts ++ others) descs) (sym (running new runs))
     (keeps others (subst (λ (ts : List Descriptors). Agrees (ts ++ others) parts.descs) (running_at parts n table here) a)))
+
+pub counts_with_others : (held : ℕ → List Sending) (parts : Parts) (n : ℕ) (table : Descriptors) → IsPid (sizes_of parts) n → CountsAgree parts → RunsAt parts n table →
+    Agrees (table ∷ others_of n (state_of held parts)) parts.descs
+counts_with_others held parts n table there agree here =
+    let both = agrees_same (tables_of parts) (table_in (slot_at parts.procs n) ++ others_of n (plain parts)) parts.descs (λ d. names_split parts n d there) agree in
+    let same = others_same n (length parts.procs + 1) (plain parts) (state_of held parts) (λ q apart. refl) in
+    subst (λ (others : List Descriptors). Agrees (table ∷ others) parts.descs) same
+    (subst (λ (ts : List Descriptors). Agrees (ts ++ others_of n (plain parts)) parts.descs) (running_at parts n table here) both)
 
 pub counts_forked : (parts : Parts) (n : ℕ) (child : Proc) (descs : List (Option Opened)) → IsPid (sizes_of parts) n → CountsAgree parts →
     slot_at parts.procs n ≡ None → child.status ≡ None → ((others : List Descriptors) → Agrees others parts.descs → Agrees (child.descriptors ∷ others) descs) →

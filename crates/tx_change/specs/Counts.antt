@@ -8,13 +8,13 @@ use Rattle.tx_change.specs.States.{state_of}
 use Rattle.tx_change.specs.declared.change.Change.{Change}
 use Rattle.tx_change.specs.declared.change.Change.TheVariants.{Slot, Part, Description, Pipe}
 use Rattle.tx_change.specs.declared.parts.Parts.{Parts}
-use Rattle.tx_desc.specs.Counts.{Agrees, HasRoom, IsBacked, KeepsCounts, table_of}
+use Rattle.tx_desc.specs.Counts.{Agrees, HasRoom, IsBacked, KeepsCounts, others_of, table_of}
 use Rattle.tx_desc.specs.Places.{Descriptors, named_in}
 use Rattle.tx_desc.specs.Plans.{AreFds, AreNumbers, put_names, put_descs}
 use Rattle.tx_desc.specs.declared.plans.NewName.{NewName}
 use Rattle.tx_desc.specs.declared.plans.NewDesc.{NewDesc}
 use Rattle.tx_desc.specs.declared.opened.Opened.{Opened}
-use Rattle.tx_model.specs.State.{State}
+use Rattle.tx_model.specs.State.{Sending, State}
 use Rattle.tx_proc.specs.Parts.{edited_once}
 use Rattle.tx_proc.specs.declared.part.Part.TheVariants.{Status, Descriptor}
 use Rattle.tx_proc.specs.declared.proc.Proc.{Proc}
@@ -39,6 +39,11 @@ with_names n slot descs parts = record parts { procs = with_slot parts.procs n s
 -- a number has a process that runs, with these descriptors
 abbrev pub RunsAt : Parts → ℕ → Descriptors → Type 0
 RunsAt parts n table = (proc : Proc) × (slot_at parts.procs n ≡ Some proc) × (proc.status ≡ None) × (proc.descriptors ≡ table)
+
+-- the descriptors of a process that runs and those of all others are those that the counts agree with
+abbrev pub CountsWithOthers : Type 0
+CountsWithOthers = (held : ℕ → List Sending) (parts : Parts) (n : ℕ) (table : Descriptors) → IsPid (sizes_of parts) n → CountsAgree parts → RunsAt parts n table →
+    Agrees (table ∷ others_of n (state_of held parts)) parts.descs
 
 -- a call changes a process's descriptors and the descriptions, and keeps the counts: what each call of tx_desc on one
 -- process's descriptors does

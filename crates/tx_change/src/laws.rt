@@ -1,5 +1,5 @@
 //! The laws of exchanges, as the contracts of functions that do nothing.
-ghost use Rattle.tx_change.specs.Counts.{CountsKept, CountsForked, CountsEnded, CountsRemoved, CountsElsewhere, SlotInTurn, DescsInTurn, CountsInTurn, PlansAreNamed, PlansInTurn, CountsPlanned, CountsReplaced, RoomForNames, RoomForName};
+ghost use Rattle.tx_change.specs.Counts.{CountsKept, CountsForked, CountsEnded, CountsRemoved, CountsElsewhere, SlotInTurn, DescsInTurn, CountsInTurn, PlansAreNamed, PlansInTurn, CountsPlanned, CountsReplaced, RoomForNames, RoomForName, CountsWithOthers};
 ghost use Rattle.tx_change.specs.Laws.{ApplyThenRevert, RevertThenApply, TwiceIsNothing, ExchangesBack, NothingElse, Commute, ChangesState, ChangesStateInTurn, NamesItsObject, AppliedAppended, ExchangedAppended, UndoneAppended, RevertedAppended, ChangedAppended, NamedAppended, ListNamesItsObjects, PartsReplaceProcess, FrontIsRead, BackIsWrite, PlacesKept};
 
 /// Two exchanges of one part are nothing: the parts and the change come back.
@@ -53,6 +53,12 @@ pub fn counts_agree()
     ensures end { CountsEnded }
     ensures removal { CountsRemoved }
     ensures elsewhere { CountsElsewhere }
+{}
+
+/// Where the counts agree, they are those of the names of a process that runs beside the names of all
+/// others, in the state that the parts mean.
+pub fn counts_with_others()
+    ensures { CountsWithOthers }
 {}
 
 /// What changes in turn do to a process number and to the descriptions, and so to the counts: of a
