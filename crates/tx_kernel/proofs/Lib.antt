@@ -1,4 +1,5 @@
 pub mod Owned
 pub mod OwnPlans
 pub mod Named
+pub mod Released
 pub mod NamedCalls

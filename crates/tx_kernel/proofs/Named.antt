@@ -117,7 +117,7 @@ pipes_rest (Description number opened ∷ pipes) S are = absurd are
 pipes_rest (Pipe number part ∷ pipes) S are = pipes_rest pipes (changed (Pipe number part) S) are
 
 -- what pipes have then depends on the pipes alone
-pipes_alone : (pipes : List Change) (S R : State) → ArePipes pipes → S.pipes ≡ R.pipes → (changed_by pipes S).pipes ≡ (changed_by pipes R).pipes
+pub pipes_alone : (pipes : List Change) (S R : State) → ArePipes pipes → S.pipes ≡ R.pipes → (changed_by pipes S).pipes ≡ (changed_by pipes R).pipes
 pipes_alone [] S R are same = same
 pipes_alone (Slot pid slot ∷ pipes) S R are same = absurd are
 pipes_alone (Part pid part ∷ pipes) S R are same = absurd are

@@ -1,31 +1,43 @@
 -- The plans of the calls on descriptors.
-use Rattle.std.proofs.Common.{◌≡◌, ℕ, ◌+◌, Bool, arith, List, [], ◌∷◌, ◌++◌, length, ℤ, pos, Option, Some, None, Result, Ok, Err, IfOk, refl, ap, sym, subst, ◌∙◌, append_assoc, eq-eqb, true, get_or}
+use Rattle.std.proofs.Common.{◌≡◌, ℕ, zero, suc, ◌≤◌, false, if◌then◌else◌, length-set, ◌+◌, Bool, arith, List, [], ◌∷◌, ◌++◌, length, ℤ, pos, Option, Some, None, Result, Ok, Err, IfOk, refl, ap, sym, subst, ◌∙◌, append_assoc, eq-eqb, true, get_or}
 use Rattle.tx_change.specs.Counts.{name_changes, desc_changes}
 use Rattle.tx_change.specs.Exchange.{AreNamed}
 use Rattle.tx_change.specs.States.{state_of, changed_by}
 use Rattle.tx_change.specs.declared.change.Change.{Change}
 use Rattle.tx_change.specs.declared.change.Change.TheVariants.{Part}
-use Rattle.tx_desc.specs.Counts.{KeepsCounts, HasNames, count_in}
-use Rattle.tx_desc.specs.Descriptions.{HasDescs}
-use Rattle.tx_desc.specs.Outcomes.{with_table, described_again}
+use Rattle.tx_desc.specs.Counts.{Agrees, others_of, KeepsCounts, HasNames, count_in}
+use Rattle.tx_desc.specs.Descriptions.{HasDescs, IsGone, gone_between}
+use Rattle.tx_desc.specs.Outcomes.{RunsWith, with_table, described_again}
 use Rattle.tx_desc.specs.Places.{Descriptors, named_in}
 use Rattle.tx_desc.specs.Plans.{AreFds, AreNumbers, put_names, put_descs}
 use Rattle.tx_desc.specs.declared.opened.Opened.{Opened}
 use Rattle.tx_desc.specs.declared.plans.NewDesc.{NewDesc}
 use Rattle.tx_desc.specs.declared.plans.NewName.{NewName}
 use Rattle.tx_desc.specs.declared.plans.DupPlan.{DupPlan}
-use Rattle.tx_kernel.proofs.Named.{ArePipes, AreOfFiles, Files, Writes, files_plan}
+use Rattle.tx_desc.specs.declared.plans.ClosePlan.{ClosePlan}
+use Rattle.tx_desc.specs.declared.opened.Desc.{Desc as OpenDesc}
+use Rattle.tx_base.specs.Slots.{slot_at}
+use Rattle.tx_base.specs.declared.names.DescNo.{DescNo}
+use Rattle.tx_change.specs.Laws.{HasPlaces}
+use Rattle.tx_change.specs.Exchange.{object_of}
+use Rattle.tx_proc.specs.Processes.{process_in, process_of}
+use Rattle.tx_proc.specs.declared.proc.Proc.{Proc}
+use Rattle.std.proofs.lemmas.Bool.{lt-ltb}
+use Rattle.std.proofs.Math.ListN.{set}
+use Rattle.tx_kernel.specs.Named.{described_by, endless_changes}
+use Rattle.tx_kernel.proofs.Released.{released_files, one_released, endless_pipes, endless_named, endless_among}
+use Rattle.tx_kernel.proofs.Named.{ArePipes, AreOfFiles, Files, Writes, files_plan, pipes_alone}
 use Rattle.tx_kernel.specs.Actors.{me_of, CountsHeld, IsActor}
 use Rattle.tx_kernel.specs.Laws.{PlanLaws}
 use Rattle.tx_kernel.specs.Own.{answer_after}
-use Rattle.tx_kernel.specs.Plans.{Plans, quiet}
+use Rattle.tx_kernel.specs.Plans.{Plans, AreAmong, quiet}
 use Rattle.tx_kernel.specs.declared.actor.Actor.{Actor}
 use Rattle.tx_kernel.specs.declared.planned.Outcome.TheVariants.{Done}
 use Rattle.tx_kernel.specs.declared.planned.Planned.{Planned}
 use Rattle.tx_kernel.proofs.OwnPlans.{held_quiet}
-use Rattle.tx_model.specs.Descriptors.{named, desc_objects, listed, dup_effect, nonblock_effect}
+use Rattle.tx_model.specs.Descriptors.{close_effect, desc_pipe_objects, gives_up, pipe_list, pipes_of, released, named, desc_objects, listed, dup_effect, nonblock_effect}
 use Rattle.tx_model.specs.Effects.{Effect, done_with, done, noted, before_sends}
-use Rattle.tx_model.specs.State.{Object, Desc, Process, Sending, State, Write, SetProc, has, write_one, written}
+use Rattle.tx_model.specs.State.{Object, Desc, Process, Sending, State, Write, SetProc, has, is_between, same_object, write_one, written}
 use Rattle.tx_proc.specs.declared.part.Part.TheVariants.{Answer}
 
 -- what holds of a rule of these parts holds of an equal one
@@ -176,3 +188,113 @@ nonblock_plan laws actor before first now on x new sized is answer descriptions 
     done_writes actor (new ∷ []) [] S (nonblock_effect p on me (named me x) S) (described_again (named me x) (put_descs (new ∷ []) actor.parts.now.descs)) (pos 0) me
     (answer p me S refl (λ d. refl)) (files_again (named me x) (put_descs (new ∷ []) actor.parts.now.descs)) (descriptions p me S refl (λ d. refl)) (pipes_again (named me x) (put_descs (new ∷ []) actor.parts.now.descs) (write_one (SetProc p (Some (noted (pos 0) me))) S)))
     (λ held. (has_desc new.number.0 (named me x) is_named, tt))
+
+-- the process runs with its descriptors
+pub runs_with : (actor : Actor) (held : ℕ → List Sending) → IsActor actor → RunsWith actor.pid.0 (me_of actor) (state_of held actor.parts.now) actor.proc.now.descriptors
+runs_with actor held is = record {
+  sized = λ n q there. sized (slot_at actor.parts.now.procs n) q (is.whole.places n) there;
+  within = within actor.pid.0 (length actor.parts.now.procs) is.number.low is.number.high;
+  there = ap process_in is.there;
+  runs = is.runs;
+  has_table = refl;
+}
+  where
+    sized : (slot : Option Proc) (q : Process) → HasPlaces slot → process_in slot ≡ Some q → length q.descriptors ≡ 16
+    sized None q places there = let never : ⊥ = cc in absurd never
+    sized (Some proc) q places there = let same : process_of proc ≡ q = cc in subst (λ (r : Process). length r.descriptors ≡ 16) same places.descriptors
+
+    within : (n limit : ℕ) → 1 ≤ n → n ≤ limit → is_between limit n ≡ true
+    within zero limit low high = absurd (omega (arith, low))
+    within (suc n) limit low high = lt-ltb n limit (omega (arith, high))
+
+-- the counts agree with its descriptors beside those of all others
+agrees_beside : (laws : PlanLaws) (actor : Actor) (held : ℕ → List Sending) → IsActor actor →
+    Agrees (actor.proc.now.descriptors ∷ others_of actor.pid.0 (state_of held actor.parts.now)) actor.parts.now.descs
+agrees_beside laws actor held is =
+    laws.others held actor.parts.now actor.pid.0 actor.proc.now.descriptors is.number is.whole.counts (actor.proc.now, is.there, is.runs, refl)
+
+length_put : (news : List NewDesc) (D : List (Option Opened)) → length (put_descs news D) ≡ length D
+length_put [] D = refl
+length_put (new ∷ news) D = length_put news (set D new.number.0 new.opened) ∙ length-set D new.number.0 new.opened
+
+-- what a rule writes that gives up names of one description
+gives_writes : (actor : Actor) (news : List NewDesc) (held : ℕ → List Sending) (effect : Effect) (d : ℕ) (r : ℤ) (me : Process) (lost : Option OpenDesc) →
+    length actor.parts.now.descs ≡ 64 → effect ≡ gives_up (d ∷ []) actor.pid.0 r me (state_of held actor.parts.now) →
+    HasDescs (before_sends effect (state_of held actor.parts.now)) (put_descs news actor.parts.now.descs) →
+    lost ≡ gone_between (get_or actor.parts.now.descs d None) (get_or (put_descs news actor.parts.now.descs) d None) →
+    Writes actor (noted r me) news (endless_changes lost (described_by actor.parts.now (put_descs news actor.parts.now.descs))) (quiet (Done r)) (state_of held actor.parts.now) effect
+unfolding written
+gives_writes actor news held effect d r me lost sized is descs went =
+    let S : State = state_of held actor.parts.now in
+    let T : State = write_one (SetProc actor.pid.0 (Some (noted r me))) S in
+    let D : List (Option Opened) = actor.parts.now.descs in
+    let after : List (Option Opened) = put_descs news D in
+    let R : State = described_by actor.parts.now after in
+    let last : HasDescs (written (released (d ∷ []) T) T) after = λ e. ap (λ (f : Effect). (before_sends f S).descs e) (sym is) ∙ descs e in
+    rw went (done_writes actor news (endless_changes (gone_between (get_or D d None) (get_or after d None)) R) S effect (released (d ∷ []) T) r me is (released_files (d ∷ []) T) descs
+    (one_released d T R D after (length_put news D ∙ sized) (λ e. refl) last (λ e. refl)
+    ∙ pipes_alone (endless_changes (gone_between (get_or D d None) (get_or after d None)) R) T S (endless_pipes (gone_between (get_or D d None) (get_or after d None)) R) refl))
+
+appended4 : (before a b c d l1 l2 l3 l4 : List Change) → l1 ≡ before ++ a → l2 ≡ l1 ++ b → l3 ≡ l2 ++ c → l4 ≡ l3 ++ d → l4 ≡ before ++ (a ++ b ++ (c ++ d))
+appended4 before a b c d l1 l2 l3 l4 first second third fourth =
+    fourth ∙ ap (λ (l : List Change). l ++ d) (appended3 before a b c l1 l2 l3 first second third) ∙ simp append_assoc
+
+has_append : (o : Object) (os ps : List Object) → has o ps ≡ true → has o (os ++ ps) ≡ true
+unfolding has
+has_append o [] ps there = there
+has_append o (x ∷ os) ps there = by (same_object o x) (has_append o os ps there)
+  where
+    by : (b : Bool) → has o (os ++ ps) ≡ true → (if b then true else has o (os ++ ps)) ≡ true
+    by true rest = refl
+    by false rest = rest
+
+-- objects before do not matter
+among_behind : (os ps : List Object) (changes : List Change) → AreAmong ps changes → AreAmong (os ++ ps) changes
+among_behind os ps [] among = tt
+among_behind os ps (change ∷ changes) among = (has_append (object_of change) os ps among.0, among_behind os ps changes among.1)
+
+-- an object that is listed first
+desc_here : (d e : ℕ) (os : List Object) → d ≡ e → has (Desc e) (Desc d ∷ os) ≡ true
+unfolding has
+desc_here d e os same = rw same (rw (eq-eqb e e refl) refl)
+
+pub close_plan : (laws : PlanLaws) (actor : Actor) (before first second third now : List Change) (x : Option ℕ) (plan : ClosePlan) →
+    length actor.parts.now.descs ≡ 64 → IsActor actor →
+    ((p : ℕ) (me : Process) (S : State) → me.descriptors ≡ actor.proc.now.descriptors →
+    close_effect p x me S ≡ gives_up (plan.given.number.0 ∷ []) p (pos 0) (with_table (put_names (plan.name ∷ []) actor.proc.now.descriptors) me) S) →
+    ((p : ℕ) (me : Process) (S : State) → RunsWith p me S actor.proc.now.descriptors → HasDescs S actor.parts.now.descs →
+    Agrees (actor.proc.now.descriptors ∷ others_of p S) actor.parts.now.descs →
+    HasDescs (before_sends (close_effect p x me S) S) (put_descs (plan.desc ∷ []) actor.parts.now.descs)) →
+    KeepsCounts actor.proc.now.descriptors (put_names (plan.name ∷ []) actor.proc.now.descriptors) actor.parts.now.descs (put_descs (plan.desc ∷ []) actor.parts.now.descs) →
+    IsGone (Some plan.given) actor.parts.now.descs (put_descs (plan.desc ∷ []) actor.parts.now.descs) →
+    plan.given.number ≡ plan.desc.number →
+    named_in actor.proc.now.descriptors x ≡ Some plan.desc.number.0 →
+    AreFds (plan.name ∷ []) × AreNumbers (plan.desc ∷ []) →
+    first ≡ before ++ name_changes actor.pid (plan.name ∷ []) → second ≡ first ++ desc_changes (plan.desc ∷ []) →
+    third ≡ second ++ endless_changes plan.given.gone (described_by actor.parts.now (put_descs (plan.desc ∷ []) actor.parts.now.descs)) →
+    now ≡ third ++ last_answer (pos 0) actor →
+    Plans actor before now (quiet (Done (pos 0))) (λ S. close_effect actor.pid.0 x (me_of actor) S) (λ S. desc_pipe_objects (listed (named (me_of actor) x)) S)
+close_plan laws actor before first second third now x plan sized is answer descriptions counts gone same found numbers one two three four =
+    let p : ℕ = actor.pid.0 in
+    let me : Process = me_of actor in
+    let D : List (Option Opened) = actor.parts.now.descs in
+    let after : List (Option Opened) = put_descs (plan.desc ∷ []) D in
+    let R : State = described_by actor.parts.now after in
+    let new : Process = with_table (put_names (plan.name ∷ []) actor.proc.now.descriptors) me in
+    let d : ℕ = plan.given.number.0 in
+    let pipes : List Change = endless_changes plan.given.gone R in
+    let named_pipes : AreNamed actor.parts.now pipes = rw gone (endless_named actor.parts.now (get_or D d None) (get_or after d None) R (is.whole.piped d)) in
+    let among_pipes : (held : ℕ → List Sending) → AreAmong (pipe_list (pipes_of (d ∷ []) (state_of held actor.parts.now))) pipes =
+    λ held. rw gone (endless_among d (state_of held actor.parts.now) R (get_or D d None) (get_or after d None) refl) in
+    let is_named : named me x ≡ Some d = named_me actor x ∙ found ∙ ap (λ (n : DescNo). Some n.0) (sym same) in
+    files_plan laws actor before now (quiet (Done (pos 0))) (λ S. close_effect p x me S) (λ S. desc_pipe_objects (listed (named me x)) S) (noted (pos 0) new)
+    (answered_files actor (plan.name ∷ []) (plan.desc ∷ []) pipes (pos 0) numbers.0 numbers.1 (endless_pipes plan.given.gone R) named_pipes counts) sized is
+    (appended4 before (name_changes actor.pid (plan.name ∷ [])) (desc_changes (plan.desc ∷ [])) pipes (last_answer (pos 0) actor) first second third now one two three four)
+    (held_quiet actor.inside (Done (pos 0)))
+    (λ held counted. let S : State = state_of held actor.parts.now in
+    gives_writes actor (plan.desc ∷ []) held (close_effect p x me S) d (pos 0) new plan.given.gone sized (answer p me S refl)
+    (descriptions p me S (runs_with actor held is) (λ e. refl) (agrees_beside laws actor held is)) gone)
+    (λ held. subst (λ (y : Option ℕ). AreAmong (desc_pipe_objects (listed y) (state_of held actor.parts.now)) (desc_changes (plan.desc ∷ []) ++ pipes)) (sym is_named) (
+      desc_here d plan.desc.number.0 (pipe_list (pipes_of (d ∷ []) (state_of held actor.parts.now))) (ap (λ (n : DescNo). n.0) same),
+      among_behind (Desc d ∷ []) (pipe_list (pipes_of (d ∷ []) (state_of held actor.parts.now))) pipes (among_pipes held),
+    ))

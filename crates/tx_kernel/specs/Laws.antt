@@ -1,5 +1,5 @@
 -- The laws that the plans stand on.
-use Rattle.tx_change.specs.Counts.{CountsElsewhere, CountsPlanned, CountsReplaced, PlansAreNamed, RoomForName, RoomForNames}
+use Rattle.tx_change.specs.Counts.{CountsElsewhere, CountsPlanned, CountsReplaced, CountsWithOthers, PlansAreNamed, RoomForName, RoomForNames}
 use Rattle.tx_change.specs.Laws.{AppliedAppended, BackIsWrite, ChangedAppended, ChangesStateInTurn, FrontIsRead, NamedAppended, PartsReplaceProcess, PlacesKept}
 
 -- what changes make of the state, of the counts of names and of the places of processes
@@ -13,6 +13,7 @@ pub record PlanLaws : Type 0 where
   pub plans : PlansAreNamed
   pub call : CountsPlanned
   pub replaced : CountsReplaced
+  pub others : CountsWithOthers
   pub elsewhere : CountsElsewhere
   pub room : RoomForName
   pub rooms : RoomForNames

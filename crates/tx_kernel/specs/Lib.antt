@@ -1,4 +1,5 @@
 pub mod Actors
 pub mod Plans
 pub mod Own
+pub mod Named
 pub mod Laws

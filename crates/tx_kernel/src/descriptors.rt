@@ -1,16 +1,18 @@
 //! The calls on descriptors, descriptions and new pipes.
 ghost use Rattle.std.specs.Prelude.{◌≡◌, ◌++◌, ◌∷◌, [], IfOk, IfErr, OnOk, OnErr};
 ghost use Rattle.tx_change.specs.Counts.{name_changes, desc_changes};
+ghost use Rattle.tx_desc.specs.Plans.{AreNumbers, put_descs};
 ghost use Rattle.tx_kernel.specs.Actors.{IsActor, me_of};
+ghost use Rattle.tx_kernel.specs.Named.{described_by, endless_changes};
 ghost use Rattle.tx_kernel.specs.Plans.{Plans, RefusedBy, Extends};
-ghost use Rattle.tx_model.specs.Descriptors.{descriptor, desc_objects, dup_effect, listed, named, nonblock_effect};
+ghost use Rattle.tx_model.specs.Descriptors.{close_effect, descriptor, desc_objects, desc_pipe_objects, dup_effect, listed, named, nonblock_effect};
 
 use crate::actor::Actor;
 use crate::laws::laws;
 use crate::planned::{Outcome, Planned};
 use tx_base::{NoMemory, Refusal};
-use tx_change::{Change, Log};
-use tx_desc::{NewDesc, NewName};
+use tx_change::{Change, Log, PipePart};
+use tx_desc::{Desc, NewDesc, NewName};
 use tx_proc::Part;
 
 impl Actor<'_> {
@@ -37,6 +39,33 @@ impl Actor<'_> {
                 let ret = plan.name.fd as i64;
                 self.push_answer(ret, log)?;
                 Ok(Planned::quiet(Outcome::Done(ret)))
+            }
+            Err(errno) => self.plan_failure(errno, log),
+        }
+    }
+
+    /// Closes a descriptor (POSIX.1-2017, XSH, close()). A description that nothing names any more
+    /// goes, and the pipe with the last description of it.
+    ///
+    /// Answers EBADF where the descriptor is not 0 to 15 or is not open. NoMemory where a growth is
+    /// refused; the log then has more at its end at most.
+    pub(crate) fn plan_close(&self, fd: i64, log: &mut Log) -> Result<Planned, Refusal>
+        requires { IsActor self.now }
+        ensures ok { IfOk result (λ planned. Plans self.now log.old log.new planned
+            (λ S. close_effect self.now.pid.0 (descriptor fd) (me_of self.now) S)
+            (λ S. desc_pipe_objects (listed (named (me_of self.now) (descriptor fd))) S)) }
+        ensures refused { IfErr result (λ why. RefusedBy self.now why (λ S. close_effect self.now.pid.0 (descriptor fd) (me_of self.now) S)) }
+        ensures log { OnErr result (Extends log.old log.new) }
+    {
+        laws();
+        self.parts.descs.sized();
+        match self.proc.descriptors.plan_close(&self.parts.descs, fd) {
+            Ok(plan) => {
+                self.push_name(plan.name, log)?;
+                self.push_desc(plan.desc, log)?;
+                self.push_endless(plan.given.gone, &[plan.desc], log)?;
+                self.push_answer(0, log)?;
+                Ok(Planned::quiet(Outcome::Done(0)))
             }
             Err(errno) => self.plan_failure(errno, log),
         }
@@ -85,5 +114,26 @@ impl Actor<'_> {
         ensures err { OnErr result (log.new ≡ log.old) }
     {
         log.push(Change::Description(new.number, new.opened))
+    }
+
+    /// Appends that the pipe of a description which is gone goes too, where none names it once these
+    /// are in place. After want of memory the log is as it was.
+    fn push_endless(
+        &self,
+        gone: Option<Desc>,
+        news: &[NewDesc],
+        log: &mut Log,
+    ) -> Result<(), NoMemory>
+        requires { AreNumbers news.now }
+        ensures ok { OnOk result (log.new ≡ log.old ++ endless_changes gone (described_by self.now.parts.now (put_descs news.now self.now.parts.now.descs))) }
+        ensures err { OnErr result (log.new ≡ log.old) }
+    {
+        let Some(desc) = gone else {
+            return Ok(());
+        };
+        if self.parts.descs.names_pipe_with(desc.pipe, news) {
+            return Ok(());
+        }
+        log.push(Change::Pipe(desc.pipe, PipePart::Whole(None)))
     }
 }

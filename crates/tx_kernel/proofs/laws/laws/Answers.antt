@@ -11,6 +11,7 @@ returns c = record {
   plans = c.counts_in_turn.ensures.named;
   call = c.counts_in_turn.ensures.call;
   replaced = c.counts_in_turn.ensures.process;
+  others = c.counts_with_others.ensures;
   elsewhere = c.counts_agree.ensures.elsewhere;
   room = c.room_for_names.ensures.one;
   rooms = c.room_for_names.ensures.all;
