@@ -111,6 +111,7 @@ impl FdTable {
         ensures counts { KeepsCounts self.now (put_names (dup2_puts result).names self.now) descs.now (put_descs (dup2_puts result).descs descs.now) }
         ensures gone { IfOk result (λ plan. IsGone plan.renamed.given descs.now (put_descs (dup2_puts result).descs descs.now)) }
         ensures changed { IfOk result (λ plan. RenamesOf (named_in self.now (descriptor fd)) (named_in self.now (descriptor other)) plan.rename) }
+        ensures fd { IfOk result (λ plan. plan.renamed.fd < 16) }
         ensures apart { IfOk result (λ plan. IsOfTwo (descriptor fd) (descriptor other) plan.rename) }
         ensures left { IfOk result (λ plan. GivesLeft plan.renamed.given plan.rename) }
         ensures numbers { AreInRange (dup2_puts result) }
