@@ -1,5 +1,5 @@
 -- The plans of the calls on descriptors.
-use Rattle.std.proofs.Common.{◌≡◌, ℕ, zero, suc, ◌≤◌, false, if◌then◌else◌, length-set, ◌+◌, Bool, arith, List, [], ◌∷◌, ◌++◌, length, ℤ, pos, Option, Some, None, Result, Ok, Err, IfOk, refl, ap, sym, subst, ◌∙◌, append_assoc, eq-eqb, true, get_or}
+use Rattle.std.proofs.Common.{◌≡◌, ◌≢◌, option_map, ℕ, zero, suc, ◌≤◌, false, if◌then◌else◌, length-set, ◌+◌, Bool, arith, List, [], ◌∷◌, ◌++◌, length, ℤ, pos, Option, Some, None, Result, Ok, Err, IfOk, refl, ap, sym, subst, ◌∙◌, append_assoc, eq-eqb, true, get_or}
 use Rattle.tx_change.specs.Counts.{name_changes, desc_changes}
 use Rattle.tx_change.specs.Exchange.{AreNamed}
 use Rattle.tx_change.specs.States.{state_of, changed_by}
@@ -7,13 +7,18 @@ use Rattle.tx_change.specs.declared.change.Change.{Change}
 use Rattle.tx_change.specs.declared.change.Change.TheVariants.{Part}
 use Rattle.tx_desc.specs.Counts.{Agrees, others_of, KeepsCounts, HasNames, count_in}
 use Rattle.tx_desc.specs.Descriptions.{HasDescs, IsGone, gone_between}
-use Rattle.tx_desc.specs.Outcomes.{RunsWith, with_table, described_again}
+use Rattle.tx_desc.specs.Outcomes.{given_up, RunsWith, with_table, described_again}
 use Rattle.tx_desc.specs.Places.{Descriptors, named_in}
-use Rattle.tx_desc.specs.Plans.{AreFds, AreNumbers, put_names, put_descs}
+use Rattle.tx_desc.specs.Plans.{GivesLeft, IsOfTwo, RenamesOf, listed_desc, rename_puts, AreFds, AreNumbers, put_names, put_descs}
 use Rattle.tx_desc.specs.declared.opened.Opened.{Opened}
 use Rattle.tx_desc.specs.declared.plans.NewDesc.{NewDesc}
 use Rattle.tx_desc.specs.declared.plans.NewName.{NewName}
 use Rattle.tx_desc.specs.declared.plans.DupPlan.{DupPlan}
+use Rattle.tx_desc.specs.declared.plans.Rename.{Rename}
+use Rattle.tx_desc.specs.declared.given.Given.{Given}
+use Rattle.tx_desc.specs.declared.given.Renamed.{Renamed}
+use Rattle.tx_change.specs.declared.parts.Parts.{Parts}
+use Rattle.tx_base.specs.declared.names.Pid.{Pid}
 use Rattle.tx_desc.specs.declared.plans.ClosePlan.{ClosePlan}
 use Rattle.tx_desc.specs.declared.opened.Desc.{Desc as OpenDesc}
 use Rattle.tx_base.specs.Slots.{slot_at}
@@ -22,9 +27,9 @@ use Rattle.tx_change.specs.Laws.{HasPlaces}
 use Rattle.tx_change.specs.Exchange.{object_of}
 use Rattle.tx_proc.specs.Processes.{process_in, process_of}
 use Rattle.tx_proc.specs.declared.proc.Proc.{Proc}
-use Rattle.std.proofs.lemmas.Bool.{lt-ltb}
+use Rattle.std.proofs.lemmas.Bool.{ne_eqb, lt-ltb}
 use Rattle.std.proofs.Math.ListN.{set}
-use Rattle.tx_kernel.specs.Named.{described_by, endless_changes}
+use Rattle.tx_kernel.specs.Named.{gone_of, left_changes, rename_changes, described_by, endless_changes}
 use Rattle.tx_kernel.proofs.Released.{released_files, one_released, endless_pipes, endless_named, endless_among}
 use Rattle.tx_kernel.proofs.Named.{ArePipes, AreOfFiles, Files, Writes, files_plan, pipes_alone}
 use Rattle.tx_kernel.specs.Actors.{me_of, CountsHeld, IsActor}
@@ -35,7 +40,7 @@ use Rattle.tx_kernel.specs.declared.actor.Actor.{Actor}
 use Rattle.tx_kernel.specs.declared.planned.Outcome.TheVariants.{Done}
 use Rattle.tx_kernel.specs.declared.planned.Planned.{Planned}
 use Rattle.tx_kernel.proofs.OwnPlans.{held_quiet}
-use Rattle.tx_model.specs.Descriptors.{close_effect, desc_pipe_objects, gives_up, pipe_list, pipes_of, released, named, desc_objects, listed, dup_effect, nonblock_effect}
+use Rattle.tx_model.specs.Descriptors.{unnamed_go, endless_go, other_than, dup2_effect, dup2_objects, close_effect, desc_pipe_objects, gives_up, pipe_list, pipes_of, released, named, desc_objects, listed, dup_effect, nonblock_effect}
 use Rattle.tx_model.specs.Effects.{Effect, done_with, done, noted, before_sends}
 use Rattle.tx_model.specs.State.{Object, Desc, Process, Sending, State, Write, SetProc, has, is_between, same_object, write_one, written}
 use Rattle.tx_proc.specs.declared.part.Part.TheVariants.{Answer}
@@ -248,6 +253,15 @@ has_append o (x ∷ os) ps there = by (same_object o x) (has_append o os ps ther
     by true rest = refl
     by false rest = rest
 
+has_before : (o : Object) (os ps : List Object) → has o os ≡ true → has o (os ++ ps) ≡ true
+unfolding has
+has_before o [] ps there = let never : ⊥ = cc in absurd never
+has_before o (x ∷ os) ps there = by (same_object o x) there (has_before o os ps)
+  where
+    by : (b : Bool) → (if b then true else has o os) ≡ true → (has o os ≡ true → has o (os ++ ps) ≡ true) → (if b then true else has o (os ++ ps)) ≡ true
+    by true now rest = refl
+    by false now rest = rest now
+
 -- objects before do not matter
 among_behind : (os ps : List Object) (changes : List Change) → AreAmong ps changes → AreAmong (os ++ ps) changes
 among_behind os ps [] among = tt
@@ -298,3 +312,135 @@ close_plan laws actor before first second third now x plan sized is answer descr
       desc_here d plan.desc.number.0 (pipe_list (pipes_of (d ∷ []) (state_of held actor.parts.now))) (ap (λ (n : DescNo). n.0) same),
       among_behind (Desc d ∷ []) (pipe_list (pipes_of (d ∷ []) (state_of held actor.parts.now))) pipes (among_pipes held),
     ))
+
+-- dup2
+
+-- where no description changes none is gone
+none_gone : (given : Option Given) (D : List (Option Opened)) → IsGone given D D → gone_of given ≡ None
+none_gone None D lost = refl
+none_gone (Some given) D lost = lost ∙ same (get_or D given.number.0 None)
+  where
+    same : (o : Option Opened) → gone_between o o ≡ None
+    same None = refl
+    same (Some o) = refl
+
+-- the pipes that go are said by the name that is given up
+abbrev left_pipes : Parts → Option Given → Option Rename → List Change
+left_pipes parts given None = []
+left_pipes parts given (Some rename) = left_changes parts given rename.named rename.left
+
+left_endless : (parts : Parts) (given : Option Given) (rename : Option Rename) → IsGone given parts.descs (put_descs (rename_puts rename).descs parts.descs) → GivesLeft given rename →
+    left_pipes parts given rename ≡ endless_changes (gone_of given) (described_by parts (put_descs (rename_puts rename).descs parts.descs))
+left_endless parts given None lost left = sym (ap (λ (x : Option OpenDesc). endless_changes x (described_by parts parts.descs)) (none_gone given parts.descs lost))
+left_endless parts given (Some rename) lost left = by given rename.left left
+  where
+    by : (g : Option Given) (l : Option NewDesc) → option_map (λ (x : Given). x.number.0) g ≡ option_map (λ (new : NewDesc). new.number.0) l →
+        left_changes parts g rename.named l ≡ endless_changes (gone_of g) (described_by parts (put_descs (rename.named ∷ listed_desc l) parts.descs))
+    by None None same = refl
+    by (Some g) None same = let never : ⊥ = cc in absurd never
+    by g (Some l) same = refl
+
+rename_listed : (pid : Pid) (parts : Parts) (given : Option Given) (rename : Option Rename) →
+    rename_changes pid parts given rename ≡ name_changes pid (rename_puts rename).names ++ desc_changes (rename_puts rename).descs ++ left_pipes parts given rename
+rename_listed pid parts given None = refl
+rename_listed pid parts given (Some rename) = refl
+
+-- what a rule writes that gives up a name, or none
+given_writes : (actor : Actor) (news : List NewDesc) (held : ℕ → List Sending) (effect : Effect) (given : Option Given) (r : ℤ) (me : Process) →
+    length actor.parts.now.descs ≡ 64 → effect ≡ gives_up (given_up given) actor.pid.0 r me (state_of held actor.parts.now) →
+    HasDescs (before_sends effect (state_of held actor.parts.now)) (put_descs news actor.parts.now.descs) →
+    IsGone given actor.parts.now.descs (put_descs news actor.parts.now.descs) →
+    Writes actor (noted r me) news (endless_changes (gone_of given) (described_by actor.parts.now (put_descs news actor.parts.now.descs))) (quiet (Done r)) (state_of held actor.parts.now) effect
+unfolding written unnamed_go endless_go pipes_of
+given_writes actor news held effect None r me sized is descs lost = done_writes actor news [] (state_of held actor.parts.now) effect [] r me is tt descs refl
+given_writes actor news held effect (Some given) r me sized is descs lost = gives_writes actor news held effect given.number.0 r me given.gone sized is descs lost
+
+-- the other descriptor of a dup2, where it is another one and open
+other_is : (actor : Actor) (x y : Option ℕ) (d l : ℕ) → x ≢ y → named_in actor.proc.now.descriptors x ≡ Some d → named_in actor.proc.now.descriptors y ≡ Some l →
+    other_than x y (me_of actor) ≡ l ∷ []
+other_is actor None y d l apart first second = let never : ⊥ = cc in absurd never
+other_is actor (Some f) None d l apart first second = let never : ⊥ = cc in absurd never
+other_is actor (Some f) (Some g) d l apart first second =
+    ap (λ (b : Bool). if b then [] else listed (named (me_of actor) (Some g))) (ne_eqb f g (λ e. apart (ap Some e))) ∙ ap listed second
+
+among_before : (os ps : List Object) (changes : List Change) → AreAmong os changes → AreAmong (os ++ ps) changes
+among_before os ps [] among = tt
+among_before os ps (change ∷ changes) among = (has_before (object_of change) os ps among.0, among_before os ps changes among.1)
+
+-- the objects of a rename
+rename_among : (actor : Actor) (held : ℕ → List Sending) (x y : Option ℕ) (given : Option Given) (rename : Option Rename) →
+    IsGone given actor.parts.now.descs (put_descs (rename_puts rename).descs actor.parts.now.descs) →
+    RenamesOf (named_in actor.proc.now.descriptors x) (named_in actor.proc.now.descriptors y) rename → IsOfTwo x y rename → GivesLeft given rename →
+    AreAmong (dup2_objects x y (me_of actor) (state_of held actor.parts.now)) (desc_changes (rename_puts rename).descs ++ left_pipes actor.parts.now given rename)
+rename_among actor held x y given None lost of apart left = tt
+rename_among actor held x y given (Some rename) lost of apart left = (
+  has_before (Desc rename.named.number.0) (desc_objects (listed (named (me_of actor) x))) (desc_pipe_objects (other_than x y (me_of actor)) S)
+      (has_desc rename.named.number.0 (named (me_of actor) x) (named_me actor x ∙ of.0)),
+  by given rename.left lost of.1 left,
+)
+  where
+    S : State
+    S = state_of held actor.parts.now
+
+    D : List (Option Opened)
+    D = actor.parts.now.descs
+
+    by : (g : Option Given) (l : Option NewDesc) → IsGone g D (put_descs (rename.named ∷ listed_desc l) D) →
+        named_in actor.proc.now.descriptors y ≡ option_map (λ (new : NewDesc). new.number.0) l →
+        option_map (λ (z : Given). z.number.0) g ≡ option_map (λ (new : NewDesc). new.number.0) l →
+        AreAmong (dup2_objects x y (me_of actor) S) (desc_changes (listed_desc l) ++ left_changes actor.parts.now g rename.named l)
+    by g None gone named_other same = tt
+    by None (Some l) gone named_other same = let never : ⊥ = cc in absurd never
+    by (Some g) (Some l) gone named_other same =
+        let after : List (Option Opened) = put_descs (rename.named ∷ l ∷ []) D in
+        let R : State = described_by actor.parts.now after in
+        let is : g.number.0 ≡ l.number.0 = cc in
+        let one : other_than x y (me_of actor) ≡ g.number.0 ∷ [] = other_is actor x y rename.named.number.0 g.number.0 apart of.0 (named_other ∙ sym same) in
+        let pipes : List Change = endless_changes g.gone R in
+        let among : AreAmong (pipe_list (pipes_of (g.number.0 ∷ []) S)) pipes = rw gone (endless_among g.number.0 S R (get_or D g.number.0 None) (get_or after g.number.0 None) refl) in
+        among_behind (desc_objects (listed (named (me_of actor) x))) (desc_pipe_objects (other_than x y (me_of actor)) S) (desc_changes (l ∷ []) ++ pipes)
+        (subst (λ (ds : List ℕ). AreAmong (desc_pipe_objects ds S) (desc_changes (l ∷ []) ++ pipes)) (sym one) (
+          desc_here g.number.0 l.number.0 (pipe_list (pipes_of (g.number.0 ∷ []) S)) is,
+          among_behind (Desc g.number.0 ∷ []) (pipe_list (pipes_of (g.number.0 ∷ []) S)) pipes among,
+        ))
+
+given_named : (actor : Actor) (given : Option Given) (news : List NewDesc) (R : State) → IsActor actor → IsGone given actor.parts.now.descs (put_descs news actor.parts.now.descs) →
+    AreNamed actor.parts.now (endless_changes (gone_of given) R)
+given_named actor None news R is lost = tt
+given_named actor (Some given) news R is lost =
+    rw lost (endless_named actor.parts.now (get_or actor.parts.now.descs given.number.0 None) (get_or (put_descs news actor.parts.now.descs) given.number.0 None) R (is.whole.piped given.number.0))
+
+pub dup2_plan : (laws : PlanLaws) (actor : Actor) (before first now : List Change) (x y : Option ℕ) (renamed : Renamed) (rename : Option Rename) →
+    length actor.parts.now.descs ≡ 64 → IsActor actor →
+    ((p : ℕ) (me : Process) (S : State) → me.descriptors ≡ actor.proc.now.descriptors →
+    dup2_effect p x y me S ≡ gives_up (given_up renamed.given) p (pos renamed.fd) (with_table (put_names (rename_puts rename).names actor.proc.now.descriptors) me) S) →
+    ((p : ℕ) (me : Process) (S : State) → RunsWith p me S actor.proc.now.descriptors → HasDescs S actor.parts.now.descs →
+    Agrees (actor.proc.now.descriptors ∷ others_of p S) actor.parts.now.descs →
+    HasDescs (before_sends (dup2_effect p x y me S) S) (put_descs (rename_puts rename).descs actor.parts.now.descs)) →
+    KeepsCounts actor.proc.now.descriptors (put_names (rename_puts rename).names actor.proc.now.descriptors) actor.parts.now.descs (put_descs (rename_puts rename).descs actor.parts.now.descs) →
+    IsGone renamed.given actor.parts.now.descs (put_descs (rename_puts rename).descs actor.parts.now.descs) →
+    RenamesOf (named_in actor.proc.now.descriptors x) (named_in actor.proc.now.descriptors y) rename → IsOfTwo x y rename → GivesLeft renamed.given rename →
+    AreFds (rename_puts rename).names × AreNumbers (rename_puts rename).descs →
+    first ≡ before ++ rename_changes actor.pid actor.parts.now renamed.given rename → now ≡ first ++ last_answer (pos renamed.fd) actor →
+    Plans actor before now (quiet (Done (pos renamed.fd))) (λ S. dup2_effect actor.pid.0 x y (me_of actor) S) (λ S. dup2_objects x y (me_of actor) S)
+dup2_plan laws actor before first now x y renamed rename sized is answer descriptions counts lost of apart left numbers one two =
+    let p : ℕ = actor.pid.0 in
+    let me : Process = me_of actor in
+    let r : ℤ = pos renamed.fd in
+    let names : List NewName = (rename_puts rename).names in
+    let descs : List NewDesc = (rename_puts rename).descs in
+    let D : List (Option Opened) = actor.parts.now.descs in
+    let R : State = described_by actor.parts.now (put_descs descs D) in
+    let new : Process = with_table (put_names names actor.proc.now.descriptors) me in
+    let pipes : List Change = endless_changes (gone_of renamed.given) R in
+    let same : left_pipes actor.parts.now renamed.given rename ≡ pipes = left_endless actor.parts.now renamed.given rename lost left in
+    files_plan laws actor before now (quiet (Done r)) (λ S. dup2_effect p x y me S) (λ S. dup2_objects x y me S) (noted r new)
+    (answered_files actor names descs pipes r numbers.0 numbers.1 (endless_pipes (gone_of renamed.given) R) (given_named actor renamed.given descs R is lost) counts) sized is
+    (appended2 before (name_changes actor.pid names ++ desc_changes descs ++ pipes) (last_answer r actor) first now
+    (one ∙ ap (λ (l : List Change). before ++ l) (rename_listed actor.pid actor.parts.now renamed.given rename ∙ ap (λ (l : List Change). name_changes actor.pid names ++ desc_changes descs ++ l) same)) two
+    ∙ ap (λ (l : List Change). before ++ l) (append_assoc (name_changes actor.pid names ++ desc_changes descs) pipes (last_answer r actor)))
+    (held_quiet actor.inside (Done r))
+    (λ held counted. let S : State = state_of held actor.parts.now in
+    given_writes actor descs held (dup2_effect p x y me S) renamed.given r new sized (answer p me S refl)
+    (descriptions p me S (runs_with actor held is) (λ e. refl) (agrees_beside laws actor held is)) lost)
+    (λ held. subst (λ (l : List Change). AreAmong (dup2_objects x y me (state_of held actor.parts.now)) (desc_changes descs ++ l)) same (rename_among actor held x y renamed.given rename lost of apart left))

@@ -1,10 +1,15 @@
 -- Changes that calls on names make.
-use Rattle.std.specs.Prelude.{List, [], ◌∷◌, Option, Some, None, if◌then◌else◌}
+use Rattle.std.specs.Prelude.{List, [], ◌∷◌, ◌++◌, Option, Some, None, if◌then◌else◌}
+use Rattle.tx_base.specs.declared.names.Pid.{Pid}
+use Rattle.tx_change.specs.Counts.{name_changes, desc_changes}
+use Rattle.tx_desc.specs.declared.plans.NewDesc.{NewDesc}
+use Rattle.tx_desc.specs.declared.plans.Rename.{Rename}
 use Rattle.tx_change.specs.States.{state_of}
 use Rattle.tx_change.specs.declared.change.Change.{Change}
 use Rattle.tx_change.specs.declared.change.Change.TheVariants.{Pipe}
 use Rattle.tx_change.specs.declared.parts.Parts.{Parts}
 use Rattle.tx_change.specs.declared.pipes.PipePart.TheVariants.{Whole}
+use Rattle.tx_desc.specs.Plans.{listed_desc, put_descs}
 use Rattle.tx_desc.specs.declared.given.Given.{Given}
 use Rattle.tx_desc.specs.declared.opened.Desc.{Desc}
 use Rattle.tx_desc.specs.declared.opened.Opened.{Opened}
@@ -24,3 +29,14 @@ endless_changes (Some desc) S = if has_description desc.pipe.0 S then [] else Pi
 abbrev pub gone_of : Option Given → Option Desc
 gone_of None = None
 gone_of (Some given) = given.gone
+
+-- what goes with the name that a descriptor had, of these descriptions that have a name more and a name fewer
+abbrev pub left_changes : Parts → Option Given → NewDesc → Option NewDesc → List Change
+left_changes parts given named None = []
+left_changes parts given named (Some left) = endless_changes (gone_of given) (described_by parts (put_descs (named ∷ left ∷ []) parts.descs))
+
+-- the changes of a rename, and what goes with the name that is given up
+abbrev pub rename_changes : Pid → Parts → Option Given → Option Rename → List Change
+rename_changes pid parts given None = []
+rename_changes pid parts given (Some rename) =
+    name_changes pid (rename.name ∷ []) ++ desc_changes (rename.named ∷ listed_desc rename.left) ++ left_changes parts given rename.named rename.left

@@ -1,18 +1,18 @@
 //! The calls on descriptors, descriptions and new pipes.
 ghost use Rattle.std.specs.Prelude.{◌≡◌, ◌++◌, ◌∷◌, [], IfOk, IfErr, OnOk, OnErr};
 ghost use Rattle.tx_change.specs.Counts.{name_changes, desc_changes};
-ghost use Rattle.tx_desc.specs.Plans.{AreNumbers, put_descs};
+ghost use Rattle.tx_desc.specs.Plans.{AreNumbers, put_descs, rename_puts};
 ghost use Rattle.tx_kernel.specs.Actors.{IsActor, me_of};
-ghost use Rattle.tx_kernel.specs.Named.{described_by, endless_changes};
+ghost use Rattle.tx_kernel.specs.Named.{described_by, endless_changes, gone_of, rename_changes};
 ghost use Rattle.tx_kernel.specs.Plans.{Plans, RefusedBy, Extends};
-ghost use Rattle.tx_model.specs.Descriptors.{close_effect, descriptor, desc_objects, desc_pipe_objects, dup_effect, listed, named, nonblock_effect};
+ghost use Rattle.tx_model.specs.Descriptors.{close_effect, descriptor, desc_objects, desc_pipe_objects, dup_effect, dup2_effect, dup2_objects, listed, named, nonblock_effect};
 
 use crate::actor::Actor;
 use crate::laws::laws;
 use crate::planned::{Outcome, Planned};
 use tx_base::{NoMemory, Refusal};
 use tx_change::{Change, Log, PipePart};
-use tx_desc::{Desc, NewDesc, NewName};
+use tx_desc::{Desc, Given, NewDesc, NewName, Rename};
 use tx_proc::Part;
 
 impl Actor<'_> {
@@ -37,6 +37,36 @@ impl Actor<'_> {
                 self.push_name(plan.name, log)?;
                 self.push_desc(plan.desc, log)?;
                 let ret = plan.name.fd as i64;
+                self.push_answer(ret, log)?;
+                Ok(Planned::quiet(Outcome::Done(ret)))
+            }
+            Err(errno) => self.plan_failure(errno, log),
+        }
+    }
+
+    /// Has a descriptor name the description of another one (POSIX.1-2017, XSH, dup2()). What it named
+    /// before is given up as by a close; where the two are the same nothing changes.
+    ///
+    /// Answers EBADF where the first descriptor is not 0 to 15 or is not open, or the second is not 0
+    /// to 15. NoMemory where a growth is refused; the log then has more at its end at most.
+    pub(crate) fn plan_dup2(&self, fd: i64, other: i64, log: &mut Log) -> Result<Planned, Refusal>
+        requires { IsActor self.now }
+        ensures ok { IfOk result (λ planned. Plans self.now log.old log.new planned
+            (λ S. dup2_effect self.now.pid.0 (descriptor fd) (descriptor other) (me_of self.now) S)
+            (λ S. dup2_objects (descriptor fd) (descriptor other) (me_of self.now) S)) }
+        ensures refused { IfErr result (λ why. RefusedBy self.now why (λ S. dup2_effect self.now.pid.0 (descriptor fd) (descriptor other) (me_of self.now) S)) }
+        ensures log { OnErr result (Extends log.old log.new) }
+    {
+        laws();
+        self.parts.descs.sized();
+        match self
+            .proc
+            .descriptors
+            .plan_dup2(&self.parts.descs, fd, other)
+        {
+            Ok(plan) => {
+                self.push_rename(plan.renamed.given, plan.rename, log)?;
+                let ret = plan.renamed.fd as i64;
                 self.push_answer(ret, log)?;
                 Ok(Planned::quiet(Outcome::Done(ret)))
             }
@@ -136,4 +166,35 @@ impl Actor<'_> {
         }
         log.push(Change::Pipe(desc.pipe, PipePart::Whole(None)))
     }
+
+    /// Appends a rename, if there is one, and what goes with the name that is given up.
+    fn push_rename(
+        &self,
+        given: Option<Given>,
+        rename: Option<Rename>,
+        log: &mut Log,
+    ) -> Result<(), NoMemory>
+        requires { AreNumbers (rename_puts rename).descs }
+        ensures ok { OnOk result (log.new ≡ log.old ++ rename_changes self.now.pid self.now.parts.now given rename) }
+        ensures err { OnErr result (Extends log.old log.new) }
+    {
+        let Some(rename) = rename else {
+            return Ok(());
+        };
+        self.push_name(rename.name, log)?;
+        self.push_desc(rename.named, log)?;
+        let Some(left) = rename.left else {
+            return Ok(());
+        };
+        self.push_desc(left, log)?;
+        self.push_endless(gone_with(given), &[rename.named, left], log)?;
+        Ok(())
+    }
+}
+
+/// The description that went with a name, if one did.
+fn gone_with(given: Option<Given>) -> Option<Desc>
+    ensures { result ≡ gone_of given }
+{
+    given?.gone
 }
