@@ -77,7 +77,7 @@ among_append : (os : List Object) (front behind : List Change) → AreAmong os f
 among_append os [] behind f b = b
 among_append os (change ∷ front) behind f b = (f.0, among_append os front behind f.1 b)
 
-has_more : (o x : Object) (os : List Object) → has o os ≡ true → has o (x ∷ os) ≡ true
+pub has_more : (o x : Object) (os : List Object) → has o os ≡ true → has o (x ∷ os) ≡ true
 unfolding has
 has_more o x os is = by (same_object o x)
   where

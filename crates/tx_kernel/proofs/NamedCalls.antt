@@ -1,15 +1,19 @@
 -- The plans of the calls on descriptors.
-use Rattle.std.proofs.Common.{◌≡◌, ◌≢◌, option_map, ℕ, zero, suc, ◌≤◌, false, if◌then◌else◌, length-set, ◌+◌, Bool, arith, List, [], ◌∷◌, ◌++◌, length, ℤ, pos, Option, Some, None, Result, Ok, Err, IfOk, refl, ap, sym, subst, ◌∙◌, append_assoc, eq-eqb, true, get_or}
+use Rattle.std.proofs.Common.{nat_lt, ◌==◌, not, ◌&&◌, ◌||◌, is_some, ◌<◌, ◌≡◌, ◌≢◌, option_map, ℕ, zero, suc, ◌≤◌, false, if◌then◌else◌, length-set, ◌+◌, Bool, arith, List, [], ◌∷◌, ◌++◌, length, ℤ, pos, Option, Some, None, Result, Ok, Err, IfOk, refl, ap, sym, subst, ◌∙◌, append_assoc, eq-eqb, true, get_or}
+use Rattle.tx_model.specs.Answer.{ChoosesPipe, is_bad_choice}
+use Rattle.tx_desc.specs.declared.plans.PipePlan.{PipePlan}
+use Rattle.tx_base.specs.declared.names.PipeNo.{PipeNo}
+use Rattle.tx_change.specs.declared.pipes.PipePart.TheVariants.{Whole}
 use Rattle.tx_change.specs.Counts.{name_changes, desc_changes}
-use Rattle.tx_change.specs.Exchange.{AreNamed}
+use Rattle.tx_change.specs.Exchange.{pipe_at, AreNamed}
 use Rattle.tx_change.specs.States.{state_of, changed_by}
 use Rattle.tx_change.specs.declared.change.Change.{Change}
-use Rattle.tx_change.specs.declared.change.Change.TheVariants.{Part}
+use Rattle.tx_change.specs.declared.change.Change.TheVariants.{Pipe, Part}
 use Rattle.tx_desc.specs.Counts.{Agrees, others_of, KeepsCounts, HasNames, count_in}
-use Rattle.tx_desc.specs.Descriptions.{HasDescs, IsGone, gone_between}
-use Rattle.tx_desc.specs.Outcomes.{given_up, RunsWith, with_table, described_again}
+use Rattle.tx_desc.specs.Descriptions.{description_at, described, HasDescs, IsGone, gone_between}
+use Rattle.tx_desc.specs.Outcomes.{pipe_outcome, given_up, RunsWith, with_table, described_again}
 use Rattle.tx_desc.specs.Places.{Descriptors, named_in}
-use Rattle.tx_desc.specs.Plans.{GivesLeft, IsOfTwo, RenamesOf, listed_desc, rename_puts, AreFds, AreNumbers, put_names, put_descs}
+use Rattle.tx_desc.specs.Plans.{AreFree, GivesLeft, IsOfTwo, RenamesOf, listed_desc, rename_puts, AreFds, AreNumbers, put_names, put_descs}
 use Rattle.tx_desc.specs.declared.opened.Opened.{Opened}
 use Rattle.tx_desc.specs.declared.plans.NewDesc.{NewDesc}
 use Rattle.tx_desc.specs.declared.plans.NewName.{NewName}
@@ -27,11 +31,11 @@ use Rattle.tx_change.specs.Laws.{HasPlaces}
 use Rattle.tx_change.specs.Exchange.{object_of}
 use Rattle.tx_proc.specs.Processes.{process_in, process_of}
 use Rattle.tx_proc.specs.declared.proc.Proc.{Proc}
-use Rattle.std.proofs.lemmas.Bool.{ne_eqb, lt-ltb}
+use Rattle.std.proofs.lemmas.Bool.{ltb-true, eqb-false, ne_eqb, lt-ltb}
 use Rattle.std.proofs.Math.ListN.{set}
-use Rattle.tx_kernel.specs.Named.{gone_of, left_changes, rename_changes, described_by, endless_changes}
+use Rattle.tx_kernel.specs.Named.{pipe_changes, slot_change, gone_of, left_changes, rename_changes, described_by, endless_changes}
 use Rattle.tx_kernel.proofs.Released.{released_files, one_released, endless_pipes, endless_named, endless_among}
-use Rattle.tx_kernel.proofs.Named.{ArePipes, AreOfFiles, Files, Writes, files_plan, pipes_alone}
+use Rattle.tx_kernel.proofs.Named.{has_more, ArePipes, AreOfFiles, Files, Writes, files_plan, pipes_alone}
 use Rattle.tx_kernel.specs.Actors.{me_of, CountsHeld, IsActor}
 use Rattle.tx_kernel.specs.Laws.{PlanLaws}
 use Rattle.tx_kernel.specs.Own.{answer_after}
@@ -40,9 +44,9 @@ use Rattle.tx_kernel.specs.declared.actor.Actor.{Actor}
 use Rattle.tx_kernel.specs.declared.planned.Outcome.TheVariants.{Done}
 use Rattle.tx_kernel.specs.declared.planned.Planned.{Planned}
 use Rattle.tx_kernel.proofs.OwnPlans.{held_quiet}
-use Rattle.tx_model.specs.Descriptors.{unnamed_go, endless_go, other_than, dup2_effect, dup2_objects, close_effect, desc_pipe_objects, gives_up, pipe_list, pipes_of, released, named, desc_objects, listed, dup_effect, nonblock_effect}
+use Rattle.tx_model.specs.Descriptors.{is_pipe_in_use, pipe_effect, pipe_objects, with_two_slots, unnamed_go, endless_go, other_than, dup2_effect, dup2_objects, close_effect, desc_pipe_objects, gives_up, pipe_list, pipes_of, released, named, desc_objects, listed, dup_effect, nonblock_effect}
 use Rattle.tx_model.specs.Effects.{Effect, done_with, done, noted, before_sends}
-use Rattle.tx_model.specs.State.{Object, Desc, Process, Sending, State, Write, SetProc, has, is_between, same_object, write_one, written}
+use Rattle.tx_model.specs.State.{SetPipe, SetDesc, Pipe as ThePipe, Object, Desc, Process, Sending, State, Write, SetProc, has, is_between, same_object, write_one, written}
 use Rattle.tx_proc.specs.declared.part.Part.TheVariants.{Answer}
 
 -- what holds of a rule of these parts holds of an equal one
@@ -272,6 +276,10 @@ desc_here : (d e : ℕ) (os : List Object) → d ≡ e → has (Desc e) (Desc d 
 unfolding has
 desc_here d e os same = rw same (rw (eq-eqb e e refl) refl)
 
+pipe_first : (k : ℕ) (os : List Object) → has (ThePipe k) (ThePipe k ∷ os) ≡ true
+unfolding has
+pipe_first k os = rw (eq-eqb k k refl) refl
+
 pub close_plan : (laws : PlanLaws) (actor : Actor) (before first second third now : List Change) (x : Option ℕ) (plan : ClosePlan) →
     length actor.parts.now.descs ≡ 64 → IsActor actor →
     ((p : ℕ) (me : Process) (S : State) → me.descriptors ≡ actor.proc.now.descriptors →
@@ -444,3 +452,102 @@ dup2_plan laws actor before first now x y renamed rename sized is answer descrip
     given_writes actor descs held (dup2_effect p x y me S) renamed.given r new sized (answer p me S refl)
     (descriptions p me S (runs_with actor held is) (λ e. refl) (agrees_beside laws actor held is)) lost)
     (λ held. subst (λ (l : List Change). AreAmong (dup2_objects x y me (state_of held actor.parts.now)) (desc_changes descs ++ l)) same (rename_among actor held x y renamed.given rename lost of apart left))
+
+-- pipe
+
+-- numbers that may be chosen
+pub good_choice : (q r w : ℕ) → false ≡ is_bad_choice 0 (ChoosesPipe q r w) → (q < 32) × (r < 64) × (w < 64) × (r ≢ w)
+good_choice q r w good = by (nat_lt q 32) (nat_lt r 64) (nat_lt w 64) (r == w) refl refl refl refl good
+  where
+    by : (a b c d : Bool) → nat_lt q 32 ≡ a → nat_lt r 64 ≡ b → nat_lt w 64 ≡ c → (r == w) ≡ d → false ≡ (not (a && b && c) || d) → (q < 32) × (r < 64) × (w < 64) × (r ≢ w)
+    by true true true false is_q is_r is_w is_same e = (ltb-true q 32 is_q, ltb-true r 64 is_r, ltb-true w 64 is_w, eqb-false r w is_same)
+    by true true true true is_q is_r is_w is_same e = let never : ⊥ = cc in absurd never
+    by true true false d is_q is_r is_w is_same e = let never : ⊥ = cc in absurd never
+    by true false c d is_q is_r is_w is_same e = let never : ⊥ = cc in absurd never
+    by false b c d is_q is_r is_w is_same e = let never : ⊥ = cc in absurd never
+
+-- numbers that are not in use
+not_taken : (q r w : ℕ) (S : State) (D : List (Option Opened)) → HasDescs S D → is_pipe_in_use q r w S ≡ false →
+    (S.pipes q ≡ None) × (get_or D r None ≡ None) × (get_or D w None ≡ None)
+not_taken q r w S D has_descs free = by (S.pipes q) (get_or D r None) (get_or D w None) (same ∙ free)
+  where
+    same : (if is_some (S.pipes q) then true else (if is_some (described (get_or D r None)) then true else is_some (described (get_or D w None)))) ≡ is_pipe_in_use q r w S
+    same = λ i. if is_some (S.pipes q) then true else (if is_some (sym (has_descs r) i) then true else is_some (sym (has_descs w) i))
+
+    by : (a : Option (List ℕ)) (b c : Option Opened) → (if is_some a then true else (if is_some (described b) then true else is_some (described c))) ≡ false → (a ≡ None) × (b ≡ None) × (c ≡ None)
+    by None None None e = (refl, refl, refl)
+    by (Some a) b c e = let never : ⊥ = cc in absurd never
+    by None (Some b) c e = let never : ⊥ = cc in absurd never
+    by None None (Some c) e = let never : ⊥ = cc in absurd never
+
+pub free_numbers : (actor : Actor) (q r w : ℕ) (held : ℕ → List Sending) → length actor.parts.now.descs ≡ 64 → is_pipe_in_use q r w (state_of held actor.parts.now) ≡ false →
+    AreFree r w actor.parts.now.descs × (pipe_at actor.parts.now.pipes q ≡ None)
+free_numbers actor q r w held sized unused =
+    let free = not_taken q r w (state_of held actor.parts.now) actor.parts.now.descs (λ d. refl) unused in
+    (record { sized = sized; first = free.1; second = free.2 }, free.0)
+
+pub pipe_plan : (laws : PlanLaws) (actor : Actor) (before now : List Change) (pipe : PipeNo) (read write : DescNo) (plan : PipePlan) →
+    length actor.parts.now.descs ≡ 64 → length actor.parts.now.pipes ≡ 32 → IsActor actor → pipe.0 < 32 →
+    AreFree read.0 write.0 actor.parts.now.descs × (pipe_at actor.parts.now.pipes pipe.0 ≡ None) →
+    ((p : ℕ) (me : Process) (S : State) (descs : List (Option Opened)) → me.descriptors ≡ actor.proc.now.descriptors → AreFree read.0 write.0 descs → HasDescs S descs → S.pipes pipe.0 ≡ None →
+    pipe_effect p pipe.0 read.0 write.0 me S
+    ≡ pipe_outcome p pipe.0 read.0 write.0 me (Ok (plan.read_name.fd, plan.write_name.fd)) (put_names (plan.read_name ∷ plan.write_name ∷ []) actor.proc.now.descriptors) (put_descs (plan.read ∷ plan.write ∷ []) descs)) →
+    ((p : ℕ) (me : Process) (S : State) (descs : List (Option Opened)) → me.descriptors ≡ actor.proc.now.descriptors → AreFree read.0 write.0 descs → HasDescs S descs → S.pipes pipe.0 ≡ None →
+    HasDescs (before_sends (pipe_effect p pipe.0 read.0 write.0 me S) S) (put_descs (plan.read ∷ plan.write ∷ []) descs)) →
+    ((descs : List (Option Opened)) → AreFree read.0 write.0 descs →
+    KeepsCounts actor.proc.now.descriptors (put_names (plan.read_name ∷ plan.write_name ∷ []) actor.proc.now.descriptors) descs (put_descs (plan.read ∷ plan.write ∷ []) descs)) →
+    (plan.read.number ≡ read) × (plan.write.number ≡ write) →
+    AreFds (plan.read_name ∷ plan.write_name ∷ []) × AreNumbers (plan.read ∷ plan.write ∷ []) →
+    now ≡ before ++ pipe_changes actor pipe plan →
+    Plans actor before now (quiet (Done (pos 0))) (λ S. pipe_effect actor.pid.0 pipe.0 read.0 write.0 (me_of actor) S) (λ S. pipe_objects pipe.0 read.0 write.0)
+unfolding written
+pipe_plan laws actor before now pipe read write plan sized rooms is inside free answer descriptions counts same numbers added =
+    let p : ℕ = actor.pid.0 in
+    let me : Process = me_of actor in
+    let D : List (Option Opened) = actor.parts.now.descs in
+    let after : List (Option Opened) = put_descs (plan.read ∷ plan.write ∷ []) D in
+    let table : Descriptors = put_names (plan.read_name ∷ plan.write_name ∷ []) actor.proc.now.descriptors in
+    let new : Process = with_two_slots plan.read_name.fd plan.write_name.fd (with_table table me) in
+    let files : Files actor (noted (pos 0) new) = record {
+      names = plan.read_name ∷ plan.write_name ∷ [];
+      descs = plan.read ∷ plan.write ∷ [];
+      pipes = Pipe pipe (Whole (Some [])) ∷ [];
+      own = slot_change actor.pid 0 plan.read_name.fd ∷ slot_change actor.pid 1 plan.write_name.fd ∷ last_answer (pos 0) actor;
+      fds = numbers.0;
+      numbers = numbers.1;
+      are_pipes = tt;
+      pipes_named = (omega (arith, inside, rooms), tt);
+      are_own = ((refl, omega arith), ((refl, omega arith), ((refl, tt), tt)));
+      nameless = (tt, (tt, (tt, tt)));
+      keeps = counts D free.0;
+      process = refl;
+    } in
+    files_plan laws actor before now (quiet (Done (pos 0))) (λ S. pipe_effect p pipe.0 read.0 write.0 me S) (λ S. pipe_objects pipe.0 read.0 write.0) (noted (pos 0) new) files sized is added
+    (held_quiet actor.inside (Done (pos 0)))
+    (λ held counted. let S : State = state_of held actor.parts.now in
+    done_writes actor (plan.read ∷ plan.write ∷ []) (Pipe pipe (Whole (Some [])) ∷ []) S (pipe_effect p pipe.0 read.0 write.0 me S)
+    (SetPipe pipe.0 (Some []) ∷ SetDesc read.0 (description_at after read.0) ∷ SetDesc write.0 (description_at after write.0) ∷ []) (pos 0) new
+    (answer p me S D refl free.0 (λ d. refl) free.1) (tt, (tt, (tt, tt))) (descriptions p me S D refl free.0 (λ d. refl) free.1) refl)
+    (λ held. (
+      has_more (Desc plan.read.number.0) (ThePipe pipe.0) (Desc read.0 ∷ Desc write.0 ∷ []) (desc_here read.0 plan.read.number.0 (Desc write.0 ∷ []) (sym (ap (λ (d : DescNo). d.0) same.0))),
+      (
+        has_more (Desc plan.write.number.0) (ThePipe pipe.0) (Desc read.0 ∷ Desc write.0 ∷ [])
+            (has_more (Desc plan.write.number.0) (Desc read.0) (Desc write.0 ∷ []) (desc_here write.0 plan.write.number.0 [] (sym (ap (λ (d : DescNo). d.0) same.1)))),
+        (pipe_first pipe.0 (Desc read.0 ∷ Desc write.0 ∷ []), tt),
+      ),
+    ))
+
+-- its changes, one after another
+pub pipe_logged : (actor : Actor) (pipe : PipeNo) (plan : PipePlan) (before l1 l2 l3 l4 l5 l6 l7 now : List Change) →
+    l1 ≡ before ++ name_changes actor.pid (plan.read_name ∷ []) → l2 ≡ l1 ++ name_changes actor.pid (plan.write_name ∷ []) →
+    l3 ≡ l2 ++ desc_changes (plan.read ∷ []) → l4 ≡ l3 ++ desc_changes (plan.write ∷ []) → l5 ≡ l4 ++ Pipe pipe (Whole (Some [])) ∷ [] →
+    l6 ≡ l5 ++ slot_change actor.pid 0 plan.read_name.fd ∷ [] → l7 ≡ l6 ++ slot_change actor.pid 1 plan.write_name.fd ∷ [] → now ≡ l7 ++ last_answer (pos 0) actor →
+    now ≡ before ++ pipe_changes actor pipe plan
+pipe_logged actor pipe plan before l1 l2 l3 l4 l5 l6 l7 now e1 e2 e3 e4 e5 e6 e7 e8 =
+    let names : List Change = name_changes actor.pid (plan.read_name ∷ plan.write_name ∷ []) in
+    let descs : List Change = desc_changes (plan.read ∷ plan.write ∷ []) in
+    let named : l2 ≡ before ++ names = appended2 before (name_changes actor.pid (plan.read_name ∷ [])) (name_changes actor.pid (plan.write_name ∷ [])) l1 l2 e1 e2 in
+    let described : l4 ≡ before ++ (names ++ descs) = appended3 before names (desc_changes (plan.read ∷ [])) (desc_changes (plan.write ∷ [])) l2 l3 l4 named e3 e4 in
+    let slots : l7 ≡ before ++ (names ++ descs ++ Pipe pipe (Whole (Some [])) ∷ [] ++ (slot_change actor.pid 0 plan.read_name.fd ∷ slot_change actor.pid 1 plan.write_name.fd ∷ [])) =
+    appended4 before (names ++ descs) (Pipe pipe (Whole (Some [])) ∷ []) (slot_change actor.pid 0 plan.read_name.fd ∷ []) (slot_change actor.pid 1 plan.write_name.fd ∷ []) l4 l5 l6 l7 described e5 e6 e7 in
+    appended2 before (names ++ descs ++ Pipe pipe (Whole (Some [])) ∷ [] ++ (slot_change actor.pid 0 plan.read_name.fd ∷ slot_change actor.pid 1 plan.write_name.fd ∷ [])) (last_answer (pos 0) actor) l7 now slots e8

@@ -1,21 +1,67 @@
 //! The calls on descriptors, descriptions and new pipes.
-ghost use Rattle.std.specs.Prelude.{◌≡◌, ◌++◌, ◌∷◌, [], IfOk, IfErr, OnOk, OnErr};
+ghost use Rattle.std.specs.Prelude.{◌≡◌, ◌<◌, ◌⊎◌, ◌++◌, ◌∷◌, [], ℕ, List, IfOk, IfErr, OnOk, OnErr};
 ghost use Rattle.tx_change.specs.Counts.{name_changes, desc_changes};
-ghost use Rattle.tx_desc.specs.Plans.{AreNumbers, put_descs, rename_puts};
+ghost use Rattle.tx_change.specs.States.{state_of};
+ghost use Rattle.tx_desc.specs.Plans.{AreFds, AreNumbers, put_descs, rename_puts};
 ghost use Rattle.tx_kernel.specs.Actors.{IsActor, me_of};
-ghost use Rattle.tx_kernel.specs.Named.{described_by, endless_changes, gone_of, rename_changes};
-ghost use Rattle.tx_kernel.specs.Plans.{Plans, RefusedBy, Extends};
-ghost use Rattle.tx_model.specs.Descriptors.{close_effect, descriptor, desc_objects, desc_pipe_objects, dup_effect, dup2_effect, dup2_objects, listed, named, nonblock_effect};
+ghost use Rattle.tx_kernel.specs.Named.{described_by, endless_changes, gone_of, pipe_changes, rename_changes, slot_change};
+ghost use Rattle.tx_kernel.specs.Plans.{Plans, RefusedBy, IsBadChoice, Extends};
+ghost use Rattle.tx_model.specs.Answer.{ChoosesPipe, is_bad_choice};
+ghost use Rattle.tx_model.specs.Descriptors.{close_effect, descriptor, desc_objects, desc_pipe_objects, dup_effect, dup2_effect, dup2_objects, is_pipe_in_use, listed, named, nonblock_effect, pipe_effect, pipe_objects};
+ghost use Rattle.tx_model.specs.State.{Sending};
 
 use crate::actor::Actor;
 use crate::laws::laws;
 use crate::planned::{Outcome, Planned};
-use tx_base::{NoMemory, Refusal};
-use tx_change::{Change, Log, PipePart};
-use tx_desc::{Desc, Given, NewDesc, NewName, Rename};
-use tx_proc::Part;
+use std::alloc::Global;
+use tx_base::{DESCRIPTIONS, DescNo, NoMemory, PIPES, PipeNo, Refusal};
+use tx_change::{BoxedPipe, Change, Log, PipePart};
+use tx_desc::{Desc, Given, NewDesc, NewName, PipePlan, Rename};
+use tx_pipe::Pipe;
+use tx_proc::{Part, Register};
 
 impl Actor<'_> {
+    /// Makes the pipe of this number with the descriptions of its two sides, and has the two lowest
+    /// free descriptors name them, the reading side first (POSIX.1-2017, XSH, pipe()). The first two
+    /// slots of the registers keep the descriptors.
+    ///
+    /// Answers EMFILE where fewer than two descriptors are free. BadNumber where a number is out of
+    /// range or both descriptions have the same, NumberTaken where one is in use, and NoMemory where a
+    /// growth is refused; the log then has more at its end at most.
+    pub(crate) fn plan_pipe(
+        &self,
+        alloc: Global,
+        pipe: PipeNo,
+        read: DescNo,
+        write: DescNo,
+        log: &mut Log,
+    ) -> Result<Planned, Refusal>
+        requires { IsActor self.now }
+        ensures ok { IfOk result (λ planned. Plans self.now log.old log.new planned
+            (λ S. pipe_effect self.now.pid.0 pipe.0 read.0 write.0 (me_of self.now) S)
+            (λ S. pipe_objects pipe.0 read.0 write.0)) }
+        ensures refused { IfErr result (λ why. RefusedBy self.now why (λ S. pipe_effect self.now.pid.0 pipe.0 read.0 write.0 (me_of self.now) S)
+            ⊎ IsBadChoice self.now why (ChoosesPipe pipe.0 read.0 write.0)) }
+        ensures log { OnErr result (Extends log.old log.new) }
+    {
+        laws();
+        self.parts.descs.sized();
+        self.parts.pipes.sized();
+        if is_bad_pipe(pipe, read, write) {
+            return Err(Refusal::BadNumber);
+        }
+        if self.has_taken(pipe, read, write) {
+            return Err(Refusal::NumberTaken);
+        }
+        match self.proc.descriptors.plan_pipe(pipe, read, write) {
+            Ok(plan) => {
+                self.push_pipe(alloc, pipe, plan, log)?;
+                Ok(Planned::quiet(Outcome::Done(0)))
+            }
+            Err(errno) => self.plan_failure(errno, log),
+        }
+    }
+
     /// Names the description of a descriptor with the lowest free one too (POSIX.1-2017, XSH,
     /// dup()).
     ///
@@ -130,6 +176,50 @@ impl Actor<'_> {
         }
     }
 
+    /// Whether the number of a pipe is in use, or that of one of two descriptions.
+    fn has_taken(&self, pipe: PipeNo, read: DescNo, write: DescNo) -> bool
+        ensures { (held : ℕ → List Sending) → result ≡ is_pipe_in_use pipe.0 read.0 write.0 (state_of held self.now.parts.now) }
+    {
+        self.parts.pipes.get(pipe).is_some()
+            || self.parts.descs.get(read).is_some()
+            || self.parts.descs.get(write).is_some()
+    }
+
+    /// Appends the changes of a new pipe, and its answer.
+    fn push_pipe(
+        &self,
+        alloc: Global,
+        pipe: PipeNo,
+        plan: PipePlan,
+        log: &mut Log,
+    ) -> Result<(), NoMemory>
+        requires { AreFds (plan.read_name ∷ plan.write_name ∷ []) }
+        ensures ok { OnOk result (log.new ≡ log.old ++ pipe_changes self.now pipe plan) }
+        ensures err { OnErr result (Extends log.old log.new) }
+    {
+        let boxed = BoxedPipe::new(alloc, Pipe::new())?;
+        self.push_name(plan.read_name, log)?;
+        self.push_name(plan.write_name, log)?;
+        self.push_desc(plan.read, log)?;
+        self.push_desc(plan.write, log)?;
+        log.push(Change::Pipe(pipe, PipePart::Whole(Some(boxed))))?;
+        self.push_slot(0, plan.read_name.fd, log)?;
+        self.push_slot(1, plan.write_name.fd, log)?;
+        self.push_answer(0, log)?;
+        Ok(())
+    }
+
+    /// Appends that a slot of the registers keeps a descriptor. After want of memory the log is as it
+    /// was.
+    fn push_slot(&self, number: usize, fd: usize, log: &mut Log) -> Result<(), NoMemory>
+        requires { fd < 16 }
+        ensures ok { OnOk result (log.new ≡ log.old ++ slot_change self.now.pid number fd ∷ []) }
+        ensures err { OnErr result (log.new ≡ log.old) }
+    {
+        let value = fd as i64;
+        self.push(Part::Register(Register { number, value }), log)
+    }
+
     /// Appends what a descriptor is to name. After want of memory the log is as it was.
     fn push_name(&self, new: NewName, log: &mut Log) -> Result<(), NoMemory>
         ensures ok { OnOk result (log.new ≡ log.old ++ name_changes self.now.pid (new ∷ [])) }
@@ -197,4 +287,15 @@ fn gone_with(given: Option<Given>) -> Option<Desc>
     ensures { result ≡ gone_of given }
 {
     given?.gone
+}
+
+/// Whether the numbers of a pipe and of its two descriptions can't be chosen: one is out of range, or
+/// the descriptions have the same.
+fn is_bad_pipe(pipe: PipeNo, read: DescNo, write: DescNo) -> bool
+    ensures { (width : ℕ) → result ≡ is_bad_choice width (ChoosesPipe pipe.0 read.0 write.0) }
+{
+    let in_range = (pipe.0 as usize) < PIPES
+        && (read.0 as usize) < DESCRIPTIONS
+        && (write.0 as usize) < DESCRIPTIONS;
+    !in_range || read == write
 }
