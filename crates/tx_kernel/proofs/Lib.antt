@@ -3,3 +3,4 @@ pub mod OwnPlans
 pub mod Named
 pub mod Released
 pub mod NamedCalls
+pub mod Piped

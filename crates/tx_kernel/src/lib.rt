@@ -9,6 +9,7 @@ mod inside;
 mod laws;
 mod memory;
 mod planned;
+mod transfers;
 
 pub use actor::Actor;
 pub use inside::Inside;
