@@ -16,3 +16,7 @@ pub mod EndStates
 pub mod Ended
 pub mod EndPlans
 pub mod Exited
+pub mod Named
+pub mod Released
+pub mod NamedCalls
+pub mod Piped

@@ -4,6 +4,7 @@
 
 mod actor;
 mod answers;
+mod descriptors;
 mod ending;
 mod ids;
 mod inside;
@@ -15,6 +16,7 @@ mod script;
 mod sends;
 mod signals;
 mod steps;
+mod transfers;
 mod trees;
 
 pub use actor::Actor;
