@@ -57,14 +57,14 @@ open-has d (Some e ∷ table) some = by (λ more. open-has d table more) (d == e
 
 -- the descriptions of a plan are those that the descriptors name
 
-planned-named : (table : Descriptors) (descs : List NewDesc) (d : ℕ) → IsOnceEach table descs → 0 < entries_of d descs → 0 < count_in d table
+pub planned-named : (table : Descriptors) (descs : List NewDesc) (d : ℕ) → IsOnceEach table descs → 0 < entries_of d descs → 0 < count_in d table
 planned-named table descs d once some = by (nat_lt 0 (count_in d table)) refl (once d)
   where
     by : (b : Bool) → nat_lt 0 (count_in d table) ≡ b → entries_of d descs ≡ (if b then 1 else 0) → 0 < count_in d table
     by true is one = ltb-true 0 (count_in d table) is
     by false is none = absurd (omega arith)
 
-listed-among : (objects : List Object) (descs : List NewDesc) → ((d : ℕ) → 0 < entries_of d descs → has (Desc d) objects ≡ true) → AreDescsAmong objects descs
+pub listed-among : (objects : List Object) (descs : List NewDesc) → ((d : ℕ) → 0 < entries_of d descs → has (Desc d) objects ≡ true) → AreDescsAmong objects descs
 listed-among objects [] all = tt
 listed-among objects (new ∷ descs) all = (
   all new.number.0 (let sum = entries-first new.number.0 new descs in

@@ -8,3 +8,9 @@ pub mod Discarded
 pub mod Returned
 pub mod Posted
 pub mod Sent
+pub mod Told
+pub mod Ends
+pub mod EndStates
+pub mod Ended
+pub mod EndPlans
+pub mod Exited

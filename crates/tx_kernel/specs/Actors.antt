@@ -1,5 +1,5 @@
 -- The process that makes a step, and the transaction that it makes it in.
-use Rattle.std.specs.Prelude.{◌≡◌, ℕ, ◌<◌, ◌≤◌, ◌^◌, List, Option, Some, None, IsSome, length, slice_index_or}
+use Rattle.std.specs.Prelude.{◌≡◌, ℕ, false, ◌<◌, ◌≤◌, ◌^◌, List, Option, Some, None, IsSome, length, slice_index_or}
 use Rattle.tx_base.specs.Signals.{bits_of}
 use Rattle.tx_base.specs.Slots.{slot_at}
 use Rattle.tx_change.specs.Counts.{CountsAgree}
@@ -12,8 +12,8 @@ use Rattle.tx_kernel.specs.declared.inside.Inside.{Inside}
 use Rattle.tx_model.specs.Effects.{Inside as TheInside}
 use Rattle.tx_model.specs.Membership.{is_of}
 use Rattle.tx_model.specs.Sends.{sent_by_members}
-use Rattle.tx_model.specs.State.{Process, Sending}
-use Rattle.tx_proc.specs.Processes.{process_of}
+use Rattle.tx_model.specs.State.{Process, Sending, has_parent}
+use Rattle.tx_proc.specs.Processes.{process_of, process_in}
 
 -- the transaction, as the definitions have it
 abbrev pub transaction_of : Inside → TheInside
@@ -37,11 +37,12 @@ abbrev pub HasPipe : List (Option (List ℕ)) → Option Opened → Type 0
 HasPipe pipes None = Unit {0}
 HasPipe pipes (Some opened) = IsSome (pipe_at pipes opened.desc.pipe.0)
 
--- the counts of names are right, each process has its places, and each description has its pipe
+-- the counts of names are right, each process has its places and is not its own parent, and each description has its pipe
 pub record IsWhole (parts : Parts) : Type 0 where
   pub counts : CountsAgree parts
   pub places : HaveAllPlaces parts
   pub few : length parts.procs ≤ 256
+  pub parents : (n : ℕ) → has_parent n (process_in (slot_at parts.procs n)) ≡ false
   pub piped : (d : ℕ) → HasPipe parts.pipes (slice_index_or parts.descs d None)
 
 -- the process is the one of its number, and runs; its mask holds signals of numbers 0 to 39

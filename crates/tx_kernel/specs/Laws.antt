@@ -1,5 +1,5 @@
 -- The laws that the plans stand on.
-use Rattle.tx_change.specs.Counts.{CountsElsewhere, CountsPlanned, CountsReplaced, PlansAreNamed, RoomForName, RoomForNames}
+use Rattle.tx_change.specs.Counts.{CountsElsewhere, CountsPlanned, CountsReplaced, CountsWithOthers, PlansAreNamed, RoomForName, RoomForNames}
 use Rattle.tx_change.specs.Laws.{AppliedAppended, BackIsWrite, ChangedAppended, ChangesStateInTurn, FrontIsRead, NamedAppended, PartsReplaceProcess, PlacesKept}
 
 -- what changes make of the state, of the counts of names and of the places of processes
@@ -14,6 +14,7 @@ pub record PlanLaws : Type 0 where
   pub call : CountsPlanned
   pub replaced : CountsReplaced
   pub elsewhere : CountsElsewhere
+  pub others : CountsWithOthers
   pub room : RoomForName
   pub rooms : RoomForNames
   pub front : FrontIsRead

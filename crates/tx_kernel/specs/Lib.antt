@@ -7,3 +7,4 @@ pub mod Trees
 pub mod Discards
 pub mod Returns
 pub mod Sends
+pub mod Endings

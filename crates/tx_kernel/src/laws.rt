@@ -3,7 +3,7 @@ ghost use Rattle.tx_kernel.specs.Laws.{PlanLaws};
 
 use tx_change::{
     appended, bytes_are_read_and_written, changes_state, counts_agree, counts_in_turn,
-    lists_change_state, places_kept, room_for_names,
+    counts_with_others, lists_change_state, places_kept, room_for_names,
 };
 
 /// The laws on which the proofs of the plans stand. It does nothing.
@@ -16,6 +16,7 @@ pub(crate) fn laws()
     places_kept();
     counts_agree();
     counts_in_turn();
+    counts_with_others();
     room_for_names();
     bytes_are_read_and_written();
 }

@@ -4,6 +4,7 @@
 
 mod actor;
 mod answers;
+mod ending;
 mod ids;
 mod inside;
 mod laws;

@@ -1,14 +1,14 @@
 //! The calls on children: fork, and the wait for a child that has ended.
 ghost use Rattle.std.specs.Prelude.{◌≡◌, ◌≤◌, ◌⊎◌, ℕ, Bool, ◌∷◌, ◌++◌, [], List, length, option_map, IfOk, IfErr, OnOk, OnErr};
 ghost use Rattle.tx_base.specs.declared.steps.Refusal.TheVariants.{NoMemory};
-ghost use Rattle.tx_kernel.specs.Actors.{IsActor, me_of};
+ghost use Rattle.tx_kernel.specs.Actors.{IsActor, inside_of, me_of};
 ghost use Rattle.tx_base.specs.Slots.{slot_at};
 ghost use Rattle.tx_change.specs.Counts.{desc_changes};
 ghost use Rattle.tx_change.specs.Exchange.{IsPid, sizes_of};
 ghost use Rattle.tx_kernel.specs.Plans.{Plans, Extends, IsBadChoice, RefusedBy};
 ghost use Rattle.tx_kernel.specs.Trees.{child_at, IsEndedChild};
 ghost use Rattle.tx_model.specs.Answer.{ChoosesProcess};
-ghost use Rattle.tx_model.specs.Processes.{fork_effect, fork_objects, forks, numbered, waits_by, waitpid_effect, waitpid_objects};
+ghost use Rattle.tx_model.specs.Processes.{exit_effect, exit_objects, exit_status, fork_effect, fork_objects, forks, numbered, waits_by, waitpid_effect, waitpid_objects};
 ghost use Rattle.tx_model.specs.State.{Proc as TheProc};
 
 use crate::actor::Actor;
@@ -70,6 +70,26 @@ impl Actor<'_> {
         log.push(Change::Slot(child, Some(boxed)))?;
         self.push_answer(child.0 as i64, log)?;
         Ok(Planned::quiet(Outcome::Done(child.0 as i64)))
+    }
+
+    /// Ends the process with this status modulo 256 (POSIX.1-2017, XSH, _exit()).
+    ///
+    /// Answers NotPermitted in process 1. Refuses by NoMemory alone, which may leave more in the log.
+    pub(crate) fn plan_exit(
+        &self,
+        alloc: Global,
+        status: i64,
+        log: &mut Log,
+    ) -> Result<Planned, Refusal>
+        requires { IsActor self.now }
+        ensures ok { IfOk result (λ planned. Plans self.now log.old log.new planned (λ S. exit_effect (inside_of self.now.inside) self.now.pid.0 status (me_of self.now) S) (λ S. exit_objects (inside_of self.now.inside) self.now.pid.0 (me_of self.now) S)) }
+        ensures refused { IfErr result (λ why. RefusedBy self.now why (λ S. exit_effect (inside_of self.now.inside) self.now.pid.0 status (me_of self.now) S)) }
+        ensures log { OnErr result (Extends log.old log.new) }
+    {
+        if self.pid.0 == 1 {
+            return self.plan_failure(Errno::NotPermitted, log);
+        }
+        self.plan_ending(alloc, exit_status(status), log)
     }
 
     /// Answers the number of an ended child, which is removed, and keeps its status in slot 0; 0
@@ -145,6 +165,13 @@ impl Actor<'_> {
         self.push_answer(child.0 as i64, log)?;
         Ok(Planned::quiet(Outcome::Done(child.0 as i64)))
     }
+}
+
+/// The status that an exit with this one leaves: its remainder by 256, which is not negative.
+fn exit_status(status: i64) -> u16
+    ensures { result ≡ exit_status status }
+{
+    status.rem_euclid(256) as u16
 }
 
 /// Appends the exchanges that put planned descriptions in place.

@@ -12,6 +12,7 @@ returns c = record {
   call = c.counts_in_turn.ensures.call;
   replaced = c.counts_in_turn.ensures.process;
   elsewhere = c.counts_agree.ensures.elsewhere;
+  others = c.counts_with_others.ensures;
   room = c.room_for_names.ensures.one;
   rooms = c.room_for_names.ensures.all;
   front = c.bytes_are_read_and_written.ensures.front;
