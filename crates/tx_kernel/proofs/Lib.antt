@@ -14,3 +14,4 @@ pub mod EndStates
 pub mod Ended
 pub mod EndPlans
 pub mod Exited
+pub mod Delivered

@@ -1,7 +1,7 @@
 -- Plans of calls that send a signal.
-use Rattle.std.proofs.Common.{◌≡◌, ℕ, ℤ, pos, List, [], ◌∷◌, ◌++◌, length, Option, Some, None, refl, ap, sym, ◌∙◌, append-nil}
+use Rattle.std.proofs.Common.{◌≡◌, ℕ, ℤ, pos, List, [], ◌∷◌, length, Option, Some, None, refl, ap, sym, ◌∙◌, append-nil}
 use Rattle.tx_base.specs.declared.names.Sending.{Sending as TheSending}
-use Rattle.tx_change.specs.Exchange.{applied, AreNamed}
+use Rattle.tx_change.specs.Exchange.{AreNamed}
 use Rattle.tx_change.specs.States.{state_of}
 use Rattle.tx_change.specs.declared.change.Change.{Change}
 use Rattle.tx_change.specs.declared.parts.Parts.{Parts}

@@ -4,6 +4,7 @@
 
 mod actor;
 mod answers;
+mod deliveries;
 mod ending;
 mod ids;
 mod inside;
