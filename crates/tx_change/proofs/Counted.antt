@@ -6,8 +6,9 @@ use Rattle.tx_base.specs.Slots.{slot_at, with_slot}
 use Rattle.tx_base.specs.declared.names.Pid.{Pid}
 use Rattle.tx_base.proofs.SlotFacts.{slot_now, slot_other, length-with_slot}
 use Rattle.tx_change.proofs.Tables.{split, others_same, tables_same, tables_few, tables_all, tables_contain}
-use Rattle.tx_change.specs.Counts.{tables_below, tables_of, CountsAgree, with_names, RunsAt, IsNameless}
-use Rattle.tx_change.specs.Exchange.{parts_after, sizes_of, IsPid, IsNamed}
+use Rattle.tx_change.specs.Counts.{tables_below, tables_of, CountsAgree, with_names, RunsAt, IsNameless, AreNameless}
+use Rattle.tx_change.proofs.Applied.{still_sized}
+use Rattle.tx_change.specs.Exchange.{parts_after, applied, sizes_of, Sizes, AreWithin, IsPid, IsNamed, AreNamed}
 use Rattle.tx_change.specs.Laws.{HaveAllPlaces, HasPlaces}
 use Rattle.tx_change.specs.States.{state_of}
 use Rattle.tx_change.specs.declared.change.Change.{Change}
@@ -144,6 +145,12 @@ counts_elsewhere parts (Pipe number part) named free agree =
     subst (λ (ts : List Descriptors). Agrees ts parts.descs) (tables_same (length parts.procs + 1) (plain parts) (plain new) (λ q. refl)) agree
 counts_elsewhere parts (Slot pid slot) named free agree = absurd free
 counts_elsewhere parts (Description number opened) named free agree = absurd free
+
+pub counts_nameless : (parts : Parts) (changes : List Change) → AreNamed parts changes → AreNameless changes → CountsAgree parts → CountsAgree (applied parts changes)
+counts_nameless parts [] named free agree = agree
+counts_nameless parts (change ∷ changes) named free agree =
+    counts_nameless (parts_after parts change) changes (subst (λ (sizes : Sizes). AreWithin sizes changes) (sym (still_sized parts change)) named.1) free.1
+    (counts_elsewhere parts change named.0 free.0 agree)
 
 -- there is room for the names that calls add
 sized_in : (slot : Option Proc) → HasPlaces slot → All (λ (each : Descriptors). length each ≡ 16) (table_in slot)

@@ -185,3 +185,7 @@ RoomForName = (parts : Parts) (n : ℕ) (table : Descriptors) (fd : Option ℕ) 
 abbrev pub RoomForNames : Type 0
 RoomForNames = (parts : Parts) (n : ℕ) (table : Descriptors) → IsPid (sizes_of parts) n → CountsAgree parts → HaveAllPlaces parts → length parts.procs ≤ 256 →
     RunsAt parts n table → IsBacked 16 table parts.descs
+
+-- changes that are of nothing which names or is named keep the counts
+abbrev pub CountsNameless : Type 0
+CountsNameless = (parts : Parts) (changes : List Change) → AreNamed parts changes → AreNameless changes → CountsAgree parts → CountsAgree (applied parts changes)

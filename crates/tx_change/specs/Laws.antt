@@ -2,7 +2,7 @@
 use Rattle.std.specs.Prelude.{◌≡◌, ◌≤◌, ℕ, ◌+◌, Bool, true, false, not, List, [], ◌∷◌, ◌++◌, length, drop, option_map, Option, Some, None, if◌then◌else◌, ◌==◌}
 use Rattle.tx_base.specs.declared.limits.TheConstants.{PIPE_BYTES}
 use Rattle.tx_base.specs.Slots.{slot_at}
-use Rattle.tx_change.specs.Exchange.{parts_after, change_after, object_of, IsNamed, AreNamed, applied, exchanged, undone, reverted}
+use Rattle.tx_change.specs.Exchange.{parts_after, change_after, object_of, sizes_of, IsNamed, AreNamed, applied, exchanged, undone, reverted}
 use Rattle.tx_change.specs.States.{changed, changed_by, state_of}
 use Rattle.tx_change.specs.declared.change.Change.{Change}
 use Rattle.tx_change.specs.declared.change.Change.TheVariants.{Slot, Part, Description, Pipe}
@@ -143,3 +143,7 @@ BackIsWrite = (held bytes : List ℕ) → length held + length bytes ≤ PIPE_BY
 -- where each process has its places, and each one that comes, each has them after the changes
 abbrev pub PlacesKept : Type 0
 PlacesKept = (parts : Parts) (changes : List Change) → AreNamed parts changes → BringPlaces changes → HaveAllPlaces parts → HaveAllPlaces (applied parts changes)
+
+-- changes leave as many numbers as there were
+abbrev pub SizesStay : Type 0
+SizesStay = (parts : Parts) (changes : List Change) → sizes_of (applied parts changes) ≡ sizes_of parts

@@ -1,6 +1,6 @@
 //! The laws of exchanges, as the contracts of functions that do nothing.
-ghost use Rattle.tx_change.specs.Counts.{CountsKept, CountsForked, CountsEnded, CountsRemoved, CountsElsewhere, SlotInTurn, DescsInTurn, CountsInTurn, PlansAreNamed, PlansInTurn, CountsPlanned, CountsReplaced, RoomForNames, RoomForName, CountsWithOthers};
-ghost use Rattle.tx_change.specs.Laws.{ApplyThenRevert, RevertThenApply, TwiceIsNothing, ExchangesBack, NothingElse, Commute, ChangesState, ChangesStateInTurn, NamesItsObject, AppliedAppended, ExchangedAppended, UndoneAppended, RevertedAppended, ChangedAppended, NamedAppended, ListNamesItsObjects, PartsReplaceProcess, FrontIsRead, BackIsWrite, PlacesKept};
+ghost use Rattle.tx_change.specs.Counts.{CountsKept, CountsForked, CountsEnded, CountsRemoved, CountsElsewhere, CountsNameless, SlotInTurn, DescsInTurn, CountsInTurn, PlansAreNamed, PlansInTurn, CountsPlanned, CountsReplaced, RoomForNames, RoomForName, CountsWithOthers};
+ghost use Rattle.tx_change.specs.Laws.{ApplyThenRevert, RevertThenApply, TwiceIsNothing, ExchangesBack, NothingElse, Commute, ChangesState, ChangesStateInTurn, NamesItsObject, AppliedAppended, ExchangedAppended, UndoneAppended, RevertedAppended, ChangedAppended, NamedAppended, ListNamesItsObjects, PartsReplaceProcess, FrontIsRead, BackIsWrite, PlacesKept, SizesStay};
 
 /// Two exchanges of one part are nothing: the parts and the change come back.
 pub fn twice_is_nothing()
@@ -46,13 +46,14 @@ pub fn names_its_object()
 
 /// What changes do to the counts of names, where each description has that of the descriptors that
 /// name it: a call on the descriptors of a process, a fork, an end, the removal of a process that
-/// has ended, and a change of anything else.
+/// has ended, and a change, or a list of them, of anything else.
 pub fn counts_agree()
     ensures call { CountsKept }
     ensures fork { CountsForked }
     ensures end { CountsEnded }
     ensures removal { CountsRemoved }
     ensures elsewhere { CountsElsewhere }
+    ensures nameless { CountsNameless }
 {}
 
 /// Where the counts agree, they are those of the names of a process that runs beside the names of all
@@ -82,7 +83,7 @@ pub fn room_for_names()
 {}
 
 /// What a list of changes does that is made of two, the first does and then the other one: to the
-/// parts and to the changes, forward and back, and to the state.
+/// parts and to the changes, forward and back, and to the state. There are as many numbers as before.
 pub fn appended()
     ensures applied { AppliedAppended }
     ensures exchanged { ExchangedAppended }
@@ -90,6 +91,7 @@ pub fn appended()
     ensures reverted { RevertedAppended }
     ensures state { ChangedAppended }
     ensures named { NamedAppended }
+    ensures sizes { SizesStay }
 {}
 
 /// What a list of changes makes of the state: at an object that none of them names nothing; and

@@ -27,7 +27,6 @@ use Rattle.tx_kernel.specs.Endings.{gone_changes, orphan_changes, plain, plain_w
 use Rattle.tx_kernel.specs.Laws.{PlanLaws}
 use Rattle.tx_kernel.specs.Plans.{Plans, AreAmong, held_after, sent_at_once}
 use Rattle.tx_kernel.specs.declared.actor.Actor.{Actor}
-use Rattle.tx_kernel.specs.declared.planned.Conclusion.TheVariants.{Replies}
 use Rattle.tx_kernel.specs.declared.planned.Outcome.TheVariants.{Ended}
 use Rattle.tx_kernel.specs.declared.planned.Sends.{Sends}
 use Rattle.tx_model.specs.Descriptors.{desc_objects, has_description, open_in, pipe_list, pipe_of, pipes_of, unnamed_go}
@@ -267,7 +266,7 @@ pub ending_plans : (laws : PlanLaws) (names : EndedNames) (actor : Actor) (statu
     now ≡ third ++ gone_changes (pipes_left actor) (plain_with descs actor.parts.now) →
     told_at_once (telling (inside_of actor.inside) (me_of actor).parent) (me_of actor).parent ≡ sent_at_once sends →
     ((S : State) → written (told_at_commit (telling (inside_of actor.inside) (me_of actor).parent) (me_of actor).parent S) S ≡ record S { held = held_after (inside_of actor.inside) sends S.held }) →
-    Plans actor before now (record { conclusion = Replies Ended; sends = sends }) (λ S. ending (inside_of actor.inside) actor.pid.0 status (me_of actor) S)
+    Plans actor before now (record { outcome = Ended; sends = sends }) (λ S. ending (inside_of actor.inside) actor.pid.0 status (me_of actor) S)
     (λ S. ending_objects (inside_of actor.inside) actor.pid.0 (me_of actor) S)
 ending_plans laws names actor status descs new sends before first second third now sized is other drops copy one two three four at_once at_commit =
     let parts : Parts = actor.parts.now in

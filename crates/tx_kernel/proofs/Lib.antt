@@ -8,6 +8,8 @@ pub mod Discarded
 pub mod Returned
 pub mod Posted
 pub mod Sent
+pub mod PostPlans
+pub mod StepPlans
 pub mod Told
 pub mod Ends
 pub mod EndStates

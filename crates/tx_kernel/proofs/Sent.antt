@@ -1,5 +1,5 @@
 -- Plans of calls that send a signal.
-use Rattle.std.proofs.Common.{◌≡◌, ℕ, ℤ, pos, List, [], ◌∷◌, length, Option, Some, None, refl, ap, sym, ◌∙◌, append-nil}
+use Rattle.std.proofs.Common.{◌≡◌, ℕ, ℤ, pos, List, [], ◌∷◌, length, Option, Some, None, refl, ap, sym, ◌∙◌}
 use Rattle.tx_base.specs.declared.names.Sending.{Sending as TheSending}
 use Rattle.tx_change.specs.Exchange.{AreNamed}
 use Rattle.tx_change.specs.States.{state_of}
@@ -13,38 +13,19 @@ use Rattle.tx_kernel.specs.Plans.{Plans, held_after, sending_of}
 use Rattle.tx_kernel.specs.Sends.{holds_more}
 use Rattle.tx_kernel.specs.declared.actor.Actor.{Actor}
 use Rattle.tx_kernel.specs.declared.inside.Inside.{Inside}
-use Rattle.tx_kernel.specs.declared.planned.Conclusion.TheVariants.{Replies, AnswersPost}
 use Rattle.tx_kernel.specs.declared.planned.Outcome.{Outcome}
 use Rattle.tx_kernel.specs.declared.planned.Sends.TheVariants.{AtOnce, AtCommit}
 use Rattle.tx_model.specs.Effects.{Inside as TheInside, Effect, answers_with, before_sends, done_with, noted}
 use Rattle.tx_model.specs.Effects as effects
-use Rattle.tx_model.specs.Sends.{posts_now, send_effect}
+use Rattle.tx_model.specs.Sends.{send_effect}
 use Rattle.tx_model.specs.State.{Object, Process, Sending, State, SetProc, write_one, written}
 
 abbrev IsRule : Actor → (State → Effect) → (State → Effect) → Type 0
 IsRule actor rule other = (held : ℕ → List Sending) → CountsHeld actor.inside held → rule (state_of held actor.parts.now) ≡ other (state_of held actor.parts.now)
 
-same_held : (inside : Option Inside) (m : TheSending) (held : ℕ → List Sending) → held_after (inside_of inside) (AtOnce m) held ≡ held
+pub same_held : (inside : Option Inside) (m : TheSending) (held : ℕ → List Sending) → held_after (inside_of inside) (AtOnce m) held ≡ held
 same_held None m held = refl
 same_held (Some inside) m held = refl
-
--- a signal that is posted: nothing is exchanged before
-pub posts_plans : (actor : Actor) (log : List Change) (m : TheSending) (rule : State → Effect) (objects : State → List Object) → IsActor actor →
-    IsRule actor rule (λ S. posts_now actor.pid.0 (sending_of m)) → Plans actor log log (record { conclusion = AnswersPost; sends = AtOnce m }) rule objects
-unfolding written
-posts_plans actor log m rule objects is does = record {
-  plan = [];
-  added = sym (append-nil log);
-  named = tt;
-  counts = is.whole.counts;
-  places = is.whole.places;
-  gives = λ held counted. record {
-    state = ap (λ (f : Effect). before_sends f (state_of held actor.parts.now)) (does held counted) ∙ ap (λ (h : ℕ → List Sending). state_of h actor.parts.now) (sym (same_held actor.inside m held));
-    sends = ap (λ (f : Effect). f.sends) (does held counted);
-    conclusion = ap (λ (f : Effect). f.conclusion) (does held counted);
-  };
-  among = λ held. tt;
-}
 
 -- what is written, where a signal is handed out with an answer
 held_state : (inside : Option Inside) (m : TheSending) (n : ℕ) (q : Process) (parts : Parts) (held : ℕ → List Sending) →
@@ -59,7 +40,7 @@ pub holds_plans : (laws : PlanLaws) (actor : Actor) (before now : List Change) (
     length actor.parts.now.descs ≡ 64 → IsActor actor →
     IsRule actor rule (λ S. done_with (holds_more (inside_of actor.inside) (sending_of m) S) actor.pid.0 (pos 0) (me_of actor)) →
     PlansOwn actor before now outcome (answers_with (pos 0)) →
-    Plans actor before now (record { conclusion = Replies outcome; sends = AtCommit m }) rule objects
+    Plans actor before now (record { outcome = outcome; sends = AtCommit m }) rule objects
 holds_plans laws actor before now outcome m rule objects sized is does own =
     let parts : Parts = actor.parts.now in
     let n : ℕ = actor.pid.0 in

@@ -1,6 +1,6 @@
 -- The laws that the plans stand on.
-use Rattle.tx_change.specs.Counts.{CountsElsewhere, CountsPlanned, CountsReplaced, CountsWithOthers, PlansAreNamed, RoomForName, RoomForNames}
-use Rattle.tx_change.specs.Laws.{AppliedAppended, BackIsWrite, ChangedAppended, ChangesStateInTurn, FrontIsRead, NamedAppended, PartsReplaceProcess, PlacesKept}
+use Rattle.tx_change.specs.Counts.{CountsElsewhere, CountsNameless, CountsPlanned, CountsReplaced, CountsWithOthers, PlansAreNamed, RoomForName, RoomForNames}
+use Rattle.tx_change.specs.Laws.{AppliedAppended, BackIsWrite, ChangedAppended, ChangesStateInTurn, FrontIsRead, NamedAppended, PartsReplaceProcess, PlacesKept, SizesStay}
 
 -- what changes make of the state, of the counts of names and of the places of processes
 pub record PlanLaws : Type 0 where
@@ -19,3 +19,5 @@ pub record PlanLaws : Type 0 where
   pub rooms : RoomForNames
   pub front : FrontIsRead
   pub back : BackIsWrite
+  pub sizes : SizesStay
+  pub nameless : CountsNameless

@@ -6,5 +6,6 @@ pub mod Laws
 pub mod Trees
 pub mod Discards
 pub mod Returns
+pub mod Steps
 pub mod Sends
 pub mod Endings

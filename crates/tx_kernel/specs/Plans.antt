@@ -13,22 +13,19 @@ use Rattle.tx_change.specs.declared.change.Change.{Change}
 use Rattle.tx_change.specs.declared.parts.Parts.{Parts}
 use Rattle.tx_kernel.specs.Actors.{inside_of, me_of, CountsHeld}
 use Rattle.tx_kernel.specs.declared.actor.Actor.{Actor}
-use Rattle.tx_kernel.specs.declared.planned.Conclusion.{Conclusion}
-use Rattle.tx_kernel.specs.declared.planned.Conclusion.TheVariants.{Replies, AnswersPost}
 use Rattle.tx_kernel.specs.declared.planned.Outcome.{Outcome}
 use Rattle.tx_kernel.specs.declared.planned.Outcome.TheVariants.{Done, Ended, Out}
 use Rattle.tx_kernel.specs.declared.planned.Planned.{Planned}
 use Rattle.tx_kernel.specs.declared.planned.Sends.{Sends}
 use Rattle.tx_kernel.specs.declared.planned.Sends.TheVariants.{Nothing, AtOnce, AtCommit}
 use Rattle.tx_model.specs.Answer.{Choice, is_bad_choice}
-use Rattle.tx_model.specs.Effects.{Conclusion as TheConclusion, Effect, Inside, before_sends, idle}
-use Rattle.tx_model.specs.Effects as effects
+use Rattle.tx_model.specs.Effects.{Conclusion, Replies, Effect, Inside, before_sends, idle}
 use Rattle.tx_model.specs.Memory.{Memory, bytes_from}
 use Rattle.tx_model.specs.State.{Object, Proc, Process, Sender, Sending as TheSending, State, has, put_at}
 
 -- a step with this answer, which sends nothing
 abbrev pub quiet : Outcome → Planned
-quiet outcome = record { conclusion = Replies outcome; sends = Nothing }
+quiet outcome = record { outcome = outcome; sends = Nothing }
 
 -- the reply, of a process with this memory
 abbrev pub reply_of : Memory → Outcome → Reply
@@ -36,9 +33,8 @@ reply_of memory (Done r) = reply.Done r
 reply_of memory Ended = reply.Ended
 reply_of memory (Out shown) = reply.Out (record { items = bytes_from memory shown.address shown.count })
 
-abbrev pub conclusion_of : ℕ → Process → Conclusion → TheConclusion
-conclusion_of n me (Replies outcome) = effects.Replies (reply_of me.memory outcome)
-conclusion_of n me AnswersPost = effects.AnswersPost n
+abbrev pub conclusion_of : Process → Outcome → Conclusion
+conclusion_of me outcome = Replies (reply_of me.memory outcome)
 
 abbrev pub sender_of : Option (ℕ × ℕ) → Option Sender
 sender_of None = None
@@ -65,7 +61,7 @@ held_after (Some inside) (AtCommit m) held = put_at held inside.starter (held in
 pub record Gives (actor : Actor) (after : Parts) (planned : Planned) (held : ℕ → List TheSending) (effect : Effect) : Type 0 where
   pub state : before_sends effect (state_of held actor.parts.now) ≡ state_of (held_after (inside_of actor.inside) planned.sends held) after
   pub sends : effect.sends ≡ sent_at_once planned.sends
-  pub conclusion : effect.conclusion ≡ conclusion_of actor.pid.0 (me_of actor) planned.conclusion
+  pub conclusion : effect.conclusion ≡ conclusion_of (me_of actor) planned.outcome
 
 -- each change names one of the objects
 abbrev pub AreAmong : List Object → List Change → Type 0

@@ -1,11 +1,22 @@
 -- What of a process decides the answer of a post, and what a post is to exchange.
-use Rattle.std.specs.Prelude.{◌≡◌, Option, Some, None, Result, Ok, Err, is_some, length}
+use Rattle.std.specs.Prelude.{◌≡◌, List, ◌++◌, Option, Some, None, Result, Ok, Err, is_some, length, option_map}
+use Rattle.tx_base.specs.Slots.{slot_at}
 use Rattle.tx_base.specs.declared.errors.Errno.{Errno}
+use Rattle.tx_change.specs.Counts.{AreNameless}
+use Rattle.tx_change.specs.Exchange.{AreNamed}
+use Rattle.tx_change.specs.Laws.{revised_by}
+use Rattle.tx_change.specs.Own.{AreOf}
+use Rattle.tx_change.specs.declared.change.Change.{Change}
+use Rattle.tx_change.specs.declared.parts.Parts.{Parts}
 use Rattle.tx_cred.specs.Cred.{ids_of}
 use Rattle.tx_kernel.specs.declared.posts.Face.{Face}
-use Rattle.tx_model.specs.State.{Process}
+use Rattle.tx_model.specs.Posts.{post_answer, received}
+use Rattle.tx_model.specs.State.{Process, Sending}
 use Rattle.tx_proc.specs.Processes.{revised}
 use Rattle.tx_proc.specs.declared.part.Part.{Part}
+use Rattle.tx_proc.specs.declared.part.Part.TheVariants.{Pending, Queued}
+use Rattle.tx_proc.specs.declared.proc.Proc.{Proc}
+use Rattle.tx_signal.specs.Parts.{answer_of}
 
 -- the process has these ids, has ended or not, and has so many entries in its queue
 pub record HasFace (face : Face) (q : Process) : Type 0 where
@@ -27,3 +38,31 @@ without_part (Err errno) = Err errno
 abbrev pub posted : Result (Option Part) Errno → Process → Process
 posted (Ok part) q = revised_if part q
 posted (Err errno) q = q
+
+-- the part, if there is one, is of what is pending
+abbrev pub IsOfPending : Option Part → Type 0
+IsOfPending None = Unit {0}
+IsOfPending (Some (Pending set)) = Unit {0}
+IsOfPending (Some (Queued place entry)) = Unit {0}
+IsOfPending (Some part) = ⊥
+
+-- a process with the ids, the status and the pending signals of this one: what a post sees of it
+abbrev pub seen_as : Proc → Process → Process
+seen_as proc me = record me { ids = ids_of proc.cred; status = proc.status; pending = proc.pending.standard; queued = proc.pending.queued }
+
+-- a post sees the process that the slot has
+abbrev pub IsSeen : Option Proc → Option Process → Type 0
+IsSeen None None = Unit {0}
+IsSeen None (Some q) = ⊥
+IsSeen (Some proc) None = ⊥
+IsSeen (Some proc) (Some q) = q ≡ seen_as proc q
+
+-- a log that has the exchanges of a post at its end now: of its target, where that is seen so, they make what the posting rule makes
+pub record PlansPost (parts : Parts) (before now : List Change) (m : Sending) (answer : Result (Unit {0}) Errno) : Type 0 where
+  pub plan : List Change
+  pub added : now ≡ before ++ plan
+  pub own : AreOf m.target plan
+  pub nameless : AreNameless plan
+  pub named : AreNamed parts plan
+  pub answers : (q : Option Process) → IsSeen (slot_at parts.procs m.target) q → answer_of answer ≡ post_answer m q
+  pub receives : (q : Option Process) → IsSeen (slot_at parts.procs m.target) q → option_map (revised_by plan) q ≡ received m q

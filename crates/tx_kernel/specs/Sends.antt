@@ -1,16 +1,23 @@
 -- What a call that sends a signal comes to.
-use Rattle.std.specs.Prelude.{ℕ, List, [], ◌∷◌, ◌++◌, pos, Option, Some, None}
+use Rattle.std.specs.Prelude.{◌≡◌, ℕ, List, [], ◌∷◌, ◌++◌, pos, Option, Some, None}
+use Rattle.tx_base.specs.declared.names.Sending.{Sending}
+use Rattle.tx_change.specs.States.{state_of}
+use Rattle.tx_change.specs.declared.change.Change.{Change}
+use Rattle.tx_kernel.specs.Actors.{CountsHeld}
 use Rattle.tx_kernel.specs.Plans.{sending_of}
+use Rattle.tx_kernel.specs.Steps.{PlansStep}
+use Rattle.tx_kernel.specs.declared.actor.Actor.{Actor}
+use Rattle.tx_kernel.specs.declared.planned.Outcome.{Outcome}
 use Rattle.tx_kernel.specs.declared.sends.Send.{Send}
 use Rattle.tx_kernel.specs.declared.sends.Send.TheVariants.{Answers, Posts, Holds}
 use Rattle.tx_kernel.specs.declared.planned.Sends.{Sends}
 use Rattle.tx_kernel.specs.declared.planned.Sends.TheVariants.{Nothing, AtOnce, AtCommit}
 use Rattle.tx_model.specs.Effects.{Effect, Inside, done, done_with}
 use Rattle.tx_model.specs.Sends.{posts_now}
-use Rattle.tx_model.specs.State.{Process, Sending, State, Write, SetHeld}
+use Rattle.tx_model.specs.State.{Object, Process, Sending as TheSending, State, Write, SetHeld}
 
 -- what is handed out is held
-abbrev pub holds_more : Option Inside → Sending → State → List Write
+abbrev pub holds_more : Option Inside → TheSending → State → List Write
 holds_more None m S = []
 holds_more (Some inside) m S = SetHeld inside.starter (S.held inside.starter ++ m ∷ []) ∷ []
 
@@ -24,3 +31,9 @@ abbrev pub sends_by : Send → Sends
 sends_by (Answers ret) = Nothing
 sends_by (Posts m) = AtOnce m
 sends_by (Holds m) = AtCommit m
+
+-- a log that has a post at its end now, and the answer of it as that of the process: whatever the rule, if it posts this
+pub record PlansPosted (actor : Actor) (before now : List Change) (m : Sending) (outcome : Outcome) : Type 0 where
+  pub plans : (rule : State → Effect) (objects : State → List Object) →
+      ((held : ℕ → List TheSending) → CountsHeld actor.inside held → rule (state_of held actor.parts.now) ≡ posts_now actor.pid.0 (sending_of m)) →
+      PlansStep actor before now outcome (AtOnce m) rule objects

@@ -8,6 +8,7 @@ ghost use Rattle.tx_kernel.specs.Own.{PlansOwn, answer_after};
 ghost use Rattle.tx_kernel.specs.Plans.{Plans};
 ghost use Rattle.tx_model.specs.Effects.{answers_with, done};
 ghost use Rattle.tx_model.specs.Numbers.{failing};
+ghost use Rattle.tx_signal.specs.Parts.{answer_of};
 ghost use Rattle.tx_model.specs.State.{Object, State};
 ghost use Rattle.tx_proc.specs.declared.part.Part.TheVariants.{Answer as SetAnswer};
 
@@ -23,6 +24,16 @@ pub(crate) fn failing(errno: Errno) -> i64
     ensures { result ≡ failing errno }
 {
     -(errno.number() as i64)
+}
+
+/// The answer that the result of a post is.
+pub(crate) fn answer_of(posted: Result<(), Errno>) -> i64
+    ensures { result ≡ answer_of posted }
+{
+    match posted {
+        Ok(()) => 0,
+        Err(errno) => failing(errno),
+    }
 }
 
 impl Actor<'_> {

@@ -11,7 +11,7 @@ ghost use Rattle.tx_model.specs.State.{State, written};
 
 use crate::actor::Actor;
 use crate::laws::laws;
-use crate::planned::{Conclusion, Outcome, Planned, Sends};
+use crate::planned::{Outcome, Planned, Sends};
 use crate::trees::push_descs;
 use std::alloc::Global;
 use tx_base::{DESCRIPTORS, NoMemory, Pid, PipeNo, Refusal, SIGCHLD, Sending};
@@ -47,7 +47,7 @@ impl Actor<'_> {
         self.push_orphans(log)?;
         self.push_gone(descs.as_slice(), log)?;
         Ok(Planned {
-            conclusion: Conclusion::Replies(Outcome::Ended),
+            outcome: Outcome::Ended,
             sends: self.tells_parent(),
         })
     }

@@ -15,9 +15,10 @@ mod posts;
 mod script;
 mod sends;
 mod signals;
+mod steps;
 mod trees;
 
 pub use actor::Actor;
 pub use inside::Inside;
-pub use planned::{Conclusion, Outcome, Planned, Sends, Shown};
+pub use planned::{Outcome, Planned, Sends, Shown};
 pub use posts::{Face, plan_post};

@@ -21,15 +21,6 @@ pub enum Outcome {
     Out(Shown),
 }
 
-/// How a step concludes.
-#[derive(Clone, Copy, PartialEq, Eq, Debug)]
-pub enum Conclusion {
-    /// With an answer that is known before its post.
-    Replies(Outcome),
-    /// With the answer of its one post, which becomes that of the process.
-    AnswersPost,
-}
-
 /// The signal that a step sends.
 #[derive(Clone, Copy, Debug)]
 pub enum Sends {
@@ -43,7 +34,8 @@ pub enum Sends {
 /// What a planned step comes to, beside its changes.
 #[derive(Clone, Copy, Debug)]
 pub struct Planned {
-    pub conclusion: Conclusion,
+    /// Its answer.
+    pub outcome: Outcome,
     pub sends: Sends,
 }
 
@@ -56,7 +48,7 @@ impl Planned {
         ensures { result ≡ quiet outcome }
     {
         Planned {
-            conclusion: Conclusion::Replies(outcome),
+            outcome,
             sends: Sends::Nothing,
         }
     }

@@ -1,8 +1,8 @@
 //! Posts: what a signal that is sent does to its target (POSIX.1-2017, XSH, Signal Concepts and
 //! kill()).
-ghost use Rattle.std.specs.Prelude.{◌≡◌, ◌<◌, true, Some, length};
+ghost use Rattle.std.specs.Prelude.{◌≡◌, ◌<◌, true, Some, IfOk, length};
 ghost use Rattle.tx_kernel.specs.Plans.{sending_of, sender_of};
-ghost use Rattle.tx_kernel.specs.Posts.{HasFace, posted, without_part};
+ghost use Rattle.tx_kernel.specs.Posts.{HasFace, IsOfPending, posted, seen_as, without_part};
 ghost use Rattle.tx_model.specs.Posts.{is_quiet, is_realtime, may_signal, post_answer, received, with_signal};
 ghost use Rattle.tx_base.specs.declared.limits.TheConstants.{QUEUED};
 ghost use Rattle.tx_model.specs.State.{Process};
@@ -78,7 +78,8 @@ impl Face {
 pub fn plan_post(proc: &Proc, sending: &Sending) -> Result<Option<Part>, Errno>
     requires { sending.now.signo.0 < 64 }
     ensures answer { answer_of (without_part result) ≡ post_answer (sending_of sending.now) (Some (process_of proc.now)) }
-    ensures after { received (sending_of sending.now) (Some (process_of proc.now)) ≡ Some (posted result (process_of proc.now)) }
+    ensures pending { IfOk result IsOfPending }
+    ensures after { (me : Process) → received (sending_of sending.now) (Some (seen_as proc.now me)) ≡ Some (posted result (seen_as proc.now me)) }
 {
     let face = Face::of(proc);
     if let Err(errno) = face.answer(sending) {
@@ -94,7 +95,8 @@ pub fn plan_post(proc: &Proc, sending: &Sending) -> Result<Option<Part>, Errno>
 fn plan_pending(proc: &Proc, sending: &Sending) -> Part
     requires number { sending.now.signo.0 < 64 }
     requires room { is_realtime sending.now.signo.0 ≡ true → length proc.now.pending.queued < QUEUED }
-    ensures { with_signal (sending_of sending.now) (process_of proc.now) ≡ revised result (process_of proc.now) }
+    ensures pending { IsOfPending (Some result) }
+    ensures signal { (me : Process) → with_signal (sending_of sending.now) (seen_as proc.now me) ≡ revised result (seen_as proc.now me) }
 {
     if !is_realtime(sending.signo) {
         return Part::Pending(with(proc.pending.standard(), sending.signo));

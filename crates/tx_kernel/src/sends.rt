@@ -1,9 +1,9 @@
 //! Signals that a process sends (POSIX.1-2017, XSH, kill() and sigqueue()).
-ghost use Rattle.std.specs.Prelude.{◌≡◌, ◌<◌, ◌≤◌, ℕ, List, length, option_map, IfOk, IfErr, IfSome, OnErr};
+ghost use Rattle.std.specs.Prelude.{◌≡◌, ◌<◌, ◌≤◌, ℕ, List, length, option_map, IfOk, IfSome, OnErr};
 ghost use Rattle.tx_kernel.specs.Actors.{CountsHeld, IsActor, inside_of, me_of};
-ghost use Rattle.tx_kernel.specs.Plans.{Extends, Plans, RefusedBy, sending_of};
-ghost use Rattle.tx_kernel.specs.Sends.{sends_by, sent_effect};
-ghost use Rattle.tx_base.specs.declared.steps.Refusal.TheVariants as refusal;
+ghost use Rattle.tx_kernel.specs.Plans.{Extends, sending_of};
+ghost use Rattle.tx_kernel.specs.Sends.{PlansPosted, sends_by, sent_effect};
+ghost use Rattle.tx_kernel.specs.Steps.{HasSignal, PlansStep};
 ghost use Rattle.tx_change.specs.States.{state_of};
 ghost use Rattle.tx_model.specs.Processes.{held_objects};
 ghost use Rattle.tx_model.specs.Sends.{hands_out, send_effect, sendable};
@@ -11,10 +11,10 @@ ghost use Rattle.tx_model.specs.State.{Sending as TheSending};
 ghost use Rattle.tx_signal.specs.Numbers.{number_of};
 
 use crate::actor::Actor;
-use crate::answers::failing;
+use crate::answers::{answer_of, failing};
 use crate::laws::laws;
-use crate::planned::{Conclusion, Outcome, Planned, Sends};
-use tx_base::{CLOSED_INSIDE, Errno, HELD_SENDS, Pid, Refusal, Sending, Signo};
+use crate::planned::{Outcome, Planned, Sends};
+use tx_base::{CLOSED_INSIDE, Errno, HELD_SENDS, NoMemory, Sending, Signo};
 use tx_change::Log;
 use tx_signal::known;
 
@@ -57,7 +57,8 @@ impl Actor<'_> {
     /// What a sigqueue comes to, or with the value 0 a kill. It takes no memory.
     pub(crate) fn decide_send(&self, target: i64, signo: i64, value: i64) -> Send
         requires { IsActor self.now }
-        ensures { (held : ℕ → List TheSending) → CountsHeld self.now.inside held →
+        ensures signal { HasSignal (sends_by result) }
+        ensures effect { (held : ℕ → List TheSending) → CountsHeld self.now.inside held →
             send_effect self.now.pid.0 (inside_of self.now.inside) (me_of self.now) target signo value (state_of held self.now.parts.now)
             ≡ sent_effect self.now.pid.0 (inside_of self.now.inside) (me_of self.now) result (state_of held self.now.parts.now) }
     {
@@ -78,7 +79,9 @@ impl Actor<'_> {
     /// Posts a signal, but holds a member's to a process that is no member. Own rule: signal 0 is
     /// closed there, and 32 may be held.
     fn hand_out(&self, sending: Sending) -> Send
-        ensures { (held : ℕ → List TheSending) → CountsHeld self.now.inside held →
+        requires { sending.signo.0 < 64 }
+        ensures signal { HasSignal (sends_by result) }
+        ensures effect { (held : ℕ → List TheSending) → CountsHeld self.now.inside held →
             hands_out self.now.pid.0 (inside_of self.now.inside) (me_of self.now) (sending_of sending) (state_of held self.now.parts.now)
             ≡ sent_effect self.now.pid.0 (inside_of self.now.inside) (me_of self.now) result (state_of held self.now.parts.now) }
     {
@@ -103,35 +106,56 @@ impl Actor<'_> {
     ///
     /// Answers InvalidArgument where there is no such signal, then NoSuchProcess where the number is
     /// not 1 to the width; inside a transaction, to a process that is no member, -200 for signal 0 and
-    /// TryAgain where 32 are held. Refuses by NoMemory, and the log is then as it was.
+    /// TryAgain where 32 are held; and what a post answers. After want of memory the log has more at
+    /// its end.
     pub(crate) fn plan_send(
         &self,
         target: i64,
         signo: i64,
         value: i64,
         log: &mut Log,
-    ) -> Result<Planned, Refusal>
+    ) -> Result<Planned, NoMemory>
         requires { IsActor self.now }
-        ensures ok { IfOk result (λ planned. Plans self.now log.old log.new planned
+        ensures ok { IfOk result (λ planned. PlansStep self.now log.old log.new planned.outcome planned.sends
             (λ S. send_effect self.now.pid.0 (inside_of self.now.inside) (me_of self.now) target signo value S) (λ S. held_objects (inside_of self.now.inside))) }
-        ensures refused { IfErr result (λ why. why ≡ refusal.NoMemory) }
-        ensures log { OnErr result (log.new ≡ log.old) }
+        ensures log { OnErr result (Extends log.old log.new) }
     {
         laws();
         self.parts.descs.sized();
         match self.decide_send(target, signo, value) {
-            Send::Answers(ret) => Ok(self.plan_done(ret, log)?),
-            Send::Posts(sending) => Ok(Planned {
-                conclusion: Conclusion::AnswersPost,
-                sends: Sends::AtOnce(sending),
-            }),
+            Send::Answers(ret) => {
+                let outcome = self.plan_answer(ret, log)?;
+                Ok(Planned::quiet(outcome))
+            }
+            Send::Posts(sending) => {
+                let outcome = self.plan_posted(&sending, log)?;
+                Ok(Planned {
+                    outcome,
+                    sends: Sends::AtOnce(sending),
+                })
+            }
             Send::Holds(sending) => {
                 let outcome = self.plan_answer(0, log)?;
                 Ok(Planned {
-                    conclusion: Conclusion::Replies(outcome),
+                    outcome,
                     sends: Sends::AtCommit(sending),
                 })
             }
         }
+    }
+
+    /// Plans a post, and its answer as that of the process. After want of memory the log has more at
+    /// its end.
+    fn plan_posted(&self, sending: &Sending, log: &mut Log) -> Result<Outcome, NoMemory>
+        requires actor { IsActor self.now }
+        requires signal { sending.now.signo.0 < 64 }
+        ensures ok { IfOk result (λ outcome. PlansPosted self.now log.old log.new sending.now outcome) }
+        ensures err { OnErr result (Extends log.old log.new) }
+    {
+        laws();
+        let answer = self.push_post(sending, log)?;
+        let ret = answer_of(answer);
+        self.push_answer(ret, log)?;
+        Ok(Outcome::Done(ret))
     }
 }

@@ -1,4 +1,4 @@
-use Rattle.tx_change.proofs.Applied.{applied-append, undone-append, reverted-append}
+use Rattle.tx_change.proofs.Applied.{sizes-applied, applied-append, undone-append, reverted-append}
 use Rattle.tx_change.proofs.InLists.{exchanged-append, changed-append, named-append}
 use Rattle.tx_change.proofs.laws.appended.Goals as goal
 
@@ -19,3 +19,6 @@ returns-clause-state c = changed-append
 
 pub returns-clause-named : goal.returns-clause-named
 returns-clause-named c = named-append
+
+pub returns-clause-sizes : goal.returns-clause-sizes
+returns-clause-sizes c = sizes-applied

@@ -1,4 +1,4 @@
-use Rattle.tx_change.proofs.Counted.{counts_kept, counts_forked, counts_ended, counts_removed, counts_elsewhere}
+use Rattle.tx_change.proofs.Counted.{counts_kept, counts_forked, counts_ended, counts_removed, counts_elsewhere, counts_nameless}
 use Rattle.tx_change.proofs.laws.counts_agree.Goals as goal
 
 pub returns-clause-call : goal.returns-clause-call
@@ -15,3 +15,6 @@ returns-clause-removal c = counts_removed
 
 pub returns-clause-elsewhere : goal.returns-clause-elsewhere
 returns-clause-elsewhere c = counts_elsewhere
+
+pub returns-clause-nameless : goal.returns-clause-nameless
+returns-clause-nameless c = counts_nameless

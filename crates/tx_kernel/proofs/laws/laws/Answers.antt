@@ -17,4 +17,6 @@ returns c = record {
   rooms = c.room_for_names.ensures.all;
   front = c.bytes_are_read_and_written.ensures.front;
   back = c.bytes_are_read_and_written.ensures.back;
+  sizes = c.appended.ensures.sizes;
+  nameless = c.counts_agree.ensures.nameless;
 }

@@ -1,0 +1,54 @@
+-- What the plan of a whole step is to be: the writes of the rule, its post, and the answer.
+use Rattle.std.specs.Prelude.{◌≡◌, ◌<◌, ℕ, List, [], ◌∷◌, ◌++◌}
+use Rattle.tx_base.specs.Slots.{slot_at}
+use Rattle.tx_change.specs.Counts.{CountsAgree}
+use Rattle.tx_change.specs.Exchange.{applied as exchanged_in, AreNamed}
+use Rattle.tx_change.specs.Laws.{HaveAllPlaces}
+use Rattle.tx_change.specs.States.{state_of}
+use Rattle.tx_change.specs.declared.change.Change.{Change}
+use Rattle.tx_change.specs.declared.parts.Parts.{Parts}
+use Rattle.tx_kernel.specs.Actors.{inside_of, me_of, CountsHeld}
+use Rattle.tx_kernel.specs.Plans.{AreAmong, held_after, reply_of, sent_at_once}
+use Rattle.tx_kernel.specs.Posts.{IsSeen}
+use Rattle.tx_kernel.specs.declared.actor.Actor.{Actor}
+use Rattle.tx_kernel.specs.declared.planned.Outcome.{Outcome}
+use Rattle.tx_kernel.specs.declared.planned.Sends.{Sends}
+use Rattle.tx_kernel.specs.declared.planned.Sends.TheVariants.{Nothing, AtOnce, AtCommit}
+use Rattle.tx_model.specs.Effects.{Effect, applied, concluding_reply, send_answers}
+use Rattle.tx_model.specs.State.{Object, Proc, Sending, State}
+
+-- the number of the signal that is posted with the step is below 64
+abbrev pub HasSignal : Sends → Type 0
+HasSignal Nothing = Unit {0}
+HasSignal (AtOnce m) = m.signo.0 < 64
+HasSignal (AtCommit m) = Unit {0}
+
+-- what is written before the post leaves of its target what a post sees
+abbrev pub SeesTarget : Parts → Sends → State → Type 0
+SeesTarget parts Nothing after = Unit {0}
+SeesTarget parts (AtOnce m) after = IsSeen (slot_at parts.procs m.target.0) (after.procs m.target.0)
+SeesTarget parts (AtCommit m) after = Unit {0}
+
+-- the process that a signal is posted to with the step
+abbrev pub target_objects : Sends → List Object
+target_objects Nothing = []
+target_objects (AtOnce m) = Proc m.target.0 ∷ []
+target_objects (AtCommit m) = []
+
+-- these parts, and what else the step comes to, are the effect's, its post made
+pub record GivesStep (actor : Actor) (after : Parts) (outcome : Outcome) (sends : Sends) (held : ℕ → List Sending) (effect : Effect) : Type 0 where
+  pub state : applied effect (send_answers effect (state_of held actor.parts.now)) (state_of held actor.parts.now)
+      ≡ state_of (held_after (inside_of actor.inside) sends held) after
+  pub sent : effect.sends ≡ sent_at_once sends
+  pub reply : concluding_reply effect.conclusion effect.sends (send_answers effect (state_of held actor.parts.now)) ≡ reply_of (me_of actor).memory outcome
+
+-- a log that has a plan of a whole step at its end now
+pub record PlansStep (actor : Actor) (before now : List Change) (outcome : Outcome) (sends : Sends) (rule : State → Effect) (objects : State → List Object) : Type 0 where
+  pub plan : List Change
+  pub added : now ≡ before ++ plan
+  pub named : AreNamed actor.parts.now plan
+  pub counts : CountsAgree (exchanged_in actor.parts.now plan)
+  pub places : HaveAllPlaces (exchanged_in actor.parts.now plan)
+  pub gives : (held : ℕ → List Sending) → CountsHeld actor.inside held →
+      GivesStep actor (exchanged_in actor.parts.now plan) outcome sends held (rule (state_of held actor.parts.now))
+  pub among : (held : ℕ → List Sending) → AreAmong (Proc actor.pid.0 ∷ objects (state_of held actor.parts.now) ++ target_objects sends) plan
