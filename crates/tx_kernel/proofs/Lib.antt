@@ -20,3 +20,4 @@ pub mod Named
 pub mod Released
 pub mod NamedCalls
 pub mod Piped
+pub mod Delivered

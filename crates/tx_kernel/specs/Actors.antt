@@ -1,5 +1,5 @@
 -- The process that makes a step, and the transaction that it makes it in.
-use Rattle.std.specs.Prelude.{◌≡◌, ℕ, false, ◌<◌, ◌≤◌, ◌^◌, List, Option, Some, None, IsSome, length, slice_index_or}
+use Rattle.std.specs.Prelude.{◌≡◌, ℕ, false, ◌<◌, ◌≤◌, ◌^◌, List, [], Option, Some, None, IsSome, length, slice_index_or}
 use Rattle.tx_base.specs.Signals.{bits_of}
 use Rattle.tx_base.specs.Slots.{slot_at}
 use Rattle.tx_change.specs.Counts.{CountsAgree}
@@ -45,13 +45,15 @@ pub record IsWhole (parts : Parts) : Type 0 where
   pub parents : (n : ℕ) → has_parent n (process_in (slot_at parts.procs n)) ≡ false
   pub piped : (d : ℕ) → HasPipe parts.pipes (slice_index_or parts.descs d None)
 
--- the process is the one of its number, and runs; its mask holds signals of numbers 0 to 39
+-- the process is the one of its number, and runs; its mask holds signals of numbers 0 to 39, and nothing is ever pending
+-- at process 1
 pub record IsActor (actor : Actor) : Type 0 where
   pub whole : IsWhole actor.parts.now
   pub number : IsPid (sizes_of actor.parts.now) actor.pid.0
   pub there : slot_at actor.parts.now.procs actor.pid.0 ≡ Some actor.proc.now
   pub runs : actor.proc.now.status ≡ None
   pub mask : bits_of actor.proc.now.mask < 2 ^ 40
+  pub first : actor.pid.0 ≡ 1 → actor.proc.now.pending ≡ record { standard = 0; queued = [] }
 
 -- the process, as the definitions have it
 abbrev pub me_of : Actor → Process

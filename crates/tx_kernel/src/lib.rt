@@ -4,6 +4,7 @@
 
 mod actor;
 mod answers;
+mod deliveries;
 mod descriptors;
 mod ending;
 mod ids;
