@@ -11,3 +11,4 @@ pub mod Returns
 pub mod Steps
 pub mod Sends
 pub mod Endings
+pub mod Calls

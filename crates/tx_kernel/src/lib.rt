@@ -4,6 +4,7 @@
 
 mod actor;
 mod answers;
+mod calls;
 mod deliveries;
 mod descriptors;
 mod ending;
