@@ -4,3 +4,4 @@ pub mod Named
 pub mod Released
 pub mod NamedCalls
 pub mod Piped
+pub mod PipedCalls

@@ -1,9 +1,11 @@
 -- What reads and writes come to.
 use Rattle.std.specs.Prelude.{◌≡◌, ◌≤◌, ◌+◌, ◌++◌, ℕ, ℤ, pos, true, List, [], ◌∷◌, Option, Some, None, Result, Ok, Err, if◌then◌else◌, length, nat_lt, false, slice_index_or}
 use Rattle.tx_base.specs.declared.errors.Errno.{Errno}
-use Rattle.tx_base.specs.declared.errors.Errno.TheVariants.{BadDescriptor, TryAgain}
+use Rattle.tx_base.specs.declared.errors.Errno.TheVariants.{BadDescriptor, BrokenPipe, TryAgain}
 use Rattle.tx_base.specs.declared.limits.TheConstants.{PIPE_BYTES}
 use Rattle.tx_base.specs.declared.names.PipeNo.{PipeNo}
+use Rattle.tx_base.specs.declared.names.Sending.{Sending}
+use Rattle.tx_base.specs.declared.signals.TheConstants.{SIGPIPE}
 use Rattle.tx_base.specs.declared.steps.Refusal.TheVariants.{Wait}
 use Rattle.tx_change.specs.Exchange.{pipe_at}
 use Rattle.tx_desc.specs.Descriptions.{end_for, side_test}
@@ -12,6 +14,10 @@ use Rattle.tx_desc.specs.declared.opened.Opened.{Opened}
 use Rattle.tx_desc.specs.declared.opened.Side.{Side}
 use Rattle.tx_kernel.specs.Actors.{me_of}
 use Rattle.tx_kernel.specs.declared.actor.Actor.{Actor}
+use Rattle.tx_kernel.specs.declared.planned.Conclusion.TheVariants.{Replies}
+use Rattle.tx_kernel.specs.declared.planned.Outcome.TheVariants.{Done}
+use Rattle.tx_kernel.specs.declared.planned.Planned.{Planned}
+use Rattle.tx_kernel.specs.declared.planned.Sends.TheVariants.{AtOnce}
 use Rattle.tx_kernel.specs.declared.transfers.Writing.{Writing}
 use Rattle.tx_kernel.specs.declared.transfers.Writing.TheVariants as writing
 use Rattle.tx_model.specs.Effects.{Effect, done, done_with, idle}
@@ -77,3 +83,15 @@ IsPutting actor desc n (Ok writing.Breaks) = ⊥
 IsPutting actor desc n (Ok writing.Waits) = (nat_lt PIPE_BYTES (length (held_in actor desc.pipe) + n) ≡ true) × (desc.nonblock ≡ false)
 IsPutting actor desc n (Ok (writing.Puts to m)) = (nat_lt PIPE_BYTES (length (held_in actor desc.pipe) + n) ≡ false) × (to ≡ desc.pipe) × (m ≡ n)
 IsPutting actor desc n (Err errno) = (errno ≡ TryAgain) × (nat_lt PIPE_BYTES (length (held_in actor desc.pipe) + n) ≡ true) × (desc.nonblock ≡ true)
+
+-- the bytes that a write puts
+abbrev pub put_bytes : Actor → ℤ → ℕ → List ℕ
+put_bytes actor address n = bytes_at (me_of actor).memory (address_of address) n
+
+-- the signal that tells the process that no reader is left
+abbrev pub broken_sending : Actor → Sending
+broken_sending actor = record { target = actor.pid; signo = SIGPIPE; value = pos 0; from = None }
+
+-- a write without a reader
+abbrev pub broken : Actor → Planned
+broken actor = record { conclusion = Replies (Done (failing BrokenPipe)); sends = AtOnce (broken_sending actor) }

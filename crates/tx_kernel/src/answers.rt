@@ -19,7 +19,7 @@ use tx_change::{Change, Log};
 use tx_proc::{Answer, Part};
 
 /// The answer that an error is.
-fn failing(errno: Errno) -> i64
+pub(crate) fn failing(errno: Errno) -> i64
     ensures { result ≡ failing errno }
 {
     -(errno.number() as i64)
