@@ -1,5 +1,8 @@
 -- The plans of reads and writes.
-use Rattle.std.proofs.Common.{◌≡◌, ℕ, zero, suc, ◌+◌, ◌<◌, ◌≤◌, true, List, [], ◌∷◌, ◌++◌, length, ℤ, pos, Option, Some, None, IsSome, refl, ap, sym, subst, ◌∙◌, inl, inr, arith}
+use Rattle.std.proofs.Common.{map, take, drop, ◌≡◌, ℕ, zero, suc, ◌+◌, ◌<◌, ◌≤◌, true, List, [], ◌∷◌, ◌++◌, length, ℤ, pos, Option, Some, None, IsSome, refl, ap, sym, subst, ◌∙◌, inl, inr, arith}
+use Rattle.tx_kernel.specs.Own.{page_change}
+use Rattle.tx_kernel.proofs.Owned.{AreOf-append, nameless-append, revised-append, pages_own, pages_nameless, pages_revised}
+use Rattle.tx_change.specs.Laws.{revised_by}
 use Rattle.std.proofs.lemmas.Bool.{cases_lt}
 use Rattle.std.proofs.lemmas.List.{get_or_past}
 use Rattle.tx_base.specs.declared.errors.Errno.TheVariants.{BrokenPipe}
@@ -9,27 +12,27 @@ use Rattle.tx_change.specs.Pipes.{piped_in}
 use Rattle.tx_change.specs.States.{state_of}
 use Rattle.tx_change.specs.declared.change.Change.{Change}
 use Rattle.tx_change.specs.declared.change.Change.TheVariants.{Pipe}
-use Rattle.tx_change.specs.declared.pipes.PipePart.TheVariants.{Back}
+use Rattle.tx_change.specs.declared.pipes.PipePart.TheVariants.{Front, Back}
 use Rattle.tx_desc.specs.Counts.{KeepsCounts}
 use Rattle.tx_desc.specs.Descriptions.{described, description_of}
-use Rattle.tx_kernel.proofs.Named.{files_plan}
+use Rattle.tx_kernel.proofs.Named.{Files, files_plan}
 use Rattle.tx_kernel.proofs.NamedCalls.{answered_files, appended2, done_writes, has_append, last_answer}
 use Rattle.tx_kernel.proofs.OwnPlans.{held_quiet}
 use Rattle.tx_kernel.proofs.Released.{pipe_there}
 use Rattle.tx_kernel.specs.Actors.{me_of, inside_of, HasPipe, IsActor}
 use Rattle.tx_kernel.specs.Laws.{PlanLaws}
-use Rattle.tx_kernel.specs.Piped.{held_in, put_bytes, broken, CanPut, NamesPipe}
+use Rattle.tx_kernel.specs.Piped.{CanTake, TakesBytes, held_in, put_bytes, broken, CanPut, NamesPipe}
 use Rattle.tx_kernel.specs.Plans.{Plans, held_after, quiet}
 use Rattle.tx_kernel.specs.declared.actor.Actor.{Actor}
 use Rattle.tx_kernel.specs.declared.inside.Inside.{Inside}
 use Rattle.tx_kernel.specs.declared.planned.Outcome.TheVariants.{Done}
 use Rattle.tx_model.specs.Descriptors.{desc_objects, desc_pipe_objects, listed, pipe_list, pipes_of}
 use Rattle.tx_model.specs.Effects.{Effect, before_sends, done_with, noted}
-use Rattle.tx_model.specs.Memory.{Memory, address_of, bytes_at, bytes_from}
+use Rattle.tx_model.specs.Memory.{stored, Memory, address_of, bytes_at, bytes_from}
 use Rattle.tx_model.specs.Numbers.{failing}
 use Rattle.tx_model.specs.State.{Process, Sending, State, SetPipe, has, put_at, written}
 use Rattle.tx_model.specs.State as model
-use Rattle.tx_model.specs.Transfers.{breaks, bytes_in, write_effect}
+use Rattle.tx_model.specs.Transfers.{read_effect, breaks, bytes_in, write_effect}
 
 -- the pipe that a descriptor names
 
@@ -128,3 +131,45 @@ broken_plan laws actor before now x address count sized is effect added =
     kept : (inside : Option Inside) (held : ℕ → List Sending) → held_after (inside_of inside) (broken actor).sends held ≡ held
     kept None held = refl
     kept (Some inside) held = refl
+
+-- read
+
+pub take_plan : (laws : PlanLaws) (actor : Actor) (before first now : List Change) (x : Option ℕ) (address count : ℤ) (pipe : PipeNo) (n : ℕ) →
+    length actor.parts.now.descs ≡ 64 → IsActor actor →
+    ((held : ℕ → List Sending) → read_effect actor.pid.0 x address count (me_of actor) (state_of held actor.parts.now)
+    ≡ done_with (SetPipe pipe.0 (Some (drop n (held_in actor pipe))) ∷ []) actor.pid.0 (pos n)
+    (record (me_of actor) { memory = stored (me_of actor).memory (address_of address) (take n (held_in actor pipe)) })) →
+    NamesPipe actor x pipe → CanTake actor pipe n → TakesBytes actor before first pipe address n → now ≡ first ++ last_answer (pos n) actor →
+    Plans actor before now (quiet (Done (pos n))) (λ S. read_effect actor.pid.0 x address count (me_of actor) S) (λ S. desc_pipe_objects (listed x) S)
+unfolding written
+take_plan laws actor before first now x address count pipe n sized is effect names can takes two =
+    let p : ℕ = actor.pid.0 in
+    let me : Process = me_of actor in
+    let held_bytes : List ℕ = held_in actor pipe in
+    let pages : List Change = map (page_change actor.pid) takes.pages in
+    let new : Process = record me { memory = stored me.memory (address_of address) (take n held_bytes) } in
+    let changes : List Change = Pipe pipe (Front n []) ∷ [] in
+    let taken : piped_in (pipe_at actor.parts.now.pipes pipe.0) (Front n []) ≡ Some (drop n held_bytes) =
+    ap (λ (o : Option (List ℕ)). piped_in o (Front n [])) (pipe_held actor x pipe is names) ∙ laws.front held_bytes n can.held can.fits in
+    let files : Files actor (noted (pos n) new) = record {
+      names = [];
+      descs = [];
+      pipes = changes;
+      own = pages ++ last_answer (pos n) actor;
+      fds = tt;
+      numbers = tt;
+      are_pipes = tt;
+      pipes_named = (pipe_inside actor x pipe is names, tt);
+      are_own = AreOf-append p pages (last_answer (pos n) actor) (pages_own actor.pid takes.pages takes.numbered) ((refl, tt), tt);
+      nameless = nameless-append pages (last_answer (pos n) actor) (pages_nameless actor.pid takes.pages) (tt, tt);
+      keeps = keeps_same actor;
+      process = revised-append pages (last_answer (pos n) actor) me
+          ∙ ap (revised_by (last_answer (pos n) actor)) (pages_revised actor.pid takes.pages me ∙ ap (λ (m : Memory). record me { memory = m }) takes.memory);
+    } in
+    files_plan laws actor before now (quiet (Done (pos n))) (λ S. read_effect p x address count me S) (λ S. desc_pipe_objects (listed x) S) (noted (pos n) new) files sized is
+    (appended2 before (changes ++ pages) (last_answer (pos n) actor) first now takes.added two)
+    (held_quiet actor.inside (Done (pos n)))
+    (λ held counted. let S : State = state_of held actor.parts.now in
+    done_writes actor [] changes S (read_effect p x address count me S) (SetPipe pipe.0 (Some (drop n held_bytes)) ∷ []) (pos n) new (effect held) (tt, tt)
+    (λ d. ap (λ (e : Effect). (before_sends e S).descs d) (effect held)) (ap (λ (o : Option (List ℕ)). put_at S.pipes pipe.0 o) (sym taken)))
+    (λ held. (pipe_among actor x pipe held names, tt))

@@ -8,14 +8,14 @@ ghost use Rattle.tx_change.specs.declared.pipes.PipePart.TheVariants.{Back};
 ghost use Rattle.tx_desc.specs.Descriptions.{description_of};
 ghost use Rattle.tx_kernel.specs.Actors.{IsActor, me_of};
 ghost use Rattle.tx_kernel.specs.Own.{answer_after};
-ghost use Rattle.tx_kernel.specs.Piped.{CanPut, broken, broken_sending, put_bytes, opened_at, end_at, held_in, writing_effect, IsPutting, IsReadyToPut, PutsTo};
+ghost use Rattle.tx_kernel.specs.Piped.{CanPut, CanTake, IsReadyToTake, TakesBytes, TakesFrom, reading_effect, broken, broken_sending, put_bytes, opened_at, end_at, held_in, writing_effect, IsPutting, IsReadyToPut, PutsTo};
 ghost use Rattle.tx_kernel.specs.Plans.{Plans, RefusedBy, Extends, sending_of, sent_at_once};
 ghost use Rattle.tx_model.specs.Descriptors.{descriptor, desc_pipe_objects, listed, named};
 ghost use Rattle.tx_model.specs.Memory.{address_of, bytes_at, is_good, is_mapped};
 ghost use Rattle.tx_model.specs.Numbers.{below, failing};
 ghost use Rattle.tx_model.specs.State.{Sending as TheSending, State};
 ghost use Rattle.tx_proc.specs.declared.part.Part.TheVariants.{Answer as SetAnswer};
-ghost use Rattle.tx_model.specs.Transfers.{write_effect, writes};
+ghost use Rattle.tx_model.specs.Transfers.{drains, has_writer, read_effect, reads, write_effect, writes};
 
 use crate::actor::Actor;
 use crate::answers::failing;
@@ -41,7 +41,134 @@ pub(crate) enum Writing {
     Puts(PipeNo, usize),
 }
 
+/// What a read comes to, where it is no error.
+#[derive(Clone, Copy, PartialEq, Eq, Debug)]
+pub(crate) enum Reading {
+    /// No byte was asked for, or the pipe is empty and no writer is left.
+    Nothing,
+    /// The pipe is empty, and the description blocks.
+    Waits,
+    /// So many bytes come from the pipe.
+    Takes(PipeNo, usize),
+}
+
 impl Actor<'_> {
+    /// Reads up to so many bytes from the pipe of a descriptor to an address (POSIX.1-2017, XSH,
+    /// read()).
+    ///
+    /// Answers EBADF where the descriptor is not 0 to 15 or is not open for reading, EINVAL where the
+    /// count is not 0 to 512, EFAULT where bytes may not be written, and EAGAIN where the pipe is
+    /// empty with a writer left and the description does not block. Wait where it does; NoMemory
+    /// where a growth is refused. The log then has more at its end at most.
+    pub(crate) fn plan_read(
+        &self,
+        alloc: Global,
+        fd: i64,
+        address: i64,
+        count: i64,
+        log: &mut Log,
+    ) -> Result<Planned, Refusal>
+        requires { IsActor self.now }
+        ensures ok { IfOk result (λ planned. Plans self.now log.old log.new planned
+            (λ S. read_effect self.now.pid.0 (named (me_of self.now) (descriptor fd)) address count (me_of self.now) S)
+            (λ S. desc_pipe_objects (listed (named (me_of self.now) (descriptor fd))) S)) }
+        ensures refused { IfErr result (λ why. RefusedBy self.now why
+            (λ S. read_effect self.now.pid.0 (named (me_of self.now) (descriptor fd)) address count (me_of self.now) S)) }
+        ensures log { OnErr result (Extends log.old log.new) }
+    {
+        laws();
+        self.parts.descs.sized();
+        match self.reading(fd, address, count) {
+            Ok(Reading::Nothing) => self.plan_done(0, log),
+            Ok(Reading::Waits) => Err(Refusal::Wait),
+            Ok(Reading::Takes(pipe, n)) => {
+                self.push_take(alloc, pipe, address, n, log)?;
+                let ret = n as i64;
+                self.push_answer(ret, log)?;
+                Ok(Planned::quiet(Outcome::Done(ret)))
+            }
+            Err(errno) => self.plan_failure(errno, log),
+        }
+    }
+
+    /// Appends that bytes go from a pipe to the memory, at an address that is good for them.
+    fn push_take(
+        &self,
+        alloc: Global,
+        pipe: PipeNo,
+        address: i64,
+        n: usize,
+        log: &mut Log,
+    ) -> Result<(), NoMemory>
+        requires { CanTake self.now pipe n }
+        ensures ok { OnOk result (TakesBytes self.now log.old log.new pipe address n) }
+        ensures err { OnErr result (Extends log.old log.new) }
+    {
+        // The address is good, so want of memory is the only error that is left.
+        let Ok(new) = self
+            .proc
+            .space
+            .plan_store(alloc, address, &self.held_bytes(pipe)[..n])
+        else {
+            return Err(NoMemory);
+        };
+        let none = BoxedPipe::new(alloc, Pipe::new())?;
+        log.push(Change::Pipe(pipe, PipePart::Front(n, none)))?;
+        self.push_pages(new, log)?;
+        Ok(())
+    }
+
+    /// What a read comes to.
+    fn reading(&self, fd: i64, address: i64, count: i64) -> Result<Reading, Errno>
+        requires { IsActor self.now }
+        ensures effect { (held : ℕ → List TheSending) →
+            read_effect self.now.pid.0 (named (me_of self.now) (descriptor fd)) address count (me_of self.now) (state_of held self.now.parts.now)
+            ≡ reading_effect self.now address result (state_of held self.now.parts.now) }
+        ensures ready { IfOk result (λ reading. TakesFrom self.now (named (me_of self.now) (descriptor fd)) reading) }
+    {
+        let desc = self.open_end(fd, Side::Read)?;
+        self.reading_from(desc, address, count)
+    }
+
+    /// What a read from the description comes to.
+    fn reading_from(&self, desc: Desc, address: i64, count: i64) -> Result<Reading, Errno>
+        ensures effect { (held : ℕ → List TheSending) →
+            reads self.now.pid.0 (description_of desc) address (below 513 count) (me_of self.now) (state_of held self.now.parts.now)
+            ≡ reading_effect self.now address result (state_of held self.now.parts.now) }
+        ensures ready { IfOk result (λ reading. IsReadyToTake self.now desc.pipe reading) }
+    {
+        let Some(n) = number_below(PIPE_BYTES + 1, count) else {
+            return Err(Errno::InvalidArgument);
+        };
+        if n == 0 {
+            return Ok(Reading::Nothing);
+        }
+        if !self.proc.space.is_good(Access::Write, address, n) {
+            return Err(Errno::BadAddress);
+        }
+        self.taking(desc, n)
+    }
+
+    /// What a read of up to so many bytes from the description comes to.
+    fn taking(&self, desc: Desc, n: usize) -> Result<Reading, Errno>
+        ensures effect { (address : ℤ) (held : ℕ → List TheSending) →
+            drains self.now.pid.0 (description_of desc) address n (me_of self.now) (has_writer desc.pipe.0 (state_of held self.now.parts.now)) (held_in self.now desc.pipe)
+            ≡ reading_effect self.now address result (state_of held self.now.parts.now) }
+        ensures ready { IfOk result (λ reading. IsReadyToTake self.now desc.pipe reading) }
+    {
+        let held = self.held(desc.pipe);
+        if held > 0 {
+            return Ok(Reading::Takes(desc.pipe, n.min(held)));
+        }
+        if !self.parts.descs.has_end(desc.pipe, Side::Write) {
+            return Ok(Reading::Nothing);
+        }
+        if desc.nonblock {
+            return Err(Errno::TryAgain);
+        }
+        Ok(Reading::Waits)
+    }
+
     /// Writes bytes from an address on to the pipe of a descriptor, all of them or none (POSIX.1-2017,
     /// XSH, write()).
     ///
@@ -230,9 +357,17 @@ impl Actor<'_> {
         ensures held { result ≡ length (held_in self.now pipe) }
         ensures fits { result ≤ 512 }
     {
+        self.held_bytes(pipe).len()
+    }
+
+    /// The bytes that a pipe holds.
+    fn held_bytes(&self, pipe: PipeNo) -> &[u8]
+        ensures held { result.now ≡ held_in self.now pipe }
+        ensures fits { length result.now ≤ 512 }
+    {
         match self.parts.pipes.get(pipe) {
-            Some(bytes) => bytes.len(),
-            None => 0,
+            Some(bytes) => bytes.bytes(),
+            None => &[],
         }
     }
 }
