@@ -21,3 +21,4 @@ pub mod Released
 pub mod NamedCalls
 pub mod Piped
 pub mod Delivered
+pub mod PipedCalls

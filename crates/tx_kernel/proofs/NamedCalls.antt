@@ -112,7 +112,7 @@ done_writes actor news changes S effect ws r me is files descs pipes = record {
   conclusion = ap (λ (e : Effect). e.conclusion) is;
 }
 
-appended3 : (before a b c l1 l2 l3 : List Change) → l1 ≡ before ++ a → l2 ≡ l1 ++ b → l3 ≡ l2 ++ c → l3 ≡ before ++ (a ++ b ++ c)
+pub appended3 : (before a b c l1 l2 l3 : List Change) → l1 ≡ before ++ a → l2 ≡ l1 ++ b → l3 ≡ l2 ++ c → l3 ≡ before ++ (a ++ b ++ c)
 appended3 before a b c l1 l2 l3 first second third =
     third ∙ ap (λ (l : List Change). l ++ c) (second ∙ ap (λ (l : List Change). l ++ b) first) ∙ simp append_assoc
 
@@ -152,7 +152,7 @@ dup_plan laws actor before first second now x plan sized is answer descriptions 
     done_writes actor (plan.desc ∷ []) [] S (dup_effect p me (named me x)) [] r new (answer p me refl) tt (descriptions p me S refl (λ d. refl)) refl)
     (λ held. (has_desc plan.desc.number.0 (named me x) (named_me actor x ∙ found), tt))
 
-appended2 : (before a b l1 l2 : List Change) → l1 ≡ before ++ a → l2 ≡ l1 ++ b → l2 ≡ before ++ (a ++ b)
+pub appended2 : (before a b l1 l2 : List Change) → l1 ≡ before ++ a → l2 ≡ l1 ++ b → l2 ≡ before ++ (a ++ b)
 appended2 before a b l1 l2 first second = second ∙ ap (λ (l : List Change). l ++ b) first ∙ append_assoc before a b
 
 -- the description with its flag is written, and nothing else
@@ -248,7 +248,7 @@ appended4 : (before a b c d l1 l2 l3 l4 : List Change) → l1 ≡ before ++ a �
 appended4 before a b c d l1 l2 l3 l4 first second third fourth =
     fourth ∙ ap (λ (l : List Change). l ++ d) (appended3 before a b c l1 l2 l3 first second third) ∙ simp append_assoc
 
-has_append : (o : Object) (os ps : List Object) → has o ps ≡ true → has o (os ++ ps) ≡ true
+pub has_append : (o : Object) (os ps : List Object) → has o ps ≡ true → has o (os ++ ps) ≡ true
 unfolding has
 has_append o [] ps there = there
 has_append o (x ∷ os) ps there = by (same_object o x) (has_append o os ps there)

@@ -17,7 +17,7 @@ use Rattle.tx_model.specs.Effects.{done}
 use Rattle.tx_model.specs.Memory.{is_good, is_mapped}
 use Rattle.tx_model.specs.Numbers.{below, failing}
 use Rattle.tx_model.specs.State.{Description, Process, Sending, State}
-use Rattle.tx_model.specs.Transfers.{breaks, has_reader, bytes_in, puts, writes, write_by_side, write_described, write_effect}
+use Rattle.tx_model.specs.Transfers.{reads, read_by_side, read_described, read_effect, breaks, has_reader, bytes_in, puts, writes, write_by_side, write_described, write_effect}
 
 -- write
 
@@ -73,5 +73,26 @@ write_open actor (Some d) address n desc held is = by (get_or actor.parts.now.de
     sided Write opened which e = let same : opened.desc ≡ desc = cc in ap (λ (z : Desc). writes actor.pid.0 (description_of z) address (below 513 n) (me_of actor) S) same
 
     by : (o : Option Opened) → end_at Write o ≡ Ok desc → write_described actor.pid.0 (described o) address n (me_of actor) S ≡ writes actor.pid.0 (description_of desc) address (below 513 n) (me_of actor) S
+    by None e = let never : ⊥ = cc in absurd never
+    by (Some opened) e = sided opened.desc.side opened refl e
+
+-- read
+
+-- a read from an open description of the side
+pub read_open : (actor : Actor) (x : Option ℕ) (address n : ℤ) (desc : Desc) (held : ℕ → List Sending) → end_at Read (opened_at actor.parts.now.descs x) ≡ Ok desc →
+    read_effect actor.pid.0 x address n (me_of actor) (state_of held actor.parts.now)
+    ≡ reads actor.pid.0 (description_of desc) address (below 513 n) (me_of actor) (state_of held actor.parts.now)
+read_open actor None address n desc held is = let never : ⊥ = cc in absurd never
+read_open actor (Some d) address n desc held is = by (get_or actor.parts.now.descs d None) is
+  where
+    S : State
+    S = state_of held actor.parts.now
+
+    sided : (side : Side) (opened : Opened) → opened.desc.side ≡ side → (if side_test Read (end_for side) then Ok opened.desc else Err BadDescriptor) ≡ Ok desc →
+        read_by_side (end_for side) actor.pid.0 (description_of opened.desc) address (below 513 n) (me_of actor) S ≡ reads actor.pid.0 (description_of desc) address (below 513 n) (me_of actor) S
+    sided Write opened which e = let never : ⊥ = cc in absurd never
+    sided Read opened which e = let same : opened.desc ≡ desc = cc in ap (λ (z : Desc). reads actor.pid.0 (description_of z) address (below 513 n) (me_of actor) S) same
+
+    by : (o : Option Opened) → end_at Read o ≡ Ok desc → read_described actor.pid.0 (described o) address n (me_of actor) S ≡ reads actor.pid.0 (description_of desc) address (below 513 n) (me_of actor) S
     by None e = let never : ⊥ = cc in absurd never
     by (Some opened) e = sided opened.desc.side opened refl e

@@ -180,7 +180,7 @@ endless_named parts (Some x) None R piped = by (has_description x.desc.pipe.0 R)
     by true = tt
     by false = (below, tt)
 
-pipe_there : (d : ℕ) (S : State) (k : ℕ) (x : Description) → S.descs d ≡ Some x → x.pipe ≡ k → has (model.Pipe k) (pipe_list (pipes_of (d ∷ []) S)) ≡ true
+pub pipe_there : (d : ℕ) (S : State) (k : ℕ) (x : Description) → S.descs d ≡ Some x → x.pipe ≡ k → has (model.Pipe k) (pipe_list (pipes_of (d ∷ []) S)) ≡ true
 unfolding has pipes_of
 pipe_there d S k x here same =
     ap (λ (y : Option Description). has (model.Pipe k) (pipe_list (pipe_of y ++ []))) here
