@@ -7,7 +7,7 @@ use Rattle.tx_change.specs.declared.change.Change.TheVariants.{Part as SetPart}
 use Rattle.tx_change.specs.declared.parts.Parts.{Parts}
 use Rattle.tx_proc.specs.declared.part.Part.TheVariants.{Answer as SetAnswer}
 use Rattle.tx_proc.specs.declared.proc.Proc.{Proc}
-use Rattle.tx_change.specs.Exchange.{parts_after, exchanged, Sizes, IsWithin, AreWithin}
+use Rattle.tx_change.specs.Exchange.{parts_after, exchanged}
 use Rattle.tx_change.specs.Own.{edited_by, edited, AreOf}
 use Rattle.tx_core.specs.Plans.{Gives, Plans, page_change, answer_in, next_answer}
 use Rattle.tx_model.specs.Pages.{Remembered}
