@@ -1,5 +1,5 @@
 -- What plans of calls put in place.
-use Rattle.std.specs.Prelude.{◌≡◌, ℕ, ◌<◌, List, [], ◌∷◌, Option, Some, None, Result, Ok, Err, if◌then◌else◌, nat_lt, ◌==◌, count_by, option_map, length, slice_index_or, slice_set}
+use Rattle.std.specs.Prelude.{◌≡◌, ◌≢◌, ℕ, ◌<◌, List, [], ◌∷◌, Option, Some, None, Result, Ok, Err, if◌then◌else◌, nat_lt, ◌==◌, count_by, option_map, length, slice_index_or, slice_set}
 use Rattle.tx_base.specs.declared.errors.Errno.{Errno}
 use Rattle.tx_base.specs.declared.names.DescNo.{DescNo}
 use Rattle.tx_desc.specs.declared.given.Given.{Given}
@@ -84,6 +84,16 @@ nonblock_puts (Err errno) = record { names = []; descs = [] }
 abbrev pub RenamesOf : Option ℕ → Option ℕ → Option Rename → Type 0
 RenamesOf named left None = Unit {0}
 RenamesOf named left (Some rename) = (named ≡ Some rename.named.number.0) × (left ≡ option_map (λ new. new.number.0) rename.left)
+
+-- the two descriptors of a rename are not the same one
+abbrev pub IsOfTwo : Option ℕ → Option ℕ → Option Rename → Type 0
+IsOfTwo f g None = Unit {0}
+IsOfTwo f g (Some rename) = f ≢ g
+
+-- the name that a rename gives up is of the description that is to have a name fewer
+abbrev pub GivesLeft : Option Given → Option Rename → Type 0
+GivesLeft given None = Unit {0}
+GivesLeft given (Some rename) = option_map (λ g. g.number.0) given ≡ option_map (λ new. new.number.0) rename.left
 
 -- the answer of a call, of its plan
 abbrev pub answer_of : {A B : Type 0} → (A → B) → Result A Errno → Result B Errno

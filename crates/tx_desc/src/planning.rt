@@ -8,7 +8,7 @@ ghost use Rattle.tx_desc.specs.Counts.{Agrees, HasRoom, KeepsCounts, others_of};
 ghost use Rattle.tx_desc.specs.Descriptions.{HasDescs, IsGone, changed_at, with_more, with_fewer};
 ghost use Rattle.tx_desc.specs.Outcomes.{RunsWith, given_up, pipe_outcome, dup_outcome, dup2_outcome, close_outcome, nonblock_outcome};
 ghost use Rattle.tx_desc.specs.Places.{named_in};
-ghost use Rattle.tx_desc.specs.Plans.{AreFree, AreInRange, RenamesOf, answer_of, put_names, put_descs, pipe_puts, dup_puts, dup2_puts, rename_puts, close_puts, nonblock_puts};
+ghost use Rattle.tx_desc.specs.Plans.{AreFree, AreInRange, GivesLeft, IsOfTwo, RenamesOf, answer_of, put_names, put_descs, pipe_puts, dup_puts, dup2_puts, rename_puts, close_puts, nonblock_puts};
 
 use crate::descs::Descs;
 use crate::given::{Given, Renamed};
@@ -111,6 +111,9 @@ impl FdTable {
         ensures counts { KeepsCounts self.now (put_names (dup2_puts result).names self.now) descs.now (put_descs (dup2_puts result).descs descs.now) }
         ensures gone { IfOk result (λ plan. IsGone plan.renamed.given descs.now (put_descs (dup2_puts result).descs descs.now)) }
         ensures changed { IfOk result (λ plan. RenamesOf (named_in self.now (descriptor fd)) (named_in self.now (descriptor other)) plan.rename) }
+        ensures fd { IfOk result (λ plan. plan.renamed.fd < 16) }
+        ensures apart { IfOk result (λ plan. IsOfTwo (descriptor fd) (descriptor other) plan.rename) }
+        ensures left { IfOk result (λ plan. GivesLeft plan.renamed.given plan.rename) }
         ensures numbers { AreInRange (dup2_puts result) }
     {
         self.sized();
@@ -146,6 +149,7 @@ impl FdTable {
             HasDescs (before_sends (close_effect p (descriptor fd) me S) S) (put_descs (close_puts result).descs descs.now) }
         ensures counts { KeepsCounts self.now (put_names (close_puts result).names self.now) descs.now (put_descs (close_puts result).descs descs.now) }
         ensures gone { IfOk result (λ plan. IsGone (Some plan.given) descs.now (put_descs (close_puts result).descs descs.now)) }
+        ensures given { IfOk result (λ plan. plan.given.number ≡ plan.desc.number) }
         ensures named { IfOk result (λ plan. named_in self.now (descriptor fd) ≡ Some plan.desc.number.0) }
         ensures numbers { AreInRange (close_puts result) }
     {
@@ -200,6 +204,7 @@ impl FdTable {
             ≡ changed_at (with_fewer 1) (slice_index_or self.now target None) (changed_at (with_more 1) (Some d.0) descs.now) }
         ensures gone { IsGone result.renamed.given descs.now (put_descs (rename_puts result.rename).descs descs.now) }
         ensures changed { RenamesOf (Some d.0) (slice_index_or self.now target None) result.rename }
+        ensures left { GivesLeft result.renamed.given result.rename }
         ensures numbers { AreInRange (rename_puts result.rename) }
     {
         self.sized();

@@ -16,4 +16,9 @@ pub mod EndStates
 pub mod Ended
 pub mod EndPlans
 pub mod Exited
+pub mod Named
+pub mod Released
+pub mod NamedCalls
+pub mod Piped
 pub mod Delivered
+pub mod PipedCalls

@@ -13,8 +13,8 @@ pub record PlanLaws : Type 0 where
   pub plans : PlansAreNamed
   pub call : CountsPlanned
   pub replaced : CountsReplaced
-  pub elsewhere : CountsElsewhere
   pub others : CountsWithOthers
+  pub elsewhere : CountsElsewhere
   pub room : RoomForName
   pub rooms : RoomForNames
   pub front : FrontIsRead

@@ -2,6 +2,8 @@ pub mod Actors
 pub mod Plans
 pub mod Own
 pub mod Posts
+pub mod Named
+pub mod Piped
 pub mod Laws
 pub mod Trees
 pub mod Discards
@@ -9,3 +11,4 @@ pub mod Returns
 pub mod Steps
 pub mod Sends
 pub mod Endings
+pub mod Calls

@@ -4,7 +4,9 @@
 
 mod actor;
 mod answers;
+mod calls;
 mod deliveries;
+mod descriptors;
 mod ending;
 mod ids;
 mod inside;
@@ -16,6 +18,7 @@ mod script;
 mod sends;
 mod signals;
 mod steps;
+mod transfers;
 mod trees;
 
 pub use actor::Actor;

@@ -66,6 +66,7 @@ impl Actor<'_> {
         self.parts.descs.sized();
         let descs = self.parts.descs.plan_raise_all(&self.proc.descriptors);
         let boxed = BoxedProc::new(alloc, self.proc.child(self.pid)?)?;
+        log.reserve(descs.len() + 2)?;
         push_descs(descs.as_slice(), log)?;
         log.push(Change::Slot(child, Some(boxed)))?;
         self.push_answer(child.0 as i64, log)?;

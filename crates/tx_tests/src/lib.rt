@@ -12,6 +12,8 @@ mod cred;
 #[cfg(test)]
 mod desc;
 #[cfg(test)]
+mod kernel;
+#[cfg(test)]
 mod machine;
 #[cfg(test)]
 mod pages;

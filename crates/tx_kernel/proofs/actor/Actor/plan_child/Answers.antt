@@ -1,6 +1,7 @@
 use Rattle.std.proofs.Common.{◌≡◌, ◌++◌, ◌∷◌, [], List, None, ℤ, pos, to_z, w64, arith, refl, sym, ap, subst, ◌∙◌}
 use Rattle.std.proofs.lemmas.Int.{ints}
 use Rattle.tx_change.specs.Counts.{desc_changes}
+use Rattle.tx_change.specs.declared.change.Change.{Change}
 use Rattle.tx_change.specs.declared.change.Change.TheVariants.{Part}
 use Rattle.tx_desc.specs.declared.plans.NewDesc.{NewDesc}
 use Rattle.tx_kernel.proofs.Forked.{fork_plans}
@@ -30,6 +31,7 @@ returns-clause-ok c =
     (fork_plans c.laws.ensures actor c.args.child c.in_ok-boxed.boxed c.plan_raise_all-descs.result.items c.args.log.now c.push_descs.new.log c.push.new.self c.push_answer.new.log c.sized.ensures
     c.requires.actor c.requires.number c.requires.free (ap process_of c.in_ok-boxed.ensures ∙ c.in_ok-child.ensures)
     descs.counts descs.descriptions descs.once descs.numbers
-    (c.in_ok-push_descs.ensures.ok ∙ ap (λ (xs : List NewDesc). c.args.log.now ++ desc_changes xs) c.as_slice.ensures.value)
+    (c.in_ok-push_descs.ensures.ok ∙ ap (λ (xs : List NewDesc). c.reserve.new.self ++ desc_changes xs) c.as_slice.ensures.value
+    ∙ ap (λ (old : List Change). old ++ desc_changes c.plan_raise_all-descs.result.items) c.in_ok-reserve.ensures)
     c.in_ok-push.ensures.ok
     (c.in_ok-push_answer.ensures.ok ∙ ap (λ (v : ℤ). c.push.new.self ++ Part actor.pid (SetAnswer (answer_after v actor)) ∷ []) told))

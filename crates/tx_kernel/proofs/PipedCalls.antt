@@ -1,0 +1,175 @@
+-- The plans of reads and writes.
+use Rattle.std.proofs.Common.{map, take, drop, ◌≡◌, ℕ, zero, suc, ◌+◌, ◌<◌, ◌≤◌, true, List, [], ◌∷◌, ◌++◌, length, ℤ, pos, Option, Some, None, IsSome, refl, ap, sym, subst, ◌∙◌, inl, inr, arith}
+use Rattle.tx_kernel.specs.Own.{page_change}
+use Rattle.tx_kernel.proofs.Owned.{AreOf-append, nameless-append, revised-append, pages_own, pages_nameless, pages_revised}
+use Rattle.tx_change.specs.Laws.{revised_by}
+use Rattle.std.proofs.lemmas.Bool.{cases_lt}
+use Rattle.std.proofs.lemmas.List.{get_or_past}
+use Rattle.tx_base.specs.declared.errors.Errno.TheVariants.{BrokenPipe}
+use Rattle.tx_base.specs.declared.names.PipeNo.{PipeNo}
+use Rattle.tx_change.specs.Exchange.{pipe_at}
+use Rattle.tx_change.specs.Pipes.{piped_in}
+use Rattle.tx_change.specs.States.{state_of}
+use Rattle.tx_change.specs.declared.change.Change.{Change}
+use Rattle.tx_change.specs.declared.change.Change.TheVariants.{Pipe}
+use Rattle.tx_change.specs.declared.pipes.PipePart.TheVariants.{Front, Back}
+use Rattle.tx_desc.specs.Counts.{KeepsCounts}
+use Rattle.tx_desc.specs.Descriptions.{described, description_of}
+use Rattle.tx_kernel.proofs.Named.{Files, files_plan}
+use Rattle.tx_kernel.proofs.NamedCalls.{answered_files, appended2, done_writes, has_append, last_answer}
+use Rattle.tx_kernel.proofs.OwnPlans.{held_quiet}
+use Rattle.tx_kernel.proofs.Released.{pipe_there}
+use Rattle.tx_kernel.specs.Actors.{me_of, inside_of, HasPipe, IsActor}
+use Rattle.tx_kernel.specs.Laws.{PlanLaws}
+use Rattle.tx_kernel.specs.Piped.{CanTake, TakesBytes, held_in, put_bytes, broken, CanPut, NamesPipe}
+use Rattle.tx_kernel.specs.Plans.{Plans, held_after, quiet}
+use Rattle.tx_kernel.specs.declared.actor.Actor.{Actor}
+use Rattle.tx_kernel.specs.declared.inside.Inside.{Inside}
+use Rattle.tx_kernel.specs.declared.planned.Outcome.TheVariants.{Done}
+use Rattle.tx_model.specs.Descriptors.{desc_objects, desc_pipe_objects, listed, pipe_list, pipes_of}
+use Rattle.tx_model.specs.Effects.{Effect, before_sends, done_with, noted}
+use Rattle.tx_model.specs.Memory.{stored, Memory, address_of, bytes_at, bytes_from}
+use Rattle.tx_model.specs.Numbers.{failing}
+use Rattle.tx_model.specs.State.{Process, Sending, State, SetPipe, has, put_at, written}
+use Rattle.tx_model.specs.State as model
+use Rattle.tx_model.specs.Transfers.{read_effect, breaks, bytes_in, write_effect}
+
+-- the pipe that a descriptor names
+
+-- it is there
+some_held : (o : Option (List ℕ)) → IsSome o → o ≡ Some (bytes_in o)
+some_held None there = let never : ⊥ = cc in absurd never
+some_held (Some bytes) there = refl
+
+is_piped : (actor : Actor) (x : Option ℕ) (pipe : PipeNo) → IsActor actor → NamesPipe actor x pipe → IsSome (pipe_at actor.parts.now.pipes pipe.0)
+is_piped actor x pipe is names =
+    let there = subst (HasPipe actor.parts.now.pipes) names.there (is.whole.piped names.number) in
+    subst (λ (k : PipeNo). IsSome (pipe_at actor.parts.now.pipes k.0)) names.same there
+
+pipe_held : (actor : Actor) (x : Option ℕ) (pipe : PipeNo) → IsActor actor → NamesPipe actor x pipe → pipe_at actor.parts.now.pipes pipe.0 ≡ Some (held_in actor pipe)
+pipe_held actor x pipe is names = some_held (pipe_at actor.parts.now.pipes pipe.0) (is_piped actor x pipe is names)
+
+pipe_inside : (actor : Actor) (x : Option ℕ) (pipe : PipeNo) → IsActor actor → NamesPipe actor x pipe → pipe.0 < length actor.parts.now.pipes
+pipe_inside actor x pipe is names = elim (cases_lt pipe.0 (length actor.parts.now.pipes)) [
+  | inl inside ↦ inside
+  | inr past ↦ let held = pipe_held actor x pipe is names in let none = get_or_past actor.parts.now.pipes pipe.0 None past in let never : ⊥ = cc in absurd never
+]
+
+-- and one of the objects
+pipe_among : (actor : Actor) (x : Option ℕ) (pipe : PipeNo) (held : ℕ → List Sending) → NamesPipe actor x pipe →
+    has (model.Pipe pipe.0) (desc_pipe_objects (listed x) (state_of held actor.parts.now)) ≡ true
+pipe_among actor x pipe held names =
+    let S : State = state_of held actor.parts.now in
+    subst (λ (y : Option ℕ). has (model.Pipe pipe.0) (desc_pipe_objects (listed y) S) ≡ true) (sym names.names)
+    (has_append (model.Pipe pipe.0) (desc_objects (names.number ∷ [])) (pipe_list (pipes_of (names.number ∷ []) S))
+    (pipe_there names.number S pipe.0 (description_of names.opened.desc) (ap described names.there) (ap (λ (k : PipeNo). k.0) names.same)))
+
+keeps_same : (actor : Actor) → KeepsCounts actor.proc.now.descriptors actor.proc.now.descriptors actor.parts.now.descs actor.parts.now.descs
+keeps_same actor = record { each = λ d others names. names }
+
+-- write
+
+few_bytes : (memory : Memory) (address : Option ℕ) (n : ℕ) → length (bytes_at memory address n) ≤ n
+few_bytes memory None n = omega arith
+few_bytes memory (Some address) n = by address n
+  where
+    by : (a k : ℕ) → length (bytes_from memory a k) ≤ k
+    by a zero = omega arith
+    by a (suc k) = let rest = by (a + 1) k in omega (arith, rest)
+
+pub put_plan : (laws : PlanLaws) (actor : Actor) (before first now : List Change) (x : Option ℕ) (address count : ℤ) (pipe : PipeNo) (n : ℕ) →
+    length actor.parts.now.descs ≡ 64 → IsActor actor →
+    ((held : ℕ → List Sending) → write_effect actor.pid.0 x address count (me_of actor) (state_of held actor.parts.now)
+    ≡ done_with (SetPipe pipe.0 (Some (held_in actor pipe ++ put_bytes actor address n)) ∷ []) actor.pid.0 (pos n) (me_of actor)) →
+    NamesPipe actor x pipe → CanPut actor address pipe n →
+    first ≡ before ++ Pipe pipe (Back 0 (put_bytes actor address n)) ∷ [] → now ≡ first ++ last_answer (pos n) actor →
+    Plans actor before now (quiet (Done (pos n))) (λ S. write_effect actor.pid.0 x address count (me_of actor) S) (λ S. desc_pipe_objects (listed x) S)
+unfolding written
+put_plan laws actor before first now x address count pipe n sized is effect names can one two =
+    let p : ℕ = actor.pid.0 in
+    let me : Process = me_of actor in
+    let bytes : List ℕ = put_bytes actor address n in
+    let held_bytes : List ℕ = held_in actor pipe in
+    let changes : List Change = Pipe pipe (Back 0 bytes) ∷ [] in
+    let few = few_bytes me.memory (address_of address) n in
+    let put : piped_in (pipe_at actor.parts.now.pipes pipe.0) (Back 0 bytes) ≡ Some (held_bytes ++ bytes) =
+    ap (λ (o : Option (List ℕ)). piped_in o (Back 0 bytes)) (pipe_held actor x pipe is names) ∙ laws.back held_bytes bytes (let room = can.room in omega (arith, room, few)) in
+    files_plan laws actor before now (quiet (Done (pos n))) (λ S. write_effect p x address count me S) (λ S. desc_pipe_objects (listed x) S) (noted (pos n) me)
+    (answered_files actor [] [] changes (pos n) tt tt tt (pipe_inside actor x pipe is names, tt) (keeps_same actor)) sized is
+    (appended2 before changes (last_answer (pos n) actor) first now one two)
+    (held_quiet actor.inside (Done (pos n)))
+    (λ held counted. let S : State = state_of held actor.parts.now in
+    done_writes actor [] changes S (write_effect p x address count me S) (SetPipe pipe.0 (Some (held_bytes ++ bytes)) ∷ []) (pos n) me (effect held) (tt, tt)
+    (λ d. ap (λ (e : Effect). (before_sends e S).descs d) (effect held)) (ap (λ (o : Option (List ℕ)). put_at S.pipes pipe.0 o) (sym put)))
+    (λ held. (pipe_among actor x pipe held names, tt))
+
+-- a write without a reader
+pub broken_plan : (laws : PlanLaws) (actor : Actor) (before now : List Change) (x : Option ℕ) (address count : ℤ) → length actor.parts.now.descs ≡ 64 → IsActor actor →
+    ((held : ℕ → List Sending) → write_effect actor.pid.0 x address count (me_of actor) (state_of held actor.parts.now) ≡ breaks actor.pid.0 (me_of actor)) →
+    now ≡ before ++ last_answer (failing BrokenPipe) actor →
+    Plans actor before now (broken actor) (λ S. write_effect actor.pid.0 x address count (me_of actor) S) (λ S. desc_pipe_objects (listed x) S)
+unfolding written
+broken_plan laws actor before now x address count sized is effect added =
+    let p : ℕ = actor.pid.0 in
+    let me : Process = me_of actor in
+    let r : ℤ = failing BrokenPipe in
+    files_plan laws actor before now (broken actor) (λ S. write_effect p x address count me S) (λ S. desc_pipe_objects (listed x) S) (noted r me)
+    (answered_files actor [] [] [] r tt tt tt tt (keeps_same actor)) sized is added
+    (kept actor.inside)
+    (λ held counted. let S : State = state_of held actor.parts.now in
+    record {
+      more = [];
+      files = tt;
+      writes = ap (λ (e : Effect). e.writes) (effect held);
+      descs = λ d. ap (λ (e : Effect). (before_sends e S).descs d) (effect held);
+      pipes = ap (λ (e : Effect). (before_sends e S).pipes) (effect held);
+      sends = ap (λ (e : Effect). e.sends) (effect held);
+      conclusion = ap (λ (e : Effect). e.conclusion) (effect held);
+    })
+    (λ held. tt)
+  where
+    kept : (inside : Option Inside) (held : ℕ → List Sending) → held_after (inside_of inside) (broken actor).sends held ≡ held
+    kept None held = refl
+    kept (Some inside) held = refl
+
+-- read
+
+pub take_plan : (laws : PlanLaws) (actor : Actor) (before first now : List Change) (x : Option ℕ) (address count : ℤ) (pipe : PipeNo) (n : ℕ) →
+    length actor.parts.now.descs ≡ 64 → IsActor actor →
+    ((held : ℕ → List Sending) → read_effect actor.pid.0 x address count (me_of actor) (state_of held actor.parts.now)
+    ≡ done_with (SetPipe pipe.0 (Some (drop n (held_in actor pipe))) ∷ []) actor.pid.0 (pos n)
+    (record (me_of actor) { memory = stored (me_of actor).memory (address_of address) (take n (held_in actor pipe)) })) →
+    NamesPipe actor x pipe → CanTake actor pipe n → TakesBytes actor before first pipe address n → now ≡ first ++ last_answer (pos n) actor →
+    Plans actor before now (quiet (Done (pos n))) (λ S. read_effect actor.pid.0 x address count (me_of actor) S) (λ S. desc_pipe_objects (listed x) S)
+unfolding written
+take_plan laws actor before first now x address count pipe n sized is effect names can takes two =
+    let p : ℕ = actor.pid.0 in
+    let me : Process = me_of actor in
+    let held_bytes : List ℕ = held_in actor pipe in
+    let pages : List Change = map (page_change actor.pid) takes.pages in
+    let new : Process = record me { memory = stored me.memory (address_of address) (take n held_bytes) } in
+    let changes : List Change = Pipe pipe (Front n []) ∷ [] in
+    let taken : piped_in (pipe_at actor.parts.now.pipes pipe.0) (Front n []) ≡ Some (drop n held_bytes) =
+    ap (λ (o : Option (List ℕ)). piped_in o (Front n [])) (pipe_held actor x pipe is names) ∙ laws.front held_bytes n can.held can.fits in
+    let files : Files actor (noted (pos n) new) = record {
+      names = [];
+      descs = [];
+      pipes = changes;
+      own = pages ++ last_answer (pos n) actor;
+      fds = tt;
+      numbers = tt;
+      are_pipes = tt;
+      pipes_named = (pipe_inside actor x pipe is names, tt);
+      are_own = AreOf-append p pages (last_answer (pos n) actor) (pages_own actor.pid takes.pages takes.numbered) ((refl, tt), tt);
+      nameless = nameless-append pages (last_answer (pos n) actor) (pages_nameless actor.pid takes.pages) (tt, tt);
+      keeps = keeps_same actor;
+      process = revised-append pages (last_answer (pos n) actor) me
+          ∙ ap (revised_by (last_answer (pos n) actor)) (pages_revised actor.pid takes.pages me ∙ ap (λ (m : Memory). record me { memory = m }) takes.memory);
+    } in
+    files_plan laws actor before now (quiet (Done (pos n))) (λ S. read_effect p x address count me S) (λ S. desc_pipe_objects (listed x) S) (noted (pos n) new) files sized is
+    (appended2 before (changes ++ pages) (last_answer (pos n) actor) first now takes.added two)
+    (held_quiet actor.inside (Done (pos n)))
+    (λ held counted. let S : State = state_of held actor.parts.now in
+    done_writes actor [] changes S (read_effect p x address count me S) (SetPipe pipe.0 (Some (drop n held_bytes)) ∷ []) (pos n) new (effect held) (tt, tt)
+    (λ d. ap (λ (e : Effect). (before_sends e S).descs d) (effect held)) (ap (λ (o : Option (List ℕ)). put_at S.pipes pipe.0 o) (sym taken)))
+    (λ held. (pipe_among actor x pipe held names, tt))

@@ -1,0 +1,301 @@
+//! The calls on descriptors, descriptions and new pipes.
+ghost use Rattle.std.specs.Prelude.{◌≡◌, ◌<◌, ◌⊎◌, ◌++◌, ◌∷◌, [], ℕ, List, IfOk, IfErr, OnOk, OnErr};
+ghost use Rattle.tx_change.specs.Counts.{name_changes, desc_changes};
+ghost use Rattle.tx_change.specs.States.{state_of};
+ghost use Rattle.tx_desc.specs.Plans.{AreFds, AreNumbers, put_descs, rename_puts};
+ghost use Rattle.tx_kernel.specs.Actors.{IsActor, me_of};
+ghost use Rattle.tx_kernel.specs.Named.{described_by, endless_changes, gone_of, pipe_changes, rename_changes, slot_change};
+ghost use Rattle.tx_kernel.specs.Plans.{Plans, RefusedBy, IsBadChoice, Extends};
+ghost use Rattle.tx_model.specs.Answer.{ChoosesPipe, is_bad_choice};
+ghost use Rattle.tx_model.specs.Descriptors.{close_effect, descriptor, desc_objects, desc_pipe_objects, dup_effect, dup2_effect, dup2_objects, is_pipe_in_use, listed, named, nonblock_effect, pipe_effect, pipe_objects};
+ghost use Rattle.tx_model.specs.State.{Sending};
+
+use crate::actor::Actor;
+use crate::laws::laws;
+use crate::planned::{Outcome, Planned};
+use std::alloc::Global;
+use tx_base::{DESCRIPTIONS, DescNo, NoMemory, PIPES, PipeNo, Refusal};
+use tx_change::{BoxedPipe, Change, Log, PipePart};
+use tx_desc::{Desc, Given, NewDesc, NewName, PipePlan, Rename};
+use tx_pipe::Pipe;
+use tx_proc::{Part, Register};
+
+impl Actor<'_> {
+    /// Makes the pipe of this number with the descriptions of its two sides, and has the two lowest
+    /// free descriptors name them, the reading side first (POSIX.1-2017, XSH, pipe()). The first two
+    /// slots of the registers keep the descriptors.
+    ///
+    /// Answers EMFILE where fewer than two descriptors are free. BadNumber where a number is out of
+    /// range or both descriptions have the same, NumberTaken where one is in use, and NoMemory where a
+    /// growth is refused; the log then has more at its end at most.
+    pub(crate) fn plan_pipe(
+        &self,
+        alloc: Global,
+        pipe: PipeNo,
+        read: DescNo,
+        write: DescNo,
+        log: &mut Log,
+    ) -> Result<Planned, Refusal>
+        requires { IsActor self.now }
+        ensures ok { IfOk result (λ planned. Plans self.now log.old log.new planned
+            (λ S. pipe_effect self.now.pid.0 pipe.0 read.0 write.0 (me_of self.now) S)
+            (λ S. pipe_objects pipe.0 read.0 write.0)) }
+        ensures refused { IfErr result (λ why. RefusedBy self.now why (λ S. pipe_effect self.now.pid.0 pipe.0 read.0 write.0 (me_of self.now) S)
+            ⊎ IsBadChoice self.now why (ChoosesPipe pipe.0 read.0 write.0)) }
+        ensures log { OnErr result (Extends log.old log.new) }
+    {
+        laws();
+        self.parts.descs.sized();
+        self.parts.pipes.sized();
+        if is_bad_pipe(pipe, read, write) {
+            return Err(Refusal::BadNumber);
+        }
+        if self.has_taken(pipe, read, write) {
+            return Err(Refusal::NumberTaken);
+        }
+        match self.proc.descriptors.plan_pipe(pipe, read, write) {
+            Ok(plan) => {
+                self.push_pipe(alloc, pipe, plan, log)?;
+                Ok(Planned::quiet(Outcome::Done(0)))
+            }
+            Err(errno) => self.plan_failure(errno, log),
+        }
+    }
+
+    /// Names the description of a descriptor with the lowest free one too (POSIX.1-2017, XSH,
+    /// dup()).
+    ///
+    /// Answers EBADF where the descriptor is not 0 to 15 or is not open, and EMFILE where no
+    /// descriptor is free. NoMemory where a growth is refused; the log then has more at its end at
+    /// most.
+    pub(crate) fn plan_dup(&self, fd: i64, log: &mut Log) -> Result<Planned, Refusal>
+        requires { IsActor self.now }
+        ensures ok { IfOk result (λ planned. Plans self.now log.old log.new planned
+            (λ S. dup_effect self.now.pid.0 (me_of self.now) (named (me_of self.now) (descriptor fd)))
+            (λ S. desc_objects (listed (named (me_of self.now) (descriptor fd))))) }
+        ensures refused { IfErr result (λ why. RefusedBy self.now why (λ S. dup_effect self.now.pid.0 (me_of self.now) (named (me_of self.now) (descriptor fd)))) }
+        ensures log { OnErr result (Extends log.old log.new) }
+    {
+        laws();
+        self.parts.descs.sized();
+        match self.proc.descriptors.plan_dup(&self.parts.descs, fd) {
+            Ok(plan) => {
+                self.push_name(plan.name, log)?;
+                self.push_desc(plan.desc, log)?;
+                let ret = plan.name.fd as i64;
+                self.push_answer(ret, log)?;
+                Ok(Planned::quiet(Outcome::Done(ret)))
+            }
+            Err(errno) => self.plan_failure(errno, log),
+        }
+    }
+
+    /// Has a descriptor name the description of another one (POSIX.1-2017, XSH, dup2()). What it named
+    /// before is given up as by a close; where the two are the same nothing changes.
+    ///
+    /// Answers EBADF where the first descriptor is not 0 to 15 or is not open, or the second is not 0
+    /// to 15. NoMemory where a growth is refused; the log then has more at its end at most.
+    pub(crate) fn plan_dup2(&self, fd: i64, other: i64, log: &mut Log) -> Result<Planned, Refusal>
+        requires { IsActor self.now }
+        ensures ok { IfOk result (λ planned. Plans self.now log.old log.new planned
+            (λ S. dup2_effect self.now.pid.0 (descriptor fd) (descriptor other) (me_of self.now) S)
+            (λ S. dup2_objects (descriptor fd) (descriptor other) (me_of self.now) S)) }
+        ensures refused { IfErr result (λ why. RefusedBy self.now why (λ S. dup2_effect self.now.pid.0 (descriptor fd) (descriptor other) (me_of self.now) S)) }
+        ensures log { OnErr result (Extends log.old log.new) }
+    {
+        laws();
+        self.parts.descs.sized();
+        match self
+            .proc
+            .descriptors
+            .plan_dup2(&self.parts.descs, fd, other)
+        {
+            Ok(plan) => {
+                self.push_rename(plan.renamed.given, plan.rename, log)?;
+                let ret = plan.renamed.fd as i64;
+                self.push_answer(ret, log)?;
+                Ok(Planned::quiet(Outcome::Done(ret)))
+            }
+            Err(errno) => self.plan_failure(errno, log),
+        }
+    }
+
+    /// Closes a descriptor (POSIX.1-2017, XSH, close()). A description that nothing names any more
+    /// goes, and the pipe with the last description of it.
+    ///
+    /// Answers EBADF where the descriptor is not 0 to 15 or is not open. NoMemory where a growth is
+    /// refused; the log then has more at its end at most.
+    pub(crate) fn plan_close(&self, fd: i64, log: &mut Log) -> Result<Planned, Refusal>
+        requires { IsActor self.now }
+        ensures ok { IfOk result (λ planned. Plans self.now log.old log.new planned
+            (λ S. close_effect self.now.pid.0 (descriptor fd) (me_of self.now) S)
+            (λ S. desc_pipe_objects (listed (named (me_of self.now) (descriptor fd))) S)) }
+        ensures refused { IfErr result (λ why. RefusedBy self.now why (λ S. close_effect self.now.pid.0 (descriptor fd) (me_of self.now) S)) }
+        ensures log { OnErr result (Extends log.old log.new) }
+    {
+        laws();
+        self.parts.descs.sized();
+        match self.proc.descriptors.plan_close(&self.parts.descs, fd) {
+            Ok(plan) => {
+                self.push_name(plan.name, log)?;
+                self.push_desc(plan.desc, log)?;
+                self.push_endless(plan.given.gone, &[plan.desc], log)?;
+                self.push_answer(0, log)?;
+                Ok(Planned::quiet(Outcome::Done(0)))
+            }
+            Err(errno) => self.plan_failure(errno, log),
+        }
+    }
+
+    /// Says whether reads and writes of the description of a descriptor are refused where they
+    /// would wait (POSIX.1-2017, XSH, fcntl(), O_NONBLOCK).
+    ///
+    /// Answers EBADF where the descriptor is not 0 to 15 or is not open. NoMemory where a growth is
+    /// refused; the log then has more at its end at most.
+    pub(crate) fn plan_nonblock(&self, fd: i64, on: bool, log: &mut Log) -> Result<Planned, Refusal>
+        requires { IsActor self.now }
+        ensures ok { IfOk result (λ planned. Plans self.now log.old log.new planned
+            (λ S. nonblock_effect self.now.pid.0 on (me_of self.now) (named (me_of self.now) (descriptor fd)) S)
+            (λ S. desc_objects (listed (named (me_of self.now) (descriptor fd))))) }
+        ensures refused { IfErr result (λ why. RefusedBy self.now why (λ S. nonblock_effect self.now.pid.0 on (me_of self.now) (named (me_of self.now) (descriptor fd)) S)) }
+        ensures log { OnErr result (Extends log.old log.new) }
+    {
+        laws();
+        self.parts.descs.sized();
+        match self
+            .proc
+            .descriptors
+            .plan_nonblock(&self.parts.descs, fd, on)
+        {
+            Ok(new) => {
+                self.push_desc(new, log)?;
+                self.push_answer(0, log)?;
+                Ok(Planned::quiet(Outcome::Done(0)))
+            }
+            Err(errno) => self.plan_failure(errno, log),
+        }
+    }
+
+    /// Whether the number of a pipe is in use, or that of one of two descriptions.
+    fn has_taken(&self, pipe: PipeNo, read: DescNo, write: DescNo) -> bool
+        ensures { (held : ℕ → List Sending) → result ≡ is_pipe_in_use pipe.0 read.0 write.0 (state_of held self.now.parts.now) }
+    {
+        self.parts.pipes.get(pipe).is_some()
+            || self.parts.descs.get(read).is_some()
+            || self.parts.descs.get(write).is_some()
+    }
+
+    /// Appends the changes of a new pipe, and its answer.
+    fn push_pipe(
+        &self,
+        alloc: Global,
+        pipe: PipeNo,
+        plan: PipePlan,
+        log: &mut Log,
+    ) -> Result<(), NoMemory>
+        requires { AreFds (plan.read_name ∷ plan.write_name ∷ []) }
+        ensures ok { OnOk result (log.new ≡ log.old ++ pipe_changes self.now pipe plan) }
+        ensures err { OnErr result (Extends log.old log.new) }
+    {
+        let boxed = BoxedPipe::new(alloc, Pipe::new())?;
+        self.push_name(plan.read_name, log)?;
+        self.push_name(plan.write_name, log)?;
+        self.push_desc(plan.read, log)?;
+        self.push_desc(plan.write, log)?;
+        log.push(Change::Pipe(pipe, PipePart::Whole(Some(boxed))))?;
+        self.push_slot(0, plan.read_name.fd, log)?;
+        self.push_slot(1, plan.write_name.fd, log)?;
+        self.push_answer(0, log)?;
+        Ok(())
+    }
+
+    /// Appends that a slot of the registers keeps a descriptor. After want of memory the log is as it
+    /// was.
+    fn push_slot(&self, number: usize, fd: usize, log: &mut Log) -> Result<(), NoMemory>
+        requires { fd < 16 }
+        ensures ok { OnOk result (log.new ≡ log.old ++ slot_change self.now.pid number fd ∷ []) }
+        ensures err { OnErr result (log.new ≡ log.old) }
+    {
+        let value = fd as i64;
+        self.push(Part::Register(Register { number, value }), log)
+    }
+
+    /// Appends what a descriptor is to name. After want of memory the log is as it was.
+    fn push_name(&self, new: NewName, log: &mut Log) -> Result<(), NoMemory>
+        ensures ok { OnOk result (log.new ≡ log.old ++ name_changes self.now.pid (new ∷ [])) }
+        ensures err { OnErr result (log.new ≡ log.old) }
+    {
+        self.push(Part::Descriptor(new.fd, new.name), log)
+    }
+
+    /// Appends what a description number is to have. After want of memory the log is as it was.
+    fn push_desc(&self, new: NewDesc, log: &mut Log) -> Result<(), NoMemory>
+        ensures ok { OnOk result (log.new ≡ log.old ++ desc_changes (new ∷ [])) }
+        ensures err { OnErr result (log.new ≡ log.old) }
+    {
+        log.push(Change::Description(new.number, new.opened))
+    }
+
+    /// Appends that the pipe of a description which is gone goes too, where none names it once these
+    /// are in place. After want of memory the log is as it was.
+    fn push_endless(
+        &self,
+        gone: Option<Desc>,
+        news: &[NewDesc],
+        log: &mut Log,
+    ) -> Result<(), NoMemory>
+        requires { AreNumbers news.now }
+        ensures ok { OnOk result (log.new ≡ log.old ++ endless_changes gone (described_by self.now.parts.now (put_descs news.now self.now.parts.now.descs))) }
+        ensures err { OnErr result (log.new ≡ log.old) }
+    {
+        let Some(desc) = gone else {
+            return Ok(());
+        };
+        if self.parts.descs.names_pipe_with(desc.pipe, news) {
+            return Ok(());
+        }
+        log.push(Change::Pipe(desc.pipe, PipePart::Whole(None)))
+    }
+
+    /// Appends a rename, if there is one, and what goes with the name that is given up.
+    fn push_rename(
+        &self,
+        given: Option<Given>,
+        rename: Option<Rename>,
+        log: &mut Log,
+    ) -> Result<(), NoMemory>
+        requires { AreNumbers (rename_puts rename).descs }
+        ensures ok { OnOk result (log.new ≡ log.old ++ rename_changes self.now.pid self.now.parts.now given rename) }
+        ensures err { OnErr result (Extends log.old log.new) }
+    {
+        let Some(rename) = rename else {
+            return Ok(());
+        };
+        self.push_name(rename.name, log)?;
+        self.push_desc(rename.named, log)?;
+        let Some(left) = rename.left else {
+            return Ok(());
+        };
+        self.push_desc(left, log)?;
+        self.push_endless(gone_with(given), &[rename.named, left], log)?;
+        Ok(())
+    }
+}
+
+/// The description that went with a name, if one did.
+fn gone_with(given: Option<Given>) -> Option<Desc>
+    ensures { result ≡ gone_of given }
+{
+    given?.gone
+}
+
+/// Whether the numbers of a pipe and of its two descriptions can't be chosen: one is out of range, or
+/// the descriptions have the same.
+fn is_bad_pipe(pipe: PipeNo, read: DescNo, write: DescNo) -> bool
+    ensures { (width : ℕ) → result ≡ is_bad_choice width (ChoosesPipe pipe.0 read.0 write.0) }
+{
+    let in_range = (pipe.0 as usize) < PIPES
+        && (read.0 as usize) < DESCRIPTIONS
+        && (write.0 as usize) < DESCRIPTIONS;
+    !in_range || read == write
+}

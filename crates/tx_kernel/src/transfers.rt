@@ -1,0 +1,373 @@
+//! The calls that read from a pipe and write to it.
+ghost use Rattle.std.specs.Prelude.{◌≡◌, ◌≤◌, ◌+◌, ◌++◌, ◌∷◌, [], ℕ, ℤ, List, Ok, true, length, IfOk, IfErr, IsSome, OnOk, OnErr};
+ghost use Rattle.tx_change.specs.Exchange.{pipe_at};
+ghost use Rattle.tx_change.specs.States.{state_of};
+ghost use Rattle.tx_base.specs.declared.errors.Errno.TheVariants.{BrokenPipe};
+ghost use Rattle.tx_change.specs.declared.change.Change.TheVariants.{Part as SetPart, Pipe as SetPipe};
+ghost use Rattle.tx_change.specs.declared.pipes.PipePart.TheVariants.{Back};
+ghost use Rattle.tx_desc.specs.Descriptions.{description_of};
+ghost use Rattle.tx_kernel.specs.Actors.{IsActor, me_of};
+ghost use Rattle.tx_kernel.specs.Own.{answer_after};
+ghost use Rattle.tx_kernel.specs.Piped.{CanPut, CanTake, IsReadyToTake, TakesBytes, TakesFrom, reading_effect, broken, broken_sending, put_bytes, opened_at, end_at, held_in, writing_effect, IsPutting, IsReadyToPut, PutsTo};
+ghost use Rattle.tx_kernel.specs.Plans.{Plans, RefusedBy, Extends, sending_of, sent_at_once};
+ghost use Rattle.tx_model.specs.Descriptors.{descriptor, desc_pipe_objects, listed, named};
+ghost use Rattle.tx_model.specs.Memory.{address_of, bytes_at, is_good, is_mapped};
+ghost use Rattle.tx_model.specs.Numbers.{below, failing};
+ghost use Rattle.tx_model.specs.State.{Sending as TheSending, State};
+ghost use Rattle.tx_proc.specs.declared.part.Part.TheVariants.{Answer as SetAnswer};
+ghost use Rattle.tx_model.specs.Transfers.{drains, has_writer, read_effect, reads, write_effect, writes};
+
+use crate::actor::Actor;
+use crate::answers::failing;
+use crate::laws::laws;
+use crate::planned::{Outcome, Planned, Sends};
+use std::alloc::Global;
+use tx_base::{Errno, NoMemory, PIPE_BYTES, PipeNo, Refusal, SIGPIPE, Sending, number_below};
+use tx_change::{BoxedPipe, Change, Log, PipePart};
+use tx_desc::{Desc, Side};
+use tx_pages::Access;
+use tx_pipe::Pipe;
+
+/// What a write comes to, where it is no error.
+#[derive(Clone, Copy, PartialEq, Eq, Debug)]
+pub(crate) enum Writing {
+    /// No byte was asked for.
+    Nothing,
+    /// No reader is left.
+    Breaks,
+    /// There is no room, and the description blocks.
+    Waits,
+    /// So many bytes go to the pipe.
+    Puts(PipeNo, usize),
+}
+
+/// What a read comes to, where it is no error.
+#[derive(Clone, Copy, PartialEq, Eq, Debug)]
+pub(crate) enum Reading {
+    /// No byte was asked for, or the pipe is empty and no writer is left.
+    Nothing,
+    /// The pipe is empty, and the description blocks.
+    Waits,
+    /// So many bytes come from the pipe.
+    Takes(PipeNo, usize),
+}
+
+impl Actor<'_> {
+    /// Reads up to so many bytes from the pipe of a descriptor to an address (POSIX.1-2017, XSH,
+    /// read()).
+    ///
+    /// Answers EBADF where the descriptor is not 0 to 15 or is not open for reading, EINVAL where the
+    /// count is not 0 to 512, EFAULT where bytes may not be written, and EAGAIN where the pipe is
+    /// empty with a writer left and the description does not block. Wait where it does; NoMemory
+    /// where a growth is refused. The log then has more at its end at most.
+    pub(crate) fn plan_read(
+        &self,
+        alloc: Global,
+        fd: i64,
+        address: i64,
+        count: i64,
+        log: &mut Log,
+    ) -> Result<Planned, Refusal>
+        requires { IsActor self.now }
+        ensures ok { IfOk result (λ planned. Plans self.now log.old log.new planned
+            (λ S. read_effect self.now.pid.0 (named (me_of self.now) (descriptor fd)) address count (me_of self.now) S)
+            (λ S. desc_pipe_objects (listed (named (me_of self.now) (descriptor fd))) S)) }
+        ensures refused { IfErr result (λ why. RefusedBy self.now why
+            (λ S. read_effect self.now.pid.0 (named (me_of self.now) (descriptor fd)) address count (me_of self.now) S)) }
+        ensures log { OnErr result (Extends log.old log.new) }
+    {
+        laws();
+        self.parts.descs.sized();
+        match self.reading(fd, address, count) {
+            Ok(Reading::Nothing) => self.plan_done(0, log),
+            Ok(Reading::Waits) => Err(Refusal::Wait),
+            Ok(Reading::Takes(pipe, n)) => {
+                self.push_take(alloc, pipe, address, n, log)?;
+                let ret = n as i64;
+                self.push_answer(ret, log)?;
+                Ok(Planned::quiet(Outcome::Done(ret)))
+            }
+            Err(errno) => self.plan_failure(errno, log),
+        }
+    }
+
+    /// Appends that bytes go from a pipe to the memory, at an address that is good for them.
+    fn push_take(
+        &self,
+        alloc: Global,
+        pipe: PipeNo,
+        address: i64,
+        n: usize,
+        log: &mut Log,
+    ) -> Result<(), NoMemory>
+        requires { CanTake self.now pipe n }
+        ensures ok { OnOk result (TakesBytes self.now log.old log.new pipe address n) }
+        ensures err { OnErr result (Extends log.old log.new) }
+    {
+        // The address is good, so want of memory is the only error that is left.
+        let Ok(new) = self
+            .proc
+            .space
+            .plan_store(alloc, address, &self.held_bytes(pipe)[..n])
+        else {
+            return Err(NoMemory);
+        };
+        let none = BoxedPipe::new(alloc, Pipe::new())?;
+        log.push(Change::Pipe(pipe, PipePart::Front(n, none)))?;
+        self.push_pages(new, log)?;
+        Ok(())
+    }
+
+    /// What a read comes to.
+    fn reading(&self, fd: i64, address: i64, count: i64) -> Result<Reading, Errno>
+        requires { IsActor self.now }
+        ensures effect { (held : ℕ → List TheSending) →
+            read_effect self.now.pid.0 (named (me_of self.now) (descriptor fd)) address count (me_of self.now) (state_of held self.now.parts.now)
+            ≡ reading_effect self.now address result (state_of held self.now.parts.now) }
+        ensures ready { IfOk result (λ reading. TakesFrom self.now (named (me_of self.now) (descriptor fd)) reading) }
+    {
+        let desc = self.open_end(fd, Side::Read)?;
+        self.reading_from(desc, address, count)
+    }
+
+    /// What a read from the description comes to.
+    fn reading_from(&self, desc: Desc, address: i64, count: i64) -> Result<Reading, Errno>
+        ensures effect { (held : ℕ → List TheSending) →
+            reads self.now.pid.0 (description_of desc) address (below 513 count) (me_of self.now) (state_of held self.now.parts.now)
+            ≡ reading_effect self.now address result (state_of held self.now.parts.now) }
+        ensures ready { IfOk result (λ reading. IsReadyToTake self.now desc.pipe reading) }
+    {
+        let Some(n) = number_below(PIPE_BYTES + 1, count) else {
+            return Err(Errno::InvalidArgument);
+        };
+        if n == 0 {
+            return Ok(Reading::Nothing);
+        }
+        if !self.proc.space.is_good(Access::Write, address, n) {
+            return Err(Errno::BadAddress);
+        }
+        self.taking(desc, n)
+    }
+
+    /// What a read of up to so many bytes from the description comes to.
+    fn taking(&self, desc: Desc, n: usize) -> Result<Reading, Errno>
+        ensures effect { (address : ℤ) (held : ℕ → List TheSending) →
+            drains self.now.pid.0 (description_of desc) address n (me_of self.now) (has_writer desc.pipe.0 (state_of held self.now.parts.now)) (held_in self.now desc.pipe)
+            ≡ reading_effect self.now address result (state_of held self.now.parts.now) }
+        ensures ready { IfOk result (λ reading. IsReadyToTake self.now desc.pipe reading) }
+    {
+        let held = self.held(desc.pipe);
+        if held > 0 {
+            return Ok(Reading::Takes(desc.pipe, n.min(held)));
+        }
+        if !self.parts.descs.has_end(desc.pipe, Side::Write) {
+            return Ok(Reading::Nothing);
+        }
+        if desc.nonblock {
+            return Err(Errno::TryAgain);
+        }
+        Ok(Reading::Waits)
+    }
+
+    /// Writes bytes from an address on to the pipe of a descriptor, all of them or none (POSIX.1-2017,
+    /// XSH, write()).
+    ///
+    /// Answers EBADF where the descriptor is not 0 to 15 or is not open for writing, EINVAL where the
+    /// count is not 0 to 512, EFAULT where bytes are not mapped, EPIPE where no reader is left, which
+    /// also sends SIGPIPE to the process, and EAGAIN where there is no room and the description does
+    /// not block. Wait where there is no room and it does; NoMemory where a growth is refused. The log
+    /// then has more at its end at most.
+    pub(crate) fn plan_write(
+        &self,
+        alloc: Global,
+        fd: i64,
+        address: i64,
+        count: i64,
+        log: &mut Log,
+    ) -> Result<Planned, Refusal>
+        requires { IsActor self.now }
+        ensures ok { IfOk result (λ planned. Plans self.now log.old log.new planned
+            (λ S. write_effect self.now.pid.0 (named (me_of self.now) (descriptor fd)) address count (me_of self.now) S)
+            (λ S. desc_pipe_objects (listed (named (me_of self.now) (descriptor fd))) S)) }
+        ensures refused { IfErr result (λ why. RefusedBy self.now why
+            (λ S. write_effect self.now.pid.0 (named (me_of self.now) (descriptor fd)) address count (me_of self.now) S)) }
+        ensures log { OnErr result (Extends log.old log.new) }
+    {
+        laws();
+        self.parts.descs.sized();
+        match self.writing(fd, address, count) {
+            Ok(Writing::Nothing) => self.plan_done(0, log),
+            Ok(Writing::Breaks) => Ok(self.push_broken(log)?),
+            Ok(Writing::Waits) => Err(Refusal::Wait),
+            Ok(Writing::Puts(pipe, n)) => {
+                self.push_put(alloc, pipe, address, n, log)?;
+                let ret = n as i64;
+                self.push_answer(ret, log)?;
+                Ok(Planned::quiet(Outcome::Done(ret)))
+            }
+            Err(errno) => self.plan_failure(errno, log),
+        }
+    }
+
+    /// The signal that a write sends.
+    pub(crate) fn sends_of_write(&self, fd: i64, address: i64, count: i64) -> Sends
+        requires { IsActor self.now }
+        ensures { (held : ℕ → List TheSending) →
+            (write_effect self.now.pid.0 (named (me_of self.now) (descriptor fd)) address count (me_of self.now) (state_of held self.now.parts.now)).sends
+            ≡ sent_at_once result }
+    {
+        match self.writing(fd, address, count) {
+            Ok(writing) => self.sends_of(writing),
+            Err(_) => Sends::Nothing,
+        }
+    }
+
+    /// The signal that a write sends which comes to this.
+    fn sends_of(&self, writing: Writing) -> Sends
+        ensures { (address : ℤ) (S : State) → (writing_effect self.now address (Ok writing) S).sends ≡ sent_at_once result }
+    {
+        match writing {
+            Writing::Breaks => Sends::AtOnce(self.broken_pipe()),
+            Writing::Nothing => Sends::Nothing,
+            Writing::Waits => Sends::Nothing,
+            Writing::Puts(_, _) => Sends::Nothing,
+        }
+    }
+
+    /// Appends the answer of a write that no reader is left for, and says what it comes to. After want
+    /// of memory the log is as it was.
+    fn push_broken(&self, log: &mut Log) -> Result<Planned, NoMemory>
+        ensures ok { IfOk result (λ planned. (log.new ≡ log.old ++ SetPart self.now.pid (SetAnswer (answer_after (failing BrokenPipe) self.now)) ∷ [])
+            × (planned ≡ broken self.now)) }
+        ensures err { OnErr result (log.new ≡ log.old) }
+    {
+        let ret = failing(Errno::BrokenPipe);
+        self.push_answer(ret, log)?;
+        Ok(Planned {
+            outcome: Outcome::Done(ret),
+            sends: Sends::AtOnce(self.broken_pipe()),
+        })
+    }
+
+    /// The signal that tells the process that no reader is left.
+    fn broken_pipe(&self) -> Sending
+        ensures { result ≡ broken_sending self.now }
+    {
+        Sending {
+            target: self.pid,
+            signo: SIGPIPE,
+            value: 0,
+            from: None,
+        }
+    }
+
+    /// Appends that bytes of the memory go to a pipe. After want of memory the log is as it was.
+    fn push_put(
+        &self,
+        alloc: Global,
+        pipe: PipeNo,
+        address: i64,
+        n: usize,
+        log: &mut Log,
+    ) -> Result<(), NoMemory>
+        requires { CanPut self.now address pipe n }
+        ensures ok { OnOk result (log.new ≡ log.old ++ SetPipe pipe (Back 0 (put_bytes self.now address n)) ∷ []) }
+        ensures err { OnErr result (log.new ≡ log.old) }
+    {
+        let boxed = self.boxed_bytes(alloc, address, n)?;
+        log.push(Change::Pipe(pipe, PipePart::Back(0, boxed)))
+    }
+
+    /// So many bytes of the memory, in a place of their own.
+    fn boxed_bytes(&self, alloc: Global, address: i64, n: usize) -> Result<BoxedPipe, NoMemory>
+        requires good { is_good is_mapped (me_of self.now).memory address n ≡ true }
+        requires few { n ≤ 512 }
+        ensures { IfOk result (λ boxed. boxed ≡ put_bytes self.now address n) }
+    {
+        let mut bytes = [0; PIPE_BYTES];
+        let _good = self.proc.space.take(address, &mut bytes[..n]);
+        let mut pipe = Pipe::new();
+        let _fits = pipe.write(&bytes[..n]);
+        BoxedPipe::new(alloc, pipe)
+    }
+
+    /// What a write comes to.
+    fn writing(&self, fd: i64, address: i64, count: i64) -> Result<Writing, Errno>
+        requires { IsActor self.now }
+        ensures effect { (held : ℕ → List TheSending) →
+            write_effect self.now.pid.0 (named (me_of self.now) (descriptor fd)) address count (me_of self.now) (state_of held self.now.parts.now)
+            ≡ writing_effect self.now address result (state_of held self.now.parts.now) }
+        ensures ready { IfOk result (λ writing. PutsTo self.now (named (me_of self.now) (descriptor fd)) address writing) }
+    {
+        let desc = self.open_end(fd, Side::Write)?;
+        self.writing_to(desc, address, count)
+    }
+
+    /// What a write to the description comes to.
+    fn writing_to(&self, desc: Desc, address: i64, count: i64) -> Result<Writing, Errno>
+        ensures effect { (held : ℕ → List TheSending) →
+            writes self.now.pid.0 (description_of desc) address (below 513 count) (me_of self.now) (state_of held self.now.parts.now)
+            ≡ writing_effect self.now address result (state_of held self.now.parts.now) }
+        ensures ready { IfOk result (λ writing. IsReadyToPut self.now address desc.pipe writing) }
+    {
+        let Some(n) = number_below(PIPE_BYTES + 1, count) else {
+            return Err(Errno::InvalidArgument);
+        };
+        if n == 0 {
+            return Ok(Writing::Nothing);
+        }
+        if !self.proc.space.is_good(Access::Read, address, n) {
+            return Err(Errno::BadAddress);
+        }
+        if !self.parts.descs.has_end(desc.pipe, Side::Read) {
+            return Ok(Writing::Breaks);
+        }
+        self.putting(desc, n)
+    }
+
+    /// What a write of so many bytes to the description comes to that has a reader.
+    fn putting(&self, desc: Desc, n: usize) -> Result<Writing, Errno>
+        requires { n ≤ 512 }
+        ensures { IsPutting self.now desc n result }
+    {
+        if self.held(desc.pipe) + n <= PIPE_BYTES {
+            return Ok(Writing::Puts(desc.pipe, n));
+        }
+        if desc.nonblock {
+            return Err(Errno::TryAgain);
+        }
+        Ok(Writing::Waits)
+    }
+
+    /// The description of a descriptor.
+    ///
+    /// BadDescriptor where the descriptor is not 0 to 15, is not open, or is not of this side.
+    fn open_end(&self, fd: i64, side: Side) -> Result<Desc, Errno>
+        ensures { result ≡ end_at side (opened_at self.now.parts.now.descs (named (me_of self.now) (descriptor fd))) }
+    {
+        let d = self.proc.descriptors.look(fd)?;
+        match self.parts.descs.get(d) {
+            Some(opened) if opened.desc.side == side => Ok(opened.desc),
+            _ => Err(Errno::BadDescriptor),
+        }
+    }
+
+    /// How many bytes a pipe holds: 0 to 512.
+    fn held(&self, pipe: PipeNo) -> usize
+        ensures held { result ≡ length (held_in self.now pipe) }
+        ensures fits { result ≤ 512 }
+    {
+        self.held_bytes(pipe).len()
+    }
+
+    /// The bytes that a pipe holds.
+    fn held_bytes(&self, pipe: PipeNo) -> &[u8]
+        ensures held { result.now ≡ held_in self.now pipe }
+        ensures fits { length result.now ≤ 512 }
+    {
+        match self.parts.pipes.get(pipe) {
+            Some(bytes) => bytes.bytes(),
+            None => &[],
+        }
+    }
+}
