@@ -1,6 +1,5 @@
 //! The delivery of a pending signal (POSIX.1-2017, XSH, Signal Generation and Delivery).
-ghost use Rattle.std.specs.Prelude.{◌≡◌, ◌≢◌, ◌<◌, ℤ, false, [], if◌then◌else◌, Some, IfOk, IfErr, OnOk, OnErr};
-ghost use Rattle.tx_base.specs.declared.signals.Action.TheVariants as action;
+ghost use Rattle.std.specs.Prelude.{◌≡◌, ◌≢◌, ◌<◌, false, [], if◌then◌else◌, IfOk, IfErr, OnOk, OnErr};
 ghost use Rattle.tx_base.specs.declared.steps.Reply.TheVariants as reply;
 ghost use Rattle.tx_kernel.specs.Actors.{IsActor, inside_of, me_of};
 ghost use Rattle.tx_kernel.specs.Own.{PlansOwn, PlansPart};
@@ -67,7 +66,7 @@ impl Actor<'_> {
         }
     }
 
-    /// Plans what the action of the signal makes of its delivery. It must not end process 1.
+    /// Plans what the action of the signal makes of its delivery. The process must not be process 1.
     fn plan_acted(
         &self,
         alloc: Global,
