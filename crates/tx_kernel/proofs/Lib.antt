@@ -6,7 +6,7 @@ pub mod Forked
 pub mod PartsOwned
 pub mod Discarded
 pub mod Returned
-pub mod Posted
+pub mod PostAnswers
 pub mod Sent
 pub mod PostPlans
 pub mod StepPlans

@@ -27,6 +27,7 @@ use Rattle.tx_model.specs.Effects as effects
 use Rattle.tx_model.specs.Posts.{answers, post, post_answer, posts, received}
 use Rattle.tx_base.specs.declared.names.Regs.{Regs}
 use Rattle.tx_change.specs.declared.change.Change.TheVariants.{Part as SetPart}
+use Rattle.tx_kernel.proofs.PostPlans.{seen_now}
 use Rattle.tx_kernel.proofs.Sent.{same_held}
 use Rattle.tx_kernel.specs.Own.{answer_after}
 use Rattle.tx_kernel.specs.declared.planned.Outcome.TheVariants.{Done}
@@ -197,11 +198,6 @@ answered_at point ret (Some q) registers there stands =
 
     at : point ≡ q.registers.point
     at = sym stands ∙ sym (ap point_of there)
-
--- a post sees the process that is there
-seen_now : (slot : Option Proc) → IsSeen slot (process_in slot)
-seen_now None = tt
-seen_now (Some proc) = refl
 
 -- a signal that is posted, and then the answer of its post
 pub answered_step : (laws : PlanLaws) (actor : Actor) (before between now : List Change) (m : TheSending) (answer : Result (Unit {0}) Errno) (ret : ℤ)

@@ -1,6 +1,6 @@
 -- The laws that the plans stand on.
 use Rattle.tx_change.specs.Counts.{CountsElsewhere, CountsNameless, CountsPlanned, CountsReplaced, CountsWithOthers, PlansAreNamed, RoomForName, RoomForNames}
-use Rattle.tx_change.specs.Laws.{AppliedAppended, BackIsWrite, ChangedAppended, ChangesStateInTurn, FrontIsRead, NamedAppended, PartsReplaceProcess, PlacesKept, SizesStay}
+use Rattle.tx_change.specs.Laws.{AppliedAppended, BackIsWrite, ChangedAppended, ChangesStateInTurn, ExchangesBack, FrontIsRead, NamedAppended, PartsReplaceProcess, PlacesKept, SizesStay}
 
 -- what changes make of the state, of the counts of names and of the places of processes
 pub record PlanLaws : Type 0 where
@@ -21,3 +21,4 @@ pub record PlanLaws : Type 0 where
   pub back : BackIsWrite
   pub sizes : SizesStay
   pub nameless : CountsNameless
+  pub again : ExchangesBack

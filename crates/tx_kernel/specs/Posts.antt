@@ -1,9 +1,9 @@
 -- What of a process decides the answer of a post, and what a post is to exchange.
-use Rattle.std.specs.Prelude.{◌≡◌, List, ◌++◌, Option, Some, None, Result, Ok, Err, is_some, length, option_map}
+use Rattle.std.specs.Prelude.{◌≡◌, List, [], ◌∷◌, ◌++◌, Option, Some, None, Result, Ok, Err, IfOk, IsSome, is_some, length, option_map}
 use Rattle.tx_base.specs.Slots.{slot_at}
 use Rattle.tx_base.specs.declared.errors.Errno.{Errno}
 use Rattle.tx_change.specs.Counts.{AreNameless}
-use Rattle.tx_change.specs.Exchange.{AreNamed}
+use Rattle.tx_change.specs.Exchange.{AreNamed, IsPid, sizes_of}
 use Rattle.tx_change.specs.Laws.{revised_by}
 use Rattle.tx_change.specs.Own.{AreOf}
 use Rattle.tx_change.specs.declared.change.Change.{Change}
@@ -66,3 +66,15 @@ pub record PlansPost (parts : Parts) (before now : List Change) (m : Sending) (a
   pub named : AreNamed parts plan
   pub answers : (q : Option Process) → IsSeen (slot_at parts.procs m.target) q → answer_of answer ≡ post_answer m q
   pub receives : (q : Option Process) → IsSeen (slot_at parts.procs m.target) q → option_map (revised_by plan) q ≡ received m q
+
+-- what a post to the process of a number is to exchange: the answer and the process after it are the posting rule's, of each that is seen as the one there
+pub record PlansAt (parts : Parts) (m : Sending) (result : Result (Option Part) Errno) : Type 0 where
+  pub pending : IfOk result IsOfPending
+  pub there : IfOk result (λ part. IsSome part → IsPid (sizes_of parts) m.target)
+  pub answers : (q : Option Process) → IsSeen (slot_at parts.procs m.target) q → answer_of (without_part result) ≡ post_answer m q
+  pub receives : (q : Option Process) → IsSeen (slot_at parts.procs m.target) q → option_map (posted result) q ≡ received m q
+
+-- a change, if there is one
+abbrev pub listed_change : Option Change → List Change
+listed_change None = []
+listed_change (Some change) = change ∷ []

@@ -3,7 +3,7 @@ ghost use Rattle.tx_kernel.specs.Laws.{PlanLaws};
 
 use tx_change::{
     appended, bytes_are_read_and_written, changes_state, counts_agree, counts_in_turn,
-    counts_with_others, lists_change_state, places_kept, room_for_names,
+    counts_with_others, exchanges_back, lists_change_state, places_kept, room_for_names,
 };
 
 /// The laws on which the proofs of the plans stand. It does nothing.
@@ -11,6 +11,7 @@ pub(crate) fn laws()
     ensures { PlanLaws }
 {
     changes_state();
+    exchanges_back();
     lists_change_state();
     appended();
     places_kept();

@@ -24,4 +24,4 @@ mod trees;
 pub use actor::Actor;
 pub use inside::Inside;
 pub use planned::{Outcome, Planned, Sends, Shown};
-pub use posts::{Face, plan_post};
+pub use posts::{Face, Posted, plan_post, post};

@@ -1,16 +1,22 @@
 //! Posts: what a signal that is sent does to its target (POSIX.1-2017, XSH, Signal Concepts and
 //! kill()).
-ghost use Rattle.std.specs.Prelude.{◌≡◌, ◌<◌, true, Some, IfOk, length};
+ghost use Rattle.std.specs.Prelude.{◌≡◌, ℕ, List, ◌<◌, true, Some, IfOk, length};
 ghost use Rattle.tx_kernel.specs.Plans.{sending_of, sender_of};
-ghost use Rattle.tx_kernel.specs.Posts.{HasFace, IsOfPending, posted, seen_as, without_part};
-ghost use Rattle.tx_model.specs.Posts.{is_quiet, is_realtime, may_signal, post_answer, received, with_signal};
+ghost use Rattle.tx_kernel.specs.Posts.{HasFace, IsOfPending, PlansAt, listed_change, posted, seen_as, without_part};
+ghost use Rattle.tx_change.specs.Counts.{CountsAgree};
+ghost use Rattle.tx_change.specs.Exchange.{undone};
+ghost use Rattle.tx_change.specs.Laws.{HaveAllPlaces};
+ghost use Rattle.tx_change.specs.States.{state_of};
+ghost use Rattle.tx_model.specs.Posts.{is_quiet, is_realtime, may_signal, post, post_answer, received, with_signal};
 ghost use Rattle.tx_base.specs.declared.limits.TheConstants.{QUEUED};
-ghost use Rattle.tx_model.specs.State.{Process};
+ghost use Rattle.tx_model.specs.State.{Process, Sending as TheSending};
 ghost use Rattle.tx_cred.specs.Cred.{ids_of};
 ghost use Rattle.tx_proc.specs.Processes.{process_of, revised};
 ghost use Rattle.tx_signal.specs.Parts.{answer_of};
 
+use crate::laws::laws;
 use tx_base::{Errno, QUEUED, Sending};
+use tx_change::{Change, Parts};
 use tx_cred::{Cred, may_signal};
 use tx_proc::{Part, Proc};
 use tx_signal::{Queued, is_realtime, with};
@@ -68,6 +74,60 @@ impl Face {
         ensures { (q : Process) → HasFace self.now q → result ≡ is_quiet (sending_of sending.now) q }
     {
         sending.signo.0 == 0 || sending.target.0 == 1 || self.ended
+    }
+}
+
+/// A post that was made.
+#[derive(Drop)]
+pub struct Posted {
+    /// `Ok` where the signal was sent, or the sender only asked.
+    pub answer: Result<(), Errno>,
+    /// What was pending before, where that changed: exchanged again, it takes the post back.
+    pub change: Option<Change>,
+}
+
+/// Posts a signal, whose number must be below 64. It takes no memory (POSIX.1-2017, XSH, Signal
+/// Concepts and kill()).
+///
+/// NoSuchProcess where there is no such process; NotPermitted and TryAgain as at `Face::answer`. Such a
+/// post changes nothing.
+pub fn post(parts: &mut Parts, sending: &Sending) -> Posted
+    requires { sending.now.signo.0 < 64 }
+    ensures answer { (held : ℕ → List TheSending) → answer_of result.answer ≡ post_answer (sending_of sending.now) ((state_of held parts.old).procs sending.now.target.0) }
+    ensures state { (held : ℕ → List TheSending) → state_of held parts.new ≡ post (sending_of sending.now) (state_of held parts.old) }
+    ensures back { undone parts.new (listed_change result.change) ≡ parts.old }
+    ensures counts { CountsAgree parts.old → CountsAgree parts.new }
+    ensures places { HaveAllPlaces parts.old → HaveAllPlaces parts.new }
+{
+    laws();
+    match plan_at(parts, sending) {
+        Ok(Some(part)) => {
+            let mut change = Change::Part(sending.target, part);
+            change.swap(parts);
+            Posted {
+                answer: Ok(()),
+                change: Some(change),
+            }
+        }
+        Ok(None) => Posted {
+            answer: Ok(()),
+            change: None,
+        },
+        Err(errno) => Posted {
+            answer: Err(errno),
+            change: None,
+        },
+    }
+}
+
+/// What a post to the process of a number is to exchange: nothing where it changes nothing.
+pub(crate) fn plan_at(parts: &Parts, sending: &Sending) -> Result<Option<Part>, Errno>
+    requires { sending.now.signo.0 < 64 }
+    ensures { PlansAt parts.now (sending_of sending.now) result }
+{
+    match parts.proc(sending.target) {
+        Some(target) => plan_post(target, sending),
+        None => Err(Errno::NoSuchProcess),
     }
 }
 

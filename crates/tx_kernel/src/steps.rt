@@ -12,7 +12,7 @@ ghost use Rattle.tx_model.specs.State.{Object, Sending as TheSending, State};
 use crate::actor::Actor;
 use crate::laws::laws;
 use crate::planned::{Planned, Sends};
-use crate::posts::plan_post;
+use crate::posts::plan_at;
 use tx_base::{Errno, NoMemory, Sending};
 use tx_change::{Change, Log};
 
@@ -28,10 +28,7 @@ impl Actor<'_> {
         ensures ok { IfOk result (λ answer. PlansPost self.now.parts.now log.old log.new (sending_of sending.now) answer) }
         ensures err { OnErr result (log.new ≡ log.old) }
     {
-        let Some(target) = self.parts.proc(sending.target) else {
-            return Ok(Err(Errno::NoSuchProcess));
-        };
-        match plan_post(target, sending) {
+        match plan_at(self.parts, sending) {
             Ok(Some(part)) => {
                 log.push(Change::Part(sending.target, part))?;
                 Ok(Ok(()))

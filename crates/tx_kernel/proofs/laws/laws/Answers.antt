@@ -19,4 +19,5 @@ returns c = record {
   back = c.bytes_are_read_and_written.ensures.back;
   sizes = c.appended.ensures.sizes;
   nameless = c.counts_agree.ensures.nameless;
+  again = c.exchanges_back.ensures;
 }

@@ -1,5 +1,5 @@
 use Rattle.std.proofs.Common.{Some, ◌∙◌, sym, ap}
-use Rattle.tx_kernel.proofs.Posted.{error_leaves, quiet_leaves, sent, had_room}
+use Rattle.tx_kernel.proofs.PostAnswers.{error_leaves, quiet_leaves, sent, had_room}
 use Rattle.tx_kernel.specs.Plans.{sending_of}
 use Rattle.tx_kernel.specs.Posts.{HasFace, seen_as}
 use Rattle.tx_kernel.specs.declared.posts.Face.{Face}

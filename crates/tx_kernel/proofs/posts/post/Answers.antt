@@ -1,0 +1,27 @@
+use Rattle.std.proofs.Common.{refl}
+use Rattle.tx_kernel.proofs.PostPlans.{part_posted, part_back, failed_state}
+use Rattle.tx_kernel.specs.Plans.{sending_of}
+use Rattle.tx_kernel.proofs.posts.post.Goals as goal
+
+pub returns-in-Ok-Some-clause-state : goal.returns-in-Ok-Some-clause-state
+returns-in-Ok-Some-clause-state c =
+    (part_posted c.laws.ensures c.args.parts.now c.swap.new.parts (sending_of c.args.sending.now) c.args.sending.now.target c.in-Ok-Some.field-0 c.in-Ok-Some.part refl c.in-Ok-Some.field-0-is
+    c.in-Ok-Some.ensures c.swap.ensures.parts).0
+
+pub returns-in-Ok-Some-clause-back : goal.returns-in-Ok-Some-clause-back
+returns-in-Ok-Some-clause-back c =
+    part_back c.laws.ensures c.args.parts.now c.swap.new.parts (sending_of c.args.sending.now) c.args.sending.now.target c.in-Ok-Some.field-0 c.in-Ok-Some.part c.swap.new.self refl c.in-Ok-Some.field-0-is
+    c.in-Ok-Some.ensures c.swap.ensures.parts c.swap.ensures.change
+
+pub returns-in-Ok-Some-clause-counts : goal.returns-in-Ok-Some-clause-counts
+returns-in-Ok-Some-clause-counts c =
+    (part_posted c.laws.ensures c.args.parts.now c.swap.new.parts (sending_of c.args.sending.now) c.args.sending.now.target c.in-Ok-Some.field-0 c.in-Ok-Some.part refl c.in-Ok-Some.field-0-is
+    c.in-Ok-Some.ensures c.swap.ensures.parts).1
+
+pub returns-in-Ok-Some-clause-places : goal.returns-in-Ok-Some-clause-places
+returns-in-Ok-Some-clause-places c =
+    (part_posted c.laws.ensures c.args.parts.now c.swap.new.parts (sending_of c.args.sending.now) c.args.sending.now.target c.in-Ok-Some.field-0 c.in-Ok-Some.part refl c.in-Ok-Some.field-0-is
+    c.in-Ok-Some.ensures c.swap.ensures.parts).2
+
+pub returns-in-Err-clause-state : goal.returns-in-Err-clause-state
+returns-in-Err-clause-state c = λ held. failed_state held c.args.parts.now (sending_of c.args.sending.now) c.in-Err.errno c.in-Err.ensures
