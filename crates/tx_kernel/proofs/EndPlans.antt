@@ -1,10 +1,11 @@
 -- The plan of the end of a process: its numbers, its counts, its places and its objects.
-use Rattle.std.proofs.Common.{◌≡◌, ◌≢◌, ◌<◌, ◌≤◌, ◌+◌, ℕ, zero, suc, Bool, true, false, List, [], ◌∷◌, ◌++◌, length, Option, Some, None, IsSome, is_some, if◌then◌else◌, nat_lt, get_or, refl, ap, sym, subst, ◌∙◌, arith, append_assoc, eq-eqb}
+use Rattle.std.proofs.Common.{◌≡◌, ◌≢◌, ◌<◌, ◌≤◌, ◌+◌, ℕ, zero, suc, Bool, true, false, List, [], ◌∷◌, ◌++◌, length, Option, Some, None, IsSome, is_some, ◌==◌, if◌then◌else◌, nat_lt, get_or, refl, ap, sym, subst, ◌∙◌, arith, append_assoc, eq-eqb}
 use Rattle.std.proofs.lemmas.Bool.{lt-ltb, ltb-true, ltb-false}
 use Rattle.std.proofs.lemmas.List.{get_or_past}
 use Rattle.tx_base.specs.Slots.{slot_at}
-use Rattle.tx_change.specs.Counts.{AreNameless, counted_in, desc_changes}
-use Rattle.tx_change.specs.Exchange.{sizes_of, IsPid, AreNamed}
+use Rattle.tx_base.specs.declared.names.Sending.{Sending as TheSending}
+use Rattle.tx_change.specs.Counts.{AreNameless, counted_in, desc_changes, slot_after}
+use Rattle.tx_change.specs.Exchange.{applied, sizes_of, IsPid, AreNamed}
 use Rattle.tx_change.specs.Laws.{HasPlaces, BringPlaces}
 use Rattle.tx_change.specs.States.{state_of}
 use Rattle.tx_change.specs.declared.change.Change.{Change}
@@ -24,13 +25,18 @@ use Rattle.tx_kernel.proofs.Ended.{children_are, ended_alone, ended_plan, ending
 use Rattle.tx_kernel.proofs.Forked.{listed-among, open-has, planned-named}
 use Rattle.tx_kernel.specs.Actors.{me_of, inside_of, HasPipe, IsActor}
 use Rattle.tx_kernel.specs.Endings.{gone_changes, orphan_changes, plain, plain_with}
+use Rattle.tx_kernel.proofs.EndSeen.{descs_slot, gone_slot, orphans_seen, slot_after-append}
+use Rattle.tx_kernel.proofs.PostPlans.{seen_now}
+use Rattle.tx_kernel.specs.Posts.{IsSeen}
 use Rattle.tx_kernel.specs.Laws.{PlanLaws}
-use Rattle.tx_kernel.specs.Plans.{Plans, AreAmong, held_after, sent_at_once}
+use Rattle.tx_kernel.specs.Plans.{LeavesTarget, Plans, AreAmong, held_after, sending_of, sent_at_once}
 use Rattle.tx_kernel.specs.declared.actor.Actor.{Actor}
 use Rattle.tx_kernel.specs.declared.planned.Outcome.TheVariants.{Ended}
 use Rattle.tx_kernel.specs.declared.planned.Sends.{Sends}
+use Rattle.tx_kernel.specs.declared.planned.Sends.TheVariants.{Nothing, AtOnce, AtCommit}
 use Rattle.tx_model.specs.Descriptors.{desc_objects, has_description, open_in, pipe_list, pipe_of, pipes_of, unnamed_go}
-use Rattle.tx_model.specs.Processes.{children_below, children_of, ended, ending, ending_objects, held_objects, procs_of, telling, told_at_commit, told_at_once}
+use Rattle.tx_model.specs.Processes as rules
+use Rattle.tx_model.specs.Processes.{children_below, children_of, ended, ending, ending_objects, held_objects, procs_of, Telling, NotTold, telling, told_at_commit, told_at_once}
 use Rattle.tx_model.specs.State.{Object, Proc as TheProc, Desc, Pipe as ThePipe, Process, Sending, State, SetProc, has, has_parent, is_between, same_object, write_one, written}
 use Rattle.tx_proc.specs.Laws.{IsSized}
 use Rattle.tx_proc.specs.Processes.{process_of, process_in}
@@ -260,6 +266,49 @@ plan_among actor status descs new held other drops =
           (has-behind o front pipes (subst (λ (os : List Object). has o os ≡ true) left there)))))),
     )
 
+-- the signal to the parent, by what is told at once
+told_once : (telling : Telling) (parent : ℕ) (m : TheSending) → told_at_once telling parent ≡ sending_of m ∷ [] → (m.target.0 ≡ parent) × (m.signo.0 ≡ 17)
+told_once telling parent m e = by telling e
+  where
+    first_target : List Sending → ℕ
+    first_target [] = parent
+    first_target (x ∷ xs) = x.target
+
+    first_signo : List Sending → ℕ
+    first_signo [] = 17
+    first_signo (x ∷ xs) = x.signo
+
+    by : (t : Telling) → told_at_once t parent ≡ sending_of m ∷ [] → (m.target.0 ≡ parent) × (m.signo.0 ≡ 17)
+    by NotTold e = (sym (ap first_target e), sym (ap first_signo e))
+    by rules.AtOnce e = (sym (ap first_target e), sym (ap first_signo e))
+    by (rules.AtCommit s) e = (sym (ap first_target e), sym (ap first_signo e))
+
+-- the end leaves of the parent what a post sees
+ending_seen : (laws : PlanLaws) (actor : Actor) (descs : List NewDesc) (new : Proc) (sends : Sends) → IsActor actor → AreNamed actor.parts.now (ended_plan actor descs new) →
+    told_at_once (telling (inside_of actor.inside) (me_of actor).parent) (me_of actor).parent ≡ sent_at_once sends →
+    LeavesTarget actor.parts.now sends (applied actor.parts.now (ended_plan actor descs new))
+ending_seen laws actor descs new Nothing is named told = tt
+ending_seen laws actor descs new (AtCommit m) is named told = tt
+ending_seen laws actor descs new (AtOnce m) is named told =
+    let parts : Parts = actor.parts.now in
+    let parent : ℕ = (me_of actor).parent in
+    let sent = told_once (telling (inside_of actor.inside) parent) parent m told in
+    let slot : Option Proc = slot_at parts.procs parent in
+    let orphans : List Change = orphan_changes (orphans_of actor) in
+    let gone : List Change = gone_changes (pipes_left actor) (plain_with descs parts) in
+    let other : (parent == actor.pid.0) ≡ false
+    = ap (has_parent actor.pid.0) (sym (ap process_in is.there)) ∙ is.whole.parents actor.pid.0 in
+    let stays : slot_after parent (Slot actor.pid (Some new) ∷ (orphans ++ gone)) slot ≡ slot_after parent (orphans ++ gone) slot
+    = ap (λ (b : Bool). slot_after parent (orphans ++ gone) (if b then Some new else slot)) other in
+    let left : slot_at (applied parts (ended_plan actor descs new)).procs parent ≡ slot_after parent orphans slot
+    = laws.slots parts (ended_plan actor descs new) parent named ∙ descs_slot parent descs (Slot actor.pid (Some new) ∷ (orphans ++ gone)) slot ∙ stays
+    ∙ slot_after-append parent orphans gone slot ∙ gone_slot parent (pipes_left actor) (plain_with descs parts) (slot_after parent orphans slot) in
+    let seen : IsSeen slot (process_in (slot_at (applied parts (ended_plan actor descs new)).procs parent))
+    = subst (λ (now : Option Proc). IsSeen slot (process_in now)) (sym left) (orphans_seen parent (orphans_of actor) slot slot (seen_now slot)) in (
+      omega (arith, sent.1),
+      subst (λ (n : ℕ). IsSeen (slot_at parts.procs n) (process_in (slot_at (applied parts (ended_plan actor descs new)).procs n))) (sym sent.0) seen,
+    )
+
 pub ending_plans : (laws : PlanLaws) (names : EndedNames) (actor : Actor) (status : ℕ) (descs : List NewDesc) (new : Proc) (sends : Sends) (before first second third now : List Change) →
     length actor.parts.now.descs ≡ 64 → IsActor actor → actor.pid.0 ≢ 1 → DropsAll actor descs → process_of new ≡ ended status (me_of actor) →
     first ≡ before ++ desc_changes descs → second ≡ first ++ Slot actor.pid (Some new) ∷ [] → third ≡ second ++ orphan_changes (orphans_of actor) →
@@ -303,5 +352,6 @@ ending_plans laws names actor status descs new sends before first second third n
         sends = at_once;
         conclusion = refl;
       };
+      seen = ending_seen laws actor descs new sends is named at_once;
       among = λ held. plan_among actor status descs new held other drops;
     }

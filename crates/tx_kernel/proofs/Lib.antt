@@ -14,6 +14,7 @@ pub mod Told
 pub mod Ends
 pub mod EndStates
 pub mod Ended
+pub mod EndSeen
 pub mod EndPlans
 pub mod Exited
 pub mod Named

@@ -20,7 +20,7 @@ use Rattle.tx_desc.specs.declared.plans.NewName.{NewName}
 use Rattle.tx_kernel.proofs.OwnPlans.{own_brings, own_named, own_among}
 use Rattle.tx_kernel.specs.Actors.{me_of, inside_of, CountsHeld, IsActor}
 use Rattle.tx_kernel.specs.Laws.{PlanLaws}
-use Rattle.tx_kernel.specs.Plans.{Plans, AreAmong, conclusion_of, held_after, sent_at_once}
+use Rattle.tx_kernel.specs.Plans.{LeavesTarget, Plans, AreAmong, conclusion_of, held_after, sent_at_once}
 use Rattle.tx_kernel.specs.declared.actor.Actor.{Actor}
 use Rattle.tx_kernel.specs.declared.planned.Planned.{Planned}
 use Rattle.tx_model.specs.Effects.{Effect, before_sends}
@@ -265,8 +265,9 @@ pub files_plan : (laws : PlanLaws) (actor : Actor) (before now : List Change) (p
     ((held : ℕ → List Sending) → CountsHeld actor.inside held →
     Writes actor new files.descs files.pipes planned (state_of held actor.parts.now) (rule (state_of held actor.parts.now))) →
     ((held : ℕ → List Sending) → AreAmong (objects (state_of held actor.parts.now)) (desc_changes files.descs ++ files.pipes)) →
+    LeavesTarget actor.parts.now planned.sends (applied actor.parts.now (changes_of files)) →
     Plans actor before now planned rule objects
-files_plan laws actor before now planned rule objects new files sized is added keeps does among =
+files_plan laws actor before now planned rule objects new files sized is added keeps does among seen =
     let parts : Parts = actor.parts.now in
     let n : ℕ = actor.pid.0 in
     let named : AreNamed parts (changes_of files) = files_named laws actor new files sized is in
@@ -286,6 +287,7 @@ files_plan laws actor before now planned rule objects new files sized is added k
             sends = wrote.sends;
             conclusion = wrote.conclusion;
           };
+      seen = seen;
       among = λ held.
           let os : List Object = objects (state_of held parts) in
           subst (λ (changes : List Change). AreAmong (Proc n ∷ os) changes)

@@ -60,6 +60,7 @@ same_rule actor before now planned rule other objects same plans = record {
   counts = plans.counts;
   places = plans.places;
   gives = λ held counted. rw (← same held counted) (plans.gives held counted);
+  seen = plans.seen;
   among = plans.among;
 }
 
@@ -151,6 +152,7 @@ dup_plan laws actor before first second now x plan sized is answer descriptions 
     (λ held counted. let S : State = state_of held actor.parts.now in
     done_writes actor (plan.desc ∷ []) [] S (dup_effect p me (named me x)) [] r new (answer p me refl) tt (descriptions p me S refl (λ d. refl)) refl)
     (λ held. (has_desc plan.desc.number.0 (named me x) (named_me actor x ∙ found), tt))
+    tt
 
 pub appended2 : (before a b l1 l2 : List Change) → l1 ≡ before ++ a → l2 ≡ l1 ++ b → l2 ≡ before ++ (a ++ b)
 appended2 before a b l1 l2 first second = second ∙ ap (λ (l : List Change). l ++ b) first ∙ append_assoc before a b
@@ -197,6 +199,7 @@ nonblock_plan laws actor before first now on x new sized is answer descriptions 
     done_writes actor (new ∷ []) [] S (nonblock_effect p on me (named me x) S) (described_again (named me x) (put_descs (new ∷ []) actor.parts.now.descs)) (pos 0) me
     (answer p me S refl (λ d. refl)) (files_again (named me x) (put_descs (new ∷ []) actor.parts.now.descs)) (descriptions p me S refl (λ d. refl)) (pipes_again (named me x) (put_descs (new ∷ []) actor.parts.now.descs) (write_one (SetProc p (Some (noted (pos 0) me))) S)))
     (λ held. (has_desc new.number.0 (named me x) is_named, tt))
+    tt
 
 -- the process runs with its descriptors
 pub runs_with : (actor : Actor) (held : ℕ → List Sending) → IsActor actor → RunsWith actor.pid.0 (me_of actor) (state_of held actor.parts.now) actor.proc.now.descriptors
@@ -320,6 +323,7 @@ close_plan laws actor before first second third now x plan sized is answer descr
       desc_here d plan.desc.number.0 (pipe_list (pipes_of (d ∷ []) (state_of held actor.parts.now))) (ap (λ (n : DescNo). n.0) same),
       among_behind (Desc d ∷ []) (pipe_list (pipes_of (d ∷ []) (state_of held actor.parts.now))) pipes (among_pipes held),
     ))
+    tt
 
 -- dup2
 
@@ -452,6 +456,7 @@ dup2_plan laws actor before first now x y renamed rename sized is answer descrip
     given_writes actor descs held (dup2_effect p x y me S) renamed.given r new sized (answer p me S refl)
     (descriptions p me S (runs_with actor held is) (λ e. refl) (agrees_beside laws actor held is)) lost)
     (λ held. subst (λ (l : List Change). AreAmong (dup2_objects x y me (state_of held actor.parts.now)) (desc_changes descs ++ l)) same (rename_among actor held x y renamed.given rename lost of apart left))
+    tt
 
 -- pipe
 
@@ -536,6 +541,7 @@ pipe_plan laws actor before now pipe read write plan sized rooms is inside free 
         (pipe_first pipe.0 (Desc read.0 ∷ Desc write.0 ∷ []), tt),
       ),
     ))
+    tt
 
 -- its changes, one after another
 pub pipe_logged : (actor : Actor) (pipe : PipeNo) (plan : PipePlan) (before l1 l2 l3 l4 l5 l6 l7 now : List Change) →

@@ -80,5 +80,6 @@ own_plans laws actor before now outcome rule objects sized is own =
         sends = refl;
         conclusion = ap Replies (sym gives.reply);
       };
+      seen = tt;
       among = λ held. own_among n (objects (state_of held parts)) plan gives.own;
     }

@@ -7,7 +7,7 @@ use Rattle.std.proofs.lemmas.Bool.{cases_lt}
 use Rattle.std.proofs.lemmas.List.{get_or_past}
 use Rattle.tx_base.specs.declared.errors.Errno.TheVariants.{BrokenPipe}
 use Rattle.tx_base.specs.declared.names.PipeNo.{PipeNo}
-use Rattle.tx_change.specs.Exchange.{pipe_at}
+use Rattle.tx_change.specs.Exchange.{applied, pipe_at}
 use Rattle.tx_change.specs.Pipes.{piped_in}
 use Rattle.tx_change.specs.States.{state_of}
 use Rattle.tx_change.specs.declared.change.Change.{Change}
@@ -17,12 +17,19 @@ use Rattle.tx_desc.specs.Counts.{KeepsCounts}
 use Rattle.tx_desc.specs.Descriptions.{described, description_of}
 use Rattle.tx_kernel.proofs.Named.{Files, files_plan}
 use Rattle.tx_kernel.proofs.NamedCalls.{answered_files, appended2, done_writes, has_append, last_answer}
-use Rattle.tx_kernel.proofs.OwnPlans.{held_quiet}
+use Rattle.tx_kernel.proofs.OwnPlans.{held_quiet, own_state}
 use Rattle.tx_kernel.proofs.Released.{pipe_there}
 use Rattle.tx_kernel.specs.Actors.{me_of, inside_of, HasPipe, IsActor}
 use Rattle.tx_kernel.specs.Laws.{PlanLaws}
-use Rattle.tx_kernel.specs.Piped.{CanTake, TakesBytes, held_in, put_bytes, broken, CanPut, NamesPipe}
-use Rattle.tx_kernel.specs.Plans.{Plans, held_after, quiet}
+use Rattle.tx_kernel.specs.Piped.{broken_sending, CanTake, TakesBytes, held_in, put_bytes, broken, CanPut, NamesPipe}
+use Rattle.tx_kernel.specs.Plans.{LeavesTarget, Plans, held_after, quiet}
+use Rattle.tx_kernel.specs.Posts.{IsSeen}
+use Rattle.tx_kernel.specs.declared.planned.Sends.TheVariants.{AtOnce}
+use Rattle.tx_base.specs.Slots.{slot_at}
+use Rattle.tx_change.specs.declared.parts.Parts.{Parts}
+use Rattle.tx_model.specs.StateLaws.{put_here}
+use Rattle.tx_proc.specs.Processes.{process_in}
+use Rattle.tx_proc.specs.declared.proc.Proc.{Proc}
 use Rattle.tx_kernel.specs.declared.actor.Actor.{Actor}
 use Rattle.tx_kernel.specs.declared.inside.Inside.{Inside}
 use Rattle.tx_kernel.specs.declared.planned.Outcome.TheVariants.{Done}
@@ -102,6 +109,23 @@ put_plan laws actor before first now x address count pipe n sized is effect name
     done_writes actor [] changes S (write_effect p x address count me S) (SetPipe pipe.0 (Some (held_bytes ++ bytes)) ∷ []) (pos n) me (effect held) (tt, tt)
     (λ d. ap (λ (e : Effect). (before_sends e S).descs d) (effect held)) (ap (λ (o : Option (List ℕ)). put_at S.pipes pipe.0 o) (sym put)))
     (λ held. (pipe_among actor x pipe held names, tt))
+    tt
+
+-- the process is seen as before where it is given an answer
+broken_seen : (laws : PlanLaws) (actor : Actor) → IsActor actor →
+    LeavesTarget actor.parts.now (AtOnce (broken_sending actor)) (applied actor.parts.now (last_answer (failing BrokenPipe) actor))
+broken_seen laws actor is =
+    let parts : Parts = actor.parts.now in
+    let n : ℕ = actor.pid.0 in
+    let held : ℕ → List Sending = λ starter. [] in
+    let plan : List Change = last_answer (failing BrokenPipe) actor in
+    let answered : Process = revised_by plan (me_of actor) in
+    let now : process_in (slot_at (applied parts plan).procs n) ≡ Some answered
+    = ap (λ (S : State). S.procs n) (own_state laws actor plan held is ((refl, tt), tt)) ∙ put_here (state_of held parts).procs n (Some answered) in (
+      omega arith,
+      subst (λ (slot : Option Proc). IsSeen slot (process_in (slot_at (applied parts plan).procs n))) (sym is.there)
+          (subst (IsSeen (Some actor.proc.now)) (sym now) refl),
+    )
 
 -- a write without a reader
 pub broken_plan : (laws : PlanLaws) (actor : Actor) (before now : List Change) (x : Option ℕ) (address count : ℤ) → length actor.parts.now.descs ≡ 64 → IsActor actor →
@@ -127,6 +151,7 @@ broken_plan laws actor before now x address count sized is effect added =
       conclusion = ap (λ (e : Effect). e.conclusion) (effect held);
     })
     (λ held. tt)
+    (broken_seen laws actor is)
   where
     kept : (inside : Option Inside) (held : ℕ → List Sending) → held_after (inside_of inside) (broken actor).sends held ≡ held
     kept None held = refl
@@ -173,3 +198,4 @@ take_plan laws actor before first now x address count pipe n sized is effect nam
     done_writes actor [] changes S (read_effect p x address count me S) (SetPipe pipe.0 (Some (drop n held_bytes)) ∷ []) (pos n) new (effect held) (tt, tt)
     (λ d. ap (λ (e : Effect). (before_sends e S).descs d) (effect held)) (ap (λ (o : Option (List ℕ)). put_at S.pipes pipe.0 o) (sym taken)))
     (λ held. (pipe_among actor x pipe held names, tt))
+    tt

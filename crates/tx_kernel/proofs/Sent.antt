@@ -63,6 +63,7 @@ holds_plans laws actor before now outcome m rule objects sized is does own =
             sends = ap (λ (f : Effect). f.sends) (does held counted);
             conclusion = ap (λ (f : Effect). f.conclusion) (does held counted) ∙ ap effects.Replies (sym gives.reply);
           };
+      seen = tt;
       among = λ held. own_among n (objects (state_of held parts)) plan gives.own;
     }
 

@@ -17,7 +17,7 @@ use Rattle.tx_kernel.specs.Actors.{me_of, inside_of, CountsHeld, IsActor}
 use Rattle.tx_kernel.specs.Laws.{PlanLaws}
 use Rattle.tx_kernel.specs.Plans.{Plans, Gives, AreAmong, held_after, conclusion_of, sending_of, sent_at_once}
 use Rattle.tx_kernel.specs.Posts.{IsSeen, PlansPost}
-use Rattle.tx_kernel.specs.Steps.{PlansStep, SeesTarget, target_objects}
+use Rattle.tx_kernel.specs.Steps.{PlansStep, target_objects}
 use Rattle.tx_kernel.specs.declared.actor.Actor.{Actor}
 use Rattle.tx_kernel.specs.declared.planned.Outcome.{Outcome}
 use Rattle.tx_kernel.specs.declared.planned.Sends.{Sends}
@@ -130,10 +130,9 @@ post_state laws parts m answer before now first held p sizes seen =
 -- the plan of what is written, and then that of the post
 pub posted_step : (laws : PlanLaws) (actor : Actor) (before between now : List Change) (outcome : Outcome) (m : TheSending) (answer : Result (Unit {0}) Errno)
     (rule : State → Effect) (objects : State → List Object) → Plans actor before between (record { outcome = outcome; sends = AtOnce m }) rule objects →
-    ((held : ℕ → List Sending) → CountsHeld actor.inside held → SeesTarget actor.parts.now (AtOnce m) (before_sends (rule (state_of held actor.parts.now)) (state_of held actor.parts.now))) →
     PlansPost actor.parts.now between now (sending_of m) answer → PlansStep actor before now outcome (AtOnce m) rule objects
 unfolding posts
-posted_step laws actor before between now outcome m answer rule objects plans sees p =
+posted_step laws actor before between now outcome m answer rule objects plans p =
     let parts : Parts = actor.parts.now in
     let first : Parts = exchanged_in parts plans.plan in
     let sizes : sizes_of first ≡ sizes_of parts = laws.sizes parts plans.plan in
@@ -149,8 +148,7 @@ posted_step laws actor before between now outcome m answer rule objects plans se
           let S : State = state_of held parts in
           let after : ℕ → List Sending = held_after (inside_of actor.inside) (AtOnce m) held in
           let given : Gives actor first (record { outcome = outcome; sends = AtOnce m }) held (rule S) = plans.gives held counted in
-          let seen : IsSeen (slot_at parts.procs m.target.0) ((state_of after first).procs m.target.0)
-          = subst (λ (R : State). IsSeen (slot_at parts.procs m.target.0) (R.procs m.target.0)) given.state (sees held counted) in
+          let seen : IsSeen (slot_at parts.procs m.target.0) ((state_of after first).procs m.target.0) = plans.seen.1 in
           record {
             state = effect_leaves (rule S) S (state_of after first) (sending_of m ∷ []) (conclusion_of (me_of actor) outcome) given.state given.sends given.conclusion
                 ∙ sym (post_state laws parts (sending_of m) answer between now first after p sizes seen)

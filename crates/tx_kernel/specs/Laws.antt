@@ -1,5 +1,5 @@
 -- The laws that the plans stand on.
-use Rattle.tx_change.specs.Counts.{CountsElsewhere, CountsNameless, CountsPlanned, CountsReplaced, CountsWithOthers, PlansAreNamed, RoomForName, RoomForNames}
+use Rattle.tx_change.specs.Counts.{CountsElsewhere, CountsNameless, CountsPlanned, CountsReplaced, CountsWithOthers, PlansAreNamed, RoomForName, RoomForNames, SlotInTurn}
 use Rattle.tx_change.specs.Laws.{AppliedAppended, BackIsWrite, ChangedAppended, ChangesStateInTurn, ExchangesBack, FrontIsRead, NamedAppended, PartsReplaceProcess, PlacesKept, SizesStay}
 
 -- what changes make of the state, of the counts of names and of the places of processes
@@ -22,3 +22,4 @@ pub record PlanLaws : Type 0 where
   pub sizes : SizesStay
   pub nameless : CountsNameless
   pub again : ExchangesBack
+  pub slots : SlotInTurn

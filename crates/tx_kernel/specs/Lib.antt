@@ -1,7 +1,7 @@
 pub mod Actors
+pub mod Posts
 pub mod Plans
 pub mod Own
-pub mod Posts
 pub mod Named
 pub mod Piped
 pub mod Laws

@@ -1,10 +1,11 @@
 -- What a plan is to be: changes that make of the state what the rule's effect makes of it before its posts.
-use Rattle.std.specs.Prelude.{◌≡◌, ◌⊎◌, ℕ, true, List, [], ◌∷◌, ◌++◌, length, Option, Some, None}
+use Rattle.std.specs.Prelude.{◌≡◌, ◌⊎◌, ◌<◌, ℕ, true, List, [], ◌∷◌, ◌++◌, length, Option, Some, None}
 use Rattle.tx_base.specs.declared.names.Sending.{Sending}
 use Rattle.tx_base.specs.declared.steps.Refusal.{Refusal}
 use Rattle.tx_base.specs.declared.steps.Refusal.TheVariants.{NoMemory, BadNumber}
 use Rattle.tx_base.specs.declared.steps.Reply.{Reply}
 use Rattle.tx_base.specs.declared.steps.Reply.TheVariants as reply
+use Rattle.tx_base.specs.Slots.{slot_at}
 use Rattle.tx_change.specs.Counts.{CountsAgree}
 use Rattle.tx_change.specs.Exchange.{applied, object_of, AreNamed}
 use Rattle.tx_change.specs.Laws.{HaveAllPlaces}
@@ -12,6 +13,7 @@ use Rattle.tx_change.specs.States.{state_of}
 use Rattle.tx_change.specs.declared.change.Change.{Change}
 use Rattle.tx_change.specs.declared.parts.Parts.{Parts}
 use Rattle.tx_kernel.specs.Actors.{inside_of, me_of, CountsHeld}
+use Rattle.tx_kernel.specs.Posts.{IsSeen}
 use Rattle.tx_kernel.specs.declared.actor.Actor.{Actor}
 use Rattle.tx_kernel.specs.declared.planned.Outcome.{Outcome}
 use Rattle.tx_kernel.specs.declared.planned.Outcome.TheVariants.{Done, Ended, Out}
@@ -21,6 +23,7 @@ use Rattle.tx_kernel.specs.declared.planned.Sends.TheVariants.{Nothing, AtOnce, 
 use Rattle.tx_model.specs.Answer.{Choice, is_bad_choice}
 use Rattle.tx_model.specs.Effects.{Conclusion, Replies, Effect, Inside, before_sends, idle}
 use Rattle.tx_model.specs.Memory.{Memory, bytes_from}
+use Rattle.tx_proc.specs.Processes.{process_in}
 use Rattle.tx_model.specs.State.{Object, Proc, Process, Sender, Sending as TheSending, State, has, put_at}
 
 -- a step with this answer, which sends nothing
@@ -68,6 +71,18 @@ abbrev pub AreAmong : List Object → List Change → Type 0
 AreAmong objects [] = Unit {0}
 AreAmong objects (change ∷ changes) = (has (object_of change) objects ≡ true) × AreAmong objects changes
 
+-- the number of the signal that is posted is below 64
+abbrev pub HasSignal : Sends → Type 0
+HasSignal Nothing = Unit {0}
+HasSignal (AtOnce m) = m.signo.0 < 64
+HasSignal (AtCommit m) = Unit {0}
+
+-- a signal that is posted with a plan has a number below 64, and the changes leave of its target what a post sees
+abbrev pub LeavesTarget : Parts → Sends → Parts → Type 0
+LeavesTarget parts Nothing after = Unit {0}
+LeavesTarget parts (AtOnce m) after = (m.signo.0 < 64) × IsSeen (slot_at parts.procs m.target.0) (process_in (slot_at after.procs m.target.0))
+LeavesTarget parts (AtCommit m) after = Unit {0}
+
 -- a log that has a plan of the rule at its end now
 pub record Plans (actor : Actor) (before now : List Change) (planned : Planned) (rule : State → Effect) (objects : State → List Object) : Type 0 where
   pub plan : List Change
@@ -77,6 +92,7 @@ pub record Plans (actor : Actor) (before now : List Change) (planned : Planned) 
   pub places : HaveAllPlaces (applied actor.parts.now plan)
   pub gives : (held : ℕ → List TheSending) → CountsHeld actor.inside held →
       Gives actor (applied actor.parts.now plan) planned held (rule (state_of held actor.parts.now))
+  pub seen : LeavesTarget actor.parts.now planned.sends (applied actor.parts.now plan)
   pub among : (held : ℕ → List TheSending) → AreAmong (Proc actor.pid.0 ∷ objects (state_of held actor.parts.now)) plan
 
 -- a log that has more at its end now

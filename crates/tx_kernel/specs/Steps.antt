@@ -1,6 +1,5 @@
 -- What the plan of a whole step is to be: the writes of the rule, its post, and the answer.
-use Rattle.std.specs.Prelude.{◌≡◌, ◌<◌, ℕ, List, [], ◌∷◌, ◌++◌}
-use Rattle.tx_base.specs.Slots.{slot_at}
+use Rattle.std.specs.Prelude.{◌≡◌, ℕ, List, [], ◌∷◌, ◌++◌}
 use Rattle.tx_change.specs.Counts.{CountsAgree}
 use Rattle.tx_change.specs.Exchange.{applied as exchanged_in, AreNamed}
 use Rattle.tx_change.specs.Laws.{HaveAllPlaces}
@@ -9,25 +8,12 @@ use Rattle.tx_change.specs.declared.change.Change.{Change}
 use Rattle.tx_change.specs.declared.parts.Parts.{Parts}
 use Rattle.tx_kernel.specs.Actors.{inside_of, me_of, CountsHeld}
 use Rattle.tx_kernel.specs.Plans.{AreAmong, held_after, reply_of, sent_at_once}
-use Rattle.tx_kernel.specs.Posts.{IsSeen}
 use Rattle.tx_kernel.specs.declared.actor.Actor.{Actor}
 use Rattle.tx_kernel.specs.declared.planned.Outcome.{Outcome}
 use Rattle.tx_kernel.specs.declared.planned.Sends.{Sends}
 use Rattle.tx_kernel.specs.declared.planned.Sends.TheVariants.{Nothing, AtOnce, AtCommit}
 use Rattle.tx_model.specs.Effects.{Effect, applied, concluding_reply, send_answers}
 use Rattle.tx_model.specs.State.{Object, Proc, Sending, State}
-
--- the number of the signal that is posted with the step is below 64
-abbrev pub HasSignal : Sends → Type 0
-HasSignal Nothing = Unit {0}
-HasSignal (AtOnce m) = m.signo.0 < 64
-HasSignal (AtCommit m) = Unit {0}
-
--- what is written before the post leaves of its target what a post sees
-abbrev pub SeesTarget : Parts → Sends → State → Type 0
-SeesTarget parts Nothing after = Unit {0}
-SeesTarget parts (AtOnce m) after = IsSeen (slot_at parts.procs m.target.0) (after.procs m.target.0)
-SeesTarget parts (AtCommit m) after = Unit {0}
 
 -- the process that a signal is posted to with the step
 abbrev pub target_objects : Sends → List Object

@@ -1,9 +1,9 @@
 //! Signals that a process sends (POSIX.1-2017, XSH, kill() and sigqueue()).
 ghost use Rattle.std.specs.Prelude.{◌≡◌, ◌<◌, ◌≤◌, ℕ, List, length, option_map, IfOk, IfSome, OnErr};
 ghost use Rattle.tx_kernel.specs.Actors.{CountsHeld, IsActor, inside_of, me_of};
-ghost use Rattle.tx_kernel.specs.Plans.{Extends, sending_of};
+ghost use Rattle.tx_kernel.specs.Plans.{Extends, HasSignal, sending_of};
 ghost use Rattle.tx_kernel.specs.Sends.{PlansPosted, sends_by, sent_effect};
-ghost use Rattle.tx_kernel.specs.Steps.{HasSignal, PlansStep};
+ghost use Rattle.tx_kernel.specs.Steps.{PlansStep};
 ghost use Rattle.tx_change.specs.States.{state_of};
 ghost use Rattle.tx_model.specs.Processes.{held_objects};
 ghost use Rattle.tx_model.specs.Sends.{hands_out, send_effect, sendable};

@@ -3,9 +3,9 @@ ghost use Rattle.std.specs.Prelude.{◌≡◌, ℕ, ◌<◌, ◌++◌, ◌∷◌
 ghost use Rattle.tx_change.specs.States.{state_of};
 ghost use Rattle.tx_change.specs.declared.change.Change.{Change as TheChange};
 ghost use Rattle.tx_kernel.specs.Actors.{CountsHeld, IsActor};
-ghost use Rattle.tx_kernel.specs.Plans.{Extends, Plans, sending_of};
+ghost use Rattle.tx_kernel.specs.Plans.{Extends, HasSignal, Plans, sending_of};
 ghost use Rattle.tx_kernel.specs.Posts.{PlansPost};
-ghost use Rattle.tx_kernel.specs.Steps.{HasSignal, PlansStep, SeesTarget};
+ghost use Rattle.tx_kernel.specs.Steps.{PlansStep};
 ghost use Rattle.tx_model.specs.Effects.{Effect, before_sends};
 ghost use Rattle.tx_model.specs.State.{Object, Sending as TheSending, State};
 
@@ -43,9 +43,7 @@ impl Actor<'_> {
     pub(crate) fn push_sends(&self, planned: &Planned, log: &mut Log) -> Result<(), NoMemory>
         requires { HasSignal planned.now.sends }
         ensures ok { OnOk result ((before : List TheChange) (rule : State → Effect) (objects : State → List Object) →
-            Plans self.now before log.old planned.now rule objects →
-            ((held : ℕ → List TheSending) → CountsHeld self.now.inside held → SeesTarget self.now.parts.now planned.now.sends (before_sends (rule (state_of held self.now.parts.now)) (state_of held self.now.parts.now))) →
-            PlansStep self.now before log.new planned.now.outcome planned.now.sends rule objects) }
+            Plans self.now before log.old planned.now rule objects → PlansStep self.now before log.new planned.now.outcome planned.now.sends rule objects) }
         ensures log { OnErr result (Extends log.old log.new) }
     {
         laws();

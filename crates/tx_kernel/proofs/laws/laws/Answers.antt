@@ -20,4 +20,5 @@ returns c = record {
   sizes = c.appended.ensures.sizes;
   nameless = c.counts_agree.ensures.nameless;
   again = c.exchanges_back.ensures;
+  slots = c.counts_in_turn.ensures.slot;
 }
