@@ -17,6 +17,7 @@ pub mod Ended
 pub mod EndSeen
 pub mod EndPlans
 pub mod Exited
+pub mod AnyCall
 pub mod Named
 pub mod Released
 pub mod NamedCalls
