@@ -1,5 +1,5 @@
 -- The rules of calls, by their kinds.
-use Rattle.std.proofs.Common.{◌≡◌, ℕ, ℤ, Bool, List, [], Option, refl}
+use Rattle.std.proofs.Common.{◌≡◌, ℕ, ℤ, Bool, [], Option, refl}
 use Rattle.tx_base.specs.declared.names.DescNo.{DescNo}
 use Rattle.tx_base.specs.declared.names.Pid.{Pid}
 use Rattle.tx_base.specs.declared.names.PipeNo.{PipeNo}
@@ -8,7 +8,7 @@ use Rattle.tx_base.specs.declared.steps.Call.TheVariants as call
 use Rattle.tx_kernel.specs.Calls.{any_effect, any_objects, common_effect, common_objects, own_rule}
 use Rattle.tx_model.specs.Calls.{call_effect, call_objects}
 use Rattle.tx_model.specs.Effects.{Inside, own_effect}
-use Rattle.tx_model.specs.State.{Object, Process, State}
+use Rattle.tx_model.specs.State.{Process, State}
 
 -- the call is none of those that concern more than their process
 pub record IsOwnCall (c : Call) : Type 0 where
@@ -48,6 +48,21 @@ own_names_nothing inside (call.SetNonblock x y) p me S is = absurd (is.nonblock 
 own_names_nothing inside (call.Read x y z) p me S is = absurd (is.read x y z refl)
 own_names_nothing inside (call.Write x y z) p me S is = absurd (is.write x y z refl)
 own_names_nothing inside c p me S is = refl
+
+-- the call sends no signal on demand
+pub record IsNoSend (c : Call) : Type 0 where
+  pub kill : (x y : ℤ) → c ≡ call.Kill x y → ⊥
+  pub sigqueue : (x y z : ℤ) → c ≡ call.Sigqueue x y z → ⊥
+
+pub common_is_any : (inside : Option Inside) (p : ℕ) (c : Call) (me : Process) (S : State) → IsNoSend c → common_effect inside p c me S ≡ any_effect inside p c me S
+common_is_any inside p (call.Kill x y) me S is = absurd (is.kill x y refl)
+common_is_any inside p (call.Sigqueue x y z) me S is = absurd (is.sigqueue x y z refl)
+common_is_any inside p c me S is = refl
+
+pub common_names_any : (inside : Option Inside) (c : Call) (p : ℕ) (me : Process) (S : State) → IsNoSend c → common_objects inside c p me S ≡ any_objects inside c p me S
+common_names_any inside (call.Kill x y) p me S is = absurd (is.kill x y refl)
+common_names_any inside (call.Sigqueue x y z) p me S is = absurd (is.sigqueue x y z refl)
+common_names_any inside c p me S is = refl
 
 -- the rule of any call is that of the definitions, and so is what it names
 pub any_is_call : (inside : Option Inside) (p : ℕ) (c : Call) (me : Process) (S : State) → any_effect inside p c me S ≡ call_effect inside p c me S

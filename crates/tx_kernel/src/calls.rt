@@ -1,26 +1,24 @@
 //! The plan of any call, by its kind.
 ghost use Rattle.std.specs.Prelude.{◌≡◌, ◌⊎◌, IfOk, IfErr, OnErr};
 ghost use Rattle.tx_kernel.specs.Actors.{IsActor, inside_of, me_of};
-ghost use Rattle.tx_kernel.specs.Calls.{common_effect, common_objects, own_rule};
+ghost use Rattle.tx_kernel.specs.Calls.{any_effect, any_objects, common_effect, common_objects, own_rule};
 ghost use Rattle.tx_kernel.specs.Own.{PlansOwn};
 ghost use Rattle.tx_kernel.specs.Plans.{Extends, IsBadChoice, Plans, RefusedBy};
+ghost use Rattle.tx_kernel.specs.Steps.{PlansStep};
 ghost use Rattle.tx_model.specs.Answer.{chosen_in};
+ghost use Rattle.tx_model.specs.Calls.{call_effect, call_objects};
+ghost use Rattle.tx_model.specs.Deliveries.{delivery_effect, delivery_objects};
 
 use crate::actor::Actor;
 use crate::laws::laws;
 use crate::planned::{Outcome, Planned};
 use std::alloc::Global;
-use tx_base::{Call, Errno, NoMemory, Refusal};
+use tx_base::{Call, Errno, NoMemory, Refusal, Signo};
 use tx_change::Log;
 
 impl Actor<'_> {
     /// Plans a call that concerns its own process alone. A call of transactions answers EINVAL.
-    fn plan_own(
-        &self,
-        alloc: Global,
-        call: &Call,
-        log: &mut Log,
-    ) -> Result<Outcome, NoMemory>
+    fn plan_own(&self, alloc: Global, call: &Call, log: &mut Log) -> Result<Outcome, NoMemory>
         requires { IsActor self.now }
         ensures ok { IfOk result (λ outcome. PlansOwn self.now log.old log.new outcome (own_rule (inside_of self.now.inside) self.now.pid.0 call.now)) }
         ensures log { OnErr result (Extends log.old log.new) }
@@ -76,5 +74,85 @@ impl Actor<'_> {
                 Ok(Planned::quiet(outcome))
             }
         }
+    }
+
+    /// Plans any call, its post with it. A refusal may leave more in the log.
+    fn plan_any(&self, alloc: Global, call: &Call, log: &mut Log) -> Result<Planned, Refusal>
+        requires { IsActor self.now }
+        ensures ok { IfOk result (λ planned. PlansStep self.now log.old log.new planned.outcome planned.sends
+            (λ S. any_effect (inside_of self.now.inside) self.now.pid.0 call.now (me_of self.now) S) (λ S. any_objects (inside_of self.now.inside) call.now self.now.pid.0 (me_of self.now) S)) }
+        ensures refused { IfErr result (λ why. RefusedBy self.now why (λ S. any_effect (inside_of self.now.inside) self.now.pid.0 call.now (me_of self.now) S) ⊎ IsBadChoice self.now why (chosen_in call.now)) }
+        ensures log { OnErr result (Extends log.old log.new) }
+    {
+        match call {
+            Call::Kill(target, signo) => Ok(self.plan_send(*target, *signo, 0, log)?),
+            Call::Sigqueue(target, signo, value) => {
+                Ok(self.plan_send(*target, *signo, *value, log)?)
+            }
+            _ => {
+                let planned = self.plan_common(alloc, call, log)?;
+                self.push_sends(&planned, log)?;
+                Ok(planned)
+            }
+        }
+    }
+
+    /// Plans a call: appends its exchanges to the log, those of its post and of its answer with them,
+    /// and says the answer and what it sends. A call of transactions answers EINVAL, as it does where
+    /// it means nothing. Nothing is changed.
+    ///
+    /// Refuses by BadNumber where a number that the call chooses is out of range or chosen twice, by
+    /// NumberTaken where one is in use, by Wait where a read, a write or a waitpid waits, and by
+    /// NoMemory. The log is then as it was.
+    pub fn plan_call(&self, alloc: Global, call: &Call, log: &mut Log) -> Result<Planned, Refusal>
+        requires { IsActor self.now }
+        ensures ok { IfOk result (λ planned. PlansStep self.now log.old log.new planned.outcome planned.sends
+            (λ S. call_effect (inside_of self.now.inside) self.now.pid.0 call.now (me_of self.now) S) (λ S. call_objects (inside_of self.now.inside) call.now self.now.pid.0 (me_of self.now) S)) }
+        ensures refused { IfErr result (λ why. RefusedBy self.now why (λ S. call_effect (inside_of self.now.inside) self.now.pid.0 call.now (me_of self.now) S) ⊎ IsBadChoice self.now why (chosen_in call.now)) }
+        ensures err { OnErr result (log.new ≡ log.old) }
+    {
+        let before = log.len();
+        let planned = self.plan_any(alloc, call, log);
+        if planned.is_err() {
+            log.truncate(before);
+        }
+        planned
+    }
+
+    /// Plans the delivery of a pending signal, as `plan_call` does a call.
+    ///
+    /// Refuses by NotDeliverable, Deferred and FramesFull, as its rule does, and by NoMemory. The log
+    /// is then as it was.
+    pub fn plan_delivery(
+        &self,
+        alloc: Global,
+        signo: Signo,
+        log: &mut Log,
+    ) -> Result<Planned, Refusal>
+        requires { IsActor self.now }
+        ensures ok { IfOk result (λ planned. PlansStep self.now log.old log.new planned.outcome planned.sends
+            (λ S. delivery_effect (inside_of self.now.inside) self.now.pid.0 signo.0 (me_of self.now) S) (λ S. delivery_objects (inside_of self.now.inside) self.now.pid.0 signo.0 (me_of self.now) S)) }
+        ensures refused { IfErr result (λ why. RefusedBy self.now why (λ S. delivery_effect (inside_of self.now.inside) self.now.pid.0 signo.0 (me_of self.now) S)) }
+        ensures err { OnErr result (log.new ≡ log.old) }
+    {
+        let before = log.len();
+        let planned = self.plan_delivered(alloc, signo, log);
+        if planned.is_err() {
+            log.truncate(before);
+        }
+        planned
+    }
+
+    /// Plans a delivery, its post with it. A refusal may leave more in the log.
+    fn plan_delivered(&self, alloc: Global, signo: Signo, log: &mut Log) -> Result<Planned, Refusal>
+        requires { IsActor self.now }
+        ensures ok { IfOk result (λ planned. PlansStep self.now log.old log.new planned.outcome planned.sends
+            (λ S. delivery_effect (inside_of self.now.inside) self.now.pid.0 signo.0 (me_of self.now) S) (λ S. delivery_objects (inside_of self.now.inside) self.now.pid.0 signo.0 (me_of self.now) S)) }
+        ensures refused { IfErr result (λ why. RefusedBy self.now why (λ S. delivery_effect (inside_of self.now.inside) self.now.pid.0 signo.0 (me_of self.now) S)) }
+        ensures log { OnErr result (Extends log.old log.new) }
+    {
+        let planned = self.plan_taken(alloc, signo, log)?;
+        self.push_sends(&planned, log)?;
+        Ok(planned)
     }
 }

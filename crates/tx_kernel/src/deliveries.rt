@@ -36,7 +36,7 @@ impl Actor<'_> {
     /// realtime signal and one of a lower number is pending that the mask does not block; by Deferred
     /// where the transaction defers it, but SIGKILL never; by FramesFull where it is caught and four
     /// caught signals are unfinished; and by NoMemory. A refusal may leave more in the log.
-    pub(crate) fn plan_delivery(
+    pub(crate) fn plan_taken(
         &self,
         alloc: Global,
         signo: Signo,

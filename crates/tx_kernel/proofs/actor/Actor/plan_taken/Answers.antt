@@ -9,7 +9,7 @@ use Rattle.tx_model.specs.Deliveries.{action_at, delivery_effect, is_deferred}
 use Rattle.tx_model.specs.Effects.{Effect}
 use Rattle.tx_model.specs.Signals.{disposition}
 use Rattle.tx_model.specs.State.{Object, State}
-use Rattle.tx_kernel.proofs.actor.Actor.plan_delivery.Goals as goal
+use Rattle.tx_kernel.proofs.actor.Actor.plan_taken.Goals as goal
 
 pub returns-in_default-clause-refused : goal.returns-in_default-clause-refused
 returns-in_default-clause-refused c = none_refuses c.args.self.now c.args.signo.0 (c.in_default.ensures (me_of c.args.self.now))
