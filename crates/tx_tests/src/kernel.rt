@@ -3,7 +3,8 @@ ghost use Rattle.std.specs.Prelude.{◌≡◌};
 
 use std::test::Fail;
 use tx_base::{Errno, Pid, SIGKILL, Sending, Signo};
-use tx_kernel::{Face, Outcome, Planned, Sends, plan_post};
+use tx_change::Parts;
+use tx_kernel::{Face, Outcome, Planned, Sends, plan_post, post};
 use tx_proc::{Part, Proc};
 use tx_signal::with;
 
@@ -56,6 +57,17 @@ fn posts_exchange_what_is_pending(rt: HostRuntime) {
     assert!(rt; entry.signo == Signo(34) && entry.value == 5);
     let asks = plan_post(&proc, &sent(0, 0, 0));
     assert!(rt; matches!(asks, Ok(None)), "signal 0 only asks");
+}
+
+#[test]
+fn a_post_in_place_is_pending(rt: HostRuntime) -> Result<(), Fail> {
+    let mut parts = Parts::boot(rt.alloc(), 64, 2)?;
+    let posted = post(&mut parts, &sent(33, 0, 0));
+    assert_eq!(rt; posted.answer, Ok(()));
+    assert!(rt; posted.change.is_some());
+    let there = parts.proc(Pid(2)).ok_or("a process is missing")?;
+    assert_eq!(rt; there.pending.queued().len(), 1);
+    Ok(())
 }
 
 #[test]
