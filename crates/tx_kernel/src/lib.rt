@@ -1,5 +1,6 @@
 //! The calls, the deliveries and the posts of the kernel: what each is to change, and its answer.
-//! Nothing is changed here; a plan is a list of exchanges at the end of a log.
+//! A plan is a list of exchanges at the end of a log, and changes nothing; `post` alone changes the
+//! parts.
 #![tactic(auto)]
 
 mod actor;
