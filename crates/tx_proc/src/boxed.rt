@@ -6,19 +6,24 @@ use crate::part::Part;
 use crate::proc::Proc;
 use std::alloc::Global;
 use std::marker::Model;
-use tx_base::NoMemory;
+use tx_base::{NoMemory, Pid};
 use tx_signal::{Frame, Frames};
 
-/// A process in a place of its own, so that a table moves no process. Contracts see the process.
+/// A process in a place of its own, so that a table moves no process. Its parent stands beside it
+/// too, so that who is whose child is read in the table alone. Contracts see the process.
 #[derive(Drop)]
 pub struct BoxedProc {
+    parent: Pid,
     proc: Box<Proc>,
 }
 
 impl Model for BoxedProc {
+    ghost use Rattle.std.specs.Prelude.{◌≡◌};
     ghost use Rattle.tx_proc.specs.declared.proc.Proc.{Proc as TheProc};
 
     ghost Value = { TheProc };
+
+    ghost invariant = { λ boxed. boxed.parent ≡ boxed.proc.value.parent };
 
     ghost view = { λ boxed. boxed.proc.value };
 }
@@ -30,8 +35,9 @@ impl BoxedProc {
     pub fn new(alloc: Global, proc: Proc) -> Result<BoxedProc, NoMemory>
         ensures { IfOk result (λ boxed. boxed ≡ proc) }
     {
+        let parent = proc.parent;
         let proc = Box::new(alloc, proc)?;
-        Ok(BoxedProc { proc })
+        Ok(BoxedProc { parent, proc })
     }
 
     /// The process.
@@ -41,13 +47,22 @@ impl BoxedProc {
         &self.proc
     }
 
+    /// The parent of the process.
+    pub fn parent(&self) -> Pid
+        ensures { result ≡ self.now.parent }
+    {
+        self.parent
+    }
+
     /// Exchanges a part of the process. The part must have a number that there is.
     pub fn swap_part(&mut self, part: &mut Part)
         requires { HasPlace part.old }
         ensures proc { self.new ≡ edited_once self.old part.old }
         ensures part { part.new ≡ part_of self.old part.old }
     {
-        part.swap(&mut self.proc);
+        let BoxedProc { parent, proc } = self;
+        part.swap(proc);
+        *parent = proc.parent;
     }
 }
 

@@ -59,8 +59,8 @@ impl ProcTable {
     pub fn parent_of(&self, pid: Pid) -> Option<Pid>
         ensures { result ≡ option_map (λ proc. proc.parent) (slot_at self.now pid.0) }
     {
-        let proc = self.get(pid)?;
-        Some(proc.parent)
+        let boxed = self.slots.get(pid)?;
+        Some(boxed.parent())
     }
 
     /// Whether a number has no process.

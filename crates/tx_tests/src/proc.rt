@@ -27,8 +27,10 @@ fn boots(rt: HostRuntime) {
 fn keeps_processes_by_number(rt: HostRuntime) -> Result<(), Fail> {
     let mut table = ProcTable::new(rt.alloc(), 64)?;
     assert_eq!(rt; table.width(), 64);
-    table.put(Pid(64), BoxedProc::new(rt.alloc(), Proc::booted(Pid(64)))?);
-    assert_eq!(rt; table.get(Pid(64)).map(|proc| proc.parent), Some(Pid(1)));
+    let boxed = BoxedProc::new(rt.alloc(), Proc::booted(Pid(64)))?;
+    assert_eq!(rt; boxed.parent(), Pid(1));
+    table.put(Pid(64), boxed);
+    assert_eq!(rt; table.parent_of(Pid(64)), Some(Pid(1)));
     let taken = table.remove(Pid(64));
     assert!(rt; taken.is_some());
     assert!(rt; table.free(Pid(64)));
