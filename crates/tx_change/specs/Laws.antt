@@ -2,7 +2,7 @@
 use Rattle.std.specs.Prelude.{◌≡◌, ◌≤◌, ℕ, ◌+◌, Bool, true, false, not, List, [], ◌∷◌, ◌++◌, length, drop, option_map, Option, Some, None, if◌then◌else◌, ◌==◌}
 use Rattle.tx_base.specs.declared.limits.TheConstants.{PIPE_BYTES}
 use Rattle.tx_base.specs.Slots.{slot_at}
-use Rattle.tx_change.specs.Exchange.{parts_after, change_after, object_of, sizes_of, IsNamed, AreNamed, applied, exchanged, undone, reverted}
+use Rattle.tx_change.specs.Exchange.{Sizes, AreWithin, parts_after, change_after, object_of, sizes_of, IsNamed, AreNamed, applied, exchanged, undone, reverted}
 use Rattle.tx_change.specs.States.{changed, changed_by, state_of}
 use Rattle.tx_change.specs.declared.change.Change.{Change}
 use Rattle.tx_change.specs.declared.change.Change.TheVariants.{Slot, Part, Description, Pipe}
@@ -108,6 +108,10 @@ ChangedAppended = (S : State) (front behind : List Change) → changed_by (front
 
 abbrev pub NamedAppended : Type 0
 NamedAppended = (parts : Parts) (front behind : List Change) → AreNamed parts front → AreNamed parts behind → AreNamed parts (front ++ behind)
+
+-- what changes have once they were exchanged names the same numbers
+abbrev pub ExchangedStayNamed : Type 0
+ExchangedStayNamed = (sizes : Sizes) (parts : Parts) (changes : List Change) → AreWithin sizes changes → AreWithin sizes (exchanged parts changes)
 
 -- none of the changes names the object
 abbrev pub AreElsewhere : Object → List Change → Type 0

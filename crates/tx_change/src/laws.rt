@@ -1,6 +1,6 @@
 //! The laws of exchanges, as the contracts of functions that do nothing.
 ghost use Rattle.tx_change.specs.Counts.{CountsKept, CountsForked, CountsEnded, CountsRemoved, CountsElsewhere, CountsNameless, SlotInTurn, DescsInTurn, CountsInTurn, PlansAreNamed, PlansInTurn, CountsPlanned, CountsReplaced, RoomForNames, RoomForName, CountsWithOthers};
-ghost use Rattle.tx_change.specs.Laws.{ApplyThenRevert, RevertThenApply, TwiceIsNothing, ExchangesBack, NothingElse, Commute, ChangesState, ChangesStateInTurn, NamesItsObject, AppliedAppended, ExchangedAppended, UndoneAppended, RevertedAppended, ChangedAppended, NamedAppended, ListNamesItsObjects, PartsReplaceProcess, FrontIsRead, BackIsWrite, PlacesKept, SizesStay};
+ghost use Rattle.tx_change.specs.Laws.{AppliedAppended, ApplyThenRevert, BackIsWrite, ChangedAppended, ChangesState, ChangesStateInTurn, Commute, ExchangedAppended, ExchangedStayNamed, ExchangesBack, FrontIsRead, ListNamesItsObjects, NamedAppended, NamesItsObject, NothingElse, PartsReplaceProcess, PlacesKept, RevertThenApply, RevertedAppended, SizesStay, TwiceIsNothing, UndoneAppended};
 
 /// Two exchanges of one part are nothing: the parts and the change come back.
 pub fn twice_is_nothing()
@@ -99,6 +99,11 @@ pub fn appended()
 pub fn lists_change_state()
     ensures elsewhere { ListNamesItsObjects }
     ensures process { PartsReplaceProcess }
+{}
+
+/// What changes have once they were exchanged names the same numbers, so it can be exchanged again.
+pub fn stays_named()
+    ensures { ExchangedStayNamed }
 {}
 
 /// An exchange of the first bytes of a pipe for none is a read of these, and one of none at its back

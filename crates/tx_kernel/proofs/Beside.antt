@@ -39,6 +39,7 @@ plans_same actor before now planned rule other objects others does names plans =
   counts = plans.counts;
   places = plans.places;
   gives = λ held counted. subst (λ (effect : Effect). Gives actor (applied actor.parts.now plans.plan) planned held effect) (does held counted) (plans.gives held counted);
+  shown = plans.shown;
   seen = plans.seen;
   among = λ held. subst (λ (os : List Object). AreAmong (TheProc actor.pid.0 ∷ os) plans.plan) (names held) (plans.among held);
 }
@@ -172,6 +173,7 @@ beside_plans laws actor before now descs other slot own r new objects is beside 
         sends = refl;
         conclusion = refl;
       };
+      shown = tt;
       seen = tt;
       among = λ held. descs_among (TheProc n ∷ objects (state_of held parts)) descs last (among held) (there held, own_among n (objects (state_of held parts)) own beside.own);
     }

@@ -16,6 +16,7 @@ use Rattle.tx_change.specs.declared.change.Change.TheVariants.{Part as SetPart}
 use Rattle.tx_kernel.proofs.Beside.{plans_same}
 use Rattle.tx_kernel.proofs.OwnPlans.{own_plans}
 use Rattle.tx_kernel.proofs.PartsOwned.{part_none, part_more, part_same}
+use Rattle.tx_kernel.proofs.Whole.{first_calm}
 use Rattle.tx_kernel.specs.Actors.{me_of, inside_of, IsActor}
 use Rattle.tx_kernel.specs.Discards.{queue_of}
 use Rattle.tx_kernel.specs.Laws.{PlanLaws}
@@ -36,7 +37,6 @@ use Rattle.tx_proc.specs.Processes.{revised}
 use Rattle.tx_proc.specs.declared.part.Answer.{Answer}
 use Rattle.tx_proc.specs.declared.part.Part.TheVariants.{Answer as SetAnswer, Frame as SetFrame, Mask as SetMask, Queued as SetQueued}
 use Rattle.tx_signal.specs.Entries.{entry_swapped}
-use Rattle.tx_signal.specs.Parts.{PendingView}
 
 -- the first entry of a realtime signal is taken out
 pub entry_leaves : (actor : Actor) (before now : List Change) (signo place : ℕ) → is_realtime signo ≡ true → length (queue_of actor) ≤ QUEUED →
@@ -80,6 +80,7 @@ caught_plans actor before gone masked saved now signo value ret point mask block
         nameless = three.nameless;
         process = three.process ∙ (λ j. record (relieved signo me) { registers = record { point = point; ret = same j; slots = me.registers.slots }; mask = bits j; frames = frames j });
         reply = ap TheDone same;
+        shown = tt;
       };
     }
 
@@ -198,6 +199,6 @@ nothing_delivered signo me standard queue =
 
 pub not_first : (actor : Actor) (signo : ℕ) (value : ℤ) → IsActor actor → delivered_value signo (me_of actor) ≡ Some value → actor.pid.0 ≢ 1
 not_first actor signo value is here one =
-    let nothing = is.first one in
-    let none : None ≡ Some value = sym (nothing_delivered signo (me_of actor) (ap (λ (p : PendingView). p.standard) nothing) (ap (λ (p : PendingView). p.queued) nothing)) ∙ here in
+    let calm = first_calm actor is one in
+    let none : None ≡ Some value = sym (nothing_delivered signo (me_of actor) calm.pending calm.queued) ∙ here in
     cc

@@ -23,7 +23,8 @@ use Rattle.tx_kernel.proofs.Beside.{descs_among, descs_bring, descs_named}
 use Rattle.tx_kernel.proofs.EndStates.{pipes_same}
 use Rattle.tx_kernel.proofs.Ended.{children_are, ended_alone, ended_plan, ending_state, orphans_of, others_changed, pipes_left}
 use Rattle.tx_kernel.proofs.Forked.{listed-among, open-has, planned-named}
-use Rattle.tx_kernel.specs.Actors.{me_of, inside_of, HasPipe, IsActor}
+use Rattle.tx_kernel.proofs.Whole.{HasPipe, not_own_parent, whole_piped}
+use Rattle.tx_kernel.specs.Actors.{me_of, inside_of, IsActor}
 use Rattle.tx_kernel.specs.Endings.{gone_changes, orphan_changes, plain, plain_with}
 use Rattle.tx_kernel.proofs.EndSeen.{descs_slot, gone_slot, orphans_seen, slot_after-append}
 use Rattle.tx_kernel.proofs.PostPlans.{seen_now}
@@ -297,7 +298,7 @@ ending_seen laws actor descs new (AtOnce m) is named told =
     let orphans : List Change = orphan_changes (orphans_of actor) in
     let gone : List Change = gone_changes (pipes_left actor) (plain_with descs parts) in
     let other : (parent == actor.pid.0) ≡ false
-    = ap (has_parent actor.pid.0) (sym (ap process_in is.there)) ∙ is.whole.parents actor.pid.0 in
+    = not_own_parent actor is in
     let stays : slot_after parent (Slot actor.pid (Some new) ∷ (orphans ++ gone)) slot ≡ slot_after parent (orphans ++ gone) slot
     = ap (λ (b : Bool). slot_after parent (orphans ++ gone) (if b then Some new else slot)) other in
     let left : slot_at (applied parts (ended_plan actor descs new)).procs parent ≡ slot_after parent orphans slot
@@ -326,7 +327,7 @@ ending_plans laws names actor status descs new sends before first second third n
     let named-descs : AreNamed parts front = descs_named laws parts actor.pid descs is.number sized drops.numbers in
     let named-others : AreNamed parts (orphans ++ gone)
     = laws.named parts orphans gone (orphans_named parts actor.pid.0 (length parts.procs + 1) (omega arith))
-    (gone_named parts (pipes_left actor) (plain_with descs parts) (pipes_below parts (open_in actor.proc.now.descriptors) is.whole.piped)) in
+    (gone_named parts (pipes_left actor) (plain_with descs parts) (pipes_below parts (open_in actor.proc.now.descriptors) (whole_piped parts is.whole))) in
     let named : AreNamed parts (ended_plan actor descs new) = laws.named parts front (slot ++ (orphans ++ gone)) named-descs (is.number, named-others) in
     let nameless : AreNameless (orphans ++ gone)
     = nameless_both orphans gone (orphans_nameless (orphans_of actor)) (gone_nameless (pipes_left actor) (plain_with descs parts)) in
@@ -352,6 +353,7 @@ ending_plans laws names actor status descs new sends before first second third n
         sends = at_once;
         conclusion = refl;
       };
+      shown = tt;
       seen = ending_seen laws actor descs new sends is named at_once;
       among = λ held. plan_among actor status descs new held other drops;
     }

@@ -1,3 +1,4 @@
+pub mod Whole
 pub mod Owned
 pub mod OwnPlans
 pub mod Beside
@@ -18,6 +19,7 @@ pub mod EndSeen
 pub mod EndPlans
 pub mod Exited
 pub mod AnyCall
+pub mod Made
 pub mod Named
 pub mod Released
 pub mod NamedCalls

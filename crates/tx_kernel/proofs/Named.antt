@@ -20,7 +20,9 @@ use Rattle.tx_desc.specs.declared.plans.NewName.{NewName}
 use Rattle.tx_kernel.proofs.OwnPlans.{own_brings, own_named, own_among}
 use Rattle.tx_kernel.specs.Actors.{me_of, inside_of, CountsHeld, IsActor}
 use Rattle.tx_kernel.specs.Laws.{PlanLaws}
-use Rattle.tx_kernel.specs.Plans.{LeavesTarget, Plans, AreAmong, conclusion_of, held_after, sent_at_once}
+use Rattle.tx_kernel.specs.Plans.{LeavesTarget, Plans, AreAmong, KeepsShown, conclusion_of, held_after, memory_in, sent_at_once}
+use Rattle.tx_model.specs.Memory.{Memory}
+use Rattle.tx_base.specs.Slots.{slot_at}
 use Rattle.tx_kernel.specs.declared.actor.Actor.{Actor}
 use Rattle.tx_kernel.specs.declared.planned.Planned.{Planned}
 use Rattle.tx_model.specs.Effects.{Effect, before_sends}
@@ -261,13 +263,14 @@ names_among n pid os names same fds = own_among n os (name_changes pid names) (s
 -- a plan whose changes are what the rule writes is a plan of the rule
 pub files_plan : (laws : PlanLaws) (actor : Actor) (before now : List Change) (planned : Planned) (rule : State → Effect) (objects : State → List Object) (new : Process) (files : Files actor new) →
     length actor.parts.now.descs ≡ 64 → IsActor actor → now ≡ before ++ changes_of files →
+    ((after : Memory) → KeepsShown planned.outcome (me_of actor).memory after) →
     ((held : ℕ → List Sending) → held_after (inside_of actor.inside) planned.sends held ≡ held) →
     ((held : ℕ → List Sending) → CountsHeld actor.inside held →
     Writes actor new files.descs files.pipes planned (state_of held actor.parts.now) (rule (state_of held actor.parts.now))) →
     ((held : ℕ → List Sending) → AreAmong (objects (state_of held actor.parts.now)) (desc_changes files.descs ++ files.pipes)) →
     LeavesTarget actor.parts.now planned.sends (applied actor.parts.now (changes_of files)) →
     Plans actor before now planned rule objects
-files_plan laws actor before now planned rule objects new files sized is added keeps does among seen =
+files_plan laws actor before now planned rule objects new files sized is added answers keeps does among seen =
     let parts : Parts = actor.parts.now in
     let n : ℕ = actor.pid.0 in
     let named : AreNamed parts (changes_of files) = files_named laws actor new files sized is in
@@ -287,6 +290,7 @@ files_plan laws actor before now planned rule objects new files sized is added k
             sends = wrote.sends;
             conclusion = wrote.conclusion;
           };
+      shown = answers (memory_in (process_in (slot_at (applied parts (changes_of files)).procs n)));
       seen = seen;
       among = λ held.
           let os : List Object = objects (state_of held parts) in

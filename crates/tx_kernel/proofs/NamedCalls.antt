@@ -33,6 +33,7 @@ use Rattle.tx_proc.specs.Processes.{process_in, process_of}
 use Rattle.tx_proc.specs.declared.proc.Proc.{Proc}
 use Rattle.std.proofs.lemmas.Bool.{ltb-true, eqb-false, ne_eqb, lt-ltb}
 use Rattle.std.proofs.Math.ListN.{set}
+use Rattle.tx_kernel.proofs.Whole.{whole_piped}
 use Rattle.tx_kernel.specs.Named.{pipe_changes, slot_change, gone_of, left_changes, rename_changes, described_by, endless_changes}
 use Rattle.tx_kernel.proofs.Released.{released_files, one_released, endless_pipes, endless_named, endless_among}
 use Rattle.tx_kernel.proofs.Named.{has_more, ArePipes, AreOfFiles, Files, Writes, files_plan, pipes_alone}
@@ -60,6 +61,7 @@ same_rule actor before now planned rule other objects same plans = record {
   counts = plans.counts;
   places = plans.places;
   gives = λ held counted. rw (← same held counted) (plans.gives held counted);
+  shown = plans.shown;
   seen = plans.seen;
   among = plans.among;
 }
@@ -148,7 +150,7 @@ dup_plan laws actor before first second now x plan sized is answer descriptions 
     files_plan laws actor before now (quiet (Done r)) (λ S. dup_effect p me (named me x)) (λ S. desc_objects (listed (named me x))) (noted r new)
     (answered_files actor (plan.name ∷ []) (plan.desc ∷ []) [] r numbers.0 numbers.1 tt tt counts) sized is
     (appended3 before (name_changes actor.pid (plan.name ∷ [])) (desc_changes (plan.desc ∷ [])) (last_answer r actor) first second now one two three)
-    (held_quiet actor.inside (Done r))
+    (λ after. tt) (held_quiet actor.inside (Done r))
     (λ held counted. let S : State = state_of held actor.parts.now in
     done_writes actor (plan.desc ∷ []) [] S (dup_effect p me (named me x)) [] r new (answer p me refl) tt (descriptions p me S refl (λ d. refl)) refl)
     (λ held. (has_desc plan.desc.number.0 (named me x) (named_me actor x ∙ found), tt))
@@ -194,7 +196,7 @@ nonblock_plan laws actor before first now on x new sized is answer descriptions 
     files_plan laws actor before now (quiet (Done (pos 0))) (λ S. nonblock_effect p on me (named me x) S) (λ S. desc_objects (listed (named me x))) (noted (pos 0) me)
     (answered_files actor [] (new ∷ []) [] (pos 0) numbers.0 numbers.1 tt tt (keeps_beside actor.proc.now.descriptors actor.parts.now.descs (put_descs (new ∷ []) actor.parts.now.descs) counts)) sized is
     (appended2 before (desc_changes (new ∷ [])) (last_answer (pos 0) actor) first now one two)
-    (held_quiet actor.inside (Done (pos 0)))
+    (λ after. tt) (held_quiet actor.inside (Done (pos 0)))
     (λ held counted. let S : State = state_of held actor.parts.now in
     done_writes actor (new ∷ []) [] S (nonblock_effect p on me (named me x) S) (described_again (named me x) (put_descs (new ∷ []) actor.parts.now.descs)) (pos 0) me
     (answer p me S refl (λ d. refl)) (files_again (named me x) (put_descs (new ∷ []) actor.parts.now.descs)) (descriptions p me S refl (λ d. refl)) (pipes_again (named me x) (put_descs (new ∷ []) actor.parts.now.descs) (write_one (SetProc p (Some (noted (pos 0) me))) S)))
@@ -308,14 +310,14 @@ close_plan laws actor before first second third now x plan sized is answer descr
     let new : Process = with_table (put_names (plan.name ∷ []) actor.proc.now.descriptors) me in
     let d : ℕ = plan.given.number.0 in
     let pipes : List Change = endless_changes plan.given.gone R in
-    let named_pipes : AreNamed actor.parts.now pipes = rw gone (endless_named actor.parts.now (get_or D d None) (get_or after d None) R (is.whole.piped d)) in
+    let named_pipes : AreNamed actor.parts.now pipes = rw gone (endless_named actor.parts.now (get_or D d None) (get_or after d None) R (whole_piped actor.parts.now is.whole d)) in
     let among_pipes : (held : ℕ → List Sending) → AreAmong (pipe_list (pipes_of (d ∷ []) (state_of held actor.parts.now))) pipes =
     λ held. rw gone (endless_among d (state_of held actor.parts.now) R (get_or D d None) (get_or after d None) refl) in
     let is_named : named me x ≡ Some d = named_me actor x ∙ found ∙ ap (λ (n : DescNo). Some n.0) (sym same) in
     files_plan laws actor before now (quiet (Done (pos 0))) (λ S. close_effect p x me S) (λ S. desc_pipe_objects (listed (named me x)) S) (noted (pos 0) new)
     (answered_files actor (plan.name ∷ []) (plan.desc ∷ []) pipes (pos 0) numbers.0 numbers.1 (endless_pipes plan.given.gone R) named_pipes counts) sized is
     (appended4 before (name_changes actor.pid (plan.name ∷ [])) (desc_changes (plan.desc ∷ [])) pipes (last_answer (pos 0) actor) first second third now one two three four)
-    (held_quiet actor.inside (Done (pos 0)))
+    (λ after. tt) (held_quiet actor.inside (Done (pos 0)))
     (λ held counted. let S : State = state_of held actor.parts.now in
     gives_writes actor (plan.desc ∷ []) held (close_effect p x me S) d (pos 0) new plan.given.gone sized (answer p me S refl)
     (descriptions p me S (runs_with actor held is) (λ e. refl) (agrees_beside laws actor held is)) gone)
@@ -420,7 +422,7 @@ given_named : (actor : Actor) (given : Option Given) (news : List NewDesc) (R : 
     AreNamed actor.parts.now (endless_changes (gone_of given) R)
 given_named actor None news R is lost = tt
 given_named actor (Some given) news R is lost =
-    rw lost (endless_named actor.parts.now (get_or actor.parts.now.descs given.number.0 None) (get_or (put_descs news actor.parts.now.descs) given.number.0 None) R (is.whole.piped given.number.0))
+    rw lost (endless_named actor.parts.now (get_or actor.parts.now.descs given.number.0 None) (get_or (put_descs news actor.parts.now.descs) given.number.0 None) R (whole_piped actor.parts.now is.whole given.number.0))
 
 pub dup2_plan : (laws : PlanLaws) (actor : Actor) (before first now : List Change) (x y : Option ℕ) (renamed : Renamed) (rename : Option Rename) →
     length actor.parts.now.descs ≡ 64 → IsActor actor →
@@ -451,7 +453,7 @@ dup2_plan laws actor before first now x y renamed rename sized is answer descrip
     (appended2 before (name_changes actor.pid names ++ desc_changes descs ++ pipes) (last_answer r actor) first now
     (one ∙ ap (λ (l : List Change). before ++ l) (rename_listed actor.pid actor.parts.now renamed.given rename ∙ ap (λ (l : List Change). name_changes actor.pid names ++ desc_changes descs ++ l) same)) two
     ∙ ap (λ (l : List Change). before ++ l) (append_assoc (name_changes actor.pid names ++ desc_changes descs) pipes (last_answer r actor)))
-    (held_quiet actor.inside (Done r))
+    (λ after. tt) (held_quiet actor.inside (Done r))
     (λ held counted. let S : State = state_of held actor.parts.now in
     given_writes actor descs held (dup2_effect p x y me S) renamed.given r new sized (answer p me S refl)
     (descriptions p me S (runs_with actor held is) (λ e. refl) (agrees_beside laws actor held is)) lost)
@@ -528,7 +530,7 @@ pipe_plan laws actor before now pipe read write plan sized rooms is inside free 
       process = refl;
     } in
     files_plan laws actor before now (quiet (Done (pos 0))) (λ S. pipe_effect p pipe.0 read.0 write.0 me S) (λ S. pipe_objects pipe.0 read.0 write.0) (noted (pos 0) new) files sized is added
-    (held_quiet actor.inside (Done (pos 0)))
+    (λ after. tt) (held_quiet actor.inside (Done (pos 0)))
     (λ held counted. let S : State = state_of held actor.parts.now in
     done_writes actor (plan.read ∷ plan.write ∷ []) (Pipe pipe (Whole (Some [])) ∷ []) S (pipe_effect p pipe.0 read.0 write.0 me S)
     (SetPipe pipe.0 (Some []) ∷ SetDesc read.0 (description_at after read.0) ∷ SetDesc write.0 (description_at after write.0) ∷ []) (pos 0) new

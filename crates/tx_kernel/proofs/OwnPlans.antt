@@ -1,5 +1,6 @@
 -- A plan of parts of its own process is a plan of the rule.
 use Rattle.std.proofs.Common.{◌≡◌, ℕ, List, [], ◌∷◌, length, option_map, Option, Some, None, refl, ap, sym, subst, ◌∙◌, eq-eqb}
+use Rattle.tx_base.specs.Slots.{slot_at}
 use Rattle.tx_change.specs.Exchange.{applied, sizes_of, IsPid, AreNamed}
 use Rattle.tx_change.specs.Laws.{revised_by, BringPlaces}
 use Rattle.tx_change.specs.Own.{AreOf}
@@ -10,12 +11,14 @@ use Rattle.tx_change.specs.declared.parts.Parts.{Parts}
 use Rattle.tx_kernel.specs.Actors.{me_of, inside_of, IsActor}
 use Rattle.tx_kernel.specs.Laws.{PlanLaws}
 use Rattle.tx_kernel.specs.Own.{GivesOwn, PlansOwn}
-use Rattle.tx_kernel.specs.Plans.{Plans, AreAmong, held_after, quiet}
+use Rattle.tx_kernel.specs.Plans.{Plans, AreAmong, KeepsShown, held_after, memory_in, quiet}
 use Rattle.tx_kernel.specs.declared.actor.Actor.{Actor}
 use Rattle.tx_kernel.specs.declared.inside.Inside.{Inside}
 use Rattle.tx_kernel.specs.declared.planned.Outcome.{Outcome}
 use Rattle.tx_kernel.specs.declared.planned.Sends.TheVariants.{Nothing}
 use Rattle.tx_model.specs.Effects.{Own, own_effect, Replies}
+use Rattle.tx_model.specs.Memory.{Memory}
+use Rattle.tx_model.specs.StateLaws.{put_here}
 use Rattle.tx_model.specs.State.{Object, Proc, Process, Sending, State, SetProc, has, write_one, written}
 use Rattle.tx_proc.specs.Processes.{process_in}
 
@@ -54,6 +57,17 @@ own_state laws actor plan held is own =
     ∙ laws.process actor.pid.0 plan S own
     ∙ ap (λ (x : Option Process). write_one (SetProc actor.pid.0 (option_map (revised_by plan) x)) S) here
 
+-- what is to be shown stays, where the rule leaves it
+pub own_shown : (laws : PlanLaws) (actor : Actor) (plan : List Change) (outcome : Outcome) (memory : Memory) → IsActor actor → AreOf actor.pid.0 plan →
+    KeepsShown outcome (me_of actor).memory memory → (revised_by plan (me_of actor)).memory ≡ memory →
+    KeepsShown outcome (me_of actor).memory (memory_in (process_in (slot_at (applied actor.parts.now plan).procs actor.pid.0)))
+own_shown laws actor plan outcome memory is own keeps same =
+    let nothing : ℕ → List Sending = λ starter. [] in
+    let there : memory_in (process_in (slot_at (applied actor.parts.now plan).procs actor.pid.0)) ≡ (revised_by plan (me_of actor)).memory
+    = ap (λ (S : State). memory_in (S.procs actor.pid.0)) (own_state laws actor plan nothing is own)
+    ∙ ap memory_in (put_here (state_of nothing actor.parts.now).procs actor.pid.0 (Some (revised_by plan (me_of actor)))) in
+    subst (KeepsShown outcome (me_of actor).memory) (sym (there ∙ same)) keeps
+
 pub held_quiet : (inside : Option Inside) (outcome : Outcome) (held : ℕ → List Sending) → held_after (inside_of inside) Nothing held ≡ held
 held_quiet None outcome held = refl
 held_quiet (Some inside) outcome held = refl
@@ -80,6 +94,7 @@ own_plans laws actor before now outcome rule objects sized is own =
         sends = refl;
         conclusion = ap Replies (sym gives.reply);
       };
+      shown = own_shown laws actor plan outcome (rule (me_of actor)).process.memory is gives.own gives.shown (ap (λ (q : Process). q.memory) gives.process);
       seen = tt;
       among = λ held. own_among n (objects (state_of held parts)) plan gives.own;
     }

@@ -56,5 +56,6 @@ pages_plan actor pages before between now numbered first last =
         nameless = nameless-append put answer (pages_nameless actor.pid pages) (tt, tt);
         process = revised-append put answer (me_of actor) ∙ ap (revised_by answer) (pages_revised actor.pid pages (me_of actor));
         reply = refl;
+        shown = tt;
       };
     }

@@ -48,6 +48,7 @@ part_answered actor before between now rule ret first stays last =
         nameless = more.nameless;
         process = more.process ∙ ap (λ (point : ℕ). record (rule (me_of actor)) { registers = record { point = next_point point; ret = ret; slots = (rule (me_of actor)).registers.slots } }) (sym stays);
         reply = refl;
+        shown = tt;
       };
     }
 

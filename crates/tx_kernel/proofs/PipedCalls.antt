@@ -19,7 +19,8 @@ use Rattle.tx_kernel.proofs.Named.{Files, files_plan}
 use Rattle.tx_kernel.proofs.NamedCalls.{answered_files, appended2, done_writes, has_append, last_answer}
 use Rattle.tx_kernel.proofs.OwnPlans.{held_quiet, own_state}
 use Rattle.tx_kernel.proofs.Released.{pipe_there}
-use Rattle.tx_kernel.specs.Actors.{me_of, inside_of, HasPipe, IsActor}
+use Rattle.tx_kernel.proofs.Whole.{HasPipe, whole_piped}
+use Rattle.tx_kernel.specs.Actors.{me_of, inside_of, IsActor}
 use Rattle.tx_kernel.specs.Laws.{PlanLaws}
 use Rattle.tx_kernel.specs.Piped.{broken_sending, CanTake, TakesBytes, held_in, put_bytes, broken, CanPut, NamesPipe}
 use Rattle.tx_kernel.specs.Plans.{LeavesTarget, Plans, held_after, quiet}
@@ -50,7 +51,7 @@ some_held (Some bytes) there = refl
 
 is_piped : (actor : Actor) (x : Option ℕ) (pipe : PipeNo) → IsActor actor → NamesPipe actor x pipe → IsSome (pipe_at actor.parts.now.pipes pipe.0)
 is_piped actor x pipe is names =
-    let there = subst (HasPipe actor.parts.now.pipes) names.there (is.whole.piped names.number) in
+    let there = subst (HasPipe actor.parts.now.pipes) names.there (whole_piped actor.parts.now is.whole names.number) in
     subst (λ (k : PipeNo). IsSome (pipe_at actor.parts.now.pipes k.0)) names.same there
 
 pipe_held : (actor : Actor) (x : Option ℕ) (pipe : PipeNo) → IsActor actor → NamesPipe actor x pipe → pipe_at actor.parts.now.pipes pipe.0 ≡ Some (held_in actor pipe)
@@ -104,7 +105,7 @@ put_plan laws actor before first now x address count pipe n sized is effect name
     files_plan laws actor before now (quiet (Done (pos n))) (λ S. write_effect p x address count me S) (λ S. desc_pipe_objects (listed x) S) (noted (pos n) me)
     (answered_files actor [] [] changes (pos n) tt tt tt (pipe_inside actor x pipe is names, tt) (keeps_same actor)) sized is
     (appended2 before changes (last_answer (pos n) actor) first now one two)
-    (held_quiet actor.inside (Done (pos n)))
+    (λ after. tt) (held_quiet actor.inside (Done (pos n)))
     (λ held counted. let S : State = state_of held actor.parts.now in
     done_writes actor [] changes S (write_effect p x address count me S) (SetPipe pipe.0 (Some (held_bytes ++ bytes)) ∷ []) (pos n) me (effect held) (tt, tt)
     (λ d. ap (λ (e : Effect). (before_sends e S).descs d) (effect held)) (ap (λ (o : Option (List ℕ)). put_at S.pipes pipe.0 o) (sym put)))
@@ -139,7 +140,7 @@ broken_plan laws actor before now x address count sized is effect added =
     let r : ℤ = failing BrokenPipe in
     files_plan laws actor before now (broken actor) (λ S. write_effect p x address count me S) (λ S. desc_pipe_objects (listed x) S) (noted r me)
     (answered_files actor [] [] [] r tt tt tt tt (keeps_same actor)) sized is added
-    (kept actor.inside)
+    (λ after. tt) (kept actor.inside)
     (λ held counted. let S : State = state_of held actor.parts.now in
     record {
       more = [];
@@ -193,7 +194,7 @@ take_plan laws actor before first now x address count pipe n sized is effect nam
     } in
     files_plan laws actor before now (quiet (Done (pos n))) (λ S. read_effect p x address count me S) (λ S. desc_pipe_objects (listed x) S) (noted (pos n) new) files sized is
     (appended2 before (changes ++ pages) (last_answer (pos n) actor) first now takes.added two)
-    (held_quiet actor.inside (Done (pos n)))
+    (λ after. tt) (held_quiet actor.inside (Done (pos n)))
     (λ held counted. let S : State = state_of held actor.parts.now in
     done_writes actor [] changes S (read_effect p x address count me S) (SetPipe pipe.0 (Some (drop n held_bytes)) ∷ []) (pos n) new (effect held) (tt, tt)
     (λ d. ap (λ (e : Effect). (before_sends e S).descs d) (effect held)) (ap (λ (o : Option (List ℕ)). put_at S.pipes pipe.0 o) (sym taken)))

@@ -12,7 +12,7 @@ use Rattle.tx_desc.specs.Descriptions.{HasDescs, described, description_of, gone
 use Rattle.tx_desc.specs.declared.opened.Desc.{Desc}
 use Rattle.tx_desc.specs.declared.opened.Opened.{Opened}
 use Rattle.tx_kernel.proofs.Named.{ArePipes, AreOfFiles, pipes_alone}
-use Rattle.tx_kernel.specs.Actors.{HasPipe}
+use Rattle.tx_kernel.proofs.Whole.{HasPipe}
 use Rattle.tx_kernel.specs.Named.{endless_changes}
 use Rattle.tx_kernel.specs.Plans.{AreAmong}
 use Rattle.tx_model.specs.Descriptors.{is_named, is_side, has_side_below, has_description, pipe_of, pipes_of, pipe_list, unnamed_go, endless_go, released}

@@ -107,5 +107,6 @@ returned actor before put masked taken now frame mask none ret same slots first 
         nameless = three.nameless;
         process = three.process ∙ (λ j. record me { registers = record { point = frame.registers.point; ret = same j; slots = frame.registers.slots }; mask = bits j; frames = rest j }) ∙ sym (ap (λ (own : Own). own.process) rule);
         reply = ap TheDone same ∙ sym (ap (λ (own : Own). own.reply) rule);
+        shown = tt;
       };
     }

@@ -5,7 +5,7 @@ use Rattle.tx_change.specs.Exchange.{AreNamed}
 use Rattle.tx_change.specs.States.{state_of}
 use Rattle.tx_change.specs.declared.change.Change.{Change}
 use Rattle.tx_change.specs.declared.parts.Parts.{Parts}
-use Rattle.tx_kernel.proofs.OwnPlans.{own_named, own_brings, own_among, own_state}
+use Rattle.tx_kernel.proofs.OwnPlans.{own_named, own_brings, own_among, own_shown, own_state}
 use Rattle.tx_kernel.specs.Actors.{me_of, inside_of, CountsHeld, IsActor}
 use Rattle.tx_kernel.specs.Laws.{PlanLaws}
 use Rattle.tx_kernel.specs.Own.{GivesOwn, PlansOwn}
@@ -63,6 +63,7 @@ holds_plans laws actor before now outcome m rule objects sized is does own =
             sends = ap (λ (f : Effect). f.sends) (does held counted);
             conclusion = ap (λ (f : Effect). f.conclusion) (does held counted) ∙ ap effects.Replies (sym gives.reply);
           };
+      shown = own_shown laws actor plan outcome (me_of actor).memory is gives.own gives.shown (ap (λ (q : Process). q.memory) gives.process);
       seen = tt;
       among = λ held. own_among n (objects (state_of held parts)) plan gives.own;
     }

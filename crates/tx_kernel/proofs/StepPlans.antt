@@ -15,7 +15,7 @@ use Rattle.tx_change.specs.declared.parts.Parts.{Parts}
 use Rattle.tx_kernel.proofs.OwnPlans.{own_named, own_brings, own_among}
 use Rattle.tx_kernel.specs.Actors.{me_of, inside_of, CountsHeld, IsActor}
 use Rattle.tx_kernel.specs.Laws.{PlanLaws}
-use Rattle.tx_kernel.specs.Plans.{Plans, Gives, AreAmong, held_after, conclusion_of, sending_of, sent_at_once}
+use Rattle.tx_kernel.specs.Plans.{Plans, Gives, AreAmong, KeepsShown, conclusion_of, held_after, memory_in, reply_of, sending_of, sent_at_once}
 use Rattle.tx_kernel.specs.Posts.{IsSeen, PlansPost}
 use Rattle.tx_kernel.specs.Steps.{PlansStep, target_objects}
 use Rattle.tx_kernel.specs.declared.actor.Actor.{Actor}
@@ -30,8 +30,9 @@ use Rattle.tx_change.specs.declared.change.Change.TheVariants.{Part as SetPart}
 use Rattle.tx_kernel.proofs.PostPlans.{seen_now}
 use Rattle.tx_kernel.proofs.Sent.{same_held}
 use Rattle.tx_kernel.specs.Own.{answer_after}
-use Rattle.tx_kernel.specs.declared.planned.Outcome.TheVariants.{Done}
+use Rattle.tx_kernel.specs.declared.planned.Outcome.TheVariants.{Done, Ended, Out}
 use Rattle.tx_model.specs.Effects.{next_point, noted_if}
+use Rattle.tx_model.specs.Memory.{Memory}
 use Rattle.tx_model.specs.Posts.{has_room, is_quiet, is_realtime, may_signal, with_pending, with_queued}
 use Rattle.tx_model.specs.Sends.{posts_now}
 use Rattle.tx_model.specs.StateLaws.{put_cases}
@@ -97,6 +98,12 @@ among_behind n os (Part pid part ∷ plan) own = (subst (λ (k : ℕ). has (TheP
 among_behind n os (Description d opened ∷ plan) own = absurd own.0
 among_behind n os (Pipe q part ∷ plan) own = absurd own.0
 
+-- a reply that shows bytes is the same of a memory that is kept for it
+shown_same : (outcome : Outcome) (memory after : Memory) → KeepsShown outcome memory after → reply_of memory outcome ≡ reply_of after outcome
+shown_same (Done r) memory after keeps = refl
+shown_same Ended memory after keeps = refl
+shown_same (Out shown) memory after keeps = ap (λ (bytes : Memory). reply_of bytes (Out shown)) (sym keeps)
+
 -- nothing is posted with the step
 pub quiet_step : (actor : Actor) (before now : List Change) (outcome : Outcome) (sends : Sends) (rule : State → Effect) (objects : State → List Object) →
     sent_at_once sends ≡ [] → Plans actor before now (record { outcome = outcome; sends = sends }) rule objects → PlansStep actor before now outcome sends rule objects
@@ -112,10 +119,50 @@ quiet_step actor before now outcome sends rule objects none plans = record {
       record {
         state = effect_leaves (rule (state_of held actor.parts.now)) (state_of held actor.parts.now) _ [] (conclusion_of (me_of actor) outcome) given.state (given.sends ∙ none) given.conclusion;
         sent = given.sends;
-        reply = effect_replies (rule (state_of held actor.parts.now)) (state_of held actor.parts.now) _ [] (conclusion_of (me_of actor) outcome) given.state (given.sends ∙ none) given.conclusion;
+        reply = effect_replies (rule (state_of held actor.parts.now)) (state_of held actor.parts.now) _ [] (conclusion_of (me_of actor) outcome) given.state (given.sends ∙ none) given.conclusion
+            ∙ shown_same outcome (me_of actor).memory (memory_in (process_in (slot_at (exchanged_in actor.parts.now plans.plan).procs actor.pid.0))) plans.shown;
       };
   among = λ held. among_front (TheProc actor.pid.0 ∷ objects (state_of held actor.parts.now)) (target_objects sends) plans.plan (plans.among held);
 }
+
+-- a post leaves what its target has but for the pending signals
+abbrev calmed : Process → Process
+calmed me = record me { pending = 0; queued = [] }
+
+received_keeps : (m : Sending) (q : Option Process) → option_map calmed (received m q) ≡ option_map calmed q
+received_keeps m None = refl
+received_keeps m (Some q) = by (may_signal m.from q.ids) (is_quiet m q) (is_realtime m.signo) (has_room q)
+  where
+    by : (permitted quiet realtime room : Bool) →
+        Some (calmed (if permitted then (if quiet then q else (if realtime then (if room then with_queued m q else q) else with_pending m.signo q)) else q)) ≡ Some (calmed q)
+    by false quiet realtime room = refl
+    by true true realtime room = refl
+    by true false true true = refl
+    by true false true false = refl
+    by true false false room = refl
+
+posted_calm : (m : Sending) (S : State) (p : ℕ) → option_map calmed ((post m S).procs p) ≡ option_map calmed (S.procs p)
+posted_calm m S p = elim (put_cases S.procs m.target (received m (S.procs m.target)) p) [
+  | inl e ↦ ap (option_map calmed) e.1 ∙ received_keeps m (S.procs m.target) ∙ ap (λ (n : ℕ). option_map calmed (S.procs n)) (sym e.0)
+  | inr e ↦ ap (option_map calmed) e.1
+]
+
+abbrev registers_in : Option Process → Option Regs
+registers_in q = option_map (λ me. me.registers) q
+
+calm_registers : (q : Option Process) → registers_in (option_map calmed q) ≡ registers_in q
+calm_registers None = refl
+calm_registers (Some q) = refl
+
+posted_keeps : (m : Sending) (S : State) (p : ℕ) → registers_in ((post m S).procs p) ≡ registers_in (S.procs p)
+posted_keeps m S p = sym (calm_registers ((post m S).procs p)) ∙ ap registers_in (posted_calm m S p) ∙ calm_registers (S.procs p)
+
+calm_memory : (q : Option Process) → memory_in (option_map calmed q) ≡ memory_in q
+calm_memory None = refl
+calm_memory (Some q) = refl
+
+posted_shows : (m : Sending) (S : State) (p : ℕ) → memory_in ((post m S).procs p) ≡ memory_in (S.procs p)
+posted_shows m S p = sym (calm_memory ((post m S).procs p)) ∙ ap memory_in (posted_calm m S p) ∙ calm_memory (S.procs p)
 
 -- the state after a post, of what it sees
 post_state : (laws : PlanLaws) (parts : Parts) (m : Sending) (answer : Result (Unit {0}) Errno) (before now : List Change) (first : Parts) (held : ℕ → List Sending) →
@@ -154,34 +201,15 @@ posted_step laws actor before between now outcome m answer rule objects plans p 
                 ∙ sym (post_state laws parts (sending_of m) answer between now first after p sizes seen)
                 ∙ ap (state_of after) (sym whole);
             sent = given.sends;
-            reply = effect_replies (rule S) S (state_of after first) (sending_of m ∷ []) (conclusion_of (me_of actor) outcome) given.state given.sends given.conclusion;
+            reply = effect_replies (rule S) S (state_of after first) (sending_of m ∷ []) (conclusion_of (me_of actor) outcome) given.state given.sends given.conclusion
+                ∙ shown_same outcome (me_of actor).memory (memory_in ((state_of after first).procs actor.pid.0)) plans.shown
+                ∙ ap (λ (memory : Memory). reply_of memory outcome) (sym (ap (λ (X : State). memory_in (X.procs actor.pid.0)) (ap (state_of after) whole ∙ post_state laws parts (sending_of m) answer between now first after p sizes seen)
+                ∙ posted_shows (sending_of m) (state_of after first) actor.pid.0));
           };
       among = λ held.
           let os : List Object = TheProc actor.pid.0 ∷ objects (state_of held parts) in
           among_both (os ++ TheProc m.target.0 ∷ []) plans.plan p.plan (among_front os (TheProc m.target.0 ∷ []) plans.plan (plans.among held)) (among_behind m.target.0 os p.plan p.own);
     }
-
--- a post leaves the registers of its target
-abbrev registers_in : Option Process → Option Regs
-registers_in q = option_map (λ me. me.registers) q
-
-received_keeps : (m : Sending) (q : Option Process) → registers_in (received m q) ≡ registers_in q
-received_keeps m None = refl
-received_keeps m (Some q) = by (may_signal m.from q.ids) (is_quiet m q) (is_realtime m.signo) (has_room q)
-  where
-    by : (permitted quiet realtime room : Bool) →
-        Some (if permitted then (if quiet then q else (if realtime then (if room then with_queued m q else q) else with_pending m.signo q)) else q).registers ≡ Some q.registers
-    by false quiet realtime room = refl
-    by true true realtime room = refl
-    by true false true true = refl
-    by true false true false = refl
-    by true false false room = refl
-
-posted_keeps : (m : Sending) (S : State) (p : ℕ) → registers_in ((post m S).procs p) ≡ registers_in (S.procs p)
-posted_keeps m S p = elim (put_cases S.procs m.target (received m (S.procs m.target)) p) [
-  | inl e ↦ ap registers_in e.1 ∙ received_keeps m (S.procs m.target) ∙ ap (λ (n : ℕ). registers_in (S.procs n)) (sym e.0)
-  | inr e ↦ ap registers_in e.1
-]
 
 -- an answer at the next point of a process that stands at this point
 answered_at : (point : ℕ) (ret : ℤ) (q : Option Process) (registers : Regs) → registers_in q ≡ Some registers → registers.point ≡ point →

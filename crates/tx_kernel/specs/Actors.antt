@@ -1,19 +1,19 @@
 -- The process that makes a step, and the transaction that it makes it in.
-use Rattle.std.specs.Prelude.{◌≡◌, ℕ, false, ◌<◌, ◌≤◌, ◌^◌, List, [], Option, Some, None, IsSome, length, slice_index_or}
-use Rattle.tx_base.specs.Signals.{bits_of}
+use Rattle.std.specs.Prelude.{◌≡◌, ℕ, ◌≤◌, List, [], Option, Some, None, length}
 use Rattle.tx_base.specs.Slots.{slot_at}
 use Rattle.tx_change.specs.Counts.{CountsAgree}
-use Rattle.tx_change.specs.Exchange.{IsPid, pipe_at, sizes_of}
+use Rattle.tx_change.specs.Exchange.{IsPid, sizes_of}
 use Rattle.tx_change.specs.Laws.{HaveAllPlaces}
+use Rattle.tx_change.specs.States.{state_of}
 use Rattle.tx_change.specs.declared.parts.Parts.{Parts}
-use Rattle.tx_desc.specs.declared.opened.Opened.{Opened}
 use Rattle.tx_kernel.specs.declared.actor.Actor.{Actor}
 use Rattle.tx_kernel.specs.declared.inside.Inside.{Inside}
 use Rattle.tx_model.specs.Effects.{Inside as TheInside}
 use Rattle.tx_model.specs.Membership.{is_of}
 use Rattle.tx_model.specs.Sends.{sent_by_members}
-use Rattle.tx_model.specs.State.{Process, Sending, has_parent}
-use Rattle.tx_proc.specs.Processes.{process_of, process_in}
+use Rattle.tx_model.specs.State.{Process, Sending}
+use Rattle.tx_model.specs.WellFormed.{IsWellFormed}
+use Rattle.tx_proc.specs.Processes.{process_of}
 
 -- the transaction, as the definitions have it
 abbrev pub transaction_of : Inside → TheInside
@@ -32,28 +32,19 @@ abbrev pub CountsHeld : Option Inside → (ℕ → List Sending) → Type 0
 CountsHeld None held = Unit {0}
 CountsHeld (Some inside) held = sent_by_members (held inside.starter.0) ≡ inside.held
 
--- the pipe of a description is there
-abbrev pub HasPipe : List (Option (List ℕ)) → Option Opened → Type 0
-HasPipe pipes None = Unit {0}
-HasPipe pipes (Some opened) = IsSome (pipe_at pipes opened.desc.pipe.0)
-
--- the counts of names are right, each process has its places and is not its own parent, and each description has its pipe
+-- the counts of names are right, each process has its places, and the state is one that steps lead to
 pub record IsWhole (parts : Parts) : Type 0 where
   pub counts : CountsAgree parts
   pub places : HaveAllPlaces parts
   pub few : length parts.procs ≤ 256
-  pub parents : (n : ℕ) → has_parent n (process_in (slot_at parts.procs n)) ≡ false
-  pub piped : (d : ℕ) → HasPipe parts.pipes (slice_index_or parts.descs d None)
+  pub formed : IsWellFormed (state_of (λ starter. []) parts)
 
--- the process is the one of its number, and runs; its mask holds signals of numbers 0 to 39, and nothing is ever pending
--- at process 1
+-- the process is the one of its number, and runs
 pub record IsActor (actor : Actor) : Type 0 where
   pub whole : IsWhole actor.parts.now
   pub number : IsPid (sizes_of actor.parts.now) actor.pid.0
   pub there : slot_at actor.parts.now.procs actor.pid.0 ≡ Some actor.proc.now
   pub runs : actor.proc.now.status ≡ None
-  pub mask : bits_of actor.proc.now.mask < 2 ^ 40
-  pub first : actor.pid.0 ≡ 1 → actor.proc.now.pending ≡ record { standard = 0; queued = [] }
 
 -- the process, as the definitions have it
 abbrev pub me_of : Actor → Process

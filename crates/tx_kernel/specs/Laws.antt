@@ -1,6 +1,13 @@
--- The laws that the plans stand on.
+-- The laws that the plans stand on, and that of a kernel that was booted.
+use Rattle.std.specs.Prelude.{◌≡◌, ◌≤◌, ℕ, []}
+use Rattle.tx_change.specs.Counts.{CountsAgree}
+use Rattle.tx_change.specs.Laws.{HaveAllPlaces}
+use Rattle.tx_change.specs.States.{state_of}
+use Rattle.tx_change.specs.declared.parts.Parts.{Parts}
+use Rattle.tx_kernel.specs.Actors.{IsWhole}
+use Rattle.tx_model.specs.State.{booted}
 use Rattle.tx_change.specs.Counts.{CountsElsewhere, CountsNameless, CountsPlanned, CountsReplaced, CountsWithOthers, PlansAreNamed, RoomForName, RoomForNames, SlotInTurn}
-use Rattle.tx_change.specs.Laws.{AppliedAppended, BackIsWrite, ChangedAppended, ChangesStateInTurn, ExchangesBack, FrontIsRead, NamedAppended, PartsReplaceProcess, PlacesKept, SizesStay}
+use Rattle.tx_change.specs.Laws.{AppliedAppended, ApplyThenRevert, BackIsWrite, ChangedAppended, ChangesStateInTurn, ExchangedStayNamed, ExchangesBack, FrontIsRead, NamedAppended, PartsReplaceProcess, PlacesKept, SizesStay}
 
 -- what changes make of the state, of the counts of names and of the places of processes
 pub record PlanLaws : Type 0 where
@@ -22,4 +29,11 @@ pub record PlanLaws : Type 0 where
   pub sizes : SizesStay
   pub nameless : CountsNameless
   pub again : ExchangesBack
+  pub reverts : ApplyThenRevert
+  pub stays : ExchangedStayNamed
   pub slots : SlotInTurn
+
+-- parts that stand as at boot are whole
+abbrev pub BootedAreWhole : Type 0
+BootedAreWhole = (width count : ℕ) (parts : Parts) → 1 ≤ count → width ≤ 256 → state_of (λ starter. []) parts ≡ booted width count → HaveAllPlaces parts → CountsAgree parts →
+    IsWhole parts

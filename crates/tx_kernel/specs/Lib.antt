@@ -12,3 +12,4 @@ pub mod Steps
 pub mod Sends
 pub mod Endings
 pub mod Calls
+pub mod Acts

@@ -7,7 +7,7 @@ use Rattle.tx_base.specs.declared.names.Pid.{Pid}
 use Rattle.tx_change.specs.declared.change.Change.{Change}
 use Rattle.tx_change.specs.declared.change.Change.TheVariants.{Part}
 use Rattle.tx_kernel.specs.Actors.{me_of}
-use Rattle.tx_kernel.specs.Plans.{reply_of}
+use Rattle.tx_kernel.specs.Plans.{KeepsShown, reply_of}
 use Rattle.tx_kernel.specs.declared.actor.Actor.{Actor}
 use Rattle.tx_kernel.specs.declared.planned.Outcome.{Outcome}
 use Rattle.tx_model.specs.Effects.{Own, next_point}
@@ -26,6 +26,7 @@ pub record GivesOwn (actor : Actor) (plan : List Change) (outcome : Outcome) (ru
   pub nameless : AreNameless plan
   pub process : revised_by plan (me_of actor) ≡ rule.process
   pub reply : reply_of (me_of actor).memory outcome ≡ rule.reply
+  pub shown : KeepsShown outcome (me_of actor).memory rule.process.memory
 
 -- a log that has changes of parts of the process at its end now that make this of it
 pub record PlansPart (actor : Actor) (before now : List Change) (rule : Process → Process) : Type 0 where

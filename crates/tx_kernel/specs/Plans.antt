@@ -15,6 +15,7 @@ use Rattle.tx_change.specs.declared.parts.Parts.{Parts}
 use Rattle.tx_kernel.specs.Actors.{inside_of, me_of, CountsHeld}
 use Rattle.tx_kernel.specs.Posts.{IsSeen}
 use Rattle.tx_kernel.specs.declared.actor.Actor.{Actor}
+use Rattle.tx_kernel.specs.declared.inside.Inside.{Inside as InsideOf}
 use Rattle.tx_kernel.specs.declared.planned.Outcome.{Outcome}
 use Rattle.tx_kernel.specs.declared.planned.Outcome.TheVariants.{Done, Ended, Out}
 use Rattle.tx_kernel.specs.declared.planned.Planned.{Planned}
@@ -22,7 +23,7 @@ use Rattle.tx_kernel.specs.declared.planned.Sends.{Sends}
 use Rattle.tx_kernel.specs.declared.planned.Sends.TheVariants.{Nothing, AtOnce, AtCommit}
 use Rattle.tx_model.specs.Answer.{Choice, is_bad_choice}
 use Rattle.tx_model.specs.Effects.{Conclusion, Replies, Effect, Inside, before_sends, idle}
-use Rattle.tx_model.specs.Memory.{Memory, bytes_from}
+use Rattle.tx_model.specs.Memory.{Memory, bytes_from, no_memory}
 use Rattle.tx_proc.specs.Processes.{process_in}
 use Rattle.tx_model.specs.State.{Object, Proc, Process, Sender, Sending as TheSending, State, has, put_at}
 
@@ -35,6 +36,17 @@ abbrev pub reply_of : Memory → Outcome → Reply
 reply_of memory (Done r) = reply.Done r
 reply_of memory Ended = reply.Ended
 reply_of memory (Out shown) = reply.Out (record { items = bytes_from memory shown.address shown.count })
+
+-- the memory of a process, if it is there
+abbrev pub memory_in : Option Process → Memory
+memory_in None = no_memory
+memory_in (Some q) = q.memory
+
+-- the memory stays where bytes of it are to be shown
+abbrev pub KeepsShown : Outcome → Memory → Memory → Type 0
+KeepsShown (Done r) memory after = Unit {0}
+KeepsShown Ended memory after = Unit {0}
+KeepsShown (Out shown) memory after = after ≡ memory
 
 abbrev pub conclusion_of : Process → Outcome → Conclusion
 conclusion_of me outcome = Replies (reply_of me.memory outcome)
@@ -92,6 +104,7 @@ pub record Plans (actor : Actor) (before now : List Change) (planned : Planned) 
   pub places : HaveAllPlaces (applied actor.parts.now plan)
   pub gives : (held : ℕ → List TheSending) → CountsHeld actor.inside held →
       Gives actor (applied actor.parts.now plan) planned held (rule (state_of held actor.parts.now))
+  pub shown : KeepsShown planned.outcome (me_of actor).memory (memory_in (process_in (slot_at (applied actor.parts.now plan).procs actor.pid.0)))
   pub seen : LeavesTarget actor.parts.now planned.sends (applied actor.parts.now plan)
   pub among : (held : ℕ → List TheSending) → AreAmong (Proc actor.pid.0 ∷ objects (state_of held actor.parts.now)) plan
 
@@ -101,10 +114,15 @@ pub record Extends (before now : List Change) : Type 0 where
   pub added : now ≡ before ++ more
 
 -- a growth of memory was refused, or the rule refuses the step
+abbrev pub IsRefused : Parts → Option InsideOf → Refusal → (State → Effect) → Type 0
+IsRefused parts inside why rule = (why ≡ NoMemory) ⊎ ((held : ℕ → List TheSending) → CountsHeld inside held → rule (state_of held parts) ≡ idle why)
+
 abbrev pub RefusedBy : Actor → Refusal → (State → Effect) → Type 0
-RefusedBy actor why rule = (why ≡ NoMemory)
-    ⊎ ((held : ℕ → List TheSending) → CountsHeld actor.inside held → rule (state_of held actor.parts.now) ≡ idle why)
+RefusedBy actor why rule = IsRefused actor.parts.now actor.inside why rule
 
 -- a number that the call chooses is out of range, or one number is chosen twice
+abbrev pub ChoosesBadly : Parts → Refusal → Choice → Type 0
+ChoosesBadly parts why choice = (why ≡ BadNumber) × (is_bad_choice (length parts.procs) choice ≡ true)
+
 abbrev pub IsBadChoice : Actor → Refusal → Choice → Type 0
-IsBadChoice actor why choice = (why ≡ BadNumber) × (is_bad_choice (length actor.parts.now.procs) choice ≡ true)
+IsBadChoice actor why choice = ChoosesBadly actor.parts.now why choice

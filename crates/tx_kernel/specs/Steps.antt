@@ -1,19 +1,23 @@
 -- What the plan of a whole step is to be: the writes of the rule, its post, and the answer.
-use Rattle.std.specs.Prelude.{◌≡◌, ℕ, List, [], ◌∷◌, ◌++◌}
+use Rattle.std.specs.Prelude.{◌≡◌, ℕ, List, [], ◌∷◌, ◌++◌, Option}
+use Rattle.tx_base.specs.Slots.{slot_at}
+use Rattle.tx_base.specs.declared.names.Pid.{Pid}
 use Rattle.tx_change.specs.Counts.{CountsAgree}
 use Rattle.tx_change.specs.Exchange.{applied as exchanged_in, AreNamed}
 use Rattle.tx_change.specs.Laws.{HaveAllPlaces}
 use Rattle.tx_change.specs.States.{state_of}
 use Rattle.tx_change.specs.declared.change.Change.{Change}
 use Rattle.tx_change.specs.declared.parts.Parts.{Parts}
-use Rattle.tx_kernel.specs.Actors.{inside_of, me_of, CountsHeld}
-use Rattle.tx_kernel.specs.Plans.{AreAmong, held_after, reply_of, sent_at_once}
+use Rattle.tx_kernel.specs.Actors.{inside_of, CountsHeld}
+use Rattle.tx_kernel.specs.Plans.{AreAmong, held_after, memory_in, reply_of, sent_at_once}
 use Rattle.tx_kernel.specs.declared.actor.Actor.{Actor}
+use Rattle.tx_kernel.specs.declared.inside.Inside.{Inside}
 use Rattle.tx_kernel.specs.declared.planned.Outcome.{Outcome}
 use Rattle.tx_kernel.specs.declared.planned.Sends.{Sends}
 use Rattle.tx_kernel.specs.declared.planned.Sends.TheVariants.{Nothing, AtOnce, AtCommit}
 use Rattle.tx_model.specs.Effects.{Effect, applied, concluding_reply, send_answers}
 use Rattle.tx_model.specs.State.{Object, Proc, Sending, State}
+use Rattle.tx_proc.specs.Processes.{process_in}
 
 -- the process that a signal is posted to with the step
 abbrev pub target_objects : Sends → List Object
@@ -21,12 +25,11 @@ target_objects Nothing = []
 target_objects (AtOnce m) = Proc m.target.0 ∷ []
 target_objects (AtCommit m) = []
 
--- these parts, and what else the step comes to, are the effect's, its post made
-pub record GivesStep (actor : Actor) (after : Parts) (outcome : Outcome) (sends : Sends) (held : ℕ → List Sending) (effect : Effect) : Type 0 where
-  pub state : applied effect (send_answers effect (state_of held actor.parts.now)) (state_of held actor.parts.now)
-      ≡ state_of (held_after (inside_of actor.inside) sends held) after
+-- these parts, and what else a step of the process comes to, are the effect's, its post made; bytes are shown of its memory then
+pub record GivesStep (inside : Option Inside) (pid : Pid) (before after : Parts) (outcome : Outcome) (sends : Sends) (held : ℕ → List Sending) (effect : Effect) : Type 0 where
+  pub state : applied effect (send_answers effect (state_of held before)) (state_of held before) ≡ state_of (held_after (inside_of inside) sends held) after
   pub sent : effect.sends ≡ sent_at_once sends
-  pub reply : concluding_reply effect.conclusion effect.sends (send_answers effect (state_of held actor.parts.now)) ≡ reply_of (me_of actor).memory outcome
+  pub reply : concluding_reply effect.conclusion effect.sends (send_answers effect (state_of held before)) ≡ reply_of (memory_in (process_in (slot_at after.procs pid.0))) outcome
 
 -- a log that has a plan of a whole step at its end now
 pub record PlansStep (actor : Actor) (before now : List Change) (outcome : Outcome) (sends : Sends) (rule : State → Effect) (objects : State → List Object) : Type 0 where
@@ -36,5 +39,5 @@ pub record PlansStep (actor : Actor) (before now : List Change) (outcome : Outco
   pub counts : CountsAgree (exchanged_in actor.parts.now plan)
   pub places : HaveAllPlaces (exchanged_in actor.parts.now plan)
   pub gives : (held : ℕ → List Sending) → CountsHeld actor.inside held →
-      GivesStep actor (exchanged_in actor.parts.now plan) outcome sends held (rule (state_of held actor.parts.now))
+      GivesStep actor.inside actor.pid actor.parts.now (exchanged_in actor.parts.now plan) outcome sends held (rule (state_of held actor.parts.now))
   pub among : (held : ℕ → List Sending) → AreAmong (Proc actor.pid.0 ∷ objects (state_of held actor.parts.now) ++ target_objects sends) plan

@@ -4,6 +4,7 @@
 #![tactic(auto)]
 
 mod actor;
+mod acts;
 mod answers;
 mod calls;
 mod deliveries;
@@ -23,6 +24,8 @@ mod transfers;
 mod trees;
 
 pub use actor::Actor;
+pub use acts::{act, deliver};
 pub use inside::Inside;
+pub use laws::booted_are_whole;
 pub use planned::{Outcome, Planned, Sends, Shown};
 pub use posts::{Face, Posted, plan_post, post};

@@ -23,3 +23,4 @@ pub mod View
 pub mod FreeNumbers
 pub mod Answer
 pub mod Schedules
+pub mod WellFormed

@@ -20,5 +20,7 @@ returns c = record {
   sizes = c.appended.ensures.sizes;
   nameless = c.counts_agree.ensures.nameless;
   again = c.exchanges_back.ensures;
+  reverts = c.apply_then_revert.ensures;
+  stays = c.stays_named.ensures;
   slots = c.counts_in_turn.ensures.slot;
 }

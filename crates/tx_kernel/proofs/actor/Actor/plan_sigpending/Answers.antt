@@ -3,6 +3,7 @@ use Rattle.std.proofs.lemmas.Int.{to_z_pos}
 use Rattle.std.proofs.lemmas.Nat.{and_le_r}
 use Rattle.std.specs.Int.{w64}
 use Rattle.tx_kernel.proofs.PartsOwned.{own_same}
+use Rattle.tx_kernel.proofs.Whole.{masked_few}
 use Rattle.tx_kernel.specs.Actors.{me_of}
 use Rattle.tx_model.specs.Effects.{answers_with}
 use Rattle.tx_model.specs.Signals.{pending_signals, tells_pending}
@@ -13,6 +14,6 @@ returns-clause-ok c =
     let mask : ℕ = c.args.self.now.proc.now.mask.0 in
     let number : c.bits.result ≡ bit_and (pending_signals (me_of c.args.self.now)) mask
     = c.bits.ensures tt ∙ c.intersection-blocked.ensures tt ∙ ap (λ (n : ℕ). bit_and n mask) (c.signals.ensures (me_of c.args.self.now)) in
-    let below : c.bits.result < 2 ^ 63 = subst (λ (n : ℕ). n < 2 ^ 63) (sym number) (omega (arith, and_le_r (pending_signals (me_of c.args.self.now)) mask, c.requires.mask)) in
+    let below : c.bits.result < 2 ^ 63 = subst (λ (n : ℕ). n < 2 ^ 63) (sym number) (omega (arith, and_le_r (pending_signals (me_of c.args.self.now)) mask, masked_few c.args.self.now c.requires)) in
     own_same c.args.self.now c.args.log.now c.plan_answer.new.log c.in_ok-outcome.outcome _ tells_pending c.in_ok-outcome.ensures.ok
     (ap (λ (r : ℤ). answers_with r (me_of c.args.self.now)) (to_z_pos w64 c.bits.result below ∙ ap pos number))

@@ -1,0 +1,66 @@
+//! Calls and deliveries that are made on the parts: the plan, and its exchanges.
+ghost use Rattle.std.specs.Prelude.{◌≡◌, ◌⊎◌, IfOk, IfErr, OnErr};
+ghost use Rattle.tx_kernel.specs.Actors.{IsWhole};
+ghost use Rattle.tx_kernel.specs.Acts.{Makes, RefusesAct};
+ghost use Rattle.tx_kernel.specs.Plans.{ChoosesBadly};
+ghost use Rattle.tx_model.specs.Answer.{chosen_in};
+ghost use Rattle.tx_model.specs.Calls.{MakesCall, TakesSignal};
+
+use crate::actor::Actor;
+use crate::inside::Inside;
+use crate::laws::laws;
+use crate::planned::Planned;
+use std::alloc::Global;
+use tx_base::{Call, NoMemory, Pid, Refusal, Signo};
+use tx_change::{Log, Parts};
+
+/// Makes a call of a process, its post with it, and appends to the log what leads back. A call of
+/// transactions answers EINVAL, as it does where it means nothing.
+///
+/// NoProcess and NotRunning where there is no such process or it has ended; and as
+/// `Actor::plan_call`. The parts and the log are then as they were.
+pub fn act(
+    alloc: Global,
+    parts: &mut Parts,
+    pid: Pid,
+    call: &Call,
+    inside: Option<Inside>,
+    log: &mut Log,
+) -> Result<Planned, Refusal>
+    requires { IsWhole parts.old }
+    ensures ok { IfOk result (λ planned. Makes parts.old pid inside.entry (MakesCall call.now) log.old log.new parts.new planned) }
+    ensures refused { IfErr result (λ why. RefusesAct parts.old pid inside.entry (MakesCall call.now) why ⊎ ChoosesBadly parts.old why (chosen_in call.now)) }
+    ensures parts { OnErr result (parts.new ≡ parts.old) }
+    ensures log { OnErr result (log.new ≡ log.old) }
+{
+    laws();
+    let from = log.len();
+    let planned = Actor::at(parts, pid, inside)?.plan_call(alloc, call, log)?;
+    log.make_from(parts, from);
+    Ok(planned)
+}
+
+/// Delivers a pending signal to a process, its post with it, and appends to the log what leads back.
+///
+/// NoProcess and NotRunning where there is no such process or it has ended; and as
+/// `Actor::plan_delivery`. The parts and the log are then as they were.
+pub fn deliver(
+    alloc: Global,
+    parts: &mut Parts,
+    pid: Pid,
+    signo: Signo,
+    inside: Option<Inside>,
+    log: &mut Log,
+) -> Result<Planned, Refusal>
+    requires { IsWhole parts.old }
+    ensures ok { IfOk result (λ planned. Makes parts.old pid inside.entry (TakesSignal signo.0) log.old log.new parts.new planned) }
+    ensures refused { IfErr result (λ why. RefusesAct parts.old pid inside.entry (TakesSignal signo.0) why) }
+    ensures parts { OnErr result (parts.new ≡ parts.old) }
+    ensures log { OnErr result (log.new ≡ log.old) }
+{
+    laws();
+    let from = log.len();
+    let planned = Actor::at(parts, pid, inside)?.plan_delivery(alloc, signo, log)?;
+    log.make_from(parts, from);
+    Ok(planned)
+}
