@@ -17,6 +17,7 @@ pub mod EndStates
 pub mod Ended
 pub mod EndSeen
 pub mod EndPlans
+pub mod SentBy
 pub mod Exited
 pub mod AnyCall
 pub mod Made

@@ -3,8 +3,8 @@ use Rattle.std.specs.Prelude.{◌≡◌, ℕ, List, [], ◌∷◌, ◌++◌, pos
 use Rattle.tx_base.specs.declared.names.Sending.{Sending}
 use Rattle.tx_change.specs.States.{state_of}
 use Rattle.tx_change.specs.declared.change.Change.{Change}
-use Rattle.tx_kernel.specs.Actors.{CountsHeld}
-use Rattle.tx_kernel.specs.Plans.{sending_of}
+use Rattle.tx_kernel.specs.Actors.{CountsHeld, inside_of}
+use Rattle.tx_kernel.specs.Plans.{held_after, sending_of, sent_at_once}
 use Rattle.tx_kernel.specs.Steps.{PlansStep}
 use Rattle.tx_kernel.specs.declared.actor.Actor.{Actor}
 use Rattle.tx_kernel.specs.declared.planned.Outcome.{Outcome}
@@ -12,7 +12,7 @@ use Rattle.tx_kernel.specs.declared.sends.Send.{Send}
 use Rattle.tx_kernel.specs.declared.sends.Send.TheVariants.{Answers, Posts, Holds}
 use Rattle.tx_kernel.specs.declared.planned.Sends.{Sends}
 use Rattle.tx_kernel.specs.declared.planned.Sends.TheVariants.{Nothing, AtOnce, AtCommit}
-use Rattle.tx_model.specs.Effects.{Effect, Inside, done, done_with}
+use Rattle.tx_model.specs.Effects.{Effect, Inside, before_sends, done, done_with}
 use Rattle.tx_model.specs.Sends.{posts_now}
 use Rattle.tx_model.specs.State.{Object, Process, Sending as TheSending, State, Write, SetHeld}
 
@@ -31,6 +31,12 @@ abbrev pub sends_by : Send → Sends
 sends_by (Answers ret) = Nothing
 sends_by (Posts m) = AtOnce m
 sends_by (Holds m) = AtCommit m
+
+-- the signal is what the rule sends: what is posted with it, and what the transactions hold once it has written
+pub record IsSentBy (actor : Actor) (sends : Sends) (rule : State → Effect) : Type 0 where
+  pub at_once : (held : ℕ → List TheSending) → CountsHeld actor.inside held → (rule (state_of held actor.parts.now)).sends ≡ sent_at_once sends
+  pub handed_out : (held : ℕ → List TheSending) → CountsHeld actor.inside held →
+      (before_sends (rule (state_of held actor.parts.now)) (state_of held actor.parts.now)).held ≡ held_after (inside_of actor.inside) sends held
 
 -- a log that has a post at its end now, and the answer of it as that of the process: whatever the rule, if it posts this
 pub record PlansPosted (actor : Actor) (before now : List Change) (m : Sending) (outcome : Outcome) : Type 0 where

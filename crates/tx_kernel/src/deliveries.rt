@@ -57,7 +57,7 @@ impl Actor<'_> {
     }
 
     /// Whether the transaction defers the delivery: that of SIGKILL never. Own rule.
-    fn is_deferred(&self, signo: Signo) -> bool
+    pub(crate) fn is_deferred(&self, signo: Signo) -> bool
         ensures { result ≡ is_deferred (inside_of self.now.inside) signo.0 }
     {
         match self.inside {

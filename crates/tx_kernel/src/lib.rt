@@ -14,6 +14,7 @@ mod ids;
 mod inside;
 mod laws;
 mod memory;
+mod outgoing;
 mod planned;
 mod posts;
 mod script;

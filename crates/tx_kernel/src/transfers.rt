@@ -9,7 +9,8 @@ ghost use Rattle.tx_desc.specs.Descriptions.{description_of};
 ghost use Rattle.tx_kernel.specs.Actors.{IsActor, me_of};
 ghost use Rattle.tx_kernel.specs.Own.{answer_after};
 ghost use Rattle.tx_kernel.specs.Piped.{CanPut, CanTake, IsReadyToTake, TakesBytes, TakesFrom, reading_effect, broken, broken_sending, put_bytes, opened_at, end_at, held_in, writing_effect, IsPutting, IsReadyToPut, PutsTo};
-ghost use Rattle.tx_kernel.specs.Plans.{Plans, RefusedBy, Extends, sending_of, sent_at_once};
+ghost use Rattle.tx_kernel.specs.Plans.{Plans, RefusedBy, Extends};
+ghost use Rattle.tx_kernel.specs.Sends.{IsSentBy};
 ghost use Rattle.tx_model.specs.Descriptors.{descriptor, desc_pipe_objects, listed, named};
 ghost use Rattle.tx_model.specs.Memory.{address_of, bytes_at, is_good, is_mapped};
 ghost use Rattle.tx_model.specs.Numbers.{below, failing};
@@ -212,9 +213,7 @@ impl Actor<'_> {
     /// The signal that a write sends.
     pub(crate) fn sends_of_write(&self, fd: i64, address: i64, count: i64) -> Sends
         requires { IsActor self.now }
-        ensures { (held : ℕ → List TheSending) →
-            (write_effect self.now.pid.0 (named (me_of self.now) (descriptor fd)) address count (me_of self.now) (state_of held self.now.parts.now)).sends
-            ≡ sent_at_once result }
+        ensures { IsSentBy self.now result (λ S. write_effect self.now.pid.0 (named (me_of self.now) (descriptor fd)) address count (me_of self.now) S) }
     {
         match self.writing(fd, address, count) {
             Ok(writing) => self.sends_of(writing),
@@ -224,7 +223,7 @@ impl Actor<'_> {
 
     /// The signal that a write sends which comes to this.
     fn sends_of(&self, writing: Writing) -> Sends
-        ensures { (address : ℤ) (S : State) → (writing_effect self.now address (Ok writing) S).sends ≡ sent_at_once result }
+        ensures { (address : ℤ) → IsSentBy self.now result (λ S. writing_effect self.now address (Ok writing) S) }
     {
         match writing {
             Writing::Breaks => Sends::AtOnce(self.broken_pipe()),
