@@ -11,6 +11,7 @@ pub mod PostAnswers
 pub mod Sent
 pub mod PostPlans
 pub mod StepPlans
+pub mod PostedWhole
 pub mod Told
 pub mod Ends
 pub mod EndStates

@@ -8,7 +8,7 @@ use Rattle.tx_base.specs.declared.names.Pid.{Pid}
 use Rattle.tx_change.specs.Counts.{CountsAgree, IsNameless}
 use Rattle.tx_change.specs.Laws.{HaveAllPlaces}
 use Rattle.tx_change.specs.States.{state_of}
-use Rattle.tx_change.specs.Exchange.{parts_after, change_after, sizes_of, IsPid}
+use Rattle.tx_change.specs.Exchange.{parts_after, change_after, sizes_of, AreNamed, AreWithin, IsPid, Sizes}
 use Rattle.tx_change.specs.declared.change.Change.{Change}
 use Rattle.tx_change.specs.declared.change.Change.TheVariants.{Part as SetPart}
 use Rattle.tx_change.specs.declared.parts.Parts.{Parts}
@@ -134,6 +134,16 @@ unfolding part_post
 part_back laws parts new m pid found part change target is at made changed =
     let p : PlansPost parts [] (SetPart pid part ∷ []) m (Ok tt) = part_post parts [] (SetPart pid part ∷ []) m pid found part target is at refl in
     (λ j. parts_after (made j) (changed j)) ∙ laws.again parts (SetPart pid part) p.named.0
+
+-- the numbers of what leads back are ones that there are
+pub part_named : (laws : PlanLaws) (parts new : Parts) (m : Sending) (pid : Pid) (found : Option Part) (part : Part) (change : Change) → pid.0 ≡ m.target → found ≡ Some part →
+    PlansAt parts m (Ok found) → new ≡ parts_after parts (SetPart pid part) → change ≡ change_after parts (SetPart pid part) → AreNamed new (change ∷ [])
+unfolding part_post
+part_named laws parts new m pid found part change target is at made changed =
+    let p : PlansPost parts [] (SetPart pid part ∷ []) m (Ok tt) = part_post parts [] (SetPart pid part ∷ []) m pid found part target is at refl in
+    let sizes : sizes_of new ≡ sizes_of parts = ap sizes_of made ∙ laws.sizes parts p.plan in
+    subst (λ (now : Change). AreNamed new (now ∷ [])) (sym changed)
+    (subst (λ (s : Sizes). AreWithin s (change_after parts (SetPart pid part) ∷ [])) (sym sizes) (laws.stays (sizes_of parts) parts p.plan p.named))
 
 -- where nothing is exchanged the post leaves the state
 posted_nothing : (held : ℕ → List Sending) (parts : Parts) (m : Sending) → received m ((state_of held parts).procs m.target) ≡ (state_of held parts).procs m.target →

@@ -126,7 +126,7 @@ quiet_step actor before now outcome sends rule objects none plans = record {
 }
 
 -- a post leaves what its target has but for the pending signals
-abbrev calmed : Process → Process
+abbrev pub calmed : Process → Process
 calmed me = record me { pending = 0; queued = [] }
 
 received_keeps : (m : Sending) (q : Option Process) → option_map calmed (received m q) ≡ option_map calmed q
@@ -141,7 +141,7 @@ received_keeps m (Some q) = by (may_signal m.from q.ids) (is_quiet m q) (is_real
     by true false true false = refl
     by true false false room = refl
 
-posted_calm : (m : Sending) (S : State) (p : ℕ) → option_map calmed ((post m S).procs p) ≡ option_map calmed (S.procs p)
+pub posted_calm : (m : Sending) (S : State) (p : ℕ) → option_map calmed ((post m S).procs p) ≡ option_map calmed (S.procs p)
 posted_calm m S p = elim (put_cases S.procs m.target (received m (S.procs m.target)) p) [
   | inl e ↦ ap (option_map calmed) e.1 ∙ received_keeps m (S.procs m.target) ∙ ap (λ (n : ℕ). option_map calmed (S.procs n)) (sym e.0)
   | inr e ↦ ap (option_map calmed) e.1

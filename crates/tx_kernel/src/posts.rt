@@ -1,10 +1,11 @@
 //! Posts: what a signal that is sent does to its target (POSIX.1-2017, XSH, Signal Concepts and
 //! kill()).
 ghost use Rattle.std.specs.Prelude.{◌≡◌, ℕ, List, ◌<◌, true, Some, IfOk, length};
+ghost use Rattle.tx_kernel.specs.Actors.{IsWhole};
 ghost use Rattle.tx_kernel.specs.Plans.{sending_of, sender_of};
 ghost use Rattle.tx_kernel.specs.Posts.{HasFace, IsOfPending, PlansAt, listed_change, posted, seen_as, without_part};
 ghost use Rattle.tx_change.specs.Counts.{CountsAgree};
-ghost use Rattle.tx_change.specs.Exchange.{undone};
+ghost use Rattle.tx_change.specs.Exchange.{AreNamed, undone};
 ghost use Rattle.tx_change.specs.Laws.{HaveAllPlaces};
 ghost use Rattle.tx_change.specs.States.{state_of};
 ghost use Rattle.tx_model.specs.Posts.{is_quiet, is_realtime, may_signal, post, post_answer, received, with_signal};
@@ -96,8 +97,10 @@ pub fn post(parts: &mut Parts, sending: &Sending) -> Posted
     ensures answer { (held : ℕ → List TheSending) → answer_of result.answer ≡ post_answer (sending_of sending.now) ((state_of held parts.old).procs sending.now.target.0) }
     ensures state { (held : ℕ → List TheSending) → state_of held parts.new ≡ post (sending_of sending.now) (state_of held parts.old) }
     ensures back { undone parts.new (listed_change result.change) ≡ parts.old }
+    ensures named { AreNamed parts.new (listed_change result.change) }
     ensures counts { CountsAgree parts.old → CountsAgree parts.new }
     ensures places { HaveAllPlaces parts.old → HaveAllPlaces parts.new }
+    ensures whole { IsWhole parts.old → IsWhole parts.new }
 {
     laws();
     match plan_at(parts, sending) {

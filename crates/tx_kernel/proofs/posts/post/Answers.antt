@@ -1,5 +1,6 @@
 use Rattle.std.proofs.Common.{refl}
-use Rattle.tx_kernel.proofs.PostPlans.{part_posted, part_back, failed_state}
+use Rattle.tx_kernel.proofs.PostPlans.{part_posted, part_back, part_named, failed_state}
+use Rattle.tx_kernel.proofs.PostedWhole.{posted_whole}
 use Rattle.tx_kernel.specs.Plans.{sending_of}
 use Rattle.tx_kernel.proofs.posts.post.Goals as goal
 
@@ -25,3 +26,14 @@ returns-in-Ok-Some-clause-places c =
 
 pub returns-in-Err-clause-state : goal.returns-in-Err-clause-state
 returns-in-Err-clause-state c = λ held. failed_state held c.args.parts.now (sending_of c.args.sending.now) c.in-Err.errno c.in-Err.ensures
+
+pub returns-in-Ok-Some-clause-named : goal.returns-in-Ok-Some-clause-named
+returns-in-Ok-Some-clause-named c =
+    part_named c.laws.ensures c.args.parts.now c.swap.new.parts (sending_of c.args.sending.now) c.args.sending.now.target c.in-Ok-Some.field-0 c.in-Ok-Some.part c.swap.new.self refl c.in-Ok-Some.field-0-is
+    c.in-Ok-Some.ensures c.swap.ensures.parts c.swap.ensures.change
+
+pub returns-in-Ok-Some-clause-whole : goal.returns-in-Ok-Some-clause-whole
+returns-in-Ok-Some-clause-whole c =
+    let made = part_posted c.laws.ensures c.args.parts.now c.swap.new.parts (sending_of c.args.sending.now) c.args.sending.now.target c.in-Ok-Some.field-0 c.in-Ok-Some.part refl c.in-Ok-Some.field-0-is
+    c.in-Ok-Some.ensures c.swap.ensures.parts in
+    posted_whole c.args.parts.now c.swap.new.parts (sending_of c.args.sending.now) made.0 made.1 made.2
