@@ -7,7 +7,7 @@ use tx_change::{
     BoxedPipe, Change, Parts, PipePart, PipeTable, appended, apply, apply_then_revert,
     bytes_are_read_and_written, changes_state, commute, counts_agree, counts_in_turn,
     exchanges_back, lists_change_state, names_its_object, nothing_else, revert, revert_then_apply,
-    room_for_names, twice_is_nothing,
+    room_for_names, stays_named, twice_is_nothing,
 };
 use tx_desc::{Desc, Opened, Side};
 use tx_pipe::Pipe;
@@ -148,5 +148,6 @@ fn a_change_is_small(rt: HostRuntime) {
     bytes_are_read_and_written();
     counts_in_turn();
     room_for_names();
+    stays_named();
     assert!(rt; mem::size_of::<Change>() <= 56);
 }

@@ -1,10 +1,14 @@
 //! How posts are answered and what they exchange, by hand from the rules.
-ghost use Rattle.std.specs.Prelude.{◌≡◌};
+ghost use Rattle.std.specs.Prelude.{◌≡◌, IfOk};
+ghost use Rattle.tx_kernel.specs.Actors.{IsWhole};
 
+use std::alloc::Global;
 use std::test::Fail;
-use tx_base::{Errno, Pid, SIGKILL, Sending, Signo};
-use tx_change::Parts;
-use tx_kernel::{Face, Outcome, Planned, Sends, plan_post, post};
+use tx_base::{Call, Errno, NoMemory, Pid, Refusal, SIGCHLD, SIGKILL, Sending, Signo};
+use tx_change::{Log, Parts};
+use tx_kernel::{
+    Actor, Face, Outcome, Planned, Sends, act, booted_are_whole, deliver, plan_post, post,
+};
 use tx_proc::{Part, Proc};
 use tx_signal::with;
 
@@ -18,6 +22,22 @@ fn sent(signo: u8, real: u16, effective: u16) -> Sending
         value: 5,
         from: Some((real, effective)),
     }
+}
+
+/// A kernel with two processes.
+fn booted(alloc: Global) -> Result<Parts, NoMemory>
+    ensures { IfOk result (λ parts. IsWhole parts) }
+{
+    let parts = Parts::boot(alloc, 64, 2)?;
+    booted_are_whole();
+    Ok(parts)
+}
+
+/// What the process shows: its point and its answer.
+fn shown(parts: &Parts, number: u16) -> Option<(u32, i64)> {
+    parts
+        .proc(Pid(number))
+        .map(|proc| (proc.regs.point, proc.regs.ret))
 }
 
 /// Process 2, of user 7, with so many signals queued.
@@ -74,4 +94,70 @@ fn a_post_in_place_is_pending(rt: HostRuntime) -> Result<(), Fail> {
 fn an_answer_alone_sends_nothing(rt: HostRuntime) {
     let planned = Planned::quiet(Outcome::Done(-22));
     assert!(rt; planned.outcome == Outcome::Done(-22) && matches!(planned.sends, Sends::Nothing));
+}
+
+#[test]
+fn a_call_is_made_and_led_back(rt: HostRuntime) -> Result<(), Fail> {
+    let mut parts = booted(rt.alloc())?;
+    let mut log = Log::with_room(rt.alloc(), 0)?;
+    let Ok(planned) = act(
+        rt.alloc(),
+        &mut parts,
+        Pid(2),
+        &Call::Setuid(7),
+        None,
+        &mut log,
+    ) else {
+        panic!(rt; "a call of a process that runs is made");
+    };
+    assert_eq!(rt; planned.outcome, Outcome::Done(0));
+    assert_eq!(rt; shown(&parts, 2), Some((1, 0)));
+    log.lead_back(&mut parts);
+    assert_eq!(rt; shown(&parts, 2), Some((0, 0)));
+    Ok(())
+}
+
+#[test]
+fn a_signal_is_delivered(rt: HostRuntime) -> Result<(), Fail> {
+    let mut parts = booted(rt.alloc())?;
+    let _sent = post(&mut parts, &sent(10, 0, 0));
+    let mut log = Log::with_room(rt.alloc(), 0)?;
+    let Ok(planned) = deliver(rt.alloc(), &mut parts, Pid(2), Signo(10), None, &mut log) else {
+        panic!(rt; "a pending signal is delivered");
+    };
+    assert_eq!(rt; planned.outcome, Outcome::Ended);
+    let there = parts.proc(Pid(2)).ok_or("a process is missing")?;
+    assert_eq!(rt; there.status, Some(266));
+    Ok(())
+}
+
+#[test]
+fn plans_change_nothing(rt: HostRuntime) -> Result<(), Fail> {
+    let parts = booted(rt.alloc())?;
+    let Ok(actor) = Actor::at(&parts, Pid(2), None) else {
+        panic!(rt; "process 2 runs");
+    };
+    let mut log = Log::with_room(rt.alloc(), 0)?;
+    let Ok(planned) = actor.plan_call(rt.alloc(), &Call::Getppid, &mut log) else {
+        panic!(rt; "a call of a process that runs is planned");
+    };
+    assert_eq!(rt; (planned.outcome, log.len()), (Outcome::Done(1), 1));
+    let delivered = actor.plan_delivery(rt.alloc(), Signo(10), &mut log);
+    assert!(rt; matches!(delivered, Err(Refusal::NotDeliverable)));
+    assert_eq!(rt; (shown(&parts, 2), log.len()), (Some((0, 0)), 1));
+    Ok(())
+}
+
+#[test]
+fn what_is_sent_is_known_before(rt: HostRuntime) -> Result<(), Fail> {
+    let parts = booted(rt.alloc())?;
+    let Ok(actor) = Actor::at(&parts, Pid(1), None) else {
+        panic!(rt; "process 1 runs");
+    };
+    let Sends::AtOnce(killed) = actor.sends_of_call(&Call::Kill(2, 9)) else {
+        panic!(rt; "a kill outside of transactions is posted at once");
+    };
+    assert_eq!(rt; (killed.target, killed.signo), (Pid(2), SIGKILL));
+    assert!(rt; matches!(actor.sends_of_delivery(SIGCHLD), Sends::Nothing));
+    Ok(())
 }
