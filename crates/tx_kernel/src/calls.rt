@@ -13,7 +13,7 @@ use crate::actor::Actor;
 use crate::laws::laws;
 use crate::planned::{Outcome, Planned};
 use std::alloc::Global;
-use tx_base::{Call, Errno, NoMemory, Refusal, Signo};
+use tx_base::{Call, Errno, NoMemory, QUEUED, Refusal, SLOTS, Signo};
 use tx_change::Log;
 
 impl Actor<'_> {
@@ -111,6 +111,7 @@ impl Actor<'_> {
         ensures refused { IfErr result (λ why. RefusedBy self.now why (λ S. call_effect (inside_of self.now.inside) self.now.pid.0 call.now (me_of self.now) S) ⊎ IsBadChoice self.now why (chosen_in call.now)) }
         ensures err { OnErr result (log.new ≡ log.old) }
     {
+        log.reserve(most_changes(call))?;
         let before = log.len();
         let planned = self.plan_any(alloc, call, log);
         if planned.is_err() {
@@ -154,5 +155,17 @@ impl Actor<'_> {
         let planned = self.plan_taken(alloc, signo, log)?;
         self.push_sends(&planned, log)?;
         Ok(planned)
+    }
+}
+
+/// How many changes a call may make that makes more than four: their room is taken at once. A call
+/// that may wait takes its room when that is decided, and so does one whose changes are counted first.
+fn most_changes(call: &Call) -> usize {
+    match call {
+        Call::Pipe(_, _, _) => 8,
+        Call::Dup2(_, _) => 5,
+        Call::Sigaction(_, _) => QUEUED + 3,
+        Call::Sigreturn => SLOTS + 3,
+        _ => 0,
     }
 }

@@ -41,7 +41,7 @@ impl Actor<'_> {
         self.parts.descs.sized();
         let descs = self.parts.descs.plan_drop_all(&self.proc.descriptors);
         let boxed = BoxedProc::new(alloc, self.proc.ended(status))?;
-        log.reserve(self.parts.procs.width() + 2 * DESCRIPTORS)?;
+        log.reserve(self.parts.procs.width() + 2 * DESCRIPTORS + 2)?;
         push_descs(descs.as_slice(), log)?;
         log.push(Change::Slot(self.pid, Some(boxed)))?;
         self.push_orphans(log)?;

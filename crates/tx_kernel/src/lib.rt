@@ -1,6 +1,6 @@
 //! The calls, the deliveries and the posts of the kernel: what each is to change, and its answer.
-//! A plan is a list of exchanges at the end of a log, and changes nothing; `post` alone changes the
-//! parts.
+//! A plan is a list of exchanges at the end of a log, and changes nothing; `act`, `deliver` and `post`
+//! make a step.
 #![tactic(auto)]
 
 mod actor;

@@ -114,6 +114,7 @@ impl Actor<'_> {
             return Err(NoMemory);
         };
         let none = BoxedPipe::new(alloc, Pipe::new())?;
+        log.reserve(new.pages.len() + 2)?;
         log.push(Change::Pipe(pipe, PipePart::Front(n, none)))?;
         self.push_pages(new, log)?;
         Ok(())

@@ -1,9 +1,10 @@
 //! What a call on pages is to put in place.
 use crate::page::Page;
+use smallvec::SmallVec;
 
 /// What a page number is to have: a page, or nothing. A plan of a call makes it, and
 /// `Space::swap_page` puts it in place.
-#[derive(Drop)]
+#[derive(Default, Drop)]
 pub struct NewPage {
     /// The page number: 0 to 15.
     pub number: usize,
@@ -11,8 +12,9 @@ pub struct NewPage {
 }
 
 /// What some page numbers are to have, the first to be put in place first. A plan of a store makes
-/// it, and `Space::put_pages` puts all in place.
+/// it, and `Space::put_pages` puts all in place. Two stand in the value itself, which are enough for
+/// 64 bytes.
 #[derive(Drop)]
 pub struct NewPages {
-    pub pages: Vec<NewPage>,
+    pub pages: SmallVec<NewPage, 2>,
 }

@@ -11,6 +11,7 @@ use crate::access::Access;
 use crate::errors::PageError;
 use crate::page::Page;
 use crate::plans::{NewPage, NewPages};
+use smallvec::SmallVec;
 use std::alloc::Global;
 use std::marker::Model;
 use std::mem;
@@ -252,7 +253,7 @@ impl Space {
     {
         if bytes.is_empty() {
             return Ok(NewPages {
-                pages: Vec::new(alloc),
+                pages: SmallVec::new(alloc),
             });
         }
         let Some(start) = number_below(ADDRESSES, address) else {
@@ -283,15 +284,16 @@ impl Space {
         alloc: Global,
         start: usize,
         bytes: &[u8],
-    ) -> Result<Vec<NewPage>, NoMemory>
+    ) -> Result<SmallVec<NewPage, 2>, NoMemory>
         requires { start + length bytes.now ≤ 1024 }
         ensures after { IfOk result (λ pages. with_pages self.now pages.items ≡ put_bytes self.now start bytes.now) }
         ensures numbers { IfOk result (λ pages. AreNumbered pages.items) }
     {
         let _ = &self.pages;
-        let mut pages = Vec::new(alloc);
         let mut number = start / PAGE_BYTES;
         let mut offset = start % PAGE_BYTES;
+        let count = (offset + bytes.len()).div_ceil(PAGE_BYTES);
+        let mut pages = SmallVec::with_capacity(alloc, count)?;
         let mut rest = bytes;
         while !rest.is_empty() {
             let (front, back) = rest.split_at(rest.len().min(PAGE_BYTES - offset));

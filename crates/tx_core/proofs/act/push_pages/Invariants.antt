@@ -4,5 +4,5 @@ use Rattle.tx_core.proofs.act.push_pages.Given as goal
 
 abbrev pub invariant-loop-page : goal.invariant-loop-page
 invariant-loop-page l =
-    (l.log ++ map (page_change l.pid) l.page-iterator.rest.items ≡ l.initial.log ++ map (page_change l.pid) l.fn.new.pages.items)
+    (l.log ++ map (page_change l.pid) l.page-iterator ≡ l.initial.log ++ map (page_change l.pid) l.fn.new.pages.items)
     × Extends l.initial.log l.log

@@ -5,5 +5,5 @@ use Rattle.tx_kernel.proofs.actor.Actor.push_pages.Given as goal
 
 abbrev pub invariant-loop-page : goal.invariant-loop-page
 invariant-loop-page l =
-    (l.log ++ map (page_change l.self.pid) l.page-iterator.rest.items ≡ l.initial.log ++ map (page_change l.self.pid) l.fn.new.pages.items)
+    (l.log ++ map (page_change l.self.pid) l.page-iterator ≡ l.initial.log ++ map (page_change l.self.pid) l.fn.new.pages.items)
     × Extends l.initial.log l.log

@@ -16,10 +16,10 @@ loop-rest-preserved c =
     record {
       same =
           store_more c.args.self.now c.loop-rest.pages.items c.push.new.self.items new c.loop-rest.number c.loop-rest.offset c.loop-rest.rest.now
-          c.split_at.result.0.now c.split_at.result.1.now _ c.in_ok-push.ensures.items refl c.in_ok-page.ensures split.by_index.0 now.sized below fits whole
+          c.split_at.result.0.now c.split_at.result.1.now _ c.in_ok-push.ensures.ok refl c.in_ok-page.ensures split.by_index.0 now.sized below fits whole
           (now.fresh c.loop-rest.number (omega arith)) now.same;
-      fresh = fresh_more c.args.self.now c.loop-rest.pages.items c.push.new.self.items new c.loop-rest.number c.in_ok-push.ensures.items refl now.fresh;
-      numbers = rw c.in_ok-push.ensures.items (numbered_push c.loop-rest.pages.items new now.numbers below);
+      fresh = fresh_more c.args.self.now c.loop-rest.pages.items c.push.new.self.items new c.loop-rest.number c.in_ok-push.ensures.ok refl now.fresh;
+      numbers = rw c.in_ok-push.ensures.ok (numbered_push c.loop-rest.pages.items new now.numbers below);
       sized = now.sized;
       inside = omega arith;
       offset = omega arith;
