@@ -98,7 +98,7 @@ ending_state laws actor status descs new sends held is other copy first named ha
     let P : Parts = applied parts (ended_plan actor descs new) in
     let children : written O X ≡ changed_by (orphan_changes qs) X
     = ap (λ (xs : List ℕ). written (orphaned xs S) X) (children_are actor held other)
-    ∙ sym (orphans_state p qs S X (children_apart p (length parts.procs + 1) (plain parts) (is.whole.formed.parents p)) (λ q apart. ap (with_parent 1) (put_there S.procs p (Some (ended status me)) q apart))) in
+    ∙ sym (orphans_state p qs S X (children_apart p (length parts.procs + 1) (plain parts) (is.whole.orderly.parents p)) (λ q apart. ap (with_parent 1) (put_there S.procs p (Some (ended status me)) q apart))) in
     let pipes : (Y : State) → written E Y ≡ changed_by (gone_changes ks R) Y
     = λ Y. ap (λ (xs : List ℕ). written (endless_go xs T) Y) (pipes_same ds S1 (plain parts) (λ d. refl))
     ∙ sym (gone_state ks R T Y (λ d. sym (has d))) in

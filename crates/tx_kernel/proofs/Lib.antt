@@ -1,4 +1,5 @@
 pub mod Whole
+pub mod Orderly
 pub mod Owned
 pub mod OwnPlans
 pub mod Beside

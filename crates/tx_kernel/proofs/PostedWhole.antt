@@ -6,10 +6,10 @@ use Rattle.tx_change.specs.States.{state_of}
 use Rattle.tx_change.specs.declared.parts.Parts.{Parts}
 use Rattle.tx_kernel.proofs.StepPlans.{calmed, posted_calm}
 use Rattle.tx_kernel.specs.Actors.{IsWhole}
+use Rattle.tx_kernel.specs.Orderly.{HasCalm, HasMasks, IsOrderly}
 use Rattle.tx_model.specs.Posts.{may_signal, post, received, with_signal}
 use Rattle.tx_model.specs.State.{has_parent, Process, Sending, State}
 use Rattle.tx_model.specs.StateLaws.{put_cases}
-use Rattle.tx_model.specs.WellFormed.{HasFirst, HasMasks, IsWellFormed}
 
 -- a post to process 1 changes nothing
 first_received : (m : Sending) (q : Option Process) → m.target ≡ 1 → received m q ≡ q
@@ -44,12 +44,12 @@ calm_masks q r same masks = back q (subst HasMasks (sym same) (forth r masks))
     back None has = tt
     back (Some q) has = record { mask = has.mask; actions = has.actions; frames = has.frames }
 
-pub post_formed : (m : Sending) (S : State) → IsWellFormed S → IsWellFormed (post m S)
-post_formed m S formed = record {
-  first = subst HasFirst (sym (post_first m S)) formed.first;
-  parents = λ n. sym (calm_parent n ((post m S).procs n)) ∙ ap (has_parent n) (posted_calm m S n) ∙ calm_parent n (S.procs n) ∙ formed.parents n;
-  masks = λ n. calm_masks ((post m S).procs n) (S.procs n) (posted_calm m S n) (formed.masks n);
-  piped = formed.piped;
+pub post_orderly : (m : Sending) (S : State) → IsOrderly S → IsOrderly (post m S)
+post_orderly m S orderly = record {
+  first = subst HasCalm (sym (post_first m S)) orderly.first;
+  parents = λ n. sym (calm_parent n ((post m S).procs n)) ∙ ap (has_parent n) (posted_calm m S n) ∙ calm_parent n (S.procs n) ∙ orderly.parents n;
+  masks = λ n. calm_masks ((post m S).procs n) (S.procs n) (posted_calm m S n) (orderly.masks n);
+  piped = orderly.piped;
 }
 
 pub posted_whole : (parts new : Parts) (m : Sending) → ((held : ℕ → List Sending) → state_of held new ≡ post m (state_of held parts)) → (CountsAgree parts → CountsAgree new) →
@@ -60,5 +60,5 @@ posted_whole parts new m state counts places whole =
       counts = counts whole.counts;
       places = places whole.places;
       few = subst (λ (n : ℕ). n ≤ 256) (sym (ap (λ (S : State). S.width) (state nothing))) whole.few;
-      formed = subst IsWellFormed (sym (state nothing)) (post_formed m (state_of nothing parts) whole.formed);
+      orderly = subst IsOrderly (sym (state nothing)) (post_orderly m (state_of nothing parts) whole.orderly);
     }

@@ -12,10 +12,9 @@ use Rattle.tx_desc.specs.Descriptions.{described}
 use Rattle.tx_desc.specs.declared.opened.Opened.{Opened}
 use Rattle.tx_kernel.specs.Actors.{IsActor, IsWhole, me_of}
 use Rattle.tx_kernel.specs.Laws.{BootedAreWhole}
+use Rattle.tx_kernel.specs.Orderly.{BlocksLow, HasCalm, HasItsPipe, HasLowMasks, HasMasks, IsCalm, IsLow, IsOrderly}
 use Rattle.tx_kernel.specs.declared.actor.Actor.{Actor}
 use Rattle.tx_model.specs.State.{Process, State, booted, booted_process, has_parent, is_between}
-use Rattle.tx_model.specs.WellFormed.{BlocksSignals, HasFirst, HasMasks, IsFirst, IsMask, IsMasked, IsWellFormed}
-use Rattle.tx_model.specs.WellFormed.{HasPipe as HasItsPipe}
 use Rattle.tx_proc.specs.Processes.{process_in}
 
 -- the pipe of a description is there
@@ -24,7 +23,7 @@ HasPipe pipes None = Unit {0}
 HasPipe pipes (Some opened) = IsSome (pipe_at pipes opened.desc.pipe.0)
 
 pub whole_piped : (parts : Parts) → IsWhole parts → (d : ℕ) → HasPipe parts.pipes (get_or parts.descs d None)
-whole_piped parts whole d = by (get_or parts.descs d None) (whole.formed.piped d)
+whole_piped parts whole d = by (get_or parts.descs d None) (whole.orderly.piped d)
   where
     by : (place : Option Opened) → HasItsPipe (state_of (λ starter. []) parts) (described place) → HasPipe parts.pipes place
     by None has = tt
@@ -32,21 +31,21 @@ whole_piped parts whole d = by (get_or parts.descs d None) (whole.formed.piped d
 
 -- no process is its own parent
 pub not_own_parent : (actor : Actor) → IsActor actor → has_parent actor.pid.0 (Some (me_of actor)) ≡ false
-not_own_parent actor is = subst (λ (q : Option Process). has_parent actor.pid.0 q ≡ false) (ap process_in is.there) (is.whole.formed.parents actor.pid.0)
+not_own_parent actor is = subst (λ (q : Option Process). has_parent actor.pid.0 q ≡ false) (ap process_in is.there) (is.whole.orderly.parents actor.pid.0)
 
 -- its mask holds signals of numbers 0 to 39
 pub masked_few : (actor : Actor) → IsActor actor → bits_of actor.proc.now.mask < 2 ^ 40
-masked_few actor is = (subst HasMasks (ap process_in is.there) (is.whole.formed.masks actor.pid.0)).mask
+masked_few actor is = (subst HasMasks (ap process_in is.there) (is.whole.orderly.masks actor.pid.0)).mask
 
 -- nothing is pending at process 1
-pub first_calm : (actor : Actor) → IsActor actor → actor.pid.0 ≡ 1 → IsFirst (me_of actor)
+pub first_calm : (actor : Actor) → IsActor actor → actor.pid.0 ≡ 1 → IsCalm (me_of actor)
 first_calm actor is one =
-    subst HasFirst (ap (λ (n : ℕ). (state_of (λ starter. []) actor.parts.now).procs n) (sym one) ∙ ap process_in is.there) is.whole.formed.first
+    subst HasCalm (ap (λ (n : ℕ). (state_of (λ starter. []) actor.parts.now).procs n) (sym one) ∙ ap process_in is.there) is.whole.orderly.first
 
 -- the state of a kernel that was booted
 
-booted_first : (count : ℕ) → 1 ≤ count → HasFirst ((booted count count).procs 1)
-booted_first count some = subst (λ (b : Bool). HasFirst (if b then Some (booted_process 1) else None)) (sym (lt-ltb 0 count some)) (record { parent = refl; runs = refl; pending = refl; queued = refl })
+booted_first : (count : ℕ) → 1 ≤ count → HasCalm ((booted count count).procs 1)
+booted_first count some = subst (λ (b : Bool). HasCalm (if b then Some (booted_process 1) else None)) (sym (lt-ltb 0 count some)) (record { parent = refl; runs = refl; pending = refl; queued = refl })
 
 booted_parents : (count n : ℕ) → has_parent n ((booted count count).procs n) ≡ false
 booted_parents count zero = refl
@@ -67,8 +66,8 @@ booted_parents count (suc (suc n)) = by (nat_lt (suc n) count)
     by true = ap (λ (b : Bool). (if b then 0 else 1) == suc (suc n)) later ∙ other
     by false = refl
 
-booted_masked : (n : ℕ) → IsMasked (booted_process n)
-booted_masked n = record { mask = omega arith; actions = All-replicate BlocksSignals SIGNALS Usual tt; frames = All-nil (λ frame. IsMask frame.mask) }
+booted_masked : (n : ℕ) → HasLowMasks (booted_process n)
+booted_masked n = record { mask = omega arith; actions = All-replicate BlocksLow SIGNALS Usual tt; frames = All-nil (λ frame. IsLow frame.mask) }
 
 booted_masks : (count n : ℕ) → HasMasks ((booted count count).procs n)
 booted_masks count n = by (is_between count n)
@@ -77,13 +76,13 @@ booted_masks count n = by (is_between count n)
     by true = booted_masked n
     by false = tt
 
-booted_formed : (width count : ℕ) → 1 ≤ count → IsWellFormed (booted width count)
-booted_formed width count some = record { first = booted_first count some; parents = booted_parents count; masks = booted_masks count; piped = λ d. tt }
+booted_orderly : (width count : ℕ) → 1 ≤ count → IsOrderly (booted width count)
+booted_orderly width count some = record { first = booted_first count some; parents = booted_parents count; masks = booted_masks count; piped = λ d. tt }
 
 pub booted_whole : BootedAreWhole
 booted_whole width count parts some few same places counts = record {
   counts = counts;
   places = places;
   few = subst (λ (n : ℕ). n ≤ 256) (sym (ap (λ (S : State). S.width) same)) few;
-  formed = subst IsWellFormed (sym same) (booted_formed width count some);
+  orderly = subst IsOrderly (sym same) (booted_orderly width count some);
 }

@@ -6,13 +6,13 @@ use Rattle.tx_change.specs.Exchange.{IsPid, sizes_of}
 use Rattle.tx_change.specs.Laws.{HaveAllPlaces}
 use Rattle.tx_change.specs.States.{state_of}
 use Rattle.tx_change.specs.declared.parts.Parts.{Parts}
+use Rattle.tx_kernel.specs.Orderly.{IsOrderly}
 use Rattle.tx_kernel.specs.declared.actor.Actor.{Actor}
 use Rattle.tx_kernel.specs.declared.inside.Inside.{Inside}
 use Rattle.tx_model.specs.Effects.{Inside as TheInside}
 use Rattle.tx_model.specs.Membership.{is_of}
 use Rattle.tx_model.specs.Sends.{sent_by_members}
 use Rattle.tx_model.specs.State.{Process, Sending}
-use Rattle.tx_model.specs.WellFormed.{IsWellFormed}
 use Rattle.tx_proc.specs.Processes.{process_of}
 
 -- the transaction, as the definitions have it
@@ -32,12 +32,12 @@ abbrev pub CountsHeld : Option Inside → (ℕ → List Sending) → Type 0
 CountsHeld None held = Unit {0}
 CountsHeld (Some inside) held = sent_by_members (held inside.starter.0) ≡ inside.held
 
--- the counts of names are right, each process has its places, and the state is one that steps lead to
+-- the counts of names are right, each process has its places, and the state is orderly
 pub record IsWhole (parts : Parts) : Type 0 where
   pub counts : CountsAgree parts
   pub places : HaveAllPlaces parts
   pub few : length parts.procs ≤ 256
-  pub formed : IsWellFormed (state_of (λ starter. []) parts)
+  pub orderly : IsOrderly (state_of (λ starter. []) parts)
 
 -- the process is the one of its number, and runs
 pub record IsActor (actor : Actor) : Type 0 where

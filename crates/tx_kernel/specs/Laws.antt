@@ -1,11 +1,13 @@
--- The laws that the plans stand on, and that of a kernel that was booted.
+-- The laws that the plans stand on, and those of the states that they are for.
 use Rattle.std.specs.Prelude.{◌≡◌, ◌≤◌, ℕ, []}
 use Rattle.tx_change.specs.Counts.{CountsAgree}
 use Rattle.tx_change.specs.Laws.{HaveAllPlaces}
 use Rattle.tx_change.specs.States.{state_of}
 use Rattle.tx_change.specs.declared.parts.Parts.{Parts}
 use Rattle.tx_kernel.specs.Actors.{IsWhole}
-use Rattle.tx_model.specs.State.{booted}
+use Rattle.tx_kernel.specs.Orderly.{IsOrderly}
+use Rattle.tx_laws.specs.WellFormed.{IsWellFormed}
+use Rattle.tx_model.specs.State.{booted, State}
 use Rattle.tx_change.specs.Counts.{CountsElsewhere, CountsNameless, CountsPlanned, CountsReplaced, CountsWithOthers, PlansAreNamed, RoomForName, RoomForNames, SlotInTurn}
 use Rattle.tx_change.specs.Laws.{AppliedAppended, ApplyThenRevert, BackIsWrite, ChangedAppended, ChangesStateInTurn, ExchangedStayNamed, ExchangesBack, FrontIsRead, NamedAppended, PartsReplaceProcess, PlacesKept, SizesStay}
 
@@ -37,3 +39,7 @@ pub record PlanLaws : Type 0 where
 abbrev pub BootedAreWhole : Type 0
 BootedAreWhole = (width count : ℕ) (parts : Parts) → 1 ≤ count → width ≤ 256 → state_of (λ starter. []) parts ≡ booted width count → HaveAllPlaces parts → CountsAgree parts →
     IsWhole parts
+
+-- a state that is well formed, as every state is that a history leads to, is orderly
+abbrev pub WellFormedAreOrderly : Type 0
+WellFormedAreOrderly = (S : State) → IsWellFormed S → IsOrderly S

@@ -1,3 +1,4 @@
+pub mod Orderly
 pub mod Actors
 pub mod Posts
 pub mod Plans

@@ -1,5 +1,5 @@
-//! The laws that the plans stand on, and that of a kernel that was booted.
-ghost use Rattle.tx_kernel.specs.Laws.{BootedAreWhole, PlanLaws};
+//! The laws that the plans stand on, and those of the states that they are for.
+ghost use Rattle.tx_kernel.specs.Laws.{BootedAreWhole, PlanLaws, WellFormedAreOrderly};
 
 use tx_change::{
     appended, apply_then_revert, bytes_are_read_and_written, changes_state, counts_agree,
@@ -28,4 +28,9 @@ pub(crate) fn laws()
 /// Parts that stand as `Parts::boot` makes them, of 1 to 256 processes, are whole.
 pub fn booted_are_whole()
     ensures { BootedAreWhole }
+{}
+
+/// A state that is well formed, as every state is that a history leads to, is orderly.
+pub fn well_formed_are_orderly()
+    ensures { WellFormedAreOrderly }
 {}

@@ -27,6 +27,6 @@ mod trees;
 pub use actor::Actor;
 pub use acts::{act, deliver};
 pub use inside::Inside;
-pub use laws::booted_are_whole;
+pub use laws::{booted_are_whole, well_formed_are_orderly};
 pub use planned::{Outcome, Planned, Sends, Shown};
 pub use posts::{Face, Posted, plan_post, post};

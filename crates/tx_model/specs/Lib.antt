@@ -23,4 +23,3 @@ pub mod View
 pub mod FreeNumbers
 pub mod Answer
 pub mod Schedules
-pub mod WellFormed

@@ -8,6 +8,7 @@ use tx_base::{Call, Errno, NoMemory, Pid, Refusal, SIGCHLD, SIGKILL, Sending, Si
 use tx_change::{Log, Parts};
 use tx_kernel::{
     Actor, Face, Outcome, Planned, Sends, act, booted_are_whole, deliver, plan_post, post,
+    well_formed_are_orderly,
 };
 use tx_proc::{Part, Proc};
 use tx_signal::with;
@@ -150,6 +151,7 @@ fn plans_change_nothing(rt: HostRuntime) -> Result<(), Fail> {
 
 #[test]
 fn what_is_sent_is_known_before(rt: HostRuntime) -> Result<(), Fail> {
+    well_formed_are_orderly();
     let parts = booted(rt.alloc())?;
     let Ok(actor) = Actor::at(&parts, Pid(1), None) else {
         panic!(rt; "process 1 runs");
