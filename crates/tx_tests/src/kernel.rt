@@ -4,10 +4,10 @@ ghost use Rattle.tx_kernel.specs.Actors.{IsWhole};
 
 use std::alloc::Global;
 use std::test::Fail;
-use tx_base::{Call, Errno, NoMemory, Pid, Refusal, SIGCHLD, SIGKILL, Sending, Signo};
+use tx_base::{Call, Errno, Mark, NoMemory, Pid, Refusal, SIGCHLD, SIGKILL, Sending, Signo, Slots};
 use tx_change::{Log, Parts};
 use tx_kernel::{
-    Actor, Face, Outcome, Planned, Sends, act, booted_are_whole, deliver, plan_post, post,
+    Actor, Face, Inside, Outcome, Planned, Sends, act, booted_are_whole, deliver, plan_post, post,
     well_formed_are_orderly,
 };
 use tx_proc::{Part, Proc};
@@ -161,5 +161,39 @@ fn what_is_sent_is_known_before(rt: HostRuntime) -> Result<(), Fail> {
     };
     assert_eq!(rt; (killed.target, killed.signo), (Pid(2), SIGKILL));
     assert!(rt; matches!(actor.sends_of_delivery(SIGCHLD), Sends::Nothing));
+    Ok(())
+}
+
+#[test]
+fn a_member_hands_out_its_signals(rt: HostRuntime) -> Result<(), Fail> {
+    let mut parts = booted(rt.alloc())?;
+    let mut marks = Slots::new(rt.alloc(), 64)?;
+    assert_eq!(rt; marks.width(), 64);
+    let mark = Mark {
+        starter: Pid(2),
+        ended: false,
+        defers: false,
+    };
+    marks.put(Pid(2), mark);
+    let inside = Inside {
+        starter: Pid(2),
+        marks: &marks,
+        held: 0,
+        defers: false,
+    };
+    assert!(rt; inside.has_member(Pid(2)) && !inside.has_member(Pid(1)));
+    let mut log = Log::with_room(rt.alloc(), 0)?;
+    let call = Call::Kill(1, 10);
+    let Ok(planned) = act(
+        rt.alloc(),
+        &mut parts,
+        Pid(2),
+        &call,
+        Some(inside),
+        &mut log,
+    ) else {
+        panic!(rt; "a member's kill is made");
+    };
+    assert!(rt; matches!(planned.sends, Sends::AtCommit(_)));
     Ok(())
 }
