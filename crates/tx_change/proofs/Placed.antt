@@ -1,13 +1,14 @@
 -- Processes keep their places.
-use Rattle.std.proofs.Common.{◌≤◌, ℕ, Bool, true, false, List, [], ◌∷◌, length, option_map, Option, Some, None, ◌==◌, if◌then◌else◌, sym, subst}
+use Rattle.std.proofs.Common.{◌≡◌, ◌≤◌, ℕ, Bool, true, false, List, [], ◌∷◌, length, option_map, Option, Some, None, ◌==◌, if◌then◌else◌, refl, ap, ◌∙◌, sym, subst}
 use Rattle.tx_base.specs.Slots.{slot_at, with_slot}
 use Rattle.tx_base.proofs.SlotFacts.{slot_at-with_slot}
-use Rattle.tx_change.specs.Exchange.{parts_after, applied, Sizes, AreWithin, IsNamed, AreNamed}
-use Rattle.tx_change.specs.Laws.{HasPlaces, HaveAllPlaces, BringsPlaces, BringPlaces}
+use Rattle.tx_change.specs.Exchange.{parts_after, change_after, applied, exchanged, undone, reverted, Sizes, IsWithin, AreWithin, IsNamed, AreNamed}
+use Rattle.tx_change.specs.Laws.{HasPlaces, HasPlacesFor, HaveAllPlaces, BringsPlaces, BringPlaces}
 use Rattle.tx_change.specs.declared.change.Change.{Change}
 use Rattle.tx_change.specs.declared.change.Change.TheVariants.{Slot, Part, Description, Pipe}
 use Rattle.tx_change.specs.declared.parts.Parts.{Parts}
-use Rattle.tx_change.proofs.Applied.{still_sized}
+use Rattle.tx_change.proofs.Applied.{still_sized, sizes-undone}
+use Rattle.tx_change.proofs.Twice.{back, twice}
 use Rattle.tx_change.proofs.Own.{once_sized}
 use Rattle.tx_proc.specs.Parts.{edited_once}
 use Rattle.tx_proc.specs.declared.part.Part.{Part as ThePart}
@@ -40,3 +41,44 @@ places_kept parts (change ∷ changes) named brings places =
     places_kept (parts_after parts change) changes
     (subst (λ (sizes : Sizes). AreWithin sizes changes) (sym (still_sized parts change)) named.1)
     brings.1 (once_placed parts change named.0 brings.0 places)
+
+-- what is taken out of a number has its places
+once_brings : (parts : Parts) (change : Change) → HaveAllPlaces parts → BringsPlaces (change_after parts change)
+once_brings parts (Slot pid slot) places = places pid.0
+once_brings parts (Part pid part) places = tt
+once_brings parts (Description number opened) places = tt
+once_brings parts (Pipe number part) places = tt
+
+pub exchanged_bring : (parts : Parts) (changes : List Change) → AreNamed parts changes → BringPlaces changes → HaveAllPlaces parts → BringPlaces (exchanged parts changes)
+exchanged_bring parts [] named brings places = tt
+exchanged_bring parts (change ∷ changes) named brings places =
+    (once_brings parts change places,
+    exchanged_bring (parts_after parts change) changes
+    (subst (λ (sizes : Sizes). AreWithin sizes changes) (sym (still_sized parts change)) named.1)
+    brings.1 (once_placed parts change named.0 brings.0 places))
+
+named_undone : (parts : Parts) (change : Change) (changes : List Change) → IsNamed parts change → IsNamed (undone parts changes) change
+named_undone parts change changes named = subst (λ (sizes : Sizes). IsWithin sizes change) (sym (sizes-undone parts changes)) named
+
+pub undone_placed : (parts : Parts) (changes : List Change) → AreNamed parts changes → BringPlaces changes → HaveAllPlaces parts → HaveAllPlaces (undone parts changes)
+undone_placed parts [] named brings places = places
+undone_placed parts (change ∷ changes) named brings places =
+    once_placed (undone parts changes) change (named_undone parts change changes named.0) brings.0 (undone_placed parts changes named.1 brings.1 places)
+
+has_places : (parts : Parts) (change : Change) → HaveAllPlaces parts → HasPlacesFor parts change
+has_places parts (Slot pid slot) places = tt
+has_places parts (Part pid part) places = places pid.0
+has_places parts (Description number opened) places = tt
+has_places parts (Pipe number part) places = tt
+
+-- to exchange what was taken back again gives the changes back too
+pub log_comes_back : (parts : Parts) (changes : List Change) → AreNamed parts changes → BringPlaces changes → HaveAllPlaces parts →
+    exchanged (undone parts changes) (reverted parts changes) ≡ changes
+log_comes_back parts [] named brings places = refl
+log_comes_back parts (change ∷ changes) named brings places =
+    let before : Parts = undone parts changes in
+    let there : IsNamed before change = named_undone parts change changes named.0 in
+    let again : change_after (parts_after before change) (change_after before change) ≡ change
+    = twice before change there (has_places before change (undone_placed parts changes named.1 brings.1 places)) in
+    (λ i. again i ∷ exchanged (back before change there i) (reverted parts changes))
+    ∙ ap (λ (cs : List Change). change ∷ cs) (log_comes_back parts changes named.1 brings.1 places)

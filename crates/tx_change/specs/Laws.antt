@@ -148,6 +148,19 @@ BackIsWrite = (held bytes : List ℕ) → length held + length bytes ≤ PIPE_BY
 abbrev pub PlacesKept : Type 0
 PlacesKept = (parts : Parts) (changes : List Change) → AreNamed parts changes → BringPlaces changes → HaveAllPlaces parts → HaveAllPlaces (applied parts changes)
 
+-- what is taken out of the parts has its places where the parts have, and what was put in
+abbrev pub ExchangedBring : Type 0
+ExchangedBring = (parts : Parts) (changes : List Change) → AreNamed parts changes → BringPlaces changes → HaveAllPlaces parts → BringPlaces (exchanged parts changes)
+
+-- to exchange what was taken back again, the first one first, gives the changes back as they were
+abbrev pub ChangesComeBack : Type 0
+ChangesComeBack = (parts : Parts) (changes : List Change) → AreNamed parts changes → BringPlaces changes → HaveAllPlaces parts →
+    exchanged (undone parts changes) (reverted parts changes) ≡ changes
+
+-- changes that are taken back leave each process its places too
+abbrev pub PlacesKeptBack : Type 0
+PlacesKeptBack = (parts : Parts) (changes : List Change) → AreNamed parts changes → BringPlaces changes → HaveAllPlaces parts → HaveAllPlaces (undone parts changes)
+
 -- changes leave as many numbers as there were
 abbrev pub SizesStay : Type 0
 SizesStay = (parts : Parts) (changes : List Change) → sizes_of (applied parts changes) ≡ sizes_of parts

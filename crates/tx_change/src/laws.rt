@@ -1,6 +1,6 @@
 //! The laws of exchanges, as the contracts of functions that do nothing.
 ghost use Rattle.tx_change.specs.Counts.{CountsKept, CountsForked, CountsEnded, CountsRemoved, CountsElsewhere, CountsNameless, SlotInTurn, DescsInTurn, CountsInTurn, PlansAreNamed, PlansInTurn, CountsPlanned, CountsReplaced, RoomForNames, RoomForName, CountsWithOthers};
-ghost use Rattle.tx_change.specs.Laws.{AppliedAppended, ApplyThenRevert, BackIsWrite, ChangedAppended, ChangesState, ChangesStateInTurn, Commute, ExchangedAppended, ExchangedStayNamed, ExchangesBack, FrontIsRead, ListNamesItsObjects, NamedAppended, NamesItsObject, NothingElse, PartsReplaceProcess, PlacesKept, RevertThenApply, RevertedAppended, SizesStay, TwiceIsNothing, UndoneAppended};
+ghost use Rattle.tx_change.specs.Laws.{AppliedAppended, ApplyThenRevert, BackIsWrite, ChangedAppended, ChangesComeBack, ChangesState, ChangesStateInTurn, Commute, ExchangedAppended, ExchangedBring, ExchangedStayNamed, ExchangesBack, FrontIsRead, ListNamesItsObjects, NamedAppended, NamesItsObject, NothingElse, PartsReplaceProcess, PlacesKept, PlacesKeptBack, RevertThenApply, RevertedAppended, SizesStay, TwiceIsNothing, UndoneAppended};
 
 /// Two exchanges of one part are nothing: the parts and the change come back.
 pub fn twice_is_nothing()
@@ -113,7 +113,15 @@ pub fn bytes_are_read_and_written()
     ensures back { BackIsWrite }
 {}
 
-/// Changes leave each process a place for each number, where each process that comes has them.
+/// Changes leave each process a place for each number, where each process that comes has them; so do
+/// they where they are taken back, and a process that they take out has them.
 pub fn places_kept()
-    ensures { PlacesKept }
+    ensures forth { PlacesKept }
+    ensures back { PlacesKeptBack }
+    ensures taken { ExchangedBring }
+{}
+
+/// Changes that were taken back, and are made again, are as they were.
+pub fn changes_come_back()
+    ensures { ChangesComeBack }
 {}

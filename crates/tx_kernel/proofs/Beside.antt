@@ -37,7 +37,7 @@ plans_same actor before now planned rule other objects others does names plans =
   added = plans.added;
   named = plans.named;
   counts = plans.counts;
-  places = plans.places;
+  brings = plans.brings;
   gives = λ held counted. subst (λ (effect : Effect). Gives actor (applied actor.parts.now plans.plan) planned held effect) (does held counted) (plans.gives held counted);
   shown = plans.shown;
   seen = plans.seen;
@@ -166,7 +166,7 @@ beside_plans laws actor before now descs other slot own r new objects is beside 
       added = added;
       named = named;
       counts = laws.replaced parts other slot descs own beside.number beside.sized beside.numbers named-own beside.nameless is.whole.counts beside.keeps;
-      places = laws.places parts plan named (descs_bring descs last (beside.places, own_brings n own beside.own)) is.whole.places;
+      brings = descs_bring descs last (beside.places, own_brings n own beside.own);
       gives = λ held counted. record {
         state = sym (ap (λ (h : ℕ → List Sending). state_of h (applied parts plan)) (held_quiet actor.inside (Done r) held) ∙ beside_state laws actor descs other slot own held is beside named
             ∙ ap (λ (q : Process). write_one (SetProc other.0 (process_in slot)) (write_one (SetProc n (Some q)) (state_of held parts))) process);

@@ -23,6 +23,7 @@ use Rattle.tx_kernel.proofs.Beside.{descs_among, descs_bring, descs_named}
 use Rattle.tx_kernel.proofs.EndStates.{pipes_same}
 use Rattle.tx_kernel.proofs.Ended.{children_are, ended_alone, ended_plan, ending_state, orphans_of, others_changed, pipes_left}
 use Rattle.tx_kernel.proofs.Forked.{listed-among, open-has, planned-named}
+use Rattle.tx_kernel.proofs.OwnPlans.{brings_append}
 use Rattle.tx_kernel.proofs.Whole.{HasPipe, not_own_parent, whole_piped}
 use Rattle.tx_kernel.specs.Actors.{me_of, inside_of, IsActor}
 use Rattle.tx_kernel.specs.Endings.{gone_changes, orphan_changes, plain, plain_with}
@@ -113,10 +114,6 @@ gone_nameless (k ∷ ks) R = by (gone_nameless ks R) (has_description k R)
     by : AreNameless (gone_changes ks R) → (b : Bool) → AreNameless (if b then gone_changes ks R else Pipe (record { 0 = k }) (Whole None) ∷ gone_changes ks R)
     by rest true = rest
     by rest false = (tt, rest)
-
-brings_both : (front behind : List Change) → BringPlaces front → BringPlaces behind → BringPlaces (front ++ behind)
-brings_both [] behind first last = last
-brings_both (change ∷ front) behind first last = (first.0, brings_both front behind first.1 last)
 
 orphans_bring : (qs : List ℕ) → BringPlaces (orphan_changes qs)
 orphans_bring [] = tt
@@ -343,11 +340,10 @@ ending_plans laws names actor status descs new sends before first second third n
           ∙ append_assoc before front (slot ++ (orphans ++ gone));
       named = named;
       counts = laws.replaced parts actor.pid (Some new) descs (orphans ++ gone) is.number sized drops.numbers named-others nameless is.whole.counts keeps;
-      places = laws.places parts (ended_plan actor descs new) named
-          (descs_bring descs (slot ++ (orphans ++ gone)) (
-            ended_sized new status (me_of actor) copy,
-            brings_both orphans gone (orphans_bring (orphans_of actor)) (gone_bring (pipes_left actor) (plain_with descs parts)),
-          )) is.whole.places;
+      brings = descs_bring descs (slot ++ (orphans ++ gone)) (
+        ended_sized new status (me_of actor) copy,
+        brings_append orphans gone (orphans_bring (orphans_of actor)) (gone_bring (pipes_left actor) (plain_with descs parts)),
+      );
       gives = λ held counted. record {
         state = ending_state laws actor status descs new sends held is other copy named-descs named (left_descs laws names actor status descs held is drops) at_commit;
         sends = at_once;

@@ -62,7 +62,8 @@ made laws actor act log between now from after planned is long plans goes logged
       named = subst (λ (p : Parts). AreNamed p kept) (sym then) (subst (λ (sizes : Sizes). AreWithin sizes kept) (sym (laws.sizes parts plan)) (laws.stays (sizes_of parts) parts plan plans.named));
       back = ap (λ (p : Parts). undone p kept) then ∙ laws.reverts parts plan plans.named;
       counts = subst CountsAgree (sym then) plans.counts;
-      places = subst HaveAllPlaces (sym then) plans.places;
+      places = subst HaveAllPlaces (sym then) (laws.places parts plan plans.named plans.brings is.whole.places);
+      brings = laws.taken parts plan plans.named plans.brings is.whole.places;
       gives = λ held counted.
           subst (λ (p : Parts). GivesStep actor.inside actor.pid parts p planned.outcome planned.sends held (act_rule (inside_of actor.inside) actor.pid.0 act (state_of held parts))) (sym then)
           (subst (GivesStep actor.inside actor.pid parts (applied parts plan) planned.outcome planned.sends held) (sym (act_is actor act held is)) (plans.gives held counted));

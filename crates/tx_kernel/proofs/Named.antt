@@ -17,7 +17,7 @@ use Rattle.tx_desc.specs.Plans.{AreFds, AreNumbers, put_names, put_descs}
 use Rattle.tx_desc.specs.declared.opened.Opened.{Opened}
 use Rattle.tx_desc.specs.declared.plans.NewDesc.{NewDesc}
 use Rattle.tx_desc.specs.declared.plans.NewName.{NewName}
-use Rattle.tx_kernel.proofs.OwnPlans.{own_brings, own_named, own_among}
+use Rattle.tx_kernel.proofs.OwnPlans.{brings_append, own_brings, own_named, own_among}
 use Rattle.tx_kernel.specs.Actors.{me_of, inside_of, CountsHeld, IsActor}
 use Rattle.tx_kernel.specs.Laws.{PlanLaws}
 use Rattle.tx_kernel.specs.Plans.{LeavesTarget, Plans, AreAmong, KeepsShown, conclusion_of, held_after, memory_in, sent_at_once}
@@ -59,10 +59,6 @@ pipes_nameless (Pipe number part ∷ pipes) are = (tt, pipes_nameless pipes are)
 nameless_append : (front behind : List Change) → AreNameless front → AreNameless behind → AreNameless (front ++ behind)
 nameless_append [] behind f b = b
 nameless_append (change ∷ front) behind f b = (f.0, nameless_append front behind f.1 b)
-
-brings_append : (front behind : List Change) → BringPlaces front → BringPlaces behind → BringPlaces (front ++ behind)
-brings_append [] behind f b = b
-brings_append (change ∷ front) behind f b = (f.0, brings_append front behind f.1 b)
 
 descs_bring : (descs : List NewDesc) → BringPlaces (desc_changes descs)
 descs_bring [] = tt
@@ -281,7 +277,7 @@ files_plan laws actor before now planned rule objects new files sized is added a
       counts = laws.call parts actor.pid actor.proc.now files.names files.descs (files.pipes ++ files.own) is.number sized files.fds files.numbers
           (laws.named parts files.pipes files.own files.pipes_named (own_named parts n files.own is.number files.are_own))
           (nameless_append files.pipes files.own (pipes_nameless files.pipes files.are_pipes) files.nameless) is.whole.counts is.there is.runs files.keeps;
-      places = laws.places parts (changes_of files) named (files_bring actor new files) is.whole.places;
+      brings = files_bring actor new files;
       gives = λ held counted.
           let wrote = does held counted in
           record {

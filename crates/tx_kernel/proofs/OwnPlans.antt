@@ -1,5 +1,5 @@
 -- A plan of parts of its own process is a plan of the rule.
-use Rattle.std.proofs.Common.{◌≡◌, ℕ, List, [], ◌∷◌, length, option_map, Option, Some, None, refl, ap, sym, subst, ◌∙◌, eq-eqb}
+use Rattle.std.proofs.Common.{◌≡◌, ℕ, List, [], ◌∷◌, ◌++◌, length, option_map, Option, Some, None, refl, ap, sym, subst, ◌∙◌, eq-eqb}
 use Rattle.tx_base.specs.Slots.{slot_at}
 use Rattle.tx_change.specs.Exchange.{applied, sizes_of, IsPid, AreNamed}
 use Rattle.tx_change.specs.Laws.{revised_by, BringPlaces}
@@ -29,6 +29,10 @@ own_named parts n (Slot pid slot ∷ plan) number own = absurd own.0
 own_named parts n (Part pid part ∷ plan) number own = ((subst (IsPid (sizes_of parts)) (sym own.0.0) number, own.0.1), own_named parts n plan number own.1)
 own_named parts n (Description d opened ∷ plan) number own = absurd own.0
 own_named parts n (Pipe q part ∷ plan) number own = absurd own.0
+
+pub brings_append : (front behind : List Change) → BringPlaces front → BringPlaces behind → BringPlaces (front ++ behind)
+brings_append [] behind first last = last
+brings_append (change ∷ front) behind first last = (first.0, brings_append front behind first.1 last)
 
 -- none of them brings a process
 pub own_brings : (n : ℕ) (plan : List Change) → AreOf n plan → BringPlaces plan
@@ -87,7 +91,7 @@ own_plans laws actor before now outcome rule objects sized is own =
       added = own.added;
       named = named;
       counts = laws.call parts actor.pid actor.proc.now [] [] plan is.number sized tt tt named gives.nameless is.whole.counts is.there is.runs (record { each = λ d others z. z });
-      places = laws.places parts plan named (own_brings n plan gives.own) is.whole.places;
+      brings = own_brings n plan gives.own;
       gives = λ held counted. record {
         state = sym (ap (λ (h : ℕ → List Sending). state_of h (applied parts plan)) (held_quiet actor.inside outcome held) ∙ own_state laws actor plan held is gives.own
             ∙ ap (λ (q : Process). write_one (SetProc n (Some q)) (state_of held parts)) gives.process);

@@ -52,7 +52,7 @@ holds_plans laws actor before now outcome m rule objects sized is does own =
       added = own.added;
       named = named;
       counts = laws.call parts actor.pid actor.proc.now [] [] plan is.number sized tt tt named gives.nameless is.whole.counts is.there is.runs (record { each = λ d others z. z });
-      places = laws.places parts plan named (own_brings n plan gives.own) is.whole.places;
+      brings = own_brings n plan gives.own;
       gives = λ held counted.
           let after : ℕ → List Sending = held_after (inside_of actor.inside) (AtCommit m) held in
           record {

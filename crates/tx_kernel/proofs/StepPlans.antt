@@ -6,13 +6,13 @@ use Rattle.tx_base.specs.declared.names.Sending.{Sending as TheSending}
 use Rattle.tx_base.specs.declared.steps.Reply.TheVariants.{Done as TheDone}
 use Rattle.tx_change.specs.Counts.{CountsAgree}
 use Rattle.tx_change.specs.Exchange.{applied as exchanged_in, object_of, sizes_of, Sizes, AreWithin, AreNamed}
-use Rattle.tx_change.specs.Laws.{revised_by, HaveAllPlaces}
+use Rattle.tx_change.specs.Laws.{revised_by}
 use Rattle.tx_change.specs.Own.{AreOf}
 use Rattle.tx_change.specs.States.{state_of}
 use Rattle.tx_change.specs.declared.change.Change.{Change}
 use Rattle.tx_change.specs.declared.change.Change.TheVariants.{Slot, Part, Description, Pipe}
 use Rattle.tx_change.specs.declared.parts.Parts.{Parts}
-use Rattle.tx_kernel.proofs.OwnPlans.{own_named, own_brings, own_among}
+use Rattle.tx_kernel.proofs.OwnPlans.{brings_append, own_named, own_brings, own_among}
 use Rattle.tx_kernel.specs.Actors.{me_of, inside_of, CountsHeld, IsActor}
 use Rattle.tx_kernel.specs.Laws.{PlanLaws}
 use Rattle.tx_kernel.specs.Plans.{Plans, Gives, AreAmong, KeepsShown, conclusion_of, held_after, memory_in, reply_of, sending_of, sent_at_once}
@@ -113,7 +113,7 @@ quiet_step actor before now outcome sends rule objects none plans = record {
   added = plans.added;
   named = plans.named;
   counts = plans.counts;
-  places = plans.places;
+  brings = plans.brings;
   gives = λ held counted.
       let given = plans.gives held counted in
       record {
@@ -190,7 +190,7 @@ posted_step laws actor before between now outcome m answer rule objects plans p 
       added = p.added ∙ ap (λ (xs : List Change). xs ++ p.plan) plans.added ∙ append_assoc before plans.plan p.plan;
       named = laws.named parts plans.plan p.plan plans.named p.named;
       counts = subst CountsAgree (sym whole) (laws.nameless first p.plan named p.nameless plans.counts);
-      places = subst HaveAllPlaces (sym whole) (laws.places first p.plan named (own_brings m.target.0 p.plan p.own) plans.places);
+      brings = brings_append plans.plan p.plan plans.brings (own_brings m.target.0 p.plan p.own);
       gives = λ held counted.
           let S : State = state_of held parts in
           let after : ℕ → List Sending = held_after (inside_of actor.inside) (AtOnce m) held in
@@ -247,8 +247,7 @@ answered_step laws actor before between now m answer ret rule objects is does p 
       added = last ∙ ap (λ (xs : List Change). xs ++ last_one) p.added ∙ append_assoc before p.plan last_one;
       named = laws.named parts p.plan last_one p.named named;
       counts = subst CountsAgree (sym whole) (laws.nameless first last_one named_now (tt, tt) (laws.nameless parts p.plan p.named p.nameless is.whole.counts));
-      places = subst HaveAllPlaces (sym whole) (laws.places first last_one named_now (own_brings n last_one own)
-          (laws.places parts p.plan p.named (own_brings m.target.0 p.plan p.own) is.whole.places));
+      brings = brings_append p.plan last_one (own_brings m.target.0 p.plan p.own) (own_brings n last_one own);
       gives = λ held counted.
           let S : State = state_of held parts in
           let q : Option Process = S.procs m.target.0 in

@@ -4,7 +4,7 @@ use Rattle.tx_base.specs.declared.names.Pid.{Pid}
 use Rattle.tx_base.specs.declared.steps.Refusal.{Refusal}
 use Rattle.tx_change.specs.Counts.{CountsAgree}
 use Rattle.tx_change.specs.Exchange.{AreNamed, undone}
-use Rattle.tx_change.specs.Laws.{HaveAllPlaces}
+use Rattle.tx_change.specs.Laws.{BringPlaces, HaveAllPlaces}
 use Rattle.tx_change.specs.States.{state_of}
 use Rattle.tx_change.specs.declared.change.Change.{Change}
 use Rattle.tx_change.specs.declared.parts.Parts.{Parts}
@@ -30,6 +30,7 @@ pub record Makes (before : Parts) (pid : Pid) (inside : Option Inside) (act : Ac
   pub back : undone after kept ≡ before
   pub counts : CountsAgree after
   pub places : HaveAllPlaces after
+  pub brings : BringPlaces kept
   pub gives : (held : ℕ → List Sending) → CountsHeld inside held →
       GivesStep inside pid before after planned.outcome planned.sends held (act_rule (inside_of inside) pid.0 act (state_of held before))
   pub among : (held : ℕ → List Sending) → AreAmong (act_footprint (inside_of inside) pid.0 act (state_of held before) ++ target_objects planned.sends) kept

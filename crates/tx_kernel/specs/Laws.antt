@@ -9,7 +9,7 @@ use Rattle.tx_kernel.specs.Orderly.{IsOrderly}
 use Rattle.tx_laws.specs.WellFormed.{IsWellFormed}
 use Rattle.tx_model.specs.State.{booted, State}
 use Rattle.tx_change.specs.Counts.{CountsElsewhere, CountsNameless, CountsPlanned, CountsReplaced, CountsWithOthers, PlansAreNamed, RoomForName, RoomForNames, SlotInTurn}
-use Rattle.tx_change.specs.Laws.{AppliedAppended, ApplyThenRevert, BackIsWrite, ChangedAppended, ChangesStateInTurn, ExchangedStayNamed, ExchangesBack, FrontIsRead, NamedAppended, PartsReplaceProcess, PlacesKept, SizesStay}
+use Rattle.tx_change.specs.Laws.{AppliedAppended, ApplyThenRevert, BackIsWrite, ChangedAppended, ChangesStateInTurn, ExchangedBring, ExchangedStayNamed, ExchangesBack, FrontIsRead, NamedAppended, PartsReplaceProcess, PlacesKept, SizesStay}
 
 -- what changes make of the state, of the counts of names and of the places of processes
 pub record PlanLaws : Type 0 where
@@ -19,6 +19,7 @@ pub record PlanLaws : Type 0 where
   pub changed : ChangedAppended
   pub named : NamedAppended
   pub places : PlacesKept
+  pub taken : ExchangedBring
   pub plans : PlansAreNamed
   pub call : CountsPlanned
   pub replaced : CountsReplaced

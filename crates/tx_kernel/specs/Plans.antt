@@ -8,7 +8,7 @@ use Rattle.tx_base.specs.declared.steps.Reply.TheVariants as reply
 use Rattle.tx_base.specs.Slots.{slot_at}
 use Rattle.tx_change.specs.Counts.{CountsAgree}
 use Rattle.tx_change.specs.Exchange.{applied, object_of, AreNamed}
-use Rattle.tx_change.specs.Laws.{HaveAllPlaces}
+use Rattle.tx_change.specs.Laws.{BringPlaces}
 use Rattle.tx_change.specs.States.{state_of}
 use Rattle.tx_change.specs.declared.change.Change.{Change}
 use Rattle.tx_change.specs.declared.parts.Parts.{Parts}
@@ -101,7 +101,7 @@ pub record Plans (actor : Actor) (before now : List Change) (planned : Planned) 
   pub added : now ≡ before ++ plan
   pub named : AreNamed actor.parts.now plan
   pub counts : CountsAgree (applied actor.parts.now plan)
-  pub places : HaveAllPlaces (applied actor.parts.now plan)
+  pub brings : BringPlaces plan
   pub gives : (held : ℕ → List TheSending) → CountsHeld actor.inside held →
       Gives actor (applied actor.parts.now plan) planned held (rule (state_of held actor.parts.now))
   pub shown : KeepsShown planned.outcome (me_of actor).memory (memory_in (process_in (slot_at (applied actor.parts.now plan).procs actor.pid.0)))

@@ -4,7 +4,7 @@ use Rattle.tx_base.specs.Slots.{slot_at}
 use Rattle.tx_base.specs.declared.names.Pid.{Pid}
 use Rattle.tx_change.specs.Counts.{CountsAgree}
 use Rattle.tx_change.specs.Exchange.{applied as exchanged_in, AreNamed}
-use Rattle.tx_change.specs.Laws.{HaveAllPlaces}
+use Rattle.tx_change.specs.Laws.{BringPlaces}
 use Rattle.tx_change.specs.States.{state_of}
 use Rattle.tx_change.specs.declared.change.Change.{Change}
 use Rattle.tx_change.specs.declared.parts.Parts.{Parts}
@@ -37,7 +37,7 @@ pub record PlansStep (actor : Actor) (before now : List Change) (outcome : Outco
   pub added : now ≡ before ++ plan
   pub named : AreNamed actor.parts.now plan
   pub counts : CountsAgree (exchanged_in actor.parts.now plan)
-  pub places : HaveAllPlaces (exchanged_in actor.parts.now plan)
+  pub brings : BringPlaces plan
   pub gives : (held : ℕ → List Sending) → CountsHeld actor.inside held →
       GivesStep actor.inside actor.pid actor.parts.now (exchanged_in actor.parts.now plan) outcome sends held (rule (state_of held actor.parts.now))
   pub among : (held : ℕ → List Sending) → AreAmong (Proc actor.pid.0 ∷ objects (state_of held actor.parts.now) ++ target_objects sends) plan

@@ -1,6 +1,6 @@
 //! Posts: what a signal that is sent does to its target (POSIX.1-2017, XSH, Signal Concepts and
 //! kill()).
-ghost use Rattle.std.specs.Prelude.{◌≡◌, ℕ, List, ◌<◌, true, Some, IfOk, length};
+ghost use Rattle.std.specs.Prelude.{◌≡◌, ◌&&◌, ℕ, List, ◌<◌, not, true, Some, IfOk, length};
 ghost use Rattle.tx_kernel.specs.Actors.{IsWhole};
 ghost use Rattle.tx_kernel.specs.Plans.{sending_of, sender_of};
 ghost use Rattle.tx_kernel.specs.Posts.{HasFace, IsOfPending, PlansAt, listed_change, posted, seen_as, without_part};
@@ -58,6 +58,14 @@ impl Face {
             return Ok(());
         }
         Err(Errno::TryAgain)
+    }
+
+    /// Whether a post to a process with this face gets to what is pending there: the sender may signal
+    /// it, and the signal is not one that changes nothing.
+    pub fn reaches(&self, sending: &Sending) -> bool
+        ensures { (q : Process) → HasFace self.now q → result ≡ may_signal (sender_of sending.now.from) q.ids && not (is_quiet (sending_of sending.now) q) }
+    {
+        self.permits(sending) && !self.is_quiet(sending)
     }
 
     /// Whether the sender may signal the process; the kernel always may.

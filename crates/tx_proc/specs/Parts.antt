@@ -11,6 +11,7 @@ use Rattle.tx_proc.specs.declared.part.Part.{Part}
 use Rattle.tx_proc.specs.declared.part.Part.TheVariants.{Answer, Register, Parent, Status, Cred, Page, Descriptor, Mask, Action, Pending, Queued, Frame}
 use Rattle.tx_proc.specs.declared.proc.Proc.{Proc}
 use Rattle.tx_signal.specs.Entries.{entry_swapped, entry_given}
+use Rattle.tx_signal.specs.Parts.{PendingView}
 
 -- the queue after an exchange at a place, and the entry: with none, the entry there is taken out; one is put in before it
 -- where there is room. A queue that is too long stays
@@ -70,6 +71,15 @@ part_of proc (Frame frame) = Frame (frame_given frame proc.frames)
 abbrev pub part_in : Option Proc → Part → Part
 part_in None part = part
 part_in (Some proc) part = part_of proc part
+
+-- a process with this pending at it
+abbrev pub with_pending : PendingView → Proc → Proc
+with_pending pending proc = record proc { pending = pending }
+
+-- what is pending at the process of a slot, or else this
+abbrev pub pending_in : Option Proc → PendingView → PendingView
+pending_in None pending = pending
+pending_in (Some proc) pending = proc.pending
 
 -- a number in the part is one that there is
 abbrev pub HasPlace : Part → Type 0

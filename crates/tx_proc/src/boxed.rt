@@ -1,13 +1,13 @@
 //! What stands in a place of its own: a process, and a frame that is exchanged.
 ghost use Rattle.std.specs.Prelude.{◌≡◌, IfOk};
-ghost use Rattle.tx_proc.specs.Parts.{edited_once, part_of, frames_swapped, frame_given, HasPlace};
+ghost use Rattle.tx_proc.specs.Parts.{edited_once, part_of, frames_swapped, frame_given, with_pending, HasPlace};
 
 use crate::part::Part;
 use crate::proc::Proc;
 use std::alloc::Global;
 use std::marker::Model;
 use tx_base::{NoMemory, Pid};
-use tx_signal::{Frame, Frames};
+use tx_signal::{Frame, Frames, Pending};
 
 /// A process in a place of its own, so that a table moves no process. Its parent stands beside it
 /// too, so that who is whose child is read in the table alone. Contracts see the process.
@@ -63,6 +63,14 @@ impl BoxedProc {
         let BoxedProc { parent, proc } = self;
         part.swap(proc);
         *parent = proc.parent;
+    }
+
+    /// Exchanges all that is pending at the process.
+    pub fn swap_pending(&mut self, pending: &mut Pending)
+        ensures proc { self.new ≡ with_pending pending.old self.old }
+        ensures pending { pending.new ≡ self.old.pending }
+    {
+        self.proc.pending.swap(pending);
     }
 }
 

@@ -2,7 +2,7 @@
 ghost use Rattle.std.specs.Option.{option_copied};
 ghost use Rattle.std.specs.Prelude.{◌≡◌, ◌≤◌, ◌↔◌, None, Some, IsTrue, IfOk, length, replicate, option_map};
 ghost use Rattle.tx_base.specs.Slots.{slot_at, with_slot};
-ghost use Rattle.tx_proc.specs.Parts.{edited_once, part_in, HasPlace};
+ghost use Rattle.tx_proc.specs.Parts.{edited_once, part_in, pending_in, with_pending, HasPlace};
 
 use crate::boxed::BoxedProc;
 use crate::part::Part;
@@ -10,6 +10,7 @@ use crate::proc::Proc;
 use std::alloc::Global;
 use std::marker::Model;
 use tx_base::{NoMemory, Pid, Slots};
+use tx_signal::Pending;
 
 /// The processes by number, from 1 to the width. Contracts see the list of what each number has,
 /// that of number 1 first.
@@ -115,6 +116,22 @@ impl ProcTable {
         let mut slot = self.remove(pid);
         if let Some(boxed) = &mut slot {
             boxed.swap_part(part);
+        }
+        self.slots.swap(pid, &mut slot);
+    }
+
+    /// Exchanges all that is pending at the process that a number has; nothing happens where it has
+    /// none. The number must be one that there is.
+    #[tactic(auto, using(tx_base::proofs::SlotFacts::slot_twice))]
+    pub fn swap_pending(&mut self, pid: Pid, pending: &mut Pending)
+        requires low { 1 ≤ pid.0 }
+        requires high { pid.0 ≤ length self.old }
+        ensures exchanged { self.new ≡ with_slot self.old pid.0 (option_map (with_pending pending.old) (slot_at self.old pid.0)) }
+        ensures given { pending.new ≡ pending_in (slot_at self.old pid.0) pending.old }
+    {
+        let mut slot = self.remove(pid);
+        if let Some(boxed) = &mut slot {
+            boxed.swap_pending(pending);
         }
         self.slots.swap(pid, &mut slot);
     }

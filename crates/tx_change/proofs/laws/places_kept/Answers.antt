@@ -1,5 +1,11 @@
-use Rattle.tx_change.proofs.Placed.{places_kept}
+use Rattle.tx_change.proofs.Placed.{exchanged_bring, places_kept, undone_placed}
 use Rattle.tx_change.proofs.laws.places_kept.Goals as goal
 
-pub returns : goal.returns
-returns c = places_kept
+pub returns-clause-forth : goal.returns-clause-forth
+returns-clause-forth c = places_kept
+
+pub returns-clause-back : goal.returns-clause-back
+returns-clause-back c = undone_placed
+
+pub returns-clause-taken : goal.returns-clause-taken
+returns-clause-taken c = exchanged_bring
