@@ -164,3 +164,6 @@ PlacesKeptBack = (parts : Parts) (changes : List Change) → AreNamed parts chan
 -- changes leave as many numbers as there were
 abbrev pub SizesStay : Type 0
 SizesStay = (parts : Parts) (changes : List Change) → sizes_of (applied parts changes) ≡ sizes_of parts
+
+abbrev pub SizesStayBack : Type 0
+SizesStayBack = (parts : Parts) (changes : List Change) → sizes_of (undone parts changes) ≡ sizes_of parts

@@ -1,6 +1,6 @@
 //! The laws of exchanges, as the contracts of functions that do nothing.
 ghost use Rattle.tx_change.specs.Counts.{CountsKept, CountsForked, CountsEnded, CountsRemoved, CountsElsewhere, CountsNameless, SlotInTurn, DescsInTurn, CountsInTurn, PlansAreNamed, PlansInTurn, CountsPlanned, CountsReplaced, RoomForNames, RoomForName, CountsWithOthers};
-ghost use Rattle.tx_change.specs.Laws.{AppliedAppended, ApplyThenRevert, BackIsWrite, ChangedAppended, ChangesComeBack, ChangesState, ChangesStateInTurn, Commute, ExchangedAppended, ExchangedBring, ExchangedStayNamed, ExchangesBack, FrontIsRead, ListNamesItsObjects, NamedAppended, NamesItsObject, NothingElse, PartsReplaceProcess, PlacesKept, PlacesKeptBack, RevertThenApply, RevertedAppended, SizesStay, TwiceIsNothing, UndoneAppended};
+ghost use Rattle.tx_change.specs.Laws.{AppliedAppended, ApplyThenRevert, BackIsWrite, ChangedAppended, ChangesComeBack, ChangesState, ChangesStateInTurn, Commute, ExchangedAppended, ExchangedBring, ExchangedStayNamed, ExchangesBack, FrontIsRead, ListNamesItsObjects, NamedAppended, NamesItsObject, NothingElse, PartsReplaceProcess, PlacesKept, PlacesKeptBack, RevertThenApply, RevertedAppended, SizesStay, SizesStayBack, TwiceIsNothing, UndoneAppended};
 
 /// Two exchanges of one part are nothing: the parts and the change come back.
 pub fn twice_is_nothing()
@@ -92,6 +92,7 @@ pub fn appended()
     ensures state { ChangedAppended }
     ensures named { NamedAppended }
     ensures sizes { SizesStay }
+    ensures sizes_back { SizesStayBack }
 {}
 
 /// What a list of changes makes of the state: at an object that none of them names nothing; and

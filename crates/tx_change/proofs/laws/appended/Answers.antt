@@ -1,4 +1,4 @@
-use Rattle.tx_change.proofs.Applied.{sizes-applied, applied-append, undone-append, reverted-append}
+use Rattle.tx_change.proofs.Applied.{sizes-applied, sizes-undone, applied-append, undone-append, reverted-append}
 use Rattle.tx_change.proofs.InLists.{exchanged-append, changed-append, named-append}
 use Rattle.tx_change.proofs.laws.appended.Goals as goal
 
@@ -22,3 +22,6 @@ returns-clause-named c = named-append
 
 pub returns-clause-sizes : goal.returns-clause-sizes
 returns-clause-sizes c = sizes-applied
+
+pub returns-clause-sizes_back : goal.returns-clause-sizes_back
+returns-clause-sizes_back c = sizes-undone

@@ -1,0 +1,3 @@
+pub mod KeptParts
+pub mod Outboxes
+pub mod Txns

@@ -1,0 +1,11 @@
+//! Live transactions: what is kept of a starter, what is held until the commit, and the log of old
+//! parts that leads back.
+#![tactic(auto)]
+
+mod kept;
+mod outbox;
+mod txn;
+
+pub use kept::{Kept, Unpost};
+pub use outbox::{HeldPost, Outbox};
+pub use txn::Txn;

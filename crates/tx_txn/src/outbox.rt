@@ -1,0 +1,138 @@
+//! The signals that a transaction holds until it commits.
+ghost use Rattle.std.specs.Prelude.{◌≡◌, ◌<◌, ◌++◌, ◌∷◌, [], ◌-◌, None, Ok, OnOk, OnErr, length, map, take, slice_set, slice_index_or};
+ghost use Rattle.tx_model.specs.Sends.{has_sender, sent_by_members};
+ghost use Rattle.tx_kernel.specs.Plans.{sender_of, sending_of};
+ghost use Rattle.tx_txn.specs.Outboxes.{unmade};
+
+use crate::kept::Unpost;
+use std::alloc::Global;
+use std::marker::Model;
+use std::mem;
+use tx_base::{Errno, NoMemory, Sending};
+use tx_change::Change;
+
+/// What the post of a held signal came to at the commit. Until then it is not made.
+#[derive(Drop)]
+pub struct HeldPost {
+    /// How the post was answered.
+    pub answer: Result<(), Errno>,
+    /// What was pending at the target before, where that changed.
+    pub change: Option<Change>,
+    /// What was kept of the target before, where it is the starter of another transaction and that changed.
+    pub kept: Option<Unpost>,
+}
+
+impl HeldPost {
+    /// A post that is not made.
+    fn unmade() -> HeldPost
+        ensures { result ≡ unmade }
+    {
+        HeldPost {
+            answer: Ok(()),
+            change: None,
+            kept: None,
+        }
+    }
+}
+
+/// The signals that a transaction holds until it commits, in order: those of its members to
+/// processes outside, at most 32, and that of the kernel to the starter's parent once the starter
+/// ended. Each has a place for what its post will change, so that a commit takes no memory.
+#[derive(Drop)]
+pub struct Outbox {
+    sendings: Vec<Sending>,
+    posts: Vec<HeldPost>,
+}
+
+impl Model for Outbox {
+    ghost use Rattle.std.specs.Prelude.{◌≡◌, length};
+    ghost use Rattle.tx_txn.specs.Outboxes.{Held};
+
+    ghost Value = { Held };
+
+    ghost view = { λ outbox. record { sendings = outbox.sendings.items; posts = outbox.posts.items } };
+
+    ghost invariant = { λ outbox. length outbox.posts.items ≡ length outbox.sendings.items };
+}
+
+impl Outbox {
+    /// Nothing is held. It takes no memory.
+    pub fn new(alloc: Global) -> Outbox
+        ensures sendings { result.sendings ≡ [] }
+        ensures posts { result.posts ≡ [] }
+    {
+        Outbox {
+            sendings: Vec::new(alloc),
+            posts: Vec::new(alloc),
+        }
+    }
+
+    /// What is held, in order.
+    pub fn held(&self) -> &[Sending]
+        ensures { result.now ≡ self.now.sendings }
+    {
+        self.sendings.as_slice()
+    }
+
+    /// How many of what is held are of members: 0 to 32 in a machine.
+    pub fn sent_by_members(&self) -> usize
+        ensures { result ≡ sent_by_members (map sending_of self.now.sendings) }
+    {
+        count_sent(self.held())
+    }
+
+    /// Holds one more signal. After want of memory the outbox is as it was.
+    pub fn hold(&mut self, sending: Sending) -> Result<(), NoMemory>
+        ensures sendings { OnOk result (self.new.sendings ≡ self.old.sendings ++ sending ∷ []) }
+        ensures posts { OnOk result (self.new.posts ≡ self.old.posts ++ unmade ∷ []) }
+        ensures err { OnErr result (self.new ≡ self.old) }
+    {
+        self.posts.push(HeldPost::unmade())?;
+        if self.sendings.push(sending).is_err() {
+            self.posts.truncate(self.sendings.len());
+            return Err(NoMemory);
+        }
+        Ok(())
+    }
+
+    /// Forgets the last signal. Nothing happens where none is held.
+    pub fn forget_last(&mut self)
+        ensures sendings { self.new.sendings ≡ take (length self.old.sendings - 1) self.old.sendings }
+        ensures posts { self.new.posts ≡ take (length self.old.posts - 1) self.old.posts }
+    {
+        if let Some(_sending) = self.sendings.pop() {
+            self.posts.truncate(self.sendings.len());
+        }
+    }
+
+    /// Exchanges what the post of the signal at a place came to.
+    pub fn swap_post(&mut self, place: usize, post: &mut HeldPost)
+        requires { place < length self.old.posts }
+        ensures sendings { self.new.sendings ≡ self.old.sendings }
+        ensures posts { self.new.posts ≡ slice_set self.old.posts place post.old }
+        ensures given { post.new ≡ slice_index_or self.old.posts place post.old }
+    {
+        mem::swap(&mut self.posts[place], post);
+    }
+}
+
+/// How many of the signals members sent.
+fn count_sent(held: &[Sending]) -> usize
+    ensures { result ≡ sent_by_members (map sending_of held.now) }
+{
+    let mut sent = 0;
+    for place in 0..held.len() {
+        sent += senders(&held[place]);
+    }
+    sent
+}
+
+/// 1 where a member sent the signal, 0 where the kernel did.
+fn senders(sending: &Sending) -> usize
+    ensures { result ≡ has_sender (sender_of sending.now.from) }
+{
+    match sending.from {
+        Some(_) => 1,
+        None => 0,
+    }
+}
