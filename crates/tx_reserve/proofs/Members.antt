@@ -1,5 +1,5 @@
 -- Objects, their places, and the sets that have their bits.
-use Rattle.std.proofs.Common.{◌≡◌, ℕ, zero, suc, ◌+◌, ◌-◌, ◌*◌, ◌/◌, ◌%◌, ◌^◌, ◌<◌, ◌≤◌, Bool, true, false, not, ◌&&◌, ◌||◌, List, length, if◌then◌else◌, ◌==◌, min, max, bit_and, bit_or, w32, arith, refl, ap, ap₂, sym, ◌∙◌, inl, inr, get_or, eqb-true, add-one, replicate, slice_set, nat_lt, Option, Some, None, is_some, IfNone, IfSome, IsTrue, ◌↔◌}
+use Rattle.std.proofs.Common.{◌≡◌, ℕ, zero, suc, ◌+◌, ◌-◌, ◌*◌, ◌/◌, ◌%◌, ◌^◌, ◌<◌, ◌≤◌, Bool, true, false, not, ◌&&◌, ◌||◌, List, length, if◌then◌else◌, ◌==◌, min, max, bit_and, bit_or, w32, arith, refl, ap, ap₂, sym, ◌∙◌, inl, inr, get_or, eqb-true, eq-eqb, add-one, replicate, slice_set, nat_lt, Option, Some, None, is_some, IfNone, IfSome, IsTrue, ◌↔◌}
 use Rattle.std.specs.List.{sum}
 use Rattle.std.proofs.lemmas.Bool.{cases_Bool, cases_lt, both_ways, ltb-true, lt-ltb}
 use Rattle.std.proofs.lemmas.List.{get_or-replicate, get_or-set_same, get_or-set_other, get_or_past, length-replicate}
@@ -50,26 +50,26 @@ place_below (Desc n) s = let lt = ltb-true n 64 s in omega arith
 place_below (Pipe n) s = let lt = ltb-true n 32 s in omega arith
 place_below (Held n) s = absurd (both_ways false refl s)
 
--- the same object has such a number or has not
-pub same_small : (a b : Object) → same_object a b ≡ true → is_small a ≡ is_small b
-same_small (Proc n) (Proc m) e = ap (λ (k : ℕ). is_small (Proc k)) (eqb-true n m e)
-same_small (Proc n) (Desc m) e = absurd (both_ways false refl e)
-same_small (Proc n) (Pipe m) e = absurd (both_ways false refl e)
-same_small (Proc n) (Held m) e = absurd (both_ways false refl e)
-same_small (Desc n) (Proc m) e = absurd (both_ways false refl e)
-same_small (Desc n) (Desc m) e = ap (λ (k : ℕ). is_small (Desc k)) (eqb-true n m e)
-same_small (Desc n) (Pipe m) e = absurd (both_ways false refl e)
-same_small (Desc n) (Held m) e = absurd (both_ways false refl e)
-same_small (Pipe n) (Proc m) e = absurd (both_ways false refl e)
-same_small (Pipe n) (Desc m) e = absurd (both_ways false refl e)
-same_small (Pipe n) (Pipe m) e = ap (λ (k : ℕ). is_small (Pipe k)) (eqb-true n m e)
-same_small (Pipe n) (Held m) e = absurd (both_ways false refl e)
-same_small (Held n) (Proc m) e = absurd (both_ways false refl e)
-same_small (Held n) (Desc m) e = absurd (both_ways false refl e)
-same_small (Held n) (Pipe m) e = absurd (both_ways false refl e)
-same_small (Held n) (Held m) e = refl
+-- objects that are tested to be the same are the same
+pub same_is : (a b : Object) → same_object a b ≡ true → a ≡ b
+same_is (Proc n) (Proc m) e = ap Proc (eqb-true n m e)
+same_is (Proc n) (Desc m) e = absurd (both_ways false refl e)
+same_is (Proc n) (Pipe m) e = absurd (both_ways false refl e)
+same_is (Proc n) (Held m) e = absurd (both_ways false refl e)
+same_is (Desc n) (Proc m) e = absurd (both_ways false refl e)
+same_is (Desc n) (Desc m) e = ap Desc (eqb-true n m e)
+same_is (Desc n) (Pipe m) e = absurd (both_ways false refl e)
+same_is (Desc n) (Held m) e = absurd (both_ways false refl e)
+same_is (Pipe n) (Proc m) e = absurd (both_ways false refl e)
+same_is (Pipe n) (Desc m) e = absurd (both_ways false refl e)
+same_is (Pipe n) (Pipe m) e = ap Pipe (eqb-true n m e)
+same_is (Pipe n) (Held m) e = absurd (both_ways false refl e)
+same_is (Held n) (Proc m) e = absurd (both_ways false refl e)
+same_is (Held n) (Desc m) e = absurd (both_ways false refl e)
+same_is (Held n) (Pipe m) e = absurd (both_ways false refl e)
+same_is (Held n) (Held m) e = ap Held (eqb-true n m e)
 
-both_same : (t b : Bool) → (if t then b else b) ≡ b
+pub both_same : {A : Type 0} (t : Bool) (b : A) → (if t then b else b) ≡ b
 both_same true b = refl
 both_same false b = refl
 
@@ -115,7 +115,7 @@ taken_out before after x o place small is at =
 -- a number that there may not be leaves the set
 pub none_put : (before : Objects) (x o : Object) → is_small x ≡ false → is_in before o ≡ (if same_object o x then is_small o else is_in before o)
 none_put before x o large = elim (cases_Bool (same_object o x)) [
-  | inl e ↦ rw e (sym (not_in before o (same_small o x e ∙ large)) ∙ sym (same_small o x e ∙ large))
+  | inl e ↦ rw e (sym (not_in before o (ap is_small (same_is o x e) ∙ large)) ∙ sym (ap is_small (same_is o x e) ∙ large))
   | inr e ↦ rw e refl
 ]
 
@@ -278,3 +278,16 @@ empty_test objects (Some p) false test none within set = (
   λ all. let found = object_of_place p within in
       absurd (both_ways (is_in objects found.0) (all found.0) (sym (in_by_place objects found.0 p found.1.0 found.1.1) ∙ set)),
 )
+
+-- what is in a set has a number that there may be
+pub in_small : (objects : Objects) (o : Object) → is_in objects o ≡ true → is_small o ≡ true
+in_small objects o there = elim (cases_Bool (is_small o)) [
+  | inl e ↦ e
+  | inr e ↦ absurd (both_ways (is_in objects o) (sym (not_in objects o e)) there)
+]
+
+pub same_self : (o : Object) → same_object o o ≡ true
+same_self (Proc n) = eq-eqb n n refl
+same_self (Desc n) = eq-eqb n n refl
+same_self (Pipe n) = eq-eqb n n refl
+same_self (Held n) = eq-eqb n n refl

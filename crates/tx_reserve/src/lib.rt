@@ -3,5 +3,7 @@
 #![tactic(auto)]
 
 mod objects;
+mod reservations;
 
 pub use objects::{Object, Objects};
+pub use reservations::Reservations;
