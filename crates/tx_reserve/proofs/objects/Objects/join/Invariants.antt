@@ -1,0 +1,9 @@
+use Rattle.std.proofs.Common.{◌≡◌, ℕ, ◌<◌, ◌≤◌, bit_or, get_or, length}
+use Rattle.tx_reserve.proofs.objects.Objects.join.Given as goal
+
+abbrev pub invariant-loop-i : goal.invariant-loop-i
+invariant-loop-i l = record {
+  sized : length l.words ≡ 11;
+  done : (k : ℕ) → k < l.i → get_or l.words k 0 ≡ bit_or (get_or l.self.words k 0) (get_or l.other.words k 0);
+  ahead : (k : ℕ) → l.i ≤ k → get_or l.words k 0 ≡ get_or l.self.words k 0;
+}

@@ -1,0 +1,9 @@
+//! What the steps of transactions reserve: sets of objects, who owns each, and the footprint of a
+//! step. Nothing but `Reservations::new` takes memory.
+#![tactic(auto)]
+
+mod objects;
+mod reservations;
+
+pub use objects::{Object, Objects};
+pub use reservations::Reservations;

@@ -1,0 +1,125 @@
+//! Who owns which object.
+ghost use Rattle.std.specs.Prelude.{◌≡◌, None, Some, false, if◌then◌else◌, is_some, option_map, IfOk};
+ghost use Rattle.tx_model.specs.State.{Object as TheObject, same_object};
+ghost use Rattle.tx_reserve.specs.Objects.{is_in, is_small, object_of};
+ghost use Rattle.tx_reserve.specs.Reservations.{IsLeast, lesser_of, number_of, owner_of, unless};
+
+use crate::objects::{Object, Objects};
+use std::alloc::Global;
+use std::marker::Model;
+use tx_base::{NoMemory, Pid};
+
+/// How many objects there may be: processes 1 to 256, descriptions 0 to 63, pipes 0 to 31.
+const PLACES: usize = 352;
+
+/// For each object the starter of the transaction that reserved it, if one did. Contracts see a
+/// list of owners, by the places of objects.
+#[derive(Drop)]
+pub struct Reservations {
+    places: Vec<Option<Pid>>,
+}
+
+impl Model for Reservations {
+    ghost use Rattle.std.specs.Prelude.{◌≡◌, List, Option, length};
+    ghost use Rattle.tx_base.specs.declared.names.Pid.{Pid as ThePid};
+
+    ghost Value = { List (Option ThePid) };
+
+    ghost view = { λ table. table.places.items };
+
+    ghost invariant = { λ table. length table.places.items ≡ 352 };
+}
+
+impl Reservations {
+    /// Nobody owns anything. The room for all owners is made here.
+    ///
+    /// NoMemory where a growth is refused.
+    pub fn new(alloc: Global) -> Result<Reservations, NoMemory>
+        ensures { IfOk result (λ table. (o : TheObject) → owner_of table o ≡ None) }
+    {
+        let mut places = Vec::with_capacity(alloc, PLACES)?;
+        for _place in 0..PLACES {
+            places.push(None)?;
+        }
+        Ok(Reservations { places })
+    }
+
+    /// The starter of the transaction that reserved the object; nothing where none did.
+    pub fn owner(&self, object: Object) -> Option<Pid>
+        ensures { option_map number_of result ≡ owner_of self.now (object_of object) }
+    {
+        let place = object.place()?;
+        self.places[place]
+    }
+
+    /// Gives the object this owner; an object of a number that none may have stays nobody's.
+    fn set_owner(&mut self, object: Object, owner: Option<Pid>)
+        ensures { (o : TheObject) → owner_of self.new o ≡ (if same_object o (object_of object) then (if is_small o then option_map number_of owner else None) else owner_of self.old o) }
+    {
+        if let Some(place) = object.place() {
+            self.places[place] = owner;
+        }
+    }
+
+    /// The least starter but this own one that owns one of the objects: the one that a busy step
+    /// names. Nothing where nobody else owns one.
+    pub fn conflict(&self, objects: &Objects, own: Option<Pid>) -> Option<Pid>
+        ensures { IsLeast (is_in objects.now) (λ o. unless (option_map number_of own) (owner_of self.now o)) (option_map number_of result) }
+    {
+        let mut least = None;
+        let mut rest = *objects;
+        while let Some(object) = rest.pop() {
+            least = lesser(self.other_owner(object, own), least);
+        }
+        least
+    }
+
+    /// The object's owner, unless it is this own one.
+    fn other_owner(&self, object: Object, own: Option<Pid>) -> Option<Pid>
+        ensures { option_map number_of result ≡ unless (option_map number_of own) (owner_of self.now (object_of object)) }
+    {
+        let owner = self.owner(object)?;
+        if own == Some(owner) {
+            None
+        } else {
+            Some(owner)
+        }
+    }
+
+    /// Makes the objects the starter's, and answers which of them nobody owned before.
+    pub fn take(&mut self, starter: Pid, objects: &Objects) -> Objects
+        ensures taken { (o : TheObject) → owner_of self.new o ≡ (if is_in objects.now o then Some starter.0 else owner_of self.old o) }
+        ensures fresh { (o : TheObject) → is_in result o ≡ (if is_some (owner_of self.old o) then false else is_in objects.now o) }
+    {
+        let mut fresh = Objects::new();
+        let mut rest = *objects;
+        while let Some(object) = rest.pop() {
+            if self.owner(object).is_none() {
+                fresh.insert(object);
+            }
+            self.set_owner(object, Some(starter));
+        }
+        fresh
+    }
+
+    /// Makes the objects nobody's.
+    pub fn release(&mut self, objects: &Objects)
+        ensures { (o : TheObject) → owner_of self.new o ≡ (if is_in objects.now o then None else owner_of self.old o) }
+    {
+        let mut rest = *objects;
+        while let Some(object) = rest.pop() {
+            self.set_owner(object, None);
+        }
+    }
+}
+
+/// The lesser of two numbers, of which either may be missing.
+fn lesser(a: Option<Pid>, b: Option<Pid>) -> Option<Pid>
+    ensures { option_map number_of result ≡ lesser_of (option_map number_of a) (option_map number_of b) }
+{
+    match (a, b) {
+        (None, b) => b,
+        (Some(a), Some(b)) if b.0 < a.0 => Some(b),
+        (a, _) => a,
+    }
+}
