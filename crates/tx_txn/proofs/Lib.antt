@@ -1,2 +1,3 @@
 pub mod Senders
 pub mod KeptPosts
+pub mod MemberMarks

@@ -1,3 +1,4 @@
 pub mod KeptParts
 pub mod Outboxes
 pub mod Txns
+pub mod Marks

@@ -3,9 +3,11 @@
 #![tactic(auto)]
 
 mod kept;
+mod members;
 mod outbox;
 mod txn;
 
+pub use members::{Members, is_last_open};
 pub use kept::{Kept, Unpost};
 pub use outbox::{HeldPost, Outbox};
 pub use txn::Txn;
