@@ -23,3 +23,5 @@ mod pipe;
 mod proc;
 #[cfg(test)]
 mod signal;
+#[cfg(test)]
+mod txn;

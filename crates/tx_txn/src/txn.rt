@@ -1,20 +1,27 @@
 //! A live transaction.
-ghost use Rattle.std.specs.Prelude.{◌≡◌, ◌≤◌, length, map};
+ghost use Rattle.std.specs.Prelude.{◌≡◌, ◌≤◌, ◌&&◌, ◌||◌, ℕ, true, false, not, if◌then◌else◌, Some, None, is_some, length, map};
 ghost use Rattle.tx_base.specs.Slots.{slot_at};
 ghost use Rattle.tx_change.specs.Exchange.{AreNamed, applied, exchanged, reverted, undone};
 ghost use Rattle.tx_kernel.specs.Actors.{transaction_of};
 ghost use Rattle.tx_model.specs.Sends.{sent_by_members};
 ghost use Rattle.tx_proc.specs.Parts.{pending_in};
+ghost use Rattle.tx_model.specs.Membership.{is_of, unmarked};
+ghost use Rattle.tx_model.specs.State.{Object, Proc};
+ghost use Rattle.tx_reserve.specs.Objects.{is_in};
+ghost use Rattle.tx_reserve.specs.Reservations.{owner_of};
+ghost use Rattle.tx_txn.specs.Marks.{IsCovered, ended_of, mark_of, no_members};
 ghost use Rattle.tx_txn.specs.Txns.{inside_at, none_held, with_pending_at};
 ghost use Rattle.tx_kernel.specs.Plans.{sending_of};
 
 use crate::kept::Kept;
+use crate::members::Members;
 use crate::outbox::Outbox;
 use std::alloc::Global;
 use tx_base::{Mark, Pid, Slots};
 use tx_change::{Log, Parts, appended};
 use tx_kernel::Inside;
-use tx_proc::Proc;
+use tx_proc::Proc as Process;
+use tx_reserve::{Objects, Reservations};
 
 /// A live transaction: what leads back to where it began, and what it holds until it commits.
 #[derive(Drop)]
@@ -29,18 +36,24 @@ pub struct Txn {
     pub log: Log,
     /// What its members sent to others.
     pub outbox: Outbox,
+    /// What its members' steps reserved.
+    pub objects: Objects,
+    /// Who its members were, once it ended.
+    pub members: Members,
 }
 
 impl Txn {
     /// A transaction that the process begins, with the old parts of its first step. It
     /// takes no memory.
-    pub fn begin(alloc: Global, starter: Pid, defers: bool, proc: &Proc, log: Log) -> Txn
+    pub fn begin(alloc: Global, starter: Pid, defers: bool, proc: &Process, log: Log) -> Txn
         ensures starter { result.starter ≡ starter }
         ensures defers { result.defers ≡ defers }
         ensures ids { result.kept.ids ≡ proc.now.cred }
         ensures pending { result.kept.pending ≡ proc.now.pending }
         ensures log { result.log ≡ log }
         ensures outbox { result.outbox ≡ none_held }
+        ensures objects { (o : Object) → is_in result.objects o ≡ false }
+        ensures members { result.members ≡ no_members }
     {
         Txn {
             starter,
@@ -48,7 +61,59 @@ impl Txn {
             kept: Kept::of(proc),
             log,
             outbox: Outbox::new(alloc),
+            objects: Objects::new(),
+            members: Members::none(),
         }
+    }
+
+    /// Reserves what a step of a member names. Answers what of it nobody owned before.
+    pub fn reserve(&mut self, owners: &mut Reservations, objects: &Objects) -> Objects
+        ensures owners { (o : Object) → owner_of owners.new o ≡ (if is_in objects.now o then Some self.old.starter.0 else owner_of owners.old o) }
+        ensures fresh { (o : Object) → is_in result o ≡ (if is_some (owner_of owners.old o) then false else is_in objects.now o) }
+        ensures objects { (o : Object) → is_in self.new.objects o ≡ (is_in self.old.objects o || is_in result o) }
+        ensures rest { self.new ≡ record self.old { objects = self.new.objects } }
+    {
+        let fresh = owners.take(self.starter, objects);
+        self.objects = self.objects.join(&fresh);
+        fresh
+    }
+
+    /// Gives up what a step had reserved first.
+    pub fn give_up(&mut self, owners: &mut Reservations, fresh: &Objects)
+        ensures owners { (o : Object) → owner_of owners.new o ≡ (if is_in fresh.now o then None else owner_of owners.old o) }
+        ensures objects { (o : Object) → is_in self.new.objects o ≡ (is_in self.old.objects o && not (is_in fresh.now o)) }
+        ensures rest { self.new ≡ record self.old { objects = self.new.objects } }
+    {
+        owners.release(fresh);
+        self.objects = self.objects.less(fresh);
+    }
+
+    /// Ends the transaction, whose members are among its objects: its marks are taken out, and what it
+    /// reserved is nobody's. It takes no memory, and goes over its objects alone.
+    pub fn end(&mut self, marks: &mut Slots<Mark>, owners: &mut Reservations)
+        requires { IsCovered self.old.starter.0 marks.old self.old.objects }
+        ensures marks { (n : ℕ) → slot_at marks.new n ≡ unmarked self.old.starter.0 (slot_at marks.old n) }
+        ensures length { length marks.new ≡ length marks.old }
+        ensures owners { (o : Object) → owner_of owners.new o ≡ (if is_in self.old.objects o then None else owner_of owners.old o) }
+        ensures joined { (n : ℕ) → is_in self.new.members.joined (Proc n) ≡ is_of self.old.starter.0 (slot_at marks.old n) }
+        ensures ended { (n : ℕ) → is_in self.new.members.ended (Proc n) ≡ ended_of self.old.starter.0 (slot_at marks.old n) }
+        ensures rest { self.new ≡ record self.old { members = self.new.members } }
+    {
+        self.members = Members::take(marks, self.starter, &self.objects);
+        owners.release(&self.objects);
+    }
+
+    /// Takes the end back: the marks of its members are put back, and what it reserved is its own.
+    pub fn revive(&mut self, marks: &mut Slots<Mark>, owners: &mut Reservations)
+        requires { (n : ℕ) → is_in self.old.members.joined (Proc n) ≡ true → n ≤ length marks.old }
+        ensures marks { (n : ℕ) → slot_at marks.new n ≡ (if is_in self.old.members.joined (Proc n) then Some (mark_of self.old.starter self.old.members n self.old.defers) else slot_at marks.old n) }
+        ensures length { length marks.new ≡ length marks.old }
+        ensures owners { (o : Object) → owner_of owners.new o ≡ (if is_in self.old.objects o then Some self.old.starter.0 else owner_of owners.old o) }
+        ensures rest { self.new ≡ record self.old { members = no_members } }
+    {
+        self.members.put_back(marks, self.starter, self.defers);
+        self.members = Members::none();
+        let _fresh = owners.take(self.starter, &self.objects);
     }
 
     /// Leads the transaction back: all parts that its log names are as they were when it began, and
