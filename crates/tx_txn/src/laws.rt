@@ -1,0 +1,66 @@
+//! The laws of logs and kept signals, as the contracts of functions that do nothing.
+ghost use Rattle.tx_txn.specs.Laws.{ContentFollowsRole, ContentFollowsStep, ContentIsKept, DoomIsPending, HolderIsOfFaces, InWayIsOfFaces, LogLaws, LogLeadsBack, RoleLaws, StartContentHasItsView, StartContentIsKept, StepLeadsBack, TwoAnswersAreOfFaces};
+
+use tx_change::{appended, changes_state};
+use tx_laws::{answers_of_parts, locality, step_by_step, two_parts};
+
+/// The laws that those of contents stand on. It does nothing.
+fn role_laws()
+    ensures { RoleLaws }
+{
+    step_by_step();
+    two_parts();
+    answers_of_parts();
+    locality();
+}
+
+/// The laws that those of logs stand on. It does nothing.
+fn log_laws()
+    ensures { LogLaws }
+{
+    changes_state();
+    appended();
+}
+
+/// A content of logs and kept signals has the next view after a step in each role, of which it reads no
+/// more on the kept side than what is pending at live starters, and their ids; and what is so of every
+/// content is so of the next one, as long as nothing is held where no transaction is live.
+pub fn logs_keep()
+    ensures role { ContentFollowsRole }
+    ensures kept { ContentIsKept }
+    ensures step { ContentFollowsStep }
+{
+    role_laws();
+}
+
+/// What the exchanges of a step took leads the state back, where each names an object that the step
+/// reserves. A log that was led back, with the kept pending part put at the starter, leads the state back
+/// by the transaction.
+pub fn logs_lead_back()
+    ensures step { StepLeadsBack }
+    ensures abort { LogLeadsBack }
+{
+    log_laws();
+}
+
+/// The answers of a content of logs and kept signals. A live transaction is doomed if SIGKILL is kept as
+/// pending. Whether posts have two answers at its starter depends on the starter's ids, on whether it has
+/// ended, and on how many signals are queued, each as it is now and as it is kept; and so does who is in
+/// the way of an event, and the holder.
+pub fn answers_of_faces()
+    ensures doom { DoomIsPending }
+    ensures two_answers { TwoAnswersAreOfFaces }
+    ensures in_way { InWayIsOfFaces }
+    ensures holder { HolderIsOfFaces }
+{
+    role_laws();
+}
+
+/// The content at the start, in which no transaction is live, has the view of the empty history; and what
+/// is so of every content is so of it, where nothing is held.
+pub fn start_is_kept()
+    ensures view { StartContentHasItsView }
+    ensures kept { StartContentIsKept }
+{
+    role_laws();
+}

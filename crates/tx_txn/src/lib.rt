@@ -1,0 +1,7 @@
+//! Live transactions: a log of what their members changed, and what is kept of their starter's
+//! signals. The laws say when such logs have the view of the history.
+#![tactic(auto)]
+
+mod laws;
+
+pub use laws::{answers_of_faces, logs_keep, logs_lead_back, start_is_kept};
