@@ -1,0 +1,6 @@
+pub mod Facts
+pub mod Overlays
+pub mod Posted
+pub mod OfLogs
+pub mod Owned
+pub mod Roles

@@ -2,7 +2,7 @@
 use Rattle.std.specs.Prelude.{◌≡◌, ◌≤◌, ℕ, true, false, List, [], Option, Some, if◌then◌else◌, ◌==◌, length}
 use Rattle.tx_base.specs.declared.steps.Step.{Step}
 use Rattle.tx_change.specs.Exchange.{AreNamed, undone}
-use Rattle.tx_change.specs.Laws.{AppliedAppended, ChangedAppended, ChangesState, ChangesStateInTurn, NamedAppended, SizesStay}
+use Rattle.tx_change.specs.Laws.{AppliedAppended, ChangedAppended, ChangesState, ChangesStateInTurn, ListNamesItsObjects, NamedAppended, SizesStay}
 use Rattle.tx_change.specs.States.{state_of}
 use Rattle.tx_change.specs.declared.change.Change.{Change}
 use Rattle.tx_change.specs.declared.parts.Parts.{Parts}
@@ -101,6 +101,8 @@ pub record RoleLaws : Type 0 where
   pub actor : ActorIsObject
   pub parts : OtherPartsStay
   pub sends : OthersGetSendsAlone
+  pub appended : ChangedAppended
+  pub elsewhere : ListNamesItsObjects
 
 -- what the laws of logs stand on
 pub record LogLaws : Type 0 where

@@ -1,7 +1,7 @@
 //! The laws of logs and kept signals, as the contracts of functions that do nothing.
 ghost use Rattle.tx_txn.specs.Laws.{ContentFollowsRole, ContentFollowsStep, ContentIsKept, DoomIsPending, HolderIsOfFaces, InWayIsOfFaces, LogLaws, LogLeadsBack, RoleLaws, StartContentHasItsView, StartContentIsKept, StepLeadsBack, TwoAnswersAreOfFaces};
 
-use tx_change::{appended, changes_state};
+use tx_change::{appended, changes_state, lists_change_state};
 use tx_laws::{answers_of_parts, locality, step_by_step, two_parts};
 
 /// The laws that those of contents stand on. It does nothing.
@@ -12,6 +12,8 @@ fn role_laws()
     two_parts();
     answers_of_parts();
     locality();
+    appended();
+    lists_change_state();
 }
 
 /// The laws that those of logs stand on. It does nothing.

@@ -1,0 +1,8 @@
+use Rattle.tx_txn.proofs.OfLogs.{step_leads_back, log_leads_back}
+use Rattle.tx_txn.proofs.laws.logs_lead_back.Goals as goal
+
+pub returns-clause-step : goal.returns-clause-step
+returns-clause-step c = step_leads_back c.log_laws.ensures
+
+pub returns-clause-abort : goal.returns-clause-abort
+returns-clause-abort c = log_leads_back c.log_laws.ensures
