@@ -4,3 +4,5 @@ pub mod Posted
 pub mod OfLogs
 pub mod Owned
 pub mod Roles
+pub mod Upkeep
+pub mod Answered
