@@ -3,7 +3,7 @@ use Rattle.std.proofs.Common.{◌≡◌, ℕ, ◌≤◌, Bool, true, false, List
 use Rattle.tx_base.specs.Slots.{slot_at}
 use Rattle.tx_base.specs.declared.names.Pid.{Pid}
 use Rattle.tx_change.specs.Exchange.{Sizes, object_of, parts_after, AreNamed, applied, undone, sizes_of}
-use Rattle.tx_change.specs.States.{state_of, changed_by}
+use Rattle.tx_change.specs.States.{state_of, changed, changed_by}
 use Rattle.tx_change.specs.declared.change.Change.{Change}
 use Rattle.tx_change.specs.declared.change.Change.TheVariants.{Slot}
 use Rattle.tx_change.specs.declared.parts.Parts.{Parts}
@@ -88,20 +88,20 @@ module _ (laws : LogLaws) where
   put_over : (held : ℕ → List Sending) (parts : Parts) (s : ℕ) (pending : PendingView) → 1 ≤ s → s ≤ length parts.procs
       → state_of (λ n. if n == s then [] else held n) (with_pending_at s pending parts) ≡ with_kept s pending (state_of held parts)
   put_over held parts s pending low high =
-      laws.one (λ n. if n == s then [] else held n) parts (Slot (record { 0 = s }) (with_pending_in pending (slot_at parts.procs s))) (record { low = low; high = high })
-      ∙ state_ext _ (with_kept s pending (state_of held parts)) refl at
+      laws.one released parts (put parts) (record { low = low; high = high })
+      ∙ state_ext (changed (put parts) (state_of released parts)) (with_kept s pending (state_of held parts)) refl at
     where
+      put : Parts → Change
+      put parts = Slot (record { 0 = s }) (with_pending_in pending (slot_at parts.procs s))
+
+      released : ℕ → List Sending
+      released n = if n == s then [] else held n
+
       lay : (x : Option ProcSlot) → process_in (with_pending_in pending x) ≡ overlay pending (process_in x)
       lay None = refl
       lay (Some proc) = refl
 
-      slot : Option ProcSlot
-      slot = with_pending_in pending (slot_at parts.procs s)
-
-      put : State
-      put = Rattle.tx_change.specs.States.changed (Slot (record { 0 = s }) (with_pending_in pending (slot_at parts.procs s))) (state_of (λ n. if n == s then [] else held n) parts)
-
-      at : (o : Object) → AgreePart (Rattle.tx_change.specs.States.changed (Slot (record { 0 = s }) (with_pending_in pending (slot_at parts.procs s))) (state_of (λ n. if n == s then [] else held n) parts)) (with_kept s pending (state_of held parts)) o
+      at : (o : Object) → AgreePart (changed (put parts) (state_of released parts)) (with_kept s pending (state_of held parts)) o
       at (Proc n) = by (n == s) (λ z. eqb-true n s z)
         where
           by : (b : Bool) → (b ≡ true → n ≡ s)

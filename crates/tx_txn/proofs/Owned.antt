@@ -4,14 +4,14 @@ use Rattle.std.proofs.lemmas.Bool.{both_ways}
 use Rattle.tx_change.specs.States.{changed_by}
 use Rattle.tx_change.specs.declared.change.Change.{Change}
 use Rattle.tx_laws.specs.Fits.{IsIn, FitsWithin}
-use Rattle.tx_laws.specs.TwoAnswers.{owns_named, parts_in_way}
+use Rattle.tx_laws.specs.TwoAnswers.{owns_named, sends_differ, parts_in_way}
 use Rattle.tx_laws.specs.TwoParts.{is_owner, parts_view, made}
 use Rattle.tx_model.specs.Effects.{send_answers}
 use Rattle.tx_model.specs.Events.{Event, actor, effect, objects, after}
 use Rattle.tx_model.specs.History.{is_other_starter, targets, processes_of, event_footprint, objects_reserved}
 use Rattle.tx_model.specs.Membership.{Table, Progress, is_member_of, is_live}
 use Rattle.tx_model.specs.Posts.{posts}
-use Rattle.tx_model.specs.State.{State, Sending, Object, Proc, Desc, Pipe, Held, AgreePart, same_object, has}
+use Rattle.tx_model.specs.State.{Process, State, Sending, Object, Proc, Desc, Pipe, Held, AgreePart, same_object, has}
 use Rattle.tx_model.specs.View.{IsClear, in_way}
 use Rattle.tx_signal.specs.Parts.{PendingView}
 use Rattle.tx_txn.specs.Content.{Txn, Content, overlay, with_kept, led_by, kept_for, kept_of, two_parts_of, is_named, IsKept}
@@ -40,7 +40,7 @@ other_live t p n h = by (is_live t n) h
     by true k = refl
     by false k = cc
 
-laid : (P : PendingView) (x : Option _) (f : Face) → face_of (overlay P x) ≡ Some f → pending_in (overlay P x) ≡ P
+laid : (P : PendingView) (x : Option Process) (f : Face) → face_of (overlay P x) ≡ Some f → pending_in (overlay P x) ≡ P
 laid P None f h = cc
 laid P (Some q) f h = refl
 
@@ -133,7 +133,7 @@ module _ (laws : RoleLaws) where
           by : (b : Bool) → is_member_of c.table t (actor ev) ≡ b → b ≡ true
           by true e = refl
           by false e =
-              let z : (if owns_named (two_parts_of c) ev t then true else Rattle.tx_laws.specs.TwoAnswers.sends_differ (two_parts_of c) ev t) ≡ false = rw (live, e) at passed in
+              let z : (if owns_named (two_parts_of c) ev t then true else sends_differ (two_parts_of c) ev t) ≡ false = rw (live, e) at passed in
               absurd (meets_not (event_footprint c.table ev c.now) (λ q. is_owner t (c.owner q)) o f (owner_self t (c.owner o) h) (none_left _ _ z).0)
 
       -- an event of another process names nothing of a transaction

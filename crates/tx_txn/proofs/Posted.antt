@@ -39,9 +39,6 @@ pub pending_received : (m : Sending) (x : Option Process) → pending_in (receiv
 pending_received m None = refl
 pending_received m (Some q) = by (may_signal m.from q.ids) (is_quiet m q) (is_realtime m.signo) (has_room q)
   where
-    lone : Process
-    lone = alone (pending_of q)
-
     by : (a b r d : Bool) → pending_of (if a then (if b then q else (if r then (if d then with_queued m q else q) else with_pending m.signo q)) else q)
         ≡ (if a then (if b then pending_of q else pending_of (if r then (if d then with_queued m (alone (pending_of q)) else alone (pending_of q)) else with_pending m.signo (alone (pending_of q)))) else pending_of q)
     by false b r d = refl
@@ -62,9 +59,6 @@ pub queued_received : (m : Sending) (x : Option Process) → queued_in (received
 queued_received m None = refl
 queued_received m (Some q) = by (may_signal m.from q.ids) (is_quiet m q) (is_realtime m.signo) (has_room q)
   where
-    entry : Queued
-    entry = record { signo = m.signo; value = m.value }
-
     by : (a b r d : Bool) → length (pending_of (if a then (if b then q else (if r then (if d then with_queued m q else q) else with_pending m.signo q)) else q)).queued
         ≡ (if a then (if b then length q.queued else (if r then (if d then length q.queued + 1 else length q.queued) else length q.queued)) else length q.queued)
     by false b r d = refl

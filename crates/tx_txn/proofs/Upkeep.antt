@@ -5,12 +5,12 @@ use Rattle.tx_base.specs.declared.steps.Step.{Step}
 use Rattle.tx_change.specs.declared.change.Change.{Change}
 use Rattle.tx_laws.specs.Fits.{FitsWithin, Fits, Passes}
 use Rattle.tx_laws.specs.Sound.{IsSound}
-use Rattle.tx_laws.specs.TwoParts.{in_set, parts_without, parts_view, freed, made}
+use Rattle.tx_laws.specs.TwoParts.{in_set, is_owner, parts_without, parts_view, freed, made}
 use Rattle.tx_model.specs.Answer.{answer, is_running, IsAccepted}
 use Rattle.tx_model.specs.Events.{Event, Note, process_of, actor, effect, objects}
 use Rattle.tx_model.specs.History.{just, targets, event_footprint, objects_reserved}
 use Rattle.tx_model.specs.Membership.{Progress, Role, Outside, Within, Commits, Aborts, is_live, table_after}
-use Rattle.tx_model.specs.State.{Process, State, Sending, Object, Proc, Held, put_at, has}
+use Rattle.tx_model.specs.State.{Ids, Process, State, Sending, Object, Proc, Held, put_at, has}
 use Rattle.tx_model.specs.View.{View, IsClear, next, next_by, role_on, event_on}
 use Rattle.tx_txn.specs.Content.{Txn, Content, kept_of, two_parts_of, is_named, IsKept, OthersHoldNothing}
 use Rattle.tx_txn.specs.Faces.{face_of, running, pending_in}
@@ -18,7 +18,7 @@ use Rattle.tx_txn.specs.Laws.{RoleLaws}
 use Rattle.tx_txn.specs.Steps.{ids_in, posted, logged, next_content, Logs, IsNext}
 use Rattle.tx_txn.proofs.Facts.{pick_true, in_just, has_left, reserved_foot, owner_true, freed_else, of_other, of_unmarked}
 use Rattle.tx_txn.proofs.OfLogs.{named_append}
-use Rattle.tx_txn.proofs.Owned.{live_txn, txn_of, own_proc, made_face, posted_face, own_reserved}
+use Rattle.tx_txn.proofs.Owned.{live_txn, live_of, txn_of, own_proc, made_face, posted_face, own_reserved}
 use Rattle.tx_txn.proofs.Roles.{outside_kept, commits_kept, aborts_kept, to_keep, keeps_now, keeps_old, within_kept, next_view}
 
 some_posted : (s : ℕ) (ms : List Sending) (x : Option Txn) → is_some (posted s ms x) ≡ is_some x
@@ -130,7 +130,7 @@ module _ (laws : RoleLaws) (c : Content) (k : IsKept c) where
     unfolding parts_view next_content
     live_else u n = by (is_live c.table u) (is_live (table_after (Within s part) p c.table) u) refl refl
       where
-        was_own : Rattle.tx_laws.specs.TwoParts.is_owner u (C.owner (Held u)) ≡ true → c.owner (Held u) ≡ Some u
+        was_own : is_owner u (C.owner (Held u)) ≡ true → c.owner (Held u) ≡ Some u
         was_own i = of (has (Held u) F) (owner_true u (C.owner (Held u)) i)
           where
             of : (b : Bool) → (if b then Some s else c.owner (Held u)) ≡ Some u → c.owner (Held u) ≡ Some u
@@ -143,7 +143,7 @@ module _ (laws : RoleLaws) (c : Content) (k : IsKept c) where
         by true false h j =
             absurd (both_ways (is_live (table_after (Within s part) p c.table) u) j (live_by (Proc u) u (own_old (Proc u) u (own_proc c k u h))))
         by false true h j =
-            absurd (both_ways (is_live c.table u) h (Rattle.tx_txn.proofs.Owned.live_of c k u (Held u) (was_own (sound.own_held u j))))
+            absurd (both_ways (is_live c.table u) h (live_of c k u (Held u) (was_own (sound.own_held u j))))
 
     within_live : (u : ℕ) → is_some (put_at c.txns s (logged new (c.now.procs s) (c.txns s)) u) ≡ is_live (table_after (Within s part) p c.table) u
     within_live u = by (u == s) refl
@@ -186,7 +186,7 @@ module _ (laws : RoleLaws) (c : Content) (k : IsKept c) where
     unfolding next_content
     within_starter u t h = by (u == s) refl h
       where
-        ids_of : Option Txn → Rattle.tx_model.specs.State.Ids
+        ids_of : Option Txn → Ids
         ids_of None = ids_in None
         ids_of (Some x) = x.ids
 

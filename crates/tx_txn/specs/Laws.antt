@@ -15,11 +15,12 @@ use Rattle.tx_laws.specs.TwoParts.{parts_view}
 use Rattle.tx_model.specs.Answer.{answer, IsAccepted}
 use Rattle.tx_model.specs.Events.{Event, process_of, objects}
 use Rattle.tx_model.specs.Membership.{Role}
+use Rattle.tx_model.specs.Posts.{post_answer, received}
 use Rattle.tx_model.specs.SignalSets.{kill_signo, is_in_set}
-use Rattle.tx_model.specs.State.{Object, Proc, Sending, State, has}
+use Rattle.tx_model.specs.State.{Object, Proc, Process, Sending, State, has}
 use Rattle.tx_model.specs.View.{view, holder, in_way, has_two_answers, is_doomed, least, next, next_by, role_on, event_on}
-use Rattle.tx_signal.specs.Parts.{PendingView}
 use Rattle.tx_txn.specs.Content.{Txn, Content, IsKept, OthersHoldNothing, led_by, two_parts_of, start_content, starter_differs, stands_in_way}
+use Rattle.tx_txn.specs.Faces.{face_of, pending_in, pending_after, answer_at, queued_after}
 use Rattle.tx_txn.specs.Logs.{newest_first, with_pending_at}
 use Rattle.tx_txn.specs.Steps.{IsNext, LeadsBack, Logs, next_content}
 
@@ -85,6 +86,25 @@ StartContentHasItsView = (start : State) → parts_view (two_parts_of (start_con
 -- where nothing is held, what is so of every content is so of that at the start
 abbrev pub StartContentIsKept : Type 0
 StartContentIsKept = (start : State) → ((s : ℕ) → start.held s ≡ []) → IsKept (start_content start)
+
+-- what a post leaves as pending at its target, the face and what was pending tell
+abbrev pub PostLeavesPending : Type 0
+PostLeavesPending = (sending : Sending) (target : Option Process) →
+    pending_in (received sending target) ≡ pending_after sending (face_of target) (pending_in target)
+
+-- it leaves the face as it was
+abbrev pub PostLeavesFace : Type 0
+PostLeavesFace = (sending : Sending) (target : Option Process) → face_of (received sending target) ≡ face_of target
+
+-- how a post is answered, the face and the length of the queue tell
+abbrev pub PostIsAnsweredByFace : Type 0
+PostIsAnsweredByFace = (sending : Sending) (target : Option Process) →
+    post_answer sending target ≡ answer_at sending (face_of target) (length (pending_in target).queued)
+
+-- and so they tell how many are queued then
+abbrev pub PostLeavesQueued : Type 0
+PostLeavesQueued = (sending : Sending) (target : Option Process) →
+    length (pending_in (received sending target)).queued ≡ queued_after sending (face_of target) (length (pending_in target).queued)
 
 -- what the laws of contents stand on
 pub record RoleLaws : Type 0 where

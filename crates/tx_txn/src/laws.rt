@@ -1,5 +1,5 @@
 //! The laws of logs and kept signals, as the contracts of functions that do nothing.
-ghost use Rattle.tx_txn.specs.Laws.{ContentFollowsRole, ContentFollowsStep, ContentIsKept, DoomIsPending, HolderIsOfFaces, InWayIsOfFaces, LogLaws, LogLeadsBack, RoleLaws, StartContentHasItsView, StartContentIsKept, StepLeadsBack, TwoAnswersAreOfFaces};
+ghost use Rattle.tx_txn.specs.Laws.{ContentFollowsRole, ContentFollowsStep, ContentIsKept, DoomIsPending, HolderIsOfFaces, InWayIsOfFaces, LogLaws, LogLeadsBack, PostIsAnsweredByFace, PostLeavesFace, PostLeavesPending, PostLeavesQueued, RoleLaws, StartContentHasItsView, StartContentIsKept, StepLeadsBack, TwoAnswersAreOfFaces};
 
 use tx_change::{appended, changes_state, lists_change_state};
 use tx_laws::{answers_of_parts, locality, step_by_step, two_parts};
@@ -44,6 +44,16 @@ pub fn logs_lead_back()
 {
     log_laws();
 }
+
+/// What a post does at its target, by the target's face, which are its ids and whether it has ended, and
+/// by what is pending: its answer and how many signals are queued then depend on the length of the queue
+/// alone, and the face stays.
+pub fn posts_by_faces()
+    ensures pending { PostLeavesPending }
+    ensures face { PostLeavesFace }
+    ensures answer { PostIsAnsweredByFace }
+    ensures queued { PostLeavesQueued }
+{}
 
 /// The answers of a content of logs and kept signals. A live transaction is doomed if SIGKILL is kept as
 /// pending. Whether posts have two answers at its starter depends on the starter's ids, on whether it has
