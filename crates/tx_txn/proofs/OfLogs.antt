@@ -2,7 +2,7 @@
 use Rattle.std.proofs.Common.{◌≡◌, ℕ, ◌≤◌, Bool, true, false, List, [], ◌∷◌, ◌++◌, Option, Some, None, if◌then◌else◌, ◌==◌, length, refl, sym, ap, ◌∙◌, subst, inl, inr, ◌⊎◌, eqb-true}
 use Rattle.tx_base.specs.Slots.{slot_at}
 use Rattle.tx_base.specs.declared.names.Pid.{Pid}
-use Rattle.tx_change.specs.Exchange.{Sizes, object_of, parts_after, AreNamed, applied, undone, sizes_of}
+use Rattle.tx_change.specs.Exchange.{Sizes, object_of, parts_after, change_after, AreNamed, applied, undone, reverted, sizes_of}
 use Rattle.tx_change.specs.States.{state_of, changed, changed_by}
 use Rattle.tx_change.specs.declared.change.Change.{Change}
 use Rattle.tx_change.specs.declared.change.Change.TheVariants.{Slot}
@@ -15,7 +15,7 @@ use Rattle.tx_proc.specs.declared.proc.Proc.{Proc as ProcSlot}
 use Rattle.tx_signal.specs.Parts.{PendingView}
 use Rattle.tx_txn.specs.Content.{Txn, overlay, overlay_if, with_kept, led_by, is_named}
 use Rattle.tx_txn.specs.Laws.{LogLaws}
-use Rattle.tx_txn.specs.Logs.{newest_first, with_pending_in, with_pending_at}
+use Rattle.tx_txn.specs.Logs.{newest_first, with_pending_in, with_pending_at, pending_or}
 use Rattle.tx_txn.specs.Steps.{AgreeBut, LeadsBack}
 use Rattle.tx_txn.proofs.Facts.{same_true}
 
@@ -84,6 +84,9 @@ module _ (laws : LogLaws) where
   undone_sizes : (parts : Parts) (log : List Change) → sizes_of (undone parts log) ≡ sizes_of parts
   undone_sizes parts log = ap sizes_of (undone_applied parts log) ∙ laws.sizes parts (newest_first log)
 
+  undone_high : (parts : Parts) (log : List Change) (s : ℕ) → s ≤ length parts.procs → s ≤ length (undone parts log).procs
+  undone_high parts log s high = subst (λ (z : Sizes). s ≤ z.procs) (sym (undone_sizes parts log)) high
+
   -- to put this pending at a process is to put it over that in the state
   put_over : (held : ℕ → List Sending) (parts : Parts) (s : ℕ) (pending : PendingView) → 1 ≤ s → s ≤ length parts.procs
       → state_of (λ n. if n == s then [] else held n) (with_pending_at s pending parts) ≡ with_kept s pending (state_of held parts)
@@ -115,5 +118,37 @@ module _ (laws : LogLaws) where
   pub log_leads_back : (held : ℕ → List Sending) (parts : Parts) (s : ℕ) (log : List Change) (t : Txn) → AreNamed parts log → t.log ≡ newest_first log → 1 ≤ s → s ≤ length parts.procs
       → state_of (λ n. if n == s then [] else held n) (with_pending_at s t.pending (undone parts log)) ≡ led_by s (Some t) (state_of held parts)
   log_leads_back held parts s log t named same low high =
-      put_over held (undone parts log) s t.pending low (subst (λ (z : Sizes). s ≤ z.procs) (sym (undone_sizes parts log)) high)
+      put_over held (undone parts log) s t.pending low (undone_high parts log s high)
       ∙ ap (with_kept s t.pending) (led_back held parts log named ∙ ap (λ (l : List Change). changed_by l (state_of held parts)) (sym same))
+
+  -- to exchange what is pending at a process twice is nothing
+  pending_twice : (parts : Parts) (s : ℕ) (pending : PendingView) → 1 ≤ s → s ≤ length parts.procs
+      → with_pending_at s (pending_or pending (slot_at parts.procs s)) (with_pending_at s pending parts) ≡ parts
+  pending_twice parts s pending low high =
+      ap (λ (x : Option ProcSlot). parts_after there (Slot (record { 0 = s }) x)) (ap (with_pending_in (pending_or pending slot)) (ap slot_of twice.1) ∙ back slot) ∙ twice.0
+    where
+      slot : Option ProcSlot
+      slot = slot_at parts.procs s
+
+      put : Change
+      put = Slot (record { 0 = s }) (with_pending_in pending (slot_at parts.procs s))
+
+      there : Parts
+      there = parts_after parts put
+
+      twice : (parts_after (parts_after parts put) (change_after parts put) ≡ parts) × (change_after (parts_after parts put) (change_after parts put) ≡ put)
+      twice = laws.twice parts put (record { low = low; high = high }) tt
+
+      slot_of : Change → Option ProcSlot
+      slot_of (Slot pid x) = x
+      slot_of change = None
+
+      back : (y : Option ProcSlot) → with_pending_in (pending_or pending y) (with_pending_in pending y) ≡ y
+      back None = refl
+      back (Some proc) = refl
+
+  pub log_goes_forward : (parts : Parts) (s : ℕ) (log : List Change) (pending : PendingView) → AreNamed parts log → 1 ≤ s → s ≤ length parts.procs
+      → applied (with_pending_at s (pending_or pending (slot_at (undone parts log).procs s)) (with_pending_at s pending (undone parts log))) (reverted parts log) ≡ parts
+  log_goes_forward parts s log pending named low high =
+      ap (λ (x : Parts). applied x (reverted parts log)) (pending_twice (undone parts log) s pending low (undone_high parts log s high))
+      ∙ laws.forward parts log named

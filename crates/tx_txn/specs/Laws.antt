@@ -1,8 +1,9 @@
 -- The laws of logs and kept signals, one statement a name, and the laws of tx_laws that they stand on. Own rules.
 use Rattle.std.specs.Prelude.{◌≡◌, ◌≤◌, ℕ, true, false, List, [], Option, Some, if◌then◌else◌, ◌==◌, length}
+use Rattle.tx_base.specs.Slots.{slot_at}
 use Rattle.tx_base.specs.declared.steps.Step.{Step}
-use Rattle.tx_change.specs.Exchange.{AreNamed, undone}
-use Rattle.tx_change.specs.Laws.{AppliedAppended, ChangedAppended, ChangesState, ChangesStateInTurn, ListNamesItsObjects, NamedAppended, SizesStay}
+use Rattle.tx_change.specs.Exchange.{AreNamed, applied, undone, reverted}
+use Rattle.tx_change.specs.Laws.{AppliedAppended, ChangedAppended, ChangesState, ChangesStateInTurn, ListNamesItsObjects, NamedAppended, RevertThenApply, SizesStay, TwiceIsNothing}
 use Rattle.tx_change.specs.States.{state_of}
 use Rattle.tx_change.specs.declared.change.Change.{Change}
 use Rattle.tx_change.specs.declared.parts.Parts.{Parts}
@@ -19,9 +20,10 @@ use Rattle.tx_model.specs.Posts.{post_answer, received}
 use Rattle.tx_model.specs.SignalSets.{kill_signo, is_in_set}
 use Rattle.tx_model.specs.State.{Object, Proc, Process, Sending, State, has}
 use Rattle.tx_model.specs.View.{view, holder, in_way, has_two_answers, is_doomed, least, next, next_by, role_on, event_on}
+use Rattle.tx_signal.specs.Parts.{PendingView}
 use Rattle.tx_txn.specs.Content.{Txn, Content, IsKept, OthersHoldNothing, led_by, two_parts_of, start_content, starter_differs, stands_in_way}
 use Rattle.tx_txn.specs.Faces.{face_of, pending_in, pending_after, answer_at, queued_after}
-use Rattle.tx_txn.specs.Logs.{newest_first, with_pending_at}
+use Rattle.tx_txn.specs.Logs.{newest_first, pending_or, with_pending_at}
 use Rattle.tx_txn.specs.Steps.{IsNext, LeadsBack, Logs, next_content}
 
 -- in each role that goes with the event, the next content has the next view
@@ -57,6 +59,11 @@ abbrev pub LogLeadsBack : Type 0
 LogLeadsBack = (held : ℕ → List Sending) (parts : Parts) (s : ℕ) (log : List Change) (txn : Txn) →
     AreNamed parts log → txn.log ≡ newest_first log → 1 ≤ s → s ≤ length parts.procs →
     state_of (λ n. if n == s then [] else held n) (with_pending_at s txn.pending (undone parts log)) ≡ led_by s (Some txn) (state_of held parts)
+
+-- with the pending parts exchanged once more, and the log that was led back put forward again, the parts are as they were
+abbrev pub LogGoesForward : Type 0
+LogGoesForward = (parts : Parts) (s : ℕ) (log : List Change) (pending : PendingView) → AreNamed parts log → 1 ≤ s → s ≤ length parts.procs →
+    applied (with_pending_at s (pending_or pending (slot_at (undone parts log).procs s)) (with_pending_at s pending (undone parts log))) (reverted parts log) ≡ parts
 
 -- a live transaction is doomed if SIGKILL is kept as pending
 abbrev pub DoomIsPending : Type 0
@@ -131,3 +138,5 @@ pub record LogLaws : Type 0 where
   pub applied : AppliedAppended
   pub named : NamedAppended
   pub sizes : SizesStay
+  pub twice : TwiceIsNothing
+  pub forward : RevertThenApply

@@ -1,7 +1,9 @@
 //! The laws of logs and kept signals, as the contracts of functions that do nothing.
-ghost use Rattle.tx_txn.specs.Laws.{ContentFollowsRole, ContentFollowsStep, ContentIsKept, DoomIsPending, HolderIsOfFaces, InWayIsOfFaces, LogLaws, LogLeadsBack, PostIsAnsweredByFace, PostLeavesFace, PostLeavesPending, PostLeavesQueued, RoleLaws, StartContentHasItsView, StartContentIsKept, StepLeadsBack, TwoAnswersAreOfFaces};
+ghost use Rattle.tx_txn.specs.Laws.{ContentFollowsRole, ContentFollowsStep, ContentIsKept, DoomIsPending, HolderIsOfFaces, InWayIsOfFaces, LogGoesForward, LogLaws, LogLeadsBack, PostIsAnsweredByFace, PostLeavesFace, PostLeavesPending, PostLeavesQueued, RoleLaws, StartContentHasItsView, StartContentIsKept, StepLeadsBack, TwoAnswersAreOfFaces};
 
-use tx_change::{appended, changes_state, lists_change_state};
+use tx_change::{
+    appended, changes_state, lists_change_state, revert_then_apply, twice_is_nothing,
+};
 use tx_laws::{answers_of_parts, locality, step_by_step, two_parts};
 
 /// The laws that those of contents stand on. It does nothing.
@@ -22,6 +24,8 @@ fn log_laws()
 {
     changes_state();
     appended();
+    twice_is_nothing();
+    revert_then_apply();
 }
 
 /// A content of logs and kept signals has the next view after a step in each role, of which it reads no
@@ -37,10 +41,12 @@ pub fn logs_keep()
 
 /// What the exchanges of a step took leads the state back, where each names an object that the step
 /// reserves. A log that was led back, with the kept pending part put at the starter, leads the state back
-/// by the transaction.
+/// by the transaction; and with the pending parts exchanged once more and the log put forward again, the
+/// parts are as they were.
 pub fn logs_lead_back()
     ensures step { StepLeadsBack }
     ensures abort { LogLeadsBack }
+    ensures forward { LogGoesForward }
 {
     log_laws();
 }
