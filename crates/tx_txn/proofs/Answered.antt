@@ -1,6 +1,5 @@
 -- Doom, two answers and who is in the way, by what is kept.
-use Rattle.std.proofs.Common.{◌≡◌, ℕ, Bool, true, false, List, length, Option, Some, None, is_some, if◌then◌else◌, ◌==◌, refl, sym, ap, ap₂, ◌∙◌}
-use Rattle.std.proofs.lemmas.Bool.{both_ways}
+use Rattle.std.proofs.Common.{◌≡◌, ℕ, Bool, true, false, length, Option, Some, None, is_some, if◌then◌else◌, refl, sym, ap, ap₂, ◌∙◌}
 use Rattle.tx_laws.specs.TwoAnswers.{owns_named, sends_differ, parts_in_way}
 use Rattle.tx_laws.specs.TwoParts.{parts_view}
 use Rattle.tx_model.specs.Events.{Event, actor, effect, objects}

@@ -1,14 +1,13 @@
 -- The machine's logs, which are exchanges, lead its state back.
 use Rattle.std.proofs.Common.{◌≡◌, ℕ, ◌≤◌, Bool, true, false, List, [], ◌∷◌, ◌++◌, Option, Some, None, if◌then◌else◌, ◌==◌, length, refl, sym, ap, ◌∙◌, subst, inl, inr, ◌⊎◌, eqb-true}
 use Rattle.tx_base.specs.Slots.{slot_at}
-use Rattle.tx_base.specs.declared.names.Pid.{Pid}
 use Rattle.tx_change.specs.Exchange.{Sizes, object_of, parts_after, change_after, AreNamed, applied, undone, reverted, sizes_of}
 use Rattle.tx_change.specs.States.{state_of, changed, changed_by}
 use Rattle.tx_change.specs.declared.change.Change.{Change}
 use Rattle.tx_change.specs.declared.change.Change.TheVariants.{Slot}
 use Rattle.tx_change.specs.declared.parts.Parts.{Parts}
 use Rattle.tx_kernel.specs.Plans.{AreAmong}
-use Rattle.tx_model.specs.State.{Process, State, Sending, Object, Proc, Desc, Pipe, Held, AgreePart, same_object, has}
+use Rattle.tx_model.specs.State.{State, Sending, Object, Proc, Desc, Pipe, Held, AgreePart, same_object, has}
 use Rattle.tx_model.specs.StateLaws.{state_ext}
 use Rattle.tx_proc.specs.Processes.{process_in}
 use Rattle.tx_proc.specs.declared.proc.Proc.{Proc as ProcSlot}

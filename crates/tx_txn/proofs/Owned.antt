@@ -1,18 +1,17 @@
 -- What the transactions of a content own, and an event that changes nothing of it but what is pending at a starter.
-use Rattle.std.proofs.Common.{◌≡◌, ℕ, Bool, true, false, not, List, [], ◌∷◌, ◌++◌, Option, Some, None, is_some, if◌then◌else◌, ◌==◌, refl, sym, ap, ap₂, ◌∙◌, subst, inl, inr, eqb-true, eq-eqb}
+use Rattle.std.proofs.Common.{◌≡◌, ℕ, Bool, true, false, not, List, ◌++◌, Option, Some, None, is_some, if◌then◌else◌, refl, sym, ap, ap₂, ◌∙◌, subst, inl, inr, eq-eqb}
 use Rattle.std.proofs.lemmas.Bool.{both_ways}
 use Rattle.tx_change.specs.States.{changed_by}
-use Rattle.tx_change.specs.declared.change.Change.{Change}
-use Rattle.tx_laws.specs.Fits.{IsIn, FitsWithin}
+use Rattle.tx_laws.specs.Fits.{FitsWithin}
 use Rattle.tx_laws.specs.TwoAnswers.{owns_named, sends_differ, parts_in_way}
 use Rattle.tx_laws.specs.TwoParts.{is_owner, parts_view, made}
 use Rattle.tx_model.specs.Effects.{send_answers}
 use Rattle.tx_model.specs.Events.{Event, actor, effect, objects, after}
-use Rattle.tx_model.specs.History.{is_other_starter, targets, processes_of, event_footprint, objects_reserved}
+use Rattle.tx_model.specs.History.{is_other_starter, targets, event_footprint, objects_reserved}
 use Rattle.tx_model.specs.Membership.{Table, Progress, is_member_of, is_live}
 use Rattle.tx_model.specs.Posts.{posts}
-use Rattle.tx_model.specs.State.{Process, State, Sending, Object, Proc, Desc, Pipe, Held, AgreePart, same_object, has}
-use Rattle.tx_model.specs.View.{IsClear, in_way}
+use Rattle.tx_model.specs.State.{Process, State, Object, Proc, Desc, Pipe, Held, AgreePart, same_object, has}
+use Rattle.tx_model.specs.View.{IsClear}
 use Rattle.tx_signal.specs.Parts.{PendingView}
 use Rattle.tx_txn.specs.Content.{Txn, Content, overlay, with_kept, led_by, kept_for, kept_of, two_parts_of, is_named, IsKept}
 use Rattle.tx_txn.specs.Faces.{Face, face_of, running, pending_in, pending_by}

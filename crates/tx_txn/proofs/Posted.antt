@@ -1,15 +1,14 @@
 -- What posts do at a process, by its face and by what is pending there.
-use Rattle.std.proofs.Common.{◌≡◌, ℕ, ◌+◌, Bool, true, false, List, [], ◌∷◌, ◌++◌, length, length-append, Option, Some, None, if◌then◌else◌, ◌==◌, nat_lt, refl, sym, ap, ap₂, ◌∙◌, subst, inl, inr, eqb-true, eq-eqb}
+use Rattle.std.proofs.Common.{◌≡◌, ℕ, ◌+◌, Bool, true, false, List, [], ◌∷◌, length, length-append, Option, Some, None, if◌then◌else◌, ◌==◌, refl, sym, ap, ap₂, ◌∙◌, subst, inl, inr, eqb-true, eq-eqb}
 use Rattle.std.specs.Ordering.{int_eq}
-use Rattle.tx_base.specs.declared.limits.TheConstants.{QUEUED}
 use Rattle.tx_laws.specs.Fits.{IsIn}
 use Rattle.tx_laws.specs.TwoAnswers.{differs_by}
 use Rattle.tx_model.specs.Posts.{may_signal, is_quiet, has_room, with_queued, with_pending, with_signal, received, post_answer, post, posts}
 use Rattle.tx_model.specs.SignalSets.{is_realtime}
-use Rattle.tx_model.specs.State.{Process, State, Sending, Queued, Object, Proc, Desc, Pipe, Held, same_object}
+use Rattle.tx_model.specs.State.{Process, State, Sending, Object, Proc, Desc, Pipe, Held, same_object}
 use Rattle.tx_signal.specs.Parts.{PendingView, alone, pending_of}
 use Rattle.tx_txn.specs.Content.{overlay_if}
-use Rattle.tx_txn.specs.Faces.{Face, face_of, pending_in, is_quiet_at, pending_after, pending_by, answer_at, queued_after, faces_differ}
+use Rattle.tx_txn.specs.Faces.{Face, face_of, pending_in, pending_after, pending_by, answer_at, queued_after, faces_differ}
 use Rattle.tx_txn.specs.Steps.{AgreeBut}
 use Rattle.tx_txn.proofs.Facts.{eq_comm, part_refl}
 use Rattle.tx_txn.proofs.Overlays.{blank, but_part, but_trans}

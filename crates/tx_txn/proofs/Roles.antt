@@ -11,7 +11,7 @@ use Rattle.tx_model.specs.Membership.{Progress, Role, Outside, Within, Commits, 
 use Rattle.tx_model.specs.Posts.{posts}
 use Rattle.tx_model.specs.State.{State, Object, Proc, Desc, Pipe, Held, AgreePart, put_at, same_object, has, written}
 use Rattle.tx_model.specs.StateLaws.{state_ext}
-use Rattle.tx_model.specs.View.{View, IsClear, next_by}
+use Rattle.tx_model.specs.View.{IsClear, next_by}
 use Rattle.tx_txn.specs.Content.{Txn, Content, with_kept, led_by, kept_of, two_parts_of, IsKept}
 use Rattle.tx_txn.specs.Faces.{pending_in}
 use Rattle.tx_txn.specs.Laws.{RoleLaws}

@@ -1,25 +1,25 @@
 -- What is so of every content is so of the next.
-use Rattle.std.proofs.Common.{◌≡◌, ℕ, Bool, true, false, List, [], ◌++◌, ℤ, Option, Some, None, is_some, is_none, if◌then◌else◌, ◌==◌, refl, sym, ap, ◌∙◌, subst, inl, inr, ◌⊎◌, eqb-true, eq-eqb}
-use Rattle.std.proofs.lemmas.Bool.{both_ways, cases_Bool}
+use Rattle.std.proofs.Common.{◌≡◌, ℕ, Bool, true, false, List, [], ℤ, Option, Some, None, is_some, is_none, if◌then◌else◌, ◌==◌, refl, sym, ap, ◌∙◌, subst, inl, inr, eqb-true, eq-eqb}
+use Rattle.std.proofs.lemmas.Bool.{both_ways}
 use Rattle.tx_base.specs.declared.steps.Step.{Step}
 use Rattle.tx_change.specs.declared.change.Change.{Change}
 use Rattle.tx_laws.specs.Fits.{FitsWithin, Fits, Passes}
 use Rattle.tx_laws.specs.Sound.{IsSound}
-use Rattle.tx_laws.specs.TwoParts.{in_set, is_owner, parts_without, parts_view, freed, made}
+use Rattle.tx_laws.specs.TwoParts.{in_set, is_owner, parts_without, parts_view}
 use Rattle.tx_model.specs.Answer.{answer, is_running, IsAccepted}
 use Rattle.tx_model.specs.Events.{Event, Note, process_of, actor, effect, objects}
 use Rattle.tx_model.specs.History.{just, targets, event_footprint, objects_reserved}
 use Rattle.tx_model.specs.Membership.{Progress, Role, Outside, Within, Commits, Aborts, is_live, table_after}
 use Rattle.tx_model.specs.State.{Ids, Process, State, Sending, Object, Proc, Held, put_at, has}
-use Rattle.tx_model.specs.View.{View, IsClear, next, next_by, role_on, event_on}
+use Rattle.tx_model.specs.View.{View, IsClear, next, role_on, event_on}
 use Rattle.tx_txn.specs.Content.{Txn, Content, kept_of, two_parts_of, is_named, IsKept, OthersHoldNothing}
-use Rattle.tx_txn.specs.Faces.{face_of, running, pending_in}
+use Rattle.tx_txn.specs.Faces.{face_of, running}
 use Rattle.tx_txn.specs.Laws.{RoleLaws}
 use Rattle.tx_txn.specs.Steps.{ids_in, posted, logged, next_content, Logs, IsNext}
 use Rattle.tx_txn.proofs.Facts.{pick_true, in_just, has_left, reserved_foot, owner_true, freed_else, of_other, of_unmarked}
 use Rattle.tx_txn.proofs.OfLogs.{named_append}
 use Rattle.tx_txn.proofs.Owned.{live_txn, live_of, txn_of, own_proc, made_face, posted_face, own_reserved}
-use Rattle.tx_txn.proofs.Roles.{outside_kept, commits_kept, aborts_kept, to_keep, keeps_now, keeps_old, within_kept, next_view}
+use Rattle.tx_txn.proofs.Roles.{outside_kept, commits_kept, aborts_kept, keeps_now, keeps_old, within_kept, next_view}
 
 some_posted : (s : ℕ) (ms : List Sending) (x : Option Txn) → is_some (posted s ms x) ≡ is_some x
 some_posted s ms None = refl

@@ -1,5 +1,5 @@
 -- What of a process decides how a post to it is answered, and what posts leave as pending. Own rules.
-use Rattle.std.specs.Prelude.{◌≡◌, ℕ, ◌+◌, Bool, true, false, ◌||◌, List, [], ◌∷◌, length, ℤ, pos, negsuc, Option, Some, None, is_some, if◌then◌else◌, nat_lt, ◌==◌}
+use Rattle.std.specs.Prelude.{ℕ, ◌+◌, Bool, true, false, ◌||◌, List, [], ◌∷◌, ℤ, pos, negsuc, Option, Some, None, is_some, if◌then◌else◌, nat_lt, ◌==◌}
 use Rattle.std.specs.Ordering.{int_eq}
 use Rattle.tx_base.specs.declared.limits.TheConstants.{QUEUED}
 use Rattle.tx_model.specs.Posts.{may_signal, with_signal}

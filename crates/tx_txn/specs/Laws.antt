@@ -1,5 +1,5 @@
--- The laws of logs and kept signals, one statement a name, and the laws of tx_laws that they stand on. Own rules.
-use Rattle.std.specs.Prelude.{◌≡◌, ◌≤◌, ℕ, true, false, List, [], Option, Some, if◌then◌else◌, ◌==◌, length}
+-- The laws of logs and kept signals, one statement a name, and the laws of tx_laws and tx_change that they stand on. Own rules.
+use Rattle.std.specs.Prelude.{◌≡◌, ◌≤◌, ℕ, false, List, [], Option, Some, if◌then◌else◌, ◌==◌, length}
 use Rattle.tx_base.specs.Slots.{slot_at}
 use Rattle.tx_base.specs.declared.steps.Step.{Step}
 use Rattle.tx_change.specs.Exchange.{AreNamed, applied, undone, reverted}

@@ -1,9 +1,7 @@
 //! The laws of logs and kept signals, as the contracts of functions that do nothing.
 ghost use Rattle.tx_txn.specs.Laws.{ContentFollowsRole, ContentFollowsStep, ContentIsKept, DoomIsPending, HolderIsOfFaces, InWayIsOfFaces, LogGoesForward, LogLaws, LogLeadsBack, PostIsAnsweredByFace, PostLeavesFace, PostLeavesPending, PostLeavesQueued, RoleLaws, StartContentHasItsView, StartContentIsKept, StepLeadsBack, TwoAnswersAreOfFaces};
 
-use tx_change::{
-    appended, changes_state, lists_change_state, revert_then_apply, twice_is_nothing,
-};
+use tx_change::{appended, changes_state, lists_change_state, revert_then_apply, twice_is_nothing};
 use tx_laws::{answers_of_parts, locality, step_by_step, two_parts};
 
 /// The laws that those of contents stand on. It does nothing.
