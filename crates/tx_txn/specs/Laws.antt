@@ -1,21 +1,27 @@
 -- The laws of logs and kept signals, one statement a name, and the laws of tx_laws and tx_change that they stand on. Own rules.
 use Rattle.std.specs.Prelude.{◌≡◌, ◌≤◌, ℕ, false, List, [], Option, Some, if◌then◌else◌, ◌==◌, length}
 use Rattle.tx_base.specs.Slots.{slot_at}
+use Rattle.tx_base.specs.declared.names.Pid.{Pid}
 use Rattle.tx_base.specs.declared.steps.Step.{Step}
 use Rattle.tx_change.specs.Exchange.{AreNamed, applied, undone, reverted}
 use Rattle.tx_change.specs.Laws.{AppliedAppended, ChangedAppended, ChangesState, ChangesStateInTurn, ListNamesItsObjects, NamedAppended, RevertThenApply, SizesStay, TwiceIsNothing}
 use Rattle.tx_change.specs.States.{state_of}
 use Rattle.tx_change.specs.declared.change.Change.{Change}
 use Rattle.tx_change.specs.declared.parts.Parts.{Parts}
+use Rattle.tx_kernel.specs.Actors.{CountsHeld, transaction_of}
+use Rattle.tx_kernel.specs.Acts.{Makes}
 use Rattle.tx_kernel.specs.Plans.{AreAmong}
-use Rattle.tx_laws.specs.Fits.{Fits, Passes}
+use Rattle.tx_kernel.specs.declared.inside.Inside.{Inside}
+use Rattle.tx_kernel.specs.declared.planned.Planned.{Planned}
+use Rattle.tx_laws.specs.Fits.{Fits, FitsWithin, Passes}
 use Rattle.tx_laws.specs.Laws.{AcceptedStepsFit, RolesKeepSound, StartIsSound}
 use Rattle.tx_laws.specs.LawsOfEvents.{ActorIsObject, OtherPartsStay, OthersGetSendsAlone}
 use Rattle.tx_laws.specs.LawsOfParts.{DoomIsKept, HolderIsOfParts, InWayIsOfParts, PartsFollowRole, SamePartsSameView, StartHasItsView, TwoAnswersAreOfStarter}
 use Rattle.tx_laws.specs.TwoParts.{parts_view}
 use Rattle.tx_model.specs.Answer.{answer, IsAccepted}
-use Rattle.tx_model.specs.Events.{Event, process_of, objects}
-use Rattle.tx_model.specs.Membership.{Role}
+use Rattle.tx_model.specs.Calls.{Act}
+use Rattle.tx_model.specs.Events.{Event, Do, process_of, objects}
+use Rattle.tx_model.specs.Membership.{Progress, Role, Within}
 use Rattle.tx_model.specs.Posts.{post_answer, received}
 use Rattle.tx_model.specs.SignalSets.{kill_signo, is_in_set}
 use Rattle.tx_model.specs.State.{Object, Proc, Process, Sending, State, has}
@@ -24,7 +30,7 @@ use Rattle.tx_signal.specs.Parts.{PendingView}
 use Rattle.tx_txn.specs.Content.{Txn, Content, IsKept, OthersHoldNothing, led_by, two_parts_of, start_content, starter_differs, stands_in_way}
 use Rattle.tx_txn.specs.Faces.{face_of, pending_in, pending_after, answer_at, queued_after}
 use Rattle.tx_txn.specs.Logs.{newest_first, pending_or, with_pending_at}
-use Rattle.tx_txn.specs.Steps.{IsNext, LeadsBack, Logs, next_content}
+use Rattle.tx_txn.specs.Steps.{IsNext, LeadsBack, Logs, next_content, step_of}
 
 -- in each role that goes with the event, the next content has the next view
 abbrev pub ContentFollowsRole : Type 0
@@ -53,6 +59,14 @@ abbrev pub StepLeadsBack : Type 0
 StepLeadsBack = (held later : ℕ → List Sending) (s : ℕ) (objects : List Object) (after : Parts) (kept : List Change) →
     AreNamed after kept → AreAmong objects kept → ((n : ℕ) → (n == s) ≡ false → later n ≡ held n) →
     LeadsBack s objects (newest_first kept) (state_of later after) (state_of held (undone after kept))
+
+-- so a call or a delivery that a member made on the parts is logged as a step inside its transaction is to be
+abbrev pub MadeIsLogged : Type 0
+MadeIsLogged = (content : Content) (held : ℕ → List Sending) (before after : Parts) (pid : Pid) (inside : Inside) (act : Act) (log now : List Change) (planned : Planned)
+    (part : Progress) (process : ℕ) (made : Makes before pid (Some inside) act log now after planned) →
+    content.now ≡ state_of held before → CountsHeld (Some inside) held →
+    FitsWithin inside.starter.0 part (Do (step_of pid act) (Some (transaction_of inside))) process (parts_view (two_parts_of content)) →
+    Logs (Within inside.starter.0 part) (Do (step_of pid act) (Some (transaction_of inside))) (newest_first made.kept) content
 
 -- a log that was led back, with the kept pending part put at the starter, leads the state back by the transaction
 abbrev pub LogLeadsBack : Type 0
