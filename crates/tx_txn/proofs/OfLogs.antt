@@ -1,37 +1,22 @@
 -- The machine's logs, which are exchanges, lead its state back.
-use Rattle.std.proofs.Common.{◌≡◌, ℕ, ◌≤◌, Bool, true, false, List, [], ◌∷◌, ◌++◌, Option, Some, None, if◌then◌else◌, ◌==◌, length, refl, sym, ap, ap₂, ◌∙◌, subst, inl, inr, ◌⊎◌, eqb-true}
+use Rattle.std.proofs.Common.{◌≡◌, ℕ, ◌≤◌, Bool, true, false, List, [], ◌∷◌, ◌++◌, Option, Some, None, if◌then◌else◌, ◌==◌, length, refl, sym, ap, ◌∙◌, subst, inl, inr, ◌⊎◌, eqb-true}
 use Rattle.tx_base.specs.Slots.{slot_at}
-use Rattle.tx_base.specs.declared.names.Pid.{Pid}
 use Rattle.tx_change.specs.Exchange.{Sizes, object_of, parts_after, change_after, AreNamed, applied, undone, reverted, sizes_of}
 use Rattle.tx_change.specs.States.{state_of, changed, changed_by}
 use Rattle.tx_change.specs.declared.change.Change.{Change}
 use Rattle.tx_change.specs.declared.change.Change.TheVariants.{Slot}
 use Rattle.tx_change.specs.declared.parts.Parts.{Parts}
-use Rattle.tx_kernel.specs.Actors.{CountsHeld, transaction_of}
-use Rattle.tx_kernel.specs.Acts.{Makes, act_rule}
-use Rattle.tx_kernel.specs.Plans.{AreAmong, held_after, sent_at_once}
-use Rattle.tx_kernel.specs.Steps.{target_objects}
-use Rattle.tx_kernel.specs.declared.inside.Inside.{Inside}
-use Rattle.tx_kernel.specs.declared.planned.Planned.{Planned}
-use Rattle.tx_kernel.specs.declared.planned.Sends.{Sends}
-use Rattle.tx_kernel.specs.declared.planned.Sends.TheVariants.{Nothing, AtOnce, AtCommit}
-use Rattle.tx_laws.specs.Fits.{FitsWithin}
-use Rattle.tx_laws.specs.TwoParts.{made as the_made, parts_view}
-use Rattle.tx_model.specs.Calls.{Act, MakesCall, TakesSignal, act_footprint}
-use Rattle.tx_model.specs.Effects.{Effect, send_answers, applied as applied_effect}
-use Rattle.tx_model.specs.Events.{Event, Do, actor, effect, objects}
-use Rattle.tx_model.specs.History.{event_footprint, objects_reserved, processes_of}
-use Rattle.tx_model.specs.Membership.{Progress, Within}
+use Rattle.tx_kernel.specs.Plans.{AreAmong}
 use Rattle.tx_model.specs.State.{State, Sending, Object, Proc, Desc, Pipe, Held, AgreePart, same_object, has}
 use Rattle.tx_model.specs.StateLaws.{state_ext}
 use Rattle.tx_proc.specs.Processes.{process_in}
 use Rattle.tx_proc.specs.declared.proc.Proc.{Proc as ProcSlot}
 use Rattle.tx_signal.specs.Parts.{PendingView}
-use Rattle.tx_txn.specs.Content.{Txn, Content, two_parts_of, overlay, overlay_if, with_kept, led_by, is_named}
+use Rattle.tx_txn.specs.Content.{Txn, overlay, overlay_if, with_kept, led_by, is_named}
 use Rattle.tx_txn.specs.Laws.{LogLaws}
 use Rattle.tx_txn.specs.Logs.{newest_first, with_pending_in, with_pending_at, pending_or}
-use Rattle.tx_txn.specs.Steps.{AgreeBut, LeadsBack, Logs, step_of}
-use Rattle.tx_txn.proofs.Facts.{same_true, all_targets, reserved_foot}
+use Rattle.tx_txn.specs.Steps.{AgreeBut, LeadsBack}
+use Rattle.tx_txn.proofs.Facts.{same_true}
 
 -- a change of the two lists together is of one of them
 pub named_append : (o : Object) (new log : List Change) → is_named o (new ++ log) ≡ true → (is_named o new ≡ true) ⊎ (is_named o log ≡ true)
@@ -94,65 +79,6 @@ module _ (laws : LogLaws) where
     named = named_among F kept among;
     back = λ o. subst (λ (S : State). AgreeBut s S (state_of held (undone after kept)) o) (led_back later after kept named) (same_but held later s (undone after kept) same o);
   }
-
-  -- what a member's step made is logged
-  pub made_logged : (c : Content) (held : ℕ → List Sending) (before after : Parts) (pid : Pid) (inside : Inside) (act : Act) (log now : List Change) (planned : Planned)
-      (part : Progress) (p : ℕ) (made : Makes before pid (Some inside) act log now after planned) → c.now ≡ state_of held before → CountsHeld (Some inside) held
-      → FitsWithin inside.starter.0 part (Do (step_of pid act) (Some (transaction_of inside))) p (parts_view (two_parts_of c))
-      → Logs (Within inside.starter.0 part) (Do (step_of pid act) (Some (transaction_of inside))) (newest_first made.kept) c
-  unfolding parts_view event_footprint effect objects
-  made_logged c held before after pid inside act log now planned part p made is_now count fits =
-      subst (λ (S : State). LeadsBack s (objects_reserved part s (event_footprint c.table ev S)) (newest_first made.kept) (the_made ev S S) S) (sym is_now)
-      (record {
-        named = λ o h. reserved_foot part s (event_footprint c.table ev S) o (subst (λ (F : List Object). has o F ≡ true) (sym foot) (leads.named o h));
-        back = λ o. subst (λ (R : State). AgreeBut s (changed_by (newest_first made.kept) R) S o) (sym after_is)
-            (subst (λ (P : Parts). AgreeBut s (changed_by (newest_first made.kept) (state_of later after)) (state_of held P) o) made.back (leads.back o));
-      })
-    where
-      s : ℕ
-      s = inside.starter.0
-
-      ev : Event
-      ev = Do (step_of pid act) (Some (transaction_of inside))
-
-      S : State
-      S = state_of held before
-
-      later : ℕ → List Sending
-      later = held_after (Some (transaction_of inside)) planned.sends held
-
-      F : List Object
-      F = act_footprint (Some (transaction_of inside)) pid.0 act (state_of held before) ++ target_objects planned.sends
-
-      rule_is : (a : Act) → effect (Do (step_of pid a) (Some (transaction_of inside))) (state_of held before) ≡ act_rule (Some (transaction_of inside)) pid.0 a (state_of held before)
-      rule_is (MakesCall call) = refl
-      rule_is (TakesSignal signo) = refl
-
-      after_is : the_made ev S S ≡ state_of later after
-      after_is = ap (λ (f : Effect). applied_effect f (send_answers f S) S) (rule_is act) ∙ (made.gives held count).state
-
-      elsewhere : (x : Sends) (n : ℕ) → (n == s) ≡ false → held_after (Some (transaction_of inside)) x held n ≡ held n
-      elsewhere Nothing n h = refl
-      elsewhere (AtOnce m) n h = refl
-      elsewhere (AtCommit m) n h = rw h refl
-
-      leads : LeadsBack s F (newest_first made.kept) (state_of later after) (state_of held (undone after made.kept))
-      leads = step_leads_back held later s F after made.kept made.named (made.among held) (elsewhere planned.sends)
-
-      objects_are : (a : Act) → objects (Do (step_of pid a) (Some (transaction_of inside))) (state_of held before) ≡ act_footprint (Some (transaction_of inside)) pid.0 a (state_of held before)
-      objects_are (MakesCall call) = refl
-      objects_are (TakesSignal signo) = refl
-
-      targets_are : (x : Sends) → processes_of (sent_at_once x) ≡ target_objects x
-      targets_are Nothing = refl
-      targets_are (AtOnce m) = refl
-      targets_are (AtCommit m) = refl
-
-      foot : event_footprint c.table ev S ≡ F
-      foot =
-          ap₂ (λ (xs ys : List Object). xs ++ ys) (objects_are act)
-          (all_targets c.table (actor ev) (effect ev S).sends (λ m i. fits.sends S m i)
-          ∙ ap (λ (f : Effect). processes_of f.sends) (rule_is act) ∙ ap processes_of (made.gives held count).sent ∙ targets_are planned.sends)
 
   undone_sizes : (parts : Parts) (log : List Change) → sizes_of (undone parts log) ≡ sizes_of parts
   undone_sizes parts log = ap sizes_of (undone_applied parts log) ∙ laws.sizes parts (newest_first log)

@@ -17,10 +17,12 @@ use Rattle.tx_txn.specs.Faces.{face_of, running, pending_in, faces_differ}
 pub record Txn : Type 0 where
   -- what its members changed, as it was before, the newest first
   pub log : List Change
-  -- what would be pending at its starter after an abort, and the ids that this would have
+  -- what would be pending at its starter after an abort
   pub pending : PendingView
+  -- the ids that the starter would have then
   pub ids : Ids
 
+-- the state, what is kept of each live transaction, who owns each object, and the table of members
 pub record Content : Type 0 where
   pub now : State
   pub txns : ℕ → Option Txn
@@ -32,6 +34,7 @@ abbrev pub overlay : PendingView → Option Process → Option Process
 overlay pending None = None
 overlay pending (Some q) = Some (with_pending_part pending q)
 
+-- the same, or the process as it is
 abbrev pub overlay_if : Bool → PendingView → Option Process → Option Process
 overlay_if b pending x = if b then overlay pending x else x
 
@@ -62,6 +65,7 @@ kept_of c = record {
   held = λ n. (kept_for c (c.owner (Held n))).held n;
 }
 
+-- the kernel of two parts that this is
 abbrev pub two_parts_of : Content → TwoParts
 two_parts_of c = record { now = c.now; kept = kept_of c; owner = c.owner; table = c.table }
 
@@ -96,7 +100,7 @@ starter_differs c ev s t =
     (face_of (c.now.procs s)) (length (pending_in (c.now.procs s)).queued)
     (Some (running t.ids)) (length t.pending.queued)
 
--- whether the transaction of s is in the way of the event, if it is one
+-- whether the transaction of s, if it is there, is in the way of the event
 abbrev pub stands_in_way : Content → Event → ℕ → Option Txn → Bool
 stands_in_way c ev s None = false
 stands_in_way c ev s (Some t) =

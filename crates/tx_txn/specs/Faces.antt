@@ -12,6 +12,7 @@ pub record Face : Type 0 where
   pub ids : Ids
   pub ended : Bool
 
+-- the face of a process, if it is there
 abbrev pub face_of : Option Process → Option Face
 face_of None = None
 face_of (Some q) = Some (record { ids = q.ids; ended = is_some q.status })

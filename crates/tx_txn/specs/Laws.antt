@@ -8,19 +8,19 @@ use Rattle.tx_change.specs.Laws.{AppliedAppended, ChangedAppended, ChangesState,
 use Rattle.tx_change.specs.States.{state_of}
 use Rattle.tx_change.specs.declared.change.Change.{Change}
 use Rattle.tx_change.specs.declared.parts.Parts.{Parts}
-use Rattle.tx_kernel.specs.Actors.{CountsHeld, transaction_of}
+use Rattle.tx_kernel.specs.Actors.{CountsHeld, inside_of, transaction_of}
 use Rattle.tx_kernel.specs.Acts.{Makes}
-use Rattle.tx_kernel.specs.Plans.{AreAmong}
+use Rattle.tx_kernel.specs.Plans.{AreAmong, held_after, sent_at_once}
 use Rattle.tx_kernel.specs.declared.inside.Inside.{Inside}
 use Rattle.tx_kernel.specs.declared.planned.Planned.{Planned}
 use Rattle.tx_laws.specs.Fits.{Fits, FitsWithin, Passes}
 use Rattle.tx_laws.specs.Laws.{AcceptedStepsFit, RolesKeepSound, StartIsSound}
 use Rattle.tx_laws.specs.LawsOfEvents.{ActorIsObject, OtherPartsStay, OthersGetSendsAlone}
 use Rattle.tx_laws.specs.LawsOfParts.{DoomIsKept, HolderIsOfParts, InWayIsOfParts, PartsFollowRole, SamePartsSameView, StartHasItsView, TwoAnswersAreOfStarter}
-use Rattle.tx_laws.specs.TwoParts.{parts_view}
+use Rattle.tx_laws.specs.TwoParts.{made, parts_view}
 use Rattle.tx_model.specs.Answer.{answer, IsAccepted}
 use Rattle.tx_model.specs.Calls.{Act}
-use Rattle.tx_model.specs.Events.{Event, Do, process_of, objects}
+use Rattle.tx_model.specs.Events.{Event, Do, process_of, effect, objects}
 use Rattle.tx_model.specs.Membership.{Progress, Role, Within}
 use Rattle.tx_model.specs.Posts.{post_answer, received}
 use Rattle.tx_model.specs.SignalSets.{kill_signo, is_in_set}
@@ -60,14 +60,6 @@ StepLeadsBack = (held later : ℕ → List Sending) (s : ℕ) (objects : List Ob
     AreNamed after kept → AreAmong objects kept → ((n : ℕ) → (n == s) ≡ false → later n ≡ held n) →
     LeadsBack s objects (newest_first kept) (state_of later after) (state_of held (undone after kept))
 
--- so a call or a delivery that a member made on the parts is logged as a step inside its transaction is to be
-abbrev pub MadeIsLogged : Type 0
-MadeIsLogged = (content : Content) (held : ℕ → List Sending) (before after : Parts) (pid : Pid) (inside : Inside) (act : Act) (log now : List Change) (planned : Planned)
-    (part : Progress) (process : ℕ) (made : Makes before pid (Some inside) act log now after planned) →
-    content.now ≡ state_of held before → CountsHeld (Some inside) held →
-    FitsWithin inside.starter.0 part (Do (step_of pid act) (Some (transaction_of inside))) process (parts_view (two_parts_of content)) →
-    Logs (Within inside.starter.0 part) (Do (step_of pid act) (Some (transaction_of inside))) (newest_first made.kept) content
-
 -- a log that was led back, with the kept pending part put at the starter, leads the state back by the transaction
 abbrev pub LogLeadsBack : Type 0
 LogLeadsBack = (held : ℕ → List Sending) (parts : Parts) (s : ℕ) (log : List Change) (txn : Txn) →
@@ -78,6 +70,26 @@ LogLeadsBack = (held : ℕ → List Sending) (parts : Parts) (s : ℕ) (log : Li
 abbrev pub LogGoesForward : Type 0
 LogGoesForward = (parts : Parts) (s : ℕ) (log : List Change) (pending : PendingView) → AreNamed parts log → 1 ≤ s → s ≤ length parts.procs →
     applied (with_pending_at s (pending_or pending (slot_at (undone parts log).procs s)) (with_pending_at s pending (undone parts log))) (reverted parts log) ≡ parts
+
+-- a call or a delivery that was made on the parts makes of their state what its event makes of it
+abbrev pub ActMakesEvent : Type 0
+ActMakesEvent = (held : ℕ → List Sending) (before after : Parts) (pid : Pid) (inside : Option Inside) (act : Act) (log now : List Change) (planned : Planned) →
+    Makes before pid inside act log now after planned → CountsHeld inside held →
+    made (Do (step_of pid act) (inside_of inside)) (state_of held before) (state_of held before) ≡ state_of (held_after (inside_of inside) planned.sends held) after
+
+-- it sends what its event sends
+abbrev pub ActSendsEvent : Type 0
+ActSendsEvent = (held : ℕ → List Sending) (before after : Parts) (pid : Pid) (inside : Option Inside) (act : Act) (log now : List Change) (planned : Planned) →
+    Makes before pid inside act log now after planned → CountsHeld inside held →
+    (effect (Do (step_of pid act) (inside_of inside)) (state_of held before)).sends ≡ sent_at_once planned.sends
+
+-- and where a member made it, it is logged as a step inside the transaction is to be
+abbrev pub ActIsLogged : Type 0
+ActIsLogged = (content : Content) (held : ℕ → List Sending) (before after : Parts) (pid : Pid) (inside : Inside) (act : Act) (log now : List Change) (planned : Planned)
+    (part : Progress) (process : ℕ) (made : Makes before pid (Some inside) act log now after planned) →
+    content.now ≡ state_of held before → CountsHeld (Some inside) held →
+    FitsWithin inside.starter.0 part (Do (step_of pid act) (Some (transaction_of inside))) process (parts_view (two_parts_of content)) →
+    Logs (Within inside.starter.0 part) (Do (step_of pid act) (Some (transaction_of inside))) (newest_first made.kept) content
 
 -- a live transaction is doomed if SIGKILL is kept as pending
 abbrev pub DoomIsPending : Type 0

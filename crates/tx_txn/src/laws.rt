@@ -1,5 +1,5 @@
 //! The laws of logs and kept signals, as the contracts of functions that do nothing.
-ghost use Rattle.tx_txn.specs.Laws.{ContentFollowsRole, ContentFollowsStep, ContentIsKept, DoomIsPending, HolderIsOfFaces, InWayIsOfFaces, LogGoesForward, LogLaws, LogLeadsBack, MadeIsLogged, PostIsAnsweredByFace, PostLeavesFace, PostLeavesPending, PostLeavesQueued, RoleLaws, StartContentHasItsView, StartContentIsKept, StepLeadsBack, TwoAnswersAreOfFaces};
+ghost use Rattle.tx_txn.specs.Laws.{ActIsLogged, ActMakesEvent, ActSendsEvent, ContentFollowsRole, ContentFollowsStep, ContentIsKept, DoomIsPending, HolderIsOfFaces, InWayIsOfFaces, LogGoesForward, LogLaws, LogLeadsBack, PostIsAnsweredByFace, PostLeavesFace, PostLeavesPending, PostLeavesQueued, RoleLaws, StartContentHasItsView, StartContentIsKept, StepLeadsBack, TwoAnswersAreOfFaces};
 
 use tx_change::{appended, changes_state, lists_change_state, revert_then_apply, twice_is_nothing};
 use tx_laws::{answers_of_parts, locality, step_by_step, two_parts};
@@ -38,15 +38,24 @@ pub fn logs_keep()
 }
 
 /// What the exchanges of a step took leads the state back, where each names an object that the step
-/// reserves; so a call or a delivery that a member made on the parts is logged as a step inside its
-/// transaction is to be. A log that was led back, with the kept pending part put at the starter, leads the state back
+/// reserves. A log that was led back, with the kept pending part put at the starter, leads the state back
 /// by the transaction; and with the pending parts exchanged once more and the log put forward again, the
 /// parts are as they were.
 pub fn logs_lead_back()
     ensures step { StepLeadsBack }
-    ensures made { MadeIsLogged }
     ensures abort { LogLeadsBack }
     ensures forward { LogGoesForward }
+{
+    log_laws();
+}
+
+/// A call or a delivery that tx_kernel made on the parts is its event: it makes of the state what the event
+/// makes of it, sends what that sends, and where a member made it, its records are what the log of a step
+/// inside a transaction is to get.
+pub fn acts_are_events()
+    ensures state { ActMakesEvent }
+    ensures sends { ActSendsEvent }
+    ensures logged { ActIsLogged }
 {
     log_laws();
 }

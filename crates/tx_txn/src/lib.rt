@@ -4,4 +4,6 @@
 
 mod laws;
 
-pub use laws::{answers_of_faces, logs_keep, logs_lead_back, posts_by_faces, start_is_kept};
+pub use laws::{
+    acts_are_events, answers_of_faces, logs_keep, logs_lead_back, posts_by_faces, start_is_kept,
+};

@@ -1,4 +1,4 @@
-use Rattle.tx_txn.proofs.OfLogs.{step_leads_back, made_logged, log_leads_back, log_goes_forward}
+use Rattle.tx_txn.proofs.OfLogs.{step_leads_back, log_leads_back, log_goes_forward}
 use Rattle.tx_txn.proofs.laws.logs_lead_back.Goals as goal
 
 pub returns-clause-step : goal.returns-clause-step
@@ -9,6 +9,3 @@ returns-clause-abort c = log_leads_back c.log_laws.ensures
 
 pub returns-clause-forward : goal.returns-clause-forward
 returns-clause-forward c = log_goes_forward c.log_laws.ensures
-
-pub returns-clause-made : goal.returns-clause-made
-returns-clause-made c = made_logged c.log_laws.ensures
