@@ -125,7 +125,7 @@ module _ (laws : RoleLaws) (c : Content) (k : IsKept c) where
         by : (y : Option Txn) → c.txns s ≡ y → ((c.owner o ≡ None) × (has o F ≡ true)) ⊎ (c.owner o ≡ Some s) → AgreePart (led_by s (logged new (c.now.procs s) y) N) to_keep o
         by None e (inl f) =
             part_trans (with_kept s (pending_in (c.now.procs s)) (changed_by new N)) c.now to_keep o
-            (with_own s (changed_by new N) c.now o (logs.back o) (λ n i m. subst (λ (u : ℕ). c.now.held u ≡ []) (sym (eqb-true n s m)) (k.empty s (sym (k.live s) ∙ rw e refl))))
+            (with_own s (changed_by new N) c.now o (logs.back o) (λ n i m. subst (λ (u : ℕ). c.now.held u ≡ []) (sym (eqb-true n s m)) (k.empty s e)))
             (keeps_now o f.1 f.0)
         by None e (inr f) = let x = txn_of c k s o f in let z : None ≡ Some x.0 = sym e ∙ x.1 in cc
         by (Some x) e own =

@@ -76,7 +76,7 @@ is_named o (change ∷ changes) = if same_object o (object_of change) then true 
 
 -- nothing is held where no transaction is live
 abbrev pub OthersHoldNothing : Content → Type 0
-OthersHoldNothing c = (s : ℕ) → is_live c.table s ≡ false → c.now.held s ≡ []
+OthersHoldNothing c = (s : ℕ) → c.txns s ≡ None → c.now.held s ≡ []
 
 -- what is so of every content
 pub record IsKept (c : Content) : Type 0 where
