@@ -1,12 +1,15 @@
 -- The laws of histories and of the views of histories, one statement a name. Own rules.
-use Rattle.std.specs.Prelude.{◌≡◌, List, [], ◌∷◌, ◌++◌}
+use Rattle.std.specs.Prelude.{◌≡◌, ℕ, List, [], ◌∷◌, ◌++◌}
 use Rattle.tx_base.specs.declared.steps.Accepted.{Accepted}
 use Rattle.tx_base.specs.declared.steps.Step.{Step}
 use Rattle.tx_model.specs.State.{State}
+use Rattle.tx_model.specs.Events.{Event, process_of}
 use Rattle.tx_model.specs.History.{Starters, survivors}
+use Rattle.tx_model.specs.Membership.{Role}
 use Rattle.tx_model.specs.Schedules.{history_of}
-use Rattle.tx_model.specs.View.{View, view, next}
+use Rattle.tx_model.specs.View.{View, view, next, next_by, role_on, event_on}
 use Rattle.tx_model.specs.Answer.{answer, IsAccepted, Lawful, Agreement}
+use Rattle.tx_laws.specs.Fits.{Fits, Passes}
 use Rattle.tx_laws.specs.Places.{survivors_by_place}
 use Rattle.tx_laws.specs.Sound.{IsSound}
 use Rattle.tx_laws.specs.WellFormed.{IsWellFormed}
@@ -36,6 +39,16 @@ StartIsSound = (start : State) → IsSound (view start [])
 -- the next view of a sound view by an accepted step is sound
 abbrev pub NextIsSound : Type 0
 NextIsSound = (view : View) (step : Step) → IsSound view → IsAccepted (answer view step) → IsSound (next view step)
+
+-- the event of an accepted step goes with what the step is to the transactions, and nobody is in its way
+abbrev pub AcceptedStepsFit : Type 0
+AcceptedStepsFit = (view : View) (step : Step) → IsSound view → IsAccepted (answer view step) →
+    Passes (role_on view step) (event_on view step) view × Fits (role_on view step) (event_on view step) (process_of step) view
+
+-- in each role that goes with the event, the next view of a sound one is sound
+abbrev pub RolesKeepSound : Type 0
+RolesKeepSound = (role : Role) (event : Event) (process : ℕ) (view : View) →
+    IsSound view → Passes role event view → Fits role event process view → IsSound (next_by role event process view)
 
 -- where every state of a sound view is well formed, so is every state of the next view by an accepted step
 abbrev pub NextIsWellFormed : Type 0

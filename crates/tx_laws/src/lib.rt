@@ -13,7 +13,7 @@ ghost use Rattle.tx_model.specs.Events.{Event, after};
 ghost use Rattle.tx_model.specs.History.{Starters, without, nobody, table_of};
 ghost use Rattle.tx_model.specs.State.{State, booted};
 ghost use Rattle.tx_model.specs.View.{view};
-ghost use Rattle.tx_laws.specs.Laws.{PrefixesAgree, SurvivorsAreByPlace, LawfulViewIsNext, LawfulViewIsSound, StartIsSound, NextIsSound, NextIsWellFormed, SchedulesAreLawful};
+ghost use Rattle.tx_laws.specs.Laws.{PrefixesAgree, SurvivorsAreByPlace, LawfulViewIsNext, LawfulViewIsSound, StartIsSound, NextIsSound, AcceptedStepsFit, RolesKeepSound, NextIsWellFormed, SchedulesAreLawful};
 ghost use Rattle.tx_laws.specs.LawsOfDoom.{DoomedCallsAreRefused, DoomedDeliveriesAreRefused, DoomedAbortAnswers203, OtherAbortAnswers202, MembersDoomNothing, KillDooms, SigqueueDooms, DoomStays};
 ghost use Rattle.tx_laws.specs.LawsOfEvents.{ActorIsObject, EffectIsLocal, ObjectsAreLocal, ReplyIsLocal, ElsewhereIsSame, OtherPartsStay, WritesStayInObjects, OthersGetSendsAlone, HoldsForItsOwn, MembersSendToMembers, StatesCommute, RepliesCommute};
 ghost use Rattle.tx_laws.specs.LawsOfParts.{StartHasItsView, SamePartsSameView, PartsFollowRole, PartsFollowStep, PresentIsNow, DoomIsKept, TwoAnswersAreOfStarter, InWayIsOfParts, HolderIsOfParts};
@@ -44,11 +44,14 @@ pub fn next_view()
 {}
 
 /// Step by step: the view of the empty history is sound, and an accepted step makes of a sound view
-/// a sound one, and of well-formed states well-formed ones, whichever transactions are left out. The
-/// accepted steps of a schedule that follows a lawful history make a lawful history with it.
+/// a sound one, and of well-formed states well-formed ones, whichever transactions are left out. Its
+/// event goes with what it is to the transactions, and in each role that an event goes with, sound views
+/// stay so. The accepted steps of a schedule that follows a lawful history make a lawful history with it.
 pub fn step_by_step()
     ensures start { StartIsSound }
     ensures sound { NextIsSound }
+    ensures fits { AcceptedStepsFit }
+    ensures role { RolesKeepSound }
     ensures well_formed { NextIsWellFormed }
     ensures lawful { SchedulesAreLawful }
 {}

@@ -1,3 +1,12 @@
+pub mod Facts
+pub mod Overlays
+pub mod Posted
+pub mod OfLogs
+pub mod OfActs
+pub mod Owned
+pub mod Roles
+pub mod Upkeep
+pub mod Answered
 pub mod Senders
 pub mod KeptPosts
 pub mod MemberMarks

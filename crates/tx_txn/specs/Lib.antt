@@ -1,3 +1,8 @@
+pub mod Faces
+pub mod Content
+pub mod Steps
+pub mod Logs
+pub mod Laws
 pub mod KeptParts
 pub mod Outboxes
 pub mod Txns

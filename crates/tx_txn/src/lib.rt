@@ -1,13 +1,18 @@
-//! Live transactions: what is kept of a starter, what is held until the commit, and the log of old
-//! parts that leads back.
+//! Live transactions: what is kept of a starter, what is held until the commit, the marks of members,
+//! and the log of old parts that leads back. The laws say when such logs have the view of the
+//! history.
 #![tactic(auto)]
 
 mod kept;
+mod laws;
 mod members;
 mod outbox;
 mod txn;
 
-pub use members::{Members, is_last_open};
 pub use kept::{Kept, Unpost};
+pub use laws::{
+    acts_are_events, answers_of_faces, logs_keep, logs_lead_back, posts_by_faces, start_is_kept,
+};
+pub use members::{Members, is_last_open};
 pub use outbox::{HeldPost, Outbox};
 pub use txn::Txn;

@@ -10,7 +10,8 @@ ghost use Rattle.tx_model.specs.State.{Object, Proc};
 ghost use Rattle.tx_reserve.specs.Objects.{is_in};
 ghost use Rattle.tx_reserve.specs.Reservations.{owner_of};
 ghost use Rattle.tx_txn.specs.Marks.{IsCovered, ended_of, mark_of, no_members};
-ghost use Rattle.tx_txn.specs.Txns.{inside_at, none_held, with_pending_at};
+ghost use Rattle.tx_txn.specs.Logs.{with_pending_at};
+ghost use Rattle.tx_txn.specs.Txns.{inside_at, none_held};
 ghost use Rattle.tx_kernel.specs.Plans.{sending_of};
 
 use crate::kept::Kept;

@@ -1,0 +1,168 @@
+-- The laws of logs and kept signals, one statement a name, and the laws of tx_laws and tx_change that they stand on. Own rules.
+use Rattle.std.specs.Prelude.{◌≡◌, ◌≤◌, ℕ, false, List, [], Option, Some, if◌then◌else◌, ◌==◌, length}
+use Rattle.tx_base.specs.Slots.{slot_at}
+use Rattle.tx_base.specs.declared.names.Pid.{Pid}
+use Rattle.tx_base.specs.declared.steps.Step.{Step}
+use Rattle.tx_change.specs.Exchange.{AreNamed, applied, undone, reverted}
+use Rattle.tx_change.specs.Laws.{AppliedAppended, ChangedAppended, ChangesState, ChangesStateInTurn, ListNamesItsObjects, NamedAppended, RevertThenApply, SizesStay, TwiceIsNothing}
+use Rattle.tx_change.specs.States.{state_of}
+use Rattle.tx_change.specs.declared.change.Change.{Change}
+use Rattle.tx_change.specs.declared.parts.Parts.{Parts}
+use Rattle.tx_kernel.specs.Actors.{CountsHeld, inside_of, transaction_of}
+use Rattle.tx_kernel.specs.Acts.{Makes}
+use Rattle.tx_kernel.specs.Plans.{AreAmong, held_after, sent_at_once}
+use Rattle.tx_kernel.specs.declared.inside.Inside.{Inside}
+use Rattle.tx_kernel.specs.declared.planned.Planned.{Planned}
+use Rattle.tx_laws.specs.Fits.{Fits, FitsWithin, Passes}
+use Rattle.tx_laws.specs.Laws.{AcceptedStepsFit, RolesKeepSound, StartIsSound}
+use Rattle.tx_laws.specs.LawsOfEvents.{ActorIsObject, OtherPartsStay, OthersGetSendsAlone}
+use Rattle.tx_laws.specs.LawsOfParts.{DoomIsKept, HolderIsOfParts, InWayIsOfParts, PartsFollowRole, SamePartsSameView, StartHasItsView, TwoAnswersAreOfStarter}
+use Rattle.tx_laws.specs.TwoParts.{made, parts_view}
+use Rattle.tx_model.specs.Answer.{answer, IsAccepted}
+use Rattle.tx_model.specs.Calls.{Act}
+use Rattle.tx_model.specs.Events.{Event, Do, process_of, effect, objects}
+use Rattle.tx_model.specs.Membership.{Progress, Role, Within}
+use Rattle.tx_model.specs.Posts.{post_answer, received}
+use Rattle.tx_model.specs.SignalSets.{kill_signo, is_in_set}
+use Rattle.tx_model.specs.State.{Object, Proc, Process, Sending, State, has}
+use Rattle.tx_model.specs.View.{view, holder, in_way, has_two_answers, is_doomed, least, next, next_by, role_on, event_on}
+use Rattle.tx_signal.specs.Parts.{PendingView}
+use Rattle.tx_txn.specs.Content.{Txn, Content, IsKept, OthersHoldNothing, led_by, two_parts_of, start_content, starter_differs, stands_in_way}
+use Rattle.tx_txn.specs.Faces.{face_of, pending_in, pending_after, answer_at, queued_after}
+use Rattle.tx_txn.specs.Logs.{newest_first, pending_or, with_pending_at}
+use Rattle.tx_txn.specs.Steps.{IsNext, LeadsBack, Logs, next_content, step_of}
+
+-- in each role that goes with the event, the next content has the next view
+abbrev pub ContentFollowsRole : Type 0
+ContentFollowsRole = (role : Role) (event : Event) (process : ℕ) (new : List Change) (content : Content) →
+    IsKept content → Passes role event (parts_view (two_parts_of content)) → Fits role event process (parts_view (two_parts_of content)) →
+    Logs role event new content →
+    parts_view (two_parts_of (next_content role event process new content)) ≡ next_by role event process (parts_view (two_parts_of content))
+
+-- and what is so of every content is so of it
+abbrev pub ContentIsKept : Type 0
+ContentIsKept = (role : Role) (event : Event) (process : ℕ) (new : List Change) (content : Content) →
+    IsKept content → Passes role event (parts_view (two_parts_of content)) → Fits role event process (parts_view (two_parts_of content)) →
+    Logs role event new content →
+    OthersHoldNothing (next_content role event process new content) → IsKept (next_content role event process new content)
+
+-- after an accepted step the next content has the next view, and is kept
+abbrev pub ContentFollowsStep : Type 0
+ContentFollowsStep = (content : Content) (step : Step) (new : List Change) →
+    IsKept content → IsAccepted (answer (parts_view (two_parts_of content)) step) →
+    Logs (role_on (parts_view (two_parts_of content)) step) (event_on (parts_view (two_parts_of content)) step) new content →
+    IsNext (next_content (role_on (parts_view (two_parts_of content)) step) (event_on (parts_view (two_parts_of content)) step) (process_of step) new content)
+    (next (parts_view (two_parts_of content)) step)
+
+-- what exchanges of the step's objects took leads the state back, what the transaction of s holds apart
+abbrev pub StepLeadsBack : Type 0
+StepLeadsBack = (held later : ℕ → List Sending) (s : ℕ) (objects : List Object) (after : Parts) (kept : List Change) →
+    AreNamed after kept → AreAmong objects kept → ((n : ℕ) → (n == s) ≡ false → later n ≡ held n) →
+    LeadsBack s objects (newest_first kept) (state_of later after) (state_of held (undone after kept))
+
+-- a log that was led back, with the kept pending part put at the starter, leads the state back by the transaction
+abbrev pub LogLeadsBack : Type 0
+LogLeadsBack = (held : ℕ → List Sending) (parts : Parts) (s : ℕ) (log : List Change) (txn : Txn) →
+    AreNamed parts log → txn.log ≡ newest_first log → 1 ≤ s → s ≤ length parts.procs →
+    state_of (λ n. if n == s then [] else held n) (with_pending_at s txn.pending (undone parts log)) ≡ led_by s (Some txn) (state_of held parts)
+
+-- with the pending parts exchanged once more, and the log that was led back put forward again, the parts are as they were
+abbrev pub LogGoesForward : Type 0
+LogGoesForward = (parts : Parts) (s : ℕ) (log : List Change) (pending : PendingView) → AreNamed parts log → 1 ≤ s → s ≤ length parts.procs →
+    applied (with_pending_at s (pending_or pending (slot_at (undone parts log).procs s)) (with_pending_at s pending (undone parts log))) (reverted parts log) ≡ parts
+
+-- a call or a delivery that was made on the parts makes of their state what its event makes of it
+abbrev pub ActMakesEvent : Type 0
+ActMakesEvent = (held : ℕ → List Sending) (before after : Parts) (pid : Pid) (inside : Option Inside) (act : Act) (log now : List Change) (planned : Planned) →
+    Makes before pid inside act log now after planned → CountsHeld inside held →
+    made (Do (step_of pid act) (inside_of inside)) (state_of held before) (state_of held before) ≡ state_of (held_after (inside_of inside) planned.sends held) after
+
+-- it sends what its event sends
+abbrev pub ActSendsEvent : Type 0
+ActSendsEvent = (held : ℕ → List Sending) (before after : Parts) (pid : Pid) (inside : Option Inside) (act : Act) (log now : List Change) (planned : Planned) →
+    Makes before pid inside act log now after planned → CountsHeld inside held →
+    (effect (Do (step_of pid act) (inside_of inside)) (state_of held before)).sends ≡ sent_at_once planned.sends
+
+-- and where a member made it, it is logged as a step inside the transaction is to be
+abbrev pub ActIsLogged : Type 0
+ActIsLogged = (content : Content) (held : ℕ → List Sending) (before after : Parts) (pid : Pid) (inside : Inside) (act : Act) (log now : List Change) (planned : Planned)
+    (part : Progress) (process : ℕ) (made : Makes before pid (Some inside) act log now after planned) →
+    content.now ≡ state_of held before → CountsHeld (Some inside) held →
+    FitsWithin inside.starter.0 part (Do (step_of pid act) (Some (transaction_of inside))) process (parts_view (two_parts_of content)) →
+    Logs (Within inside.starter.0 part) (Do (step_of pid act) (Some (transaction_of inside))) (newest_first made.kept) content
+
+-- a live transaction is doomed if SIGKILL is kept as pending
+abbrev pub DoomIsPending : Type 0
+DoomIsPending = (content : Content) (starter : ℕ) (txn : Txn) → IsKept content → content.txns starter ≡ Some txn →
+    is_doomed (parts_view (two_parts_of content)) starter ≡ is_in_set txn.pending.standard kill_signo
+
+-- whether an event that does not name a live starter has two answers there, the faces and the lengths of the queues tell
+abbrev pub TwoAnswersAreOfFaces : Type 0
+TwoAnswersAreOfFaces = (content : Content) (event : Event) (starter : ℕ) (txn : Txn) → IsKept content → content.txns starter ≡ Some txn →
+    has (Proc starter) (objects event content.now) ≡ false →
+    has_two_answers (parts_view (two_parts_of content)) event starter ≡ starter_differs content event starter txn
+
+-- who is in the way of an event, the owners, the members, the faces and the lengths of the queues tell
+abbrev pub InWayIsOfFaces : Type 0
+InWayIsOfFaces = (content : Content) (event : Event) (starter : ℕ) → IsKept content →
+    in_way (parts_view (two_parts_of content)) event starter ≡ stands_in_way content event starter (content.txns starter)
+
+-- the holder is the least of these
+abbrev pub HolderIsOfFaces : Type 0
+HolderIsOfFaces = (content : Content) (event : Event) → IsKept content →
+    holder (parts_view (two_parts_of content)) event ≡ least (λ s. stands_in_way content event s (content.txns s)) content.table.width
+
+-- the content at the start has the view of the empty history
+abbrev pub StartContentHasItsView : Type 0
+StartContentHasItsView = (start : State) → parts_view (two_parts_of (start_content start)) ≡ view start []
+
+-- where nothing is held, what is so of every content is so of that at the start
+abbrev pub StartContentIsKept : Type 0
+StartContentIsKept = (start : State) → ((s : ℕ) → start.held s ≡ []) → IsKept (start_content start)
+
+-- what a post leaves as pending at its target, the face and what was pending tell
+abbrev pub PostLeavesPending : Type 0
+PostLeavesPending = (sending : Sending) (target : Option Process) →
+    pending_in (received sending target) ≡ pending_after sending (face_of target) (pending_in target)
+
+-- it leaves the face as it was
+abbrev pub PostLeavesFace : Type 0
+PostLeavesFace = (sending : Sending) (target : Option Process) → face_of (received sending target) ≡ face_of target
+
+-- how a post is answered, the face and the length of the queue tell
+abbrev pub PostIsAnsweredByFace : Type 0
+PostIsAnsweredByFace = (sending : Sending) (target : Option Process) →
+    post_answer sending target ≡ answer_at sending (face_of target) (length (pending_in target).queued)
+
+-- and so they tell how many are queued then
+abbrev pub PostLeavesQueued : Type 0
+PostLeavesQueued = (sending : Sending) (target : Option Process) →
+    length (pending_in (received sending target)).queued ≡ queued_after sending (face_of target) (length (pending_in target).queued)
+
+-- what the laws of contents stand on
+pub record RoleLaws : Type 0 where
+  pub start : StartHasItsView
+  pub start_sound : StartIsSound
+  pub fits : AcceptedStepsFit
+  pub sound : RolesKeepSound
+  pub same : SamePartsSameView
+  pub role : PartsFollowRole
+  pub doom : DoomIsKept
+  pub two_answers : TwoAnswersAreOfStarter
+  pub in_way : InWayIsOfParts
+  pub holder : HolderIsOfParts
+  pub actor : ActorIsObject
+  pub parts : OtherPartsStay
+  pub sends : OthersGetSendsAlone
+  pub appended : ChangedAppended
+  pub elsewhere : ListNamesItsObjects
+
+-- what the laws of logs stand on
+pub record LogLaws : Type 0 where
+  pub one : ChangesState
+  pub in_turn : ChangesStateInTurn
+  pub applied : AppliedAppended
+  pub named : NamedAppended
+  pub sizes : SizesStay
+  pub twice : TwiceIsNothing
+  pub forward : RevertThenApply

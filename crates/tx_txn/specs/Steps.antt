@@ -1,0 +1,90 @@
+-- What a step makes of the content, by what it is to the transactions. Of the kept side it reads what is pending at starters
+-- and their ids, and nothing else. Own rules.
+use Rattle.std.specs.Prelude.{◌≡◌, ℕ, true, List, [], ◌++◌, Option, Some, None, if◌then◌else◌, ◌==◌}
+use Rattle.tx_base.specs.declared.names.Pid.{Pid}
+use Rattle.tx_base.specs.declared.steps.Step.{Step}
+use Rattle.tx_base.specs.declared.steps.Step.TheVariants.{Call as Calls, Deliver}
+use Rattle.tx_change.specs.States.{changed_by}
+use Rattle.tx_change.specs.declared.change.Change.{Change}
+use Rattle.tx_laws.specs.TwoParts.{freed, made, parts_view}
+use Rattle.tx_model.specs.Calls.{Act, MakesCall, TakesSignal}
+use Rattle.tx_model.specs.Events.{Event, effect}
+use Rattle.tx_model.specs.History.{event_footprint, objects_reserved}
+use Rattle.tx_model.specs.Membership.{Role, Outside, Within, Commits, Aborts, table_after}
+use Rattle.tx_model.specs.State.{Ids, Process, Sending, State, Object, Proc, Desc, Pipe, Held, put_at, has, root_ids}
+use Rattle.tx_model.specs.View.{View}
+use Rattle.tx_txn.specs.Content.{Txn, Content, OthersHoldNothing, IsKept, overlay_if, led_by, two_parts_of, is_named}
+use Rattle.tx_txn.specs.Faces.{running, pending_in, pending_by}
+
+-- the ids of a process: root's, if it is not there
+abbrev pub ids_in : Option Process → Ids
+ids_in None = root_ids
+ids_in (Some q) = q.ids
+
+-- the transaction of s, where these sends were posted
+abbrev pub posted : ℕ → List Sending → Option Txn → Option Txn
+posted s ms None = None
+posted s ms (Some t) = Some (record t { pending = pending_by s ms (Some (running t.ids)) t.pending })
+
+-- the records of a step come before those of the steps before it; a transaction begins with what is pending at its starter,
+-- and with the ids of that
+abbrev pub logged : List Change → Option Process → Option Txn → Option Txn
+logged new q None = Some (record { log = new; pending = pending_in q; ids = ids_in q })
+logged new q (Some t) = Some (record t { log = new ++ t.log })
+
+-- the content after a step of process p that is so to the transactions; a step inside one logs these changes
+unfoldable pub next_content : Role → Event → ℕ → List Change → Content → Content
+next_content Outside ev p new c = record {
+  now = made ev c.now c.now;
+  txns = λ s. posted s (effect ev c.now).sends (c.txns s);
+  owner = c.owner;
+  table = table_after Outside p c.table;
+}
+next_content (Within s part) ev p new c = record {
+  now = made ev c.now c.now;
+  txns = put_at c.txns s (logged new (c.now.procs s) (c.txns s));
+  owner = λ o. if has o (objects_reserved part s (event_footprint c.table ev c.now)) then Some s else c.owner o;
+  table = table_after (Within s part) p c.table;
+}
+next_content (Commits s) ev p new c = record {
+  now = made ev c.now c.now;
+  txns = λ t. posted t (effect ev c.now).sends (put_at c.txns s None t);
+  owner = λ o. freed s (c.owner o);
+  table = table_after (Commits s) p c.table;
+}
+next_content (Aborts s status) ev p new c = record {
+  now = made ev (led_by s (c.txns s) c.now) (led_by s (c.txns s) c.now);
+  txns = put_at c.txns s None;
+  owner = λ o. freed s (c.owner o);
+  table = table_after (Aborts s status) p c.table;
+}
+
+-- the two states are the same at the object, what is pending at process s and what s holds apart
+abbrev pub AgreeBut : ℕ → State → State → Object → Type 0
+AgreeBut s S R (Proc n) = overlay_if (n == s) (pending_in None) (S.procs n) ≡ overlay_if (n == s) (pending_in None) (R.procs n)
+AgreeBut s S R (Desc n) = S.descs n ≡ R.descs n
+AgreeBut s S R (Pipe n) = S.pipes n ≡ R.pipes n
+AgreeBut s S R (Held n) = (if n == s then [] else S.held n) ≡ (if n == s then [] else R.held n)
+
+-- the records of a step inside the transaction of s lead its state back
+pub record LeadsBack (s : ℕ) (objects : List Object) (new : List Change) (after before : State) : Type 0 where
+  -- they are of objects that the step reserves
+  pub named : (o : Object) → is_named o new ≡ true → has o objects ≡ true
+  pub back : (o : Object) → AgreeBut s (changed_by new after) before o
+
+-- what a role asks of the records
+abbrev pub Logs : Role → Event → List Change → Content → Type 0
+Logs Outside ev new c = Unit {0}
+Logs (Within s part) ev new c = LeadsBack s (objects_reserved part s (event_footprint c.table ev c.now)) new (made ev c.now c.now) c.now
+Logs (Commits s) ev new c = Unit {0}
+Logs (Aborts s status) ev new c = Unit {0}
+
+-- the content has the view, and what is so of every content is so of it
+pub record IsNext (c : Content) (V : View) : Type 0 where
+  pub view : parts_view (two_parts_of c) ≡ V
+  pub kept : OthersHoldNothing c → IsKept c
+
+-- the step in which the process of a number makes a call, or a signal is delivered to it
+abbrev pub step_of : Pid → Act → Step
+step_of pid (MakesCall call) = Calls pid call
+step_of pid (TakesSignal signo) = Deliver pid (record { 0 = signo })

@@ -1,0 +1,93 @@
+//! The laws of logs and kept signals, as the contracts of functions that do nothing.
+ghost use Rattle.tx_txn.specs.Laws.{ActIsLogged, ActMakesEvent, ActSendsEvent, ContentFollowsRole, ContentFollowsStep, ContentIsKept, DoomIsPending, HolderIsOfFaces, InWayIsOfFaces, LogGoesForward, LogLaws, LogLeadsBack, PostIsAnsweredByFace, PostLeavesFace, PostLeavesPending, PostLeavesQueued, RoleLaws, StartContentHasItsView, StartContentIsKept, StepLeadsBack, TwoAnswersAreOfFaces};
+
+use tx_change::{appended, changes_state, lists_change_state, revert_then_apply, twice_is_nothing};
+use tx_laws::{answers_of_parts, locality, step_by_step, two_parts};
+
+/// The laws that those of contents stand on. It does nothing.
+fn role_laws()
+    ensures { RoleLaws }
+{
+    step_by_step();
+    two_parts();
+    answers_of_parts();
+    locality();
+    appended();
+    lists_change_state();
+}
+
+/// The laws that those of logs stand on. It does nothing.
+fn log_laws()
+    ensures { LogLaws }
+{
+    changes_state();
+    appended();
+    twice_is_nothing();
+    revert_then_apply();
+}
+
+/// A content of logs and kept signals has the next view after a step in each role, of which it reads no
+/// more on the kept side than what is pending at live starters, and their ids; and what is so of every
+/// content is so of the next one, as long as nothing is held where no transaction is live.
+pub fn logs_keep()
+    ensures role { ContentFollowsRole }
+    ensures kept { ContentIsKept }
+    ensures step { ContentFollowsStep }
+{
+    role_laws();
+}
+
+/// What the exchanges of a step took leads the state back, where each names an object that the step
+/// reserves. A log that was led back, with the kept pending part put at the starter, leads the state back
+/// by the transaction; and with the pending parts exchanged once more and the log put forward again, the
+/// parts are as they were.
+pub fn logs_lead_back()
+    ensures step { StepLeadsBack }
+    ensures abort { LogLeadsBack }
+    ensures forward { LogGoesForward }
+{
+    log_laws();
+}
+
+/// A call or a delivery that tx_kernel made on the parts is its event: it makes of the state what the event
+/// makes of it, sends what that sends, and where a member made it, its records are what the log of a step
+/// inside a transaction is to get.
+pub fn acts_are_events()
+    ensures state { ActMakesEvent }
+    ensures sends { ActSendsEvent }
+    ensures logged { ActIsLogged }
+{
+    log_laws();
+}
+
+/// What a post does at its target, by the target's face, which are its ids and whether it has ended, and
+/// by what is pending: its answer and how many signals are queued then depend on the length of the queue
+/// alone, and the face stays.
+pub fn posts_by_faces()
+    ensures pending { PostLeavesPending }
+    ensures face { PostLeavesFace }
+    ensures answer { PostIsAnsweredByFace }
+    ensures queued { PostLeavesQueued }
+{}
+
+/// The answers of a content of logs and kept signals. A live transaction is doomed if SIGKILL is kept as
+/// pending. Whether posts have two answers at its starter depends on the starter's ids, on whether it has
+/// ended, and on how many signals are queued, each as it is now and as it is kept; and so does who is in
+/// the way of an event, and the holder.
+pub fn answers_of_faces()
+    ensures doom { DoomIsPending }
+    ensures two_answers { TwoAnswersAreOfFaces }
+    ensures in_way { InWayIsOfFaces }
+    ensures holder { HolderIsOfFaces }
+{
+    role_laws();
+}
+
+/// The content at the start, in which no transaction is live, has the view of the empty history; and what
+/// is so of every content is so of it, where nothing is held.
+pub fn start_is_kept()
+    ensures view { StartContentHasItsView }
+    ensures kept { StartContentIsKept }
+{
+    role_laws();
+}
