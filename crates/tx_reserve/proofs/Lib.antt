@@ -1,3 +1,5 @@
 pub mod Places
 pub mod Members
 pub mod Owned
+pub mod Rows
+pub mod Silent

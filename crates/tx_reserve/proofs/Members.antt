@@ -94,7 +94,7 @@ edited_in before after x o place b small is at = elim (cases_Bool (is_small o)) 
   | inr e ↦ rw e (sym (both_same (same_object o x) false))
 ]
 
-own_test : (t : Bool) → (if t then true else false) ≡ t
+pub own_test : (t : Bool) → (if t then true else false) ≡ t
 own_test true = refl
 own_test false = refl
 

@@ -1,2 +1,3 @@
+pub mod Footprints
 pub mod Objects
 pub mod Reservations
