@@ -3,3 +3,4 @@ pub mod Members
 pub mod Owned
 pub mod Rows
 pub mod Silent
+pub mod Within

@@ -119,7 +119,7 @@ none_put before x o large = elim (cases_Bool (same_object o x)) [
   | inr e ↦ rw e refl
 ]
 
-no_bit : (i : ℕ) → (bit_at 0 i == 1) ≡ false
+pub no_bit : (i : ℕ) → (bit_at 0 i == 1) ≡ false
 no_bit i = ap (λ (b : ℕ). b == 1) (bit_at-zero i)
 
 -- where each word is 0, no bit is set
