@@ -22,4 +22,6 @@ mod pipe;
 #[cfg(test)]
 mod proc;
 #[cfg(test)]
+mod reserve;
+#[cfg(test)]
 mod signal;
