@@ -30,3 +30,4 @@ pub use inside::Inside;
 pub use laws::{booted_are_whole, well_formed_are_orderly};
 pub use planned::{Outcome, Planned, Sends, Shown};
 pub use posts::{Face, Posted, plan_post, post};
+pub use sends::sendable;

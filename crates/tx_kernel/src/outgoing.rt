@@ -50,8 +50,9 @@ impl Actor<'_> {
         self.tells_parent()
     }
 
-    /// Whether a delivery of the signal now ends the process.
-    fn is_ended_by(&self, signo: Signo) -> bool
+    /// Whether a delivery of the signal now ends the process: it may be delivered, the transaction does
+    /// not defer it, and its action ends the process. It takes no memory.
+    pub fn is_ended_by(&self, signo: Signo) -> bool
         ensures { result ≡ ends_by (inside_of self.now.inside) signo.0 (me_of self.now) (delivered_value signo.0 (me_of self.now)) }
     {
         let Some(_value) = self.proc.pending.delivered(signo, self.proc.mask) else {

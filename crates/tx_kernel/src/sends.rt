@@ -43,7 +43,7 @@ impl Send {
 }
 
 /// The signal that a program computed, or 0, which only asks; nothing where there is no such signal.
-fn sendable(number: i64) -> Option<Signo>
+pub fn sendable(number: i64) -> Option<Signo>
     ensures number { option_map number_of result ≡ sendable number }
     ensures low { IfSome result (λ signo. signo.0 < 40) }
 {

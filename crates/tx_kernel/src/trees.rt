@@ -120,7 +120,7 @@ impl Actor<'_> {
     }
 
     /// The process number that a program computed; nothing where it is not 1 to the width.
-    pub(crate) fn numbered(&self, number: i64) -> Option<Pid>
+    pub fn numbered(&self, number: i64) -> Option<Pid>
         requires { length self.now.parts.now.procs ≤ 256 }
         ensures { option_map (λ pid. pid.0) result ≡ numbered (length self.now.parts.now.procs) number }
     {

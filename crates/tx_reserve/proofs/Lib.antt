@@ -1,3 +1,6 @@
 pub mod Places
 pub mod Members
 pub mod Owned
+pub mod Rows
+pub mod Silent
+pub mod Within

@@ -94,7 +94,7 @@ edited_in before after x o place b small is at = elim (cases_Bool (is_small o)) 
   | inr e ↦ rw e (sym (both_same (same_object o x) false))
 ]
 
-own_test : (t : Bool) → (if t then true else false) ≡ t
+pub own_test : (t : Bool) → (if t then true else false) ≡ t
 own_test true = refl
 own_test false = refl
 
@@ -119,7 +119,7 @@ none_put before x o large = elim (cases_Bool (same_object o x)) [
   | inr e ↦ rw e refl
 ]
 
-no_bit : (i : ℕ) → (bit_at 0 i == 1) ≡ false
+pub no_bit : (i : ℕ) → (bit_at 0 i == 1) ≡ false
 no_bit i = ap (λ (b : ℕ). b == 1) (bit_at-zero i)
 
 -- where each word is 0, no bit is set

@@ -1,2 +1,4 @@
+pub mod Footprints
+pub mod Laws
 pub mod Objects
 pub mod Reservations

@@ -26,7 +26,7 @@ fn sent(signo: u8, real: u16, effective: u16) -> Sending
 }
 
 /// A kernel with two processes.
-fn booted(alloc: Global) -> Result<Parts, NoMemory>
+pub(crate) fn booted(alloc: Global) -> Result<Parts, NoMemory>
     ensures { IfOk result (λ parts. IsWhole parts) }
 {
     let parts = Parts::boot(alloc, 64, 2)?;

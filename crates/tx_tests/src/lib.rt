@@ -22,6 +22,8 @@ mod pipe;
 #[cfg(test)]
 mod proc;
 #[cfg(test)]
+mod reserve;
+#[cfg(test)]
 mod signal;
 #[cfg(test)]
 mod txn;

@@ -1,0 +1,21 @@
+use Rattle.std.proofs.Common.{[], ◌∷◌, Option, ap, sym}
+use Rattle.tx_model.specs.Footprints.{call_row_at}
+use Rattle.tx_proc.specs.Processes.{process_in}
+use Rattle.tx_proc.specs.declared.proc.Proc.{Proc as TheProc}
+use Rattle.tx_change.specs.States.{state_of}
+use Rattle.tx_kernel.specs.Actors.{me_of}
+use Rattle.tx_model.specs.Footprints.{call_row, footprint}
+use Rattle.tx_model.specs.State.{Proc}
+use Rattle.tx_reserve.specs.Footprints.{table_at}
+use Rattle.tx_reserve.proofs.Rows.{adds_one, adds_both, adds_same, set_of}
+use Rattle.tx_reserve.proofs.footprints.footprint_of_call.Goals as goal
+
+pub returns : goal.returns
+unfolding footprint
+returns c = λ held goes.
+    let t = table_at c.args.actor.now c.args.marks.now in
+    let p = c.args.actor.now.pid.0 in
+    let S = state_of held c.args.actor.now.parts.now in
+    set_of c.new-set.result _ c.new-set.ensures
+    (adds_same (Proc p ∷ call_row t p c.args.call.now (me_of c.args.actor.now) S) _ (ap (λ (x : Option TheProc). Proc p ∷ call_row_at t p c.args.call.now (process_in x) S) (sym c.requires.actor.there))
+    (adds_both (Proc p ∷ []) (call_row t p c.args.call.now (me_of c.args.actor.now) S) (adds_one _ _ (Proc p) c.insert.ensures) (c.add_call.ensures held goes)))

@@ -1,0 +1,43 @@
+-- What the footprint of a step is told by: the marks, and what the transaction holds where the step commits it.
+use Rattle.std.specs.Prelude.{◌≡◌, ℕ, true, false, List, Option, Some, None, if◌then◌else◌, length, map}
+use Rattle.tx_base.specs.Slots.{slot_at}
+use Rattle.tx_base.specs.declared.marks.Mark.{Mark}
+use Rattle.tx_base.specs.declared.names.Sending.{Sending}
+use Rattle.tx_change.specs.declared.parts.Parts.{Parts}
+use Rattle.tx_kernel.specs.Actors.{inside_of}
+use Rattle.tx_kernel.specs.Plans.{sending_of}
+use Rattle.tx_kernel.specs.declared.actor.Actor.{Actor}
+use Rattle.tx_model.specs.Membership.{Table, inside_by, others_open}
+use Rattle.tx_model.specs.State.{Object, Sending as TheSending, has}
+use Rattle.tx_reserve.specs.Objects.{is_in, is_small}
+use Rattle.tx_reserve.specs.declared.objects.Objects.{Objects}
+
+-- the table of the marks, for the process numbers that there are
+abbrev pub table_of : Parts → List (Option Mark) → Table
+table_of parts marks = record { width = length parts.procs; marks = slot_at marks }
+
+-- the table of the marks, for who makes the step
+abbrev pub table_at : Actor → List (Option Mark) → Table
+table_at actor marks = table_of actor.parts.now marks
+
+-- the step is made inside of the transaction that the marks say
+abbrev pub IsInside : Actor → List (Option Mark) → Type 0
+IsInside actor marks = inside_of actor.inside ≡ inside_by (table_at actor marks) (slot_at marks actor.pid.0)
+
+-- held sends are given where the process is a member and no other member's part is open, and they are the transaction's
+abbrev pub GoesBy : Table → ℕ → Option Mark → Option (List Sending) → (ℕ → List TheSending) → Type 0
+GoesBy t p None None held = Unit {0}
+GoesBy t p None (Some sends) held = ⊥
+GoesBy t p (Some mark) None held = others_open t mark.starter.0 p t.width ≡ true
+GoesBy t p (Some mark) (Some sends) held = (others_open t mark.starter.0 p t.width ≡ false) × (held mark.starter.0 ≡ map sending_of sends)
+
+abbrev pub GoesWith : Actor → List (Option Mark) → Option (List Sending) → (ℕ → List TheSending) → Type 0
+GoesWith actor marks last held = GoesBy (table_at actor marks) actor.pid.0 (slot_at marks actor.pid.0) last held
+
+-- the set has these objects, those of numbers that there may not be left out
+pub record IsSetOf (objects : Objects) (these : List Object) : Type 0 where
+  pub each : (o : Object) → is_in objects o ≡ (if is_small o then has o these else false)
+
+-- these objects were put into the set
+pub record Adds (before after : Objects) (these : List Object) : Type 0 where
+  pub each : (o : Object) → is_in after o ≡ (if is_in before o then true else (if is_small o then has o these else false))
