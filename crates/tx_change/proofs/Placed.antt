@@ -51,11 +51,12 @@ once_brings parts (Pipe number part) places = tt
 
 pub exchanged_bring : (parts : Parts) (changes : List Change) → AreNamed parts changes → BringPlaces changes → HaveAllPlaces parts → BringPlaces (exchanged parts changes)
 exchanged_bring parts [] named brings places = tt
-exchanged_bring parts (change ∷ changes) named brings places =
-    (once_brings parts change places,
-    exchanged_bring (parts_after parts change) changes
-    (subst (λ (sizes : Sizes). AreWithin sizes changes) (sym (still_sized parts change)) named.1)
-    brings.1 (once_placed parts change named.0 brings.0 places))
+exchanged_bring parts (change ∷ changes) named brings places = (
+  once_brings parts change places,
+  exchanged_bring (parts_after parts change) changes
+      (subst (λ (sizes : Sizes). AreWithin sizes changes) (sym (still_sized parts change)) named.1)
+      brings.1 (once_placed parts change named.0 brings.0 places),
+)
 
 named_undone : (parts : Parts) (change : Change) (changes : List Change) → IsNamed parts change → IsNamed (undone parts changes) change
 named_undone parts change changes named = subst (λ (sizes : Sizes). IsWithin sizes change) (sym (sizes-undone parts changes)) named

@@ -1,5 +1,5 @@
 -- The marks of a transaction's members.
-use Rattle.std.specs.Prelude.{◌≡◌, ℕ, Bool, true, false, List, length, replicate, Option, Some, None, ◌==◌, if◌then◌else◌}
+use Rattle.std.specs.Prelude.{◌≡◌, ℕ, Bool, true, false, List, length, Option, Some, None, ◌==◌, if◌then◌else◌}
 use Rattle.tx_base.specs.Slots.{slot_at}
 use Rattle.tx_base.specs.declared.marks.Mark.{Mark}
 use Rattle.tx_base.specs.declared.names.Pid.{Pid}
@@ -17,13 +17,6 @@ IsCovered s marks objects = (n : ℕ) → is_of s (slot_at marks n) ≡ true →
 abbrev pub ended_of : ℕ → Option Mark → Bool
 ended_of s None = false
 ended_of s (Some m) = if m.starter.0 == s then m.ended else false
-
--- the empty set
-abbrev pub no_objects : Objects
-no_objects = record { words = replicate 11 0 }
-
-abbrev pub no_members : Members
-no_members = record { joined = no_objects; ended = no_objects }
 
 -- the mark that the member n had
 abbrev pub mark_of : Pid → Members → ℕ → Bool → Mark

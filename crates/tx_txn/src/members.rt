@@ -4,7 +4,7 @@ ghost use Rattle.tx_base.specs.Slots.{slot_at};
 ghost use Rattle.tx_model.specs.Membership.{is_of, is_open_of, others_open, unmarked};
 ghost use Rattle.tx_model.specs.State.{Object as TheObject, Proc, same_object};
 ghost use Rattle.tx_reserve.specs.Objects.{is_in};
-ghost use Rattle.tx_txn.specs.Marks.{IsCovered, ended_of, mark_of, no_members, table_at};
+ghost use Rattle.tx_txn.specs.Marks.{IsCovered, ended_of, mark_of, table_at};
 
 use tx_base::{Mark, Pid, Slots};
 use tx_reserve::{Object, Objects};
@@ -20,7 +20,6 @@ pub struct Members {
 impl Members {
     /// No members.
     pub fn none() -> Members
-        ensures none { result ≡ no_members }
         ensures joined { (o : TheObject) → is_in result.joined o ≡ false }
         ensures ended { (o : TheObject) → is_in result.ended o ≡ false }
     {

@@ -1,5 +1,5 @@
 //! A live transaction.
-ghost use Rattle.std.specs.Prelude.{◌≡◌, ◌≤◌, ◌&&◌, ◌||◌, ℕ, true, false, not, if◌then◌else◌, Some, None, is_some, length, map};
+ghost use Rattle.std.specs.Prelude.{◌≡◌, ◌≤◌, ◌&&◌, ◌||◌, ℕ, true, false, not, if◌then◌else◌, Some, None, IfSome, IsSomeAnd, is_some, length, map};
 ghost use Rattle.tx_base.specs.Slots.{slot_at};
 ghost use Rattle.tx_change.specs.Exchange.{AreNamed, applied, exchanged, reverted, undone};
 ghost use Rattle.tx_kernel.specs.Actors.{transaction_of};
@@ -9,7 +9,7 @@ ghost use Rattle.tx_model.specs.Membership.{is_of, unmarked};
 ghost use Rattle.tx_model.specs.State.{Object, Proc};
 ghost use Rattle.tx_reserve.specs.Objects.{is_in};
 ghost use Rattle.tx_reserve.specs.Reservations.{owner_of};
-ghost use Rattle.tx_txn.specs.Marks.{IsCovered, ended_of, mark_of, no_members};
+ghost use Rattle.tx_txn.specs.Marks.{IsCovered, ended_of, mark_of};
 ghost use Rattle.tx_txn.specs.Logs.{with_pending_at};
 ghost use Rattle.tx_txn.specs.Txns.{inside_at, none_held};
 ghost use Rattle.tx_kernel.specs.Plans.{sending_of};
@@ -39,8 +39,8 @@ pub struct Txn {
     pub outbox: Outbox,
     /// What its members' steps reserved.
     pub objects: Objects,
-    /// Who its members were, once it ended.
-    pub members: Members,
+    /// Who its members were, if it has ended.
+    pub members: Option<Members>,
 }
 
 impl Txn {
@@ -54,7 +54,7 @@ impl Txn {
         ensures log { result.log ≡ log }
         ensures outbox { result.outbox ≡ none_held }
         ensures objects { (o : Object) → is_in result.objects o ≡ false }
-        ensures members { result.members ≡ no_members }
+        ensures members { result.members ≡ None }
     {
         Txn {
             starter,
@@ -63,7 +63,7 @@ impl Txn {
             log,
             outbox: Outbox::new(alloc),
             objects: Objects::new(),
-            members: Members::none(),
+            members: None,
         }
     }
 
@@ -96,24 +96,25 @@ impl Txn {
         ensures marks { (n : ℕ) → slot_at marks.new n ≡ unmarked self.old.starter.0 (slot_at marks.old n) }
         ensures length { length marks.new ≡ length marks.old }
         ensures owners { (o : Object) → owner_of owners.new o ≡ (if is_in self.old.objects o then None else owner_of owners.old o) }
-        ensures joined { (n : ℕ) → is_in self.new.members.joined (Proc n) ≡ is_of self.old.starter.0 (slot_at marks.old n) }
-        ensures ended { (n : ℕ) → is_in self.new.members.ended (Proc n) ≡ ended_of self.old.starter.0 (slot_at marks.old n) }
+        ensures joined { IsSomeAnd self.new.members (λ members. (n : ℕ) → is_in members.joined (Proc n) ≡ is_of self.old.starter.0 (slot_at marks.old n)) }
+        ensures ended { IsSomeAnd self.new.members (λ members. (n : ℕ) → is_in members.ended (Proc n) ≡ ended_of self.old.starter.0 (slot_at marks.old n)) }
         ensures rest { self.new ≡ record self.old { members = self.new.members } }
     {
-        self.members = Members::take(marks, self.starter, &self.objects);
+        self.members = Some(Members::take(marks, self.starter, &self.objects));
         owners.release(&self.objects);
     }
 
     /// Takes the end back: the marks of its members are put back, and what it reserved is its own.
     pub fn revive(&mut self, marks: &mut Slots<Mark>, owners: &mut Reservations)
-        requires { (n : ℕ) → is_in self.old.members.joined (Proc n) ≡ true → n ≤ length marks.old }
-        ensures marks { (n : ℕ) → slot_at marks.new n ≡ (if is_in self.old.members.joined (Proc n) then Some (mark_of self.old.starter self.old.members n self.old.defers) else slot_at marks.old n) }
+        requires { IfSome self.old.members (λ members. (n : ℕ) → is_in members.joined (Proc n) ≡ true → n ≤ length marks.old) }
+        ensures marks { IfSome self.old.members (λ members. (n : ℕ) → slot_at marks.new n ≡ (if is_in members.joined (Proc n) then Some (mark_of self.old.starter members n self.old.defers) else slot_at marks.old n)) }
         ensures length { length marks.new ≡ length marks.old }
         ensures owners { (o : Object) → owner_of owners.new o ≡ (if is_in self.old.objects o then Some self.old.starter.0 else owner_of owners.old o) }
-        ensures rest { self.new ≡ record self.old { members = no_members } }
+        ensures rest { self.new ≡ record self.old { members = None } }
     {
-        self.members.put_back(marks, self.starter, self.defers);
-        self.members = Members::none();
+        if let Some(members) = self.members.take() {
+            members.put_back(marks, self.starter, self.defers);
+        }
         let _fresh = owners.take(self.starter, &self.objects);
     }
 
@@ -126,8 +127,8 @@ impl Txn {
         requires named { AreNamed parts.old self.old.log }
         ensures parts { parts.new ≡ with_pending_at self.old.starter.0 self.old.kept.pending (undone parts.old self.old.log) }
         ensures txn { self.new ≡ record self.old {
-            kept = record self.old.kept { pending = pending_in (slot_at (undone parts.old self.old.log).procs self.old.starter.0) self.old.kept.pending };
-            log = reverted parts.old self.old.log;
+          kept = record self.old.kept { pending = pending_in (slot_at (undone parts.old self.old.log).procs self.old.starter.0) self.old.kept.pending };
+          log = reverted parts.old self.old.log;
         } }
     {
         appended();
@@ -144,8 +145,8 @@ impl Txn {
         requires named { AreNamed parts.old self.old.log }
         ensures parts { parts.new ≡ applied (with_pending_at self.old.starter.0 self.old.kept.pending parts.old) self.old.log }
         ensures txn { self.new ≡ record self.old {
-            kept = record self.old.kept { pending = pending_in (slot_at parts.old.procs self.old.starter.0) self.old.kept.pending };
-            log = exchanged (with_pending_at self.old.starter.0 self.old.kept.pending parts.old) self.old.log;
+          kept = record self.old.kept { pending = pending_in (slot_at parts.old.procs self.old.starter.0) self.old.kept.pending };
+          log = exchanged (with_pending_at self.old.starter.0 self.old.kept.pending parts.old) self.old.log;
         } }
     {
         parts
