@@ -12,6 +12,8 @@ mod cred;
 #[cfg(test)]
 mod desc;
 #[cfg(test)]
+mod ends;
+#[cfg(test)]
 mod kernel;
 #[cfg(test)]
 mod machine;
@@ -22,4 +24,8 @@ mod pipe;
 #[cfg(test)]
 mod proc;
 #[cfg(test)]
+mod replays;
+#[cfg(test)]
 mod signal;
+#[cfg(test)]
+mod texts;

@@ -1,0 +1,34 @@
+use Rattle.std.proofs.Common.{◌≡◌, ◌≢◌, true, ◌∙◌, sym, ◌∷◌, ◌++◌, codes}
+use Rattle.std.proofs.lemmas.Option.{IfSome_then}
+use Rattle.tx_script.proofs.FirstWord.{split_parts, same_parts}
+use Rattle.tx_script.proofs.StepParts.{first_of, rest_of, step_parts, aborts, calls}
+use Rattle.tx_script.proofs.read.steps.read_step.Goals as goal
+
+pub returns-in_err-first-clause-only : goal.returns-in_err-first-clause-only
+returns-in_err-first-clause-only c s fits within e = let parts = step_parts c.args.line.now s fits e in cc (parts, c.in_err-first.ensures)
+
+pub returns-then-is_kernel-clause-only : goal.returns-then-is_kernel-clause-only
+returns-then-is_kernel-clause-only c s fits within e =
+    let same = same_parts (c.in_ok-first.first.now, c.in_ok-first.rest.now) (first_of s, rest_of s) (c.in_ok-first.ensures ∙ step_parts c.args.line.now s fits e) in
+    aborts s fits c.in_ok-first.first.now c.in_ok-first.rest.now c.kernel_abort.result same.0 same.1 (c.is_kernel.ensures.0 c.if-is_kernel.true) c.kernel_abort.ensures.only
+
+pub returns-then-is_kernel-clause-found : goal.returns-then-is_kernel-clause-found
+returns-then-is_kernel-clause-found c =
+    let whole : c.args.line.now ≡ c.in_ok-first.first.now ++ 32 ∷ c.in_ok-first.rest.now = split_parts c.args.line.now c.in_ok-first.first.now c.in_ok-first.rest.now (sym c.in_ok-first.ensures) in
+    let kernel : c.in_ok-first.first.now ≡ codes "kernel" = c.is_kernel.ensures.0 c.if-is_kernel.true in
+    let line : c.args.line.now ≡ codes "kernel" ++ 32 ∷ c.in_ok-first.rest.now = rw kernel at whole in
+    IfSome_then c.kernel_abort.result c.kernel_abort.ensures.found (λ s h. line ∙ h)
+
+pub returns-clause-only : goal.returns-clause-only
+returns-clause-only c s fits within e =
+    let same = same_parts (c.in_ok-first.first.now, c.in_ok-first.rest.now) (first_of s, rest_of s) (c.in_ok-first.ensures ∙ step_parts c.args.line.now s fits e) in
+    let other : c.in_ok-first.first.now ≢ codes "kernel" = λ kernel. let is : c.is_kernel.result ≡ true = c.is_kernel.ensures.1 kernel in cc (is, c.if-is_kernel.false) in
+    calls c.args.version s fits within c.in_ok-first.first.now c.in_ok-first.rest.now c.call_step.result same.0 same.1 other c.call_step.ensures.only
+
+pub returns-clause-found : goal.returns-clause-found
+returns-clause-found c =
+    let whole : c.args.line.now ≡ c.in_ok-first.first.now ++ 32 ∷ c.in_ok-first.rest.now = split_parts c.args.line.now c.in_ok-first.first.now c.in_ok-first.rest.now (sym c.in_ok-first.ensures) in
+    IfSome_then c.call_step.result c.call_step.ensures.found (λ s h. whole ∙ h)
+
+pub returns-then-is_kernel-clause-within : goal.returns-then-is_kernel-clause-within
+returns-then-is_kernel-clause-within c = c.kernel_abort.ensures.within c.args.version
