@@ -7,6 +7,7 @@ pub mod LineEnds
 pub mod Listed
 pub mod OneMore
 pub mod Reported
+pub mod SignalLists
 pub mod Spelled
 pub mod StateSpelled
 pub mod StepParts

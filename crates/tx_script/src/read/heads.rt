@@ -1,12 +1,13 @@
 //! Reads the first line of a schedule.
-ghost use Rattle.std.specs.Prelude.{◌≡◌, ◌≢◌, ◌<◌, ◌≤◌, ◌++◌, IfSome, List, MatchOption, ℕ, Some};
+ghost use Rattle.std.specs.Prelude.{◌≡◌, ◌<◌, ◌≤◌, IfSome, Some};
 ghost use Rattle.std.specs.Fmt.{decimal};
 ghost use Rattle.tx_base.specs.declared.names.Pid.{Pid};
 ghost use Rattle.tx_script.specs.declared.read.header.Header.{Header};
 ghost use Rattle.tx_script.specs.Lines.{header_front, header_text, most_of, FitsHeader};
 
 use crate::read::header::{Header, Version};
-use crate::read::pids::read_pid;
+use crate::read::small::read_pid;
+use crate::read::split::after_front;
 use tx_base::{PROCESSES, Pid, WIDE_PROCESSES};
 
 /// The header that a line spells. Nothing where it is another line.
@@ -48,13 +49,6 @@ fn most(version: Version) -> u16
         Version::One => PROCESSES,
         Version::Two => WIDE_PROCESSES,
     }
-}
-
-/// What follows that front of a line. Nothing where the line does not begin so.
-fn after_front<'a>(front: &[u8], line: &'a [u8]) -> Option<&'a [u8]>
-    ensures { MatchOption result ((rest : List ℕ) → line.now ≢ front.now ++ rest) (λ rest. line.now ≡ front.now ++ rest.now) }
-{
-    line.strip_prefix(front)
 }
 
 /// The number that a word spells, from 1 to so many.

@@ -6,8 +6,8 @@ ghost use Rattle.tx_script.specs.declared.read.header.Version.{Version};
 use crate::faults::Fault;
 use crate::read::header::Header;
 use crate::read::heads::read_header;
+use crate::read::made::read_made_step;
 use crate::read::schedule::Schedule;
-use crate::read::steps::read_step;
 use std::alloc::Global;
 
 /// How long a line may be, in bytes, without its end.
@@ -29,7 +29,7 @@ pub fn read_schedule(alloc: Global, text: &[u8]) -> Result<Schedule, Fault>
     let mut steps = Vec::with_capacity(alloc, STEPS.min(left.len() / STEP_BYTES))?;
     while !left.is_empty() {
         let (line, rest) = next_line(steps.len(), left)?;
-        let Some(step) = read_step(header.version, line) else {
+        let Some(step) = read_made_step(header.version, line) else {
             return Err(Fault::NotALine {
                 line: steps.len() as u64 + 2,
             });

@@ -1,7 +1,7 @@
 use Rattle.std.proofs.Common.{rules, ◌≡◌, ◌∙◌, ◌∷◌, ◌++◌, List, ℕ, codes, ap, arith}
 use Rattle.std.proofs.lemmas.Option.{IfSome_then}
 use Rattle.std.proofs.lemmas.Slice.Eq.{text_from_reads}
-use Rattle.tx_script.proofs.read.lines.transaction_call.Goals as goal
+use Rattle.tx_script.proofs.read.calls.transactions.transaction_call.Goals as goal
 
 pub returns-in-115-clause-found : goal.returns-in-115-clause-found
 returns-in-115-clause-found c =
