@@ -13,6 +13,7 @@ pub use ends::whole::{read_whole, write_whole};
 pub use faults::Fault;
 pub use read::header::{Header, Version};
 pub use read::schedule::Schedule;
+pub use read::steps::read_step;
 pub use read::text::read_schedule;
 pub use replays::replay;
 pub use write::reports::report;
