@@ -12,6 +12,8 @@ mod cred;
 #[cfg(test)]
 mod desc;
 #[cfg(test)]
+mod ends;
+#[cfg(test)]
 mod kernel;
 #[cfg(test)]
 mod machine;
@@ -22,8 +24,12 @@ mod pipe;
 #[cfg(test)]
 mod proc;
 #[cfg(test)]
+mod replays;
+#[cfg(test)]
 mod reserve;
 #[cfg(test)]
 mod signal;
+#[cfg(test)]
+mod texts;
 #[cfg(test)]
 mod txn;

@@ -1,15 +1,1 @@
 pub mod CommandNamed
-pub mod Digits
-pub mod FirstWord
-pub mod Growing
-pub mod Heading
-pub mod Hexed
-pub mod LineEnds
-pub mod Listed
-pub mod OneMore
-pub mod Reported
-pub mod Spelled
-pub mod StateSpelled
-pub mod StepParts
-pub mod Upto
-pub mod Written

@@ -1,14 +1,1 @@
 pub mod CommandLine
-pub mod Each
-pub mod Ends
-pub mod Lines
-pub mod Links
-pub mod Over
-pub mod Replay
-pub mod Replies
-pub mod Report
-pub mod Schedule
-pub mod State
-pub mod Txns
-pub mod Whole
-pub mod Words

@@ -4,19 +4,12 @@
 ghost use Rattle.std.specs.Prelude.{◌≡◌, OnErr, OnOk};
 ghost use Rattle.std.specs.Process.{exit_status};
 
-mod ends;
-mod faults;
-mod read;
-mod replays;
 mod words;
-mod write;
 
 use clap::error::ErrorKind;
-use ends::over::{OverRead, OverWrite};
-use faults::Fault;
-use replays::replay;
 use std::process::ExitCode;
 use std::{env, io};
+use tx_script::{Fault, OverRead, OverWrite, replay};
 use words::{Asked, read_words};
 
 /// The status of a fault.

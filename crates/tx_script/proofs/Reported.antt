@@ -1,0 +1,58 @@
+-- What some steps of a schedule leave: the lines of their answers, and a machine that has the view of their history.
+use Rattle.std.proofs.Common.{◌≡◌, ℕ, ◌+◌, List, [], ◌∷◌, ◌++◌, sym, ap, ◌∙◌, subst, append_assoc}
+use Rattle.std.proofs.lemmas.List.{append-nil}
+use Rattle.tx_base.specs.declared.steps.Accepted.{Accepted}
+use Rattle.tx_base.specs.declared.steps.Reply.{Reply}
+use Rattle.tx_base.specs.declared.steps.Step.{Step}
+use Rattle.tx_core.specs.Content.{view_of}
+use Rattle.tx_core.specs.Runs.{IsAfter}
+use Rattle.tx_core.specs.declared.content.Content.{Content}
+use Rattle.tx_model.specs.Answer.{answer, Lawful}
+use Rattle.tx_model.specs.Schedules.{recorded, answers_of, history_of}
+use Rattle.tx_model.specs.State.{State}
+use Rattle.tx_model.specs.View.{View, view}
+use Rattle.tx_script.specs.Replies.{line_text}
+use Rattle.tx_script.specs.Report.{lines_text}
+
+-- so far: the steps that are left lead from the history so far to that of the whole schedule, and their lines from the
+-- text so far to the whole text
+pub record RepliesSoFar (start : State) (earlier : List Accepted) (steps : List Step) (before : List ℕ) (machine : Content) (text : List ℕ) (number : ℕ) (left : List Step) : Type 0 where
+  pub history : List Accepted
+  pub after : IsAfter start history machine
+  pub leads : history_of start earlier steps ≡ history_of start history left
+  pub lines : before ++ lines_text 1 (answers_of start earlier steps) ≡ text ++ lines_text number (answers_of start history left)
+
+-- one step more
+pub one_reply_more : (start : State) (earlier : List Accepted) (steps : List Step) (before : List ℕ) (old new : Content) (text more : List ℕ) (number : ℕ) (step : Step) (left : List Step) (reply : Reply)
+    → RepliesSoFar start earlier steps before old text number (step ∷ left) → reply ≡ answer (view_of old) step
+    → ((history : List Accepted) → IsAfter start history old → IsAfter start (recorded history step reply) new)
+    → more ≡ text ++ line_text number reply → RepliesSoFar start earlier steps before new more (number + 1) left
+unfolding history_of answers_of
+one_reply_more start earlier steps before old new text more number step left reply so replied made put =
+    let h : List Accepted = so.history in
+    let same : answer (view start h) step ≡ reply = sym (replied ∙ ap (λ (V : View). answer V step) so.after.view) in
+    let rest : Reply → List ℕ = λ r. lines_text (number + 1) (answers_of start (recorded h step r) left) in
+    record {
+      history = recorded h step reply;
+      after = made h so.after;
+      leads = so.leads ∙ ap (λ (r : Reply). history_of start (recorded h step r) left) same;
+      lines = so.lines
+          ∙ ap (λ (r : Reply). text ++ (line_text number r ++ rest r)) same
+          ∙ sym (append_assoc text (line_text number reply) (rest reply))
+          ∙ ap (λ (t : List ℕ). t ++ rest reply) (sym put);
+    }
+
+-- no step is left
+pub replies_whole : (start : State) (earlier : List Accepted) (steps : List Step) (before : List ℕ) (machine : Content) (text : List ℕ) (number : ℕ) (left : List Step)
+    → RepliesSoFar start earlier steps before machine text number left → left ≡ []
+    → (text ≡ before ++ lines_text 1 (answers_of start earlier steps)) × IsAfter start (history_of start earlier steps) machine
+unfolding history_of answers_of
+replies_whole start earlier steps before machine text number left so none = (
+  sym (so.lines ∙ ap (λ (xs : List Step). text ++ lines_text number (answers_of start so.history xs)) none ∙ append-nil text),
+  subst (λ (h : List Accepted). IsAfter start h machine) (sym (so.leads ∙ ap (history_of start so.history) none)) so.after,
+)
+
+-- the machine at the start
+pub after_nothing : (start : State) (machine : Content) → view_of machine ≡ view start [] → IsAfter start [] machine
+unfolding Lawful
+after_nothing start machine same = record { lawful = tt; view = same }

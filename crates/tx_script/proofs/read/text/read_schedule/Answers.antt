@@ -1,0 +1,29 @@
+use Rattle.std.proofs.Common.{rules, ◌≡◌, ◌≢◌, ◌<◌, length, [], ◌∷◌, ◌++◌}
+use Rattle.std.proofs.lemmas.Result.{err_from_is_err_and}
+use Rattle.tx_script.proofs.Growing.{faults_after, schedule_more, text_more}
+use Rattle.tx_script.proofs.LineEnds.{line_spelled, shorter_rest}
+use Rattle.tx_script.specs.Lines.{step_text}
+use Rattle.tx_script.proofs.read.text.read_schedule.Goals as goal
+
+pub returns-in_err-line : goal.returns-in_err-line
+returns-in_err-line c =
+    let some : c.loop-left.left.now ≢ [] = search rules in
+    let up = err_from_is_err_and c.from_residual-in_err-line.result c.from_residual-in_err-line.ensures.1 in
+    let header = c.in_ok-header.header in
+    rw (up.1, up.2) (faults_after c.args.text.now c.in_err-line.field-0.0 header c.loop-left.steps.items c.loop-left.left.now c.len.result c.loop-left.invariant.good c.loop-left.invariant.parts some
+    (search rules) (c.in_err-line.ensures.fault header.version))
+
+pub loop-left-smaller : goal.loop-left-smaller
+loop-left-smaller c = shorter_rest c.loop-left.left.now c.in_ok-line.line.now c.in_ok-line.rest.now c.in_ok-line.ensures.line
+
+pub loop-left-preserved : goal.loop-left-preserved
+loop-left-preserved c =
+    let header = c.in_ok-header.header in
+    let step = c.in-Some.step in
+    let pushed : c.push.new.self.items ≡ c.loop-left.steps.items ++ step ∷ [] = search rules in
+    let few : length c.loop-left.steps.items < 4096 = search (rules, c.in_ok-line.ensures.few, c.len.ensures) in
+    let spelled : c.loop-left.left.now ≡ step_text step ++ 10 ∷ c.in_ok-line.rest.now = line_spelled c.loop-left.left.now c.in_ok-line.line.now (step_text step) c.in_ok-line.rest.now c.in_ok-line.ensures.line c.in-Some.ensures.found in
+    record {
+      good = schedule_more header c.loop-left.steps.items step c.push.new.self.items c.loop-left.invariant.good c.in-Some.ensures.fits c.in-Some.ensures.within few pushed;
+      parts = text_more header c.loop-left.steps.items step c.push.new.self.items c.args.text.now c.loop-left.left.now c.in_ok-line.rest.now c.loop-left.invariant.parts spelled pushed;
+    }

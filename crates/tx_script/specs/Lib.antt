@@ -1,0 +1,16 @@
+pub mod Calls
+pub mod Each
+pub mod Ends
+pub mod Groups
+pub mod Lines
+pub mod Links
+pub mod Over
+pub mod Replay
+pub mod Replies
+pub mod Report
+pub mod Schedule
+pub mod Sets
+pub mod State
+pub mod Txns
+pub mod Whole
+pub mod Words

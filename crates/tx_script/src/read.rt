@@ -1,0 +1,14 @@
+//! Reads the text of a schedule.
+
+pub mod byte_words;
+pub mod calls;
+pub mod header;
+pub mod heads;
+pub mod made;
+pub mod numbers;
+pub mod schedule;
+pub mod sets;
+pub mod small;
+pub mod split;
+pub mod steps;
+pub mod text;

@@ -1,0 +1,69 @@
+//! Reads the first line of a schedule.
+ghost use Rattle.std.specs.Prelude.{◌≡◌, ◌<◌, ◌≤◌, IfSome, Some};
+ghost use Rattle.std.specs.Fmt.{decimal};
+ghost use Rattle.tx_base.specs.declared.names.Pid.{Pid};
+ghost use Rattle.tx_script.specs.declared.read.header.Header.{Header};
+ghost use Rattle.tx_script.specs.Lines.{header_front, header_text, most_of, FitsHeader};
+
+use crate::read::header::{Header, Version};
+use crate::read::small::read_pid;
+use crate::read::split::after_front;
+use tx_base::{PROCESSES, Pid, WIDE_PROCESSES};
+
+/// The header that a line spells. Nothing where it is another line.
+pub fn read_header(line: &[u8]) -> Option<Header>
+    ensures found { IfSome result (λ h. line.now ≡ header_text h) }
+    ensures fits { IfSome result FitsHeader }
+    ensures only { (h : Header) → FitsHeader h → line.now ≡ header_text h → result ≡ Some h }
+{
+    read_of(Version::One, line).or_else(|| read_of(Version::Two, line))
+}
+
+/// The header of that version that a line spells.
+fn read_of(version: Version, line: &[u8]) -> Option<Header>
+    ensures found { IfSome result (λ h. line.now ≡ header_text h) }
+    ensures fits { IfSome result FitsHeader }
+    ensures same { IfSome result (λ h. h.version ≡ version) }
+    ensures only { (h : Header) → h.version ≡ version → FitsHeader h → line.now ≡ header_text h → result ≡ Some h }
+{
+    let word = after_front(front(version), line)?;
+    let count = read_count(word, most(version))?;
+    Some(Header { version, count })
+}
+
+/// What stands before the number in a header.
+fn front(version: Version) -> &'static [u8]
+    ensures { result.now ≡ header_front version }
+{
+    match version {
+        Version::One => b"txos 1 schedule ",
+        Version::Two => b"txos 2 schedule ",
+    }
+}
+
+/// The most processes that a text of that version begins with.
+fn most(version: Version) -> u16
+    ensures { result ≡ most_of version }
+{
+    match version {
+        Version::One => PROCESSES,
+        Version::Two => WIDE_PROCESSES,
+    }
+}
+
+/// The number that a word spells, from 1 to so many.
+fn read_count(word: &[u8], most: u16) -> Option<u16>
+    ensures found { IfSome result (λ n. word.now ≡ decimal n) }
+    ensures above { IfSome result (λ n. 0 < n) }
+    ensures below { IfSome result (λ n. n ≤ most) }
+    ensures only { (p : Pid) → 0 < p.0 → p.0 ≤ most → word.now ≡ decimal p.0 → result ≡ Some p.0 }
+{
+    let Pid(count) = read_pid(word)?;
+    if count == 0 {
+        return None;
+    }
+    if count > most {
+        return None;
+    }
+    Some(count)
+}

@@ -1,0 +1,24 @@
+//! Reads a schedule, runs it, and writes the report.
+ghost use Rattle.std.specs.Prelude.{◌≡◌};
+ghost use Rattle.tx_script.specs.Ends.{IsFresh};
+ghost use Rattle.tx_script.specs.Replay.{Replays};
+
+use crate::ends::flow::{Sink, Source};
+use crate::ends::whole::{read_whole, write_whole};
+use crate::faults::Fault;
+use crate::read::text::read_schedule;
+use crate::write::reports::report;
+use std::alloc::Global;
+
+/// Reads the text of a schedule to its end, runs it, and writes the report. Nothing is written
+/// where the fault is another one than `Writer`.
+pub fn replay<S: Source, W: Sink>(alloc: Global, source: &mut S, sink: &mut W) -> Result<(), Fault>
+    requires source { IsFresh (S.counts source.old) }
+    requires sink { IsFresh (W.counts sink.old) }
+    ensures { Replays (S.left source.old) (S.counts source.old) (W.written sink.old) (W.counts sink.old) result (S.counts source.new) (W.written sink.new) (W.counts sink.new) }
+{
+    let text = read_whole(alloc, source)?;
+    let schedule = read_schedule(alloc, text.as_slice())?;
+    let report = report(alloc, &schedule)?;
+    write_whole(sink, report.as_bytes())
+}

@@ -1,0 +1,104 @@
+//! Runs a schedule, and prints what it answers and the state that it leaves.
+ghost use Rattle.std.specs.Prelude.{◌≡◌, ◌++◌, [], List, IfErr, IfOk, OnOk, string_bytes};
+ghost use Rattle.tx_base.specs.declared.steps.Accepted.{Accepted};
+ghost use Rattle.tx_core.specs.Built.{AreBuilt, IsBuilt};
+ghost use Rattle.tx_core.specs.Content.{view_of};
+ghost use Rattle.tx_core.specs.Outcomes.{reply_to};
+ghost use Rattle.tx_core.specs.Runs.{IsAfter};
+ghost use Rattle.tx_model.specs.Answer.{answer};
+ghost use Rattle.tx_model.specs.Schedules.{recorded, answers_of, history_of};
+ghost use Rattle.tx_model.specs.State.{State};
+ghost use Rattle.tx_script.specs.Lines.{FitsHeader};
+ghost use Rattle.tx_script.specs.Report.{lines_text, report_text, start_of, state_text};
+ghost use Rattle.tx_script.specs.declared.faults.Fault.TheVariants.{NoMemory};
+
+use crate::faults::Fault;
+use crate::read::header::{Header, Version};
+use crate::read::schedule::Schedule;
+use crate::write::print::put;
+use crate::write::replies::put_reply_line;
+use crate::write::state::put_procs;
+use crate::write::txns::put_txns;
+use std::alloc::Global;
+use tx_base::{Refusal, Step};
+use tx_core::{Machine, Outcome};
+
+/// The report of a schedule: a line for each step's reply, and the text of the state after the
+/// last one. The only fault is `NoMemory`.
+pub fn report(alloc: Global, schedule: &Schedule) -> Result<String, Fault>
+    requires header { FitsHeader schedule.now.header }
+    requires steps { AreBuilt schedule.now.steps.items }
+    ensures text { IfOk result (λ text. string_bytes text ≡ report_text schedule.now.header schedule.now.steps.items) }
+    ensures fault { IfErr result (λ fault. fault ≡ NoMemory) }
+{
+    let mut machine = boot(alloc, schedule.header)?;
+    let mut text = String::new(alloc);
+    put_replies(alloc, &mut text, &mut machine, schedule.steps.as_slice())?;
+    put_state(&mut text, &machine)?;
+    Ok(text)
+}
+
+/// A machine as it is at the start.
+fn boot(alloc: Global, header: Header) -> Result<Machine, Fault>
+    requires { FitsHeader header }
+    ensures view { IfOk result (λ machine. view_of machine ≡ start_of header) }
+    ensures fault { IfErr result (λ fault. fault ≡ NoMemory) }
+{
+    let machine = match header.version {
+        Version::One => Machine::boot(alloc, header.count)?,
+        Version::Two => Machine::boot_wide(alloc, header.count)?,
+    };
+    Ok(machine)
+}
+
+/// Makes the steps, and appends the line of each reply.
+fn put_replies(
+    alloc: Global,
+    text: &mut String,
+    machine: &mut Machine,
+    steps: &[Step],
+) -> Result<(), Fault>
+    requires { AreBuilt steps.now }
+    ensures text { OnOk result ((start : State) (earlier : List Accepted) → IsAfter start earlier machine.old →
+        string_bytes text.new ≡ string_bytes text.old ++ lines_text 1 (answers_of start earlier steps.now)) }
+    ensures after { OnOk result ((start : State) (earlier : List Accepted) → IsAfter start earlier machine.old →
+        IsAfter start (history_of start earlier steps.now) machine.new) }
+    ensures fault { IfErr result (λ fault. fault ≡ NoMemory) }
+{
+    for i in 0..steps.len() {
+        let made = make_step(alloc, machine, &steps[i])?;
+        put_reply_line(text, i as u64 + 1, made)?;
+    }
+    Ok(())
+}
+
+/// Makes a step, which is never taken back. Answers its outcome, or why it was refused.
+fn make_step(
+    alloc: Global,
+    machine: &mut Machine,
+    step: &Step,
+) -> Result<Result<Outcome, Refusal>, Fault>
+    requires { IsBuilt step.now }
+    ensures answer { IfOk result (λ made. reply_to made ≡ answer (view_of machine.old) step.now) }
+    ensures after { IfOk result (λ made. (start : State) (earlier : List Accepted) → IsAfter start earlier machine.old →
+        IsAfter start (recorded earlier step.now (reply_to made)) machine.new) }
+    ensures fault { IfErr result (λ fault. fault ≡ NoMemory) }
+{
+    match machine.take(alloc, step) {
+        Ok((outcome, _inverse)) => Ok(Ok(outcome)),
+        Err(Refusal::NoMemory) => Err(Fault::NoMemory),
+        Err(refusal) => Ok(Err(refusal)),
+    }
+}
+
+/// Appends the text of the state.
+fn put_state(text: &mut String, machine: &Machine) -> Result<(), Fault>
+    ensures text { OnOk result (string_bytes text.new ≡ string_bytes text.old ++ state_text (view_of machine.now)) }
+    ensures fault { IfErr result (λ fault. fault ≡ NoMemory) }
+{
+    put(text, "state\n")?;
+    let width = machine.processes();
+    put_procs(text, machine.parts(), width)?;
+    put_txns(text, machine.marks(), width)?;
+    Ok(())
+}

@@ -1,9 +1,0 @@
-use Rattle.std.proofs.Common.{◌≡◌, ◌∙◌, ◌∷◌, ◌++◌, sym}
-use Rattle.std.proofs.lemmas.Option.{IfSome_then}
-use Rattle.txos.proofs.FirstWord.{split_parts}
-use Rattle.txos.proofs.read.lines.read_call.Goals as goal
-
-pub returns-in-Some-clause-found : goal.returns-in-Some-clause-found
-returns-in-Some-clause-found c =
-    let whole : c.args.text.now ≡ c.in-Some.name.now ++ 32 ∷ c.in-Some.arguments.now = split_parts c.args.text.now c.in-Some.name.now c.in-Some.arguments.now (sym c.in-Some.ensures) in
-    IfSome_then c.memory_call.result c.memory_call.ensures.found (λ call spelled. whole ∙ spelled)
