@@ -28,4 +28,6 @@ mod replays;
 #[cfg(test)]
 mod signal;
 #[cfg(test)]
+mod steps;
+#[cfg(test)]
 mod texts;
