@@ -30,6 +30,8 @@ mod reserve;
 #[cfg(test)]
 mod signal;
 #[cfg(test)]
+mod steps;
+#[cfg(test)]
 mod texts;
 #[cfg(test)]
 mod txn;
