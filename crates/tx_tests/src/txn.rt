@@ -38,7 +38,10 @@ fn signals_from_outside_are_kept(rt: HostRuntime) -> Result<(), Fail> {
     kept.unpost(killed);
     assert!(rt; !kept.is_doomed());
     kept.ids.real_user = 7;
-    assert!(rt; kept.post(&sent(10, Some((8, 8)))).is_none(), "it may not be signalled");
+    assert!(rt;
+        kept.post(&sent(10, Some((8, 8)))).is_none(),
+        "it may not be signalled"
+    );
     Ok(())
 }
 
@@ -79,11 +82,18 @@ fn a_transaction_is_led_back_and_forward(rt: HostRuntime) -> Result<(), Fail> {
     txn.log.push(change)?;
     txn.log.make_from(&mut parts, 0);
     let marks = Slots::new(rt.alloc(), 64)?;
-    assert_eq!(rt; (txn.inside(&marks).held, txn.inside(&marks).defers), (0, true));
+    assert_eq!(rt;
+        (txn.inside(&marks).held, txn.inside(&marks).defers),
+        (0, true)
+    );
     let _kept = txn.kept.post(&sent(9, None));
     txn.lead_back(&mut parts);
     assert_eq!(rt; point(&parts), Some(0));
-    assert!(rt; parts.proc(Pid(2)).is_some_and(|proc| has(proc.pending.standard(), SIGKILL)));
+    assert!(rt;
+        parts
+            .proc(Pid(2))
+            .is_some_and(|proc| has(proc.pending.standard(), SIGKILL))
+    );
     txn.lead_forward(&mut parts);
     assert_eq!(rt; point(&parts), Some(3));
     assert!(rt; txn.kept.is_doomed());
