@@ -1,28 +1,22 @@
 //! What a live transaction keeps and holds, by hand from the rules.
+ghost use Rattle.std.specs.Prelude.{◌≡◌};
+
 use std::test::Fail;
-use tx_base::{Errno, Mark, Pid, SIGKILL, Sending, Signo, Slots};
+use tx_base::{Errno, Pid, SIGKILL, Sending, Signo, Slots};
 use tx_change::{Change, Log, Parts};
 use tx_proc::{Answer, Part, Proc};
-use tx_reserve::{Object, Objects};
 use tx_signal::has;
-use tx_txn::{HeldPost, Kept, Members, Outbox, Txn, is_last_open};
+use tx_txn::{HeldPost, Kept, Outbox, Txn};
 
 /// A signal from process 1 to process 2; from nobody where the kernel sends it.
-fn sent(signo: u8, from: Option<(u16, u16)>) -> Sending {
+fn sent(signo: u8, from: Option<(u16, u16)>) -> Sending
+    ensures { result.signo.0 ≡ signo }
+{
     Sending {
         target: Pid(2),
         signo: Signo(signo),
         value: 5,
         from,
-    }
-}
-
-/// The mark of a member of process 2's transaction.
-fn mark(ended: bool) -> Mark {
-    Mark {
-        starter: Pid(2),
-        ended,
-        defers: true,
     }
 }
 
@@ -97,29 +91,5 @@ fn a_transaction_is_led_back_and_forward(rt: HostRuntime) -> Result<(), Fail> {
     txn.lead_forward(&mut parts);
     assert_eq!(rt; point(&parts), Some(3));
     assert!(rt; txn.kept.is_doomed());
-    Ok(())
-}
-
-/// The objects of the processes 2 and 5.
-fn members() -> Objects {
-    let mut objects = Objects::new();
-    objects.insert(Object::Proc(Pid(2)));
-    objects.insert(Object::Proc(Pid(5)));
-    objects
-}
-
-#[test]
-fn marks_are_taken_out_and_put_back(rt: HostRuntime) -> Result<(), Fail> {
-    let mut marks = Slots::new(rt.alloc(), 64)?;
-    assert_eq!(rt; marks.width(), 64);
-    marks.put(Pid(2), mark(false));
-    marks.put(Pid(5), mark(true));
-    assert!(rt; is_last_open(&marks, Pid(2), Pid(2), &members()));
-    assert!(rt; !is_last_open(&marks, Pid(2), Pid(5), &members()));
-    let taken = Members::take(&mut marks, Pid(2), &members());
-    assert!(rt; marks.get(Pid(2)).is_none() && marks.get(Pid(5)).is_none());
-    taken.put_back(&mut marks, Pid(2), true);
-    assert_eq!(rt; marks.get(Pid(2)).copied(), Some(mark(false)));
-    assert_eq!(rt; marks.get(Pid(5)).copied(), Some(mark(true)));
     Ok(())
 }
