@@ -9,6 +9,7 @@ use crate::read::numbers::number;
 use crate::read::small::{read_byte, read_point};
 
 /// The text before the first byte of that kind, and the text after it. Nothing where there is none.
+#[inline(never)] // inlined, its loop would keep the offsets that its callers go on with
 pub fn split_at(mark: u8, text: &[u8]) -> Option<(&[u8], &[u8])>
     ensures { option_map (λ r. (r.0.now, r.1.now)) result ≡ parts_at mark text.now }
 {

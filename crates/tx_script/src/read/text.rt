@@ -83,6 +83,7 @@ fn line_of(number: u64, text: &[u8]) -> Result<(&[u8], &[u8]), Fault>
 
 /// The first line of a text without its end, and the text after that end. All of the text and
 /// nothing, where no line has an end.
+#[inline(never)] // as `split_at`
 fn take_line(text: &[u8]) -> (&[u8], Option<&[u8]>)
     ensures line { result.0.now ≡ first_line text.now }
     ensures rest { option_map (λ r. r.now) result.1 ≡ after_line text.now }
