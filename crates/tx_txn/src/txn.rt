@@ -67,26 +67,26 @@ impl Txn {
         }
     }
 
-    /// Reserves what a step of a member names. Answers what of it nobody owned before.
+    /// Reserves what a step of a member names. Answers what was reserved before.
     pub fn reserve(&mut self, owners: &mut Reservations, objects: &Objects) -> Objects
+        ensures before { result ≡ self.old.objects }
         ensures owners { (o : Object) → owner_of owners.new o ≡ (if is_in objects.now o then Some self.old.starter.0 else owner_of owners.old o) }
-        ensures fresh { (o : Object) → is_in result o ≡ (if is_some (owner_of owners.old o) then false else is_in objects.now o) }
-        ensures objects { (o : Object) → is_in self.new.objects o ≡ (is_in self.old.objects o || is_in result o) }
+        ensures objects { (o : Object) → is_in self.new.objects o ≡ (is_in self.old.objects o || is_in objects.now o) }
         ensures rest { self.new ≡ record self.old { objects = self.new.objects } }
     {
-        let fresh = owners.take(self.starter, objects);
-        self.objects = self.objects.join(&fresh);
-        fresh
+        let before = self.objects;
+        let _fresh = owners.take(self.starter, objects);
+        self.objects = before.join(objects);
+        before
     }
 
-    /// Gives up what a step had reserved first.
-    pub fn give_up(&mut self, owners: &mut Reservations, fresh: &Objects)
-        ensures owners { (o : Object) → owner_of owners.new o ≡ (if is_in fresh.now o then None else owner_of owners.old o) }
-        ensures objects { (o : Object) → is_in self.new.objects o ≡ (is_in self.old.objects o && not (is_in fresh.now o)) }
-        ensures rest { self.new ≡ record self.old { objects = self.new.objects } }
+    /// Gives up what was reserved since.
+    pub fn give_up(&mut self, owners: &mut Reservations, before: Objects)
+        ensures owners { (o : Object) → owner_of owners.new o ≡ (if is_in self.old.objects o && not (is_in before o) then None else owner_of owners.old o) }
+        ensures rest { self.new ≡ record self.old { objects = before } }
     {
-        owners.release(fresh);
-        self.objects = self.objects.less(fresh);
+        owners.release(&self.objects.less(&before));
+        self.objects = before;
     }
 
     /// Ends the transaction, whose members are among its objects: its marks are taken out, and what it
