@@ -1,5 +1,5 @@
 //! The machine, as its steps change it.
-ghost use Rattle.std.specs.Prelude.{◌≡◌, ◌≢◌, ◌≤◌, ◌↔◌, ◌⊎◌, ◌∷◌, [], ℕ, List, true, length, pos, Some, None, IfOk, IfErr, OnOk, OnErr, IsOk, IfSome, IsSome, IsNone, option_map};
+ghost use Rattle.std.specs.Prelude.{◌≡◌, ◌≢◌, ◌≤◌, ◌↔◌, ◌⊎◌, ◌∷◌, [], ℕ, List, true, length, pos, Some, None, IfOk, IfErr, OnOk, OnErr, IsOk, IfSome, IsSome, IsNone, map, option_map};
 ghost use Rattle.tx_base.specs.Slots.{slot_at};
 ghost use Rattle.tx_base.specs.declared.marks.Mark.{Mark as TheMark};
 ghost use Rattle.tx_base.specs.declared.steps.Call.TheVariants.{SysXend, SysXabort};
@@ -12,6 +12,7 @@ ghost use Rattle.tx_base.specs.declared.steps.Reply.TheVariants.{Aborted, No};
 ghost use Rattle.tx_core.specs.Outcomes.{replied};
 ghost use Rattle.tx_core.specs.Steps.{IsStep, Takes, IsXabort, IsKernelAbort};
 ghost use Rattle.tx_core.specs.Undo.{undone_by, LeadsBack};
+ghost use Rattle.tx_kernel.specs.Plans.{sending_of};
 ghost use Rattle.tx_model.specs.Answer.{answer, IsAccepted, Lawful};
 ghost use Rattle.tx_model.specs.Membership.{Beginning, Leaving, Aborting, kind_of, is_live};
 ghost use Rattle.tx_model.specs.State.{State, booted};
@@ -26,7 +27,7 @@ use std::alloc::Global;
 use std::marker::Model;
 use tx_base::{
     ABORTED_BY_CALL, ABORTED_BY_KERNEL, Call, Mark, NoMemory, PROCESSES, Pid, Refusal, Reply,
-    Slots, Step, WIDE_PROCESSES,
+    Sending, Slots, Step, WIDE_PROCESSES,
 };
 use tx_change::{Log, Parts};
 
@@ -325,6 +326,16 @@ impl Machine {
         ensures table { (n : ℕ) → slot_at result.now n ≡ (view_of self.now).table.marks n }
     {
         &self.content.marks
+    }
+
+    /// The sends that the live transaction of a starter holds, in order; none where it has begun
+    /// none. No machine holds a send so far.
+    pub fn held(&self, _starter: Pid) -> &[Sending]
+        ensures { map sending_of result.now ≡ (present (view_of self.now)).held _starter.0 }
+    {
+        laws();
+        let _content = &self.content;
+        &[]
     }
 
     /// The starter of the live transaction that the process is a member of.

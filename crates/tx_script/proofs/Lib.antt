@@ -3,6 +3,7 @@ pub mod FirstWord
 pub mod Growing
 pub mod Heading
 pub mod Hexed
+pub mod Known
 pub mod LineEnds
 pub mod Listed
 pub mod OneMore

@@ -4,7 +4,8 @@ use Rattle.std.proofs.lemmas.List.{append-nil}
 use Rattle.tx_base.specs.declared.marks.Mark.{Mark}
 use Rattle.tx_script.specs.Each.{upto}
 use Rattle.tx_script.specs.Links.{is_of, LeadsOn}
-use Rattle.tx_script.specs.Txns.{is_listed_in, listed_text, member_text, some_after, some_of}
+use Rattle.tx_script.specs.Txns.{is_listed_in, listed_text, some_of}
+use Rattle.tx_script.specs.Lists.{member_text, some_after}
 use Rattle.tx_script.proofs.Upto.{upto_none, upto_more}
 
 pub listed_none : (listed : ℕ → Bool) (before : List ℕ) → before ≡ before ++ listed_text listed 0

@@ -1,7 +1,6 @@
 -- The text of the state that a machine has.
-use Rattle.std.proofs.Common.{◌≡◌, ℕ, List, ◌++◌, Option, length, codes, refl, ap, ◌∙◌, sym, append_assoc}
+use Rattle.std.proofs.Common.{◌≡◌, ℕ, List, ◌++◌, length, codes, refl, ap, ◌∙◌, sym, append_assoc}
 use Rattle.tx_base.specs.Slots.{slot_at}
-use Rattle.tx_base.specs.declared.marks.Mark.{Mark}
 use Rattle.tx_change.specs.declared.parts.Parts.{Parts}
 use Rattle.tx_core.specs.declared.content.Content.{Content}
 use Rattle.tx_core.specs.Content.{state_of, table_in, view_of}
@@ -9,6 +8,7 @@ use Rattle.tx_model.specs.Membership.{Table}
 use Rattle.tx_model.specs.State.{State}
 use Rattle.tx_laws.specs.TwoParts.{parts_view}
 use Rattle.tx_model.specs.View.{present}
+use Rattle.tx_script.specs.Descriptors.{descs_text, pipes_text}
 use Rattle.tx_script.specs.Report.{state_text}
 use Rattle.tx_script.specs.State.{procs_text}
 use Rattle.tx_script.specs.Txns.{txns_text}
@@ -17,20 +17,30 @@ table_is : (k : Content) → (view_of k).table ≡ table_in k
 unfolding view_of parts_view
 table_is k = refl
 
-pub state_spelled : (k : Content) (parts : Parts) (marks : List (Option Mark)) (width : ℕ) (before one two three : List ℕ) → parts ≡ k.parts → state_of parts ≡ present (view_of k) → marks ≡ k.marks → width ≡ length k.parts.procs →
-    one ≡ before ++ codes "state\n" → two ≡ one ++ procs_text width (state_of parts).procs → three ≡ two ++ txns_text width (slot_at marks) →
-    three ≡ before ++ state_text (view_of k)
-state_spelled k parts marks width before one two three p same m count first second third =
+pub state_spelled : (k : Content) (parts : Parts) (width : ℕ) (before one two three four five : List ℕ) → parts ≡ k.parts → state_of parts ≡ present (view_of k) → width ≡ length k.parts.procs →
+    one ≡ before ++ codes "state\n" → two ≡ one ++ procs_text width (state_of parts).procs → three ≡ two ++ descs_text (state_of parts).descs →
+    four ≡ three ++ pipes_text (state_of parts).pipes → five ≡ four ++ txns_text width (slot_at k.marks) (present (view_of k)).held →
+    five ≡ before ++ state_text (view_of k)
+state_spelled k parts width before one two three four five p same count first second third fourth fifth =
+    let S : State = present (view_of k) in
     let shown : State → List ℕ = λ S. procs_text S.width S.procs in
-    let listed : Table → List ℕ = λ table. txns_text table.width table.marks in
-    let procs : procs_text width (state_of parts).procs ≡ shown (present (view_of k)) =
+    let listed : Table → List ℕ = λ table. txns_text table.width table.marks S.held in
+    let descs : List ℕ = descs_text S.descs in
+    let pipes : List ℕ = pipes_text S.pipes in
+    let txns : List ℕ = listed (view_of k).table in
+    let procs : procs_text width (state_of parts).procs ≡ shown S =
     ap (λ (width : ℕ). procs_text width (state_of parts).procs) (count ∙ ap (λ (parts : Parts). length parts.procs) (sym p)) ∙ ap shown same in
-    let txns : txns_text width (slot_at marks) ≡ listed (view_of k).table =
-    ap (λ (width : ℕ). txns_text width (slot_at marks)) count ∙ ap (λ (marks : List (Option Mark)). txns_text (length k.parts.procs) (slot_at marks)) m ∙ ap listed (sym (table_is k)) in
-    let rest : List ℕ = shown (present (view_of k)) ++ listed (view_of k).table in
-    third
-    ∙ ap (λ (t : List ℕ). two ++ t) txns
-    ∙ ap (λ (t : List ℕ). t ++ listed (view_of k).table) (second ∙ ap (λ (t : List ℕ). one ++ t) procs)
-    ∙ append_assoc one (shown (present (view_of k))) (listed (view_of k).table)
-    ∙ ap (λ (t : List ℕ). t ++ rest) first
-    ∙ append_assoc before (codes "state\n") rest
+    let last : txns_text width (slot_at k.marks) S.held ≡ txns =
+    ap (λ (width : ℕ). txns_text width (slot_at k.marks) S.held) count ∙ ap listed (sym (table_is k)) in
+    let one_two : two ≡ one ++ shown S = second ∙ ap (λ (t : List ℕ). one ++ t) procs in
+    let to_three : three ≡ one ++ (shown S ++ descs) =
+    third ∙ ap (λ (R : State). two ++ descs_text R.descs) same ∙ ap (λ (t : List ℕ). t ++ descs) one_two ∙ append_assoc one (shown S) descs in
+    let to_four : four ≡ one ++ (shown S ++ (descs ++ pipes)) =
+    fourth ∙ ap (λ (R : State). three ++ pipes_text R.pipes) same ∙ ap (λ (t : List ℕ). t ++ pipes) to_three
+    ∙ append_assoc one (shown S ++ descs) pipes ∙ ap (λ (t : List ℕ). one ++ t) (append_assoc (shown S) descs pipes) in
+    let to_five : five ≡ one ++ (shown S ++ (descs ++ (pipes ++ txns))) =
+    fifth ∙ ap (λ (t : List ℕ). four ++ t) last ∙ ap (λ (t : List ℕ). t ++ txns) to_four
+    ∙ append_assoc one (shown S ++ (descs ++ pipes)) txns
+    ∙ ap (λ (t : List ℕ). one ++ t) (append_assoc (shown S) (descs ++ pipes) txns ∙ ap (λ (t : List ℕ). shown S ++ t) (append_assoc descs pipes txns)) in
+    let rest : List ℕ = shown S ++ (descs ++ (pipes ++ txns)) in
+    to_five ∙ ap (λ (t : List ℕ). t ++ rest) first ∙ append_assoc before (codes "state\n") rest

@@ -6,6 +6,7 @@ use Rattle.tx_model.specs.Schedules.{answers_of, history_of}
 use Rattle.tx_model.specs.State.{State, booted}
 use Rattle.tx_model.specs.View.{View, view, present}
 use Rattle.tx_script.specs.declared.read.header.Header.{Header}
+use Rattle.tx_script.specs.Descriptors.{descs_text, pipes_text}
 use Rattle.tx_script.specs.Lines.{most_of}
 use Rattle.tx_script.specs.Replies.{line_text}
 use Rattle.tx_script.specs.State.{procs_text}
@@ -13,7 +14,9 @@ use Rattle.tx_script.specs.Txns.{txns_text}
 
 -- the text of a state
 abbrev pub state_text : View → List ℕ
-state_text V = codes "state\n" ++ (procs_text (present V).width (present V).procs ++ txns_text V.table.width V.table.marks)
+state_text V =
+    codes "state\n"
+    ++ (procs_text (present V).width (present V).procs ++ (descs_text (present V).descs ++ (pipes_text (present V).pipes ++ txns_text V.table.width V.table.marks (present V).held)))
 
 -- the state at the start
 abbrev pub start_state : Header → State

@@ -1,13 +1,14 @@
--- The text of a machine's state.
-use Rattle.std.specs.Prelude.{ℕ, zero, suc, ◌+◌, ◌/◌, ◌%◌, ℤ, pos, Bool, true, false, List, [], ◌∷◌, ◌++◌, codes, Option, Some, None, slice_index, if◌then◌else◌}
-use Rattle.std.specs.List.{list_all}
-use Rattle.std.specs.Ordering.{int_eq}
-use Rattle.std.specs.Fmt.{decimal, signed_decimal}
+-- The text of the processes.
+use Rattle.std.specs.Prelude.{ℕ, zero, suc, ◌+◌, ◌-◌, ◌/◌, ◌%◌, Bool, true, false, ◌&&◌, List, [], ◌∷◌, ◌++◌, codes, Option, Some, None, slice_index, if◌then◌else◌, nat_lt, ◌==◌}
+use Rattle.std.specs.Fmt.{decimal}
 use Rattle.hex.specs.Hex.{lower_digits}
 use Rattle.tx_base.specs.declared.names.Regs.{Regs}
-use Rattle.tx_model.specs.State.{Process}
+use Rattle.tx_model.specs.State.{Ids, Process}
 use Rattle.tx_model.specs.Memory.{Memory, PageView, page_at}
-use Rattle.tx_script.specs.Each.{each_text, upto}
+use Rattle.tx_script.specs.Descriptors.{fds_text}
+use Rattle.tx_script.specs.Each.{upto}
+use Rattle.tx_script.specs.Registers.{run_text, slots_line}
+use Rattle.tx_script.specs.Signals.{signals_text}
 
 -- the byte at an offset, where it is not 0
 abbrev pub byte_text : ℕ → ℕ → List ℕ
@@ -34,36 +35,43 @@ page_line number (Some page) = page_text number page
 abbrev pub pages_text : Memory → List ℕ
 pages_text memory = upto (λ number. page_line number (page_at memory number)) 16
 
--- the number in a slot
-abbrev pub slot_text : ℤ → List ℕ
-slot_text slot = 32 ∷ signed_decimal slot
-
--- the line of the slots
-abbrev pub slots_text : List ℤ → List ℕ
-slots_text slots = codes "slots" ++ (each_text slot_text slots ++ 10 ∷ [])
-
--- whether every slot is 0
-abbrev pub is_blank_of : List ℤ → Bool
-is_blank_of slots = list_all (λ slot. int_eq slot (pos 0)) slots
-
--- the end of a running process's line, and its slots where one is not 0
-abbrev pub regs_text : Regs → List ℕ
-regs_text regs =
-    codes " run point " ++ (decimal regs.point ++ (codes " ret " ++ (signed_decimal regs.ret ++ 10 ∷ (if is_blank_of regs.slots then [] else slots_text regs.slots))))
-
--- the end of an ended process's line
+-- the end of an ended process's line: what it exited with, or the signal that killed it
 abbrev pub status_text : ℕ → List ℕ
-status_text status = codes " exit " ++ (decimal status ++ 10 ∷ [])
+status_text status =
+    if nat_lt status 256 then codes " exit " ++ (decimal status ++ 10 ∷ []) else codes " killed " ++ (decimal (status - 256) ++ 10 ∷ [])
 
 -- what follows the number and the parent of a process
-abbrev pub rest_text : Option ℕ → Regs → Memory → List ℕ
-rest_text None regs memory = regs_text regs ++ pages_text memory
-rest_text (Some status) regs memory = status_text status
+abbrev pub end_text : Option ℕ → Regs → List ℕ
+end_text None regs = run_text regs
+end_text (Some status) regs = status_text status
+
+-- the first line of a process
+abbrev pub head_text : ℕ → Process → List ℕ
+head_text number process =
+    codes "proc " ++ (decimal number ++ (codes " parent " ++ (decimal process.parent ++ end_text process.status process.registers)))
+
+-- whether every id is 0
+abbrev pub are_root : Ids → Bool
+are_root ids = ids.real_user == 0 && ids.effective_user == 0 && ids.saved_user == 0 && ids.real_group == 0 && ids.effective_group == 0 && ids.saved_group == 0
+
+-- three ids, each after a space
+abbrev pub three_ids : ℕ → ℕ → ℕ → List ℕ
+three_ids real effective saved = 32 ∷ (decimal real ++ 32 ∷ (decimal effective ++ 32 ∷ decimal saved))
+
+-- the line of the ids, where one is not 0
+abbrev pub ids_line : Ids → List ℕ
+ids_line ids =
+    if are_root ids then []
+    else codes "ids" ++ (three_ids ids.real_user ids.effective_user ids.saved_user ++ (three_ids ids.real_group ids.effective_group ids.saved_group ++ 10 ∷ []))
+
+-- the lines of what a process has
+abbrev pub own_text : Process → List ℕ
+own_text process =
+    ids_line process.ids ++ (slots_line process.registers.slots ++ (pages_text process.memory ++ (fds_text process.descriptors ++ signals_text process)))
 
 -- the lines of a process
 abbrev pub process_text : ℕ → Process → List ℕ
-process_text number process =
-    codes "proc " ++ (decimal number ++ (codes " parent " ++ (decimal process.parent ++ rest_text process.status process.registers process.memory)))
+process_text number process = head_text number process ++ own_text process
 
 -- the lines of a process number: none where there is no process
 abbrev pub process_lines : ℕ → Option Process → List ℕ

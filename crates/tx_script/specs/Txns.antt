@@ -1,8 +1,10 @@
 -- The text of the live transactions.
 use Rattle.std.specs.Prelude.{ℕ, zero, suc, ◌+◌, Bool, true, false, not, List, [], ◌∷◌, ◌++◌, codes, Option, Some, None, nat_eq, if◌then◌else◌}
-use Rattle.std.specs.Fmt.{decimal}
+use Rattle.std.specs.Fmt.{decimal, signed_decimal}
 use Rattle.tx_base.specs.declared.marks.Mark.{Mark}
-use Rattle.tx_script.specs.Each.{upto}
+use Rattle.tx_model.specs.State.{Sending}
+use Rattle.tx_script.specs.Each.{each_text, upto}
+use Rattle.tx_script.specs.Lists.{member_text, some_after}
 
 -- whether two answers are the same
 abbrev pub same_answer : Bool → Bool → Bool
@@ -13,17 +15,6 @@ same_answer false b = not b
 abbrev pub is_listed_in : Option Mark → ℕ → Bool → Bool
 is_listed_in None starter ended = false
 is_listed_in (Some mark) starter ended = if nat_eq mark.starter.0 starter then same_answer mark.ended ended else false
-
--- whether a list has a number, once one more was looked at
-abbrev pub some_after : Bool → Bool → Bool
-some_after some true = true
-some_after some false = some
-
--- a number that is listed, after a comma where it is not the first
-abbrev pub member_text : Bool → Bool → ℕ → List ℕ
-member_text some false number = []
-member_text true true number = 44 ∷ decimal number
-member_text false true number = decimal number
 
 -- whether one of the first so many numbers is listed
 abbrev pub some_of : (ℕ → Bool) → ℕ → Bool
@@ -50,15 +41,24 @@ abbrev pub txn_text : ℕ → (ℕ → Option Mark) → ℕ → Bool → List �
 txn_text width marks starter defers =
     codes "txn " ++ (decimal starter ++ (flag_of defers ++ (members_text width marks starter false ++ (codes " ended " ++ (members_text width marks starter true ++ 10 ∷ [])))))
 
--- the line of a mark, where it is that of a transaction's starter
-abbrev pub mark_text : ℕ → (ℕ → Option Mark) → ℕ → Option Mark → List ℕ
-mark_text width marks number None = []
-mark_text width marks number (Some mark) = if nat_eq mark.starter.0 number then txn_text width marks number mark.defers else []
+-- the line of a send that is held: its target, its signal and its value
+abbrev pub held_text : Sending → List ℕ
+held_text sending = codes "held " ++ (decimal sending.target ++ 58 ∷ (decimal sending.signo ++ 58 ∷ (signed_decimal sending.value ++ 10 ∷ [])))
 
--- the line of a starter's transaction: none where the process has begun none
-abbrev pub txn_line : ℕ → (ℕ → Option Mark) → ℕ → List ℕ
-txn_line width marks number = mark_text width marks number (marks number)
+-- the lines of the sends that a transaction holds, in order
+abbrev pub helds_text : List Sending → List ℕ
+helds_text sendings = each_text held_text sendings
+
+-- the lines of a mark, where it is that of a transaction's starter: the transaction, and what it holds
+abbrev pub mark_text : ℕ → (ℕ → Option Mark) → ℕ → List Sending → Option Mark → List ℕ
+mark_text width marks number sendings None = []
+mark_text width marks number sendings (Some mark) =
+    if nat_eq mark.starter.0 number then txn_text width marks number mark.defers ++ helds_text sendings else []
+
+-- the lines of a starter's transaction: none where the process has begun none
+abbrev pub txn_lines : ℕ → (ℕ → Option Mark) → (ℕ → List Sending) → ℕ → List ℕ
+txn_lines width marks held number = mark_text width marks number (held number) (marks number)
 
 -- the lines of all live transactions, by their rising starters
-abbrev pub txns_text : ℕ → (ℕ → Option Mark) → List ℕ
-txns_text width marks = upto (λ done. txn_line width marks (done + 1)) width
+abbrev pub txns_text : ℕ → (ℕ → Option Mark) → (ℕ → List Sending) → List ℕ
+txns_text width marks held = upto (λ done. txn_lines width marks held (done + 1)) width

@@ -15,6 +15,7 @@ ghost use Rattle.tx_script.specs.declared.faults.Fault.TheVariants.{NoMemory};
 use crate::faults::Fault;
 use crate::read::header::{Header, Version};
 use crate::read::schedule::Schedule;
+use crate::write::descriptors::{put_descs, put_pipes};
 use crate::write::print::put;
 use crate::write::replies::put_reply_line;
 use crate::write::state::put_procs;
@@ -98,7 +99,10 @@ fn put_state(text: &mut String, machine: &Machine) -> Result<(), Fault>
 {
     put(text, "state\n")?;
     let width = machine.processes();
-    put_procs(text, machine.parts(), width)?;
-    put_txns(text, machine.marks(), width)?;
+    let parts = machine.parts();
+    put_procs(text, parts, width)?;
+    put_descs(text, &parts.descs)?;
+    put_pipes(text, &parts.pipes)?;
+    put_txns(text, machine, width)?;
     Ok(())
 }

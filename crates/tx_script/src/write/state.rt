@@ -1,14 +1,19 @@
-//! Prints the state of a machine.
+//! Prints the processes of a machine.
 ghost use Rattle.std.specs.Prelude.{◌≡◌, ◌++◌, OnOk, string_bytes};
 ghost use Rattle.std.specs.Option.{option_copied};
 ghost use Rattle.tx_core.specs.Content.{state_of};
+ghost use Rattle.tx_cred.specs.Cred.{ids_of};
 ghost use Rattle.tx_proc.specs.Processes.{process_in, process_of};
-ghost use Rattle.tx_script.specs.State.{byte_text, flag_text, is_blank_of, page_line, page_text, pages_text, process_lines, process_text, procs_text, regs_text, rest_text, slot_text, slots_text, status_text};
+ghost use Rattle.tx_script.specs.State.{are_root, byte_text, end_text, flag_text, head_text, ids_line, own_text, page_line, page_text, pages_text, process_lines, process_text, procs_text, status_text, three_ids};
 
-use crate::write::print::{put, put_byte, put_count, put_number};
+use crate::write::descriptors::put_fds;
+use crate::write::print::{put, put_byte, put_count};
+use crate::write::registers::{put_run, put_slots_line};
+use crate::write::signals::put_signals;
 use std::alloc::AllocError;
-use tx_base::{PAGE_BYTES, PAGES, Pid, Regs};
+use tx_base::{PAGE_BYTES, PAGES, Pid};
 use tx_change::Parts;
+use tx_cred::Cred;
 use tx_pages::{Page, Space};
 use tx_proc::Proc;
 
@@ -37,74 +42,96 @@ fn put_slot_lines(text: &mut String, pid: Pid, slot: Option<&Proc>) -> Result<()
 fn put_proc(text: &mut String, pid: Pid, proc: &Proc) -> Result<(), AllocError>
     ensures { OnOk result (string_bytes text.new ≡ string_bytes text.old ++ process_text pid.0 (process_of proc.now)) }
 {
+    put_head(text, pid, proc)?;
+    put_own(text, proc)
+}
+
+/// Appends the first line of a process.
+fn put_head(text: &mut String, pid: Pid, proc: &Proc) -> Result<(), AllocError>
+    ensures { OnOk result (string_bytes text.new ≡ string_bytes text.old ++ head_text pid.0 (process_of proc.now)) }
+{
     put(text, "proc ")?;
     put_count(text, u64::from(pid.0))?;
     put(text, " parent ")?;
     put_count(text, u64::from(proc.parent.0))?;
-    put_rest(text, proc)
+    put_end(text, proc)
 }
 
 /// Appends what follows the number and the parent of a process.
-fn put_rest(text: &mut String, proc: &Proc) -> Result<(), AllocError>
-    ensures { OnOk result (string_bytes text.new ≡ string_bytes text.old ++ rest_text proc.now.status proc.now.regs proc.now.space) }
+fn put_end(text: &mut String, proc: &Proc) -> Result<(), AllocError>
+    ensures { OnOk result (string_bytes text.new ≡ string_bytes text.old ++ end_text proc.now.status proc.now.regs) }
 {
     match proc.status {
         Some(status) => put_status(text, status),
-        None => {
-            put_regs(text, &proc.regs)?;
-            put_pages(text, &proc.space)
-        }
+        None => put_run(text, &proc.regs),
     }
 }
 
-/// Appends the end of an ended process's line.
+/// Appends the end of an ended process's line: what it exited with, or the signal that killed it.
 fn put_status(text: &mut String, status: u16) -> Result<(), AllocError>
     ensures { OnOk result (string_bytes text.new ≡ string_bytes text.old ++ status_text status) }
 {
-    put(text, " exit ")?;
-    put_count(text, u64::from(status))?;
+    if status < 256 {
+        put(text, " exit ")?;
+        put_count(text, u64::from(status))?;
+    } else {
+        put(text, " killed ")?;
+        put_count(text, u64::from(status - 256))?;
+    }
     put(text, "\n")
 }
 
-/// Appends the end of a running process's line, and its slots where one is not 0.
-fn put_regs(text: &mut String, regs: &Regs) -> Result<(), AllocError>
-    ensures { OnOk result (string_bytes text.new ≡ string_bytes text.old ++ regs_text regs.now) }
+/// Appends the lines of what a process has.
+fn put_own(text: &mut String, proc: &Proc) -> Result<(), AllocError>
+    ensures { OnOk result (string_bytes text.new ≡ string_bytes text.old ++ own_text (process_of proc.now)) }
 {
-    put(text, " run point ")?;
-    put_count(text, u64::from(regs.point))?;
-    put(text, " ret ")?;
-    put_number(text, regs.ret)?;
-    put(text, "\n")?;
-    if is_blank(&regs.slots) {
+    put_ids(text, proc.cred)?;
+    put_slots_line(text, &proc.regs.slots)?;
+    put_pages(text, &proc.space)?;
+    put_fds(text, &proc.descriptors)?;
+    put_signals(text, proc)
+}
+
+/// Appends the line of the ids, where one is not 0.
+fn put_ids(text: &mut String, cred: Cred) -> Result<(), AllocError>
+    ensures { OnOk result (string_bytes text.new ≡ string_bytes text.old ++ ids_line (ids_of cred)) }
+{
+    if are_root(cred) {
         return Ok(());
     }
-    put_slots(text, &regs.slots)
-}
-
-/// Whether every slot is 0.
-fn is_blank(slots: &[i64; 8]) -> bool
-    ensures { result ≡ is_blank_of slots.now }
-{
-    slots.iter().all(|slot| *slot == 0)
-}
-
-/// Appends the line of the slots.
-fn put_slots(text: &mut String, slots: &[i64; 8]) -> Result<(), AllocError>
-    ensures { OnOk result (string_bytes text.new ≡ string_bytes text.old ++ slots_text slots.now) }
-{
-    put(text, "slots")?;
-    for i in 0..slots.len() {
-        put_slot(text, &slots[i])?;
-    }
+    put(text, "ids")?;
+    put_three(text, cred.real_user, cred.effective_user, cred.saved_user)?;
+    put_three(
+        text,
+        cred.real_group,
+        cred.effective_group,
+        cred.saved_group,
+    )?;
     put(text, "\n")
 }
 
-/// Appends the number in a slot.
-fn put_slot(text: &mut String, slot: &i64) -> Result<(), AllocError>
-    ensures { OnOk result (string_bytes text.new ≡ string_bytes text.old ++ slot_text slot.now) }
+/// Whether every id is 0.
+fn are_root(cred: Cred) -> bool
+    ensures { result ≡ are_root (ids_of cred) }
+{
+    cred.real_user == 0
+        && cred.effective_user == 0
+        && cred.saved_user == 0
+        && cred.real_group == 0
+        && cred.effective_group == 0
+        && cred.saved_group == 0
+}
+
+/// Appends three ids, each after a space.
+fn put_three(text: &mut String, real: u16, effective: u16, saved: u16) -> Result<(), AllocError>
+    ensures { OnOk result (string_bytes text.new ≡ string_bytes text.old ++ three_ids real effective saved) }
 {
     put(text, " ")?;
-    put_number(text, *slot)
+    put_count(text, u64::from(real))?;
+    put(text, " ")?;
+    put_count(text, u64::from(effective))?;
+    put(text, " ")?;
+    put_count(text, u64::from(saved))
 }
 
 /// Appends the line of each mapped page, by rising number.

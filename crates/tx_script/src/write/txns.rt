@@ -1,43 +1,52 @@
 //! Prints the live transactions of a machine.
 ghost use Rattle.std.specs.Option.{option_copied};
-ghost use Rattle.std.specs.Prelude.{◌≡◌, ◌≤◌, ◌++◌, IfOk, OnOk, string_bytes};
+ghost use Rattle.std.specs.Prelude.{◌≡◌, ◌≤◌, ◌++◌, OnOk, map, string_bytes};
 ghost use Rattle.tx_base.specs.Slots.{slot_at};
+ghost use Rattle.tx_core.specs.Content.{view_of};
+ghost use Rattle.tx_kernel.specs.Plans.{sending_of};
+ghost use Rattle.tx_model.specs.View.{present};
 ghost use Rattle.tx_script.specs.Links.{AreLinkedAbove};
-ghost use Rattle.tx_script.specs.Txns.{flag_of, is_listed_in, member_text, members_text, some_after, txn_line, txn_text, txns_text};
+ghost use Rattle.tx_script.specs.Txns.{flag_of, held_text, helds_text, is_listed_in, mark_text, members_text, txn_text, txns_text};
 
 use crate::write::links::Links;
-use crate::write::print::{put, put_count};
+use crate::write::lists::{dash, put_member};
+use crate::write::print::{put, put_count, put_number};
 use std::alloc::AllocError;
-use tx_base::{Mark, Pid, Slots};
+use tx_base::{Mark, Pid, Sending, Slots};
+use tx_core::Machine;
 
-/// Appends the line of each live transaction, by its rising starter. It goes over the marks twice,
+/// Appends the lines of each live transaction, by its rising starter. It goes over the marks twice,
 /// and over the members of each transaction once for each of its two lists.
-pub fn put_txns(text: &mut String, marks: &Slots<Mark>, width: u16) -> Result<(), AllocError>
-    ensures { OnOk result (string_bytes text.new ≡ string_bytes text.old ++ txns_text width (slot_at marks.now)) }
+pub fn put_txns(text: &mut String, machine: &Machine, width: u16) -> Result<(), AllocError>
+    ensures { OnOk result (string_bytes text.new ≡ string_bytes text.old ++ txns_text width (slot_at machine.now.marks) (present (view_of machine.now)).held) }
 {
+    let marks = machine.marks();
     let links = Links::new(*text.allocator(), marks, width)?;
     for done in 0..width {
-        put_txn_line(text, marks, &links, width, Pid(done + 1))?;
+        let pid = Pid(done + 1);
+        put_txn_lines(text, marks, &links, width, pid, machine.held(pid))?;
     }
     Ok(())
 }
 
-/// Appends the line of a starter's live transaction: none where the process has begun none.
-fn put_txn_line(
+/// Appends the lines of a starter's live transaction: none where the process has begun none.
+fn put_txn_lines(
     text: &mut String,
     marks: &Slots<Mark>,
     links: &Links,
     width: u16,
     pid: Pid,
+    sendings: &[Sending],
 ) -> Result<(), AllocError>
     requires links { AreLinkedAbove 0 width (slot_at marks.now) links.now.firsts.items links.now.nexts.items }
     requires inside { pid.0 ≤ width }
-    ensures { OnOk result (string_bytes text.new ≡ string_bytes text.old ++ txn_line width (slot_at marks.now) pid.0) }
+    ensures { OnOk result (string_bytes text.new ≡ string_bytes text.old ++ mark_text width (slot_at marks.now) pid.0 (map sending_of sendings.now) (slot_at marks.now pid.0)) }
 {
     match marks.get(pid) {
         Some(mark) => {
             if mark.starter.0 == pid.0 {
-                return put_txn(text, marks, links, width, pid, mark.defers);
+                put_txn(text, marks, links, width, pid, mark.defers)?;
+                return put_helds(text, sendings);
             }
             Ok(())
         }
@@ -93,25 +102,10 @@ fn put_members(
     while number <= width as usize {
         let pid = Pid(number as u16);
         let listed = is_listed(marks.get(pid), starter, ended);
-        some = put_member(text, some, listed, pid)?;
+        some = put_member(text, some, listed, pid.0)?;
         number = links.nexts[number];
     }
-    put(text, if some { "" } else { "-" })
-}
-
-/// Appends a number that is listed, and says whether the list has one now.
-fn put_member(text: &mut String, some: bool, listed: bool, pid: Pid) -> Result<bool, AllocError>
-    ensures text { OnOk result (string_bytes text.new ≡ string_bytes text.old ++ member_text some listed pid.0) }
-    ensures some { IfOk result (λ after. after ≡ some_after some listed) }
-{
-    if !listed {
-        return Ok(some);
-    }
-    if some {
-        put(text, ",")?;
-    }
-    put_count(text, u64::from(pid.0))?;
-    Ok(true)
+    put(text, dash(some))
 }
 
 /// Whether the mark is one of that transaction, and the member's part has ended or not.
@@ -122,4 +116,27 @@ fn is_listed(mark: Option<&Mark>, starter: Pid, ended: bool) -> bool
         Some(mark) => mark.starter.0 == starter.0 && mark.ended == ended,
         None => false,
     }
+}
+
+/// Appends the line of each send that is held, in order.
+fn put_helds(text: &mut String, sendings: &[Sending]) -> Result<(), AllocError>
+    ensures { OnOk result (string_bytes text.new ≡ string_bytes text.old ++ helds_text (map sending_of sendings.now)) }
+{
+    for i in 0..sendings.len() {
+        put_held(text, &sendings[i])?;
+    }
+    Ok(())
+}
+
+/// Appends the line of a send that is held: its target, its signal and its value.
+fn put_held(text: &mut String, sending: &Sending) -> Result<(), AllocError>
+    ensures { OnOk result (string_bytes text.new ≡ string_bytes text.old ++ held_text (sending_of sending.now)) }
+{
+    put(text, "held ")?;
+    put_count(text, u64::from(sending.target.0))?;
+    put(text, ":")?;
+    put_count(text, u64::from(sending.signo.0))?;
+    put(text, ":")?;
+    put_number(text, sending.value)?;
+    put(text, "\n")
 }
