@@ -29,7 +29,7 @@ pub fn put_signals(text: &mut String, proc: &Proc) -> Result<(), AllocError>
 fn put_set_line(text: &mut String, word: &str, set: SigSet) -> Result<(), AllocError>
     ensures { OnOk result (string_bytes text.new ≡ string_bytes text.old ++ set_line word.now (bits_of set)) }
 {
-    if set.bits() == 0 {
+    if set.is_empty() {
         return Ok(());
     }
     put(text, word)?;
@@ -75,7 +75,7 @@ fn put_action_line(text: &mut String, signo: Signo, action: Action) -> Result<()
 fn put_queued_line(text: &mut String, entries: &[Queued]) -> Result<(), AllocError>
     ensures { OnOk result (string_bytes text.new ≡ string_bytes text.old ++ queued_line entries.now) }
 {
-    if entries.len() == 0 {
+    if entries.is_empty() {
         return Ok(());
     }
     put(text, "queued")?;
