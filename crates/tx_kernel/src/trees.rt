@@ -22,10 +22,10 @@ use tx_proc::{BoxedProc, Part, Register};
 
 /// A child of a process.
 #[derive(Clone, Copy)]
-struct Child {
+pub(crate) struct Child {
     pid: Pid,
     /// Nothing while it runs; else the status that it ended with.
-    status: Option<u16>,
+    pub(crate) status: Option<u16>,
 }
 
 impl Actor<'_> {
@@ -132,7 +132,7 @@ impl Actor<'_> {
     }
 
     /// The child of a number that a program computed; nothing where the number is none of a child.
-    fn child(&self, number: i64) -> Option<Child>
+    pub(crate) fn child(&self, number: i64) -> Option<Child>
         requires { length self.now.parts.now.procs ≤ 256 }
         ensures { result ≡ child_at self.now.pid.0 self.now.parts.now.procs (numbered (length self.now.parts.now.procs) number) }
     {
