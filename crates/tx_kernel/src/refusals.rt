@@ -85,7 +85,7 @@ impl Actor<'_> {
         ensures { result ≡ is_bad_choice (length self.now.parts.now.procs) (chosen_in call.now) }
     {
         match call {
-            Call::Fork(child) => child.0 == 0 || child.0 as usize > self.parts.procs.width(),
+            Call::Fork(child) => self.is_bad_child(*child),
             Call::Pipe(pipe, read, write) => is_bad_pipe(*pipe, *read, *write),
             _ => false,
         }
