@@ -168,17 +168,23 @@ names_is actor signo value here now =
     let objects : Bool → State → List Object = λ ends S. if ends then ending_objects inside actor.pid.0 me S else [] in
     sym (ap (λ (b : Bool). objects (if b then false else is_fatal signo (action_at signo me))) now) ∙ sym (ap (λ (x : Option ℤ). objects (ends_by inside signo me x)) here)
 
+pub none_is : (actor : Actor) (signo : ℕ) (S : State) → None ≡ delivered_value signo (me_of actor) →
+    delivery_effect (inside_of actor.inside) actor.pid.0 signo (me_of actor) S ≡ idle NotDeliverable
+none_is actor signo S none = ap (λ (x : Option ℤ). delivers (inside_of actor.inside) actor.pid.0 signo (me_of actor) x S) (sym none)
+
 pub none_refuses : (actor : Actor) (signo : ℕ) → None ≡ delivered_value signo (me_of actor) →
     RefusedBy actor NotDeliverable (λ S. delivery_effect (inside_of actor.inside) actor.pid.0 signo (me_of actor) S)
-none_refuses actor signo none =
-    inr (λ held counted. ap (λ (x : Option ℤ). delivers (inside_of actor.inside) actor.pid.0 signo (me_of actor) x (state_of held actor.parts.now)) (sym none))
+none_refuses actor signo none = inr (λ held counted. none_is actor signo (state_of held actor.parts.now) none)
+
+pub deferred_is : (actor : Actor) (signo : ℕ) (value : ℤ) (S : State) → delivered_value signo (me_of actor) ≡ Some value → is_deferred (inside_of actor.inside) signo ≡ true →
+    delivery_effect (inside_of actor.inside) actor.pid.0 signo (me_of actor) S ≡ idle Deferred
+deferred_is actor signo value S here late =
+    let rule : State → Effect = acting actor signo value (disposition signo (action_at signo (me_of actor))) in
+    ap (λ (x : Option ℤ). delivers (inside_of actor.inside) actor.pid.0 signo (me_of actor) x S) here ∙ ap (λ (b : Bool). if b then idle Deferred else rule S) late
 
 pub deferred_refuses : (actor : Actor) (signo : ℕ) (value : ℤ) → delivered_value signo (me_of actor) ≡ Some value → is_deferred (inside_of actor.inside) signo ≡ true →
     RefusedBy actor Deferred (λ S. delivery_effect (inside_of actor.inside) actor.pid.0 signo (me_of actor) S)
-deferred_refuses actor signo value here late =
-    let rule : State → Effect = acting actor signo value (disposition signo (action_at signo (me_of actor))) in
-    inr (λ held counted. ap (λ (x : Option ℤ). delivers (inside_of actor.inside) actor.pid.0 signo (me_of actor) x (state_of held actor.parts.now)) here
-    ∙ ap (λ (b : Bool). if b then idle Deferred else rule (state_of held actor.parts.now)) late)
+deferred_refuses actor signo value here late = inr (λ held counted. deferred_is actor signo value (state_of held actor.parts.now) here late)
 
 -- where nothing is pending, nothing is delivered
 

@@ -29,3 +29,7 @@ pub mod NamedCalls
 pub mod Piped
 pub mod Delivered
 pub mod PipedCalls
+pub mod MadeNamed
+pub mod MadeOwn
+pub mod MadeSent
+pub mod Refused

@@ -13,4 +13,5 @@ pub mod Steps
 pub mod Sends
 pub mod Endings
 pub mod Calls
+pub mod Refusals
 pub mod Acts

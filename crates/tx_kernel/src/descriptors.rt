@@ -177,7 +177,7 @@ impl Actor<'_> {
     }
 
     /// Whether the number of a pipe is in use, or that of one of two descriptions.
-    fn has_taken(&self, pipe: PipeNo, read: DescNo, write: DescNo) -> bool
+    pub(crate) fn has_taken(&self, pipe: PipeNo, read: DescNo, write: DescNo) -> bool
         ensures { (held : ℕ → List Sending) → result ≡ is_pipe_in_use pipe.0 read.0 write.0 (state_of held self.now.parts.now) }
     {
         self.parts.pipes.get(pipe).is_some()
@@ -291,7 +291,7 @@ fn gone_with(given: Option<Given>) -> Option<Desc>
 
 /// Whether the numbers of a pipe and of its two descriptions can't be chosen: one is out of range, or
 /// the descriptions have the same.
-fn is_bad_pipe(pipe: PipeNo, read: DescNo, write: DescNo) -> bool
+pub(crate) fn is_bad_pipe(pipe: PipeNo, read: DescNo, write: DescNo) -> bool
     ensures { (width : ℕ) → result ≡ is_bad_choice width (ChoosesPipe pipe.0 read.0 write.0) }
 {
     let in_range = (pipe.0 as usize) < PIPES

@@ -17,6 +17,7 @@ mod memory;
 mod outgoing;
 mod planned;
 mod posts;
+mod refusals;
 mod script;
 mod sends;
 mod signals;

@@ -121,7 +121,7 @@ impl Actor<'_> {
     }
 
     /// What a read comes to.
-    fn reading(&self, fd: i64, address: i64, count: i64) -> Result<Reading, Errno>
+    pub(crate) fn reading(&self, fd: i64, address: i64, count: i64) -> Result<Reading, Errno>
         requires { IsActor self.now }
         ensures effect { (held : ℕ → List TheSending) →
             read_effect self.now.pid.0 (named (me_of self.now) (descriptor fd)) address count (me_of self.now) (state_of held self.now.parts.now)
@@ -292,7 +292,7 @@ impl Actor<'_> {
     }
 
     /// What a write comes to.
-    fn writing(&self, fd: i64, address: i64, count: i64) -> Result<Writing, Errno>
+    pub(crate) fn writing(&self, fd: i64, address: i64, count: i64) -> Result<Writing, Errno>
         requires { IsActor self.now }
         ensures effect { (held : ℕ → List TheSending) →
             write_effect self.now.pid.0 (named (me_of self.now) (descriptor fd)) address count (me_of self.now) (state_of held self.now.parts.now)

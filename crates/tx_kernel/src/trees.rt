@@ -7,7 +7,7 @@ ghost use Rattle.tx_change.specs.Counts.{desc_changes};
 ghost use Rattle.tx_change.specs.Exchange.{IsPid, sizes_of};
 ghost use Rattle.tx_kernel.specs.Plans.{Plans, Extends, IsBadChoice, RefusedBy};
 ghost use Rattle.tx_kernel.specs.Trees.{child_at, IsEndedChild};
-ghost use Rattle.tx_model.specs.Answer.{ChoosesProcess};
+ghost use Rattle.tx_model.specs.Answer.{ChoosesProcess, is_bad_choice};
 ghost use Rattle.tx_model.specs.Processes.{exit_effect, exit_objects, exit_status, fork_effect, fork_objects, forks, numbered, waits_by, waitpid_effect, waitpid_objects};
 ghost use Rattle.tx_model.specs.State.{Proc as TheProc};
 
@@ -22,10 +22,10 @@ use tx_proc::{BoxedProc, Part, Register};
 
 /// A child of a process.
 #[derive(Clone, Copy)]
-struct Child {
+pub(crate) struct Child {
     pid: Pid,
     /// Nothing while it runs; else the status that it ended with.
-    status: Option<u16>,
+    pub(crate) status: Option<u16>,
 }
 
 impl Actor<'_> {
@@ -45,13 +45,20 @@ impl Actor<'_> {
         ensures refused { IfErr result (λ why. RefusedBy self.now why (λ S. fork_effect self.now.pid.0 child.0 (me_of self.now) S) ⊎ IsBadChoice self.now why (ChoosesProcess child.0)) }
         ensures log { OnErr result (Extends log.old log.new) }
     {
-        if child.0 == 0 || child.0 as usize > self.parts.procs.width() {
+        if self.is_bad_child(child) {
             return Err(Refusal::BadNumber);
         }
         if !self.parts.procs.free(child) {
             return Err(Refusal::NumberTaken);
         }
         Ok(self.plan_child(alloc, child, log)?)
+    }
+
+    /// Whether a child can't have the number: it is not 1 to the width.
+    pub(crate) fn is_bad_child(&self, child: Pid) -> bool
+        ensures { result ≡ is_bad_choice (length self.now.parts.now.procs) (ChoosesProcess child.0) }
+    {
+        child.0 == 0 || child.0 as usize > self.parts.procs.width()
     }
 
     /// Plans to put a child at a free number, to count its names and to answer its number.
@@ -132,7 +139,7 @@ impl Actor<'_> {
     }
 
     /// The child of a number that a program computed; nothing where the number is none of a child.
-    fn child(&self, number: i64) -> Option<Child>
+    pub(crate) fn child(&self, number: i64) -> Option<Child>
         requires { length self.now.parts.now.procs ≤ 256 }
         ensures { result ≡ child_at self.now.pid.0 self.now.parts.now.procs (numbered (length self.now.parts.now.procs) number) }
     {

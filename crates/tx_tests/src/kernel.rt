@@ -165,6 +165,27 @@ fn what_is_sent_is_known_before(rt: HostRuntime) -> Result<(), Fail> {
 }
 
 #[test]
+fn refusals_are_known_before(rt: HostRuntime) -> Result<(), Fail> {
+    let mut parts = booted(rt.alloc())?;
+    let _sent = post(&mut parts, &sent(10, 0, 0));
+    let Ok(parent) = Actor::at(&parts, Pid(1), None) else {
+        panic!(rt; "process 1 runs");
+    };
+    let waits = parent.refusal_of_call(&Call::Waitpid(2, false));
+    assert_eq!(rt; waits, Some(Refusal::Wait));
+    assert_eq!(rt; parent.refusal_of_call(&Call::Waitpid(2, true)), None);
+    let taken = parent.refusal_of_numbers(&Call::Fork(Pid(2)));
+    assert_eq!(rt; taken, Some(Refusal::NumberTaken));
+    let none = parent.refusal_of_delivery(Signo(10));
+    assert_eq!(rt; none, Some(Refusal::NotDeliverable));
+    let Ok(child) = Actor::at(&parts, Pid(2), None) else {
+        panic!(rt; "process 2 runs");
+    };
+    assert_eq!(rt; child.refusal_of_delivery(Signo(10)), None);
+    Ok(())
+}
+
+#[test]
 fn a_member_hands_out_its_signals(rt: HostRuntime) -> Result<(), Fail> {
     let mut parts = booted(rt.alloc())?;
     let mut marks = Slots::new(rt.alloc(), 64)?;
