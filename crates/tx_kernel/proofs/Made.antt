@@ -1,5 +1,5 @@
 -- Steps that are made: a plan, and its exchanges.
-use Rattle.std.proofs.Common.{◌≡◌, ℕ, List, [], ◌∷◌, ◌++◌, drop, take, length, Option, refl, ap, sym, subst, ◌∙◌}
+use Rattle.std.proofs.Common.{◌≡◌, ℕ, ℤ, List, [], ◌∷◌, ◌++◌, drop, take, length, Option, refl, ap, sym, subst, ◌∙◌}
 use Rattle.std.proofs.lemmas.List.{drop_at, take_at}
 use Rattle.tx_base.specs.declared.names.Pid.{Pid}
 use Rattle.tx_change.specs.Counts.{CountsAgree}
@@ -10,15 +10,23 @@ use Rattle.tx_change.specs.declared.change.Change.{Change}
 use Rattle.tx_change.specs.declared.change.Change.TheVariants.{Slot, Part, Description, Pipe}
 use Rattle.tx_change.specs.declared.parts.Parts.{Parts}
 use Rattle.tx_kernel.specs.Actors.{inside_of, me_of, IsActor}
-use Rattle.tx_kernel.specs.Acts.{act_rule, Makes}
+use Rattle.tx_kernel.specs.Acts.{act_rule, Makes, PlansEvent}
+use Rattle.tx_kernel.specs.Own.{PlansOwn}
+use Rattle.tx_kernel.proofs.OwnPlans.{own_plans}
+use Rattle.tx_kernel.proofs.StepPlans.{quiet_step}
 use Rattle.tx_kernel.specs.Laws.{PlanLaws}
-use Rattle.tx_kernel.specs.Plans.{AreAmong}
+use Rattle.tx_kernel.specs.Plans.{AreAmong, quiet}
 use Rattle.tx_kernel.specs.Steps.{target_objects, GivesStep, PlansStep}
 use Rattle.tx_kernel.specs.declared.actor.Actor.{Actor}
-use Rattle.tx_kernel.specs.declared.inside.Inside.{Inside}
+use Rattle.tx_kernel.specs.declared.planned.Outcome.{Outcome}
+use Rattle.tx_kernel.specs.declared.planned.Sends.TheVariants.{Nothing}
 use Rattle.tx_kernel.specs.declared.planned.Planned.{Planned}
-use Rattle.tx_model.specs.Calls.{act_effect, act_objects, effect_at, objects_at, running_effect, Act}
-use Rattle.tx_model.specs.Effects.{Inside as TheInside}
+use Rattle.tx_kernel.specs.declared.inside.Inside.{Inside}
+use Rattle.tx_base.specs.declared.steps.Step.{Step}
+use Rattle.tx_base.specs.declared.steps.Step.TheVariants.{Call as Calls, Deliver}
+use Rattle.tx_model.specs.Calls.{act_effect, act_footprint, act_objects, effect_at, objects_at, running_effect, Act, MakesCall, TakesSignal}
+use Rattle.tx_model.specs.Events.{Event, Do, Note, effect, note_effect, objects}
+use Rattle.tx_model.specs.Effects.{Inside as TheInside, answers_with, own_effect}
 use Rattle.tx_model.specs.State.{has, Object, Proc, Process, Sending, State}
 use Rattle.tx_proc.specs.Processes.{process_in}
 
@@ -43,18 +51,17 @@ kept_among os parts [] among = tt
 kept_among os parts (change ∷ changes) among =
     (ap (λ (o : Object). has o os) (same_object_after parts change) ∙ among.0, kept_among os (parts_after parts change) changes among.1)
 
--- a plan at the end of a log, and its exchanges
-pub made : (laws : PlanLaws) (actor : Actor) (act : Act) (log between now : List Change) (from : ℕ) (after : Parts) (planned : Planned) → IsActor actor → from ≡ length log →
-    PlansStep actor log between planned.outcome planned.sends (λ S. act_effect (inside_of actor.inside) actor.pid.0 act (me_of actor) S)
-    (λ S. act_objects (inside_of actor.inside) actor.pid.0 act (me_of actor) S) →
-    after ≡ applied actor.parts.now (drop from between) → now ≡ take from between ++ exchanged actor.parts.now (drop from between) →
-    Makes actor.parts.now actor.pid actor.inside act log now after planned
-made laws actor act log between now from after planned is long plans goes logged =
+-- the plan of an event at the end of a log, and its exchanges
+pub made : (laws : PlanLaws) (actor : Actor) (event : Event) (log between now : List Change) (after : Parts) (planned : Planned) → IsActor actor →
+    PlansEvent actor log between planned event →
+    after ≡ applied actor.parts.now (drop (length log) between) → now ≡ take (length log) between ++ exchanged actor.parts.now (drop (length log) between) →
+    Makes actor.parts.now actor.pid actor.inside event log now after planned
+made laws actor event log between now after planned is plans goes logged =
     let parts : Parts = actor.parts.now in
     let plan : List Change = plans.plan in
     let kept : List Change = exchanged parts plan in
-    let behind : drop from between ≡ plan = ap (drop from) plans.added ∙ drop_at log plan from (sym long) in
-    let front : take from between ≡ log = ap (take from) plans.added ∙ take_at log plan from (sym long) in
+    let behind : drop (length log) between ≡ plan = ap (drop (length log)) plans.added ∙ drop_at log plan (length log) refl in
+    let front : take (length log) between ≡ log = ap (take (length log)) plans.added ∙ take_at log plan (length log) refl in
     let then : after ≡ applied parts plan = goes ∙ ap (applied parts) behind in
     record {
       kept = kept;
@@ -65,25 +72,84 @@ made laws actor act log between now from after planned is long plans goes logged
       places = subst HaveAllPlaces (sym then) (laws.places parts plan plans.named plans.brings is.whole.places);
       brings = laws.taken parts plan plans.named plans.brings is.whole.places;
       gives = λ held counted.
-          subst (λ (p : Parts). GivesStep actor.inside actor.pid parts p planned.outcome planned.sends held (act_rule (inside_of actor.inside) actor.pid.0 act (state_of held parts))) (sym then)
-          (subst (GivesStep actor.inside actor.pid parts (applied parts plan) planned.outcome planned.sends held) (sym (act_is actor act held is)) (plans.gives held counted));
-      among = λ held.
-          subst (λ (q : Option Process). AreAmong (Proc actor.pid.0 ∷ objects_at (inside_of actor.inside) actor.pid.0 act (state_of held parts) q ++ target_objects planned.sends) kept)
-          (sym (ap process_in is.there)) (kept_among (Proc actor.pid.0 ∷ act_objects (inside_of actor.inside) actor.pid.0 act (me_of actor) (state_of held parts) ++ target_objects planned.sends) parts plan (plans.among held));
+          subst (λ (p : Parts). GivesStep actor.inside actor.pid parts p planned.outcome planned.sends held (effect event (state_of held parts))) (sym then) (plans.gives held counted);
+      signal = plans.signal;
+      among = λ held. kept_among (objects event (state_of held parts) ++ target_objects planned.sends) parts plan (plans.among held);
     }
 
--- the same of the parts, the number and the transaction that the process was found by
+-- the step in which the process of a number does so
+abbrev pub step_of : Pid → Act → Step
+step_of pid (MakesCall call) = Calls pid call
+step_of pid (TakesSignal signo) = Deliver pid (record { 0 = signo })
+
+rule_is : (inside : Option TheInside) (pid : Pid) (act : Act) (S : State) → effect (Do (step_of pid act) inside) S ≡ act_rule inside pid.0 act S
+unfolding effect
+rule_is inside pid (MakesCall call) S = refl
+rule_is inside pid (TakesSignal signo) S = refl
+
+objects_are : (inside : Option TheInside) (pid : Pid) (act : Act) (S : State) → objects (Do (step_of pid act) inside) S ≡ act_footprint inside pid.0 act S
+unfolding objects
+objects_are inside pid (MakesCall call) S = refl
+objects_are inside pid (TakesSignal signo) S = refl
+
+-- the plan of a call or a delivery is that of its event
+pub plans_event : (actor : Actor) (act : Act) (log now : List Change) (planned : Planned) → IsActor actor →
+    PlansStep actor log now planned.outcome planned.sends (λ S. act_effect (inside_of actor.inside) actor.pid.0 act (me_of actor) S)
+    (λ S. act_objects (inside_of actor.inside) actor.pid.0 act (me_of actor) S) →
+    PlansEvent actor log now planned (Do (step_of actor.pid act) (inside_of actor.inside))
+plans_event actor act log now planned is plans =
+    let parts : Parts = actor.parts.now in
+    record {
+      plan = plans.plan;
+      added = plans.added;
+      named = plans.named;
+      counts = plans.counts;
+      brings = plans.brings;
+      gives = λ held counted.
+          subst (GivesStep actor.inside actor.pid parts (applied parts plans.plan) planned.outcome planned.sends held)
+          (sym (rule_is (inside_of actor.inside) actor.pid act (state_of held parts) ∙ act_is actor act held is)) (plans.gives held counted);
+      signal = plans.signal;
+      among = λ held.
+          subst (λ (os : List Object). AreAmong (os ++ target_objects planned.sends) plans.plan)
+          (sym (objects_are (inside_of actor.inside) actor.pid act (state_of held parts)
+          ∙ ap (λ (q : Option Process). Proc actor.pid.0 ∷ objects_at (inside_of actor.inside) actor.pid.0 act (state_of held parts) q) (ap process_in is.there))) (plans.among held);
+    }
+
+-- an answer is planned as the note of it
+pub plans_note : (laws : PlanLaws) (actor : Actor) (log now : List Change) (outcome : Outcome) (ret : ℤ) → length actor.parts.now.descs ≡ 64 → IsActor actor →
+    PlansOwn actor log now outcome (answers_with ret) → PlansEvent actor log now (quiet outcome) (Note actor.pid.0 ret)
+unfolding effect objects
+plans_note laws actor log now outcome ret sized is plans =
+    let parts : Parts = actor.parts.now in
+    let step : PlansStep actor log now outcome Nothing (λ S. own_effect actor.pid.0 (answers_with ret (me_of actor))) (λ S. []) =
+        quiet_step actor log now outcome Nothing (λ S. own_effect actor.pid.0 (answers_with ret (me_of actor))) (λ S. []) refl
+        (own_plans laws actor log now outcome (answers_with ret) (λ S. []) sized is plans) in
+    record {
+      plan = step.plan;
+      added = step.added;
+      named = step.named;
+      counts = step.counts;
+      brings = step.brings;
+      gives = λ held counted.
+          subst (GivesStep actor.inside actor.pid parts (applied parts step.plan) outcome Nothing held)
+          (sym (ap (note_effect actor.pid.0 ret) (ap process_in is.there))) (step.gives held counted);
+      signal = tt;
+      among = step.among;
+    }
+
+-- a call or a delivery that is planned and made, by the parts, the number and the transaction that its process was found by
 pub made_at : (laws : PlanLaws) (actor : Actor) (parts : Parts) (pid : Pid) (inside : Option Inside) (act : Act) (log between now : List Change) (from : ℕ) (after : Parts) (planned : Planned) →
     IsActor actor → (actor.parts.now ≡ parts) × (actor.pid ≡ pid) × (actor.inside ≡ inside) → from ≡ length log →
     PlansStep actor log between planned.outcome planned.sends (λ S. act_effect (inside_of actor.inside) actor.pid.0 act (me_of actor) S)
     (λ S. act_objects (inside_of actor.inside) actor.pid.0 act (me_of actor) S) →
     after ≡ applied parts (drop from between) → now ≡ take from between ++ exchanged parts (drop from between) →
-    Makes parts pid inside act log now after planned
+    Makes parts pid inside (Do (step_of pid act) (inside_of inside)) log now after planned
 made_at laws actor parts pid inside act log between now from after planned is same long plans goes logged =
-    let whole : Makes actor.parts.now actor.pid actor.inside act log now after planned
-    = made laws actor act log between now from after planned is long plans
-    (goes ∙ ap (λ (p : Parts). applied p (drop from between)) (sym same.0))
-    (logged ∙ ap (λ (p : Parts). take from between ++ exchanged p (drop from between)) (sym same.0)) in
-    subst (λ (i : Option Inside). Makes parts pid i act log now after planned) same.2
-    (subst (λ (n : Pid). Makes parts n actor.inside act log now after planned) same.1
-    (subst (λ (p : Parts). Makes p actor.pid actor.inside act log now after planned) same.0 whole))
+    let whole : Makes actor.parts.now actor.pid actor.inside (Do (step_of actor.pid act) (inside_of actor.inside)) log now after planned
+    = made laws actor (Do (step_of actor.pid act) (inside_of actor.inside)) log between now after planned is (plans_event actor act log between planned is plans)
+    (goes ∙ ap (λ (p : Parts). applied p (drop from between)) (sym same.0) ∙ ap (λ (k : ℕ). applied actor.parts.now (drop k between)) long)
+    (logged ∙ ap (λ (p : Parts). take from between ++ exchanged p (drop from between)) (sym same.0)
+    ∙ ap (λ (k : ℕ). take k between ++ exchanged actor.parts.now (drop k between)) long) in
+    subst (λ (i : Option Inside). Makes parts pid i (Do (step_of pid act) (inside_of i)) log now after planned) same.2
+    (subst (λ (n : Pid). Makes parts n actor.inside (Do (step_of n act) (inside_of actor.inside)) log now after planned) same.1
+    (subst (λ (p : Parts). Makes p actor.pid actor.inside (Do (step_of actor.pid act) (inside_of actor.inside)) log now after planned) same.0 whole))

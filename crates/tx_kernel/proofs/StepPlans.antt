@@ -1,5 +1,5 @@
 -- Plans of whole steps, of the plan of what they write and that of their post.
-use Rattle.std.proofs.Common.{◌≡◌, ℕ, Bool, true, false, if◌then◌else◌, inl, inr, ℤ, eq-eqb, List, [], ◌∷◌, ◌++◌, option_map, Option, Some, None, Result, refl, ap, sym, subst, ◌∙◌, append_assoc}
+use Rattle.std.proofs.Common.{◌≡◌, ◌<◌, ℕ, Bool, true, false, if◌then◌else◌, inl, inr, ℤ, eq-eqb, List, [], ◌∷◌, ◌++◌, option_map, Option, Some, None, Result, refl, ap, sym, subst, ◌∙◌, append_assoc}
 use Rattle.tx_base.specs.Slots.{slot_at}
 use Rattle.tx_base.specs.declared.errors.Errno.{Errno}
 use Rattle.tx_base.specs.declared.names.Sending.{Sending as TheSending}
@@ -15,13 +15,13 @@ use Rattle.tx_change.specs.declared.parts.Parts.{Parts}
 use Rattle.tx_kernel.proofs.OwnPlans.{brings_append, own_named, own_brings, own_among}
 use Rattle.tx_kernel.specs.Actors.{me_of, inside_of, CountsHeld, IsActor}
 use Rattle.tx_kernel.specs.Laws.{PlanLaws}
-use Rattle.tx_kernel.specs.Plans.{Plans, Gives, AreAmong, KeepsShown, conclusion_of, held_after, memory_in, reply_of, sending_of, sent_at_once}
+use Rattle.tx_kernel.specs.Plans.{Plans, Gives, AreAmong, HasSignal, KeepsShown, conclusion_of, held_after, memory_in, reply_of, sending_of, sent_at_once}
 use Rattle.tx_kernel.specs.Posts.{IsSeen, PlansPost}
 use Rattle.tx_kernel.specs.Steps.{PlansStep, target_objects}
 use Rattle.tx_kernel.specs.declared.actor.Actor.{Actor}
 use Rattle.tx_kernel.specs.declared.planned.Outcome.{Outcome}
 use Rattle.tx_kernel.specs.declared.planned.Sends.{Sends}
-use Rattle.tx_kernel.specs.declared.planned.Sends.TheVariants.{AtOnce}
+use Rattle.tx_kernel.specs.declared.planned.Sends.TheVariants.{Nothing, AtOnce, AtCommit}
 use Rattle.tx_model.specs.Effects.{Conclusion, Effect, applied, before_sends, concluded, concluding_reply, send_answers}
 use Rattle.tx_model.specs.Effects as effects
 use Rattle.tx_model.specs.Posts.{answers, post, post_answer, posts, received}
@@ -104,6 +104,19 @@ shown_same (Done r) memory after keeps = refl
 shown_same Ended memory after keeps = refl
 shown_same (Out shown) memory after keeps = ap (λ (bytes : Memory). reply_of bytes (Out shown)) (sym keeps)
 
+abbrev IsEmpty : List Sending → Type 0
+IsEmpty [] = Unit {0}
+IsEmpty (m ∷ ms) = ⊥
+
+lists_apart : {m : Sending} {ms : List Sending} → m ∷ ms ≡ [] → ⊥
+lists_apart e = subst IsEmpty (sym e) tt
+
+-- a signal that is not posted may have any number
+quiet_signal : (sends : Sends) → sent_at_once sends ≡ [] → HasSignal sends
+quiet_signal Nothing none = tt
+quiet_signal (AtOnce m) none = absurd (lists_apart none)
+quiet_signal (AtCommit m) none = tt
+
 -- nothing is posted with the step
 pub quiet_step : (actor : Actor) (before now : List Change) (outcome : Outcome) (sends : Sends) (rule : State → Effect) (objects : State → List Object) →
     sent_at_once sends ≡ [] → Plans actor before now (record { outcome = outcome; sends = sends }) rule objects → PlansStep actor before now outcome sends rule objects
@@ -122,6 +135,7 @@ quiet_step actor before now outcome sends rule objects none plans = record {
         reply = effect_replies (rule (state_of held actor.parts.now)) (state_of held actor.parts.now) _ [] (conclusion_of (me_of actor) outcome) given.state (given.sends ∙ none) given.conclusion
             ∙ shown_same outcome (me_of actor).memory (memory_in (process_in (slot_at (exchanged_in actor.parts.now plans.plan).procs actor.pid.0))) plans.shown;
       };
+  signal = quiet_signal sends none;
   among = λ held. among_front (TheProc actor.pid.0 ∷ objects (state_of held actor.parts.now)) (target_objects sends) plans.plan (plans.among held);
 }
 
@@ -206,6 +220,7 @@ posted_step laws actor before between now outcome m answer rule objects plans p 
                 ∙ ap (λ (memory : Memory). reply_of memory outcome) (sym (ap (λ (X : State). memory_in (X.procs actor.pid.0)) (ap (state_of after) whole ∙ post_state laws parts (sending_of m) answer between now first after p sizes seen)
                 ∙ posted_shows (sending_of m) (state_of after first) actor.pid.0));
           };
+      signal = plans.seen.0;
       among = λ held.
           let os : List Object = TheProc actor.pid.0 ∷ objects (state_of held parts) in
           among_both (os ++ TheProc m.target.0 ∷ []) plans.plan p.plan (among_front os (TheProc m.target.0 ∷ []) plans.plan (plans.among held)) (among_behind m.target.0 os p.plan p.own);
@@ -227,12 +242,12 @@ answered_at point ret (Some q) registers there stands =
 
 -- a signal that is posted, and then the answer of its post
 pub answered_step : (laws : PlanLaws) (actor : Actor) (before between now : List Change) (m : TheSending) (answer : Result (Unit {0}) Errno) (ret : ℤ)
-    (rule : State → Effect) (objects : State → List Object) → IsActor actor →
+    (rule : State → Effect) (objects : State → List Object) → IsActor actor → m.signo.0 < 64 →
     ((held : ℕ → List Sending) → CountsHeld actor.inside held → rule (state_of held actor.parts.now) ≡ posts_now actor.pid.0 (sending_of m)) →
     PlansPost actor.parts.now before between (sending_of m) answer → ret ≡ answer_of answer → now ≡ between ++ SetPart actor.pid (SetAnswer (answer_after ret actor)) ∷ [] →
     PlansStep actor before now (Done ret) (AtOnce m) rule objects
 unfolding posts written answers
-answered_step laws actor before between now m answer ret rule objects is does p number last =
+answered_step laws actor before between now m answer ret rule objects is small does p number last =
     let parts : Parts = actor.parts.now in
     let n : ℕ = actor.pid.0 in
     let first : Parts = exchanged_in parts p.plan in
@@ -269,6 +284,7 @@ answered_step laws actor before between now m answer ret rule objects is does p 
             reply = effect_replies (rule S) S S (sending_of m ∷ []) (effects.AnswersPost n) (ap (λ (f : Effect). before_sends f S) (does held counted)) (ap (λ (f : Effect). f.sends) (does held counted)) (ap (λ (f : Effect). f.conclusion) (does held counted))
                 ∙ ap TheDone right;
           };
+      signal = small;
       among = λ held.
           let os : List Object = TheProc n ∷ objects (state_of held parts) in
           among_both (os ++ TheProc m.target.0 ∷ []) p.plan last_one (among_behind m.target.0 os p.plan p.own)

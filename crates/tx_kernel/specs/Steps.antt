@@ -9,7 +9,7 @@ use Rattle.tx_change.specs.States.{state_of}
 use Rattle.tx_change.specs.declared.change.Change.{Change}
 use Rattle.tx_change.specs.declared.parts.Parts.{Parts}
 use Rattle.tx_kernel.specs.Actors.{inside_of, CountsHeld}
-use Rattle.tx_kernel.specs.Plans.{AreAmong, held_after, memory_in, reply_of, sent_at_once}
+use Rattle.tx_kernel.specs.Plans.{AreAmong, HasSignal, held_after, memory_in, reply_of, sent_at_once}
 use Rattle.tx_kernel.specs.declared.actor.Actor.{Actor}
 use Rattle.tx_kernel.specs.declared.inside.Inside.{Inside}
 use Rattle.tx_kernel.specs.declared.planned.Outcome.{Outcome}
@@ -40,4 +40,5 @@ pub record PlansStep (actor : Actor) (before now : List Change) (outcome : Outco
   pub brings : BringPlaces plan
   pub gives : (held : ℕ → List Sending) → CountsHeld actor.inside held →
       GivesStep actor.inside actor.pid actor.parts.now (exchanged_in actor.parts.now plan) outcome sends held (rule (state_of held actor.parts.now))
+  pub signal : HasSignal sends
   pub among : (held : ℕ → List Sending) → AreAmong (Proc actor.pid.0 ∷ objects (state_of held actor.parts.now) ++ target_objects sends) plan

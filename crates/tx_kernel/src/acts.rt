@@ -1,10 +1,12 @@
 //! Calls and deliveries that are made on the parts: the plan, and its exchanges.
 ghost use Rattle.std.specs.Prelude.{◌≡◌, ◌⊎◌, IfOk, IfErr, OnErr};
-ghost use Rattle.tx_kernel.specs.Actors.{IsWhole};
+ghost use Rattle.tx_base.specs.declared.steps.Step.TheVariants.{Call as Calls, Deliver};
+ghost use Rattle.tx_kernel.specs.Actors.{IsWhole, inside_of};
 ghost use Rattle.tx_kernel.specs.Acts.{Makes, RefusesAct};
 ghost use Rattle.tx_kernel.specs.Plans.{ChoosesBadly};
 ghost use Rattle.tx_model.specs.Answer.{chosen_in};
 ghost use Rattle.tx_model.specs.Calls.{MakesCall, TakesSignal};
+ghost use Rattle.tx_model.specs.Events.{Do};
 
 use crate::actor::Actor;
 use crate::inside::Inside;
@@ -28,7 +30,7 @@ pub fn act(
     log: &mut Log,
 ) -> Result<Planned, Refusal>
     requires { IsWhole parts.old }
-    ensures ok { IfOk result (λ planned. Makes parts.old pid inside.entry (MakesCall call.now) log.old log.new parts.new planned) }
+    ensures ok { IfOk result (λ planned. Makes parts.old pid inside.entry (Do (Calls pid call.now) (inside_of inside.entry)) log.old log.new parts.new planned) }
     ensures refused { IfErr result (λ why. RefusesAct parts.old pid inside.entry (MakesCall call.now) why ⊎ ChoosesBadly parts.old why (chosen_in call.now)) }
     ensures parts { OnErr result (parts.new ≡ parts.old) }
     ensures log { OnErr result (log.new ≡ log.old) }
@@ -53,7 +55,7 @@ pub fn deliver(
     log: &mut Log,
 ) -> Result<Planned, Refusal>
     requires { IsWhole parts.old }
-    ensures ok { IfOk result (λ planned. Makes parts.old pid inside.entry (TakesSignal signo.0) log.old log.new parts.new planned) }
+    ensures ok { IfOk result (λ planned. Makes parts.old pid inside.entry (Do (Deliver pid signo) (inside_of inside.entry)) log.old log.new parts.new planned) }
     ensures refused { IfErr result (λ why. RefusesAct parts.old pid inside.entry (TakesSignal signo.0) why) }
     ensures parts { OnErr result (parts.new ≡ parts.old) }
     ensures log { OnErr result (log.new ≡ log.old) }

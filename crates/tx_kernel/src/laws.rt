@@ -1,4 +1,5 @@
 //! The laws that the plans stand on, and those of the states that they are for.
+ghost use Rattle.tx_kernel.specs.Acts.{PlansAreMade};
 ghost use Rattle.tx_kernel.specs.Laws.{BootedAreWhole, PlanLaws, WellFormedAreOrderly};
 
 use tx_change::{
@@ -34,3 +35,11 @@ pub fn booted_are_whole()
 pub fn well_formed_are_orderly()
     ensures { WellFormedAreOrderly }
 {}
+
+/// The plan of what a process is asked to do, once its exchanges are made, is what that comes to: the
+/// log then has at its end what leads back.
+pub fn plans_are_made()
+    ensures { PlansAreMade }
+{
+    laws();
+}

@@ -10,6 +10,7 @@ mod calls;
 mod deliveries;
 mod descriptors;
 mod ending;
+mod events;
 mod ids;
 mod inside;
 mod laws;
@@ -27,8 +28,9 @@ mod trees;
 
 pub use actor::Actor;
 pub use acts::{act, deliver};
+pub use events::Act;
 pub use inside::Inside;
-pub use laws::{booted_are_whole, well_formed_are_orderly};
+pub use laws::{booted_are_whole, plans_are_made, well_formed_are_orderly};
 pub use planned::{Outcome, Planned, Sends, Shown};
 pub use posts::{Face, Posted, plan_post, post};
 pub use sends::sendable;

@@ -4,3 +4,4 @@ pub mod Owned
 pub mod Rows
 pub mod Silent
 pub mod Within
+pub mod SameOwners

@@ -1,5 +1,5 @@
--- Footprints name objects of numbers that there are.
-use Rattle.std.specs.Prelude.{◌≡◌, ◌≤◌, ℕ, Bool, true, false, List, [], ◌∷◌, Option, Some, None, nat_lt}
+-- Footprints name objects of numbers that there are; and tables of owners are told by the owners in them.
+use Rattle.std.specs.Prelude.{◌≡◌, ◌≤◌, ℕ, Bool, true, false, List, [], ◌∷◌, Option, Some, None, length, nat_lt}
 use Rattle.tx_base.specs.declared.marks.Mark.{Mark}
 use Rattle.tx_base.specs.declared.steps.Step.{Step}
 use Rattle.tx_laws.specs.WellFormed.{IsWellFormed}
@@ -8,7 +8,9 @@ use Rattle.tx_model.specs.Events.{process_of}
 use Rattle.tx_model.specs.Footprints.{footprint}
 use Rattle.tx_model.specs.Membership.{Table, others_open}
 use Rattle.tx_model.specs.State.{Object, Proc, Desc, Pipe, Held, Sending, State, has, is_between}
+use Rattle.tx_base.specs.declared.names.Pid.{Pid}
 use Rattle.tx_reserve.specs.Objects.{is_small}
+use Rattle.tx_reserve.specs.Reservations.{owner_of}
 
 -- whether the object's number is one that there is: a process 1 to the width, a description 0 to 63, a pipe 0 to 31
 abbrev pub is_within : ℕ → Object → Bool
@@ -37,3 +39,7 @@ FootprintIsWithin =
 -- such an object is one that a set may have, where there are at most 256 process numbers
 abbrev pub WithinIsSmall : Type 0
 WithinIsSmall = (width : ℕ) (o : Object) → width ≤ 256 → is_within width o ≡ true → is_small o ≡ true
+
+-- two tables of owners are the same where each object has the same owner in both
+abbrev pub OwnersAreTold : Type 0
+OwnersAreTold = (one other : List (Option Pid)) → length one ≡ 352 → length other ≡ 352 → ((o : Object) → owner_of one o ≡ owner_of other o) → one ≡ other

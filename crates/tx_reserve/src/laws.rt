@@ -1,5 +1,5 @@
-//! Laws of footprints.
-ghost use Rattle.tx_reserve.specs.Laws.{FootprintIsWithin, WithinIsSmall};
+//! Laws of footprints and of owners.
+ghost use Rattle.tx_reserve.specs.Laws.{FootprintIsWithin, OwnersAreTold, WithinIsSmall};
 
 /// In a well-formed state the footprint of a step has objects of numbers that there are alone:
 /// processes 1 to the width, descriptions 0 to 63, pipes 0 to 31. The step is of a process that runs
@@ -8,4 +8,9 @@ ghost use Rattle.tx_reserve.specs.Laws.{FootprintIsWithin, WithinIsSmall};
 pub fn footprints_are_within()
     ensures within { FootprintIsWithin }
     ensures small { WithinIsSmall }
+{}
+
+/// Two tables of owners are the same where each object has the same owner in both.
+pub fn owners_are_told()
+    ensures { OwnersAreTold }
 {}

@@ -8,6 +8,6 @@ mod objects;
 mod reservations;
 
 pub use footprints::{footprint_of_call, footprint_of_delivery};
-pub use laws::footprints_are_within;
+pub use laws::{footprints_are_within, owners_are_told};
 pub use objects::{Object, Objects};
 pub use reservations::Reservations;

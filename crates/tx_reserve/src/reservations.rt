@@ -1,5 +1,5 @@
 //! Who owns which object.
-ghost use Rattle.std.specs.Prelude.{◌≡◌, None, Some, false, if◌then◌else◌, is_some, option_map, IfOk};
+ghost use Rattle.std.specs.Prelude.{◌≡◌, None, Some, false, if◌then◌else◌, is_some, option_map, length, IfOk};
 ghost use Rattle.tx_model.specs.State.{Object as TheObject, same_object};
 ghost use Rattle.tx_reserve.specs.Objects.{is_in, is_small, object_of};
 ghost use Rattle.tx_reserve.specs.Reservations.{IsLeast, lesser_of, number_of, owner_of, unless};
@@ -42,6 +42,13 @@ impl Reservations {
             places.push(None)?;
         }
         Ok(Reservations { places })
+    }
+
+    /// There is a place for each of the 352 objects.
+    pub fn sized(&self)
+        ensures { length self.now ≡ 352 }
+    {
+        let _places = &self.places;
     }
 
     /// The starter of the transaction that reserved the object; nothing where none did.

@@ -10,6 +10,11 @@ use Rattle.tx_base.specs.declared.signals.SigSet.{SigSet}
 use Rattle.tx_model.specs.Posts.{has_room, is_quiet, is_realtime, may_signal, received, with_pending, with_queued, with_signal}
 use Rattle.tx_model.specs.State.{Process, Queued, Sender, Sending, booted_process}
 use Rattle.tx_signal.specs.Entries.{entry_given, entry_swapped, has_place}
+use Rattle.tx_cred.specs.Cred.{ids_of}
+use Rattle.tx_txn.proofs.Posted.{pending_received}
+use Rattle.tx_txn.specs.Faces.{pending_after, pending_in, running}
+use Rattle.tx_txn.specs.KeptParts.{kept_as}
+use Rattle.tx_txn.specs.declared.kept.Kept.{Kept}
 use Rattle.tx_signal.specs.Parts.{PendingView, post_result, sending_of, with_pending_part}
 
 -- a post that gets through is the signal's
@@ -92,3 +97,8 @@ back_standard signo value old new set standard posts was =
         else with_pending signo (with_pending_part old (booted_process 1))) ≡ with_pending signo (with_pending_part old (booted_process 1))
     by false room e = refl
     by true room e = cc
+
+-- what is pending after a post at what is kept
+pub kept_pending : (m : Sending) (old new : Kept) (me : Process) → received m (Some (kept_as old me)) ≡ Some (kept_as new me) →
+    new.pending ≡ pending_after m (Some (running (ids_of old.ids))) old.pending
+kept_pending m old new me receives = sym (ap pending_in receives) ∙ pending_received m (Some (kept_as old me))

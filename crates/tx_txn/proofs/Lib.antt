@@ -2,7 +2,7 @@ pub mod Facts
 pub mod Overlays
 pub mod Posted
 pub mod OfLogs
-pub mod OfActs
+pub mod OfEvents
 pub mod Owned
 pub mod Roles
 pub mod Upkeep

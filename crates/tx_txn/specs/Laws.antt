@@ -8,9 +8,9 @@ use Rattle.tx_change.specs.Laws.{AppliedAppended, ChangedAppended, ChangesState,
 use Rattle.tx_change.specs.States.{state_of}
 use Rattle.tx_change.specs.declared.change.Change.{Change}
 use Rattle.tx_change.specs.declared.parts.Parts.{Parts}
-use Rattle.tx_kernel.specs.Actors.{CountsHeld, inside_of, transaction_of}
+use Rattle.tx_kernel.specs.Actors.{CountsHeld, inside_of}
 use Rattle.tx_kernel.specs.Acts.{Makes}
-use Rattle.tx_kernel.specs.Plans.{AreAmong, held_after, sent_at_once}
+use Rattle.tx_kernel.specs.Plans.{AreAmong, held_after}
 use Rattle.tx_kernel.specs.declared.inside.Inside.{Inside}
 use Rattle.tx_kernel.specs.declared.planned.Planned.{Planned}
 use Rattle.tx_laws.specs.Fits.{Fits, FitsWithin, Passes}
@@ -19,8 +19,7 @@ use Rattle.tx_laws.specs.LawsOfEvents.{ActorIsObject, OtherPartsStay, OthersGetS
 use Rattle.tx_laws.specs.LawsOfParts.{DoomIsKept, HolderIsOfParts, InWayIsOfParts, PartsFollowRole, SamePartsSameView, StartHasItsView, TwoAnswersAreOfStarter}
 use Rattle.tx_laws.specs.TwoParts.{made, parts_view}
 use Rattle.tx_model.specs.Answer.{answer, IsAccepted}
-use Rattle.tx_model.specs.Calls.{Act}
-use Rattle.tx_model.specs.Events.{Event, Do, process_of, effect, objects}
+use Rattle.tx_model.specs.Events.{Event, process_of, objects}
 use Rattle.tx_model.specs.Membership.{Progress, Role, Within}
 use Rattle.tx_model.specs.Posts.{post_answer, received}
 use Rattle.tx_model.specs.SignalSets.{kill_signo, is_in_set}
@@ -30,7 +29,7 @@ use Rattle.tx_signal.specs.Parts.{PendingView}
 use Rattle.tx_txn.specs.Content.{Txn, Content, IsKept, OthersHoldNothing, led_by, two_parts_of, start_content, starter_differs, stands_in_way}
 use Rattle.tx_txn.specs.Faces.{face_of, pending_in, pending_after, answer_at, queued_after}
 use Rattle.tx_txn.specs.Logs.{newest_first, pending_or, with_pending_at}
-use Rattle.tx_txn.specs.Steps.{IsNext, LeadsBack, Logs, next_content, step_of}
+use Rattle.tx_txn.specs.Steps.{IsNext, LeadsBack, Logs, next_content}
 
 -- in each role that goes with the event, the next content has the next view
 abbrev pub ContentFollowsRole : Type 0
@@ -71,25 +70,19 @@ abbrev pub LogGoesForward : Type 0
 LogGoesForward = (parts : Parts) (s : ℕ) (log : List Change) (pending : PendingView) → AreNamed parts log → 1 ≤ s → s ≤ length parts.procs →
     applied (with_pending_at s (pending_or pending (slot_at (undone parts log).procs s)) (with_pending_at s pending (undone parts log))) (reverted parts log) ≡ parts
 
--- a call or a delivery that was made on the parts makes of their state what its event makes of it
-abbrev pub ActMakesEvent : Type 0
-ActMakesEvent = (held : ℕ → List Sending) (before after : Parts) (pid : Pid) (inside : Option Inside) (act : Act) (log now : List Change) (planned : Planned) →
-    Makes before pid inside act log now after planned → CountsHeld inside held →
-    made (Do (step_of pid act) (inside_of inside)) (state_of held before) (state_of held before) ≡ state_of (held_after (inside_of inside) planned.sends held) after
-
--- it sends what its event sends
-abbrev pub ActSendsEvent : Type 0
-ActSendsEvent = (held : ℕ → List Sending) (before after : Parts) (pid : Pid) (inside : Option Inside) (act : Act) (log now : List Change) (planned : Planned) →
-    Makes before pid inside act log now after planned → CountsHeld inside held →
-    (effect (Do (step_of pid act) (inside_of inside)) (state_of held before)).sends ≡ sent_at_once planned.sends
+-- what is made on the parts makes of their state what its event makes of it
+abbrev pub EventIsMade : Type 0
+EventIsMade = (held : ℕ → List Sending) (before after : Parts) (pid : Pid) (inside : Option Inside) (event : Event) (log now : List Change) (planned : Planned) →
+    Makes before pid inside event log now after planned → CountsHeld inside held →
+    made event (state_of held before) (state_of held before) ≡ state_of (held_after (inside_of inside) planned.sends held) after
 
 -- and where a member made it, it is logged as a step inside the transaction is to be
-abbrev pub ActIsLogged : Type 0
-ActIsLogged = (content : Content) (held : ℕ → List Sending) (before after : Parts) (pid : Pid) (inside : Inside) (act : Act) (log now : List Change) (planned : Planned)
-    (part : Progress) (process : ℕ) (made : Makes before pid (Some inside) act log now after planned) →
+abbrev pub EventIsLogged : Type 0
+EventIsLogged = (content : Content) (held : ℕ → List Sending) (before after : Parts) (pid : Pid) (inside : Inside) (event : Event) (log now : List Change) (planned : Planned)
+    (part : Progress) (process : ℕ) (made : Makes before pid (Some inside) event log now after planned) →
     content.now ≡ state_of held before → CountsHeld (Some inside) held →
-    FitsWithin inside.starter.0 part (Do (step_of pid act) (Some (transaction_of inside))) process (parts_view (two_parts_of content)) →
-    Logs (Within inside.starter.0 part) (Do (step_of pid act) (Some (transaction_of inside))) (newest_first made.kept) content
+    FitsWithin inside.starter.0 part event process (parts_view (two_parts_of content)) →
+    Logs (Within inside.starter.0 part) event (newest_first made.kept) content
 
 -- a live transaction is doomed if SIGKILL is kept as pending
 abbrev pub DoomIsPending : Type 0

@@ -1,13 +1,9 @@
 -- What a step makes of the content, by what it is to the transactions. Of the kept side it reads what is pending at starters
 -- and their ids, and nothing else. Own rules.
 use Rattle.std.specs.Prelude.{◌≡◌, ℕ, true, List, [], ◌++◌, Option, Some, None, if◌then◌else◌, ◌==◌}
-use Rattle.tx_base.specs.declared.names.Pid.{Pid}
-use Rattle.tx_base.specs.declared.steps.Step.{Step}
-use Rattle.tx_base.specs.declared.steps.Step.TheVariants.{Call as Calls, Deliver}
 use Rattle.tx_change.specs.States.{changed_by}
 use Rattle.tx_change.specs.declared.change.Change.{Change}
 use Rattle.tx_laws.specs.TwoParts.{freed, made, parts_view}
-use Rattle.tx_model.specs.Calls.{Act, MakesCall, TakesSignal}
 use Rattle.tx_model.specs.Events.{Event, effect}
 use Rattle.tx_model.specs.History.{event_footprint, objects_reserved}
 use Rattle.tx_model.specs.Membership.{Role, Outside, Within, Commits, Aborts, table_after}
@@ -83,8 +79,3 @@ Logs (Aborts s status) ev new c = Unit {0}
 pub record IsNext (c : Content) (V : View) : Type 0 where
   pub view : parts_view (two_parts_of c) ≡ V
   pub kept : OthersHoldNothing c → IsKept c
-
--- the step in which the process of a number makes a call, or a signal is delivered to it
-abbrev pub step_of : Pid → Act → Step
-step_of pid (MakesCall call) = Calls pid call
-step_of pid (TakesSignal signo) = Deliver pid (record { 0 = signo })

@@ -6,6 +6,8 @@ ghost use Rattle.tx_model.specs.Posts.{received};
 ghost use Rattle.tx_model.specs.SignalSets.{kill_signo};
 ghost use Rattle.tx_model.specs.State.{Process};
 ghost use Rattle.tx_model.specs.View.{has_pending};
+ghost use Rattle.tx_cred.specs.Cred.{ids_of};
+ghost use Rattle.tx_txn.specs.Faces.{pending_after, running};
 ghost use Rattle.tx_txn.specs.KeptParts.{kept_as, unposted};
 
 use tx_base::{SIGKILL, Sending, SigSet};
@@ -68,6 +70,7 @@ impl Kept {
     pub fn post(&mut self, sending: &Sending) -> Option<Unpost>
         requires { sending.now.signo.0 < 64 }
         ensures received { (me : Process) → received (sending_of sending.now) (Some (kept_as self.old me)) ≡ Some (kept_as self.new me) }
+        ensures pending { self.new.pending ≡ pending_after (sending_of sending.now) (Some (running (ids_of self.old.ids))) self.old.pending }
         ensures ids { self.new.ids ≡ self.old.ids }
         ensures back { unposted result self.new.pending ≡ self.old.pending }
     {

@@ -1,5 +1,5 @@
 //! The laws of logs and kept signals, as the contracts of functions that do nothing.
-ghost use Rattle.tx_txn.specs.Laws.{ActIsLogged, ActMakesEvent, ActSendsEvent, ContentFollowsRole, ContentFollowsStep, ContentIsKept, DoomIsPending, HolderIsOfFaces, InWayIsOfFaces, LogGoesForward, LogLaws, LogLeadsBack, PostIsAnsweredByFace, PostLeavesFace, PostLeavesPending, PostLeavesQueued, RoleLaws, StartContentHasItsView, StartContentIsKept, StepLeadsBack, TwoAnswersAreOfFaces};
+ghost use Rattle.tx_txn.specs.Laws.{ContentFollowsRole, ContentFollowsStep, ContentIsKept, DoomIsPending, EventIsLogged, EventIsMade, HolderIsOfFaces, InWayIsOfFaces, LogGoesForward, LogLaws, LogLeadsBack, PostIsAnsweredByFace, PostLeavesFace, PostLeavesPending, PostLeavesQueued, RoleLaws, StartContentHasItsView, StartContentIsKept, StepLeadsBack, TwoAnswersAreOfFaces};
 
 use tx_change::{appended, changes_state, lists_change_state, revert_then_apply, twice_is_nothing};
 use tx_laws::{answers_of_parts, locality, step_by_step, two_parts};
@@ -49,13 +49,11 @@ pub fn logs_lead_back()
     log_laws();
 }
 
-/// A call or a delivery that tx_kernel made on the parts is its event: it makes of the state what the event
-/// makes of it, sends what that sends, and where a member made it, its records are what the log of a step
-/// inside a transaction is to get.
-pub fn acts_are_events()
-    ensures state { ActMakesEvent }
-    ensures sends { ActSendsEvent }
-    ensures logged { ActIsLogged }
+/// What tx_kernel made on the parts is its event: it makes of the state what the event makes of it, and
+/// where a member made it, its records are what the log of a step inside a transaction is to get.
+pub fn events_are_made()
+    ensures state { EventIsMade }
+    ensures logged { EventIsLogged }
 {
     log_laws();
 }

@@ -11,7 +11,7 @@ mod txn;
 
 pub use kept::{Kept, Unpost};
 pub use laws::{
-    acts_are_events, answers_of_faces, logs_keep, logs_lead_back, posts_by_faces, start_is_kept,
+    answers_of_faces, events_are_made, logs_keep, logs_lead_back, posts_by_faces, start_is_kept,
 };
 pub use members::{Members, is_last_open};
 pub use outbox::{HeldPost, Outbox};

@@ -2,11 +2,11 @@ use Rattle.std.proofs.Common.{rules, ◌≡◌, ◌≤◌, ◌<◌, ℤ, FitsSig
 use Rattle.std.proofs.lemmas.Int.{to_z-of_z}
 use Rattle.tx_kernel.specs.Plans.{sending_of}
 use Rattle.tx_model.specs.Posts.{with_signal}
-use Rattle.tx_model.specs.State.{Process, Sending as TheSending}
+use Rattle.tx_model.specs.State.{Process, Sending as TheSending, booted_process}
 use Rattle.tx_signal.specs.Parts.{sending_of as signalled, with_pending_part}
 use Rattle.tx_txn.specs.declared.kept.Kept.{Kept}
 use Rattle.tx_txn.specs.KeptParts.{kept_as}
-use Rattle.tx_txn.proofs.KeptPosts.{back_queued, back_standard, reached, stopped, Posts}
+use Rattle.tx_txn.proofs.KeptPosts.{back_queued, back_standard, kept_pending, reached, stopped, Posts}
 use Rattle.tx_txn.proofs.kept.Kept.post.Goals as goal
 
 pub returns-then-not-reaches-clause-received : goal.returns-then-not-reaches-clause-received
@@ -37,3 +37,15 @@ returns-else-is_realtime-clause-received c = λ me.
 pub returns-else-is_realtime-clause-back : goal.returns-else-is_realtime-clause-back
 returns-else-is_realtime-clause-back c =
     back_standard c.args.sending.now.signo.0 (to_z w64 (of_z w64 c.args.sending.now.value)) c.args.self.now.pending c.post.new.self c.standard-standard.result (sym c.if-is_realtime.ensures.number) c.post.ensures.posted c.standard-standard.ensures
+
+pub returns-then-not-reaches-clause-pending : goal.returns-then-not-reaches-clause-pending
+returns-then-not-reaches-clause-pending c =
+    kept_pending (sending_of c.args.sending.now) c.args.self.now c.args.self.now (booted_process 1) (returns-then-not-reaches-clause-received c (booted_process 1))
+
+pub returns-then-is_realtime-clause-pending : goal.returns-then-is_realtime-clause-pending
+returns-then-is_realtime-clause-pending c =
+    kept_pending (sending_of c.args.sending.now) c.args.self.now (record c.args.self.now { pending = c.post.new.self }) (booted_process 1) (returns-then-is_realtime-clause-received c (booted_process 1))
+
+pub returns-else-is_realtime-clause-pending : goal.returns-else-is_realtime-clause-pending
+returns-else-is_realtime-clause-pending c =
+    kept_pending (sending_of c.args.sending.now) c.args.self.now (record c.args.self.now { pending = c.post.new.self }) (booted_process 1) (returns-else-is_realtime-clause-received c (booted_process 1))

@@ -1,0 +1,3 @@
+pub mod KeptPosted
+pub mod Planned
+pub mod Outsides

@@ -1,0 +1,4 @@
+pub mod Content
+pub mod Inverses
+pub mod Made
+pub mod Laws

@@ -1,0 +1,65 @@
+-- What a step makes of the content, by what it is to the transactions.
+use Rattle.std.specs.Prelude.{◌≡◌, ◌++◌, ℕ, List, [], Option, Some, None, option_map, length, take, drop}
+use Rattle.tx_base.specs.Slots.{slot_at}
+use Rattle.tx_base.specs.declared.names.Pid.{Pid}
+use Rattle.tx_change.specs.Exchange.{applied, exchanged}
+use Rattle.tx_change.specs.declared.change.Change.{Change}
+use Rattle.tx_change.specs.declared.parts.Parts.{Parts}
+use Rattle.tx_cred.specs.Cred.{ids_of}
+use Rattle.tx_kernel.specs.Acts.{Makes}
+use Rattle.tx_kernel.specs.Plans.{AreAmong, memory_in, reply_of as reply_with}
+use Rattle.tx_kernel.specs.declared.inside.Inside.{Inside}
+use Rattle.tx_kernel.specs.declared.planned.Outcome.{Outcome}
+use Rattle.tx_kernel.specs.declared.planned.Planned.{Planned}
+use Rattle.tx_laws.specs.Commuting.{named_by}
+use Rattle.tx_live.specs.Content.{content_of, now_of, IsShaped}
+use Rattle.tx_live.specs.Inverses.{changes_of, with_kept_pending, GoesWith, Undoes}
+use Rattle.tx_live.specs.declared.content.BoxedTxn.{BoxedTxn}
+use Rattle.tx_live.specs.declared.content.Content.{Content}
+use Rattle.tx_live.specs.declared.inverse.Inverse.{Inverse}
+use Rattle.tx_model.specs.Events.{Event, reply_of}
+use Rattle.tx_model.specs.Membership.{Role}
+use Rattle.tx_model.specs.State.{Sending}
+use Rattle.tx_proc.specs.Processes.{process_in}
+use Rattle.tx_proc.specs.declared.proc.Proc.{Proc}
+use Rattle.tx_txn.specs.Faces.{pending_after, pending_by, running}
+use Rattle.tx_txn.specs.Steps.{next_content, Logs}
+
+-- the process is there and runs
+abbrev pub IsRunning : Option Proc → Type 0
+IsRunning None = ⊥
+IsRunning (Some proc) = proc.status ≡ None
+
+-- the plan at the end of a log is one of the event: once its exchanges are made, so is the event
+abbrev pub IsPlanned : Parts → Pid → Option Inside → Event → List Change → List Change → Planned → Type 0
+IsPlanned parts pid inside event before between planned = (after : Parts) (now : List Change) →
+    after ≡ applied parts (drop (length before) between) → now ≡ take (length before) between ++ exchanged parts (drop (length before) between) →
+    Makes parts pid inside event before now after planned
+
+-- the transaction where this was posted to what is kept of its starter
+abbrev pub posted_one : Sending → BoxedTxn → BoxedTxn
+posted_one m boxed = with_kept_pending (pending_after m (Some (running (ids_of boxed.txn.value.kept.ids))) boxed.txn.value.kept.pending) boxed
+
+-- the transaction in the slot of n, where these sends were posted to what is kept of its starter
+abbrev pub posted_at : ℕ → List Sending → BoxedTxn → BoxedTxn
+posted_at n ms boxed = with_kept_pending (pending_by n ms (Some (running (ids_of boxed.txn.value.kept.ids))) boxed.txn.value.kept.pending) boxed
+
+-- the sends were posted to what is kept of live starters
+pub record PostsKept (old new : List (Option BoxedTxn)) (ms : List Sending) : Type 0 where
+  pub width : length new ≡ length old
+  pub each : (n : ℕ) → slot_at new n ≡ option_map (posted_at n ms) (slot_at old n)
+
+-- a step that is so to the transactions was made: the content is the next one, and the inverse leads back
+pub record IsMade (old : Content) (role : Role) (event : Event) (process : ℕ) (new : Content) (inverse : Inverse) : Type 0 where
+  pub records : List Change
+  pub logs : Logs role event records (content_of old)
+  pub next : content_of new ≡ next_content role event process records (content_of old)
+  pub shaped : IsShaped new
+  pub goes : GoesWith new inverse
+  pub back : Undoes new inverse old
+  -- it exchanges what the event names, and nothing else
+  pub local : AreAmong (named_by event (now_of old)) (changes_of new inverse)
+
+-- the outcome says the reply of the event; bytes that it shows are of the memory that the process has now
+abbrev pub Answers : Content → Event → Pid → Content → Outcome → Type 0
+Answers old event pid new outcome = reply_of event (now_of old) ≡ reply_with (memory_in (process_in (slot_at new.parts.procs pid.0))) outcome

@@ -1,0 +1,62 @@
+//! Posts to what is kept of the starters of live transactions.
+ghost use Rattle.std.specs.Prelude.{◌≡◌, ◌∷◌, [], ◌<◌};
+ghost use Rattle.tx_kernel.specs.Plans.{HasSignal, sending_of, sent_at_once};
+ghost use Rattle.tx_live.specs.Inverses.{unposted_if, unposted_in, HasStarter};
+ghost use Rattle.tx_live.specs.Made.{posted_one, PostsKept};
+
+use crate::content::BoxedTxn;
+use tx_base::{Pid, Sending, Slots};
+use tx_kernel::Sends;
+use tx_txn::Unpost;
+
+/// A post to what is kept of the starter of a live transaction.
+#[derive(Clone, Copy, Debug)]
+pub struct KeptPost {
+    pub starter: Pid,
+    pub unpost: Unpost,
+}
+
+/// Posts what a step sends at once to what is kept of its target, if that is the starter of a live
+/// transaction. Answers what takes the post back, where it changed anything. It takes no memory.
+pub(crate) fn post_sends(txns: &mut Slots<BoxedTxn>, sends: &Sends) -> Option<KeptPost>
+    requires { HasSignal sends.now }
+    ensures posted { PostsKept txns.old txns.new (sent_at_once sends.now) }
+    ensures back { unposted_in result txns.new ≡ txns.old }
+    ensures starter { HasStarter txns.new result }
+{
+    match sends {
+        Sends::Nothing => None,
+        Sends::AtOnce(sending) => post_kept(txns, sending),
+        Sends::AtCommit(_) => None,
+    }
+}
+
+/// Posts a signal, whose number must be below 64, to what is kept of its target, if that is the starter
+/// of a live transaction. Answers what takes the post back, where it changed anything.
+pub(crate) fn post_kept(txns: &mut Slots<BoxedTxn>, sending: &Sending) -> Option<KeptPost>
+    requires { sending.now.signo.0 < 64 }
+    ensures posted { PostsKept txns.old txns.new (sending_of sending.now ∷ []) }
+    ensures back { unposted_in result txns.new ≡ txns.old }
+    ensures starter { HasStarter txns.new result }
+{
+    let starter = sending.target;
+    if txns.get(starter).is_none() {
+        return None;
+    }
+    let mut boxed = txns.take(starter).unwrap();
+    let post = post_boxed(&mut boxed, sending);
+    txns.put(starter, boxed);
+    match post {
+        Some(unpost) => Some(KeptPost { starter, unpost }),
+        None => None,
+    }
+}
+
+/// Posts a signal, whose number must be below 64, to what is kept of a transaction's starter.
+fn post_boxed(boxed: &mut BoxedTxn, sending: &Sending) -> Option<Unpost>
+    requires { sending.now.signo.0 < 64 }
+    ensures posted { boxed.new ≡ posted_one (sending_of sending.now) boxed.old }
+    ensures back { unposted_if result boxed.new ≡ boxed.old }
+{
+    boxed.txn.kept.post(sending)
+}

@@ -1,0 +1,14 @@
+//! What the machine keeps of live transactions, and what a step makes of it, by what the step is to
+//! the transactions.
+#![tactic(auto)]
+
+mod content;
+mod inverse;
+mod kept_posts;
+mod laws;
+mod outside;
+mod planning;
+
+pub use content::{BoxedTxn, Content};
+pub use inverse::Inverse;
+pub use kept_posts::KeptPost;

@@ -1,0 +1,41 @@
+//! The plan of a step, for parts that it is made on.
+ghost use Rattle.std.specs.Prelude.{◌≡◌, IfOk, OnErr, OnOk, drop, length};
+ghost use Rattle.tx_base.specs.Slots.{slot_at};
+ghost use Rattle.tx_change.specs.Exchange.{AreNamed};
+ghost use Rattle.tx_kernel.specs.Actors.{IsWhole, inside_of};
+ghost use Rattle.tx_kernel.specs.Acts.{event_of};
+ghost use Rattle.tx_live.specs.Made.{IsPlanned, IsRunning};
+
+use std::alloc::Global;
+use tx_base::{NoMemory, Pid};
+use tx_change::{Log, Parts};
+use tx_kernel::{Act, Actor, Inside, Planned, plans_are_made};
+
+/// Plans what a process that runs is asked to do: its exchanges are at the end of the log then.
+///
+/// NoMemory where the plan refuses; the log is then as it was.
+pub(crate) fn plan(
+    alloc: Global,
+    parts: &Parts,
+    pid: Pid,
+    inside: Option<Inside>,
+    act: &Act,
+    log: &mut Log,
+) -> Result<Planned, NoMemory>
+    requires whole { IsWhole parts.now }
+    requires running { IsRunning (slot_at parts.now.procs pid.0) }
+    ensures planned { IfOk result (λ planned. IsPlanned parts.now pid inside.entry (event_of (inside_of inside.entry) pid act.now) log.old log.new planned) }
+    ensures named { OnOk result (AreNamed parts.now (drop (length log.old) log.new)) }
+    ensures err { OnErr result (log.new ≡ log.old) }
+{
+    plans_are_made();
+    let proc = parts.proc(pid).unwrap();
+    let actor = Actor {
+        parts,
+        pid,
+        proc,
+        inside,
+    };
+    let planned = actor.plan(alloc, act, log)?;
+    Ok(planned)
+}
