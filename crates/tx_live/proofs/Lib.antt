@@ -1,3 +1,4 @@
 pub mod KeptPosted
 pub mod Planned
 pub mod Outsides
+pub mod Boots

@@ -2,6 +2,7 @@
 //! the transactions.
 #![tactic(auto)]
 
+mod boot;
 mod content;
 mod inverse;
 mod kept_posts;

@@ -1,0 +1,48 @@
+//! The content at the start.
+ghost use Rattle.std.specs.Prelude.{◌≡◌, ◌≤◌, [], length, IfOk};
+ghost use Rattle.tx_kernel.specs.Actors.{IsWhole};
+ghost use Rattle.tx_live.specs.Content.{content_of, view_of, IsShaped};
+ghost use Rattle.tx_model.specs.State.{booted};
+ghost use Rattle.tx_model.specs.View.{view};
+ghost use Rattle.tx_txn.specs.Content.{IsKept};
+
+use crate::content::Content;
+use crate::laws::laws;
+use std::alloc::Global;
+use tx_base::{NoMemory, Slots};
+use tx_change::Parts;
+use tx_kernel::booted_are_whole;
+use tx_reserve::Reservations;
+use tx_txn::start_is_kept;
+
+impl Content {
+    /// So many process numbers, of which the first few run at point 0 with nothing else, and no
+    /// transaction. The room of all tables is made here.
+    ///
+    /// NoMemory where a growth is refused.
+    pub fn boot(alloc: Global, width: u16, count: u16) -> Result<Content, NoMemory>
+        requires low { 1 ≤ count }
+        requires high { count ≤ width }
+        requires width { width ≤ 256 }
+        ensures shaped { IfOk result IsShaped }
+        ensures whole { IfOk result (λ content. IsWhole content.parts) }
+        ensures kept { IfOk result (λ content. IsKept (content_of content)) }
+        ensures view { IfOk result (λ content. view_of content ≡ view (booted width count) []) }
+        ensures processes { IfOk result (λ content. length content.parts.procs ≡ width) }
+    {
+        laws();
+        booted_are_whole();
+        start_is_kept();
+        let parts = Parts::boot(alloc, width, count)?;
+        let marks = Slots::new(alloc, width)?;
+        let owners = Reservations::new(alloc)?;
+        owners.sized();
+        let txns = Slots::new(alloc, width)?;
+        Ok(Content {
+            parts,
+            marks,
+            owners,
+            txns,
+        })
+    }
+}
