@@ -122,8 +122,8 @@ unfolding effect objects
 plans_note laws actor log now outcome ret sized is plans =
     let parts : Parts = actor.parts.now in
     let step : PlansStep actor log now outcome Nothing (λ S. own_effect actor.pid.0 (answers_with ret (me_of actor))) (λ S. []) =
-        quiet_step actor log now outcome Nothing (λ S. own_effect actor.pid.0 (answers_with ret (me_of actor))) (λ S. []) refl
-        (own_plans laws actor log now outcome (answers_with ret) (λ S. []) sized is plans) in
+    quiet_step actor log now outcome Nothing (λ S. own_effect actor.pid.0 (answers_with ret (me_of actor))) (λ S. []) refl
+    (own_plans laws actor log now outcome (answers_with ret) (λ S. []) sized is plans) in
     record {
       plan = step.plan;
       added = step.added;

@@ -11,7 +11,7 @@ use Rattle.tx_live.proofs.Outsides.{same_content}
 use Rattle.tx_live.specs.Content.{content_of, held_in, now_of, owner_at, own_held, txn_of, view_of, IsShaped}
 use Rattle.tx_live.specs.declared.content.BoxedTxn.{BoxedTxn}
 use Rattle.tx_live.specs.declared.content.Content.{Content}
-use Rattle.tx_model.specs.State.{Object, Proc, Desc, Pipe, Held, Sending, State, booted}
+use Rattle.tx_model.specs.State.{Object, Proc, Desc, Pipe, Held, State, booted}
 use Rattle.tx_model.specs.View.{view}
 use Rattle.tx_reserve.specs.Reservations.{owner_of}
 use Rattle.tx_txn.specs.Content.{start_content, two_parts_of, IsKept, Content as TheContent}

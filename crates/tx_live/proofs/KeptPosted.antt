@@ -1,12 +1,11 @@
 -- Posts to what is kept, in the table of the transactions.
-use Rattle.std.proofs.Common.{◌≡◌, ◌≢◌, ℕ, zero, suc, ◌<◌, ◌≤◌, Bool, true, false, List, [], ◌∷◌, length, if◌then◌else◌, ◌==◌, Option, Some, None, is_some, option_map, Bor, refl, sym, ap, subst, ◌∙◌, inl, inr, eq-eqb, eqb-true, arith}
+use Rattle.std.proofs.Common.{◌≡◌, ℕ, zero, suc, ◌<◌, ◌≤◌, false, List, [], ◌∷◌, length, if◌then◌else◌, ◌==◌, Option, Some, None, is_some, option_map, Bor, refl, sym, ap, subst, ◌∙◌, inl, inr, eq-eqb, eqb-true, arith}
 use Rattle.std.proofs.lemmas.Bool.{both_ways, cases_Bool}
 use Rattle.tx_base.proofs.SlotFacts.{length-with_slot, slot_at-with_slot, slot_now, slot_same, slot_twice}
 use Rattle.tx_base.specs.Slots.{slot_at, with_slot}
-use Rattle.tx_live.specs.Inverses.{unposted_at, unposted_if, unposted_in}
+use Rattle.tx_live.specs.Inverses.{unposted_at, unposted_if}
 use Rattle.tx_live.specs.Made.{posted_at, posted_one, PostsKept}
 use Rattle.tx_live.specs.declared.content.BoxedTxn.{BoxedTxn}
-use Rattle.tx_live.specs.declared.kept_posts.KeptPost.{KeptPost}
 use Rattle.tx_model.specs.State.{Sending}
 use Rattle.tx_txn.specs.declared.kept.Unpost.{Unpost}
 use Rattle.std.specs.Box.{with_value}

@@ -1,4 +1,5 @@
 pub mod KeptPosted
 pub mod Planned
 pub mod Outsides
+pub mod Insides
 pub mod Boots

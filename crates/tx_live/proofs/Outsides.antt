@@ -1,5 +1,5 @@
 -- A step outside of transactions.
-use Rattle.std.proofs.Common.{◌≡◌, ℕ, ◌≤◌, List, [], ◌∷◌, ◌++◌, length, drop, take, map, Option, Some, None, option_map, refl, sym, ap, subst, ◌∙◌}
+use Rattle.std.proofs.Common.{◌≡◌, ℕ, ◌≤◌, List, [], ◌++◌, length, Option, Some, None, option_map, refl, sym, ap, subst, ◌∙◌}
 use Rattle.tx_base.specs.Slots.{slot_at}
 use Rattle.tx_base.specs.declared.marks.Mark.{Mark}
 use Rattle.tx_base.specs.declared.names.Pid.{Pid}
@@ -27,11 +27,10 @@ use Rattle.tx_live.specs.declared.inverse.Inverse.TheVariants.{Outside as Outsid
 use Rattle.tx_live.specs.declared.kept_posts.KeptPost.{KeptPost}
 use Rattle.tx_model.specs.Events.{Event, effect, objects, reply_of}
 use Rattle.tx_model.specs.History.{processes_of}
-use Rattle.tx_model.specs.Membership.{Outside}
-use Rattle.tx_model.specs.State.{Object, Proc, Desc, Pipe, Held, Sending, State}
-use Rattle.tx_reserve.specs.Objects.{is_in}
+use Rattle.tx_model.specs.Membership.{Outside, is_of}
+use Rattle.tx_model.specs.State.{Object, Proc, Desc, Pipe, Held, Sending}
 use Rattle.tx_reserve.specs.Reservations.{owner_of}
-use Rattle.tx_txn.specs.Content.{Content as TheContent, Txn as TheTxn}
+use Rattle.tx_txn.specs.Content.{Content as TheContent}
 use Rattle.tx_txn.specs.Marks.{table_at}
 use Rattle.tx_txn.specs.Steps.{next_content, posted}
 
@@ -73,6 +72,8 @@ txn_kept old new n ms None boxed sizes marks owners is at = cc
 txn_kept old new n ms (Some before) boxed sizes marks owners is at =
     subst (λ (b : Option BoxedTxn). IsBoxed b) (sym at) (record {
       starter = was.starter;
+      live = ap (λ (ms : List (Option Mark)). is_of n (slot_at ms n)) marks ∙ was.live;
+      own = ap (λ os. owner_of os (Proc n)) owners ∙ was.own;
       named = subst (λ (s : Sizes). AreWithin s before.txn.value.log) (sym sizes) was.named;
       brings = was.brings;
       objects = λ o. was.objects o ∙ ap (λ os. is_owner n (owner_of os o)) (sym owners);

@@ -1,5 +1,6 @@
 -- Who makes a step, and what is planned for it.
-use Rattle.std.proofs.Common.{◌≡◌, ℕ, List, [], length, take, drop, Option, Some, None, refl, sym, subst}
+use Rattle.std.proofs.Common.{◌≡◌, ◌++◌, List, [], length, take, Option, Some, refl, ap, subst, ◌∙◌}
+use Rattle.std.proofs.lemmas.List.{take_at}
 use Rattle.tx_base.specs.Slots.{slot_at}
 use Rattle.tx_base.specs.declared.names.Pid.{Pid}
 use Rattle.tx_change.specs.Exchange.{applied, exchanged}
@@ -24,3 +25,6 @@ pub makes_all : (parts : Parts) (pid : Pid) (inside : Option Inside) (event : Ev
     IsPlanned parts pid inside event before between planned → Makes parts pid inside event [] (exchanged parts between) (applied parts between) planned
 makes_all parts pid inside event before between planned empty plans =
     subst (λ (log : List Change). IsPlanned parts pid inside event log between planned) empty plans (applied parts between) (exchanged parts between) refl refl
+
+pub kept_front : (before now plan : List Change) → now ≡ before ++ plan → take (length before) now ≡ before
+kept_front before now plan added = ap (take (length before)) added ∙ take_at before plan (length before) refl

@@ -1,17 +1,17 @@
 -- What the machine keeps, as a content of logs and kept signals.
-use Rattle.std.specs.Prelude.{◌≡◌, ℕ, ◌≤◌, List, [], length, map, Option, Some, None, option_map}
+use Rattle.std.specs.Prelude.{◌≡◌, ℕ, ◌≤◌, true, List, [], length, map, Option, Some, None, option_map}
 use Rattle.tx_base.specs.Slots.{slot_at}
 use Rattle.tx_base.specs.declared.marks.Mark.{Mark}
 use Rattle.tx_change.specs.Counts.{CountsAgree}
 use Rattle.tx_change.specs.Exchange.{AreNamed}
 use Rattle.tx_change.specs.Laws.{BringPlaces, HaveAllPlaces}
 use Rattle.tx_change.specs.States.{state_of}
-use Rattle.tx_change.specs.declared.parts.Parts.{Parts}
 use Rattle.tx_cred.specs.Cred.{ids_of}
 use Rattle.tx_kernel.specs.Plans.{sending_of}
 use Rattle.tx_laws.specs.TwoParts.{is_owner, parts_view}
 use Rattle.tx_live.specs.declared.content.BoxedTxn.{BoxedTxn}
 use Rattle.tx_live.specs.declared.content.Content.{Content}
+use Rattle.tx_model.specs.Membership.{is_of}
 use Rattle.tx_model.specs.State.{State, Object, Proc, Desc, Pipe, Held, Sending}
 use Rattle.tx_model.specs.View.{View}
 use Rattle.tx_reserve.specs.Objects.{is_in}
@@ -59,6 +59,9 @@ view_of k = parts_view (two_parts_of (content_of k))
 -- what is so of the transaction in the slot of a number
 pub record IsTxn (k : Content) (n : ℕ) (txn : Txn) : Type 0 where
   pub starter : txn.starter.0 ≡ n
+  -- its starter is a member, and its own
+  pub live : is_of n (slot_at k.marks n) ≡ true
+  pub own : owner_of k.owners (Proc n) ≡ Some n
   pub named : AreNamed k.parts txn.log
   pub brings : BringPlaces txn.log
   -- it has reserved what its starter owns

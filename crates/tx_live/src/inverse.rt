@@ -1,10 +1,25 @@
 //! What takes an accepted step back.
 use crate::kept_posts::KeptPost;
+use crate::marking::Marked;
+use tx_base::Pid;
 use tx_change::Log;
+use tx_reserve::Objects;
 
 /// What takes an accepted step back, on the content as the step left it.
 #[derive(Drop)]
 pub enum Inverse {
     /// Of a step outside of transactions: the old parts, and its post to what is kept of a starter.
-    Outside { log: Log, post: Option<KeptPost> },
+    Outside {
+        log: Log,
+        post: Option<KeptPost>,
+    },
+    /// Of a step inside: how many old parts of the log are its own, what was reserved before it, the
+    /// mark that it replaced, and whether it handed out a signal.
+    Inside {
+        starter: Pid,
+        count: usize,
+        before: Objects,
+        marked: Option<Marked>,
+        held: bool,
+    },
 }

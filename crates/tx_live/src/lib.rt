@@ -4,12 +4,15 @@
 
 mod boot;
 mod content;
+mod inside;
 mod inverse;
 mod kept_posts;
 mod laws;
+mod marking;
 mod outside;
 mod planning;
 
 pub use content::{BoxedTxn, Content};
 pub use inverse::Inverse;
 pub use kept_posts::KeptPost;
+pub use marking::{Marked, Progress};

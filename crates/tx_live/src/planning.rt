@@ -1,5 +1,5 @@
 //! The plan of a step, for parts that it is made on.
-ghost use Rattle.std.specs.Prelude.{◌≡◌, IfOk, OnErr, OnOk, drop, length};
+ghost use Rattle.std.specs.Prelude.{◌≡◌, IfOk, OnErr, OnOk, drop, length, take};
 ghost use Rattle.tx_base.specs.Slots.{slot_at};
 ghost use Rattle.tx_change.specs.Exchange.{AreNamed};
 ghost use Rattle.tx_kernel.specs.Actors.{IsWhole, inside_of};
@@ -26,6 +26,7 @@ pub(crate) fn plan(
     requires running { IsRunning (slot_at parts.now.procs pid.0) }
     ensures planned { IfOk result (λ planned. IsPlanned parts.now pid inside.entry (event_of (inside_of inside.entry) pid act.now) log.old log.new planned) }
     ensures named { OnOk result (AreNamed parts.now (drop (length log.old) log.new)) }
+    ensures log { OnOk result (take (length log.old) log.new ≡ log.old) }
     ensures err { OnErr result (log.new ≡ log.old) }
 {
     plans_are_made();

@@ -16,6 +16,8 @@ mod ends;
 #[cfg(test)]
 mod kernel;
 #[cfg(test)]
+mod live;
+#[cfg(test)]
 mod machine;
 #[cfg(test)]
 mod pages;

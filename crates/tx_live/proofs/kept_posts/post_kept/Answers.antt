@@ -1,6 +1,6 @@
-use Rattle.std.proofs.Common.{◌≡◌, List, Option, Some, None, is_some, false, sym, ap, subst, ◌∙◌}
+use Rattle.std.proofs.Common.{◌≡◌, List, Option, Some, None, sym, ap, subst, ◌∙◌}
 use Rattle.tx_base.proofs.SlotFacts.{slot_twice}
-use Rattle.tx_base.specs.Slots.{slot_at, with_slot}
+use Rattle.tx_base.specs.Slots.{with_slot}
 use Rattle.tx_kernel.specs.Plans.{sending_of}
 use Rattle.tx_live.proofs.KeptPosted.{absent_posted, gone, slot_kept, slot_posted, slot_starter, slot_unposted}
 use Rattle.tx_live.specs.Inverses.{unposted_if}

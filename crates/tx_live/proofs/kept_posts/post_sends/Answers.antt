@@ -1,4 +1,4 @@
-use Rattle.std.proofs.Common.{[], List, sym, subst}
+use Rattle.std.proofs.Common.{sym, subst}
 use Rattle.tx_kernel.specs.Plans.{sent_at_once}
 use Rattle.tx_kernel.specs.declared.planned.Sends.{Sends}
 use Rattle.tx_live.proofs.KeptPosted.{none_posted}

@@ -1,6 +1,5 @@
 use Rattle.std.proofs.Common.{None, refl}
-use Rattle.tx_change.specs.Exchange.{applied, exchanged}
-use Rattle.tx_kernel.specs.Acts.{event_of, Makes}
+use Rattle.tx_kernel.specs.Acts.{event_of}
 use Rattle.tx_live.proofs.Outsides.{outside_answers, outside_made}
 use Rattle.tx_live.proofs.Planned.{makes_all}
 use Rattle.tx_live.specs.declared.content.Content.{Content}
