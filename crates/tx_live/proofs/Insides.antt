@@ -1,5 +1,5 @@
 -- A step inside of a transaction.
-use Rattle.std.proofs.Common.{◌≡◌, ◌≢◌, ℕ, ◌+◌, ◌-◌, ◌≤◌, Bool, true, false, not, ◌&&◌, ◌||◌, ◌==◌, if◌then◌else◌, List, [], ◌∷◌, ◌++◌, length, length-append, drop, take, map, Option, Some, None, option_map, refl, sym, ap, subst, ◌∙◌, inl, inr, eq-eqb, eqb-true, append_assoc, arith}
+use Rattle.std.proofs.Common.{◌≡◌, ◌≢◌, ◌⊎◌, ℕ, ◌+◌, ◌-◌, ◌≤◌, Bool, true, false, not, ◌&&◌, ◌||◌, ◌==◌, if◌then◌else◌, List, [], ◌∷◌, ◌++◌, length, length-append, drop, take, map, Option, Some, None, option_map, refl, sym, ap, subst, ◌∙◌, inl, inr, eq-eqb, eqb-true, append_assoc, arith}
 use Rattle.std.proofs.lemmas.Bool.{both_ways, cases_Bool}
 use Rattle.std.proofs.lemmas.List.{drop_at, take_at}
 use Rattle.tx_base.proofs.SlotFacts.{length-with_slot, slot_at-with_slot, slot_same, slot_twice}
@@ -433,11 +433,54 @@ module _ (laws : LiveLaws) (old new : Content) (pid starter : Pid) (act : Act) (
           | inr e ↦ rw e (so p)
         ]
 
+    -- a child that joins is in the footprint
+    joins_fresh : (c : Pid) → progress ≡ Forks c → is_in footprint (Proc c.0) ≡ true
+    unfolding view_of event_footprint
+    joins_fresh c forks = by progress forks fits
+      where
+        by : (g : Progress) → g ≡ Forks c → FitsWithin s (part_of g) event pid.0 (view_of old) → is_in footprint (Proc c.0) ≡ true
+        by Continues e f = cc
+        by Parks e f = cc
+        by (Forks d) e f =
+            let named : has (Proc d.0) (objects event S) ≡ true = subst (λ (z : State). has (Proc d.0) (objects event z) ≡ true) (laws.present _) f.progress_fits.1 in
+            subst (λ (p : Pid). is_in footprint (Proc p.0) ≡ true) (ap child_in e)
+            (footprint_at (Proc d.0) refl ∙ has_first (Proc d.0) (objects event S) (targets (table_at old.marks) (actor event) (effect event S).sends) named)
+          where
+            child_in : Progress → Pid
+            child_in Continues = d
+            child_in Parks = d
+            child_in (Forks x) = x
+
+    -- a member was one before, or its number is in the footprint
+    member_before : (g : Progress) → progress ≡ g → (p : ℕ) → is_of s (marks_after (Within s (part_of g)) pid.0 (slot_at old.marks) p) ≡ true →
+        (is_of s (slot_at old.marks p) ≡ true) ⊎ (is_in footprint (Proc p) ≡ true)
+    member_before Continues e p of = inl of
+    member_before Parks e p of = inl (elim (cases_Bool (p == pid.0)) [
+      | inl z ↦ ap (λ (k : ℕ). is_of s (slot_at old.marks k)) (eqb-true p pid.0 z) ∙ sym (parked_of s (slot_at old.marks pid.0)) ∙ sym (ap (λ (b : Bool). is_of s (if b then parked (slot_at old.marks pid.0) else slot_at old.marks p)) z) ∙ of
+      | inr z ↦ sym (ap (λ (b : Bool). is_of s (if b then parked (slot_at old.marks pid.0) else slot_at old.marks p)) z) ∙ of
+    ])
+    member_before (Forks c) e p of = elim (cases_Bool (p == c.0)) [
+      | inl z ↦ inr (subst (λ (k : ℕ). is_in footprint (Proc k) ≡ true) (sym (eqb-true p c.0 z)) (joins_fresh c e))
+      | inr z ↦ inl (sym (ap (λ (b : Bool). is_of s (if b then Some (new_mark s (defers_in (slot_at old.marks s))) else slot_at old.marks p)) z) ∙ of)
+    ]
+
+    -- a member of another transaction was one before
+    other_before : (n : ℕ) → n ≢ s → (g : Progress) (p : ℕ) → is_of n (marks_after (Within s (part_of g)) pid.0 (slot_at old.marks) p) ≡ true → is_of n (slot_at old.marks p) ≡ true
+    other_before n differs Continues p of = of
+    other_before n differs Parks p of = elim (cases_Bool (p == pid.0)) [
+      | inl z ↦ ap (λ (k : ℕ). is_of n (slot_at old.marks k)) (eqb-true p pid.0 z) ∙ sym (parked_of n (slot_at old.marks pid.0)) ∙ sym (ap (λ (b : Bool). is_of n (if b then parked (slot_at old.marks pid.0) else slot_at old.marks p)) z) ∙ of
+      | inr z ↦ sym (ap (λ (b : Bool). is_of n (if b then parked (slot_at old.marks pid.0) else slot_at old.marks p)) z) ∙ of
+    ]
+    other_before n differs (Forks c) p of = elim (cases_Bool (p == c.0)) [
+      | inl z ↦ absurd (differs (sym (eqb-true s n (sym (ap (λ (b : Bool). is_of n (if b then Some (new_mark s (defers_in (slot_at old.marks s))) else slot_at old.marks p)) z) ∙ of))))
+      | inr z ↦ sym (ap (λ (b : Bool). is_of n (if b then Some (new_mark s (defers_in (slot_at old.marks s))) else slot_at old.marks p)) z) ∙ of
+    ]
+
     mine : IsTxn new s after
     mine = record {
       starter = ap (λ (p : Pid). p.0) starter_is ∙ was.starter;
       live = ap (is_of s) (marks s) ∙ live_after;
-      own = owns (Proc s) ∙ by (is_in footprint (Proc s));
+      own = λ p of. owns (Proc p) ∙ member_owned p (is_in footprint (Proc p)) refl (member_before progress refl p (sym (ap (is_of s) (marks p)) ∙ of));
       named = named_log;
       brings = subst BringPlaces (sym log_is) (brings_both t0.log kept was.brings makes.brings);
       objects = λ o. objects_after o ∙ (owned_after s (owner_of old.owners o) (is_in t0.objects o) (is_in footprint o) (was.objects o) (free o)).0 ∙ ap (is_owner s) (sym (owns o));
@@ -449,35 +492,17 @@ module _ (laws : LiveLaws) (old new : Content) (pid starter : Pid) (act : Act) (
           p m (sym (marks p) ∙ at) is ∙ sym defers_is;
     }
       where
-        by : (b : Bool) → (if b then Some s else owner_of old.owners (Proc s)) ≡ Some s
-        by true = refl
-        by false = was.own
-
-    -- a child that joins is no starter of another transaction
-    joins_apart : (c : Pid) → progress ≡ Forks c → (n : ℕ) → owner_of old.owners (Proc n) ≡ Some n → n ≡ c.0 → n ≡ s
-    unfolding view_of event_footprint
-    joins_apart c forks n own is = by progress forks fits
-      where
-        by : (g : Progress) → g ≡ Forks c → FitsWithin s (part_of g) event pid.0 (view_of old) → n ≡ s
-        by Continues e f = cc
-        by Parks e f = cc
-        by (Forks d) e f =
-            let same : d ≡ c = ap child_in e in
-            let named : has (Proc d.0) (objects event S) ≡ true = subst (λ (z : State). has (Proc d.0) (objects event z) ≡ true) (laws.present _) f.progress_fits.1 in
-            let fresh : is_in footprint (Proc d.0) ≡ true = footprint_at (Proc d.0) refl ∙ has_first (Proc d.0) (objects event S) (targets (table_at old.marks) (actor event) (effect event S).sends) named in
-            let here : n ≡ d.0 = is ∙ ap (λ (p : Pid). p.0) (sym same) in
-            not_free s n (owner_of old.owners (Proc n)) own (subst (λ (k : ℕ). unless (Some s) (owner_of old.owners (Proc k)) ≡ None) (sym here) (free (Proc d.0) fresh))
-          where
-            child_in : Progress → Pid
-            child_in Continues = d
-            child_in Parks = d
-            child_in (Forks x) = x
+        member_owned : (p : ℕ) (f : Bool) → is_in footprint (Proc p) ≡ f → (is_of s (slot_at old.marks p) ≡ true) ⊎ (is_in footprint (Proc p) ≡ true) →
+            (if f then Some s else owner_of old.owners (Proc p)) ≡ Some s
+        member_owned p true e h = refl
+        member_owned p false e (inl of) = was.own p of
+        member_owned p false e (inr fresh) = absurd (both_ways (is_in footprint (Proc p)) e fresh)
 
     others : (n : ℕ) (b : BoxedTxn) → (n == s) ≡ false → slot_at old.txns n ≡ Some b → IsTxn new n b.txn.value
     others n b apart at = record {
       starter = other.starter;
       live = ap (is_of n) (marks n) ∙ live_other progress refl;
-      own = owns (Proc n) ∙ own_other (is_in footprint (Proc n)) refl;
+      own = λ p of. owns (Proc p) ∙ own_other p (is_in footprint (Proc p)) refl (other.own p (other_before n differs progress p (sym (ap (is_of n) (marks p)) ∙ of)));
       named = subst (λ (z : Sizes). AreWithin z b.txn.value.log) (sym sizes_new) other.named;
       brings = other.brings;
       objects = λ o. other.objects o ∙ sym (others_after s n (owner_of old.owners o) (is_in footprint o) differs (free o)) ∙ ap (is_owner n) (sym (owns o));
@@ -496,9 +521,9 @@ module _ (laws : LiveLaws) (old new : Content) (pid starter : Pid) (act : Act) (
         starter_in m None = m.starter.0
         starter_in m (Some x) = x.starter.0
 
-        own_other : (f : Bool) → is_in footprint (Proc n) ≡ f → (if f then Some s else owner_of old.owners (Proc n)) ≡ Some n
-        own_other true e = absurd (differs (not_free s n (owner_of old.owners (Proc n)) other.own (free (Proc n) e)))
-        own_other false e = other.own
+        own_other : (p : ℕ) (f : Bool) → is_in footprint (Proc p) ≡ f → owner_of old.owners (Proc p) ≡ Some n → (if f then Some s else owner_of old.owners (Proc p)) ≡ Some n
+        own_other p true e own = absurd (differs (not_free s n (owner_of old.owners (Proc p)) own (free (Proc p) e)))
+        own_other p false e own = own
 
         live_other : (g : Progress) → progress ≡ g → is_of n (marks_after (Within s (part_of g)) pid.0 (slot_at old.marks) n) ≡ true
         live_other Continues e = other.live
@@ -507,7 +532,8 @@ module _ (laws : LiveLaws) (old new : Content) (pid starter : Pid) (act : Act) (
           | inr z ↦ rw z other.live
         ]
         live_other (Forks c) e = elim (cases_Bool (n == c.0)) [
-          | inl z ↦ absurd (differs (joins_apart c e n other.own (eqb-true n c.0 z)))
+          | inl z ↦ absurd (differs (not_free s n (owner_of old.owners (Proc n)) (other.own n other.live)
+              (free (Proc n) (subst (λ (k : ℕ). is_in footprint (Proc k) ≡ true) (sym (eqb-true n c.0 z)) (joins_fresh c e)))))
           | inr z ↦ rw z other.live
         ]
 

@@ -73,7 +73,7 @@ txn_kept old new n ms (Some before) boxed sizes marks owners is at =
     subst (λ (b : Option BoxedTxn). IsBoxed b) (sym at) (record {
       starter = was.starter;
       live = ap (λ (ms : List (Option Mark)). is_of n (slot_at ms n)) marks ∙ was.live;
-      own = ap (λ os. owner_of os (Proc n)) owners ∙ was.own;
+      own = λ p of. ap (λ os. owner_of os (Proc p)) owners ∙ was.own p (sym (ap (λ (ms : List (Option Mark)). is_of n (slot_at ms p)) marks) ∙ of);
       named = subst (λ (s : Sizes). AreWithin s before.txn.value.log) (sym sizes) was.named;
       brings = was.brings;
       objects = λ o. was.objects o ∙ ap (λ os. is_owner n (owner_of os o)) (sym owners);

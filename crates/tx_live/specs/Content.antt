@@ -59,9 +59,9 @@ view_of k = parts_view (two_parts_of (content_of k))
 -- what is so of the transaction in the slot of a number
 pub record IsTxn (k : Content) (n : ℕ) (txn : Txn) : Type 0 where
   pub starter : txn.starter.0 ≡ n
-  -- its starter is a member, and its own
+  -- its starter is a member, and it owns its members
   pub live : is_of n (slot_at k.marks n) ≡ true
-  pub own : owner_of k.owners (Proc n) ≡ Some n
+  pub own : (p : ℕ) → is_of n (slot_at k.marks p) ≡ true → owner_of k.owners (Proc p) ≡ Some n
   pub named : AreNamed k.parts txn.log
   pub brings : BringPlaces txn.log
   -- it has reserved what its starter owns
