@@ -6,7 +6,9 @@ use Rattle.tx_base.specs.Slots.{slot_at}
 use Rattle.tx_change.specs.Counts.{CountsAgree}
 use Rattle.tx_change.specs.Laws.{HaveAllPlaces}
 use Rattle.tx_change.specs.States.{state_of}
-use Rattle.tx_laws.specs.TwoParts.{parts_view}
+use Rattle.tx_laws.specs.TwoParts.{is_owner, parts_view}
+use Rattle.tx_live.specs.Begins.{IsAlone}
+use Rattle.tx_model.specs.Membership.{is_of}
 use Rattle.tx_live.proofs.Outsides.{same_content}
 use Rattle.tx_live.specs.Content.{content_of, held_in, now_of, owner_at, own_held, txn_of, view_of, IsShaped}
 use Rattle.tx_live.specs.declared.content.BoxedTxn.{BoxedTxn}
@@ -67,3 +69,11 @@ module _ (k : Content) (width count : ℕ) (state : state_of (λ starter. []) k.
     where
       apart : {boxed : BoxedTxn} → None ≡ Some boxed → ⊥
       apart e = cc
+
+  pub booted_alone : (s : ℕ) → IsAlone k s
+  booted_alone s = record {
+    mark = none_at k.marks width s marks;
+    members = λ n. ap (is_of s) (none_at k.marks width n marks);
+    owner = owners (Proc s);
+    owns = λ o. ap (is_owner s) (owners o);
+  }

@@ -3,3 +3,4 @@ pub mod Planned
 pub mod Outsides
 pub mod Insides
 pub mod Boots
+pub mod FirstSteps

@@ -8,7 +8,7 @@ use Rattle.tx_change.specs.declared.change.Change.{Change}
 use Rattle.tx_live.specs.declared.content.BoxedTxn.{BoxedTxn}
 use Rattle.tx_live.specs.declared.content.Content.{Content}
 use Rattle.tx_live.specs.declared.inverse.Inverse.{Inverse}
-use Rattle.tx_live.specs.declared.inverse.Inverse.TheVariants.{Outside, Inside}
+use Rattle.tx_live.specs.declared.inverse.Inverse.TheVariants.{Outside, Inside, Begun}
 use Rattle.tx_live.specs.declared.kept_posts.KeptPost.{KeptPost}
 use Rattle.tx_live.specs.declared.marking.Marked.{Marked}
 use Rattle.tx_model.specs.State.{Object}
@@ -91,22 +91,38 @@ pub record HasLog (k : Content) (starter : Pid) (count : ℕ) (boxed : BoxedTxn)
   pub few : count ≤ length boxed.txn.value.log
   pub same : boxed.txn.value.starter ≡ starter
 
+-- the content as it was before the first step of the transaction in the box
+pub record UndoesBegun (k : Content) (starter : Pid) (old : Content) (boxed : BoxedTxn) : Type 0 where
+  pub there : slot_at k.txns starter.0 ≡ Some boxed
+  pub parts : undone k.parts boxed.txn.value.log ≡ old.parts
+  pub marks : with_slot k.marks starter.0 None ≡ old.marks
+  pub owners : (o : Object) → owner_of old.owners o ≡ (if is_in boxed.txn.value.objects o then None else owner_of k.owners o)
+  pub sized : length old.owners ≡ 352
+  pub txns : with_slot k.txns starter.0 None ≡ old.txns
+
 -- the inverse leads the content back to what it was before the step
 abbrev pub Undoes : Content → Inverse → Content → Type 0
 Undoes k (Outside log post) old = before_outside k log post ≡ old
 Undoes k (Inside starter count before marked held) old = (boxed : BoxedTxn) × UndoesInside k starter count before marked held old boxed
+Undoes k (Begun starter) old = (boxed : BoxedTxn) × UndoesBegun k starter old boxed
 
 -- the numbers of the inverse are ones that there are
 abbrev pub GoesWith : Content → Inverse → Type 0
 GoesWith k (Outside log post) = AreNamed k.parts log × HasStarter k.txns post
 GoesWith k (Inside starter count before marked held) = ((boxed : BoxedTxn) × HasLog k starter count boxed) × HasMark k.marks marked
+GoesWith k (Begun starter) = ((boxed : BoxedTxn) × HasLog k starter 0 boxed) × (starter.0 ≤ length k.marks)
 
 -- the last few changes of a slot's transaction
 abbrev pub last_in : ℕ → Option BoxedTxn → List Change
 last_in count None = []
 last_in count (Some boxed) = last_of count boxed.txn.value.log
 
+abbrev pub log_in : Option BoxedTxn → List Change
+log_in None = []
+log_in (Some boxed) = boxed.txn.value.log
+
 -- the changes that an inverse exchanges
 abbrev pub changes_of : Content → Inverse → List Change
 changes_of k (Outside log post) = log
 changes_of k (Inside starter count before marked held) = last_in count (slot_at k.txns starter.0)
+changes_of k (Begun starter) = log_in (slot_at k.txns starter.0)

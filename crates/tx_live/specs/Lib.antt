@@ -3,4 +3,5 @@ pub mod Inverses
 pub mod Progresses
 pub mod Made
 pub mod Insides
+pub mod Begins
 pub mod Laws

@@ -22,4 +22,8 @@ pub enum Inverse {
         marked: Option<Marked>,
         held: bool,
     },
+    /// Of a transaction's first step: all of its log.
+    Begun {
+        starter: Pid,
+    },
 }

@@ -2,6 +2,7 @@
 //! the transactions.
 #![tactic(auto)]
 
+mod begins;
 mod boot;
 mod content;
 mod inside;

@@ -1,4 +1,4 @@
-use Rattle.tx_live.proofs.Boots.{booted_kept, booted_shaped, booted_view}
+use Rattle.tx_live.proofs.Boots.{booted_alone, booted_kept, booted_shaped, booted_view}
 use Rattle.tx_live.specs.declared.content.Content.{Content}
 use Rattle.tx_live.proofs.content.Content.boot.Goals as goal
 
@@ -21,3 +21,8 @@ pub returns-clause-view : goal.returns-clause-view
 returns-clause-view c =
     let k : Content = record { parts = c.in_ok-parts.parts; marks = c.in_ok-marks.marks; owners = c.in_ok-owners.owners; txns = c.in_ok-txns.txns } in
     booted_view k c.args.width c.args.count c.in_ok-parts.ensures.state c.in_ok-marks.ensures c.in_ok-txns.ensures c.in_ok-owners.ensures c.start_is_kept.ensures.view
+
+pub returns-clause-alone : goal.returns-clause-alone
+returns-clause-alone c =
+    let k : Content = record { parts = c.in_ok-parts.parts; marks = c.in_ok-marks.marks; owners = c.in_ok-owners.owners; txns = c.in_ok-txns.txns } in
+    booted_alone k c.args.width c.args.count c.in_ok-parts.ensures.state c.in_ok-marks.ensures c.in_ok-txns.ensures c.in_ok-owners.ensures

@@ -1,0 +1,88 @@
+//! The first step of a transaction.
+ghost use Rattle.std.specs.Prelude.{◌≡◌, pos, IfOk, OnErr};
+ghost use Rattle.tx_base.specs.Slots.{slot_at};
+ghost use Rattle.tx_change.specs.Exchange.{AreNamed};
+ghost use Rattle.tx_kernel.specs.Actors.{IsWhole};
+ghost use Rattle.tx_kernel.specs.declared.planned.Outcome.TheVariants.{Done};
+ghost use Rattle.tx_live.specs.Begins.{is_only, IsAlone, IsBegun, Starts};
+ghost use Rattle.tx_live.specs.Content.{IsShaped};
+ghost use Rattle.tx_live.specs.Made.{Answers, IsMade, IsRunning};
+ghost use Rattle.tx_model.specs.Events.{Note};
+ghost use Rattle.tx_model.specs.Membership.{Begins, Within};
+ghost use Rattle.tx_model.specs.State.{Object as TheObject};
+ghost use Rattle.tx_reserve.specs.Objects.{is_in};
+
+use crate::content::{BoxedTxn, Content};
+use crate::inverse::Inverse;
+use crate::laws::laws;
+use crate::planning::plan;
+use std::alloc::Global;
+use tx_base::{Mark, NoMemory, Pid};
+use tx_change::{Log, Parts};
+use tx_kernel::Act;
+use tx_reserve::{Object, Objects, Reservations};
+use tx_txn::Txn;
+
+impl Content {
+    /// Begins a transaction of a process that runs, is in none and is nobody's: it is answered 0, and is
+    /// the only member. Answers what takes it back.
+    ///
+    /// NoMemory where a growth is refused; the content is then as it was.
+    pub fn begin(&mut self, alloc: Global, pid: Pid, defers: bool) -> Result<Inverse, NoMemory>
+        requires shaped { IsShaped self.old }
+        requires whole { IsWhole self.old.parts }
+        requires running { IsRunning (slot_at self.old.parts.procs pid.0) }
+        requires alone { IsAlone self.old pid.0 }
+        ensures made { IfOk result (λ inverse. IsMade self.old (Within pid.0 (Begins defers)) (Note pid.0 (pos 0)) pid.0 self.new inverse) }
+        ensures answer { IfOk result (λ inverse. Answers self.old (Note pid.0 (pos 0)) pid self.new (Done (pos 0))) }
+        ensures err { OnErr result (self.new ≡ self.old) }
+    {
+        laws();
+        let mut boxed = begun(alloc, &self.parts, pid, defers)?;
+        start(&mut boxed.txn, &mut self.parts, &mut self.owners);
+        let mark = Mark {
+            starter: pid,
+            ended: false,
+            defers,
+        };
+        self.marks.put(pid, mark);
+        self.txns.put(pid, boxed);
+        Ok(Inverse::Begun { starter: pid })
+    }
+}
+
+/// The transaction that a process begins, with the plan of its first step in the log.
+///
+/// NoMemory where a growth is refused.
+fn begun(alloc: Global, parts: &Parts, pid: Pid, defers: bool) -> Result<BoxedTxn, NoMemory>
+    requires whole { IsWhole parts.now }
+    requires running { IsRunning (slot_at parts.now.procs pid.0) }
+    ensures { IfOk result (λ boxed. IsBegun parts.now pid defers boxed.txn.value) }
+{
+    let mut log = Log::with_room(alloc, 4)?;
+    let _planned = plan(alloc, parts, pid, None, &Act::Answer(0), &mut log)?;
+    let proc = parts.proc(pid).unwrap();
+    let txn = Txn::begin(alloc, pid, defers, proc, log);
+    let txn = Box::new(alloc, txn)?;
+    Ok(BoxedTxn { txn })
+}
+
+/// Makes the first step of a transaction, which reserves its starter.
+fn start(txn: &mut Txn, parts: &mut Parts, owners: &mut Reservations)
+    requires { AreNamed parts.old txn.old.log }
+    ensures { Starts parts.old parts.new owners.old owners.new txn.old txn.new }
+{
+    txn.log.lead_forward(parts);
+    let objects = only(txn.starter);
+    let _none = txn.reserve(owners, &objects);
+    owners.sized();
+}
+
+/// The set of a process alone.
+fn only(pid: Pid) -> Objects
+    ensures { (o : TheObject) → is_in result o ≡ is_only pid.0 o }
+{
+    let mut objects = Objects::new();
+    objects.insert(Object::Proc(pid));
+    objects
+}
