@@ -34,7 +34,7 @@ descs_in_turn parts (Description number opened ∷ changes) = descs_in_turn (par
 descs_in_turn parts (Pipe number part ∷ changes) = descs_in_turn (parts_after parts (Pipe number part)) changes
 
 -- one change
-slot_once : ℕ → Change → Option Proc → Option Proc
+unfoldable pub slot_once : ℕ → Change → Option Proc → Option Proc
 slot_once n change slot = slot_after n (change ∷ []) slot
 
 edited_same : (procs : List (Option Proc)) (p n : ℕ) (part : ProcPart) (b : Bool) → (n == p) ≡ b →
@@ -42,7 +42,7 @@ edited_same : (procs : List (Option Proc)) (p n : ℕ) (part : ProcPart) (b : Bo
 edited_same procs p n part true e = ap (λ (k : ℕ). option_map (λ proc. edited_once proc part) (slot_at procs k)) (sym (eqb-true n p e))
 edited_same procs p n part false e = refl
 
-slot_next : (parts : Parts) (change : Change) (n : ℕ) → IsNamed parts change → slot_at (parts_after parts change).procs n ≡ slot_once n change (slot_at parts.procs n)
+pub slot_next : (parts : Parts) (change : Change) (n : ℕ) → IsNamed parts change → slot_at (parts_after parts change).procs n ≡ slot_once n change (slot_at parts.procs n)
 unfolding slot_once
 slot_next parts (Slot pid slot) n named = slot_at-with_slot parts.procs pid.0 slot n named.low named.high
 slot_next parts (Part pid part) n named =

@@ -11,3 +11,4 @@ pub mod InTurn
 pub mod InLists
 pub mod Logged
 pub mod Placed
+pub mod CountsBack

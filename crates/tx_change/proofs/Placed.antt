@@ -58,7 +58,7 @@ exchanged_bring parts (change ∷ changes) named brings places = (
       brings.1 (once_placed parts change named.0 brings.0 places),
 )
 
-named_undone : (parts : Parts) (change : Change) (changes : List Change) → IsNamed parts change → IsNamed (undone parts changes) change
+pub named_undone : (parts : Parts) (change : Change) (changes : List Change) → IsNamed parts change → IsNamed (undone parts changes) change
 named_undone parts change changes named = subst (λ (sizes : Sizes). IsWithin sizes change) (sym (sizes-undone parts changes)) named
 
 pub undone_placed : (parts : Parts) (changes : List Change) → AreNamed parts changes → BringPlaces changes → HaveAllPlaces parts → HaveAllPlaces (undone parts changes)

@@ -1,5 +1,5 @@
 -- What exchanges make of the state that the parts mean.
-use Rattle.std.proofs.Common.{◌≡◌, ℕ, ◌<◌, ◌≤◌, Bool, true, false, List, [], ◌∷◌, Option, None, if◌then◌else◌, ◌==◌, slice_set, length, ap, refl, ◌∙◌, inl, inr, eqb-true}
+use Rattle.std.proofs.Common.{◌≡◌, ℕ, ◌<◌, ◌≤◌, Bool, true, false, List, [], ◌∷◌, Option, None, if◌then◌else◌, ◌==◌, slice_index_or, slice_set, length, ap, refl, ◌∙◌, inl, inr, eqb-true}
 use Rattle.std.proofs.lemmas.Bool.{eqb-false, cases_Bool}
 use Rattle.std.proofs.lemmas.List.{get_or-set_same, get_or-set_other}
 use Rattle.tx_base.specs.Slots.{slot_at, with_slot}
@@ -28,19 +28,25 @@ pub procs_with : (procs : List (Option Proc)) (p : ℕ) (slot : Option Proc) (n 
     process_in (slot_at (with_slot procs p slot) n) ≡ (if n == p then process_in slot else process_in (slot_at procs n))
 procs_with procs p slot n low high = ap process_in (slot_at-with_slot procs p slot n low high) ∙ process_if (n == p) slot (slot_at procs n)
 
+-- what each number has after one entry of a list is replaced
+pub number_with : {A : Type 0} (items : List (Option A)) (k : ℕ) (new : Option A) (n : ℕ) → k < length items →
+    slice_index_or (slice_set items k new) n None ≡ (if n == k then new else slice_index_or items n None)
+number_with items k new n there = elim (cases_Bool (n == k)) [
+  | inl e ↦ rw e (ap (λ (m : ℕ). slice_index_or (slice_set items k new) m None) (eqb-true n k e) ∙ get_or-set_same items k new None there)
+  | inr e ↦ rw e (get_or-set_other items k n new None (eqb-false n k e))
+]
+
 pub pipes_with : (pipes : List (Option (List ℕ))) (k : ℕ) (pipe : Option (List ℕ)) (n : ℕ) → k < length pipes →
     pipe_at (slice_set pipes k pipe) n ≡ (if n == k then pipe else pipe_at pipes n)
-pipes_with pipes k pipe n there = elim (cases_Bool (n == k)) [
-  | inl e ↦ rw e (ap (pipe_at (slice_set pipes k pipe)) (eqb-true n k e) ∙ get_or-set_same pipes k pipe None there)
-  | inr e ↦ rw e (get_or-set_other pipes k n pipe None (eqb-false n k e))
-]
+pipes_with pipes k pipe n there = number_with pipes k pipe n there
+
+described_if : (b : Bool) (opened other : Option Opened) → described (if b then opened else other) ≡ (if b then described opened else described other)
+described_if true opened other = refl
+described_if false opened other = refl
 
 descs_with : (descs : List (Option Opened)) (k : ℕ) (opened : Option Opened) (n : ℕ) → k < length descs →
     description_at (slice_set descs k opened) n ≡ (if n == k then described opened else description_at descs n)
-descs_with descs k opened n there = elim (cases_Bool (n == k)) [
-  | inl e ↦ rw e (ap (description_at (slice_set descs k opened)) (eqb-true n k e) ∙ ap described (get_or-set_same descs k opened None there))
-  | inr e ↦ rw e (ap described (get_or-set_other descs k n opened None (eqb-false n k e)))
-]
+descs_with descs k opened n there = ap described (number_with descs k opened n there) ∙ described_if (n == k) opened (slice_index_or descs n None)
 
 part_of_state : (held : ℕ → List Sending) (parts : Parts) (change : Change) → IsNamed parts change → (o : Object) →
     AgreePart (state_of held (parts_after parts change)) (changed change (state_of held parts)) o

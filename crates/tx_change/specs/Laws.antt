@@ -113,6 +113,9 @@ NamedAppended = (parts : Parts) (front behind : List Change) → AreNamed parts 
 abbrev pub ExchangedStayNamed : Type 0
 ExchangedStayNamed = (sizes : Sizes) (parts : Parts) (changes : List Change) → AreWithin sizes changes → AreWithin sizes (exchanged parts changes)
 
+abbrev pub RevertedStayNamed : Type 0
+RevertedStayNamed = (sizes : Sizes) (parts : Parts) (changes : List Change) → AreWithin sizes changes → AreWithin sizes (reverted parts changes)
+
 -- none of the changes names the object
 abbrev pub AreElsewhere : Object → List Change → Type 0
 AreElsewhere o [] = Unit {0}

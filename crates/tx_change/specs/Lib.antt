@@ -5,3 +5,4 @@ pub mod Own
 pub mod States
 pub mod Laws
 pub mod Counts
+pub mod CountsBack

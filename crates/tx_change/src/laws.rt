@@ -1,6 +1,7 @@
 //! The laws of exchanges, as the contracts of functions that do nothing.
 ghost use Rattle.tx_change.specs.Counts.{CountsKept, CountsForked, CountsEnded, CountsRemoved, CountsElsewhere, CountsNameless, SlotInTurn, DescsInTurn, CountsInTurn, PlansAreNamed, PlansInTurn, CountsPlanned, CountsReplaced, RoomForNames, RoomForName, CountsWithOthers};
-ghost use Rattle.tx_change.specs.Laws.{AppliedAppended, ApplyThenRevert, BackIsWrite, ChangedAppended, ChangesComeBack, ChangesState, ChangesStateInTurn, Commute, ExchangedAppended, ExchangedBring, ExchangedStayNamed, ExchangesBack, FrontIsRead, ListNamesItsObjects, NamedAppended, NamesItsObject, NothingElse, PartsReplaceProcess, PlacesKept, PlacesKeptBack, RevertThenApply, RevertedAppended, SizesStay, SizesStayBack, TwiceIsNothing, UndoneAppended};
+ghost use Rattle.tx_change.specs.CountsBack.{BackElsewhere, CountsLedBack, CountsOfNames};
+ghost use Rattle.tx_change.specs.Laws.{AppliedAppended, ApplyThenRevert, BackIsWrite, ChangedAppended, ChangesComeBack, ChangesState, ChangesStateInTurn, Commute, ExchangedAppended, ExchangedBring, ExchangedStayNamed, ExchangesBack, FrontIsRead, ListNamesItsObjects, NamedAppended, NamesItsObject, NothingElse, PartsReplaceProcess, PlacesKept, PlacesKeptBack, RevertThenApply, RevertedAppended, RevertedStayNamed, SizesStay, SizesStayBack, TwiceIsNothing, UndoneAppended};
 
 /// Two exchanges of one part are nothing: the parts and the change come back.
 pub fn twice_is_nothing()
@@ -122,7 +123,18 @@ pub fn places_kept()
     ensures taken { ExchangedBring }
 {}
 
-/// Changes that were taken back, and are made again, are as they were.
+/// Changes that were taken back name the same numbers, and made again they are as they were.
 pub fn changes_come_back()
-    ensures { ChangesComeBack }
+    ensures named { RevertedStayNamed }
+    ensures again { ChangesComeBack }
+{}
+
+/// Counts of names depend on which processes run, on their descriptors and on the descriptions alone. Where
+/// they agree before and after a step, and before it with a log led back, they agree after it with that
+/// log led back, as long as at each process and description the log or the step changed nothing that
+/// counts. Changes that are taken back leave what none of them names as it was.
+pub fn counts_led_back()
+    ensures names { CountsOfNames }
+    ensures back { CountsLedBack }
+    ensures elsewhere { BackElsewhere }
 {}

@@ -1,8 +1,8 @@
 //! Posts: what a signal that is sent does to its target (POSIX.1-2017, XSH, Signal Concepts and
 //! kill()).
-ghost use Rattle.std.specs.Prelude.{◌≡◌, ◌&&◌, ℕ, List, ◌<◌, not, true, Some, IfOk, length};
+ghost use Rattle.std.specs.Prelude.{◌≡◌, ◌&&◌, ◌∷◌, [], ℕ, List, ◌<◌, not, true, Some, IfOk, length};
 ghost use Rattle.tx_kernel.specs.Actors.{IsWhole};
-ghost use Rattle.tx_kernel.specs.Plans.{sending_of, sender_of};
+ghost use Rattle.tx_kernel.specs.Plans.{sending_of, sender_of, AreAmong};
 ghost use Rattle.tx_kernel.specs.Posts.{HasFace, IsOfPending, PlansAt, listed_change, posted, seen_as, without_part};
 ghost use Rattle.tx_change.specs.Counts.{CountsAgree};
 ghost use Rattle.tx_change.specs.Exchange.{AreNamed, undone};
@@ -10,7 +10,7 @@ ghost use Rattle.tx_change.specs.Laws.{HaveAllPlaces};
 ghost use Rattle.tx_change.specs.States.{state_of};
 ghost use Rattle.tx_model.specs.Posts.{is_quiet, is_realtime, may_signal, post, post_answer, received, with_signal};
 ghost use Rattle.tx_base.specs.declared.limits.TheConstants.{QUEUED};
-ghost use Rattle.tx_model.specs.State.{Process, Sending as TheSending};
+ghost use Rattle.tx_model.specs.State.{Proc as TheProc, Process, Sending as TheSending};
 ghost use Rattle.tx_cred.specs.Cred.{ids_of};
 ghost use Rattle.tx_proc.specs.Processes.{process_of, revised};
 ghost use Rattle.tx_signal.specs.Parts.{answer_of};
@@ -106,6 +106,7 @@ pub fn post(parts: &mut Parts, sending: &Sending) -> Posted
     ensures state { (held : ℕ → List TheSending) → state_of held parts.new ≡ post (sending_of sending.now) (state_of held parts.old) }
     ensures back { undone parts.new (listed_change result.change) ≡ parts.old }
     ensures named { AreNamed parts.new (listed_change result.change) }
+    ensures among { AreAmong (TheProc sending.now.target.0 ∷ []) (listed_change result.change) }
     ensures counts { CountsAgree parts.old → CountsAgree parts.new }
     ensures places { HaveAllPlaces parts.old → HaveAllPlaces parts.new }
     ensures whole { IsWhole parts.old → IsWhole parts.new }

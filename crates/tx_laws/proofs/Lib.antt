@@ -22,6 +22,7 @@ pub mod TwoPartsView
 pub mod StepView
 pub mod Commutes
 pub mod Mild
+pub mod SaysEnded
 pub mod StepFootprints
 pub mod SharedFootprints
 pub mod Doomed

@@ -11,5 +11,6 @@ pub mod Laws
 pub mod LawsOfEvents
 pub mod LawsOfParts
 pub mod LawsOfDoom
+pub mod Endings
 pub mod WellFormedTable
 pub mod LawsOfTable

@@ -15,6 +15,7 @@ ghost use Rattle.tx_model.specs.State.{State, booted};
 ghost use Rattle.tx_model.specs.View.{view};
 ghost use Rattle.tx_laws.specs.Laws.{PrefixesAgree, SurvivorsAreByPlace, LawfulViewIsNext, LawfulViewIsSound, StartIsSound, NextIsSound, AcceptedStepsFit, RolesKeepSound, NextIsWellFormed, SchedulesAreLawful};
 ghost use Rattle.tx_laws.specs.LawsOfDoom.{DoomedCallsAreRefused, DoomedDeliveriesAreRefused, DoomedAbortAnswers203, OtherAbortAnswers202, MembersDoomNothing, KillDooms, SigqueueDooms, DoomStays};
+ghost use Rattle.tx_laws.specs.Endings.{ExitIsTold, ExitsSayEnd, OtherCallsSayNoEnd, DeliveriesSayEnd, StepIsToldByEnd, OtherCallIsTold, DeliveryIsTold};
 ghost use Rattle.tx_laws.specs.LawsOfEvents.{ActorIsObject, EffectIsLocal, ObjectsAreLocal, ReplyIsLocal, ElsewhereIsSame, OtherPartsStay, WritesStayInObjects, OthersGetSendsAlone, HoldsForItsOwn, MembersSendToMembers, StatesCommute, RepliesCommute};
 ghost use Rattle.tx_laws.specs.LawsOfParts.{StartHasItsView, SamePartsSameView, PartsFollowRole, PartsFollowStep, PresentIsNow, DoomIsKept, TwoAnswersAreOfStarter, InWayIsOfParts, HolderIsOfParts};
 ghost use Rattle.tx_laws.specs.WellFormed.{IsWellFormed, HasGoodNumbers};
@@ -135,6 +136,21 @@ pub fn doom()
     ensures kill { KillDooms }
     ensures sigqueue { SigqueueDooms }
     ensures stays { DoomStays }
+{}
+
+/// Endings, before there is a reply: the reply to a call other than an exit never says that its process
+/// ended, and that to a delivery says so exactly where the delivery now ends its process. What a call or
+/// a delivery is to the transactions, and its event, depend on the first reply by that alone. So a call
+/// other than an exit is told as one that ends nothing, and a delivery by whether it now ends its process.
+/// An exit ends its process, but for process 1, which gets an error for it and goes on.
+pub fn endings()
+    ensures calls { OtherCallsSayNoEnd }
+    ensures exits { ExitsSayEnd }
+    ensures deliveries { DeliveriesSayEnd }
+    ensures step { StepIsToldByEnd }
+    ensures other_call { OtherCallIsTold }
+    ensures exit { ExitIsTold }
+    ensures delivery { DeliveryIsTold }
 {}
 
 /// Well-formed states: process 1 runs, the parent of any other process runs too, what descriptors

@@ -39,7 +39,7 @@ module _ (k : Content) (width count : ℕ) (state : state_of (λ starter. []) k.
   now_is : now_of k ≡ booted width count
   now_is = (λ j. state_of (λ n. ap held_in (no_txn n) j) k.parts) ∙ state
 
-  owner_none : (o : Object) → owner_at k o ≡ None
+  pub owner_none : (o : Object) → owner_at k o ≡ None
   owner_none (Proc n) = owners (Proc n)
   owner_none (Desc n) = owners (Desc n)
   owner_none (Pipe n) = owners (Pipe n)

@@ -6,7 +6,7 @@ use Rattle.tx_base.specs.Slots.{slot_at, with_slot}
 use Rattle.tx_base.specs.declared.marks.Mark.{Mark}
 use Rattle.tx_base.specs.declared.names.Pid.{Pid}
 use Rattle.tx_change.specs.Counts.{CountsAgree}
-use Rattle.tx_change.specs.Exchange.{applied, exchanged, sizes_of, undone, Sizes, AreNamed, AreWithin}
+use Rattle.tx_change.specs.Exchange.{applied, exchanged, sizes_of, undone, Sizes, AreNamed}
 use Rattle.tx_change.specs.Laws.{BringPlaces, HaveAllPlaces}
 use Rattle.tx_change.specs.States.{state_of}
 use Rattle.tx_change.specs.declared.change.Change.{Change}
@@ -17,8 +17,10 @@ use Rattle.tx_kernel.specs.Plans.{AreAmong}
 use Rattle.tx_kernel.specs.Steps.{target_objects}
 use Rattle.tx_kernel.specs.declared.planned.Planned.{Planned}
 use Rattle.tx_laws.specs.Commuting.{named_by}
+use Rattle.tx_laws.specs.Footprints.{is_shared}
 use Rattle.tx_laws.specs.TwoParts.{is_owner, made}
 use Rattle.tx_live.proofs.KeptPosted.{slot_there}
+use Rattle.tx_live.proofs.Others.{counts_stay, txn_stays, Stays}
 use Rattle.tx_live.proofs.Outsides.{same_content, targets_are}
 use Rattle.tx_live.specs.Begins.{is_only, IsAlone, IsBegun, Starts}
 use Rattle.tx_live.specs.Content.{content_of, held_in, held_of, now_of, owner_at, own_held, txn_of, IsShaped, IsTxn}
@@ -39,6 +41,7 @@ use Rattle.tx_proc.specs.Processes.{process_in}
 use Rattle.tx_proc.specs.declared.proc.Proc.{Proc as TheProc}
 use Rattle.tx_reserve.specs.Objects.{is_in}
 use Rattle.tx_reserve.specs.Reservations.{owner_of}
+use Rattle.tx_txn.specs.Content.{IsKept}
 use Rattle.tx_txn.specs.Logs.{newest_first}
 use Rattle.tx_txn.specs.Outboxes.{unmade, Held as HeldSends}
 use Rattle.tx_txn.specs.Steps.{logged, next_content, LeadsBack, Logs}
@@ -64,7 +67,7 @@ among_more o os (change ∷ changes) among = (by _ among.0, among_more o os chan
     by true h = refl
     by false h = h
 
-module _ (laws : LiveLaws) (old new : Content) (pid : Pid) (defers : Bool) (boxed : BoxedTxn) (after : Txn) (shaped : IsShaped old) (alone : IsAlone old pid.0)
+module _ (laws : LiveLaws) (old new : Content) (pid : Pid) (defers : Bool) (boxed : BoxedTxn) (after : Txn) (shaped : IsShaped old) (kept_old : IsKept (content_of old)) (alone : IsAlone old pid.0)
     (begun : IsBegun old.parts pid defers boxed.txn.value) (starts : Starts old.parts new.parts old.owners new.owners boxed.txn.value after)
     (marks : new.marks ≡ with_slot old.marks pid.0 (Some (new_mark pid.0 defers))) (txns : new.txns ≡ with_slot old.txns pid.0 (Some (with_txn boxed after))) where
   abbrev s : ℕ
@@ -191,6 +194,13 @@ module _ (laws : LiveLaws) (old new : Content) (pid : Pid) (defers : Bool) (boxe
   named_log : AreNamed new.parts after.log
   named_log = subst (λ (p : Parts). AreNamed p after.log) (sym starts.parts) (subst (AreNamed (applied old.parts t0.log)) (sym log_is) makes.named)
 
+  back_is : undone new.parts after.log ≡ old.parts
+  back_is = (λ j. undone (starts.parts j) (log_is j)) ∙ makes.back
+
+  among_named : AreAmong (named_by event S) after.log
+  unfolding named_by objects effect
+  among_named = subst (AreAmong (Proc s ∷ [])) (sym log_is) among
+
   mine : IsTxn new s after
   mine = record {
     starter = ap (λ (p : Pid). p.0) starter_is;
@@ -198,6 +208,7 @@ module _ (laws : LiveLaws) (old new : Content) (pid : Pid) (defers : Bool) (boxe
     own = λ p of. owns (Proc p) ∙ ap (λ (b : Bool). if b then Some s else owner_of old.owners (Proc p)) (only_is s p small) ∙ own_at p (p == s) refl (sym (ap (is_of s) (mark_slots p)) ∙ of);
     named = named_log;
     brings = subst BringPlaces (sym log_is) makes.brings;
+    counts = subst CountsAgree (sym back_is) shaped.counts;
     objects = λ o. starts.objects o ∙ ap (λ (b : Bool). b || is_only t0.starter.0 o) (begun.objects o) ∙ ap (λ (p : Pid). is_only p.0 o) begun.starter
         ∙ owned_at o (is_only s o) ∙ ap (is_owner s) (sym (owns o));
     posts = ap (λ (h : HeldSends). h.posts) outbox_is ∙ sym (ap (λ (h : HeldSends). map (λ sending. unmade) h.sendings) outbox_is);
@@ -221,28 +232,26 @@ module _ (laws : LiveLaws) (old new : Content) (pid : Pid) (defers : Bool) (boxe
       defers_at p m true e at is = sym (ap mark_in at)
       defers_at p m false e at is = absurd (both_ways (is_of s (slot_at old.marks p)) (alone.members p) (ap (is_of s) at ∙ eq-eqb m.starter.0 s is))
 
-  others : (n : ℕ) (b : BoxedTxn) → (n == s) ≡ false → slot_at old.txns n ≡ Some b → IsTxn new n b.txn.value
-  others n b apart at = record {
-    starter = other.starter;
-    live = ap (is_of n) (mark_slots n) ∙ rw apart other.live;
-    own = λ p of. owns (Proc p) ∙ ap (λ (x : Bool). if x then Some s else owner_of old.owners (Proc p)) (only_is s p small) ∙ own_at p (p == s) refl (sym (ap (is_of n) (mark_slots p)) ∙ of);
-    named = subst (λ (z : Sizes). AreWithin z b.txn.value.log) (sym sizes_new) other.named;
-    brings = other.brings;
-    objects = λ o. other.objects o ∙ owned_at o (is_only s o) refl ∙ ap (is_owner n) (sym (owns o));
-    posts = other.posts;
-    members = other.members;
-    defers = λ p m e is. other.defers p m (same_mark p m (p == s) refl (sym (mark_slots p) ∙ e) is) is;
+  stays : (n : ℕ) (b : BoxedTxn) → (n == s) ≡ false → slot_at old.txns n ≡ Some b → Stays old new n b.txn.value
+  unfolding objects has
+  stays n b apart at = record {
+    sizes = sizes_new;
+    members = λ p. ap (is_of n) (mark_slots p) ∙ same_of p (p == s) refl;
+    defers = λ d so p m e is. so p m (same_mark p m (p == s) refl (sym (mark_slots p) ∙ e) is) is;
+    owns = λ o. ap (is_owner n) (owns o) ∙ owned_at o (is_only s o) refl;
+    counts = counts_stay laws old new shaped kept_old event after.log named_log back_is among_named now_same (subst CountsAgree (sym starts.parts) makes.counts) n b at unnamed;
   }
     where
-      other : IsTxn old n b.txn.value
-      other = shaped.each n b at
-
       differs : n ≢ s
       differs e = both_ways (n == s) apart (eq-eqb n s e)
 
-      own_at : (p : ℕ) (x : Bool) → (p == s) ≡ x → is_of n (if x then Some (new_mark s defers) else slot_at old.marks p) ≡ true → (if x then Some s else owner_of old.owners (Proc p)) ≡ Some n
-      own_at p true e of = absurd (differs (sym (eqb-true s n of)))
-      own_at p false e of = other.own p of
+      not_same : (x : Bool) → (s == n) ≡ x → x ≡ false
+      not_same true z = absurd (differs (sym (eqb-true s n z)))
+      not_same false z = refl
+
+      same_of : (p : ℕ) (x : Bool) → (p == s) ≡ x → is_of n (if x then Some (new_mark s defers) else slot_at old.marks p) ≡ is_of n (slot_at old.marks p)
+      same_of p true e = not_same (s == n) refl ∙ sym (ap (λ (k : ℕ). is_of n (slot_at old.marks k)) (eqb-true p s e) ∙ ap (is_of n) alone.mark)
+      same_of p false e = refl
 
       same_mark : (p : ℕ) (m : Mark) (x : Bool) → (p == s) ≡ x → (if x then Some (new_mark s defers) else slot_at old.marks p) ≡ Some m → m.starter.0 ≡ n → slot_at old.marks p ≡ Some m
       same_mark p m true e at is = absurd (differs (sym is ∙ sym (ap starter_in at)))
@@ -252,26 +261,38 @@ module _ (laws : LiveLaws) (old new : Content) (pid : Pid) (defers : Bool) (boxe
           starter_in (Some x) = x.starter.0
       same_mark p m false e at is = at
 
-      owned_at : (o : Object) (x : Bool) → is_only s o ≡ x → is_owner n (owner_of old.owners o) ≡ is_owner n (if x then Some s else owner_of old.owners o)
-      owned_at (Proc p) true e = ap (λ (k : ℕ). is_owner n (owner_of old.owners (Proc k))) (eqb-true p s (sym (only_is s p small) ∙ e)) ∙ ap (is_owner n) alone.owner ∙ sym (not_same (s == n) refl)
-        where
-          not_same : (x : Bool) → (s == n) ≡ x → x ≡ false
-          not_same true z = absurd (differs (sym (eqb-true s n z)))
-          not_same false z = refl
+      owned_at : (o : Object) (x : Bool) → is_only s o ≡ x → is_owner n (if x then Some s else owner_of old.owners o) ≡ is_owner n (owner_of old.owners o)
+      owned_at (Proc p) true e = not_same (s == n) refl ∙ sym (ap (λ (k : ℕ). is_owner n (owner_of old.owners (Proc k))) (eqb-true p s (sym (only_is s p small) ∙ e)) ∙ ap (is_owner n) alone.owner)
       owned_at (Desc p) true e = cc
       owned_at (Pipe p) true e = cc
       owned_at (Held p) true e = cc
       owned_at o false e = refl
 
+      unnamed : (o : Object) → is_shared o ≡ true → owner_at old o ≡ Some n → has o (objects event S) ≡ false
+      unnamed (Proc p) shared own = by (p == s) refl
+        where
+          by : (x : Bool) → (p == s) ≡ x → (if x then true else false) ≡ false
+          by true e = absurd (apart_none (sym alone.owner ∙ ap (λ (k : ℕ). owner_of old.owners (Proc k)) (sym (eqb-true p s e)) ∙ own))
+            where
+              apart_none : None ≡ Some n → ⊥
+              apart_none z = cc
+          by false e = refl
+      unnamed (Desc p) shared own = refl
+      unnamed (Pipe p) shared own = refl
+      unnamed (Held p) shared own = refl
+
   each_after : (n : ℕ) (b : BoxedTxn) → slot_at new.txns n ≡ Some b → IsTxn new n b.txn.value
   each_after n b at = elim (cases_Bool (n == s)) [
     | inl e ↦ subst (λ (k : ℕ). IsTxn new k b.txn.value) (sym (eqb-true n s e)) (subst IsMine (sym (slot_now e) ∙ at) mine)
-    | inr e ↦ others n b e (sym (txn_slots n ∙ ap (λ (z : Bool). if z then Some box1 else slot_at old.txns n) e) ∙ at)
+    | inr e ↦ other n b e (sym (txn_slots n ∙ ap (λ (z : Bool). if z then Some box1 else slot_at old.txns n) e) ∙ at)
   ]
     where
       IsMine : Option BoxedTxn → Type 0
       IsMine None = ⊥
       IsMine (Some x) = IsTxn new s x.txn.value
+
+      other : (n : ℕ) (b : BoxedTxn) → (n == s) ≡ false → slot_at old.txns n ≡ Some b → IsTxn new n b.txn.value
+      other n b apart there = txn_stays old new n b.txn.value (shaped.each n b there) (stays n b apart there)
 
       slot_now : (n == s) ≡ true → slot_at new.txns n ≡ Some box1
       slot_now e = txn_slots n ∙ ap (λ (z : Bool). if z then Some box1 else slot_at old.txns n) e
@@ -290,7 +311,7 @@ module _ (laws : LiveLaws) (old new : Content) (pid : Pid) (defers : Bool) (boxe
   undoes : UndoesBegun new pid old box1
   undoes = record {
     there = slot_s;
-    parts = (λ j. undone (starts.parts j) (log_is j)) ∙ makes.back;
+    parts = back_is;
     marks = ap (λ (ms : List (Option Mark)). with_slot ms s None) marks ∙ slot_twice old.marks s (Some (new_mark s defers)) None ∙ ap (with_slot old.marks s) (sym alone.mark) ∙ slot_same old.marks s bounds.0;
     owners = λ o. was_owned o (is_only s o) refl
         ∙ sym (λ j. if (starts.objects o ∙ ap (λ (b : Bool). b || is_only t0.starter.0 o) (begun.objects o) ∙ ap (λ (p : Pid). is_only p.0 o) begun.starter) j then None else owns o j);

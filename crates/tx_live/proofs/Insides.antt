@@ -7,10 +7,12 @@ use Rattle.tx_base.specs.Slots.{slot_at, with_slot}
 use Rattle.tx_base.specs.declared.marks.Mark.{Mark}
 use Rattle.tx_base.specs.declared.names.Pid.{Pid}
 use Rattle.tx_base.specs.declared.names.Sending.{Sending as TheSending}
+use Rattle.tx_change.specs.Counts.{CountsAgree}
 use Rattle.tx_change.specs.Exchange.{sizes_of, undone, Sizes, AreNamed, AreWithin}
 use Rattle.tx_change.specs.Laws.{BringPlaces}
 use Rattle.tx_change.specs.States.{state_of}
 use Rattle.tx_change.specs.declared.change.Change.{Change}
+use Rattle.tx_change.specs.declared.parts.Parts.{Parts}
 use Rattle.tx_kernel.specs.Actors.{transaction_of, CountsHeld}
 use Rattle.tx_kernel.specs.Acts.{event_of, Makes}
 use Rattle.tx_kernel.specs.Plans.{held_after, sending_of, AreAmong}
@@ -22,6 +24,7 @@ use Rattle.tx_laws.specs.Fits.{FitsWithin}
 use Rattle.tx_laws.specs.Footprints.{is_shared}
 use Rattle.tx_laws.specs.TwoParts.{is_owner, made, parts_view}
 use Rattle.tx_live.proofs.KeptPosted.{slot_kept, slot_there}
+use Rattle.tx_live.proofs.Others.{counts_stay, txn_stays, DefersSo, Stays}
 use Rattle.tx_live.proofs.Outsides.{same_content, targets_are}
 use Rattle.tx_live.specs.Content.{content_of, held_in, held_of, now_of, owner_at, own_held, txn_of, view_of, IsShaped, IsTxn}
 use Rattle.tx_live.specs.Insides.{handed_out, inside_in, is_handed_out, unmade_of, IsFootprint, IsFree, MakesIn, StepsIn}
@@ -45,7 +48,7 @@ use Rattle.tx_model.specs.State.{Object, Proc, Desc, Pipe, Held, Sending, State,
 use Rattle.tx_reserve.specs.Objects.{is_in}
 use Rattle.tx_reserve.specs.Reservations.{owner_of, unless}
 use Rattle.tx_reserve.specs.declared.objects.Objects.{Objects}
-use Rattle.tx_txn.specs.Content.{two_parts_of}
+use Rattle.tx_txn.specs.Content.{two_parts_of, IsKept}
 use Rattle.tx_txn.specs.Logs.{newest_first}
 use Rattle.tx_txn.specs.Marks.{table_at}
 use Rattle.tx_txn.specs.Outboxes.{unmade, Held as HeldSends}
@@ -66,14 +69,14 @@ brings_both : (front behind : List Change) → BringPlaces front → BringPlaces
 brings_both [] behind first last = last
 brings_both (change ∷ front) behind first last = (first.0, brings_both front behind first.1 last)
 
-map_append : {A B : Type 0} (f : A → B) (xs ys : List A) → map f (xs ++ ys) ≡ map f xs ++ map f ys
+pub map_append : {A B : Type 0} (f : A → B) (xs ys : List A) → map f (xs ++ ys) ≡ map f xs ++ map f ys
 map_append f [] ys = refl
 map_append f (x ∷ xs) ys = ap (λ zs. f x ∷ zs) (map_append f xs ys)
 
 unmade_all : List TheSending → List HeldPost
 unmade_all xs = map (λ m. unmade) xs
 
-unmade_handed : (sends : Sends) → unmade_of sends ≡ map (λ m. unmade) (handed_out sends)
+pub unmade_handed : (sends : Sends) → unmade_of sends ≡ map (λ m. unmade) (handed_out sends)
 unmade_handed Nothing = refl
 unmade_handed (AtOnce m) = refl
 unmade_handed (AtCommit m) = refl
@@ -90,13 +93,13 @@ no_more [] = refl
 no_more (x ∷ xs) = ap (λ ys. x ∷ ys) (no_more xs)
 
 -- what is held but for what a step handed out
-held_back : (sends : Sends) (held after : HeldSends) → after ≡ record { sendings = held.sendings ++ handed_out sends; posts = held.posts ++ unmade_of sends } → less_last (is_handed_out sends) after ≡ held
+pub held_back : (sends : Sends) (held after : HeldSends) → after ≡ record { sendings = held.sendings ++ handed_out sends; posts = held.posts ++ unmade_of sends } → less_last (is_handed_out sends) after ≡ held
 held_back Nothing held after is = is ∙ (λ j. record { sendings = no_more held.sendings j; posts = no_more held.posts j })
 held_back (AtOnce m) held after is = is ∙ (λ j. record { sendings = no_more held.sendings j; posts = no_more held.posts j })
 held_back (AtCommit m) held after is = ap (less_last true) is ∙ (λ j. record { sendings = but_last held.sendings m j; posts = but_last held.posts unmade j })
 
 -- what the transaction of s holds after a step that sends this
-held_now : (inside : InsideOf) (sends : Sends) (held : ℕ → List Sending) (s n : ℕ) (before : List TheSending) → inside.starter ≡ s → held s ≡ map sending_of before →
+pub held_now : (inside : InsideOf) (sends : Sends) (held : ℕ → List Sending) (s n : ℕ) (before : List TheSending) → inside.starter ≡ s → held s ≡ map sending_of before →
     held_after (Some inside) sends held n ≡ (if n == s then map sending_of (before ++ handed_out sends) else held n)
 held_now inside Nothing held s n before is was = elim (cases_Bool (n == s)) [
   | inl e ↦ rw e (ap held (eqb-true n s e) ∙ was ∙ ap (map sending_of) (sym (no_more before)))
@@ -179,9 +182,6 @@ parked_of : (n : ℕ) (x : Option Mark) → is_of n (parked x) ≡ is_of n x
 parked_of n None = refl
 parked_of n (Some m) = refl
 
-abbrev DefersSo : ℕ → Bool → Option Mark → Type 0
-DefersSo n defers x = (m : Mark) → x ≡ Some m → m.starter.0 ≡ n → m.defers ≡ defers
-
 parked_defers : (n : ℕ) (defers : Bool) (x : Option Mark) → DefersSo n defers x → DefersSo n defers (parked x)
 parked_defers n defers None so m e is = cc
 parked_defers n defers (Some was) so m e is = told (so was refl) m e is
@@ -229,7 +229,7 @@ pub put_back : (old new : List (Option BoxedTxn)) (n : ℕ) (boxed : BoxedTxn) (
 put_back old new n boxed txn there same now = slot_kept old new n boxed (with_txn boxed txn) there (ap (with_txn boxed) same) now
 
 module _ (laws : LiveLaws) (old new : Content) (pid starter : Pid) (act : Act) (progress : Progress) (footprint : Objects) (boxed : BoxedTxn) (after : Txn) (stepped : Stepped) (marked : Option Marked)
-    (shaped : IsShaped old) (there : slot_at old.txns starter.0 ≡ Some boxed)
+    (shaped : IsShaped old) (kept_old : IsKept (content_of old)) (there : slot_at old.txns starter.0 ≡ Some boxed)
     (steps : StepsIn old.parts new.parts old.marks old.owners new.owners pid act footprint boxed.txn.value after stepped)
     (marks : (n : ℕ) → slot_at new.marks n ≡ marks_after (Within starter.0 (part_of progress)) pid.0 (slot_at old.marks) n)
     (marks_long : length new.marks ≡ length old.marks) (remarks : remarked marked new.marks ≡ old.marks) (has_mark : HasMark new.marks marked)
@@ -464,18 +464,6 @@ module _ (laws : LiveLaws) (old new : Content) (pid starter : Pid) (act : Act) (
       | inr z ↦ inl (sym (ap (λ (b : Bool). is_of s (if b then Some (new_mark s (defers_in (slot_at old.marks s))) else slot_at old.marks p)) z) ∙ of)
     ]
 
-    -- a member of another transaction was one before
-    other_before : (n : ℕ) → n ≢ s → (g : Progress) (p : ℕ) → is_of n (marks_after (Within s (part_of g)) pid.0 (slot_at old.marks) p) ≡ true → is_of n (slot_at old.marks p) ≡ true
-    other_before n differs Continues p of = of
-    other_before n differs Parks p of = elim (cases_Bool (p == pid.0)) [
-      | inl z ↦ ap (λ (k : ℕ). is_of n (slot_at old.marks k)) (eqb-true p pid.0 z) ∙ sym (parked_of n (slot_at old.marks pid.0)) ∙ sym (ap (λ (b : Bool). is_of n (if b then parked (slot_at old.marks pid.0) else slot_at old.marks p)) z) ∙ of
-      | inr z ↦ sym (ap (λ (b : Bool). is_of n (if b then parked (slot_at old.marks pid.0) else slot_at old.marks p)) z) ∙ of
-    ]
-    other_before n differs (Forks c) p of = elim (cases_Bool (p == c.0)) [
-      | inl z ↦ absurd (differs (sym (eqb-true s n (sym (ap (λ (b : Bool). is_of n (if b then Some (new_mark s (defers_in (slot_at old.marks s))) else slot_at old.marks p)) z) ∙ of))))
-      | inr z ↦ sym (ap (λ (b : Bool). is_of n (if b then Some (new_mark s (defers_in (slot_at old.marks s))) else slot_at old.marks p)) z) ∙ of
-    ]
-
     mine : IsTxn new s after
     mine = record {
       starter = ap (λ (p : Pid). p.0) starter_is ∙ was.starter;
@@ -483,6 +471,7 @@ module _ (laws : LiveLaws) (old new : Content) (pid starter : Pid) (act : Act) (
       own = λ p of. owns (Proc p) ∙ member_owned p (is_in footprint (Proc p)) refl (member_before progress refl p (sym (ap (is_of s) (marks p)) ∙ of));
       named = named_log;
       brings = subst BringPlaces (sym log_is) (brings_both t0.log kept was.brings makes.brings);
+      counts = subst CountsAgree (sym ((λ j. undone new.parts (log_is j)) ∙ laws.undone new.parts t0.log kept ∙ ap (λ (P : Parts). undone P t0.log) makes.back)) was.counts;
       objects = λ o. objects_after o ∙ (owned_after s (owner_of old.owners o) (is_in t0.objects o) (is_in footprint o) (was.objects o) (free o)).0 ∙ ap (is_owner s) (sym (owns o));
       posts = posts_after;
       members = ap (λ (t : Txn). t.members) steps.rest ∙ ap (λ (t : Txn). t.members) made_in.rest ∙ was.members;
@@ -498,17 +487,17 @@ module _ (laws : LiveLaws) (old new : Content) (pid starter : Pid) (act : Act) (
         member_owned p false e (inl of) = was.own p of
         member_owned p false e (inr fresh) = absurd (both_ways (is_in footprint (Proc p)) e fresh)
 
-    others : (n : ℕ) (b : BoxedTxn) → (n == s) ≡ false → slot_at old.txns n ≡ Some b → IsTxn new n b.txn.value
-    others n b apart at = record {
-      starter = other.starter;
-      live = ap (is_of n) (marks n) ∙ live_other progress refl;
-      own = λ p of. owns (Proc p) ∙ own_other p (is_in footprint (Proc p)) refl (other.own p (other_before n differs progress p (sym (ap (is_of n) (marks p)) ∙ of)));
-      named = subst (λ (z : Sizes). AreWithin z b.txn.value.log) (sym sizes_new) other.named;
-      brings = other.brings;
-      objects = λ o. other.objects o ∙ sym (others_after s n (owner_of old.owners o) (is_in footprint o) differs (free o)) ∙ ap (is_owner n) (sym (owns o));
-      posts = other.posts;
-      members = other.members;
-      defers = λ p m at is. marks_defer n b.txn.value.defers other.defers (λ c forks m e z. absurd (differs (sym z ∙ sym (ap (starter_in m) e)))) p m (sym (marks p) ∙ at) is;
+    among : AreAmong (objects event S ++ processes_of (effect event S).sends) kept
+    among = subst (λ (os : List Object). AreAmong (objects event S ++ os) kept) (sym (ap processes_of (makes.gives (held_of old) counts).sent ∙ targets_are stepped.planned.sends)) (makes.among (held_of old))
+
+    stays : (n : ℕ) (b : BoxedTxn) → (n == s) ≡ false → slot_at old.txns n ≡ Some b → Stays old new n b.txn.value
+    unfolding event_footprint named_by
+    stays n b apart at = record {
+      sizes = sizes_new;
+      members = λ p. ap (is_of n) (marks p) ∙ members_same progress refl p;
+      defers = λ d so p m e is. marks_defer n d so (λ c forks m e z. absurd (differs (sym z ∙ sym (ap (starter_in m) e)))) p m (sym (marks p) ∙ e) is;
+      owns = λ o. ap (is_owner n) (owns o) ∙ others_after s n (owner_of old.owners o) (is_in footprint o) differs (free o);
+      counts = counts_stay laws old new shaped kept_old event kept makes.named makes.back among now_same makes.counts n b at (λ o shared own. unnamed o shared own (has o (objects event S)) refl);
     }
       where
         other : IsTxn old n b.txn.value
@@ -521,31 +510,49 @@ module _ (laws : LiveLaws) (old new : Content) (pid starter : Pid) (act : Act) (
         starter_in m None = m.starter.0
         starter_in m (Some x) = x.starter.0
 
-        own_other : (p : ℕ) (f : Bool) → is_in footprint (Proc p) ≡ f → owner_of old.owners (Proc p) ≡ Some n → (if f then Some s else owner_of old.owners (Proc p)) ≡ Some n
-        own_other p true e own = absurd (differs (not_free s n (owner_of old.owners (Proc p)) own (free (Proc p) e)))
-        own_other p false e own = own
+        -- a child that joins was no member of it
+        stranger : (c : Pid) → progress ≡ Forks c → (x : Bool) → is_of n (slot_at old.marks c.0) ≡ x → x ≡ false
+        stranger c e true of = absurd (differs (not_free s n (owner_of old.owners (Proc c.0)) (other.own c.0 of) (free (Proc c.0) (joins_fresh c e))))
+        stranger c e false of = refl
 
-        live_other : (g : Progress) → progress ≡ g → is_of n (marks_after (Within s (part_of g)) pid.0 (slot_at old.marks) n) ≡ true
-        live_other Continues e = other.live
-        live_other Parks e = elim (cases_Bool (n == pid.0)) [
-          | inl z ↦ rw z (parked_of n (slot_at old.marks pid.0) ∙ ap (λ (k : ℕ). is_of n (slot_at old.marks k)) (sym (eqb-true n pid.0 z)) ∙ other.live)
-          | inr z ↦ rw z other.live
+        members_same : (g : Progress) → progress ≡ g → (p : ℕ) → is_of n (marks_after (Within s (part_of g)) pid.0 (slot_at old.marks) p) ≡ is_of n (slot_at old.marks p)
+        members_same Continues e p = refl
+        members_same Parks e p = elim (cases_Bool (p == pid.0)) [
+          | inl z ↦ rw z (parked_of n (slot_at old.marks pid.0) ∙ ap (λ (k : ℕ). is_of n (slot_at old.marks k)) (sym (eqb-true p pid.0 z)))
+          | inr z ↦ rw z refl
         ]
-        live_other (Forks c) e = elim (cases_Bool (n == c.0)) [
-          | inl z ↦ absurd (differs (not_free s n (owner_of old.owners (Proc n)) (other.own n other.live)
-              (free (Proc n) (subst (λ (k : ℕ). is_in footprint (Proc k) ≡ true) (sym (eqb-true n c.0 z)) (joins_fresh c e)))))
-          | inr z ↦ rw z other.live
+        members_same (Forks c) e p = elim (cases_Bool (p == c.0)) [
+          | inl z ↦ rw z (no_starter (s == n) refl ∙ sym (ap (λ (k : ℕ). is_of n (slot_at old.marks k)) (eqb-true p c.0 z) ∙ stranger c e (is_of n (slot_at old.marks c.0)) refl))
+          | inr z ↦ rw z refl
         ]
+          where
+            no_starter : (x : Bool) → (s == n) ≡ x → x ≡ false
+            no_starter true z = absurd (differs (sym (eqb-true s n z)))
+            no_starter false z = refl
+
+        owned : (o : Object) → is_shared o ≡ true → owner_at old o ≡ Some n → owner_of old.owners o ≡ Some n
+        owned (Proc p) shared own = own
+        owned (Desc p) shared own = own
+        owned (Pipe p) shared own = own
+        owned (Held p) shared own = cc
+
+        unnamed : (o : Object) → is_shared o ≡ true → owner_at old o ≡ Some n → (x : Bool) → has o (objects event S) ≡ x → x ≡ false
+        unnamed o shared own true e = absurd (differs (not_free s n (owner_of old.owners o) (owned o shared own)
+            (free o (footprint_at o shared ∙ has_first o (objects event S) (targets (table_at old.marks) (actor event) (effect event S).sends) e))))
+        unnamed o shared own false e = refl
 
     each_after : (n : ℕ) (b : BoxedTxn) → slot_at new.txns n ≡ Some b → IsTxn new n b.txn.value
     each_after n b at = elim (cases_Bool (n == s)) [
       | inl e ↦ subst (λ (k : ℕ). IsTxn new k b.txn.value) (sym (eqb-true n s e)) (subst IsMine (sym (slot_now e) ∙ at) mine)
-      | inr e ↦ others n b e (sym (slots n ∙ ap (λ (z : Bool). if z then Some box1 else slot_at old.txns n) e) ∙ at)
+      | inr e ↦ other n b e (sym (slots n ∙ ap (λ (z : Bool). if z then Some box1 else slot_at old.txns n) e) ∙ at)
     ]
       where
         IsMine : Option BoxedTxn → Type 0
         IsMine None = ⊥
         IsMine (Some x) = IsTxn new s x.txn.value
+
+        other : (n : ℕ) (b : BoxedTxn) → (n == s) ≡ false → slot_at old.txns n ≡ Some b → IsTxn new n b.txn.value
+        other n b apart there = txn_stays old new n b.txn.value (shaped.each n b there) (stays n b apart there)
 
         slot_now : (n == s) ≡ true → slot_at new.txns n ≡ Some box1
         slot_now e = slots n ∙ ap (λ (z : Bool). if z then Some box1 else slot_at old.txns n) e
@@ -618,8 +625,7 @@ module _ (laws : LiveLaws) (old new : Content) (pid starter : Pid) (act : Act) (
       shaped = shaped_after;
       goes = ((box1, has_log), has_mark);
       back = (box1, undoes);
-      local = subst (AreAmong (objects event S ++ processes_of (effect event S).sends)) (sym (ap (last_in stepped.count) slot_s ∙ last_is))
-          (subst (λ (os : List Object). AreAmong (objects event S ++ os) kept) (sym (ap processes_of (makes.gives (held_of old) counts).sent ∙ targets_are stepped.planned.sends)) (makes.among (held_of old)));
+      local = subst (AreAmong (objects event S ++ processes_of (effect event S).sends)) (sym (ap (last_in stepped.count) slot_s ∙ last_is)) among;
     }
 
   inside_answers : Answers old event pid new stepped.planned.outcome

@@ -1,6 +1,15 @@
 pub mod KeptPosted
 pub mod Planned
+pub mod Others
 pub mod Outsides
 pub mod Insides
+pub mod Ended
+pub mod LedBack
 pub mod Boots
 pub mod FirstSteps
+pub mod PostedAll
+pub mod Ends
+pub mod Committed
+pub mod TakenBack
+pub mod PostsTaken
+pub mod Undelivered

@@ -3,7 +3,7 @@ use Rattle.std.specs.Prelude.{◌≡◌, ℕ, ◌≤◌, true, List, [], length,
 use Rattle.tx_base.specs.Slots.{slot_at}
 use Rattle.tx_base.specs.declared.marks.Mark.{Mark}
 use Rattle.tx_change.specs.Counts.{CountsAgree}
-use Rattle.tx_change.specs.Exchange.{AreNamed}
+use Rattle.tx_change.specs.Exchange.{undone, AreNamed}
 use Rattle.tx_change.specs.Laws.{BringPlaces, HaveAllPlaces}
 use Rattle.tx_change.specs.States.{state_of}
 use Rattle.tx_cred.specs.Cred.{ids_of}
@@ -64,6 +64,8 @@ pub record IsTxn (k : Content) (n : ℕ) (txn : Txn) : Type 0 where
   pub own : (p : ℕ) → is_of n (slot_at k.marks p) ≡ true → owner_of k.owners (Proc p) ≡ Some n
   pub named : AreNamed k.parts txn.log
   pub brings : BringPlaces txn.log
+  -- without its steps the counts of names are right too
+  pub counts : CountsAgree (undone k.parts txn.log)
   -- it has reserved what its starter owns
   pub objects : (o : Object) → is_in txn.objects o ≡ is_owner n (owner_of k.owners o)
   -- nothing that it holds is posted

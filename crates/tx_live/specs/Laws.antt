@@ -1,15 +1,30 @@
 -- The laws that the contents stand on.
-use Rattle.tx_change.specs.Laws.{NamedAppended, SizesStay, SizesStayBack}
+use Rattle.tx_change.specs.CountsBack.{BackElsewhere, CountsLedBack, CountsOfNames}
+use Rattle.tx_change.specs.Laws.{ChangesComeBack, ChangesState, NamedAppended, PlacesKeptBack, RevertedStayNamed, RevertThenApply, SizesStay, SizesStayBack, UndoneAppended}
+use Rattle.tx_laws.specs.LawsOfEvents.{MembersSendToMembers}
 use Rattle.tx_laws.specs.LawsOfParts.{PresentIsNow}
-use Rattle.tx_txn.specs.Laws.{EventIsLogged, EventIsMade, LogGoesForward, LogLeadsBack, StepLeadsBack}
+use Rattle.tx_reserve.specs.Laws.{OwnersAreTold}
+use Rattle.tx_txn.specs.Laws.{EventIsLogged, EventIsMade, EventLeavesRest, LogGoesForward, LogLeadsBack, StepLeadsBack}
 
 pub record LiveLaws : Type 0 where
   pub sizes : SizesStay
   pub sizes_back : SizesStayBack
+  pub undone : UndoneAppended
+  pub places_back : PlacesKeptBack
+  pub change : ChangesState
+  pub come_back : ChangesComeBack
+  pub apply_again : RevertThenApply
+  pub reverted : RevertedStayNamed
+  pub names : CountsOfNames
+  pub led_back : CountsLedBack
+  pub elsewhere : BackElsewhere
+  pub to_members : MembersSendToMembers
   pub present : PresentIsNow
   pub named : NamedAppended
   pub made : EventIsMade
   pub logged : EventIsLogged
+  pub rest : EventLeavesRest
   pub step : StepLeadsBack
   pub abort : LogLeadsBack
   pub forward : LogGoesForward
+  pub told : OwnersAreTold

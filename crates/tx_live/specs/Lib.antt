@@ -1,7 +1,10 @@
 pub mod Content
+pub mod Aborts
 pub mod Inverses
 pub mod Progresses
 pub mod Made
 pub mod Insides
 pub mod Begins
 pub mod Laws
+pub mod HeldPosts
+pub mod Commits

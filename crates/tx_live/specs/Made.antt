@@ -1,5 +1,5 @@
 -- What a step makes of the content, by what it is to the transactions.
-use Rattle.std.specs.Prelude.{◌≡◌, ◌++◌, ℕ, List, Option, Some, None, option_map, length, take, drop}
+use Rattle.std.specs.Prelude.{◌≡◌, ◌++◌, ℕ, true, List, Option, Some, None, option_map, length, take, drop}
 use Rattle.tx_base.specs.Slots.{slot_at}
 use Rattle.tx_base.specs.declared.names.Pid.{Pid}
 use Rattle.tx_change.specs.Exchange.{applied, exchanged}
@@ -12,18 +12,24 @@ use Rattle.tx_kernel.specs.declared.inside.Inside.{Inside}
 use Rattle.tx_kernel.specs.declared.planned.Outcome.{Outcome}
 use Rattle.tx_kernel.specs.declared.planned.Planned.{Planned}
 use Rattle.tx_laws.specs.Commuting.{named_by}
-use Rattle.tx_live.specs.Content.{content_of, now_of, IsShaped}
+use Rattle.tx_live.specs.Content.{content_of, now_of, owner_at, IsShaped}
+use Rattle.tx_reserve.specs.Reservations.{unless}
+use Rattle.tx_txn.specs.Content.{is_named}
 use Rattle.tx_live.specs.Inverses.{changes_of, with_kept_pending, GoesWith, Undoes}
 use Rattle.tx_live.specs.declared.content.BoxedTxn.{BoxedTxn}
 use Rattle.tx_live.specs.declared.content.Content.{Content}
 use Rattle.tx_live.specs.declared.inverse.Inverse.{Inverse}
-use Rattle.tx_model.specs.Events.{Event, reply_of}
-use Rattle.tx_model.specs.Membership.{Role}
-use Rattle.tx_model.specs.State.{Sending}
+use Rattle.tx_model.specs.Events.{Event, objects, reply_of}
+use Rattle.tx_model.specs.Membership.{Role, Outside, Within, Commits, Aborts}
+use Rattle.tx_model.specs.State.{Object, Sending, has}
 use Rattle.tx_proc.specs.Processes.{process_in}
 use Rattle.tx_proc.specs.declared.proc.Proc.{Proc}
 use Rattle.tx_txn.specs.Faces.{pending_after, pending_by, running}
 use Rattle.tx_txn.specs.Steps.{next_content, Logs}
+
+-- nobody but this one owns anything that the event reads and writes
+abbrev pub IsUnowned : Content → Option ℕ → Event → Type 0
+IsUnowned k own event = (o : Object) → has o (objects event (now_of k)) ≡ true → unless own (owner_at k o) ≡ None
 
 -- the process is there and runs
 abbrev pub IsRunning : Option Proc → Type 0
@@ -49,6 +55,13 @@ pub record PostsKept (old new : List (Option BoxedTxn)) (ms : List Sending) : Ty
   pub width : length new ≡ length old
   pub each : (n : ℕ) → slot_at new n ≡ option_map (posted_at n ms) (slot_at old n)
 
+-- the changes are of what the event names; those of an abort are of what its transaction owns
+abbrev pub AreLocal : Role → Event → Content → List Change → Type 0
+AreLocal Outside event k changes = AreAmong (named_by event (now_of k)) changes
+AreLocal (Within s part) event k changes = AreAmong (named_by event (now_of k)) changes
+AreLocal (Commits s) event k changes = AreAmong (named_by event (now_of k)) changes
+AreLocal (Aborts s status) event k changes = (o : Object) → is_named o changes ≡ true → owner_at k o ≡ Some s
+
 -- a step that is so to the transactions was made: the content is the next one, and the inverse leads back
 pub record IsMade (old : Content) (role : Role) (event : Event) (process : ℕ) (new : Content) (inverse : Inverse) : Type 0 where
   pub records : List Change
@@ -57,8 +70,7 @@ pub record IsMade (old : Content) (role : Role) (event : Event) (process : ℕ) 
   pub shaped : IsShaped new
   pub goes : GoesWith new inverse
   pub back : Undoes new inverse old
-  -- it exchanges what the event names, and nothing else
-  pub local : AreAmong (named_by event (now_of old)) (changes_of new inverse)
+  pub local : AreLocal role event old (changes_of new inverse)
 
 -- the outcome says the reply of the event; bytes that it shows are of the memory that the process has now
 abbrev pub Answers : Content → Event → Pid → Content → Outcome → Type 0

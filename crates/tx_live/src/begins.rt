@@ -5,12 +5,13 @@ ghost use Rattle.tx_change.specs.Exchange.{AreNamed};
 ghost use Rattle.tx_kernel.specs.Actors.{IsWhole};
 ghost use Rattle.tx_kernel.specs.declared.planned.Outcome.TheVariants.{Done};
 ghost use Rattle.tx_live.specs.Begins.{is_only, IsAlone, IsBegun, Starts};
-ghost use Rattle.tx_live.specs.Content.{IsShaped};
+ghost use Rattle.tx_live.specs.Content.{content_of, IsShaped};
 ghost use Rattle.tx_live.specs.Made.{Answers, IsMade, IsRunning};
 ghost use Rattle.tx_model.specs.Events.{Note};
 ghost use Rattle.tx_model.specs.Membership.{Begins, Within};
 ghost use Rattle.tx_model.specs.State.{Object as TheObject};
 ghost use Rattle.tx_reserve.specs.Objects.{is_in};
+ghost use Rattle.tx_txn.specs.Content.{IsKept};
 
 use crate::content::{BoxedTxn, Content};
 use crate::inverse::Inverse;
@@ -30,6 +31,7 @@ impl Content {
     /// NoMemory where a growth is refused; the content is then as it was.
     pub fn begin(&mut self, alloc: Global, pid: Pid, defers: bool) -> Result<Inverse, NoMemory>
         requires shaped { IsShaped self.old }
+        requires kept { IsKept (content_of self.old) }
         requires whole { IsWhole self.old.parts }
         requires running { IsRunning (slot_at self.old.parts.procs pid.0) }
         requires alone { IsAlone self.old pid.0 }

@@ -3,12 +3,13 @@ ghost use Rattle.std.specs.Prelude.{◌≡◌, ◌≤◌, ◌++◌, ◌∷◌, [
 ghost use Rattle.tx_base.specs.Slots.{slot_at};
 ghost use Rattle.tx_kernel.specs.Actors.{IsWhole};
 ghost use Rattle.tx_kernel.specs.Acts.{event_of};
-ghost use Rattle.tx_live.specs.Content.{view_of, IsShaped};
+ghost use Rattle.tx_live.specs.Content.{content_of, view_of, IsShaped};
 ghost use Rattle.tx_live.specs.Insides.{handed_out, inside_in, is_handed_out, unmade_of, IsFootprint, IsFree, MakesIn, StepsIn};
 ghost use Rattle.tx_live.specs.Made.{Answers, IsMade, IsRunning};
 ghost use Rattle.tx_live.specs.Progresses.{part_of, HasChild};
 ghost use Rattle.tx_laws.specs.Fits.{Fits};
 ghost use Rattle.tx_model.specs.Membership.{Within};
+ghost use Rattle.tx_txn.specs.Content.{IsKept};
 
 use crate::content::Content;
 use crate::inverse::Inverse;
@@ -38,6 +39,7 @@ impl Content {
         footprint: &Objects,
     ) -> Result<(Outcome, Inverse), NoMemory>
         requires shaped { IsShaped self.old }
+        requires kept { IsKept (content_of self.old) }
         requires whole { IsWhole self.old.parts }
         requires running { IsRunning (slot_at self.old.parts.procs pid.0) }
         requires live { IsSome (slot_at self.old.txns starter.0) }
@@ -169,7 +171,7 @@ fn hold_sends(outbox: &mut Outbox, sends: &Sends) -> Result<(), NoMemory>
 }
 
 /// Whether a step hands out a signal.
-fn hands_out(sends: &Sends) -> bool
+pub(crate) fn hands_out(sends: &Sends) -> bool
     ensures { result ≡ is_handed_out sends.now }
 {
     match sends {

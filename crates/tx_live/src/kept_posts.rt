@@ -1,7 +1,7 @@
 //! Posts to what is kept of the starters of live transactions.
-ghost use Rattle.std.specs.Prelude.{◌≡◌, ◌∷◌, [], ◌<◌};
+ghost use Rattle.std.specs.Prelude.{◌≡◌, ◌∷◌, [], ◌<◌, IfSome, Some};
 ghost use Rattle.tx_kernel.specs.Plans.{HasSignal, sending_of, sent_at_once};
-ghost use Rattle.tx_live.specs.Inverses.{unposted_if, unposted_in, HasStarter};
+ghost use Rattle.tx_live.specs.Inverses.{unposted_at, unposted_if, unposted_in, HasStarter};
 ghost use Rattle.tx_live.specs.Made.{posted_one, PostsKept};
 
 use crate::content::BoxedTxn;
@@ -38,6 +38,7 @@ pub(crate) fn post_kept(txns: &mut Slots<BoxedTxn>, sending: &Sending) -> Option
     ensures posted { PostsKept txns.old txns.new (sending_of sending.now ∷ []) }
     ensures back { unposted_in result txns.new ≡ txns.old }
     ensures starter { HasStarter txns.new result }
+    ensures target { IfSome result (λ post. post.starter ≡ sending.now.target) }
 {
     let starter = sending.target;
     if txns.get(starter).is_none() {
@@ -59,4 +60,23 @@ fn post_boxed(boxed: &mut BoxedTxn, sending: &Sending) -> Option<Unpost>
     ensures back { unposted_if result boxed.new ≡ boxed.old }
 {
     boxed.txn.kept.post(sending)
+}
+
+/// Takes the last post to what is kept of a starter back. Nothing happens where it has no transaction.
+pub(crate) fn take_post(txns: &mut Slots<BoxedTxn>, post: KeptPost)
+    requires { HasStarter txns.old (Some post) }
+    ensures { txns.new ≡ unposted_in (Some post) txns.old }
+{
+    if let Some(boxed) = txns.take(post.starter) {
+        txns.put(post.starter, without_post(boxed, post));
+    }
+}
+
+/// The box where the last post to what is kept of the starter was taken back.
+fn without_post(boxed: BoxedTxn, post: KeptPost) -> BoxedTxn
+    ensures { result ≡ unposted_at post.unpost boxed }
+{
+    let mut boxed = boxed;
+    boxed.txn.kept.unpost(post.unpost);
+    boxed
 }

@@ -1,9 +1,13 @@
 //! The laws that the contents stand on.
 ghost use Rattle.tx_live.specs.Laws.{LiveLaws};
 
-use tx_change::{appended, apply_then_revert, places_kept};
-use tx_laws::answers_of_parts;
-use tx_txn::{events_are_made, logs_keep, logs_lead_back};
+use tx_change::{
+    appended, apply_then_revert, changes_come_back, changes_state, counts_led_back, places_kept,
+    revert_then_apply,
+};
+use tx_laws::{answers_of_parts, inside};
+use tx_reserve::owners_are_told;
+use tx_txn::{events_are_made, events_leave_rest, logs_keep, logs_lead_back};
 
 /// The laws on which the proofs of contents stand. It does nothing.
 pub(crate) fn laws()
@@ -12,8 +16,15 @@ pub(crate) fn laws()
     appended();
     answers_of_parts();
     apply_then_revert();
+    changes_come_back();
+    changes_state();
+    counts_led_back();
     places_kept();
+    revert_then_apply();
+    inside();
     events_are_made();
+    events_leave_rest();
     logs_lead_back();
     logs_keep();
+    owners_are_told();
 }

@@ -2,9 +2,12 @@
 //! the transactions.
 #![tactic(auto)]
 
+mod aborts;
 mod begins;
 mod boot;
+mod commits;
 mod content;
+mod held_posts;
 mod inside;
 mod inverse;
 mod kept_posts;
@@ -12,6 +15,7 @@ mod laws;
 mod marking;
 mod outside;
 mod planning;
+mod undo;
 
 pub use content::{BoxedTxn, Content};
 pub use inverse::Inverse;

@@ -3,9 +3,10 @@ ghost use Rattle.std.specs.Prelude.{◌≡◌, None, IfOk, OnErr};
 ghost use Rattle.tx_base.specs.Slots.{slot_at};
 ghost use Rattle.tx_kernel.specs.Actors.{IsWhole};
 ghost use Rattle.tx_kernel.specs.Acts.{event_of};
-ghost use Rattle.tx_live.specs.Content.{IsShaped};
-ghost use Rattle.tx_live.specs.Made.{Answers, IsMade, IsRunning};
+ghost use Rattle.tx_live.specs.Content.{content_of, IsShaped};
+ghost use Rattle.tx_live.specs.Made.{Answers, IsMade, IsRunning, IsUnowned};
 ghost use Rattle.tx_model.specs.Membership.{Outside};
+ghost use Rattle.tx_txn.specs.Content.{IsKept};
 
 use crate::content::Content;
 use crate::inverse::Inverse;
@@ -31,6 +32,8 @@ impl Content {
         requires shaped { IsShaped self.old }
         requires whole { IsWhole self.old.parts }
         requires running { IsRunning (slot_at self.old.parts.procs pid.0) }
+        requires kept { IsKept (content_of self.old) }
+        requires unowned { IsUnowned self.old None (event_of None pid act.now) }
         ensures made { IfOk result (λ made. IsMade self.old Outside (event_of None pid act.now) pid.0 self.new made.1) }
         ensures answer { IfOk result (λ made. Answers self.old (event_of None pid act.now) pid self.new made.0) }
         ensures err { OnErr result (self.new ≡ self.old) }

@@ -14,6 +14,8 @@ mod desc;
 #[cfg(test)]
 mod ends;
 #[cfg(test)]
+mod judge;
+#[cfg(test)]
 mod kernel;
 #[cfg(test)]
 mod live;

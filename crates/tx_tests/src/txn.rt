@@ -52,6 +52,7 @@ fn an_outbox_holds_in_order(rt: HostRuntime) -> Result<(), Fail> {
     };
     outbox.swap_post(1, &mut made);
     assert_eq!(rt; made.answer, Ok(()));
+    assert_eq!(rt; outbox.undelivered().len(), 1);
     outbox.swap_post(1, &mut made);
     assert_eq!(rt; made.answer, Err(Errno::TryAgain));
     outbox.forget_last();

@@ -1,5 +1,5 @@
 -- Posts to what is kept, and back.
-use Rattle.std.proofs.Common.{◌≡◌, ◌<◌, ◌≤◌, ℕ, ℤ, Bool, true, false, not, ◌&&◌, List, [], ◌∷◌, ◌++◌, length, nat_lt, nat_le, if◌then◌else◌, Option, Some, None, Result, Ok, Err, refl, ap, sym, subst, ◌∙◌, arith}
+use Rattle.std.proofs.Common.{◌≡◌, ◌<◌, ◌≤◌, ℕ, ℤ, Bool, true, false, not, ◌&&◌, List, [], ◌∷◌, ◌++◌, length, nat_lt, nat_le, if◌then◌else◌, Option, Some, None, Result, Ok, Err, refl, ap, sym, ◌∙◌, arith}
 use Rattle.std.proofs.lemmas.Bool.{le-leb, ltb-true}
 use Rattle.std.proofs.Math.Nat.{le_refl}
 use Rattle.tx_base.specs.Signals.{bits_of}
@@ -7,9 +7,9 @@ use Rattle.tx_base.specs.declared.errors.Errno.{Errno}
 use Rattle.tx_base.specs.declared.errors.Errno.TheVariants.{TryAgain}
 use Rattle.tx_base.specs.declared.limits.TheConstants.{QUEUED}
 use Rattle.tx_base.specs.declared.signals.SigSet.{SigSet}
-use Rattle.tx_model.specs.Posts.{has_room, is_quiet, is_realtime, may_signal, received, with_pending, with_queued, with_signal}
+use Rattle.tx_model.specs.Posts.{is_quiet, is_realtime, may_signal, received, with_pending, with_queued, with_signal}
 use Rattle.tx_model.specs.State.{Process, Queued, Sender, Sending, booted_process}
-use Rattle.tx_signal.specs.Entries.{entry_given, entry_swapped, has_place}
+use Rattle.tx_signal.specs.Entries.{entry_given, entry_swapped}
 use Rattle.tx_cred.specs.Cred.{ids_of}
 use Rattle.tx_txn.proofs.Posted.{pending_received}
 use Rattle.tx_txn.specs.Faces.{pending_after, pending_in, running}

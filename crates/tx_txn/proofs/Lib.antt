@@ -10,3 +10,4 @@ pub mod Answered
 pub mod Senders
 pub mod KeptPosts
 pub mod MemberMarks
+pub mod MissedPosts

@@ -6,7 +6,7 @@ use Rattle.tx_base.specs.Slots.{slot_at}
 use Rattle.tx_base.specs.declared.names.Pid.{Pid}
 use Rattle.tx_base.specs.declared.marks.Mark.{Mark}
 use Rattle.tx_model.specs.Membership.{Table, is_of, is_open_of, others_open, unmarked}
-use Rattle.tx_model.specs.State.{Proc, is_between}
+use Rattle.tx_model.specs.State.{Proc}
 use Rattle.tx_reserve.specs.Objects.{has_place, is_in, place_of, TakesOut}
 use Rattle.tx_reserve.specs.declared.objects.Objects.{Objects}
 use Rattle.tx_txn.specs.Marks.{IsCovered, ended_of, mark_of, table_at}

@@ -1,5 +1,5 @@
 -- What was made on the parts, as its event.
-use Rattle.std.proofs.Common.{◌≡◌, ℕ, true, false, List, ◌++◌, Option, Some, ◌==◌, refl, sym, ap, ap₂, ◌∙◌, subst}
+use Rattle.std.proofs.Common.{◌≡◌, ℕ, true, false, List, ◌++◌, Option, Some, ◌==◌, refl, sym, ap, ◌∙◌, subst}
 use Rattle.tx_base.specs.declared.names.Pid.{Pid}
 use Rattle.tx_change.specs.Exchange.{undone}
 use Rattle.tx_change.specs.States.{state_of, changed_by}

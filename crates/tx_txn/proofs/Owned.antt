@@ -1,5 +1,5 @@
 -- What the transactions of a content own, and an event that changes nothing of it but what is pending at a starter.
-use Rattle.std.proofs.Common.{◌≡◌, ℕ, Bool, true, false, not, List, ◌++◌, Option, Some, None, is_some, if◌then◌else◌, refl, sym, ap, ap₂, ◌∙◌, subst, inl, inr, eq-eqb}
+use Rattle.std.proofs.Common.{◌≡◌, ℕ, Bool, true, false, not, List, ◌++◌, Option, Some, None, is_some, if◌then◌else◌, refl, sym, ap, ap₂, ◌∙◌, subst, inl, inr, eq-eqb, eqb-true}
 use Rattle.std.proofs.lemmas.Bool.{both_ways}
 use Rattle.tx_change.specs.States.{changed_by}
 use Rattle.tx_laws.specs.Fits.{FitsWithin}
@@ -97,6 +97,9 @@ module _ (laws : RoleLaws) where
       but_trans t (made ev S T) (posts (effect ev S).sends T) T o
       (but_part t (made ev S T) (posts (effect ev S).sends T) o (laws.sends ev S T (send_answers (effect ev S) S) o h))
       (posts_but t (effect ev S).sends T o to)
+
+  pub made_rest : (ev : Event) (S : State) (n : ℕ) → has (Proc n) (objects ev S) ≡ false → AgreeBut n (made ev S S) S (Proc n)
+  made_rest ev S n h = made_but ev S S n (Proc n) h (λ m i e. sym (eqb-true n m.target e))
 
   made_held : (ev : Event) (S T : State) (n : ℕ) → has (Held n) (objects ev S) ≡ false → (made ev S T).held n ≡ T.held n
   made_held ev S T n h = laws.sends ev S T (send_answers (effect ev S) S) (Held n) h ∙ posts_held (effect ev S).sends T n

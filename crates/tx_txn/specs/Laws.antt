@@ -29,7 +29,7 @@ use Rattle.tx_signal.specs.Parts.{PendingView}
 use Rattle.tx_txn.specs.Content.{Txn, Content, IsKept, OthersHoldNothing, led_by, two_parts_of, start_content, starter_differs, stands_in_way}
 use Rattle.tx_txn.specs.Faces.{face_of, pending_in, pending_after, answer_at, queued_after}
 use Rattle.tx_txn.specs.Logs.{newest_first, pending_or, with_pending_at}
-use Rattle.tx_txn.specs.Steps.{IsNext, LeadsBack, Logs, next_content}
+use Rattle.tx_txn.specs.Steps.{AgreeBut, IsNext, LeadsBack, Logs, next_content}
 
 -- in each role that goes with the event, the next content has the next view
 abbrev pub ContentFollowsRole : Type 0
@@ -112,6 +112,10 @@ StartContentHasItsView = (start : State) → parts_view (two_parts_of (start_con
 -- where nothing is held, what is so of every content is so of that at the start
 abbrev pub StartContentIsKept : Type 0
 StartContentIsKept = (start : State) → ((s : ℕ) → start.held s ≡ []) → IsKept (start_content start)
+
+-- an event leaves a process that is no object of it as it was, but for what is pending there
+abbrev pub EventLeavesRest : Type 0
+EventLeavesRest = (event : Event) (state : State) (n : ℕ) → has (Proc n) (objects event state) ≡ false → AgreeBut n (made event state state) state (Proc n)
 
 -- what a post leaves as pending at its target, the face and what was pending tell
 abbrev pub PostLeavesPending : Type 0

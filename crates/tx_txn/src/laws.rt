@@ -1,5 +1,5 @@
 //! The laws of logs and kept signals, as the contracts of functions that do nothing.
-ghost use Rattle.tx_txn.specs.Laws.{ContentFollowsRole, ContentFollowsStep, ContentIsKept, DoomIsPending, EventIsLogged, EventIsMade, HolderIsOfFaces, InWayIsOfFaces, LogGoesForward, LogLaws, LogLeadsBack, PostIsAnsweredByFace, PostLeavesFace, PostLeavesPending, PostLeavesQueued, RoleLaws, StartContentHasItsView, StartContentIsKept, StepLeadsBack, TwoAnswersAreOfFaces};
+ghost use Rattle.tx_txn.specs.Laws.{ContentFollowsRole, ContentFollowsStep, ContentIsKept, DoomIsPending, EventIsLogged, EventIsMade, EventLeavesRest, HolderIsOfFaces, InWayIsOfFaces, LogGoesForward, LogLaws, LogLeadsBack, PostIsAnsweredByFace, PostLeavesFace, PostLeavesPending, PostLeavesQueued, RoleLaws, StartContentHasItsView, StartContentIsKept, StepLeadsBack, TwoAnswersAreOfFaces};
 
 use tx_change::{appended, changes_state, lists_change_state, revert_then_apply, twice_is_nothing};
 use tx_laws::{answers_of_parts, locality, step_by_step, two_parts};
@@ -56,6 +56,13 @@ pub fn events_are_made()
     ensures logged { EventIsLogged }
 {
     log_laws();
+}
+
+/// What an event does to a process that is no object of it: nothing but to what is pending there.
+pub fn events_leave_rest()
+    ensures { EventLeavesRest }
+{
+    role_laws();
 }
 
 /// What a post does at its target, by the target's face, which are its ids and whether it has ended, and

@@ -11,7 +11,8 @@ mod txn;
 
 pub use kept::{Kept, Unpost};
 pub use laws::{
-    answers_of_faces, events_are_made, logs_keep, logs_lead_back, posts_by_faces, start_is_kept,
+    answers_of_faces, events_are_made, events_leave_rest, logs_keep, logs_lead_back,
+    posts_by_faces, start_is_kept,
 };
 pub use members::{Members, is_last_open};
 pub use outbox::{HeldPost, Outbox};

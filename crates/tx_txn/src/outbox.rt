@@ -1,14 +1,15 @@
 //! The signals that a transaction holds until it commits.
-ghost use Rattle.std.specs.Prelude.{◌≡◌, ◌<◌, ◌++◌, ◌∷◌, [], ◌-◌, None, Ok, OnOk, OnErr, length, map, take, slice_set, slice_index_or};
+ghost use Rattle.std.specs.Prelude.{◌≡◌, ◌<◌, ◌≤◌, ◌++◌, ◌∷◌, [], ◌-◌, None, Ok, OnOk, OnErr, length, map, take, slice_set, slice_index_or};
 ghost use Rattle.tx_model.specs.Sends.{has_sender, sent_by_members};
 ghost use Rattle.tx_kernel.specs.Plans.{sender_of, sending_of};
-ghost use Rattle.tx_txn.specs.Outboxes.{unmade};
+ghost use Rattle.tx_txn.specs.Outboxes.{missed_in, unmade};
 
 use crate::kept::Unpost;
+use arrayvec::ArrayVec;
 use std::alloc::Global;
 use std::marker::Model;
 use std::mem;
-use tx_base::{Errno, NoMemory, Sending};
+use tx_base::{Errno, Missed, NoMemory, Sending};
 use tx_change::Change;
 
 /// What the post of a held signal came to at the commit. Until then it is not made.
@@ -24,7 +25,7 @@ pub struct HeldPost {
 
 impl HeldPost {
     /// A post that is not made.
-    fn unmade() -> HeldPost
+    pub fn unmade() -> HeldPost
         ensures { result ≡ unmade }
     {
         HeldPost {
@@ -114,6 +115,15 @@ impl Outbox {
     {
         mem::swap(&mut self.posts[place], post);
     }
+
+    /// The signals whose posts were answered by an error, in order, with that error. It takes no
+    /// memory.
+    pub fn undelivered(&self) -> ArrayVec<Missed, 33>
+        ensures { length self.now.sendings ≤ 33 →
+            result ≡ record { items = missed_in self.now.sendings self.now.posts } }
+    {
+        list_missed(self.held(), self.posts.as_slice())
+    }
 }
 
 /// How many of the signals members sent.
@@ -125,6 +135,24 @@ fn count_sent(held: &[Sending]) -> usize
         sent += senders(&held[place]);
     }
     sent
+}
+
+/// The signals whose posts were answered by an error, in order, with that error.
+fn list_missed(held: &[Sending], posts: &[HeldPost]) -> ArrayVec<Missed, 33>
+    requires { length posts.now ≡ length held.now }
+    ensures { length held.now ≤ 33 → result ≡ record { items = missed_in held.now posts.now } }
+{
+    let mut missed = ArrayVec::new();
+    for place in 0..held.len() {
+        if let Err(errno) = posts[place].answer {
+            let _fits = missed.try_push(Missed {
+                target: held[place].target,
+                signo: held[place].signo,
+                errno,
+            });
+        }
+    }
+    missed
 }
 
 /// 1 where a member sent the signal, 0 where the kernel did.

@@ -1,7 +1,5 @@
-use Rattle.std.proofs.Common.{◌≡◌, ◌≤◌, ◌+◌, arith, drop, map, slice_index_or}
-use Rattle.tx_model.specs.Sends.{has_sender, sent_by_members}
-use Rattle.tx_kernel.specs.Plans.{sender_of, sending_of}
-use Rattle.tx_txn.specs.Outboxes.{unmade}
+use Rattle.std.proofs.Common.{arith, slice_index_or}
+use Rattle.tx_kernel.specs.Plans.{sender_of}
 use Rattle.tx_txn.proofs.Senders.{drop_end, no_sending, sender_le, sent_next}
 use Rattle.tx_txn.proofs.outbox.count_sent.Goals as goal
 

@@ -9,7 +9,7 @@ pub returns-clause-made : goal.returns-clause-made
 returns-clause-made c =
     let old : Content = c.args.self.now in
     let new : Content = record { parts = c.start.new.parts; marks = c.put.new.self; owners = c.start.new.owners; txns = c.put-2.new.self } in
-    begin_made c.laws.ensures old new c.args.pid c.args.defers c.in_ok-boxed.boxed c.start.new.txn c.requires.shaped c.requires.alone c.in_ok-boxed.ensures
+    begin_made c.laws.ensures old new c.args.pid c.args.defers c.in_ok-boxed.boxed c.start.new.txn c.requires.shaped c.requires.kept c.requires.alone c.in_ok-boxed.ensures
     (subst (λ (t : Txn). Starts old.parts new.parts old.owners new.owners t c.start.new.txn) c.deref_mut.ensures.value c.start.ensures)
     c.put.ensures c.put-2.ensures
 

@@ -1,5 +1,7 @@
-use Rattle.tx_live.proofs.Boots.{booted_alone, booted_kept, booted_shaped, booted_view}
+use Rattle.std.proofs.Common.{ap}
+use Rattle.tx_live.proofs.Boots.{booted_alone, booted_kept, booted_shaped, booted_view, owner_none}
 use Rattle.tx_live.specs.declared.content.Content.{Content}
+use Rattle.tx_reserve.specs.Reservations.{unless}
 use Rattle.tx_live.proofs.content.Content.boot.Goals as goal
 
 pub returns-clause-shaped : goal.returns-clause-shaped
@@ -26,3 +28,8 @@ pub returns-clause-alone : goal.returns-clause-alone
 returns-clause-alone c =
     let k : Content = record { parts = c.in_ok-parts.parts; marks = c.in_ok-marks.marks; owners = c.in_ok-owners.owners; txns = c.in_ok-txns.txns } in
     booted_alone k c.args.width c.args.count c.in_ok-parts.ensures.state c.in_ok-marks.ensures c.in_ok-txns.ensures c.in_ok-owners.ensures
+
+pub returns-clause-unowned : goal.returns-clause-unowned
+returns-clause-unowned c = λ own event o named.
+    let k : Content = record { parts = c.in_ok-parts.parts; marks = c.in_ok-marks.marks; owners = c.in_ok-owners.owners; txns = c.in_ok-txns.txns } in
+    ap (unless own) (owner_none k c.args.width c.args.count c.in_ok-parts.ensures.state c.in_ok-marks.ensures c.in_ok-txns.ensures c.in_ok-owners.ensures o)

@@ -1,8 +1,9 @@
-use Rattle.std.proofs.Common.{Bool, List, Option, Some, None, sym, ap, subst, ◌∙◌}
-use Rattle.tx_base.proofs.SlotFacts.{slot_twice}
+use Rattle.std.proofs.Common.{◌≤◌, ℕ, length, Bool, List, Option, Some, None, sym, ap, subst, ◌∙◌}
+use Rattle.tx_base.proofs.SlotFacts.{length-with_slot, slot_twice}
 use Rattle.tx_base.specs.Slots.{with_slot}
 use Rattle.tx_kernel.specs.Acts.{event_of}
 use Rattle.tx_live.proofs.Insides.{answers_inside, made_inside, put_back}
+use Rattle.tx_live.proofs.KeptPosted.{slot_there}
 use Rattle.tx_live.specs.Inverses.{with_txn}
 use Rattle.tx_live.specs.Made.{IsMade}
 use Rattle.tx_live.specs.Progresses.{part_of}
@@ -27,6 +28,11 @@ returns-in_default-clause-err c =
           ∙ slot_twice old.txns c.args.starter.0 None (Some (with_txn c.unwrap-boxed.result c.step_in-stepped.new.txn))) j;
     }
 
+pub put-requires-clause-high : goal.put-requires-clause-high
+put-requires-clause-high c =
+    subst (λ (n : ℕ). c.args.starter.0 ≤ n) (sym (ap length c.take.ensures.emptied ∙ length-with_slot c.args.self.now.txns c.args.starter.0 None))
+    (slot_there c.args.self.now.txns c.args.starter.0 c.unwrap-boxed.result (sym c.take.ensures.taken ∙ c.unwrap-boxed.ensures)).1
+
 pub returns-clause-made : goal.returns-clause-made
 returns-clause-made c = λ fits.
     let old : Content = c.args.self.now in
@@ -34,7 +40,7 @@ returns-clause-made c = λ fits.
     subst (λ (held : Bool). IsMade old (Within c.args.starter.0 (part_of c.args.progress)) (event_of (inside_in old c.args.starter) c.args.pid c.args.act.now) c.args.pid.0 new
     (Inside c.args.starter c.in-Ok.field-0.count c.in-Ok.field-0.before c.mark_progress-marked.result held)) (sym c.hands_out-held.ensures)
     (made_inside c.laws.ensures old new c.args.pid c.args.starter c.args.act.now c.args.progress c.args.footprint.now c.unwrap-boxed.result c.step_in-stepped.new.txn c.in-Ok.field-0
-    c.mark_progress-marked.result c.requires.shaped (sym c.take.ensures.taken ∙ c.unwrap-boxed.ensures)
+    c.mark_progress-marked.result c.requires.shaped c.requires.kept (sym c.take.ensures.taken ∙ c.unwrap-boxed.ensures)
     (subst (λ (t : Txn). StepsIn old.parts new.parts old.marks old.owners new.owners c.args.pid c.args.act.now c.args.footprint.now t c.step_in-stepped.new.txn c.in-Ok.field-0) c.deref_mut.ensures.value c.in-Ok.ensures.made)
     c.mark_progress-marked.ensures.marks c.mark_progress-marked.ensures.length c.mark_progress-marked.ensures.back c.mark_progress-marked.ensures.mark
     (c.put.ensures ∙ ap (λ (txns : List (Option BoxedTxn)). with_slot txns c.args.starter.0 (Some (with_txn c.unwrap-boxed.result c.step_in-stepped.new.txn))) c.take.ensures.emptied
@@ -45,7 +51,7 @@ returns-clause-answer c =
     let old : Content = c.args.self.now in
     let new : Content = record { parts = c.step_in-stepped.new.parts; marks = c.mark_progress-marked.new.marks; owners = c.step_in-stepped.new.owners; txns = c.put.new.self } in
     answers_inside c.laws.ensures old new c.args.pid c.args.starter c.args.act.now c.args.progress c.args.footprint.now c.unwrap-boxed.result c.step_in-stepped.new.txn c.in-Ok.field-0
-    c.mark_progress-marked.result c.requires.shaped (sym c.take.ensures.taken ∙ c.unwrap-boxed.ensures)
+    c.mark_progress-marked.result c.requires.shaped c.requires.kept (sym c.take.ensures.taken ∙ c.unwrap-boxed.ensures)
     (subst (λ (t : Txn). StepsIn old.parts new.parts old.marks old.owners new.owners c.args.pid c.args.act.now c.args.footprint.now t c.step_in-stepped.new.txn c.in-Ok.field-0) c.deref_mut.ensures.value c.in-Ok.ensures.made)
     c.mark_progress-marked.ensures.marks c.mark_progress-marked.ensures.length c.mark_progress-marked.ensures.back c.mark_progress-marked.ensures.mark
     (c.put.ensures ∙ ap (λ (txns : List (Option BoxedTxn)). with_slot txns c.args.starter.0 (Some (with_txn c.unwrap-boxed.result c.step_in-stepped.new.txn))) c.take.ensures.emptied

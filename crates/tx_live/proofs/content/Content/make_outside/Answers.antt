@@ -14,7 +14,7 @@ returns-clause-made c =
     let old : Content = c.args.self.now in
     let makes = makes_all old.parts c.args.pid None (event_of None c.args.pid c.args.act.now) c.in_ok-log.log c.plan.new.log c.in_ok-planned.planned c.in_ok-log.ensures c.in_ok-planned.ensures.planned in
     outside_made c.laws.ensures old (record old { parts = c.lead_forward.new.parts; txns = c.post_sends-post.new.txns }) c.args.pid (event_of None c.args.pid c.args.act.now) c.plan.new.log c.lead_forward.new.self
-    c.in_ok-planned.planned c.post_sends-post.result c.requires.shaped makes c.lead_forward.ensures.parts c.lead_forward.ensures.log refl refl
+    c.in_ok-planned.planned c.post_sends-post.result c.requires.shaped c.requires.kept c.requires.unowned makes c.lead_forward.ensures.parts c.lead_forward.ensures.log refl refl
     c.post_sends-post.ensures.posted c.post_sends-post.ensures.back c.post_sends-post.ensures.starter
 
 pub returns-clause-answer : goal.returns-clause-answer

@@ -1,9 +1,7 @@
-use Rattle.std.proofs.Common.{rules, ◌≡◌, ◌≤◌, ◌<◌, ℤ, FitsSigned, List, Some, Ok, length, ap, sym, subst, ◌∙◌, to_z, of_z, w64}
+use Rattle.std.proofs.Common.{rules, FitsSigned, sym, ◌∙◌, to_z, of_z, w64}
 use Rattle.std.proofs.lemmas.Int.{to_z-of_z}
 use Rattle.tx_kernel.specs.Plans.{sending_of}
-use Rattle.tx_model.specs.Posts.{with_signal}
-use Rattle.tx_model.specs.State.{Process, Sending as TheSending, booted_process}
-use Rattle.tx_signal.specs.Parts.{sending_of as signalled, with_pending_part}
+use Rattle.tx_model.specs.State.{Sending as TheSending, booted_process}
 use Rattle.tx_txn.specs.declared.kept.Kept.{Kept}
 use Rattle.tx_txn.specs.KeptParts.{kept_as}
 use Rattle.tx_txn.proofs.KeptPosts.{back_queued, back_standard, kept_pending, reached, stopped, Posts}

@@ -1,0 +1,5 @@
+pub mod Early
+pub mod Laws
+pub mod Faces
+pub mod Holder
+pub mod Roles

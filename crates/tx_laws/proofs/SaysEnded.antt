@@ -1,0 +1,185 @@
+-- Which calls and deliveries end their process, and what the transactions make of that.
+use Rattle.std.proofs.Common.{◌≡◌, ℕ, Bool, true, false, not, ℤ, pos, negsuc, Option, Some, None, if◌then◌else◌, ◌++◌, [], ◌∷◌, ◌==◌, nat_lt, refl, sym, ap, ◌∙◌, inl, inr}
+use Rattle.tx_base.specs.declared.marks.Mark.{Mark}
+use Rattle.tx_base.specs.declared.steps.Call.{Call}
+use Rattle.tx_base.specs.declared.steps.Call.TheVariants as call
+use Rattle.tx_base.specs.declared.steps.Reply.{Reply}
+use Rattle.tx_base.specs.declared.steps.Step.{Step}
+use Rattle.tx_base.specs.declared.steps.Step.TheVariants.{Call as Calls, Deliver, KernelAbort}
+use Rattle.tx_base.specs.declared.steps.Refusal.TheVariants.{Deferred, FramesFull}
+use Rattle.tx_base.specs.declared.steps.Reply.TheVariants.{Done}
+use Rattle.tx_base.specs.declared.errors.Errno.TheVariants.{NotPermitted, TryAgain}
+use Rattle.tx_base.specs.declared.limits.TheConstants.{HELD_SENDS}
+use Rattle.tx_model.specs.Numbers.{failing}
+use Rattle.tx_model.specs.State.{Process, State, Sending, SetHeld}
+use Rattle.tx_model.specs.Effects.{Inside, Conclusion, Replies, AnswersPost, ListsFailed, idle, own_effect, done, done_with}
+use Rattle.tx_model.specs.Scripts.{closed_inside}
+use Rattle.tx_model.specs.Sends.{sent_by, sent_by_members, posts_now, hands_out, sends_signal, sendable}
+use Rattle.tx_model.specs.Processes.{ending, exit_status, numbered}
+use Rattle.tx_model.specs.Signals.{Disposition, Ignored, Fatal, Caught, disposition}
+use Rattle.tx_model.specs.Deliveries.{action_at, acts_on, caught, delivered_value, delivers, ends_by, is_deferred, is_full, kills, relieved}
+use Rattle.tx_model.specs.Calls.{MakesCall, TakesSignal, call_effect, effect_at, running_effect}
+use Rattle.tx_model.specs.Events.{Do, Note, effect, reply_of}
+use Rattle.tx_model.specs.Membership.{Table, inside_by, Kind, Ordinary, Forking, Beginning, Leaving, Aborting, kind_of, says_ended, ordinary_role, kind_role, kind_event, Role, event_in}
+use Rattle.tx_model.specs.View.{View, present, first_reply}
+use Rattle.tx_laws.specs.Endings.{is_exit, end_reply, ExitIsTold, ExitsSayEnd, OtherCallsSayNoEnd, DeliveriesSayEnd, StepIsToldByEnd, OtherCallIsTold, DeliveryIsTold}
+use Rattle.tx_laws.proofs.Mild
+use Rattle.tx_laws.proofs.Mild.{GoesOn}
+use Rattle.tx_laws.proofs.KeepsView.{reply_ends}
+use Rattle.tx_laws.proofs.PlainCalls.{IsSpecial, call_plain}
+use Rattle.tx_laws.proofs.PlainWrites.{concludes_ended}
+
+goes_concludes : (c : Conclusion) → GoesOn c → concludes_ended c ≡ false
+goes_concludes (Replies r) h = h
+goes_concludes (AnswersPost p) h = refl
+goes_concludes ListsFailed h = absurd h
+
+-- an act of process p, which is me and runs
+module _ (inside : Option Inside) (p : ℕ) (me : Process) (S : State) where
+  -- a send ends nobody
+  out_goes : (m : Sending) (x : Option Inside) → concludes_ended (hands_out p x me m S).conclusion ≡ false
+  out_goes m None = refl
+  out_goes m (Some i) = by (i.members m.target) (m.signo == 0) (nat_lt (sent_by_members (S.held i.starter)) HELD_SENDS)
+    where
+      by : (a b c : Bool) → concludes_ended (if a then posts_now p m else (if b then done p closed_inside me
+          else (if c then done_with (SetHeld i.starter (S.held i.starter ++ m ∷ []) ∷ []) p (pos 0) me else done p (failing TryAgain) me))).conclusion ≡ false
+      by true b c = refl
+      by false true c = refl
+      by false false true = refl
+      by false false false = refl
+
+  signal_goes : (target signo : Option ℕ) (value : ℤ) → concludes_ended (sends_signal p inside me target signo value S).conclusion ≡ false
+  signal_goes target None value = refl
+  signal_goes None (Some signo) value = refl
+  signal_goes (Some n) (Some signo) value = out_goes (sent_by me n signo value) inside
+
+  special_goes : (c : Call) → IsSpecial c → is_exit c ≡ false → concludes_ended (call_effect inside p c me S).conclusion ≡ false
+  special_goes (call.Fork child) h other = goes_concludes _ (Mild.fork_mild p child.0 me S).goes_on
+  special_goes (call.Exit status) h other = cc
+  special_goes (call.Waitpid t nohang) h other = goes_concludes _ (Mild.waitpid_mild p t nohang me S).goes_on
+  special_goes (call.Kill t signo) h other = signal_goes (numbered S.width t) (sendable signo) (pos 0)
+  special_goes (call.Sigqueue t signo value) h other = signal_goes (numbered S.width t) (sendable signo) value
+  special_goes c h other = absurd h
+
+  -- no call but an exit ends its process
+  call_goes : (c : Call) → is_exit c ≡ false → concludes_ended (call_effect inside p c me S).conclusion ≡ false
+  call_goes c other = elim (call_plain S p me inside c) [
+    | inl special ↦ special_goes c special other
+    | inr plain ↦ plain.goes_on
+  ]
+
+  -- a signal that is no longer pending ends its process where it kills
+  acts_end : (signo : ℕ) (value : ℤ) (what : Disposition) (now : Process) → concludes_ended (acts_on inside p signo value what now S).conclusion ≡ kills what
+  acts_end signo value Ignored now = refl
+  acts_end signo value Fatal now = refl
+  acts_end signo value (Caught point mask) now = by (is_full now)
+    where
+      by : (b : Bool) → concludes_ended (if b then idle FramesFull else own_effect p (record { process = caught signo value point mask now; reply = Done value })).conclusion ≡ false
+      by true = refl
+      by false = refl
+
+  delivers_end : (signo : ℕ) (value : Option ℤ) → concludes_ended (delivers inside p signo me value S).conclusion ≡ ends_by inside signo me value
+  delivers_end signo None = refl
+  delivers_end signo (Some value) = by (is_deferred inside signo)
+    where
+      what : Disposition
+      what = disposition signo (action_at signo me)
+
+      by : (b : Bool) → concludes_ended (if b then idle Deferred else acts_on inside p signo value what (relieved signo me) S).conclusion ≡ (if b then false else kills what)
+      by true = refl
+      by false = acts_end signo value what (relieved signo me)
+
+-- a call of a process that may not run, or may not be there
+call_at_goes : (inside : Option Inside) (p : ℕ) (c : Call) (S : State) → is_exit c ≡ false → (x : Option Process) → concludes_ended (effect_at inside p (MakesCall c) S x).conclusion ≡ false
+call_at_goes inside p c S other None = refl
+call_at_goes inside p c S other (Some me) = by me.status
+  where
+    by : (status : Option ℕ) → concludes_ended (running_effect inside p (MakesCall c) S me status).conclusion ≡ false
+    by None = call_goes inside p me S c other
+    by (Some n) = refl
+
+-- the replies
+pub other_calls_say : OtherCallsSayNoEnd
+unfolding effect
+other_calls_say S pid c inside other = reply_ends (Do (Calls pid c) inside) S ∙ call_at_goes inside pid.0 c S other (S.procs pid.0)
+
+pub deliveries_say : DeliveriesSayEnd
+unfolding effect
+deliveries_say S pid signo inside me here runs =
+    reply_ends (Do (Deliver pid signo) inside) S
+    ∙ ap (λ (x : Option Process). concludes_ended (effect_at inside pid.0 (TakesSignal signo.0) S x).conclusion) here
+    ∙ ap (λ (status : Option ℕ). concludes_ended (running_effect inside pid.0 (TakesSignal signo.0) S me status).conclusion) runs
+    ∙ delivers_end inside pid.0 me S signo.0 (delivered_value signo.0 me)
+
+pub exits_say : ExitsSayEnd
+unfolding effect
+exits_say S pid status inside me here runs =
+    reply_ends (Do (Calls pid (call.Exit status)) inside) S
+    ∙ ap (λ (x : Option Process). concludes_ended (effect_at inside pid.0 (MakesCall (call.Exit status)) S x).conclusion) here
+    ∙ ap (λ (n : Option ℕ). concludes_ended (running_effect inside pid.0 (MakesCall (call.Exit status)) S me n).conclusion) runs
+    ∙ by (pid.0 == 1)
+  where
+    by : (b : Bool) → concludes_ended (if b then done pid.0 (failing NotPermitted) me else ending inside pid.0 (exit_status status) me S).conclusion ≡ not b
+    by true = refl
+    by false = refl
+
+note_says : (p : ℕ) (r : ℤ) (S : State) → says_ended (reply_of (Note p r) S) ≡ false
+unfolding reply_of effect
+note_says p r S = refl
+
+-- the first reply to a call that says of no end where its step is made as it is
+kind_says : (t : Table) (p : ℕ) (step : Step) (S : State) (k : Kind) (mark : Option Mark) → says_ended (reply_of (Do step (inside_by t mark)) S) ≡ false
+    → says_ended (reply_of (kind_event t p step k mark) S) ≡ false
+kind_says t p step S Ordinary mark h = h
+kind_says t p step S (Forking c) mark h = h
+kind_says t p step S (Beginning defers) None h = note_says p (pos 0) S
+kind_says t p step S (Beginning defers) (Some m) h = note_says p (negsuc 21) S
+kind_says t p step S Leaving None h = note_says p (negsuc 21) S
+kind_says t p step S Leaving (Some m) h = note_says p (pos 0) S
+kind_says t p step S Aborting None h = note_says p (negsuc 21) S
+kind_says t p step S Aborting (Some m) h = note_says m.starter.0 _ S
+
+end_says : (ends : Bool) → says_ended (end_reply ends) ≡ ends
+end_says true = refl
+end_says false = refl
+
+-- of a reply, a role asks for nothing but whether the process ended
+same_role : (t : Table) (p : ℕ) (k : Kind) (mark : Option Mark) (a b : Reply) → says_ended a ≡ says_ended b → kind_role t p k a mark ≡ kind_role t p k b mark
+same_role t p Ordinary None a b h = refl
+same_role t p Ordinary (Some m) a b h = ap (λ (ends : Bool). ordinary_role ends t m.starter.0 p) h
+same_role t p (Forking c) None a b h = refl
+same_role t p (Forking c) (Some m) a b h = refl
+same_role t p (Beginning defers) None a b h = refl
+same_role t p (Beginning defers) (Some m) a b h = refl
+same_role t p Leaving None a b h = refl
+same_role t p Leaving (Some m) a b h = refl
+same_role t p Aborting None a b h = refl
+same_role t p Aborting (Some m) a b h = refl
+
+told_by : (V : View) (p : ℕ) (step : Step) (k : Kind) (a : Reply) (ends : Bool) → says_ended a ≡ ends
+    → (kind_role V.table p k (end_reply ends) (V.table.marks p) ≡ kind_role V.table p k a (V.table.marks p))
+    × (event_in (kind_role V.table p k (end_reply ends) (V.table.marks p)) (kind_event V.table p step k (V.table.marks p))
+    ≡ event_in (kind_role V.table p k a (V.table.marks p)) (kind_event V.table p step k (V.table.marks p)))
+told_by V p step k a ends h =
+    let same : kind_role V.table p k (end_reply ends) (V.table.marks p) ≡ kind_role V.table p k a (V.table.marks p) =
+    same_role V.table p k (V.table.marks p) (end_reply ends) a (end_says ends ∙ sym h)
+    in
+    (same, ap (λ (r : Role). event_in r (kind_event V.table p step k (V.table.marks p))) same)
+
+pub step_told : StepIsToldByEnd
+step_told V (Calls pid c) ends asked h = told_by V pid.0 (Calls pid c) (kind_of c) (first_reply V (Calls pid c)) ends h
+step_told V (Deliver pid signo) ends asked h = told_by V pid.0 (Deliver pid signo) Ordinary (first_reply V (Deliver pid signo)) ends h
+step_told V (KernelAbort s) ends asked h = cc
+
+pub other_call_told : OtherCallIsTold
+other_call_told V pid c other =
+    step_told V (Calls pid c) false refl
+    (kind_says V.table pid.0 (Calls pid c) (present V) (kind_of c) (V.table.marks pid.0) (other_calls_say (present V) pid c (inside_by V.table (V.table.marks pid.0)) other))
+
+pub delivery_told : DeliveryIsTold
+delivery_told V pid signo me here runs =
+    step_told V (Deliver pid signo) _ refl (deliveries_say (present V) pid signo (inside_by V.table (V.table.marks pid.0)) me here runs)
+
+pub exit_told : ExitIsTold
+exit_told V pid status me here runs =
+    step_told V (Calls pid (call.Exit status)) (not (pid.0 == 1)) refl (exits_say (present V) pid status (inside_by V.table (V.table.marks pid.0)) me here runs)

@@ -1,0 +1,187 @@
+-- Posts of what a transaction held, one after another.
+use Rattle.std.proofs.Common.{◌≡◌, ℕ, zero, suc, ℤ, ◌+◌, ◌≤◌, ◌<◌, arith, append_assoc, drop, take, slice_index_or, slice_set, if◌then◌else◌, Bool, true, false, List, [], ◌∷◌, ◌++◌, length, map, Option, Some, None, option_map, refl, sym, ap, subst, ◌∙◌}
+use Rattle.std.proofs.lemmas.List.{drop_all, drop_more, take_all, take_more_set}
+use Rattle.std.specs.Prelude.{IfSome}
+use Rattle.tx_base.specs.Slots.{slot_at}
+use Rattle.tx_base.specs.declared.names.Sending.{Sending}
+use Rattle.tx_change.specs.Counts.{CountsAgree}
+use Rattle.tx_change.specs.Laws.{HaveAllPlaces}
+use Rattle.tx_change.specs.Exchange.{object_of, sizes_of, undone, Sizes, AreNamed, AreWithin}
+use Rattle.tx_change.specs.States.{state_of}
+use Rattle.tx_change.specs.declared.change.Change.{Change}
+use Rattle.tx_change.specs.declared.parts.Parts.{Parts}
+use Rattle.tx_kernel.specs.Plans.{sending_of, AreAmong}
+use Rattle.tx_kernel.specs.Posts.{listed_change}
+use Rattle.tx_live.specs.HeldPosts.{HaveSignals, PostsAll}
+use Rattle.tx_live.specs.Inverses.{kept_post, post_changes, unposted_in, HasStarter}
+use Rattle.tx_live.specs.Laws.{LiveLaws}
+use Rattle.tx_live.specs.Made.{posted_at, PostsKept}
+use Rattle.tx_live.specs.declared.content.BoxedTxn.{BoxedTxn}
+use Rattle.tx_live.specs.declared.kept_posts.KeptPost.{KeptPost}
+use Rattle.tx_model.specs.History.{processes_of}
+use Rattle.tx_model.specs.Posts.{answers, post, post_answer, posts}
+use Rattle.tx_model.specs.State.{Object, Proc, Sending as TheSending, has, same_object}
+use Rattle.tx_signal.specs.Parts.{answer_of}
+use Rattle.tx_txn.specs.Faces.{pending_by}
+use Rattle.tx_txn.specs.declared.outbox.HeldPost.{HeldPost}
+
+-- changes of the first objects, or of more, are of all of them
+pub among_front : (os more : List Object) (changes : List Change) → AreAmong os changes → AreAmong (os ++ more) changes
+unfolding has
+among_front os more [] among = tt
+among_front os more (change ∷ changes) among = (by os among.0, among_front os more changes among.1)
+  where
+    by : (os : List Object) → has (object_of change) os ≡ true → has (object_of change) (os ++ more) ≡ true
+    by [] h = cc
+    by (o ∷ os) h = either (same_object (object_of change) o) (by os) h
+      where
+        either : (b : Bool) → (has (object_of change) os ≡ true → has (object_of change) (os ++ more) ≡ true) → (if b then true else has (object_of change) os) ≡ true →
+            (if b then true else has (object_of change) (os ++ more)) ≡ true
+        either true rest e = refl
+        either false rest e = rest e
+
+pub among_behind : (os more : List Object) (changes : List Change) → AreAmong more changes → AreAmong (os ++ more) changes
+unfolding has
+among_behind os more [] among = tt
+among_behind os more (change ∷ changes) among = (by os, among_behind os more changes among.1)
+  where
+    by : (os : List Object) → has (object_of change) (os ++ more) ≡ true
+    by [] = among.0
+    by (o ∷ os) = either (same_object (object_of change) o) (by os)
+      where
+        either : (b : Bool) → has (object_of change) (os ++ more) ≡ true → (if b then true else has (object_of change) (os ++ more)) ≡ true
+        either true rest = refl
+        either false rest = rest
+
+pub among_both : (os : List Object) (front behind : List Change) → AreAmong os front → AreAmong os behind → AreAmong os (front ++ behind)
+among_both os [] behind first last = last
+among_both os (change ∷ front) behind first last = (first.0, among_both os front behind first.1 last)
+
+-- nothing is posted
+pub posts_none : (parts : Parts) (txns : List (Option BoxedTxn)) → PostsAll parts parts txns txns [] []
+unfolding posts answers pending_by
+posts_none parts txns = record {
+  long = refl;
+  state = λ held. refl;
+  answered = λ held. refl;
+  back = refl;
+  named = tt;
+  among = tt;
+  counts = λ h. h;
+  places = λ h. h;
+  kept = record { width = refl; each = λ n. at n (slot_at txns n) };
+  unkept = refl;
+  starters = tt;
+}
+  where
+    at : (n : ℕ) (slot : Option BoxedTxn) → slot ≡ option_map (posted_at n []) slot
+    at n None = refl
+    at n (Some boxed) = refl
+
+-- the first one is posted, and then the others
+pub posts_next : LiveLaws → (before middle after : Parts) (old between new : List (Option BoxedTxn)) (m : Sending) (ms : List Sending) (one : HeldPost) (rest : List HeldPost) →
+    PostsAll before middle old between (m ∷ []) (one ∷ []) → PostsAll middle after between new ms rest → PostsAll before after old new (m ∷ ms) (one ∷ rest)
+unfolding posts answers pending_by
+posts_next laws before middle after old between new m ms one rest first last = record {
+  long = ap suc last.long;
+  state = λ held. last.state held ∙ ap (posts (map sending_of ms)) (first.state held);
+  answered = λ held. λ j. heads (first.answered held) j ∷ (last.answered held ∙ ap (answers (map sending_of ms)) (first.state held)) j;
+  back = laws.undone after (listed_change one.change) (post_changes rest) ∙ ap (λ (P : Parts). undone P (listed_change one.change)) last.back ∙ ap (undone middle) (sym (no_more (listed_change one.change))) ∙ first.back;
+  named = laws.named after (listed_change one.change) (post_changes rest)
+      (subst (λ (z : Sizes). AreWithin z (listed_change one.change)) (ap sizes_of (sym last.back) ∙ laws.sizes_back after (post_changes rest)) (subst (AreNamed middle) (no_more (listed_change one.change)) first.named)) last.named;
+  among = among_both (Proc m.target.0 ∷ processes_of (map sending_of ms)) (listed_change one.change) (post_changes rest)
+      (among_front (Proc m.target.0 ∷ []) (processes_of (map sending_of ms)) (listed_change one.change) (subst (AreAmong (Proc m.target.0 ∷ [])) (no_more (listed_change one.change)) first.among))
+      (among_behind (Proc m.target.0 ∷ []) (processes_of (map sending_of ms)) (post_changes rest) last.among);
+  counts = λ h. last.counts (first.counts h);
+  places = λ h. last.places (first.places h);
+  kept = record {
+    width = last.kept.width ∙ first.kept.width;
+    each = λ n. last.kept.each n ∙ ap (option_map (posted_at n (map sending_of ms))) (first.kept.each n) ∙ twice n (slot_at old n);
+  };
+  unkept = ap (unposted_in (kept_post m one.kept)) last.unkept ∙ first.unkept;
+  starters = (starter (kept_post m one.kept) first.starters.0, last.starters);
+}
+  where
+    no_more : {A : Type 0} (xs : List A) → xs ++ [] ≡ xs
+    no_more [] = refl
+    no_more (x ∷ xs) = ap (λ ys. x ∷ ys) (no_more xs)
+
+    heads : {x y : ℤ} → x ∷ [] ≡ y ∷ [] → x ≡ y
+    heads {x} e = ap of e
+      where
+        of : List ℤ → ℤ
+        of [] = x
+        of (z ∷ zs) = z
+
+    twice : (n : ℕ) (slot : Option BoxedTxn) → option_map (posted_at n (map sending_of ms)) (option_map (posted_at n (sending_of m ∷ [])) slot) ≡ option_map (posted_at n (sending_of m ∷ map sending_of ms)) slot
+    twice n None = refl
+    twice n (Some boxed) = refl
+
+    starter : (post : Option KeptPost) → HasStarter between post → HasStarter new post
+    starter None h = tt
+    starter (Some post) h = (h.0, subst (λ (k : ℕ). post.starter.0 ≤ k) (sym last.kept.width) h.1)
+
+-- each signal's number is below 64
+pub signal_at : (ms : List Sending) (i : ℕ) (d : Sending) → i < length ms → HaveSignals (map sending_of ms) → (slice_index_or ms i d).signo.0 < 64
+signal_at [] i d few all = let never : ⊥ = omega (arith, few) in absurd never
+signal_at (m ∷ ms) zero d few all = all.0
+signal_at (m ∷ ms) (suc i) d few all = signal_at ms i d (omega (arith, few)) all.1
+
+-- what takes a post to what is kept back, from its target and the rest
+target_same : (m : Sending) (post : Option KeptPost) → IfSome post (λ post. post.starter ≡ m.target) → kept_post m (option_map (λ post. post.unpost) post) ≡ post
+target_same m None is = refl
+target_same m (Some post) is = λ j. Some (record { starter = sym is j; unpost = post.unpost })
+
+-- one is posted
+pub posts_one : (before after : Parts) (old new : List (Option BoxedTxn)) (m : Sending) (made : HeldPost) (kept : Option KeptPost) →
+    ((held : ℕ → List TheSending) → answer_of made.answer ≡ post_answer (sending_of m) ((state_of held before).procs m.target.0)) →
+    ((held : ℕ → List TheSending) → state_of held after ≡ post (sending_of m) (state_of held before)) →
+    undone after (listed_change made.change) ≡ before → AreNamed after (listed_change made.change) → AreAmong (Proc m.target.0 ∷ []) (listed_change made.change) →
+    (CountsAgree before → CountsAgree after) → (HaveAllPlaces before → HaveAllPlaces after) →
+    PostsKept old new (sending_of m ∷ []) → unposted_in kept new ≡ old → HasStarter new kept → IfSome kept (λ post. post.starter ≡ m.target) → made.kept ≡ option_map (λ post. post.unpost) kept →
+    PostsAll before after old new (m ∷ []) (made ∷ [])
+unfolding posts answers
+posts_one before after old new m made kept answer state back named among counts places posted unpost starter target is = record {
+  long = refl;
+  state = state;
+  answered = λ held. ap (λ (r : ℤ). r ∷ []) (answer held);
+  back = ap (undone after) (no_more (listed_change made.change)) ∙ back;
+  named = subst (AreNamed after) (sym (no_more (listed_change made.change))) named;
+  among = subst (AreAmong (Proc m.target.0 ∷ [])) (sym (no_more (listed_change made.change))) among;
+  counts = counts;
+  places = places;
+  kept = posted;
+  unkept = ap (λ (k : Option KeptPost). unposted_in k new) same ∙ unpost;
+  starters = (subst (HasStarter new) (sym same) starter, tt);
+}
+  where
+    no_more : {A : Type 0} (xs : List A) → xs ++ [] ≡ xs
+    no_more [] = refl
+    no_more (x ∷ xs) = ap (λ ys. x ∷ ys) (no_more xs)
+
+    same : kept_post m made.kept ≡ kept
+    same = ap (kept_post m) is ∙ target_same m kept target
+
+-- what is left to post, if all but the first few are posted
+abbrev pub Ahead : Parts → List (Option BoxedTxn) → List Sending → List HeldPost → ℕ → Parts → List (Option BoxedTxn) → Type 0
+Ahead before old sendings posts place now txns =
+    (after : Parts) (new : List (Option BoxedTxn)) (rest : List HeldPost) → PostsAll now after txns new (drop place sendings) rest → PostsAll before after old new sendings (take place posts ++ rest)
+
+pub posts_ahead : LiveLaws → (before now next : Parts) (old txns others : List (Option BoxedTxn)) (sendings : List Sending) (posts : List HeldPost) (place : ℕ) (d : Sending) (made : HeldPost) →
+    place < length sendings → length posts ≡ length sendings → Ahead before old sendings posts place now txns → PostsAll now next txns others (slice_index_or sendings place d ∷ []) (made ∷ []) →
+    Ahead before old sendings (slice_set posts place made) (place + 1) next others
+posts_ahead laws before now next old txns others sendings posts place d made few long ahead one after new rest all =
+    subst (PostsAll before after old new sendings)
+    (sym (ap (λ (ps : List HeldPost). ps ++ rest) (take_more_set posts place made (subst (λ (n : ℕ). place < n) (sym long) few)) ∙ append_assoc (take place posts) (made ∷ []) rest))
+    (ahead after new (made ∷ rest) (subst (λ (ms : List Sending). PostsAll now after txns new ms (made ∷ rest)) (sym (drop_more sendings place d few))
+    (posts_next laws now next after txns others new (slice_index_or sendings place d) (drop (place + 1) sendings) made rest one all)))
+
+pub posts_over : (before now : Parts) (old txns : List (Option BoxedTxn)) (sendings : List Sending) (posts : List HeldPost) (place : ℕ) → length sendings ≤ place → length posts ≡ length sendings →
+    Ahead before old sendings posts place now txns → PostsAll before now old txns sendings posts
+posts_over before now old txns sendings posts place all long ahead =
+    subst (PostsAll before now old txns sendings) (no_more (take place posts) ∙ take_all place posts (subst (λ (n : ℕ). n ≤ place) (sym long) all))
+    (ahead now txns [] (subst (λ (ms : List Sending). PostsAll now now txns txns ms []) (sym (drop_all place sendings all)) (posts_none now txns)))
+  where
+    no_more : (xs : List HeldPost) → xs ++ [] ≡ xs
+    no_more [] = refl
+    no_more (x ∷ xs) = ap (λ (ys : List HeldPost). x ∷ ys) (no_more xs)

@@ -1,0 +1,186 @@
+//! The undo of a step, by its inverse.
+ghost use Rattle.std.specs.Prelude.{◌≡◌, ◌≤◌, ◌&&◌, not, length, Some, None, if◌then◌else◌};
+ghost use Rattle.tx_change.specs.Exchange.{applied, undone, AreNamed};
+ghost use Rattle.tx_live.specs.Aborts.{forth_parts, forth_txn};
+ghost use Rattle.tx_live.specs.Inverses.{before_outside, first_of, last_of, less_last, remarked, step_back, GoesWith, HasMark, Undoes};
+ghost use Rattle.tx_live.specs.declared.content.Content.{Content};
+ghost use Rattle.tx_live.specs.declared.inverse.Inverse.TheVariants.{Aborted, Begun, Committed, Inside, Outside};
+ghost use Rattle.tx_model.specs.State.{Object};
+ghost use Rattle.tx_reserve.specs.Objects.{is_in};
+ghost use Rattle.tx_reserve.specs.Reservations.{owner_of};
+
+use crate::aborts::stand;
+use crate::content::{BoxedTxn, Content};
+use crate::held_posts::take_posts;
+use crate::inverse::Inverse;
+use crate::kept_posts::{KeptPost, take_post};
+use crate::laws::laws;
+use crate::marking::Marked;
+use tx_base::{Mark, Pid, Slots};
+use tx_change::{Log, Parts};
+use tx_proc::Answer;
+use tx_reserve::{Objects, Reservations};
+use tx_txn::Txn;
+
+impl Content {
+    /// Takes the step back whose inverse this is, on the content as that step left it. It takes no memory
+    /// and is never refused.
+    pub fn undo(&mut self, inverse: Inverse)
+        requires { GoesWith self.old inverse }
+        ensures { (before : Content) → Undoes self.old inverse before → self.new ≡ before }
+    {
+        match inverse {
+            Inverse::Outside { log, post } => self.undo_outside(log, post),
+            Inverse::Inside {
+                starter,
+                count,
+                before,
+                marked,
+                held,
+            } => self.undo_inside(starter, count, before, marked, held),
+            Inverse::Begun { starter } => self.undo_begun(starter),
+            Inverse::Committed { boxed, count, held } => self.undo_committed(boxed, count, held),
+            Inverse::Aborted { boxed, stood } => self.undo_aborted(boxed, stood),
+        }
+    }
+
+    /// Takes a step outside of transactions back.
+    fn undo_outside(&mut self, log: Log, post: Option<KeptPost>)
+        requires { GoesWith self.old (Outside log post) }
+        ensures { self.new ≡ before_outside self.old log post }
+    {
+        let mut log = log;
+        log.lead_back(&mut self.parts);
+        if let Some(post) = post {
+            take_post(&mut self.txns, post);
+        }
+    }
+
+    /// Takes a step inside of the starter's transaction back.
+    fn undo_inside(
+        &mut self,
+        starter: Pid,
+        count: usize,
+        before: Objects,
+        marked: Option<Marked>,
+        held: bool,
+    )
+        requires { GoesWith self.old (Inside starter count before marked held) }
+        ensures { (prior : Content) → Undoes self.old (Inside starter count before marked held) prior → self.new ≡ prior }
+    {
+        laws();
+        let mut boxed = self.txns.take(starter).unwrap();
+        take_step(
+            &mut boxed.txn,
+            &mut self.parts,
+            &mut self.owners,
+            count,
+            before,
+            held,
+        );
+        self.txns.put(starter, boxed);
+        put_mark(&mut self.marks, marked);
+    }
+
+    /// Takes the first step of the starter's transaction back, and lets the transaction go.
+    fn undo_begun(&mut self, starter: Pid)
+        requires { GoesWith self.old (Begun starter) }
+        ensures { (prior : Content) → Undoes self.old (Begun starter) prior → self.new ≡ prior }
+    {
+        laws();
+        let mut boxed = self.txns.take(starter).unwrap();
+        boxed.txn.log.lead_back(&mut self.parts);
+        self.owners.release(&boxed.txn.objects);
+        self.owners.sized();
+        let _mark = self.marks.take(starter);
+    }
+
+    /// Takes the commit of this transaction back.
+    fn undo_committed(&mut self, boxed: BoxedTxn, count: usize, held: bool)
+        requires { GoesWith self.old (Committed boxed count held) }
+        ensures { (prior : Content) → Undoes self.old (Committed boxed count held) prior → self.new ≡ prior }
+    {
+        laws();
+        let mut boxed = boxed;
+        let starter = boxed.txn.starter;
+        take_posts(&mut self.parts, &mut self.txns, &mut boxed.txn.outbox);
+        take_last(&mut boxed.txn, &mut self.parts, count, held);
+        boxed.txn.revive(&mut self.marks, &mut self.owners);
+        self.owners.sized();
+        self.txns.put(starter, boxed);
+    }
+
+    /// Takes the abort of this transaction back.
+    fn undo_aborted(&mut self, boxed: BoxedTxn, stood: Answer)
+        requires { GoesWith self.old (Aborted boxed stood) }
+        ensures { (prior : Content) → Undoes self.old (Aborted boxed stood) prior → self.new ≡ prior }
+    {
+        laws();
+        let mut boxed = boxed;
+        let starter = boxed.txn.starter;
+        lead_on(&mut boxed.txn, &mut self.parts, stood);
+        boxed.txn.revive(&mut self.marks, &mut self.owners);
+        self.owners.sized();
+        self.txns.put(starter, boxed);
+    }
+}
+
+/// Takes the last step of a member back: so many of the log's last changes, what it handed out if it
+/// did, and what it reserved that was not reserved before.
+fn take_step(
+    txn: &mut Txn,
+    parts: &mut Parts,
+    owners: &mut Reservations,
+    count: usize,
+    before: Objects,
+    held: bool,
+)
+    requires few { count ≤ length txn.old.log }
+    requires named { AreNamed parts.old txn.old.log }
+    ensures parts { parts.new ≡ undone parts.old (last_of count txn.old.log) }
+    ensures owners { (o : Object) → owner_of owners.new o ≡ (if is_in txn.old.objects o && not (is_in before o) then None else owner_of owners.old o) }
+    ensures sized { length owners.new ≡ 352 }
+    ensures txn { txn.new ≡ step_back count before held txn.old }
+{
+    take_last(txn, parts, count, held);
+    txn.give_up(owners, before);
+    owners.sized();
+}
+
+/// Takes the last step of a transaction back: so many of the log's last changes, and what it handed out
+/// if it did.
+fn take_last(txn: &mut Txn, parts: &mut Parts, count: usize, held: bool)
+    requires few { count ≤ length txn.old.log }
+    requires named { AreNamed parts.old txn.old.log }
+    ensures parts { parts.new ≡ undone parts.old (last_of count txn.old.log) }
+    ensures txn { txn.new ≡ record txn.old { log = first_of count txn.old.log; outbox = less_last held txn.old.outbox } }
+{
+    txn.log.give_back(parts, count);
+    if held {
+        txn.outbox.forget_last();
+    }
+}
+
+/// Puts a mark back that a step changed, if it changed one.
+fn put_mark(marks: &mut Slots<Mark>, marked: Option<Marked>)
+    requires { HasMark marks.old marked }
+    ensures { marks.new ≡ remarked marked marks.old }
+{
+    if let Some(marked) = marked {
+        let mut mark = marked.mark;
+        marks.swap(marked.pid, &mut mark);
+    }
+}
+
+/// Makes all again that an abort led back: its starter stands as it did, and all changes of its log
+/// are made.
+fn lead_on(txn: &mut Txn, parts: &mut Parts, stood: Answer)
+    requires low { 1 ≤ txn.old.starter.0 }
+    requires high { txn.old.starter.0 ≤ length parts.old.procs }
+    requires named { AreNamed parts.old txn.old.log }
+    ensures parts { parts.new ≡ applied (forth_parts parts.old txn.old stood) txn.old.log }
+    ensures txn { txn.new ≡ forth_txn parts.old txn.old stood }
+{
+    stand(parts, txn.starter, stood);
+    txn.lead_forward(parts);
+}
