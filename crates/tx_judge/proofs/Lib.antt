@@ -1,6 +1,14 @@
+pub mod WholeContents
 pub mod Refusals
 pub mod TwoFaces
 pub mod Leasts
 pub mod MetObjects
 pub mod InWay
 pub mod RolesTold
+pub mod StepEvents
+pub mod StepSends
+pub mod StepFootprints
+pub mod LastHeld
+pub mod OwnActors
+pub mod AbortWays
+pub mod WaysTold

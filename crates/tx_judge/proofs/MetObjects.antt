@@ -19,7 +19,7 @@ same_self (Desc n) = eq-eqb n n refl
 same_self (Pipe n) = eq-eqb n n refl
 same_self (Held n) = eq-eqb n n refl
 
-same_is : (o x : Object) → same_object o x ≡ true → o ≡ x
+pub same_is : (o x : Object) → same_object o x ≡ true → o ≡ x
 same_is (Proc n) (Proc m) h = ap Proc (eqb-true n m h)
 same_is (Proc n) (Desc m) h = cc
 same_is (Proc n) (Pipe m) h = cc

@@ -97,7 +97,7 @@ as_ruled (Some me) S p why refused = by me.status refused
     by (Some ended) e = ap Some (idle_why NotRunning why e)
 
 -- a number of the table
-between : (width n : ℕ) → 1 ≤ n → n ≤ width → is_between width n ≡ true
+pub between : (width n : ℕ) → 1 ≤ n → n ≤ width → is_between width n ≡ true
 between width zero low high = absurd (omega arith)
 between width (suc n) low high = lt-ltb n width (omega arith)
 

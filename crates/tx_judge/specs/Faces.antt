@@ -5,6 +5,7 @@ use Rattle.tx_cred.specs.Cred.{ids_of}
 use Rattle.tx_judge.specs.declared.faces.Faces.{Faces}
 use Rattle.tx_kernel.specs.Plans.{sending_of, sent_at_once}
 use Rattle.tx_kernel.specs.declared.planned.Sends.{Sends}
+use Rattle.tx_kernel.specs.declared.planned.Sends.TheVariants.{Nothing, AtOnce, AtCommit}
 use Rattle.tx_kernel.specs.declared.posts.Face.{Face}
 use Rattle.tx_model.specs.State.{Process, Sending as TheSending}
 use Rattle.tx_txn.specs.Faces.{Face as TheFace, face_of, faces_differ, pending_in, queued_after, running}
@@ -23,9 +24,15 @@ queued_at (Some face) = face.queued
 abbrev pub posted_to : TheSending → Face → Face
 posted_to m face = record face { queued = queued_after m (Some (face_as face)) face.queued }
 
--- what a step sends at once, and then what is held
+-- what a step itself hands out to be held
+abbrev pub sent_at_commit : Sends → List TheSending
+sent_at_commit Nothing = []
+sent_at_commit (AtOnce m) = []
+sent_at_commit (AtCommit m) = sending_of m ∷ []
+
+-- what a step sends at once, then what is held, and last what it hands out itself
 abbrev pub sent : Sends → List Sending → List TheSending
-sent first held = sent_at_once first ++ map sending_of held
+sent first held = sent_at_once first ++ (map sending_of held ++ sent_at_commit first)
 
 -- whether one of these sends to s is answered otherwise now than after an abort
 abbrev pub differ : ℕ → List TheSending → Faces → Bool

@@ -1,7 +1,17 @@
--- The laws that early refusals stand on.
+-- The laws that early refusals and ways stand on.
+use Rattle.tx_laws.specs.Footprints.{FootprintIsOfEvent}
+use Rattle.tx_laws.specs.LawsOfEvents.{HoldsForItsOwn}
 use Rattle.tx_laws.specs.LawsOfParts.{PresentIsNow}
+use Rattle.tx_reserve.specs.Laws.{FootprintIsWithin, WithinIsSmall}
 use Rattle.tx_txn.specs.Laws.{DoomIsPending}
 
 pub record JudgeLaws : Type 0 where
   pub present : PresentIsNow
   pub doom : DoomIsPending
+
+pub record WayLaws : Type 0 where
+  pub present : PresentIsNow
+  pub of_event : FootprintIsOfEvent
+  pub own : HoldsForItsOwn
+  pub within : FootprintIsWithin
+  pub small : WithinIsSmall

@@ -1,5 +1,7 @@
 pub mod Early
 pub mod Laws
+pub mod Contents
 pub mod Faces
 pub mod Holder
 pub mod Roles
+pub mod Ways

@@ -1,5 +1,5 @@
 //! How sends to the starter of a live transaction are answered, now and after its abort.
-ghost use Rattle.std.specs.Prelude.{◌≡◌, ◌∷◌, List, Some, true, if◌then◌else◌, length, map, option_map};
+ghost use Rattle.std.specs.Prelude.{◌≡◌, ◌∷◌, ◌++◌, List, Some, true, if◌then◌else◌, length, map, option_map};
 ghost use Rattle.tx_base.specs.Slots.{slot_at};
 ghost use Rattle.tx_judge.specs.Faces.{differ, face_as, posted_to, queued_at, sent, starter_differs};
 ghost use Rattle.tx_kernel.specs.Plans.{sending_of};
@@ -36,27 +36,24 @@ impl Faces {
     }
 
     /// Whether one of these sends to the process is answered otherwise now than after an abort, where
-    /// each is posted in turn: what is sent at once first, then what is held.
+    /// each is posted in turn: what is sent at once first, then what is held, and last what is handed out.
     pub fn differ(self, pid: Pid, first: &Sends, held: &[Sending]) -> bool
         ensures { result ≡ differ pid.0 (sent first.now held.now) self }
     {
+        let mut faces = self;
         match first {
-            Sends::Nothing => self.differ_at_held(pid, held),
-            Sends::AtOnce(sending) => {
-                let mut faces = self;
-                faces.post(pid, sending) || faces.differ_at_held(pid, held)
-            }
-            Sends::AtCommit(_) => self.differ_at_held(pid, held),
+            Sends::Nothing => faces.post_all(pid, held),
+            Sends::AtOnce(sending) => faces.post(pid, sending) || faces.post_all(pid, held),
+            Sends::AtCommit(sending) => faces.post_all(pid, held) || faces.post(pid, sending),
         }
     }
 
-    /// Whether one of these that are held is.
-    fn differ_at_held(self, pid: Pid, held: &[Sending]) -> bool
-        ensures { result ≡ differ pid.0 (map sending_of held.now) self }
+    /// Posts these that are held to both. Whether one is answered otherwise at the one than at the other.
+    fn post_all(&mut self, pid: Pid, held: &[Sending]) -> bool
+        ensures { (ms : List TheSending) → differ pid.0 (map sending_of held.now ++ ms) self.old ≡ (if result then true else differ pid.0 ms self.new) }
     {
-        let mut faces = self;
         for place in 0..held.len() {
-            if faces.post(pid, &held[place]) {
+            if self.post(pid, &held[place]) {
                 return true;
             }
         }

@@ -21,7 +21,8 @@ use tx_txn::answers_of_faces;
 /// transaction, of which the process of the step is a member, is never in the way. Nothing where none
 /// is. It takes no memory.
 ///
-/// The step sends the first signal at once, and then what is held, where it commits.
+/// The step sends the first signal at once, and then what is held, where it commits; what it hands out
+/// itself comes last.
 pub fn find_holder(
     content: &Content,
     own: Option<Pid>,
@@ -52,7 +53,13 @@ fn least_target(content: &Content, own: Option<Pid>, first: &Sends, held: &[Send
     for place in 0..held.len() {
         least = lesser(least, target(content, own, held[place].target, first, held));
     }
-    least
+    match first {
+        Sends::AtCommit(sending) => lesser(
+            least,
+            target(content, own, sending.target, first, held),
+        ),
+        _ => least,
+    }
 }
 
 /// The target of a send, if it is such a starter.

@@ -1,8 +1,11 @@
-//! The laws that early refusals stand on, and how they stand to all refusals.
+//! The laws that early refusals stand on, and how they stand to all refusals; and that contents are whole.
+ghost use Rattle.tx_judge.specs.Contents.{ContentsAreWhole};
 ghost use Rattle.tx_judge.specs.Early.{RefusalIsEarly};
-ghost use Rattle.tx_judge.specs.Laws.{JudgeLaws};
+ghost use Rattle.tx_judge.specs.Laws.{JudgeLaws, WayLaws};
 
-use tx_laws::answers_of_parts;
+use tx_kernel::well_formed_are_orderly;
+use tx_laws::{answers_of_parts, footprints, inside};
+use tx_reserve::footprints_are_within;
 use tx_txn::answers_of_faces;
 
 /// The laws on which the proofs of early refusals stand. It does nothing.
@@ -13,8 +16,26 @@ pub(crate) fn laws()
     answers_of_faces();
 }
 
+/// The laws on which the proofs of ways stand. It does nothing.
+pub(crate) fn way_laws()
+    ensures { WayLaws }
+{
+    answers_of_parts();
+    footprints();
+    inside();
+    footprints_are_within();
+}
+
 /// The definitions refuse a step for its first early reason; and where it has none, because somebody is
 /// in its way, or not at all.
 pub fn refusals_are_early()
     ensures { RefusalIsEarly }
 {}
+
+/// The parts of a content that steps lead to are whole.
+pub fn contents_are_whole()
+    ensures { ContentsAreWhole }
+{
+    answers_of_parts();
+    well_formed_are_orderly();
+}

@@ -8,8 +8,10 @@ mod faces;
 mod holder;
 mod laws;
 mod roles;
+mod ways;
 
 pub use early::{early_refusal_of_call, early_refusal_of_delivery};
 pub use holder::find_holder;
-pub use laws::refusals_are_early;
+pub use laws::{contents_are_whole, refusals_are_early};
 pub use roles::{StepRole, role_of_call, role_of_delivery};
+pub use ways::{Way, way_of_call, way_of_delivery};

@@ -1,5 +1,5 @@
 //! What a step of a process that runs is to the transactions.
-ghost use Rattle.std.specs.Prelude.{◌≡◌, ℕ, true, Some, None};
+ghost use Rattle.std.specs.Prelude.{◌≡◌, ℕ, true, not, length, Some, None};
 ghost use Rattle.tx_base.specs.Slots.{slot_at};
 ghost use Rattle.tx_base.specs.declared.steps.Reply.{Reply};
 ghost use Rattle.tx_base.specs.declared.steps.Step.TheVariants.{Call as Calls, Deliver};
@@ -8,7 +8,7 @@ ghost use Rattle.tx_laws.specs.Endings.{end_reply};
 ghost use Rattle.tx_live.specs.Content.{content_of, view_of, IsShaped};
 ghost use Rattle.tx_live.specs.Made.{IsRunning};
 ghost use Rattle.tx_model.specs.Deliveries.{delivered_value, ends_by};
-ghost use Rattle.tx_model.specs.Membership.{Table, inside_by, is_live, kind_of, kind_role, member_end};
+ghost use Rattle.tx_model.specs.Membership.{Table, inside_by, is_live, kind_of, kind_role, member_end, others_open};
 ghost use Rattle.tx_model.specs.View.{role_on};
 ghost use Rattle.tx_proc.specs.Processes.{process_of};
 ghost use Rattle.tx_txn.specs.Content.{IsKept};
@@ -106,12 +106,22 @@ fn member_end(content: &Content, starter: Pid, pid: Pid) -> StepRole
     requires live { is_live (table_at content.now.marks) starter.0 ≡ true }
     ensures { role_as pid.0 result ≡ member_end (table_at content.now.marks) starter.0 pid.0 }
 {
-    let boxed = content.txns.get(starter).unwrap();
-    if is_last_open(&content.marks, starter, pid, &boxed.txn.objects) {
+    if is_last_part(content, starter, pid) {
         StepRole::Commits(starter)
     } else {
         StepRole::Inside(starter, Progress::Parks)
     }
+}
+
+/// Whether no other member's part of a live transaction is open.
+pub(crate) fn is_last_part(content: &Content, starter: Pid, pid: Pid) -> bool
+    requires shaped { IsShaped content.now }
+    requires kept { IsKept (content_of content.now) }
+    requires live { is_live (table_at content.now.marks) starter.0 ≡ true }
+    ensures { result ≡ not (others_open (table_at content.now.marks) starter.0 pid.0 (length content.now.marks)) }
+{
+    let boxed = content.txns.get(starter).unwrap();
+    is_last_open(&content.marks, starter, pid, &boxed.txn.objects)
 }
 
 /// Whether the delivery of a signal now ends this member.

@@ -1,5 +1,5 @@
 //! Why a step is refused, told before it is planned and without memory.
-ghost use Rattle.std.specs.Prelude.{◌≡◌, ℕ, List, false, length, IfNone, IfSome};
+ghost use Rattle.std.specs.Prelude.{◌≡◌, ◌≢◌, ℕ, List, false, length, IfNone, IfSome};
 ghost use Rattle.tx_change.specs.States.{state_of};
 ghost use Rattle.tx_kernel.specs.Actors.{CountsHeld, IsActor, inside_of, me_of};
 ghost use Rattle.tx_kernel.specs.Refusals.{IsMade, TellsWait, lacks_frame, number_refusal};
@@ -30,6 +30,7 @@ impl Actor<'_> {
             call_effect (inside_of self.now.inside) self.now.pid.0 call.now (me_of self.now) (state_of held self.now.parts.now) ≡ idle why) }
         ensures accepted { IfNone result ((held : ℕ → List TheSending) → CountsHeld self.now.inside held →
             IsMade (call_effect (inside_of self.now.inside) self.now.pid.0 call.now (me_of self.now) (state_of held self.now.parts.now))) }
+        ensures memory { IfSome result (λ why. why ≢ Refusal.NoMemory) }
     {
         if self.has_number_in_use(call) {
             return Some(Refusal::NumberTaken);
@@ -67,6 +68,7 @@ impl Actor<'_> {
             delivery_effect (inside_of self.now.inside) self.now.pid.0 signo.0 (me_of self.now) (state_of held self.now.parts.now) ≡ idle why) }
         ensures accepted { IfNone result ((held : ℕ → List TheSending) → CountsHeld self.now.inside held →
             IsMade (delivery_effect (inside_of self.now.inside) self.now.pid.0 signo.0 (me_of self.now) (state_of held self.now.parts.now))) }
+        ensures memory { IfSome result (λ why. why ≢ Refusal.NoMemory) }
     {
         let Some(_value) = self.proc.pending.delivered(signo, self.proc.mask) else {
             return Some(Refusal::NotDeliverable);

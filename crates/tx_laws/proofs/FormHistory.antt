@@ -15,7 +15,7 @@ use Rattle.tx_laws.proofs.KeepsFormEvents as arranged
 use Rattle.tx_laws.proofs.WithinEvents.{IsWithin, after_within, booted_within}
 
 -- a well-formed state by what is arranged in it, and by its limits
-arranged_of : (S : State) → IsWellFormed S → IsArranged S
+pub arranged_of : (S : State) → IsWellFormed S → IsArranged S
 arranged_of S w = record { first = w.first; placed = w.placed; names = w.names; named = w.named; pipes = w.pipes }
 
 within_of : (S : State) → IsWellFormed S → IsWithin S
@@ -29,7 +29,7 @@ pub booted_form : (width count : ℕ) → 1 ≤ count → count ≤ width → Is
 booted_form width count some fits = formed_from (booted width count) (arranged.booted_form width count some fits) (booted_within width count)
 
 pub after_form : (ev : Event) (S : State) → IsWellFormed S → HasGoodNumbers S.width ev → IsWellFormed (after ev S)
-after_form ev S w h = formed_from (after ev S) (arranged.after_form ev S (arranged_of S w) h) (after_within ev S (within_of S w))
+after_form ev S w h = formed_from (after ev S) (arranged.after_form ev S (arranged_of S w) h) (after_within ev S (arranged_of S w) (within_of S w))
 
 table_width : (r : Role) (p : ℕ) (t : Table) → (table_after r p t).width ≡ t.width
 table_width r p t = refl

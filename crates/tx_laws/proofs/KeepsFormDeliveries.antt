@@ -99,7 +99,7 @@ none_delivered signo me pending queued = by (is_blocked signo me) (is_realtime s
 
 module _ (S : State) (p : ℕ) (me : Process) (e : S.procs p ≡ Some me) (runs : me.status ≡ None) (w : IsArranged S) where
   -- a signal is delivered to no process 1
-  other_than_first : (signo : ℕ) (value : ℤ) → delivered_value signo me ≡ Some value → p ≢ 1
+  pub other_than_first : (signo : ℕ) (value : ℤ) → delivered_value signo me ≡ Some value → p ≢ 1
   other_than_first signo value h z =
       let both : Some w.first.0 ≡ Some me = sym w.first.1 ∙ sym (ap S.procs z) ∙ e in
       let same : w.first.0 ≡ me = cc in

@@ -57,3 +57,4 @@ pub mod KeepsTable
 pub mod KeepsView
 pub mod TableHistory
 pub mod Undelivered
+pub mod TellsParent

@@ -1,4 +1,5 @@
--- Every event leaves what processes have within its limits, and what transactions hold known signals.
+-- Every event leaves what processes have within its limits, and what transactions hold known signals, to process numbers
+-- that there are.
 use Rattle.std.proofs.Common.{◌≡◌, ◌≢◌, ◌⊎◌, ℕ, zero, suc, Bool, true, false, ◌||◌, ◌^◌, List, [], ◌∷◌, ◌++◌, ℤ, pos, negsuc, Option, Some, None, is_some, if◌then◌else◌, nat_lt, ◌==◌, slice_index_or, slice_set, refl, sym, ap, ◌∙◌, subst, inl, inr, eq-eqb, arith}
 use Rattle.std.specs.Prelude.{All}
 use Rattle.std.proofs.lemmas.Bool.{both_ways}
@@ -30,35 +31,39 @@ use Rattle.tx_model.specs.Sends.{sent_by_members, sendable, sent_by, posts_now, 
 use Rattle.tx_model.specs.Deliveries.{first_value, less_first, is_blocked, delivered_value, relieved, action_at, caught, is_full, killed_status, acts_on, is_deferred, delivers, delivery_effect}
 use Rattle.tx_model.specs.Calls.{call_effect, MakesCall, TakesSignal, running_effect, effect_at}
 use Rattle.tx_model.specs.Events.{Event, Do, Note, Commit, step_effect, effect, after}
-use Rattle.tx_laws.specs.WellFormed.{IsWholePage, IsMask, HasFrameLimits, HasActionLimits, HasCatchLimits, IsRealtimeEntry, IsKnownSending, HasIdLimits, HasLimits}
+use Rattle.tx_laws.specs.WellFormed.{IsWholePage, IsMask, HasFrameLimits, HasActionLimits, HasCatchLimits, IsRealtimeEntry, IsHeldSending, HasIdLimits, HasLimits}
 use Rattle.tx_model.specs.StateLaws.{put_cases}
+use Rattle.tx_model.specs.Answer.{is_running}
+use Rattle.tx_laws.proofs.Agree.{write_width}
+use Rattle.tx_laws.proofs.KeepsFormParts.{IsArranged}
+use Rattle.tx_laws.proofs.KeepsFormDeliveries.{other_than_first}
 use Rattle.tx_laws.proofs.WithinSets.{either_true, in_one_more, in_less, empty_set, empty_mask, caught_mask}
 use Rattle.tx_laws.proofs.WithinOwn.{KeepsLimits, next_within, noted_limits, slotted}
 use Rattle.tx_laws.proofs.PlainWrites.{IsPlainWrite, ArePlain, IsSendable, IsPlain, idle_plain, own_plain, same_plain, released_plain}
 use Rattle.tx_laws.proofs.PlainCalls.{IsSpecial, call_plain}
 
--- the limits of a state: those of its processes, and known signals alone are held
+-- the limits of a state: those of its processes, and those of what is held
 pub record IsWithin (S : State) : Type 0 where
   pub limits : (n : ℕ) (q : Process) → S.procs n ≡ Some q → HasLimits q
-  pub held : (s : ℕ) → All IsKnownSending (S.held s)
+  pub held : (s : ℕ) → All (IsHeldSending S.width) (S.held s)
 
 abbrev pub HasLimitsIf : Option Process → Type 0
 HasLimitsIf None = Unit {0}
 HasLimitsIf (Some q) = HasLimits q
 
 -- what is put in a place is within its limits
-abbrev pub IsFineWrite : Write → Type 0
-IsFineWrite (SetProc n x) = HasLimitsIf x
-IsFineWrite (SetDesc n x) = Unit {0}
-IsFineWrite (SetPipe n x) = Unit {0}
-IsFineWrite (SetHeld n ms) = All IsKnownSending ms
+abbrev pub IsFineWrite : ℕ → Write → Type 0
+IsFineWrite width (SetProc n x) = HasLimitsIf x
+IsFineWrite width (SetDesc n x) = Unit {0}
+IsFineWrite width (SetPipe n x) = Unit {0}
+IsFineWrite width (SetHeld n ms) = All (IsHeldSending width) ms
 
-unfoldable pub AreFine : List Write → Type 0
-AreFine [] = Unit {0}
-AreFine (w ∷ ws) = IsFineWrite w × AreFine ws
+unfoldable pub AreFine : ℕ → List Write → Type 0
+AreFine width [] = Unit {0}
+AreFine width (w ∷ ws) = IsFineWrite width w × AreFine width ws
 
-pub record IsFine (f : Effect) : Type 0 where
-  pub writes : AreFine f.writes
+pub record IsFine (width : ℕ) (f : Effect) : Type 0 where
+  pub writes : AreFine width f.writes
   pub sends : All IsSendable f.sends
 
 limits_if : (S : State) → IsWithin S → (n : ℕ) (x : Option Process) → S.procs n ≡ x → HasLimitsIf x
@@ -66,7 +71,7 @@ limits_if S w n None e = tt
 limits_if S w n (Some q) e = w.limits n q e
 
 -- the writes
-write_within : (x : Write) (S : State) → IsFineWrite x → IsWithin S → IsWithin (write_one x S)
+write_within : (x : Write) (S : State) → IsFineWrite S.width x → IsWithin S → IsWithin (write_one x S)
 write_within (SetProc n x) S h w = record { limits = limits; held = w.held }
   where
     limits : (m : ℕ) (q : Process) → put_at S.procs n x m ≡ Some q → HasLimits q
@@ -78,44 +83,45 @@ write_within (SetDesc n x) S h w = record { limits = w.limits; held = w.held }
 write_within (SetPipe n x) S h w = record { limits = w.limits; held = w.held }
 write_within (SetHeld n ms) S h w = record { limits = w.limits; held = held }
   where
-    held : (s : ℕ) → All IsKnownSending (put_at S.held n ms s)
+    held : (s : ℕ) → All (IsHeldSending S.width) (put_at S.held n ms s)
     held s = elim (put_cases S.held n ms s) [
-      | inl z ↦ subst (All IsKnownSending) (sym z.1) h
-      | inr z ↦ subst (All IsKnownSending) (sym z.1) (w.held s)
+      | inl z ↦ subst (All (IsHeldSending S.width)) (sym z.1) h
+      | inr z ↦ subst (All (IsHeldSending S.width)) (sym z.1) (w.held s)
     ]
 
-pub written_within : (ws : List Write) (S : State) → AreFine ws → IsWithin S → IsWithin (written ws S)
+pub written_within : (ws : List Write) (S : State) → AreFine S.width ws → IsWithin S → IsWithin (written ws S)
 unfolding written AreFine
 written_within [] S h w = w
-written_within (x ∷ ws) S h w = written_within ws (write_one x S) h.1 (write_within x S h.0 w)
+written_within (x ∷ ws) S h w =
+    written_within ws (write_one x S) (subst (λ (width : ℕ). AreFine width ws) (sym (write_width x S)) h.1) (write_within x S h.0 w)
 
-fine_append : (ws vs : List Write) → AreFine ws → AreFine vs → AreFine (ws ++ vs)
+fine_append : (width : ℕ) (ws vs : List Write) → AreFine width ws → AreFine width vs → AreFine width (ws ++ vs)
 unfolding AreFine
-fine_append [] vs h k = k
-fine_append (w ∷ ws) vs h k = (h.0, fine_append ws vs h.1 k)
+fine_append width [] vs h k = k
+fine_append width (w ∷ ws) vs h k = (h.0, fine_append width ws vs h.1 k)
 
-fine_write : (p : ℕ) (me : Process) → HasLimits me → (w : Write) → IsPlainWrite p me w → IsFineWrite w
-fine_write p me l (SetProc n None) h = absurd h
-fine_write p me l (SetProc n (Some q)) h = h.later.limits l
-fine_write p me l (SetDesc n x) h = tt
-fine_write p me l (SetPipe n x) h = tt
-fine_write p me l (SetHeld n ms) h = absurd h
+fine_write : (width p : ℕ) (me : Process) → HasLimits me → (w : Write) → IsPlainWrite p me w → IsFineWrite width w
+fine_write width p me l (SetProc n None) h = absurd h
+fine_write width p me l (SetProc n (Some q)) h = h.later.limits l
+fine_write width p me l (SetDesc n x) h = tt
+fine_write width p me l (SetPipe n x) h = tt
+fine_write width p me l (SetHeld n ms) h = absurd h
 
-plain_writes : (p : ℕ) (me : Process) → HasLimits me → (ws : List Write) → ArePlain p me ws → AreFine ws
+plain_writes : (width p : ℕ) (me : Process) → HasLimits me → (ws : List Write) → ArePlain p me ws → AreFine width ws
 unfolding ArePlain AreFine
-plain_writes p me l [] h = tt
-plain_writes p me l (w ∷ ws) h = (fine_write p me l w h.0, plain_writes p me l ws h.1)
+plain_writes width p me l [] h = tt
+plain_writes width p me l (w ∷ ws) h = (fine_write width p me l w h.0, plain_writes width p me l ws h.1)
 
-pub plain_fine : (p : ℕ) (me : Process) (f : Effect) → HasLimits me → IsPlain p me f → IsFine f
-plain_fine p me f l h = record { writes = plain_writes p me l f.writes h.writes; sends = h.sends }
+pub plain_fine : (width p : ℕ) (me : Process) (f : Effect) → HasLimits me → IsPlain p me f → IsFine width f
+plain_fine width p me f l h = record { writes = plain_writes width p me l f.writes h.writes; sends = h.sends }
 
-fine_one : (w : Write) → IsFineWrite w → AreFine (w ∷ [])
+fine_one : (width : ℕ) (w : Write) → IsFineWrite width w → AreFine width (w ∷ [])
 unfolding AreFine
-fine_one w h = (h, tt)
+fine_one width w h = (h, tt)
 
-fine_two : (w v : Write) → IsFineWrite w → IsFineWrite v → AreFine (w ∷ v ∷ [])
+fine_two : (width : ℕ) (w v : Write) → IsFineWrite width w → IsFineWrite width v → AreFine width (w ∷ v ∷ [])
 unfolding AreFine
-fine_two w v h k = (h, (k, tt))
+fine_two width w v h k = (h, (k, tt))
 
 no_sends : All IsSendable []
 no_sends = All-nil IsSendable
@@ -183,44 +189,53 @@ adopted_limits n (Some q) h = record {
 told_known : (parent : ℕ) → IsSendable (told_to parent)
 told_known parent = inr refl
 
-module _ (S : State) (p : ℕ) (me : Process) (w : IsWithin S) (l : HasLimits me) where
-  forks_fine : (c : ℕ) (x : Option Process) → IsFine (forks p c me x)
-  forks_fine c None = record { writes = fine_two _ _ (noted_limits (pos c) me l) (child_limits p me l); sends = no_sends }
-  forks_fine c (Some other) = record { writes = (plain_fine p me (idle NumberTaken) l (idle_plain p me NumberTaken)).writes; sends = no_sends }
+module _ (S : State) (p : ℕ) (me : Process) (here : S.procs p ≡ Some me) (runs : me.status ≡ None) (a : IsArranged S) (w : IsWithin S) (l : HasLimits me) where
+  -- the parent of a process other than process 1 has a number
+  parent_number : p ≢ 1 → is_between S.width me.parent ≡ true
+  parent_number ne = by (S.procs me.parent) refl ((a.placed p me here).parent ne)
+    where
+      by : (x : Option Process) → S.procs me.parent ≡ x → is_running x ≡ true → is_between S.width me.parent ≡ true
+      by None e h = cc
+      by (Some q) e h = (a.placed me.parent q e).number
 
-  plainly : (f : Effect) → IsPlain p me f → IsFine f
-  plainly f k = plain_fine p me f l k
+  forks_fine : (c : ℕ) (x : Option Process) → IsFine S.width (forks p c me x)
+  forks_fine c None = record { writes = fine_two S.width _ _ (noted_limits (pos c) me l) (child_limits p me l); sends = no_sends }
+  forks_fine c (Some other) = record { writes = (plain_fine S.width p me (idle NumberTaken) l (idle_plain p me NumberTaken)).writes; sends = no_sends }
+
+  plainly : (f : Effect) → IsPlain p me f → IsFine S.width f
+  plainly f k = plain_fine S.width p me f l k
 
   statused : (status : ℕ) → KeepsLimits me (with_status status me)
   statused status = slotted me (slice_set me.registers.slots 0 (pos status))
 
-  waits_by_fine : (t : ℕ) (nohang : Bool) (status : Option ℕ) → IsFine (waits_by p t nohang me status)
+  waits_by_fine : (t : ℕ) (nohang : Bool) (status : Option ℕ) → IsFine S.width (waits_by p t nohang me status)
   waits_by_fine t true None = plainly _ (same_plain p me (pos 0))
   waits_by_fine t false None = plainly _ (idle_plain p me Wait)
-  waits_by_fine t nohang (Some status) = record { writes = fine_two _ _ (noted_limits (pos t) (with_status status me) (statused status l)) tt; sends = no_sends }
+  waits_by_fine t nohang (Some status) = record { writes = fine_two S.width _ _ (noted_limits (pos t) (with_status status me) (statused status l)) tt; sends = no_sends }
 
-  waits_for_fine : (t : ℕ) (nohang : Bool) (x : Option Process) → IsFine (waits_for p t nohang me x)
+  waits_for_fine : (t : ℕ) (nohang : Bool) (x : Option Process) → IsFine S.width (waits_for p t nohang me x)
   waits_for_fine t nohang None = plainly _ (same_plain p me (failing NoChild))
   waits_for_fine t nohang (Some q) = by (q.parent == p)
     where
-      by : (b : Bool) → IsFine (if b then waits_by p t nohang me q.status else done p (failing NoChild) me)
+      by : (b : Bool) → IsFine S.width (if b then waits_by p t nohang me q.status else done p (failing NoChild) me)
       by true = waits_by_fine t nohang q.status
       by false = plainly _ (same_plain p me (failing NoChild))
 
-  waits_at_fine : (t : Option ℕ) (nohang : Bool) → IsFine (waits_at p t nohang me S)
+  waits_at_fine : (t : Option ℕ) (nohang : Bool) → IsFine S.width (waits_at p t nohang me S)
   waits_at_fine None nohang = plainly _ (same_plain p me (failing NoChild))
   waits_at_fine (Some t) nohang = waits_for_fine t nohang (S.procs t)
 
-  orphaned_fine : (qs : List ℕ) → AreFine (orphaned qs S)
+  orphaned_fine : (qs : List ℕ) → AreFine S.width (orphaned qs S)
   unfolding orphaned AreFine
   orphaned_fine [] = tt
   orphaned_fine (q ∷ qs) = (adopted_limits 1 (S.procs q) (limits_if S w q (S.procs q) refl), orphaned_fine qs)
 
-  later_fine : (telling : Telling) (parent : ℕ) → AreFine (told_at_commit telling parent S)
+  later_fine : (telling : Telling) (parent : ℕ) → is_between S.width parent ≡ true → AreFine S.width (told_at_commit telling parent S)
   unfolding AreFine
-  later_fine NotTold parent = tt
-  later_fine AtOnce parent = tt
-  later_fine (AtCommit s) parent = (All-push IsKnownSending (S.held s) (told_to parent) (w.held s) refl, tt)
+  later_fine NotTold parent number = tt
+  later_fine AtOnce parent number = tt
+  later_fine (AtCommit s) parent number =
+      (All-push (IsHeldSending S.width) (S.held s) (told_to parent) (w.held s) (record { known = refl; target = number }), tt)
 
   tells_fine : (telling : Telling) (parent : ℕ) → All IsSendable (told_at_once telling parent)
   tells_fine NotTold parent = no_sends
@@ -231,53 +246,54 @@ module _ (S : State) (p : ℕ) (me : Process) (w : IsWithin S) (l : HasLimits me
   gone now left = released (open_in now.descriptors) (write_one (SetProc p (Some left)) S)
 
   -- the process that ends, in the place of the one before
-  ending_fine : (inside : Option Inside) (status : ℕ) (now : Process) → HasLimits now → IsFine (ending inside p status now S)
+  ending_fine : (inside : Option Inside) (status : ℕ) (now : Process) → is_between S.width now.parent ≡ true → HasLimits now
+      → IsFine S.width (ending inside p status now S)
   unfolding AreFine
-  ending_fine inside status now k = record {
+  ending_fine inside status now number k = record {
     writes = (
       ended_limits status now k,
-      fine_append (orphaned (children_of p S) S ++ gone now (ended status now)) (told_at_commit (telling inside now.parent) now.parent S)
-          (fine_append (orphaned (children_of p S) S) (gone now (ended status now)) (orphaned_fine (children_of p S))
-          (plain_writes p me l (gone now (ended status now)) (released_plain p me (open_in now.descriptors) (write_one (SetProc p (Some (ended status now))) S))))
-          (later_fine (telling inside now.parent) now.parent),
+      fine_append S.width (orphaned (children_of p S) S ++ gone now (ended status now)) (told_at_commit (telling inside now.parent) now.parent S)
+          (fine_append S.width (orphaned (children_of p S) S) (gone now (ended status now)) (orphaned_fine (children_of p S))
+          (plain_writes S.width p me l (gone now (ended status now)) (released_plain p me (open_in now.descriptors) (write_one (SetProc p (Some (ended status now))) S))))
+          (later_fine (telling inside now.parent) now.parent number),
     );
     sends = tells_fine (telling inside now.parent) now.parent;
   }
 
-  exit_fine : (inside : Option Inside) (v : ℤ) → IsFine (exit_effect inside p v me S)
-  exit_fine inside v = by (p == 1)
+  exit_fine : (inside : Option Inside) (v : ℤ) → IsFine S.width (exit_effect inside p v me S)
+  exit_fine inside v = by (p == 1) refl
     where
-      by : (b : Bool) → IsFine (if b then done p (failing NotPermitted) me else ending inside p (exit_status v) me S)
-      by true = plainly _ (same_plain p me (failing NotPermitted))
-      by false = ending_fine inside (exit_status v) me l
+      by : (b : Bool) → (p == 1) ≡ b → IsFine S.width (if b then done p (failing NotPermitted) me else ending inside p (exit_status v) me S)
+      by true z = plainly _ (same_plain p me (failing NotPermitted))
+      by false z = ending_fine inside (exit_status v) me (parent_number (λ y. both_ways (p == 1) z (eq-eqb p 1 y))) l
 
   -- sends
-  now_fine : (m : Sending) → IsSendable m → IsFine (posts_now p m)
+  now_fine : (m : Sending) → IsSendable m → IsFine S.width (posts_now p m)
   unfolding AreFine
   now_fine m k = record { writes = tt; sends = All-cons IsSendable m [] k no_sends }
 
-  holds_fine : (inside : Inside) (m : Sending) → IsSendable m → IsFine (holds p inside me m S)
-  holds_fine inside m k = by (m.signo == 0) refl (nat_lt (sent_by_members (S.held inside.starter)) HELD_SENDS)
+  holds_fine : (inside : Inside) (m : Sending) → IsSendable m → is_between S.width m.target ≡ true → IsFine S.width (holds p inside me m S)
+  holds_fine inside m k number = by (m.signo == 0) refl (nat_lt (sent_by_members (S.held inside.starter)) HELD_SENDS)
     where
-      loud : (m.signo == 0) ≡ false → IsKnownSending m
+      loud : (m.signo == 0) ≡ false → is_known m.signo ≡ true
       loud h = elim k [ inl e ↦ absurd (both_ways (m.signo == 0) h (eq-eqb m.signo 0 e)) | inr e ↦ e ]
 
-      by : (b : Bool) → (m.signo == 0) ≡ b → (c : Bool) → IsFine (if b then done p closed_inside me
+      by : (b : Bool) → (m.signo == 0) ≡ b → (c : Bool) → IsFine S.width (if b then done p closed_inside me
           else (if c then done_with (SetHeld inside.starter (S.held inside.starter ++ m ∷ []) ∷ []) p (pos 0) me else done p (failing TryAgain) me))
       by true h c = plainly _ (same_plain p me closed_inside)
       by false h true = record {
-        writes = fine_two _ _ (noted_limits (pos 0) me l) (All-push IsKnownSending (S.held inside.starter) m (w.held inside.starter) (loud h));
+        writes = fine_two S.width _ _ (noted_limits (pos 0) me l) (All-push (IsHeldSending S.width) (S.held inside.starter) m (w.held inside.starter) (record { known = loud h; target = number }));
         sends = no_sends;
       }
       by false h false = plainly _ (same_plain p me (failing TryAgain))
 
-  hands_fine : (inside : Option Inside) (m : Sending) → IsSendable m → IsFine (hands_out p inside me m S)
-  hands_fine None m k = now_fine m k
-  hands_fine (Some inside) m k = by (inside.members m.target)
+  hands_fine : (inside : Option Inside) (m : Sending) → IsSendable m → is_between S.width m.target ≡ true → IsFine S.width (hands_out p inside me m S)
+  hands_fine None m k number = now_fine m k
+  hands_fine (Some inside) m k number = by (inside.members m.target)
     where
-      by : (b : Bool) → IsFine (if b then posts_now p m else holds p inside me m S)
+      by : (b : Bool) → IsFine S.width (if b then posts_now p m else holds p inside me m S)
       by true = now_fine m k
-      by false = holds_fine inside m k
+      by false = holds_fine inside m k number
 
   known_is : (v : ℤ) (n : ℕ) → known v ≡ Some n → is_known n ≡ true
   known_is (pos m) n e = by (is_known m) refl e
@@ -292,13 +308,22 @@ module _ (S : State) (p : ℕ) (me : Process) (w : IsWithin S) (l : HasLimits me
   sendable_is (pos (suc m)) n e = inr (known_is (pos (suc m)) n e)
   sendable_is (negsuc m) n e = cc
 
-  signal_fine : (inside : Option Inside) (t signo : Option ℕ) (value v : ℤ) → sendable v ≡ signo → IsFine (sends_signal p inside me t signo value S)
-  signal_fine inside t None value v e = plainly _ (same_plain p me (failing InvalidArgument))
-  signal_fine inside None (Some signo) value v e = plainly _ (same_plain p me (failing NoSuchProcess))
-  signal_fine inside (Some t) (Some signo) value v e = hands_fine inside (sent_by me t signo value) (sendable_is v signo e)
+  numbered_is : (n : ℤ) (t : ℕ) → numbered S.width n ≡ Some t → is_between S.width t ≡ true
+  numbered_is (pos m) t e = by (is_between S.width m) refl e
+    where
+      by : (b : Bool) → is_between S.width m ≡ b → (if b then Some m else None) ≡ Some t → is_between S.width t ≡ true
+      by true h k = let same : m ≡ t = cc in subst (λ (i : ℕ). is_between S.width i ≡ true) same h
+      by false h k = cc
+  numbered_is (negsuc m) t e = cc
 
-  send_fine : (inside : Option Inside) (t signo value : ℤ) → IsFine (send_effect p inside me t signo value S)
-  send_fine inside t signo value = signal_fine inside (numbered S.width t) (sendable signo) value signo refl
+  signal_fine : (inside : Option Inside) (t signo : Option ℕ) (value n v : ℤ) → numbered S.width n ≡ t → sendable v ≡ signo
+      → IsFine S.width (sends_signal p inside me t signo value S)
+  signal_fine inside t None value n v d e = plainly _ (same_plain p me (failing InvalidArgument))
+  signal_fine inside None (Some signo) value n v d e = plainly _ (same_plain p me (failing NoSuchProcess))
+  signal_fine inside (Some t) (Some signo) value n v d e = hands_fine inside (sent_by me t signo value) (sendable_is v signo e) (numbered_is n t d)
+
+  send_fine : (inside : Option Inside) (t signo value : ℤ) → IsFine S.width (send_effect p inside me t signo value S)
+  send_fine inside t signo value = signal_fine inside (numbered S.width t) (sendable signo) value t signo refl refl
 
   -- deliveries
   fewer_queued : (signo : ℕ) (entries : List Queued) → All IsRealtimeEntry entries → All IsRealtimeEntry (less_first signo entries)
@@ -379,11 +404,11 @@ module _ (S : State) (p : ℕ) (me : Process) (w : IsWithin S) (l : HasLimits me
   disposed signo Ignore point mask e = cc
   disposed signo (Catch to blocked) point mask e = cc
 
-  acts_on_fine : (inside : Option Inside) (signo : ℕ) (value : ℤ) (x : Disposition) → disposition signo (action_at signo me) ≡ x → is_known signo ≡ true
-      → IsFine (acts_on inside p signo value x (relieved signo me) S)
-  acts_on_fine inside signo value Ignored e right = plainly _ (relieved_plain signo me.registers.ret)
-  acts_on_fine inside signo value Fatal e right = ending_fine inside (killed_status signo) (relieved signo me) (relieved_limits signo l)
-  acts_on_fine inside signo value (Caught point mask) e right = by (is_full (relieved signo me))
+  acts_on_fine : (inside : Option Inside) (signo : ℕ) (value : ℤ) (x : Disposition) → disposition signo (action_at signo me) ≡ x → is_known signo ≡ true → p ≢ 1
+      → IsFine S.width (acts_on inside p signo value x (relieved signo me) S)
+  acts_on_fine inside signo value Ignored e right ne = plainly _ (relieved_plain signo me.registers.ret)
+  acts_on_fine inside signo value Fatal e right ne = ending_fine inside (killed_status signo) (relieved signo me) (parent_number ne) (relieved_limits signo l)
+  acts_on_fine inside signo value (Caught point mask) e right ne = by (is_full (relieved signo me))
     where
       catches : action_at signo me ≡ Catch point mask
       catches = disposed signo (action_at signo me) point mask e
@@ -391,23 +416,25 @@ module _ (S : State) (p : ℕ) (me : Process) (w : IsWithin S) (l : HasLimits me
       small : HasCatchLimits point mask
       small = subst HasActionLimits catches (action_limits me.actions signo l.actions)
 
-      by : (b : Bool) → IsFine (if b then idle FramesFull else own_effect p (record { process = caught signo value point mask (relieved signo me); reply = Done value }))
+      by : (b : Bool) → IsFine S.width (if b then idle FramesFull else own_effect p (record { process = caught signo value point mask (relieved signo me); reply = Done value }))
       by true = plainly _ (idle_plain p me FramesFull)
       by false = plainly _ (own_plain p me (record { process = caught signo value point mask (relieved signo me); reply = Done value })
           (record { parent = refl; status = refl; limits = caught_limits signo value point mask right (not_killed signo point mask catches) small }) refl)
 
-  delivers_fine : (inside : Option Inside) (signo : ℕ) (value : Option ℤ) → delivered_value signo me ≡ value → IsFine (delivers inside p signo me value S)
+  delivers_fine : (inside : Option Inside) (signo : ℕ) (value : Option ℤ) → delivered_value signo me ≡ value → IsFine S.width (delivers inside p signo me value S)
   delivers_fine inside signo None e = plainly _ (idle_plain p me NotDeliverable)
   delivers_fine inside signo (Some value) e = by (is_deferred inside signo)
     where
-      by : (b : Bool) → IsFine (if b then idle Deferred else acts_on inside p signo value (disposition signo (action_at signo me)) (relieved signo me) S)
+      by : (b : Bool) → IsFine S.width (if b then idle Deferred else acts_on inside p signo value (disposition signo (action_at signo me)) (relieved signo me) S)
       by true = plainly _ (idle_plain p me Deferred)
-      by false = acts_on_fine inside signo value (disposition signo (action_at signo me)) refl (delivered_known signo value e)
+      by false =
+          acts_on_fine inside signo value (disposition signo (action_at signo me)) refl (delivered_known signo value e)
+          (other_than_first S p me here runs a signo value e)
 
-  delivery_fine : (inside : Option Inside) (signo : ℕ) → IsFine (delivery_effect inside p signo me S)
+  delivery_fine : (inside : Option Inside) (signo : ℕ) → IsFine S.width (delivery_effect inside p signo me S)
   delivery_fine inside signo = delivers_fine inside signo (delivered_value signo me) refl
 
-  special_fine : (inside : Option Inside) (c : Call) → IsSpecial c → IsFine (call_effect inside p c me S)
+  special_fine : (inside : Option Inside) (c : Call) → IsSpecial c → IsFine S.width (call_effect inside p c me S)
   special_fine inside (call.Fork child) h = forks_fine child.0 (S.procs child.0)
   special_fine inside (call.Exit status) h = exit_fine inside status
   special_fine inside (call.Waitpid t nohang) h = waits_at_fine (numbered S.width t) nohang
@@ -415,53 +442,55 @@ module _ (S : State) (p : ℕ) (me : Process) (w : IsWithin S) (l : HasLimits me
   special_fine inside (call.Sigqueue t signo value) h = send_fine inside t signo value
   special_fine inside c h = absurd h
 
-  call_fine : (inside : Option Inside) (c : Call) → IsFine (call_effect inside p c me S)
+  call_fine : (inside : Option Inside) (c : Call) → IsFine S.width (call_effect inside p c me S)
   call_fine inside c = elim (call_plain S p me inside c) [ inl h ↦ special_fine inside c h | inr h ↦ plainly _ h ]
 
-idle_fine : (why : Refusal) → IsFine (idle why)
+idle_fine : (width : ℕ) (why : Refusal) → IsFine width (idle why)
 unfolding AreFine
-idle_fine why = record { writes = tt; sends = no_sends }
+idle_fine width why = record { writes = tt; sends = no_sends }
 
 -- steps and events
-module _ (S : State) (inside : Option Inside) (w : IsWithin S) where
-  running_call_fine : (p : ℕ) (c : Call) (me : Process) (status : Option ℕ) → HasLimits me → IsFine (running_effect inside p (MakesCall c) S me status)
-  running_call_fine p c me None l = call_fine S p me w l inside c
-  running_call_fine p c me (Some status) l = idle_fine NotRunning
+module _ (S : State) (inside : Option Inside) (a : IsArranged S) (w : IsWithin S) where
+  running_call_fine : (p : ℕ) (c : Call) (me : Process) (status : Option ℕ) → S.procs p ≡ Some me → me.status ≡ status → HasLimits me
+      → IsFine S.width (running_effect inside p (MakesCall c) S me status)
+  running_call_fine p c me None here runs l = call_fine S p me here runs a w l inside c
+  running_call_fine p c me (Some status) here runs l = idle_fine S.width NotRunning
 
-  running_delivery_fine : (p signo : ℕ) (me : Process) (status : Option ℕ) → HasLimits me → IsFine (running_effect inside p (TakesSignal signo) S me status)
-  running_delivery_fine p signo me None l = delivery_fine S p me w l inside signo
-  running_delivery_fine p signo me (Some status) l = idle_fine NotRunning
+  running_delivery_fine : (p signo : ℕ) (me : Process) (status : Option ℕ) → S.procs p ≡ Some me → me.status ≡ status → HasLimits me
+      → IsFine S.width (running_effect inside p (TakesSignal signo) S me status)
+  running_delivery_fine p signo me None here runs l = delivery_fine S p me here runs a w l inside signo
+  running_delivery_fine p signo me (Some status) here runs l = idle_fine S.width NotRunning
 
-  call_at_fine : (p : ℕ) (c : Call) (x : Option Process) → HasLimitsIf x → IsFine (effect_at inside p (MakesCall c) S x)
-  call_at_fine p c None l = idle_fine NoProcess
-  call_at_fine p c (Some me) l = running_call_fine p c me me.status l
+  call_at_fine : (p : ℕ) (c : Call) (x : Option Process) → S.procs p ≡ x → HasLimitsIf x → IsFine S.width (effect_at inside p (MakesCall c) S x)
+  call_at_fine p c None here l = idle_fine S.width NoProcess
+  call_at_fine p c (Some me) here l = running_call_fine p c me me.status here refl l
 
-  delivery_at_fine : (p signo : ℕ) (x : Option Process) → HasLimitsIf x → IsFine (effect_at inside p (TakesSignal signo) S x)
-  delivery_at_fine p signo None l = idle_fine NoProcess
-  delivery_at_fine p signo (Some me) l = running_delivery_fine p signo me me.status l
+  delivery_at_fine : (p signo : ℕ) (x : Option Process) → S.procs p ≡ x → HasLimitsIf x → IsFine S.width (effect_at inside p (TakesSignal signo) S x)
+  delivery_at_fine p signo None here l = idle_fine S.width NoProcess
+  delivery_at_fine p signo (Some me) here l = running_delivery_fine p signo me me.status here refl l
 
-  step_fine : (step : Step) → IsFine (step_effect step inside S)
-  step_fine (Calls p c) = call_at_fine p.0 c (S.procs p.0) (limits_if S w p.0 (S.procs p.0) refl)
-  step_fine (Deliver p signo) = delivery_at_fine p.0 signo.0 (S.procs p.0) (limits_if S w p.0 (S.procs p.0) refl)
-  step_fine (KernelAbort s) = idle_fine NoTransaction
+  step_fine : (step : Step) → IsFine S.width (step_effect step inside S)
+  step_fine (Calls p c) = call_at_fine p.0 c (S.procs p.0) refl (limits_if S w p.0 (S.procs p.0) refl)
+  step_fine (Deliver p signo) = delivery_at_fine p.0 signo.0 (S.procs p.0) refl (limits_if S w p.0 (S.procs p.0) refl)
+  step_fine (KernelAbort s) = idle_fine S.width NoTransaction
 
 noted_if_limits : (r : ℤ) (x : Option Process) → HasLimitsIf x → HasLimitsIf (noted_if r x)
 noted_if_limits r None h = tt
 noted_if_limits r (Some q) h = noted_limits r q h
 
-known_sendable : (ms : List Sending) → All IsKnownSending ms → All IsSendable ms
-known_sendable ms h k d less = inr (h k d less)
+known_sendable : (width : ℕ) (ms : List Sending) → All (IsHeldSending width) ms → All IsSendable ms
+known_sendable width ms h k d less = inr (h k d less).known
 
-pub event_fine : (ev : Event) (S : State) → IsWithin S → IsFine (effect ev S)
+pub event_fine : (ev : Event) (S : State) → IsArranged S → IsWithin S → IsFine S.width (effect ev S)
 unfolding effect
-event_fine (Do step inside) S w = step_fine S inside w step
-event_fine (Note p r) S w = record { writes = fine_one _ (noted_if_limits r (S.procs p) (limits_if S w p (S.procs p) refl)); sends = no_sends }
-event_fine (Commit s ev) S w =
-    let k : IsFine (effect ev S) = event_fine ev S w in
+event_fine (Do step inside) S a w = step_fine S inside a w step
+event_fine (Note p r) S a w = record { writes = fine_one S.width _ (noted_if_limits r (S.procs p) (limits_if S w p (S.procs p) refl)); sends = no_sends }
+event_fine (Commit s ev) S a w =
+    let k : IsFine S.width (effect ev S) = event_fine ev S a w in
     let after_writes : IsWithin (written (effect ev S).writes S) = written_within (effect ev S).writes S k.writes w in
     record {
-      writes = fine_append (effect ev S).writes (SetHeld s [] ∷ []) k.writes (fine_one _ (All-nil IsKnownSending));
-      sends = All-append IsSendable (effect ev S).sends ((written (effect ev S).writes S).held s) k.sends (known_sendable _ (after_writes.held s));
+      writes = fine_append S.width (effect ev S).writes (SetHeld s [] ∷ []) k.writes (fine_one S.width _ (All-nil (IsHeldSending S.width)));
+      sends = All-append IsSendable (effect ev S).sends ((written (effect ev S).writes S).held s) k.sends (known_sendable _ _ (after_writes.held s));
     }
 
 -- posts
@@ -537,17 +566,17 @@ concluded_within (AnswersPost p) rs S w =
 concluded_within ListsFailed rs S w = w
 
 -- every event keeps the limits
-pub after_within : (ev : Event) (S : State) → IsWithin S → IsWithin (after ev S)
+pub after_within : (ev : Event) (S : State) → IsArranged S → IsWithin S → IsWithin (after ev S)
 unfolding after
-after_within ev S w =
+after_within ev S a w =
     let f : Effect = effect ev S in
-    let k : IsFine f = event_fine ev S w in
+    let k : IsFine S.width f = event_fine ev S a w in
     concluded_within f.conclusion (send_answers f S) (posts f.sends (written f.writes S))
     (posts_within f.sends (written f.writes S) k.sends (written_within f.writes S k.writes w))
 
 -- the state at the start
 pub booted_within : (width count : ℕ) → IsWithin (booted width count)
-booted_within width count = record { limits = limits; held = λ s. All-nil IsKnownSending }
+booted_within width count = record { limits = limits; held = λ s. All-nil (IsHeldSending width) }
   where
     limits : (n : ℕ) (q : Process) → (booted width count).procs n ≡ Some q → HasLimits q
     limits n q h = by (is_between count n) h

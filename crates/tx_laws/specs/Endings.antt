@@ -1,6 +1,6 @@
 -- Which calls and deliveries end their process, told before there is a reply, and what they are to the transactions by
--- that. Own rules.
-use Rattle.std.specs.Prelude.{◌≡◌, ℤ, Bool, true, false, not, ◌==◌, pos, Option, Some, None, if◌then◌else◌}
+-- that; and that what they post themselves is answered by no error. Own rules.
+use Rattle.std.specs.Prelude.{◌≡◌, ℤ, Bool, true, false, not, ◌==◌, pos, [], Option, Some, None, if◌then◌else◌}
 use Rattle.tx_base.specs.declared.names.Pid.{Pid}
 use Rattle.tx_base.specs.declared.names.Signo.{Signo}
 use Rattle.tx_base.specs.declared.steps.Call.{Call}
@@ -10,12 +10,13 @@ use Rattle.tx_base.specs.declared.steps.Reply.TheVariants.{Done, Ended}
 use Rattle.tx_base.specs.declared.steps.Step.{Step}
 use Rattle.tx_base.specs.declared.steps.Step.TheVariants.{Call as Calls, Deliver}
 use Rattle.tx_model.specs.State.{Process, State}
-use Rattle.tx_model.specs.Effects.{Inside}
-use Rattle.tx_model.specs.Events.{Do, reply_of}
+use Rattle.tx_model.specs.Effects.{Inside, failed_sends, send_answers}
+use Rattle.tx_model.specs.Events.{Do, process_of, effect, reply_of}
 use Rattle.tx_model.specs.Deliveries.{delivered_value, ends_by}
 use Rattle.tx_model.specs.Membership.{inside_by, says_ended, role, event}
 use Rattle.tx_model.specs.View.{View, present, first_reply, role_on, event_on}
 use Rattle.tx_laws.specs.Footprints.{is_asked}
+use Rattle.tx_laws.specs.WellFormed.{IsWellFormed}
 
 abbrev pub is_exit : Call → Bool
 is_exit (call.Exit status) = true
@@ -35,6 +36,12 @@ ExitsSayEnd = (state : State) (pid : Pid) (status : ℤ) (inside : Option Inside
 abbrev pub DeliveriesSayEnd : Type 0
 DeliveriesSayEnd = (state : State) (pid : Pid) (signo : Signo) (inside : Option Inside) (me : Process) → state.procs pid.0 ≡ Some me → me.status ≡ None →
     says_ended (reply_of (Do (Deliver pid signo) inside) state) ≡ ends_by inside signo.0 me (delivered_value signo.0 me)
+
+-- where an event of a process that runs says of its end, in a well-formed state, no post of its own is answered by an error
+abbrev pub EndingsAreAnswered : Type 0
+EndingsAreAnswered = (state : State) (step : Step) (inside : Option Inside) (me : Process) → IsWellFormed state → state.procs (process_of step) ≡ Some me → me.status ≡ None →
+    says_ended (reply_of (Do step inside) state) ≡ true →
+    failed_sends (effect (Do step inside) state).sends (send_answers (effect (Do step inside) state) state) ≡ []
 
 -- a reply that says whether the process ended, and is made without the step
 abbrev pub end_reply : Bool → Reply

@@ -1,13 +1,13 @@
 -- What the footprint of a step has to do with its event, and with who is in the way of the step. Own rules.
-use Rattle.std.specs.Prelude.{◌≡◌, ℕ, Bool, true, false, if◌then◌else◌}
+use Rattle.std.specs.Prelude.{◌≡◌, ℕ, Bool, true, false, None, if◌then◌else◌}
 use Rattle.tx_base.specs.declared.steps.Step.{Step}
 use Rattle.tx_base.specs.declared.steps.Step.TheVariants.{Call as Calls, Deliver, KernelAbort}
 use Rattle.tx_model.specs.State.{State, Object, Proc, Desc, Pipe, Held, has}
-use Rattle.tx_model.specs.Events.{process_of}
+use Rattle.tx_model.specs.Events.{Event, actor, process_of}
 use Rattle.tx_model.specs.Membership.{Table, is_member_of, is_live, Role, Outside, Within, Commits, Aborts}
 use Rattle.tx_model.specs.History.{event_footprint}
 use Rattle.tx_model.specs.Footprints.{footprint}
-use Rattle.tx_model.specs.View.{View, present, role_on, event_on, meets, has_two_answers, least, holder}
+use Rattle.tx_model.specs.View.{View, present, role_on, event_on, meets, has_two_answers, least, holder, IsClear}
 use Rattle.tx_model.specs.Answer.{is_running}
 use Rattle.tx_laws.specs.Sound.{IsSound}
 
@@ -52,3 +52,12 @@ is_in_way view step s =
 abbrev pub HolderIsOfStep : Type 0
 HolderIsOfStep = (view : View) (step : Step) → IsSound view → is_asked step ≡ true → is_running ((present view).procs (process_of step)) ≡ true →
     holder view (event_on view step) ≡ least (is_in_way view step) view.table.width
+
+-- where no holder is named, nobody is in the way
+abbrev pub NoHolderIsClear : Type 0
+NoHolderIsClear = (view : View) (event : Event) → IsSound view → holder view event ≡ None → IsClear view event
+
+-- where nobody is in the way, whoever touched what the event names has its process as a member
+abbrev pub ClearIsOfMembers : Type 0
+ClearIsOfMembers = (view : View) (event : Event) (object : Object) (starter : ℕ) → IsSound view → IsClear view event →
+    has object (event_footprint view.table event (present view)) ≡ true → view.touched starter object ≡ true → is_member_of view.table starter (actor event) ≡ true

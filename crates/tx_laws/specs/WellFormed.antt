@@ -66,9 +66,10 @@ HasActionLimits (Catch point mask) = HasCatchLimits point mask
 abbrev pub IsRealtimeEntry : Queued → Type 0
 IsRealtimeEntry entry = is_realtime entry.signo ≡ true
 
--- a known signal on its way
-abbrev pub IsKnownSending : Sending → Type 0
-IsKnownSending m = is_known m.signo ≡ true
+-- a known signal on its way, to a process number that there is
+pub record IsHeldSending (width : ℕ) (m : Sending) : Type 0 where
+  pub known : is_known m.signo ≡ true
+  pub target : is_between width m.target ≡ true
 
 -- what a process has is within the limits of its numbers: standard signals alone are in the set of those pending,
 -- realtime ones in the queue; and SIGKILL is neither caught nor ignored
@@ -99,7 +100,8 @@ pub record IsFirst (q : Process) : Type 0 where
 
 -- process 1 is there; each process has its place; a description is there exactly while a descriptor names it, and a
 -- pipe exactly while a description does; the numbers (descriptions 0 to 63, pipes 0 to 31) and sizes are within their
--- limits, and so is what each process has; and the signals that transactions hold are known ones
+-- limits, and so is what each process has; and the signals that transactions hold are known ones, to process numbers
+-- that there are
 pub record IsWellFormed (S : State) : Type 0 where
   pub first : (q : Process) × (S.procs 1 ≡ Some q) × IsFirst q
   pub placed : (n : ℕ) (q : Process) → S.procs n ≡ Some q → IsPlaced S n q
@@ -107,7 +109,7 @@ pub record IsWellFormed (S : State) : Type 0 where
   pub named : (d : ℕ) (x : Description) → S.descs d ≡ Some x → (is_named d S ≡ true) × (d < DESCRIPTIONS) × (is_some (S.pipes x.pipe) ≡ true)
   pub pipes : (k : ℕ) (bytes : List ℕ) → S.pipes k ≡ Some bytes → (has_description k S ≡ true) × (k < PIPES) × (length bytes ≤ PIPE_BYTES)
   pub limits : (n : ℕ) (q : Process) → S.procs n ≡ Some q → HasLimits q
-  pub held : (s : ℕ) → All IsKnownSending (S.held s)
+  pub held : (s : ℕ) → All (IsHeldSending S.width) (S.held s)
 
 -- the numbers that an event chooses are in range
 abbrev pub HasGoodNumbers : ℕ → Event → Type 0

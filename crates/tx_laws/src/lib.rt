@@ -15,11 +15,11 @@ ghost use Rattle.tx_model.specs.State.{State, booted};
 ghost use Rattle.tx_model.specs.View.{view};
 ghost use Rattle.tx_laws.specs.Laws.{PrefixesAgree, SurvivorsAreByPlace, LawfulViewIsNext, LawfulViewIsSound, StartIsSound, NextIsSound, AcceptedStepsFit, RolesKeepSound, NextIsWellFormed, SchedulesAreLawful};
 ghost use Rattle.tx_laws.specs.LawsOfDoom.{DoomedCallsAreRefused, DoomedDeliveriesAreRefused, DoomedAbortAnswers203, OtherAbortAnswers202, MembersDoomNothing, KillDooms, SigqueueDooms, DoomStays};
-ghost use Rattle.tx_laws.specs.Endings.{ExitIsTold, ExitsSayEnd, OtherCallsSayNoEnd, DeliveriesSayEnd, StepIsToldByEnd, OtherCallIsTold, DeliveryIsTold};
+ghost use Rattle.tx_laws.specs.Endings.{ExitIsTold, ExitsSayEnd, OtherCallsSayNoEnd, DeliveriesSayEnd, EndingsAreAnswered, StepIsToldByEnd, OtherCallIsTold, DeliveryIsTold};
 ghost use Rattle.tx_laws.specs.LawsOfEvents.{ActorIsObject, EffectIsLocal, ObjectsAreLocal, ReplyIsLocal, ElsewhereIsSame, OtherPartsStay, WritesStayInObjects, OthersGetSendsAlone, HoldsForItsOwn, MembersSendToMembers, StatesCommute, RepliesCommute};
 ghost use Rattle.tx_laws.specs.LawsOfParts.{StartHasItsView, SamePartsSameView, PartsFollowRole, PartsFollowStep, PresentIsNow, DoomIsKept, TwoAnswersAreOfStarter, InWayIsOfParts, HolderIsOfParts};
 ghost use Rattle.tx_laws.specs.WellFormed.{IsWellFormed, HasGoodNumbers};
-ghost use Rattle.tx_laws.specs.Footprints.{FootprintIsOfEvent, FootprintIsShared, HolderIsOfStep};
+ghost use Rattle.tx_laws.specs.Footprints.{ClearIsOfMembers, FootprintIsOfEvent, FootprintIsShared, HolderIsOfStep, NoHolderIsClear};
 ghost use Rattle.tx_laws.specs.WellFormedTable.{HoldsNothing, IsWellFormedWith};
 ghost use Rattle.tx_laws.specs.LawsOfTable.{EmptyViewIsWellFormed, NextViewIsWellFormed, ViewsListEnough};
 
@@ -107,11 +107,14 @@ pub fn inside()
 /// Footprints: of a step of a process that runs, which is no abort, the footprint is what its
 /// event names, and the targets of what the event posts. What a transaction holds is left out. The
 /// holder that a busy call or delivery names is the least starter that is in its way by its own footprint,
-/// an abort by a member included.
+/// an abort by a member included. Where none is named nobody is in the way, and then whoever touched what
+/// the event names has its process as a member.
 pub fn footprints()
     ensures of_event { FootprintIsOfEvent }
     ensures holder { HolderIsOfStep }
     ensures shared { FootprintIsShared }
+    ensures clear { NoHolderIsClear }
+    ensures members { ClearIsOfMembers }
 {}
 
 /// Two events commute where no object is named by both, the targets of their sends included: in
@@ -142,11 +145,13 @@ pub fn doom()
 /// ended, and that to a delivery says so exactly where the delivery now ends its process. What a call or
 /// a delivery is to the transactions, and its event, depend on the first reply by that alone. So a call
 /// other than an exit is told as one that ends nothing, and a delivery by whether it now ends its process.
-/// An exit ends its process, but for process 1, which gets an error for it and goes on.
+/// An exit ends its process, but for process 1, which gets an error for it and goes on. What an ending
+/// posts itself is answered by no error: it tells the parent, which is there.
 pub fn endings()
     ensures calls { OtherCallsSayNoEnd }
     ensures exits { ExitsSayEnd }
     ensures deliveries { DeliveriesSayEnd }
+    ensures answered { EndingsAreAnswered }
     ensures step { StepIsToldByEnd }
     ensures other_call { OtherCallIsTold }
     ensures exit { ExitIsTold }
@@ -155,9 +160,10 @@ pub fn endings()
 
 /// Well-formed states: process 1 runs, the parent of any other process runs too, what descriptors
 /// name is there and nothing else is, and numbers and sizes are within their limits, as are pages,
-/// ids, points, masks and actions, and the signals that are pending or held. The booted state is
-/// well formed, every event with numbers in range leaves a well-formed state so, and so each state
-/// of a lawful history is well formed, whichever transactions are left out.
+/// ids, points, masks and actions, and the signals that are pending or held, and what is held goes to
+/// process numbers that there are. The booted state is well formed, every event with numbers in range
+/// leaves a well-formed state so, and so each state of a lawful history is well formed, whichever
+/// transactions are left out.
 pub fn well_formed()
     ensures booted { (width count : ℕ) → 1 ≤ count → count ≤ width → IsWellFormed (booted width count) }
     ensures kept { (event : Event) (state : State) → IsWellFormed state → HasGoodNumbers state.width event → IsWellFormed (after event state) }

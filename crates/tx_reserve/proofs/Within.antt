@@ -1,12 +1,14 @@
 -- Footprints name objects of numbers that there are.
 use Rattle.std.proofs.Common.{◌≡◌, ℕ, ℤ, zero, suc, pos, negsuc, ◌+◌, ◌≤◌, Bool, true, false, not, ◌&&◌, ◌||◌, nat_lt, List, [], ◌∷◌, ◌++◌, length, if◌then◌else◌, ◌==◌, Option, Some, None, is_some, is_none, refl, ap, sym, ◌∙◌, inl, inr, get_or, eq-eqb, arith, ◌⊎◌}
 use Rattle.tx_model.specs.SignalSets.{is_in_set, is_realtime}
+use Rattle.std.specs.Prelude.{All}
+use Rattle.std.proofs.lemmas.List.Elements.{All-head, All-tail}
 use Rattle.std.proofs.lemmas.Bool.{cases_Bool, cases_eq, both_ways, eqb-false, lt-ltb, ltb-true, and_parts, not-false, or_parts}
 use Rattle.tx_base.specs.declared.marks.Mark.{Mark}
 use Rattle.tx_base.specs.declared.steps.Call.{Call}
 use Rattle.tx_base.specs.declared.steps.Call.TheVariants as call
 use Rattle.tx_base.specs.declared.steps.Step.TheVariants.{Call as Calls, Deliver, KernelAbort}
-use Rattle.tx_laws.specs.WellFormed.{IsFirst, IsWellFormed}
+use Rattle.tx_laws.specs.WellFormed.{IsFirst, IsHeldSending, IsWellFormed}
 use Rattle.tx_model.specs.Answer.{chosen_in, is_bad_choice, is_running}
 use Rattle.tx_model.specs.Deliveries.{delivered_value, ends_by, first_value, is_blocked}
 use Rattle.tx_model.specs.Descriptors.{desc_objects, desc_pipe_objects, descriptor, listed, named, open_in, other_than, pipe_list, pipe_of, pipes_of}
@@ -17,7 +19,7 @@ use Rattle.tx_model.specs.Membership.{Table, inside_by, others_open}
 use Rattle.tx_model.specs.Processes.{children_below, children_of, numbered, numbered_objects, procs_of, told_to}
 use Rattle.tx_model.specs.Sends.{sendable}
 use Rattle.tx_model.specs.State.{Description, Object, is_number, Proc, Desc, Pipe, Held, Process, Queued, Sending, State, has, has_parent, is_between, names_at, same_object}
-use Rattle.tx_reserve.specs.Laws.{FootprintIsWithin, HoldsWithin, TargetsWithin, WithinIsSmall, is_within}
+use Rattle.tx_reserve.specs.Laws.{FootprintIsWithin, WithinIsSmall, is_within}
 use Rattle.tx_reserve.proofs.Members.{no_bit, same_is}
 use Rattle.tx_reserve.proofs.Rows.{has-append, has_two}
 
@@ -176,6 +178,16 @@ send_within t p width None signo each = none width
 send_within t p width (Some n) None each = none width
 send_within t p width (Some n) (Some signo) each = target_within t p n width (each n refl)
 
+-- the sends go to process numbers that there are
+abbrev TargetsWithin : ℕ → List Sending → Type 0
+TargetsWithin width [] = Unit {0}
+TargetsWithin width (m ∷ ms) = (is_between width m.target ≡ true) × TargetsWithin width ms
+
+-- what transactions hold goes to such numbers
+held_within : (width : ℕ) (ms : List Sending) → All (IsHeldSending width) ms → TargetsWithin width ms
+held_within width [] held = tt
+held_within width (m ∷ ms) held = ((All-head (IsHeldSending width) m ms held).target, held_within width ms (All-tail (IsHeldSending width) m ms held))
+
 targets_within : (t : Table) (p width : ℕ) (ms : List Sending) → TargetsWithin width ms → Within width (targets t p ms)
 unfolding targets
 targets_within t p width [] inside = none width
@@ -189,11 +201,13 @@ more_within : (width : ℕ) (ms more : List Sending) → TargetsWithin width ms 
 more_within width [] more first second = second
 more_within width (m ∷ ms) more first second = (first.0, more_within width ms more first.1 second)
 
-commit_within : (t : Table) (p : ℕ) (mark : Option Mark) (more : List Sending) (S : State) → HoldsWithin t p mark S → TargetsWithin S.width more → Within S.width (commit_row_of t p mark more S)
-commit_within t p None more S holds inside = none S.width
-commit_within t p (Some m) more S holds inside =
+commit_within : (t : Table) (p : ℕ) (mark : Option Mark) (more : List Sending) (S : State) → IsWellFormed S → TargetsWithin S.width more → Within S.width (commit_row_of t p mark more S)
+commit_within t p None more S formed inside = none S.width
+commit_within t p (Some m) more S formed inside =
     unless (others_open t m.starter.0 p t.width) (targets t p (S.held m.starter.0 ++ more))
-    (λ last. targets_within t p S.width (S.held m.starter.0 ++ more) (more_within S.width (S.held m.starter.0) more (holds last) inside))
+    (λ last.
+    targets_within t p S.width (S.held m.starter.0 ++ more)
+    (more_within S.width (S.held m.starter.0) more (held_within S.width (S.held m.starter.0) (formed.held m.starter.0)) inside))
 
 told_within : (t : Table) (p parent width : ℕ) → is_between width parent ≡ true → TargetsWithin width (told_for_later t p parent)
 told_within t p parent width inside = by (parent == 1) (is_for_later (inside_by t (t.marks p)) parent)
@@ -203,12 +217,12 @@ told_within t p parent width inside = by (parent == 1) (is_for_later (inside_by 
     by false true = (inside, tt)
     by false false = tt
 
-ending_within : (t : Table) (p : ℕ) (me : Process) (S : State) → IsWellFormed S → Names S me → is_between S.width me.parent ≡ true → HoldsWithin t p (t.marks p) S → Within S.width (ending_row t p me S)
-ending_within t p me S formed names parent holds =
+ending_within : (t : Table) (p : ℕ) (me : Process) (S : State) → IsWellFormed S → Names S me → is_between S.width me.parent ≡ true → Within S.width (ending_row t p me S)
+ending_within t p me S formed names parent =
     both _ _ (both _ _ (both (desc_pipe_objects (open_in me.descriptors) S) (procs_of (children_of p S))
     (open_within S me.descriptors names.each) (all (p == 1)))
     (unless (me.parent == 1) (target_row t p me.parent) (λ other. target_within t p me.parent S.width parent)))
-    (commit_within t p (t.marks p) (told_for_later t p me.parent) S holds (told_within t p me.parent S.width parent))
+    (commit_within t p (t.marks p) (told_for_later t p me.parent) S formed (told_within t p me.parent S.width parent))
   where
     all : (b : Bool) → Within S.width (procs_of (if b then [] else children_below p (S.width + 1) S))
     all true = none S.width
@@ -226,29 +240,29 @@ pipe_numbers q r w good =
     (halves.0, halves.1, split.1)
 
 call_within : (t : Table) (p : ℕ) (c : Call) (me : Process) (S : State) → IsWellFormed S → S.procs p ≡ Some me → Names S me → is_bad_choice S.width (chosen_in c) ≡ false
-    → HoldsWithin t p (t.marks p) S → Within S.width (call_row t p c me S)
-call_within t p (call.Fork child) me S formed there names good holds =
+    → Within S.width (call_row t p c me S)
+call_within t p (call.Fork child) me S formed there names good =
     both (Proc child.0 ∷ []) (desc_objects (open_in me.descriptors)) (one S.width (Proc child.0) (not-false (is_between S.width child.0) good))
     (front (desc_objects (open_in me.descriptors)) (pipe_list (pipes_of (open_in me.descriptors) S)) (open_within S me.descriptors names.each))
-call_within t p (call.Exit status) me S formed there names good holds =
-    unless (p == 1) (ending_row t p me S) (λ e. ending_within t p me S formed names (parent_within S p me formed there (eqb-false p 1 e)) holds)
-call_within t p (call.Waitpid n nohang) me S formed there names good holds = waits_within S.width (numbered S.width n) (numbered_within S.width n)
-call_within t p (call.Pipe q r w) me S formed there names good holds =
+call_within t p (call.Exit status) me S formed there names good =
+    unless (p == 1) (ending_row t p me S) (λ e. ending_within t p me S formed names (parent_within S p me formed there (eqb-false p 1 e)))
+call_within t p (call.Waitpid n nohang) me S formed there names good = waits_within S.width (numbered S.width n) (numbered_within S.width n)
+call_within t p (call.Pipe q r w) me S formed there names good =
     let numbers = pipe_numbers q.0 r.0 w.0 good in
     both (Pipe q.0 ∷ []) (Desc r.0 ∷ Desc w.0 ∷ []) (one S.width (Pipe q.0) numbers.0)
     (both (Desc r.0 ∷ []) (Desc w.0 ∷ []) (one S.width (Desc r.0) numbers.1) (one S.width (Desc w.0) numbers.2))
-call_within t p (call.Dup f) me S formed there names good holds = fd_desc_within S me names (descriptor f)
-call_within t p (call.Dup2 f g) me S formed there names good holds =
+call_within t p (call.Dup f) me S formed there names good = fd_desc_within S me names (descriptor f)
+call_within t p (call.Dup2 f g) me S formed there names good =
     both (desc_objects (listed (named me (descriptor f)))) (desc_pipe_objects (other_than (descriptor f) (descriptor g) me) S) (fd_desc_within S me names (descriptor f))
     (other_within S me names (descriptor f) (descriptor g))
-call_within t p (call.Close f) me S formed there names good holds = fd_within S me names (descriptor f)
-call_within t p (call.SetNonblock f on) me S formed there names good holds = fd_desc_within S me names (descriptor f)
-call_within t p (call.Read f address n) me S formed there names good holds = fd_within S me names (descriptor f)
-call_within t p (call.Write f address n) me S formed there names good holds = fd_within S me names (descriptor f)
-call_within t p (call.Kill n signo) me S formed there names good holds = send_within t p S.width (numbered S.width n) (sendable signo) (numbered_within S.width n)
-call_within t p (call.Sigqueue n signo value) me S formed there names good holds = send_within t p S.width (numbered S.width n) (sendable signo) (numbered_within S.width n)
-call_within t p call.SysXend me S formed there names good holds = commit_within t p (t.marks p) [] S holds tt
-call_within t p c me S formed there names good holds = none S.width
+call_within t p (call.Close f) me S formed there names good = fd_within S me names (descriptor f)
+call_within t p (call.SetNonblock f on) me S formed there names good = fd_desc_within S me names (descriptor f)
+call_within t p (call.Read f address n) me S formed there names good = fd_within S me names (descriptor f)
+call_within t p (call.Write f address n) me S formed there names good = fd_within S me names (descriptor f)
+call_within t p (call.Kill n signo) me S formed there names good = send_within t p S.width (numbered S.width n) (sendable signo) (numbered_within S.width n)
+call_within t p (call.Sigqueue n signo value) me S formed there names good = send_within t p S.width (numbered S.width n) (sendable signo) (numbered_within S.width n)
+call_within t p call.SysXend me S formed there names good = commit_within t p (t.marks p) [] S formed tt
+call_within t p c me S formed there names good = none S.width
 
 -- no delivery is due in process 1
 no_value : (signo : ℕ) (queued : List Queued) → length queued ≡ 0 → first_value signo queued ≡ None
@@ -274,31 +288,31 @@ calm_ends inside signo me q same first =
 some_same : (x y : Process) → Some x ≡ Some y → x ≡ y
 some_same x y e = cc
 
-delivery_within : (t : Table) (p signo : ℕ) (me : Process) (S : State) → IsWellFormed S → S.procs p ≡ Some me → Names S me → HoldsWithin t p (t.marks p) S → Within S.width (delivery_row t p signo me S)
-delivery_within t p signo me S formed there names holds = by (ends_by (inside_by t (t.marks p)) signo me (delivered_value signo me)) refl (cases_eq p 1)
+delivery_within : (t : Table) (p signo : ℕ) (me : Process) (S : State) → IsWellFormed S → S.procs p ≡ Some me → Names S me → Within S.width (delivery_row t p signo me S)
+delivery_within t p signo me S formed there names = by (ends_by (inside_by t (t.marks p)) signo me (delivered_value signo me)) refl (cases_eq p 1)
   where
     by : (b : Bool) → ends_by (inside_by t (t.marks p)) signo me (delivered_value signo me) ≡ b → (p ≡ 1) ⊎ (p ≡ 1 → ⊥) → Within S.width (if b then ending_row t p me S else [])
     by false e other = none S.width
-    by true e (inr other) = ending_within t p me S formed names (parent_within S p me formed there other) holds
+    by true e (inr other) = ending_within t p me S formed names (parent_within S p me formed there other)
     by true e (inl is) =
         let same = some_same me formed.first.0 (sym there ∙ ap S.procs is ∙ formed.first.1) in
         absurd (both_ways (ends_by (inside_by t (t.marks p)) signo me (delivered_value signo me)) (calm_ends (inside_by t (t.marks p)) signo me formed.first.0 same formed.first.2) e)
 
 pub footprint_within : FootprintIsWithin
 unfolding footprint
-footprint_within t (Calls p c) S o formed runs good holds there = (by (S.procs p.0) refl runs).each o there
+footprint_within t (Calls p c) S o formed runs good there = (by (S.procs p.0) refl runs).each o there
   where
     by : (x : Option Process) → S.procs p.0 ≡ x → is_running x ≡ true → Within S.width (Proc p.0 ∷ call_row_at t p.0 c x S)
     by None e h = absurd (both_ways false refl h)
     by (Some me) e h =
-        both (Proc p.0 ∷ []) (call_row t p.0 c me S) (one S.width (Proc p.0) (there_within S p.0 me formed e)) (call_within t p.0 c me S formed e (names_in S p.0 me formed e h) good holds)
-footprint_within t (Deliver p signo) S o formed runs good holds there = (by (S.procs p.0) refl runs).each o there
+        both (Proc p.0 ∷ []) (call_row t p.0 c me S) (one S.width (Proc p.0) (there_within S p.0 me formed e)) (call_within t p.0 c me S formed e (names_in S p.0 me formed e h) good)
+footprint_within t (Deliver p signo) S o formed runs good there = (by (S.procs p.0) refl runs).each o there
   where
     by : (x : Option Process) → S.procs p.0 ≡ x → is_running x ≡ true → Within S.width (Proc p.0 ∷ delivery_row_at t p.0 signo.0 x S)
     by None e h = absurd (both_ways false refl h)
     by (Some me) e h =
-        both (Proc p.0 ∷ []) (delivery_row t p.0 signo.0 me S) (one S.width (Proc p.0) (there_within S p.0 me formed e)) (delivery_within t p.0 signo.0 me S formed e (names_in S p.0 me formed e h) holds)
-footprint_within t (KernelAbort s) S o formed runs good holds there = (none S.width).each o there
+        both (Proc p.0 ∷ []) (delivery_row t p.0 signo.0 me S) (one S.width (Proc p.0) (there_within S p.0 me formed e)) (delivery_within t p.0 signo.0 me S formed e (names_in S p.0 me formed e h))
+footprint_within t (KernelAbort s) S o formed runs good there = (none S.width).each o there
 
 below_more_numbers : (width n : ℕ) → width ≤ 256 → nat_lt n width ≡ true → nat_lt n 256 ≡ true
 below_more_numbers width n few there = let lt = ltb-true n width there in lt-ltb n 256 (omega arith)

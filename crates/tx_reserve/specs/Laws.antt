@@ -1,13 +1,12 @@
 -- Footprints name objects of numbers that there are; and tables of owners are told by the owners in them.
-use Rattle.std.specs.Prelude.{◌≡◌, ◌≤◌, ℕ, Bool, true, false, List, [], ◌∷◌, Option, Some, None, length, nat_lt}
-use Rattle.tx_base.specs.declared.marks.Mark.{Mark}
+use Rattle.std.specs.Prelude.{◌≡◌, ◌≤◌, ℕ, Bool, true, false, List, Option, length, nat_lt}
 use Rattle.tx_base.specs.declared.steps.Step.{Step}
 use Rattle.tx_laws.specs.WellFormed.{IsWellFormed}
 use Rattle.tx_model.specs.Answer.{has_bad_number, is_running}
 use Rattle.tx_model.specs.Events.{process_of}
 use Rattle.tx_model.specs.Footprints.{footprint}
-use Rattle.tx_model.specs.Membership.{Table, others_open}
-use Rattle.tx_model.specs.State.{Object, Proc, Desc, Pipe, Held, Sending, State, has, is_between}
+use Rattle.tx_model.specs.Membership.{Table}
+use Rattle.tx_model.specs.State.{Object, Proc, Desc, Pipe, Held, State, has, is_between}
 use Rattle.tx_base.specs.declared.names.Pid.{Pid}
 use Rattle.tx_reserve.specs.Objects.{is_small}
 use Rattle.tx_reserve.specs.Reservations.{owner_of}
@@ -19,22 +18,12 @@ is_within width (Desc n) = nat_lt n 64
 is_within width (Pipe n) = nat_lt n 32
 is_within width (Held s) = false
 
--- the sends go to process numbers that there are
-abbrev pub TargetsWithin : ℕ → List Sending → Type 0
-TargetsWithin width [] = Unit {0}
-TargetsWithin width (m ∷ ms) = (is_between width m.target ≡ true) × TargetsWithin width ms
-
--- where a step that ends the part of its process commits, what its transaction holds goes to such numbers
-abbrev pub HoldsWithin : Table → ℕ → Option Mark → State → Type 0
-HoldsWithin t p None S = Unit {0}
-HoldsWithin t p (Some m) S = others_open t m.starter.0 p t.width ≡ false → TargetsWithin S.width (S.held m.starter.0)
-
 -- in a well-formed state, the footprint of a step of a process that runs, which chooses no bad number, has objects of
 -- numbers that there are alone
 abbrev pub FootprintIsWithin : Type 0
 FootprintIsWithin =
     (t : Table) (step : Step) (S : State) (o : Object) → IsWellFormed S → is_running (S.procs (process_of step)) ≡ true → has_bad_number S.width step ≡ false
-    → HoldsWithin t (process_of step) (t.marks (process_of step)) S → has o (footprint t step S) ≡ true → is_within S.width o ≡ true
+    → has o (footprint t step S) ≡ true → is_within S.width o ≡ true
 
 -- such an object is one that a set may have, where there are at most 256 process numbers
 abbrev pub WithinIsSmall : Type 0

@@ -3,8 +3,7 @@ ghost use Rattle.tx_reserve.specs.Laws.{FootprintIsWithin, OwnersAreTold, Within
 
 /// In a well-formed state the footprint of a step has objects of numbers that there are alone:
 /// processes 1 to the width, descriptions 0 to 63, pipes 0 to 31. The step is of a process that runs
-/// and chooses no bad number; and where it may commit, what is held is for such processes. A set may
-/// have each such object.
+/// and chooses no bad number. A set may have each such object.
 pub fn footprints_are_within()
     ensures within { FootprintIsWithin }
     ensures small { WithinIsSmall }

@@ -1,4 +1,5 @@
 use Rattle.tx_laws.proofs.SaysEnded.{other_calls_say, exits_say, deliveries_say, step_told, other_call_told, exit_told, delivery_told}
+use Rattle.tx_laws.proofs.TellsParent.{endings_answered}
 use Rattle.tx_laws.proofs.endings.Goals as goal
 
 pub returns-clause-calls : goal.returns-clause-calls
@@ -6,6 +7,9 @@ returns-clause-calls c = other_calls_say
 
 pub returns-clause-deliveries : goal.returns-clause-deliveries
 returns-clause-deliveries c = deliveries_say
+
+pub returns-clause-answered : goal.returns-clause-answered
+returns-clause-answered c = endings_answered
 
 pub returns-clause-step : goal.returns-clause-step
 returns-clause-step c = step_told

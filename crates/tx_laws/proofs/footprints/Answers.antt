@@ -1,6 +1,8 @@
+use Rattle.tx_laws.proofs.Coherence.{clear_foot}
 use Rattle.tx_laws.proofs.SharedFootprints.{footprint_held}
 use Rattle.tx_laws.proofs.StepFootprints.{footprint_of_event}
 use Rattle.tx_laws.proofs.StepHolders.{holder_of_step}
+use Rattle.tx_laws.proofs.Taken.{clear_of}
 use Rattle.tx_laws.proofs.footprints.Goals as goal
 
 pub returns-clause-of_event : goal.returns-clause-of_event
@@ -11,3 +13,9 @@ returns-clause-holder c = holder_of_step
 
 pub returns-clause-shared : goal.returns-clause-shared
 returns-clause-shared c = footprint_held
+
+pub returns-clause-clear : goal.returns-clause-clear
+returns-clause-clear c = clear_of
+
+pub returns-clause-members : goal.returns-clause-members
+returns-clause-members c view event object starter sound clear there touched = clear_foot view event sound clear object starter there touched

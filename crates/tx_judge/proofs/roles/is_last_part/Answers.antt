@@ -3,7 +3,7 @@ use Rattle.std.specs.Option.{option_copied}
 use Rattle.tx_live.proofs.Ended.{is_covered}
 use Rattle.tx_txn.specs.Marks.{IsCovered}
 use Rattle.tx_txn.specs.declared.txn.Txn.{Txn}
-use Rattle.tx_judge.proofs.roles.member_end.Goals as goal
+use Rattle.tx_judge.proofs.roles.is_last_part.Goals as goal
 
 pub is_last_open-requires : goal.is_last_open-requires
 is_last_open-requires c =

@@ -1,0 +1,19 @@
+-- What is so of every content that steps lead to.
+use Rattle.tx_kernel.specs.Actors.{IsWhole}
+use Rattle.tx_laws.specs.WellFormed.{IsWellFormed}
+use Rattle.tx_laws.specs.WellFormedTable.{IsWellFormedView}
+use Rattle.tx_live.specs.Content.{content_of, view_of, IsShaped}
+use Rattle.tx_live.specs.declared.content.Content.{Content}
+use Rattle.tx_model.specs.History.{Starters}
+use Rattle.tx_txn.specs.Content.{IsKept}
+
+-- what is so of every content that steps lead to
+pub record IsContent (k : Content) : Type 0 where
+  pub shaped : IsShaped k
+  pub kept : IsKept (content_of k)
+  pub formed : (left_out : Starters) → IsWellFormed ((view_of k).without left_out)
+  pub view : IsWellFormedView (view_of k)
+
+-- such parts are whole
+abbrev pub ContentsAreWhole : Type 0
+ContentsAreWhole = (k : Content) → IsContent k → IsWhole k.parts

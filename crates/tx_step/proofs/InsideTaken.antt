@@ -1,0 +1,83 @@
+-- A step of a member, after which its transaction is live.
+use Rattle.std.proofs.Common.{◌≡◌, ℕ, true, length, Option, IsSome, is_some, refl, sym, ap, subst, ◌∙◌}
+use Rattle.tx_base.specs.Slots.{slot_at}
+use Rattle.tx_base.specs.declared.names.Pid.{Pid}
+use Rattle.tx_base.specs.declared.steps.Reply.TheVariants.{Ended}
+use Rattle.tx_judge.specs.Contents.{IsContent}
+use Rattle.tx_judge.specs.declared.roles.StepRole.TheVariants as role
+use Rattle.tx_kernel.specs.Acts.{event_of}
+use Rattle.tx_kernel.specs.declared.events.Act.{Act}
+use Rattle.tx_kernel.specs.declared.planned.Outcome.{Outcome}
+use Rattle.tx_laws.specs.Fits.{Fits}
+use Rattle.tx_live.specs.Content.{view_of}
+use Rattle.tx_live.specs.Insides.{inside_in, IsFootprint, IsFree}
+use Rattle.tx_live.specs.Made.{Answers, IsMade}
+use Rattle.tx_live.specs.Progresses.{part_of, HasChild}
+use Rattle.tx_live.specs.declared.content.Content.{Content}
+use Rattle.tx_live.specs.declared.inverse.Inverse.{Inverse}
+use Rattle.tx_live.specs.declared.marking.Progress.{Progress}
+use Rattle.tx_model.specs.Answer.{has_bad_number}
+use Rattle.tx_model.specs.Effects.{Inside}
+use Rattle.tx_model.specs.Events.{Event}
+use Rattle.tx_model.specs.Membership.{Role, Within}
+use Rattle.tx_model.specs.View.{event_on, first_reply, holder}
+use Rattle.tx_reserve.specs.declared.objects.Objects.{Objects}
+use Rattle.tx_step.proofs.Clear.{free_own}
+use Rattle.tx_step.proofs.Members.{has_child, live_at, live_there, LiveAt}
+use Rattle.tx_step.proofs.OutsideTaken.{did_accept}
+use Rattle.tx_step.proofs.Taken.{answered, numbers, process_asked, runs_seen, stepped}
+use Rattle.tx_step.proofs.Told.{asked_actor, event_told, role_told, within_kind, OfMember}
+use Rattle.tx_step.specs.Asks.{IsActOf, is_own, kind_asked, step_of}
+use Rattle.tx_step.specs.Laws.{StepLaws}
+use Rattle.tx_step.specs.Steps.{IsStep, replied}
+use Rattle.tx_step.specs.Through.{IsLetThrough}
+use Rattle.tx_step.specs.declared.answered.Answered.TheVariants.{Acted}
+use Rattle.tx_step.specs.declared.asked.Asked.{Asked}
+use Rattle.tx_txn.specs.Marks.{table_at}
+
+module _ (laws : StepLaws) (k : Content) (is : IsContent k) (pid starter : Pid) (progress : Progress) (asked : Asked)
+    (through : IsLetThrough k pid asked (role.Inside starter progress)) where
+  told : OfMember (slot_at k.marks pid.0) starter.0 × (is_own (kind_asked asked) true ≡ true)
+  told = within_kind (table_at k.marks) pid.0 starter.0 (kind_asked asked) (first_reply (view_of k) (step_of pid asked)) (slot_at k.marks pid.0) progress (sym (through.is ∙ role_told k pid asked))
+
+  live : LiveAt k pid starter
+  live = live_at k is pid starter told.0
+
+  pub live_is : IsSome (slot_at k.txns starter.0)
+  live_is = live_there k pid starter live
+
+  pub child_is : HasChild (length k.marks) progress
+  child_is =
+      has_child (table_at k.marks) pid starter.0 (length k.marks) asked (first_reply (view_of k) (step_of pid asked)) (slot_at k.marks pid.0) progress told.0
+      (sym (through.is ∙ role_told k pid asked))
+      (ap (λ (w : ℕ). has_bad_number w (step_of pid asked)) is.shaped.marks ∙ numbers laws k is pid asked (role.Inside starter progress) through)
+
+  module _ (act : Act) (acts : IsActOf asked true act) where
+    -- its event
+    event_is : event_on (view_of k) (step_of pid asked) ≡ event_of (inside_in k starter) pid act
+    event_is =
+        event_told k pid asked (Within starter.0 (part_of progress)) Ended through.is
+        ∙ sym (acts (table_at k.marks) pid (slot_at k.marks pid.0) Ended refl (ap is_some told.0.is) told.1)
+        ∙ ap (λ (inside : Option Inside). event_of inside pid act) (sym live.inside)
+
+    pub footprint_is : (footprint : Objects) → IsFootprint k (event_on (view_of k) (step_of pid asked)) footprint → IsFootprint k (event_of (inside_in k starter) pid act) footprint
+    footprint_is footprint = subst (λ (E : Event). IsFootprint k E footprint) event_is
+
+    -- no other transaction owns anything of it
+    pub free : (footprint : Objects) → IsFootprint k (event_on (view_of k) (step_of pid asked)) footprint → IsFree k starter.0 footprint
+    free footprint is_footprint =
+        free_own laws k is (event_of (inside_in k starter) pid act) (ap (holder (view_of k)) (sym event_is) ∙ through.clear) starter.0 told.0.m
+        (ap (slot_at k.marks) (asked_actor (inside_in k starter) pid act) ∙ told.0.is) told.0.starter footprint (footprint_is footprint is_footprint)
+
+    -- once it is made it is a step
+    pub taken : (new : Content) (inverse : Inverse) (did : Outcome) →
+        (Fits (Within starter.0 (part_of progress)) (event_of (inside_in k starter) pid act) pid.0 (view_of k) →
+        IsMade k (Within starter.0 (part_of progress)) (event_of (inside_in k starter) pid act) pid.0 new inverse) →
+        Answers k (event_of (inside_in k starter) pid act) pid new did → IsStep k (step_of pid asked) (replied new pid.0 inverse (Acted did)) inverse new
+    taken new inverse did made answers =
+        let R : Role = Within starter.0 (part_of progress) in
+        let E : Event = event_of (inside_in k starter) pid act in
+        stepped laws k is (step_of pid asked) R E (sym through.is) event_is (replied new pid.0 inverse (Acted did))
+        (answered laws k is pid asked (role.Inside starter progress) through R E (sym through.is) event_is ∙ answers)
+        (did_accept _ did) (λ no. runs_seen laws k is pid asked (role.Inside starter progress) through) new inverse
+        (subst (λ (p : ℕ). Fits R E p (view_of k) → IsMade k R E p new inverse) (sym (process_asked pid asked)) made)

@@ -1,0 +1,11 @@
+pub mod NamedObjects
+pub mod Taken
+pub mod Alone
+pub mod Aborted
+pub mod Told
+pub mod Clear
+pub mod Members
+pub mod KnownLow
+pub mod OutsideTaken
+pub mod InsideTaken
+pub mod EndTaken

@@ -1,0 +1,60 @@
+-- A step of a process that is in no transaction.
+use Rattle.std.proofs.Common.{◌≡◌, ℕ, true, false, None, refl, sym, ap, subst, ◌∙◌}
+use Rattle.tx_base.specs.Slots.{slot_at}
+use Rattle.tx_base.specs.declared.names.Pid.{Pid}
+use Rattle.tx_base.specs.declared.steps.Reply.TheVariants.{Ended}
+use Rattle.tx_judge.specs.Contents.{IsContent}
+use Rattle.tx_judge.specs.declared.roles.StepRole.TheVariants as role
+use Rattle.tx_kernel.specs.Acts.{event_of}
+use Rattle.tx_kernel.specs.Plans.{reply_of as reply_with}
+use Rattle.tx_kernel.specs.declared.events.Act.{Act}
+use Rattle.tx_kernel.specs.declared.planned.Outcome.{Outcome}
+use Rattle.tx_kernel.specs.declared.planned.Outcome.TheVariants as outcome
+use Rattle.tx_live.specs.Content.{now_of, view_of}
+use Rattle.tx_live.specs.Made.{Answers, IsMade, IsUnowned}
+use Rattle.tx_live.specs.declared.content.Content.{Content}
+use Rattle.tx_live.specs.declared.inverse.Inverse.{Inverse}
+use Rattle.tx_model.specs.Answer.{IsAccepted}
+use Rattle.tx_model.specs.Membership.{Outside}
+use Rattle.tx_model.specs.Memory.{Memory}
+use Rattle.tx_model.specs.View.{event_on, first_reply, holder}
+use Rattle.tx_step.proofs.Clear.{named_too, unowned_none}
+use Rattle.tx_step.proofs.Taken.{answered, process_asked, runs_seen, stepped}
+use Rattle.tx_step.proofs.Told.{asked_actor, event_told, outside_kind, role_told}
+use Rattle.tx_step.specs.Asks.{IsActOf, is_own, kind_asked, step_of}
+use Rattle.tx_step.specs.Laws.{StepLaws}
+use Rattle.tx_step.specs.Steps.{IsStep, replied}
+use Rattle.tx_step.specs.Through.{IsLetThrough}
+use Rattle.tx_step.specs.declared.answered.Answered.TheVariants.{Acted}
+use Rattle.tx_step.specs.declared.asked.Asked.{Asked}
+use Rattle.tx_txn.specs.Marks.{table_at}
+
+-- what a process did is accepted
+pub did_accept : (memory : Memory) (did : Outcome) → IsAccepted (reply_with memory did)
+did_accept memory (outcome.Done ret) = tt
+did_accept memory outcome.Ended = tt
+did_accept memory (outcome.Out shown) = tt
+
+module _ (laws : StepLaws) (k : Content) (is : IsContent k) (pid : Pid) (asked : Asked) (through : IsLetThrough k pid asked role.Outside) where
+  kind_is : (slot_at k.marks pid.0 ≡ None) × (is_own (kind_asked asked) false ≡ true)
+  kind_is = outside_kind (table_at k.marks) pid.0 (kind_asked asked) (first_reply (view_of k) (step_of pid asked)) (slot_at k.marks pid.0) (sym (through.is ∙ role_told k pid asked))
+
+  module _ (act : Act) (acts : IsActOf asked false act) where
+    -- its event
+    event_is : event_on (view_of k) (step_of pid asked) ≡ event_of None pid act
+    event_is = event_told k pid asked Outside Ended through.is ∙ sym (acts (table_at k.marks) pid None Ended kind_is.0 refl kind_is.1)
+
+    -- nobody owns what it reads or writes
+    pub unowned : IsUnowned k None (event_of None pid act)
+    unowned o there =
+        unowned_none laws k is (event_of None pid act) (ap (holder (view_of k)) (sym event_is) ∙ through.clear)
+        (ap (slot_at k.marks) (asked_actor None pid act) ∙ kind_is.0) o (named_too k (event_of None pid act) (now_of k) o there)
+
+    -- once it is made it is a step
+    pub taken : (new : Content) (inverse : Inverse) (did : Outcome) → IsMade k Outside (event_of None pid act) pid.0 new inverse → Answers k (event_of None pid act) pid new did →
+        IsStep k (step_of pid asked) (replied new pid.0 inverse (Acted did)) inverse new
+    taken new inverse did made answers =
+        stepped laws k is (step_of pid asked) Outside (event_of None pid act) (sym through.is) event_is (replied new pid.0 inverse (Acted did))
+        (answered laws k is pid asked role.Outside through Outside (event_of None pid act) (sym through.is) event_is ∙ answers)
+        (did_accept _ did) (λ no. runs_seen laws k is pid asked role.Outside through) new inverse
+        (λ fits. subst (λ (p : ℕ). IsMade k Outside (event_of None pid act) p new inverse) (sym (process_asked pid asked)) made)

@@ -1,0 +1,14 @@
+use Rattle.tx_step.proofs.Alone.{alone, begun_step}
+use Rattle.tx_step.proofs.Taken.{runs}
+use Rattle.tx_judge.specs.declared.roles.StepRole.TheVariants as the
+use Rattle.tx_step.proofs.begins.take_begin.Goals as goal
+
+pub begin-requires-clause-running : goal.begin-requires-clause-running
+begin-requires-clause-running c = runs c.laws.ensures c.args.content.now c.requires.content c.args.pid c.args._asked (the.Begins c.args.defers) c.requires.through
+
+pub begin-requires-clause-alone : goal.begin-requires-clause-alone
+begin-requires-clause-alone c = alone c.laws.ensures c.args.content.now c.requires.content c.args.pid c.args._asked c.args.defers c.requires.through
+
+pub returns-clause-made : goal.returns-clause-made
+returns-clause-made c =
+    begun_step c.laws.ensures c.args.content.now c.requires.content c.args.pid c.args._asked c.args.defers c.requires.through c.begin.new.self c.in_ok-inverse.inverse c.in_ok-inverse.ensures.made

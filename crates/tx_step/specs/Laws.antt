@@ -1,0 +1,27 @@
+-- The laws that steps stand on.
+use Rattle.tx_judge.specs.Contents.{ContentsAreWhole}
+use Rattle.tx_judge.specs.Early.{RefusalIsEarly}
+use Rattle.tx_laws.specs.Endings.{EndingsAreAnswered}
+use Rattle.tx_laws.specs.Footprints.{ClearIsOfMembers, FootprintIsOfEvent, NoHolderIsClear}
+use Rattle.tx_laws.specs.Laws.{AcceptedStepsFit, NextIsWellFormed}
+use Rattle.tx_laws.specs.LawsOfParts.{PresentIsNow}
+use Rattle.tx_laws.specs.LawsOfTable.{NextViewIsWellFormed}
+use Rattle.tx_laws.specs.WellFormed.{IsWellFormed, HasGoodNumbers}
+use Rattle.tx_model.specs.Events.{Event, after}
+use Rattle.tx_model.specs.State.{State}
+use Rattle.tx_txn.specs.Laws.{ContentFollowsStep, DoomIsPending}
+
+pub record StepLaws : Type 0 where
+  pub whole : ContentsAreWhole
+  pub early : RefusalIsEarly
+  pub fits : AcceptedStepsFit
+  pub present : PresentIsNow
+  pub follows : ContentFollowsStep
+  pub formed : NextIsWellFormed
+  pub view : NextViewIsWellFormed
+  pub keeps : (event : Event) (state : State) → IsWellFormed state → HasGoodNumbers state.width event → IsWellFormed (after event state)
+  pub answered : EndingsAreAnswered
+  pub of_event : FootprintIsOfEvent
+  pub clear : NoHolderIsClear
+  pub members : ClearIsOfMembers
+  pub doom : DoomIsPending

@@ -1,0 +1,55 @@
+//! Steps that abort a transaction.
+ghost use Rattle.std.specs.Prelude.{◌≡◌, ◌↔◌, true, IfSome, IsSome, IfNone};
+ghost use Rattle.tx_base.specs.declared.steps.Reply.TheVariants as reply;
+ghost use Rattle.tx_base.specs.declared.steps.Step.TheVariants.{KernelAbort};
+ghost use Rattle.tx_judge.specs.Contents.{IsContent};
+ghost use Rattle.tx_judge.specs.declared.roles.StepRole.TheVariants as role;
+ghost use Rattle.tx_live.specs.Content.{view_of};
+ghost use Rattle.tx_model.specs.Membership.{is_live};
+ghost use Rattle.tx_step.specs.Asks.{step_of};
+ghost use Rattle.tx_step.specs.Steps.{IsStep, replied};
+ghost use Rattle.tx_step.specs.Through.{IsLetThrough};
+
+use crate::answered::Answered;
+use crate::asked::Asked;
+use crate::laws::laws;
+use tx_base::{ABORTED_BY_CALL, ABORTED_BY_KERNEL, ABORTED_DOOMED, Pid};
+use tx_live::{Content, Inverse};
+
+/// Aborts the transaction of a starter, as a member asks. It takes no memory.
+pub fn take_abort(
+    content: &mut Content,
+    pid: Pid,
+    starter: Pid,
+    _asked: Asked,
+) -> (Answered, Inverse)
+    requires content { IsContent content.old }
+    requires through { IsLetThrough content.old pid _asked (role.Aborts starter) }
+    ensures { IsStep content.old (step_of pid _asked.entry) (replied content.new pid.0 result.1 result.0) result.1 content.new }
+{
+    laws();
+    let inverse = content.abort(starter, -i64::from(ABORTED_BY_CALL));
+    (Answered::Aborted(ABORTED_BY_CALL), inverse)
+}
+
+/// Aborts the live transaction of a starter: all that its members' steps changed is as it was, and the
+/// starter stands at the point after its sys_xbegin with the negative status, which is 203 where the
+/// transaction is doomed, and else 202. It takes no memory. Own rule.
+///
+/// Nothing where the starter has no live transaction; the content is then as it was.
+pub fn take_kernel_abort(content: &mut Content, starter: Pid) -> Option<(u16, Inverse)>
+    requires { IsContent content.old }
+    ensures made { IfSome result (λ made. IsStep content.old (KernelAbort starter) (reply.Aborted made.0) made.1 content.new) }
+    ensures live { IsSome result ↔ (is_live (view_of content.old).table starter.0 ≡ true) }
+    ensures none { IfNone result (content.new ≡ content.old) }
+{
+    laws();
+    let boxed = content.txns.get(starter)?;
+    let status = if boxed.txn.kept.is_doomed() {
+        ABORTED_DOOMED
+    } else {
+        ABORTED_BY_KERNEL
+    };
+    let inverse = content.abort(starter, -i64::from(status));
+    Some((status, inverse))
+}

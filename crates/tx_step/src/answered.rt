@@ -1,0 +1,13 @@
+//! What an accepted step is answered.
+use tx_kernel::Outcome;
+
+/// What an accepted step is answered, in few bytes.
+#[derive(Clone, Copy, PartialEq, Eq, Debug)]
+pub enum Answered {
+    /// What its process did.
+    Acted(Outcome),
+    /// Its transaction was committed. What could not be delivered its inverse has.
+    Committed,
+    /// Its transaction was aborted, with this status.
+    Aborted(u16),
+}

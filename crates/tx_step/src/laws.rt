@@ -1,0 +1,24 @@
+//! The laws that steps stand on.
+ghost use Rattle.tx_step.specs.Laws.{StepLaws};
+
+use tx_judge::{contents_are_whole, refusals_are_early};
+use tx_laws::{
+    answers_of_parts, endings, footprints, step_by_step, well_formed, well_formed_table,
+};
+use tx_txn::{answers_of_faces, logs_keep};
+
+/// The laws on which the proofs of steps stand. It does nothing.
+pub(crate) fn laws()
+    ensures { StepLaws }
+{
+    contents_are_whole();
+    refusals_are_early();
+    step_by_step();
+    answers_of_parts();
+    logs_keep();
+    answers_of_faces();
+    well_formed();
+    well_formed_table();
+    endings();
+    footprints();
+}
