@@ -1,12 +1,5 @@
-pub mod OfBuilt
-pub mod LogFacts
-pub mod Slotted
-pub mod Views
-pub mod Replies
-pub mod Cases
-pub mod Outcomes
-pub mod StepFacts
-pub mod MachineFacts
-pub mod Accepts
 pub mod Boots
+pub mod FreeNumbers
+pub mod LeastNumbers
+pub mod Steps
 pub mod SoFar

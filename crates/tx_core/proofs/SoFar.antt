@@ -6,22 +6,20 @@ use Rattle.tx_base.specs.declared.steps.Refusal.TheVariants.{NoMemory}
 use Rattle.tx_base.specs.declared.steps.Reply.{Reply}
 use Rattle.tx_base.specs.declared.steps.Reply.TheVariants.{Done, Ended, Committed, Aborted, Out, No}
 use Rattle.tx_base.specs.declared.steps.Step.{Step}
-use Rattle.tx_core.specs.Content.{view_of}
-use Rattle.tx_core.specs.Runs.{RunsFrom, RunsSoFar}
-use Rattle.tx_core.specs.declared.content.Content.{Content}
-use Rattle.tx_core.specs.declared.schedules.Ran.{Ran}
-use Rattle.tx_laws.specs.Laws.{PrefixesAgree}
-use Rattle.tx_model.specs.Answer.{answer, IsAccepted, Lawful, Agreement}
+use Rattle.tx_live.specs.Content.{view_of}
+use Rattle.tx_core.specs.Runs.{RunsFrom}
+use Rattle.tx_live.specs.declared.content.Content.{Content}
+use Rattle.tx_model.specs.Answer.{answer, IsAccepted, Lawful}
 use Rattle.tx_model.specs.Schedules.{recorded, history_of}
 use Rattle.tx_model.specs.State.{State}
 use Rattle.tx_model.specs.View.{View, view}
 
-pub so_far_start : (start : State) (steps : List Step) (k : Content) (entries : List Accepted) → entries ≡ [] → view_of k ≡ view start [] → RunsSoFar start steps steps k entries
-unfolding Lawful
-so_far_start start steps k entries none same =
+pub run_starts : (start : State) (k : Content) (entries : List Accepted) → entries ≡ [] → view_of k ≡ view start [] → RunsFrom start [] k entries
+unfolding Lawful history_of
+run_starts start k entries none same =
     let empty : reverse entries ≡ [] = ap reverse none in
     record {
-      history = ap (λ (h : List Accepted). history_of start h steps) empty;
+      history = empty;
       lawful = subst (Lawful start) (sym empty) tt;
       view = same ∙ ap (view start) (sym empty);
     }
@@ -42,30 +40,38 @@ recorded_refused h step (Committed undelivered) a = absurd (a tt)
 recorded_refused h step (Aborted status) a = absurd (a tt)
 recorded_refused h step (Out bytes) a = absurd (a tt)
 
--- the history with one more step, by its reply
-one_more : (start : State) (all rest : List Step) (step : Step) (old : Content) (entries : List Accepted) (reply : Reply) → RunsSoFar start all (step ∷ rest) old entries → answer (view_of old) step ≡ reply
-    → history_of start (recorded (reverse entries) step reply) rest ≡ history_of start [] all
+-- the history of a schedule and one more step
+history_of_more : (start : State) (h : List Accepted) (made : List Step) (step : Step)
+    → history_of start h (made ++ step ∷ []) ≡ recorded (history_of start h made) step (answer (view start (history_of start h made)) step)
 unfolding history_of
-one_more start all rest step old entries reply so answered =
-    ap (λ (r : Reply). history_of start (recorded (reverse entries) step r) rest) (sym answered ∙ ap (λ (V : View). answer V step) so.view) ∙ so.history
+history_of_more start h [] step = refl
+history_of_more start h (first ∷ made) step = history_of_more start (recorded h first (answer (view start h) first)) made step
 
-pub so_far_accepted : (start : State) (all rest : List Step) (step : Step) (old new : Content) (entries : List Accepted) (reply : Reply) → RunsSoFar start all (step ∷ rest) old entries
+-- the same of a run, by the reply that the step gets
+one_more : (start : State) (made : List Step) (step : Step) (old : Content) (entries : List Accepted) (reply : Reply) → RunsFrom start made old entries → answer (view_of old) step ≡ reply
+    → recorded (reverse entries) step reply ≡ history_of start [] (made ++ step ∷ [])
+one_more start made step old entries reply so answered =
+    ap (recorded (reverse entries) step) (sym answered ∙ ap (λ (V : View). answer V step) so.view)
+    ∙ ap (λ (h : List Accepted). recorded h step (answer (view start h) step)) so.history
+    ∙ sym (history_of_more start [] made step)
+
+pub run_accepted : (start : State) (made : List Step) (step : Step) (old new : Content) (entries : List Accepted) (reply : Reply) → RunsFrom start made old entries
     → answer (view_of old) step ≡ reply → IsAccepted reply
     → Lawful start (record { step = step; reply = reply } ∷ reverse entries) × (view_of new ≡ view start (record { step = step; reply = reply } ∷ reverse entries))
-    → RunsSoFar start all rest new (entries ++ record { step = step; reply = reply } ∷ [])
-so_far_accepted start all rest step old new entries reply so answered acc along =
+    → RunsFrom start (made ++ step ∷ []) new (entries ++ record { step = step; reply = reply } ∷ [])
+run_accepted start made step old new entries reply so answered acc along =
     let e : Accepted = record { step = step; reply = reply } in
     let list : reverse (entries ++ e ∷ []) ≡ e ∷ reverse entries = reverse-append entries (e ∷ []) in
     record {
-      history = ap (λ (h : List Accepted). history_of start h rest) (list ∙ sym (recorded_accepted (reverse entries) step reply acc)) ∙ one_more start all rest step old entries reply so answered;
+      history = list ∙ sym (recorded_accepted (reverse entries) step reply acc) ∙ one_more start made step old entries reply so answered;
       lawful = subst (Lawful start) (sym list) along.0;
       view = along.1 ∙ ap (view start) (sym list);
     }
 
-pub so_far_refused : (start : State) (all rest : List Step) (step : Step) (old new : Content) (entries : List Accepted) (reply : Reply) → RunsSoFar start all (step ∷ rest) old entries
-    → answer (view_of old) step ≡ reply → (IsAccepted reply → ⊥) → new ≡ old → RunsSoFar start all rest new entries
-so_far_refused start all rest step old new entries reply so answered ref same = record {
-  history = ap (λ (h : List Accepted). history_of start h rest) (sym (recorded_refused (reverse entries) step reply ref)) ∙ one_more start all rest step old entries reply so answered;
+pub run_refused : (start : State) (made : List Step) (step : Step) (old new : Content) (entries : List Accepted) (reply : Reply) → RunsFrom start made old entries
+    → answer (view_of old) step ≡ reply → (IsAccepted reply → ⊥) → new ≡ old → RunsFrom start (made ++ step ∷ []) new entries
+run_refused start made step old new entries reply so answered ref same = record {
+  history = sym (recorded_refused (reverse entries) step reply ref) ∙ one_more start made step old entries reply so answered;
   lawful = so.lawful;
   view = ap view_of same ∙ so.view;
 }
@@ -77,10 +83,3 @@ answered_of V step reply (inr h) other = h
 
 pub accepted_not : (reply : Reply) → IsAccepted reply → reply ≡ No NoMemory → ⊥
 accepted_not reply a e = subst IsAccepted e a
-
-pub run_ends : (start : State) (steps : List Step) (ran : Ran) → RunsSoFar start steps [] ran.machine ran.history.items → RunsFrom start steps ran
-unfolding history_of
-run_ends start steps ran so = record { history = so.history; lawful = so.lawful; view = so.view }
-
-pub run_agrees : PrefixesAgree → (start : State) (history later earlier : List Accepted) → Lawful start history → history ≡ later ++ earlier → Agreement start earlier
-run_agrees erasure start history later earlier lawful split = erasure start later earlier (subst (Lawful start) split lawful)

@@ -1,13 +1,16 @@
 -- The laws that the machine stands on.
-use Rattle.tx_laws.specs.Laws.{LawfulViewIsNext, StartIsSound, NextIsSound}
-use Rattle.tx_laws.specs.LawsOfParts.{StartHasItsView, SamePartsSameView, PartsFollowStep, PresentIsNow}
+use Rattle.std.specs.Prelude.{ℕ, ◌≤◌}
+use Rattle.tx_laws.specs.Laws.{LawfulViewIsNext}
+use Rattle.tx_laws.specs.LawsOfParts.{PresentIsNow}
+use Rattle.tx_laws.specs.LawsOfTable.{EmptyViewIsWellFormed}
+use Rattle.tx_laws.specs.WellFormed.{IsWellFormed}
+use Rattle.tx_laws.specs.WellFormedTable.{HoldsNothing}
+use Rattle.tx_model.specs.State.{booted}
 
--- its view is that of its history, and sound; and its two parts have that view
+-- its view is that of its history; it is well formed as it boots; and its parts have that view
 pub record MachineLaws : Type 0 where
   pub history : LawfulViewIsNext
-  pub start_sound : StartIsSound
-  pub next_sound : NextIsSound
-  pub start : StartHasItsView
-  pub same : SamePartsSameView
-  pub step : PartsFollowStep
   pub present : PresentIsNow
+  pub formed : (width count : ℕ) → 1 ≤ count → count ≤ width → IsWellFormed (booted width count)
+  pub nothing : (width count : ℕ) → HoldsNothing (booted width count)
+  pub start : EmptyViewIsWellFormed

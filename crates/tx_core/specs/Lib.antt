@@ -1,8 +1,4 @@
-pub mod Built
+pub mod Free
 pub mod Laws
-pub mod Plans
-pub mod Content
-pub mod Undo
-pub mod Outcomes
-pub mod Steps
 pub mod Runs
+pub mod Undo

@@ -1,10 +1,9 @@
 -- What a run of a schedule leaves.
-use Rattle.std.specs.Prelude.{◌≡◌, List, [], reverse}
+use Rattle.std.specs.Prelude.{◌≡◌, ℕ, List, [], Option, None, Some, reverse, take}
 use Rattle.tx_base.specs.declared.steps.Accepted.{Accepted}
 use Rattle.tx_base.specs.declared.steps.Step.{Step}
-use Rattle.tx_core.specs.Content.{view_of}
-use Rattle.tx_core.specs.declared.content.Content.{Content}
-use Rattle.tx_core.specs.declared.schedules.Ran.{Ran}
+use Rattle.tx_live.specs.Content.{view_of}
+use Rattle.tx_live.specs.declared.content.Content.{Content}
 use Rattle.tx_model.specs.Answer.{Lawful}
 use Rattle.tx_model.specs.Schedules.{history_of}
 use Rattle.tx_model.specs.State.{State}
@@ -15,14 +14,13 @@ pub record IsAfter (start : State) (history : List Accepted) (machine : Content)
   pub lawful : Lawful start history
   pub view : view_of machine ≡ view start history
 
--- the run holds the history of the schedule from a start state, which is lawful, and its machine has the view of that history
-pub record RunsFrom (start : State) (steps : List Step) (ran : Ran) : Type 0 where
-  pub history : reverse ran.history.items ≡ history_of start [] steps
-  pub lawful : Lawful start (reverse ran.history.items)
-  pub view : view_of ran.machine ≡ view start (reverse ran.history.items)
+-- the steps that were taken of a schedule: all of them, or those before the one where the run stopped
+abbrev pub taken : Option ℕ → List Step → List Step
+taken None steps = steps
+taken (Some stopped) steps = take stopped steps
 
--- so far: the steps that are left lead from the history so far to that of the whole schedule
-pub record RunsSoFar (start : State) (steps left : List Step) (content : Content) (entries : List Accepted) : Type 0 where
-  pub history : history_of start (reverse entries) left ≡ history_of start [] steps
+-- the entries, the oldest first, are the history of the steps from a start state; it is lawful, and the machine has its view
+pub record RunsFrom (start : State) (steps : List Step) (machine : Content) (entries : List Accepted) : Type 0 where
+  pub history : reverse entries ≡ history_of start [] steps
   pub lawful : Lawful start (reverse entries)
-  pub view : view_of content ≡ view start (reverse entries)
+  pub view : view_of machine ≡ view start (reverse entries)

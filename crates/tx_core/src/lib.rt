@@ -1,17 +1,13 @@
 //! The machine: a kernel that takes a schedule of steps, with transactions that live side by
-//! side, a log of old parts for each, and an inverse of every accepted step.
+//! side, and an inverse of every accepted step.
 #![tactic(auto)]
 
-mod act;
-mod content;
-mod inverse;
+mod free;
 mod laws;
 mod machine;
-mod outcome;
+mod readers;
 mod schedules;
 
-pub use content::Content;
-pub use inverse::Inverse;
+pub use free::Free;
 pub use machine::{Machine, NoTransaction};
-pub use outcome::Outcome;
-pub use schedules::{Ran, run, run_wide};
+pub use schedules::{Kept, Ran, run, run_kept, run_wide};

@@ -12,3 +12,4 @@ pub mod LastHeld
 pub mod OwnActors
 pub mod AbortWays
 pub mod WaysTold
+pub mod LateTold

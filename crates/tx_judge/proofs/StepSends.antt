@@ -37,7 +37,7 @@ pub record PostsAs (ev : Event) (f : Effect) (S : State) : Type 0 where
   pub held : (before_sends (effect ev S) S).held ≡ (before_sends f S).held
 
 -- what is done by a process that runs
-done_as : (inside : Option Inside) (p : ℕ) (act : Act) (S : State) (me : Process) → S.procs p ≡ Some me → me.status ≡ None → effect_at inside p act S (S.procs p) ≡ act_effect inside p act me S
+pub done_as : (inside : Option Inside) (p : ℕ) (act : Act) (S : State) (me : Process) → S.procs p ≡ Some me → me.status ≡ None → effect_at inside p act S (S.procs p) ≡ act_effect inside p act me S
 done_as inside p act S me there runs = ap (effect_at inside p act S) there ∙ ap (running_effect inside p act S me) runs
 
 same_posts : (ev : Event) (f : Effect) (S : State) → effect ev S ≡ f → PostsAs ev f S

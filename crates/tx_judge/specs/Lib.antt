@@ -5,3 +5,4 @@ pub mod Faces
 pub mod Holder
 pub mod Roles
 pub mod Ways
+pub mod Late

@@ -6,12 +6,14 @@
 mod early;
 mod faces;
 mod holder;
+mod late;
 mod laws;
 mod roles;
 mod ways;
 
 pub use early::{early_refusal_of_call, early_refusal_of_delivery};
 pub use holder::find_holder;
+pub use late::late_refusal;
 pub use laws::{contents_are_whole, refusals_are_early};
 pub use roles::{StepRole, role_of_call, role_of_delivery};
 pub use ways::{Way, way_of_call, way_of_delivery};

@@ -95,7 +95,7 @@ fn way_of_abort(content: &Content, starter: Pid) -> Way
 }
 
 /// The process of a number, which runs, with the transaction that it is a member of.
-fn actor_of<'a>(content: &'a Content, pid: Pid) -> Actor<'a>
+pub(crate) fn actor_of<'a>(content: &'a Content, pid: Pid) -> Actor<'a>
     requires content { IsContent content.now }
     requires running { IsRunning (slot_at content.now.parts.procs pid.0) }
     ensures { IsOwnActor content.now pid result }

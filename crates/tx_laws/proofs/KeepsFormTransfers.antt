@@ -98,7 +98,7 @@ from_fewer : (memory : Memory) (address n : ℕ) → length (bytes_from memory a
 from_fewer memory address zero = refl
 from_fewer memory address (suc n) = ap suc (from_fewer memory (address + 1) n)
 
-taken_fewer : (memory : Memory) (address : Option ℕ) (n : ℕ) → length (bytes_at memory address n) ≤ n
+pub taken_fewer : (memory : Memory) (address : Option ℕ) (n : ℕ) → length (bytes_at memory address n) ≤ n
 taken_fewer memory None n = omega arith
 taken_fewer memory (Some address) n = let same : length (bytes_from memory address n) ≡ n = from_fewer memory address n in omega arith
 

@@ -23,6 +23,7 @@ pub mod StepView
 pub mod Commutes
 pub mod Mild
 pub mod SaysEnded
+pub mod ShownFew
 pub mod StepFootprints
 pub mod SharedFootprints
 pub mod Doomed

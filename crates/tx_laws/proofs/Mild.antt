@@ -1,12 +1,14 @@
 -- Calls that end no process, and send to nobody but their own.
-use Rattle.std.proofs.Common.{◌≡◌, ℕ, zero, suc, Bool, true, false, ◌||◌, List, [], ◌∷◌, length, ℤ, pos, Option, Some, None, if◌then◌else◌, nat_lt, ◌==◌, ◌+◌, refl, inl, inr}
+use Rattle.std.proofs.Common.{◌≡◌, ℕ, zero, suc, Bool, true, false, ◌||◌, List, [], ◌∷◌, length, ℤ, pos, Option, Some, None, if◌then◌else◌, nat_lt, ◌==◌, ◌+◌, ◌<◌, ◌≤◌, refl, inl, inr, arith}
+use Rattle.std.proofs.lemmas.Bool.{lt-ltb}
 use Rattle.tx_base.specs.declared.limits.TheConstants.{CONSOLE_BYTES, PIPE_BYTES, LAST_POINT}
 use Rattle.tx_base.specs.declared.signals.Action.{Action}
 use Rattle.tx_base.specs.declared.steps.Refusal.{Refusal}
-use Rattle.tx_base.specs.declared.steps.Reply.TheVariants.{Done}
+use Rattle.tx_base.specs.declared.steps.Reply.{Reply}
+use Rattle.tx_base.specs.declared.steps.Reply.TheVariants.{Done, Ended, Committed, Aborted, Out, No}
 use Rattle.tx_base.specs.declared.steps.When.{When}
 use Rattle.tx_model.specs.Numbers.{below}
-use Rattle.tx_model.specs.Memory.{is_good, is_mapped, is_writable}
+use Rattle.tx_model.specs.Memory.{is_good, is_mapped, is_writable, bytes_at, address_of}
 use Rattle.tx_model.specs.State.{Process, Side, ReadSide, WriteSide, Description, State, Sending, Frame, Write}
 use Rattle.tx_model.specs.Effects.{Conclusion, Replies, AnswersPost, ListsFailed, Effect, Inside, Own, idle, own_effect, done, done_with}
 use Rattle.tx_model.specs.Scripts.{does_jump, last_ret, jumps, keeps_at, shows, writes_console}
@@ -17,10 +19,29 @@ use Rattle.tx_model.specs.Transfers.{waits, drains, reads, read_by_side, read_de
 use Rattle.tx_model.specs.Processes.{forks, fork_effect, waits_by, waits_for, waits_at, waitpid_effect, numbered}
 use Rattle.tx_model.specs.Membership.{says_ended}
 use Rattle.tx_laws.specs.Fits.{IsIn}
+use Rattle.tx_laws.proofs.WithinOwn.{below_limit}
+use Rattle.tx_laws.proofs.KeepsFormTransfers.{taken_fewer}
 
--- the conclusion says of no end
+-- whether the reply says of no end, and what it shows fits it
+abbrev pub goes : Reply → Bool
+goes (Done r) = true
+goes Ended = false
+goes (Committed undelivered) = false
+goes (Aborted status) = true
+goes (Out bytes) = nat_lt (length bytes.items) (CONSOLE_BYTES + 1)
+goes (No why) = true
+
+pub goes_unended : (r : Reply) → goes r ≡ true → says_ended r ≡ false
+goes_unended (Done r) h = refl
+goes_unended Ended h = cc
+goes_unended (Committed undelivered) h = cc
+goes_unended (Aborted status) h = refl
+goes_unended (Out bytes) h = refl
+goes_unended (No why) h = refl
+
+-- the conclusion says of no end, and what it shows fits its reply
 abbrev pub GoesOn : Conclusion → Type 0
-GoesOn (Replies r) = says_ended r ≡ false
+GoesOn (Replies r) = goes r ≡ true
 GoesOn (AnswersPost p) = Unit {0}
 GoesOn ListsFailed = ⊥
 
@@ -32,7 +53,7 @@ module _ (p : ℕ) where
   pub idle_mild : (why : Refusal) → IsMild p (idle why)
   idle_mild why = record { goes_on = refl; sends = λ m h. absurd h }
 
-  pub own_mild : (own : Own) → says_ended own.reply ≡ false → IsMild p (own_effect p own)
+  pub own_mild : (own : Own) → goes own.reply ≡ true → IsMild p (own_effect p own)
   own_mild own h = record { goes_on = h; sends = λ m k. absurd k }
 
   pub done_mild : (r : ℤ) (me : Process) → IsMild p (done p r me)
@@ -46,43 +67,49 @@ module _ (p : ℕ) where
   if_mild false f g x y = y
 
   -- scripts and the console
-  own_if : (b : Bool) (x y : Own) → says_ended x.reply ≡ false → says_ended y.reply ≡ false → says_ended (if b then x else y).reply ≡ false
+  own_if : (b : Bool) (x y : Own) → goes x.reply ≡ true → goes y.reply ≡ true → goes (if b then x else y).reply ≡ true
   own_if true x y h k = h
   own_if false x y h k = k
 
-  jumps_on : (point : ℕ) (when : When) (me : Process) → says_ended (jumps point when me).reply ≡ false
+  jumps_on : (point : ℕ) (when : When) (me : Process) → goes (jumps point when me).reply ≡ true
   jumps_on point when me = own_if (nat_lt LAST_POINT point) _ _ refl (own_if (does_jump when (last_ret me)) _ _ refl refl)
 
   pub jump_mild : (point : ℕ) (when : When) (me : Process) → IsMild p (own_effect p (jumps point when me))
   jump_mild point when me = own_mild (jumps point when me) (jumps_on point when me)
 
-  keeps_on : (slot : Option ℕ) (me : Process) → says_ended (keeps_at slot me).reply ≡ false
+  keeps_on : (slot : Option ℕ) (me : Process) → goes (keeps_at slot me).reply ≡ true
   keeps_on None me = refl
   keeps_on (Some k) me = refl
 
   pub keep_mild : (slot : Option ℕ) (me : Process) → IsMild p (own_effect p (keeps_at slot me))
   keep_mild slot me = own_mild (keeps_at slot me) (keeps_on slot me)
 
-  shows_on : (address : ℤ) (n : Option ℕ) (me : Process) → says_ended (shows address n me).reply ≡ false
-  shows_on address None me = refl
-  shows_on address (Some n) me = own_if (is_good is_mapped me.memory address n) _ _ refl refl
+  shown_fits : (address : ℤ) (n : ℕ) (me : Process) → n < CONSOLE_BYTES + 1 → nat_lt (length (bytes_at me.memory (address_of address) n)) (CONSOLE_BYTES + 1) ≡ true
+  shown_fits address n me small =
+      let fewer : length (bytes_at me.memory (address_of address) n) ≤ n = taken_fewer me.memory (address_of address) n in
+      let less : length (bytes_at me.memory (address_of address) n) < 65 = omega arith in
+      lt-ltb (length (bytes_at me.memory (address_of address) n)) 65 less
 
-  console_on : (inside : Option Inside) (address n : ℤ) (me : Process) → says_ended (writes_console inside address n me).reply ≡ false
-  console_on None address n me = shows_on address (below (CONSOLE_BYTES + 1) n) me
+  shows_on : (address : ℤ) (n : Option ℕ) (me : Process) → ((k : ℕ) → n ≡ Some k → k < CONSOLE_BYTES + 1) → goes (shows address n me).reply ≡ true
+  shows_on address None me small = refl
+  shows_on address (Some n) me small = own_if (is_good is_mapped me.memory address n) _ _ (shown_fits address n me (small n refl)) refl
+
+  console_on : (inside : Option Inside) (address n : ℤ) (me : Process) → goes (writes_console inside address n me).reply ≡ true
+  console_on None address n me = shows_on address (below (CONSOLE_BYTES + 1) n) me (λ k h. below_limit (CONSOLE_BYTES + 1) k n h)
   console_on (Some inside) address n me = refl
 
   pub console_mild : (inside : Option Inside) (address n : ℤ) (me : Process) → IsMild p (own_effect p (writes_console inside address n me))
   console_mild inside address n me = own_mild (writes_console inside address n me) (console_on inside address n me)
 
   -- signals of the own process
-  acts_on_on : (signo : Option ℕ) (action : Action) (me : Process) → says_ended (acts signo action me).reply ≡ false
+  acts_on_on : (signo : Option ℕ) (action : Action) (me : Process) → goes (acts signo action me).reply ≡ true
   acts_on_on None action me = refl
   acts_on_on (Some signo) action me = own_if (signo == kill_signo || is_bad_action action) _ _ refl refl
 
   pub action_mild : (signo : Option ℕ) (action : Action) (me : Process) → IsMild p (own_effect p (acts signo action me))
   action_mild signo action me = own_mild (acts signo action me) (acts_on_on signo action me)
 
-  returns_on : (frame : Option Frame) (me : Process) → says_ended (returns frame me).reply ≡ false
+  returns_on : (frame : Option Frame) (me : Process) → goes (returns frame me).reply ≡ true
   returns_on None me = refl
   returns_on (Some frame) me = refl
 

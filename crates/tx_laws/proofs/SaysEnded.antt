@@ -24,13 +24,13 @@ use Rattle.tx_model.specs.Membership.{Table, inside_by, Kind, Ordinary, Forking,
 use Rattle.tx_model.specs.View.{View, present, first_reply}
 use Rattle.tx_laws.specs.Endings.{is_exit, end_reply, ExitIsTold, ExitsSayEnd, OtherCallsSayNoEnd, DeliveriesSayEnd, StepIsToldByEnd, OtherCallIsTold, DeliveryIsTold}
 use Rattle.tx_laws.proofs.Mild
-use Rattle.tx_laws.proofs.Mild.{GoesOn}
+use Rattle.tx_laws.proofs.Mild.{GoesOn, goes_unended}
 use Rattle.tx_laws.proofs.KeepsView.{reply_ends}
 use Rattle.tx_laws.proofs.PlainCalls.{IsSpecial, call_plain}
 use Rattle.tx_laws.proofs.PlainWrites.{concludes_ended}
 
 goes_concludes : (c : Conclusion) → GoesOn c → concludes_ended c ≡ false
-goes_concludes (Replies r) h = h
+goes_concludes (Replies r) h = goes_unended r h
 goes_concludes (AnswersPost p) h = refl
 goes_concludes ListsFailed h = absurd h
 

@@ -25,7 +25,7 @@ use Rattle.tx_laws.specs.Fits.{IsIn}
 use Rattle.tx_laws.specs.Footprints.{is_shared, is_abort, FootprintIsOfEvent}
 use Rattle.tx_laws.proofs.Mild
 use Rattle.tx_laws.proofs.KeepsFormReleased.{written_append}
-use Rattle.tx_laws.proofs.Mild.{GoesOn, IsMild}
+use Rattle.tx_laws.proofs.Mild.{GoesOn, IsMild, goes_unended}
 use Rattle.tx_base.specs.declared.errors.Errno.TheVariants.{InvalidArgument, TryAgain, NoSuchProcess, NotPermitted}
 use Rattle.tx_base.specs.declared.steps.Call.{Call}
 use Rattle.tx_base.specs.declared.steps.Step.{Step}
@@ -217,7 +217,7 @@ module _ (t : Table) (o : Object) (shared : is_shared o ≡ true) (S : State) (p
       (released_held (open_in now.descriptors) gone (written xs gone) ∙ orphaned_held (children_of p S) S gone)
 
 goes_says : (c : Conclusion) (ms : List Sending) (rs : List ℤ) → GoesOn c → says_ended (concluding_reply c ms rs) ≡ false
-goes_says (Replies r) ms rs h = h
+goes_says (Replies r) ms rs h = goes_unended r h
 goes_says (AnswersPost p) ms rs h = refl
 goes_says ListsFailed ms rs h = absurd h
 

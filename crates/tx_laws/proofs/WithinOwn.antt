@@ -55,7 +55,7 @@ if_limits me true x y k l = k
 if_limits me false x y k l = l
 
 -- other ids
-below_limit : (limit n : ℕ) (v : ℤ) → below limit v ≡ Some n → n < limit
+pub below_limit : (limit n : ℕ) (v : ℤ) → below limit v ≡ Some n → n < limit
 below_limit limit n (pos m) h = by (nat_lt m limit) refl h
   where
     by : (b : Bool) → nat_lt m limit ≡ b → (if b then Some m else None) ≡ Some n → n < limit

@@ -12,5 +12,6 @@ pub mod LawsOfEvents
 pub mod LawsOfParts
 pub mod LawsOfDoom
 pub mod Endings
+pub mod Shown
 pub mod WellFormedTable
 pub mod LawsOfTable

@@ -16,6 +16,7 @@ ghost use Rattle.tx_model.specs.View.{view};
 ghost use Rattle.tx_laws.specs.Laws.{PrefixesAgree, SurvivorsAreByPlace, LawfulViewIsNext, LawfulViewIsSound, StartIsSound, NextIsSound, AcceptedStepsFit, RolesKeepSound, NextIsWellFormed, SchedulesAreLawful};
 ghost use Rattle.tx_laws.specs.LawsOfDoom.{DoomedCallsAreRefused, DoomedDeliveriesAreRefused, DoomedAbortAnswers203, OtherAbortAnswers202, MembersDoomNothing, KillDooms, SigqueueDooms, DoomStays};
 ghost use Rattle.tx_laws.specs.Endings.{ExitIsTold, ExitsSayEnd, OtherCallsSayNoEnd, DeliveriesSayEnd, EndingsAreAnswered, StepIsToldByEnd, OtherCallIsTold, DeliveryIsTold};
+ghost use Rattle.tx_laws.specs.Shown.{ShowsFew};
 ghost use Rattle.tx_laws.specs.LawsOfEvents.{ActorIsObject, EffectIsLocal, ObjectsAreLocal, ReplyIsLocal, ElsewhereIsSame, OtherPartsStay, WritesStayInObjects, OthersGetSendsAlone, HoldsForItsOwn, MembersSendToMembers, StatesCommute, RepliesCommute};
 ghost use Rattle.tx_laws.specs.LawsOfParts.{StartHasItsView, SamePartsSameView, PartsFollowRole, PartsFollowStep, PresentIsNow, DoomIsKept, TwoAnswersAreOfStarter, InWayIsOfParts, HolderIsOfParts};
 ghost use Rattle.tx_laws.specs.WellFormed.{IsWellFormed, HasGoodNumbers};
@@ -146,7 +147,8 @@ pub fn doom()
 /// a delivery is to the transactions, and its event, depend on the first reply by that alone. So a call
 /// other than an exit is told as one that ends nothing, and a delivery by whether it now ends its process.
 /// An exit ends its process, but for process 1, which gets an error for it and goes on. What an ending
-/// posts itself is answered by no error: it tells the parent, which is there.
+/// posts itself is answered by no error: it tells the parent, which is there. What a step shows on the
+/// console fits its reply, whatever the view.
 pub fn endings()
     ensures calls { OtherCallsSayNoEnd }
     ensures exits { ExitsSayEnd }
@@ -156,6 +158,7 @@ pub fn endings()
     ensures other_call { OtherCallIsTold }
     ensures exit { ExitIsTold }
     ensures delivery { DeliveryIsTold }
+    ensures shown { ShowsFew }
 {}
 
 /// Well-formed states: process 1 runs, the parent of any other process runs too, what descriptors

@@ -6,7 +6,7 @@ use Rattle.tx_base.specs.declared.steps.Step.{Step}
 use Rattle.tx_script.specs.declared.faults.Fault.{Fault}
 use Rattle.tx_script.specs.declared.faults.Fault.TheVariants.{NotALine, TooLong, Reader, Writer, NoMemory}
 use Rattle.tx_script.specs.declared.read.header.Header.{Header}
-use Rattle.tx_script.specs.Lines.{header_text, step_text, FitsStep, StandsIn}
+use Rattle.tx_script.specs.Lines.{header_text, step_text, FitsStep, IsOf}
 use Rattle.tx_script.specs.Schedule.{steps_text, schedule_text, FaultsAtStep, IsSchedule, ReadsSchedule}
 
 steps_text-append : (steps : List Step) (step : Step) (rest : List ℕ) → steps_text (steps ++ step ∷ []) ++ rest ≡ steps_text steps ++ (step_text step ++ 10 ∷ rest)
@@ -28,12 +28,12 @@ all_one : (P : Step → Type 0) (step : Step) → P step → All P (step ∷ [])
 all_one P step holds zero d below = holds
 all_one P step holds (suc k) d below = absurd (omega arith)
 
-pub schedule_more : (header : Header) (steps : List Step) (step : Step) (more : List Step) → IsSchedule header steps → FitsStep step → StandsIn header.version step → length steps < 4096 →
+pub schedule_more : (header : Header) (steps : List Step) (step : Step) (more : List Step) → IsSchedule header steps → FitsStep step → IsOf header.version step → length steps < 4096 →
     more ≡ steps ++ step ∷ [] → IsSchedule header more
 schedule_more header steps step more good fits within few pushed = record {
   header_fits = good.header_fits;
   steps_fit = rw pushed (All-append FitsStep steps (step ∷ []) good.steps_fit (all_one FitsStep step fits));
-  steps_of = rw pushed (All-append (λ s. StandsIn header.version s) steps (step ∷ []) good.steps_of (all_one (λ s. StandsIn header.version s) step within));
+  steps_of = rw pushed (All-append (λ s. IsOf header.version s) steps (step ∷ []) good.steps_of (all_one (λ s. IsOf header.version s) step within));
   few = omega (arith, ap length pushed, length-append steps (step ∷ []));
 }
 

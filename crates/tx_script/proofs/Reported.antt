@@ -1,13 +1,16 @@
 -- What some steps of a schedule leave: the lines of their answers, and a machine that has the view of their history.
-use Rattle.std.proofs.Common.{◌≡◌, ℕ, ◌+◌, List, [], ◌∷◌, ◌++◌, sym, ap, ◌∙◌, subst, append_assoc}
+use Rattle.std.proofs.Common.{◌≡◌, ℕ, ◌+◌, List, [], ◌∷◌, ◌++◌, Option, Some, None, IsSome, ◌⊎◌, inl, inr, refl, sym, ap, ◌∙◌, subst, append_assoc}
+use Rattle.std.specs.Prelude.{IsNone}
 use Rattle.std.proofs.lemmas.List.{append-nil}
 use Rattle.tx_base.specs.declared.steps.Accepted.{Accepted}
+use Rattle.tx_base.specs.declared.steps.Refusal.TheVariants.{NoMemory}
 use Rattle.tx_base.specs.declared.steps.Reply.{Reply}
+use Rattle.tx_base.specs.declared.steps.Reply.TheVariants.{Done, Ended, Committed, Aborted, Out, No}
 use Rattle.tx_base.specs.declared.steps.Step.{Step}
-use Rattle.tx_core.specs.Content.{view_of}
+use Rattle.tx_live.specs.Content.{view_of}
 use Rattle.tx_core.specs.Runs.{IsAfter}
-use Rattle.tx_core.specs.declared.content.Content.{Content}
-use Rattle.tx_model.specs.Answer.{answer, Lawful}
+use Rattle.tx_live.specs.declared.content.Content.{Content}
+use Rattle.tx_model.specs.Answer.{answer, IsAccepted, Lawful}
 use Rattle.tx_model.specs.Schedules.{recorded, answers_of, history_of}
 use Rattle.tx_model.specs.State.{State}
 use Rattle.tx_model.specs.View.{View, view}
@@ -51,6 +54,25 @@ replies_whole start earlier steps before machine text number left so none = (
   sym (so.lines ∙ ap (λ (xs : List Step). text ++ lines_text number (answers_of start so.history xs)) none ∙ append-nil text),
   subst (λ (h : List Accepted). IsAfter start h machine) (sym (so.leads ∙ ap (history_of start so.history) none)) so.after,
 )
+
+-- the answer, where it is not want of memory
+pub replied_answer : (V : View) (step : Step) (reply : Reply) → (reply ≡ No NoMemory) ⊎ (answer V step ≡ reply) → (reply ≡ No NoMemory → ⊥) → reply ≡ answer V step
+replied_answer V step reply (inl wants) other = absurd (other wants)
+replied_answer V step reply (inr same) other = sym same
+
+unless_accepted : {A : Type 0} (reply : Reply) (made : Option A) → (IsSome made → IsAccepted reply) → (IsAccepted reply → ⊥) → IsNone made
+unless_accepted reply None yields refused = refl
+unless_accepted reply (Some inverse) yields refused = absurd (refused (yields refl))
+
+-- the machine after a step: where it was accepted its entry is the last, and where it was refused nothing has changed
+pub after_reply : {A : Type 0} (start : State) (earlier : List Accepted) (step : Step) (reply : Reply) (made : Option A) (old new : Content) → IsAfter start earlier old → (IsSome made → IsAccepted reply) → (IsNone made → new ≡ old)
+    → (IsAccepted reply → Lawful start (record { step = step; reply = reply } ∷ earlier) × (view_of new ≡ view start (record { step = step; reply = reply } ∷ earlier))) → IsAfter start (recorded earlier step reply) new
+after_reply start earlier step (No why) made old new so yields same along = subst (IsAfter start earlier) (sym (same (unless_accepted (No why) made yields (λ accepted. accepted)))) so
+after_reply start earlier step (Done ret) made old new so yields same along = record { lawful = (along tt).0; view = (along tt).1 }
+after_reply start earlier step Ended made old new so yields same along = record { lawful = (along tt).0; view = (along tt).1 }
+after_reply start earlier step (Committed undelivered) made old new so yields same along = record { lawful = (along tt).0; view = (along tt).1 }
+after_reply start earlier step (Aborted status) made old new so yields same along = record { lawful = (along tt).0; view = (along tt).1 }
+after_reply start earlier step (Out bytes) made old new so yields same along = record { lawful = (along tt).0; view = (along tt).1 }
 
 -- the machine at the start
 pub after_nothing : (start : State) (machine : Content) → view_of machine ≡ view start [] → IsAfter start [] machine

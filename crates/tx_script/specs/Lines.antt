@@ -5,7 +5,6 @@ use Rattle.tx_base.specs.declared.steps.Call.{Call}
 use Rattle.tx_base.specs.declared.steps.Call.TheVariants.{SysXbeginDefer}
 use Rattle.tx_base.specs.declared.steps.Step.{Step}
 use Rattle.tx_base.specs.declared.steps.Step.TheVariants as steps
-use Rattle.tx_core.specs.Built.{IsBuilt}
 use Rattle.tx_script.specs.Calls.{call_text, FitsCall}
 use Rattle.tx_script.specs.declared.read.header.Version.{Version}
 use Rattle.tx_script.specs.declared.read.header.Version.TheVariants.{One, Two}
@@ -38,11 +37,6 @@ abbrev pub IsOf : Version → Step → Type 0
 IsOf version (steps.Call pid call) = IsCallOf version call
 IsOf version (steps.Deliver pid signo) = Unit {0}
 IsOf version (steps.KernelAbort starter) = Unit {0}
-
--- a text of that version may have the step: the machine makes it so far. A line of another step is read as no line;
--- once the machine makes every step, this is `IsOf` alone
-abbrev pub StandsIn : Version → Step → Type 0
-StandsIn version step = IsOf version step × IsBuilt step
 
 -- the most processes that a text of a version begins with
 abbrev pub most_of : Version → ℕ

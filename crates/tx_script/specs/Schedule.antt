@@ -6,7 +6,7 @@ use Rattle.tx_script.specs.declared.faults.Fault.TheVariants.{NotALine, TooLong,
 use Rattle.tx_script.specs.declared.read.header.Version.{Version}
 use Rattle.tx_script.specs.declared.read.header.Header.{Header}
 use Rattle.tx_script.specs.declared.read.schedule.Schedule.{Schedule}
-use Rattle.tx_script.specs.Lines.{header_text, step_text, FitsHeader, FitsStep, StandsIn}
+use Rattle.tx_script.specs.Lines.{header_text, step_text, FitsHeader, FitsStep, IsOf}
 
 -- the bytes before the first line's end, or all where no line has an end
 abbrev pub first_line : List ℕ → List ℕ
@@ -31,7 +31,7 @@ schedule_text header steps = header_text header ++ 10 ∷ steps_text steps
 pub record IsSchedule (header : Header) (steps : List Step) : Type 0 where
   pub header_fits : FitsHeader header
   pub steps_fit : All FitsStep steps
-  pub steps_of : All (λ step. StandsIn header.version step) steps
+  pub steps_of : All (λ step. IsOf header.version step) steps
   pub few : length steps ≤ 4096
 
 -- no header is spelled so
@@ -40,7 +40,7 @@ IsNoHeader line = (header : Header) → FitsHeader header → line ≢ header_te
 
 -- no step of that version is spelled so
 abbrev pub IsNoStep : Version → List ℕ → Type 0
-IsNoStep version line = (step : Step) → FitsStep step → StandsIn version step → line ≢ step_text step
+IsNoStep version line = (step : Step) → FitsStep step → IsOf version step → line ≢ step_text step
 
 -- the first line of the text, which is not too long, and what follows its end
 pub record IsLine (text line rest : List ℕ) : Type 0 where

@@ -16,4 +16,4 @@ pub use read::schedule::Schedule;
 pub use read::steps::read_step;
 pub use read::text::read_schedule;
 pub use replays::replay;
-pub use write::reports::report;
+pub use write::reports::{print_state, report};

@@ -4,7 +4,6 @@ pub mod byte_words;
 pub mod calls;
 pub mod header;
 pub mod heads;
-pub mod made;
 pub mod numbers;
 pub mod schedule;
 pub mod sets;

@@ -1,5 +1,6 @@
 //! Writes the report of a schedule.
 
+pub mod bytes;
 pub mod descriptors;
 pub mod links;
 pub mod lists;

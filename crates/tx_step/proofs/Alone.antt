@@ -4,6 +4,7 @@ use Rattle.std.proofs.lemmas.Bool.{both_ways, cases_Bool}
 use Rattle.tx_base.specs.Slots.{slot_at}
 use Rattle.tx_base.specs.declared.marks.Mark.{Mark}
 use Rattle.tx_base.specs.declared.names.Pid.{Pid}
+use Rattle.tx_base.specs.declared.steps.Refusal.TheVariants.{NoMemory}
 use Rattle.tx_base.specs.declared.steps.Reply.{Reply}
 use Rattle.tx_base.specs.declared.steps.Reply.TheVariants.{Done}
 use Rattle.tx_base.specs.declared.steps.Step.{Step}
@@ -23,10 +24,11 @@ use Rattle.tx_model.specs.Membership.{Kind, Ordinary, Forking, Beginning, Leavin
 use Rattle.tx_model.specs.State.{Object, Proc, Desc, Pipe, Held}
 use Rattle.tx_model.specs.View.{View, blocks, event_on, first_reply, has_two_answers, in_way, meets, role_on, IsClear}
 use Rattle.tx_reserve.specs.Reservations.{owner_of}
+use Rattle.tx_step.proofs.RefusedSteps.{refused_late}
 use Rattle.tx_step.proofs.Taken.{answered, fitting, process_asked, runs_seen, sound, stepped, touched_own}
 use Rattle.tx_step.specs.Asks.{step_of}
 use Rattle.tx_step.specs.Laws.{StepLaws}
-use Rattle.tx_step.specs.Steps.{IsStep}
+use Rattle.tx_step.specs.Steps.{IsRefused, IsStep}
 use Rattle.tx_step.specs.Through.{IsLetThrough}
 use Rattle.tx_step.specs.declared.asked.Asked.{Asked}
 use Rattle.tx_step.specs.declared.asked.Asked.TheVariants.{Call, Delivery}
@@ -143,3 +145,9 @@ module _ (laws : StepLaws) (k : Content) (is : IsContent k) (pid : Pid) (asked :
       stepped laws k is (step_of pid asked) (Within pid.0 (Begins defers)) (Note pid.0 (pos 0)) (sym through.is) told.1 (Done (pos 0)) answered_zero tt
       (λ no_abort. runs_seen laws k is pid asked (the.Begins defers) through) new inverse
       (λ fits. subst (λ (p : ℕ). IsMade k (Within pid.0 (Begins defers)) (Note pid.0 (pos 0)) p new inverse) (sym (process_asked pid asked)) made)
+
+  -- and where it is not made memory is wanted
+  pub refused : (old : Content) → old ≡ k → IsRefused k (step_of pid asked) NoMemory old
+  unfolding effect reply_of
+  refused old same =
+      refused_late laws k is pid asked (the.Begins defers) through (Within pid.0 (Begins defers)) (Note pid.0 (pos 0)) (sym through.is) told.1 refl refl NoMemory (inl (refl, tt)) old same

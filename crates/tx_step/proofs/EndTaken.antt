@@ -1,9 +1,10 @@
 -- A step that commits its transaction.
-use Rattle.std.proofs.Common.{◌≡◌, ℕ, true, false, List, [], ◌∷◌, All, Option, Some, None, IsSome, is_some, is_none, refl, sym, ap, subst, ◌∙◌}
+use Rattle.std.proofs.Common.{◌≡◌, ℕ, true, false, List, [], ◌∷◌, All, Option, Some, None, IsSome, is_some, is_none, refl, sym, ap, subst, ◌∙◌, inl}
 use Rattle.std.proofs.lemmas.List.Elements.{All-head, All-tail}
 use Rattle.tx_base.specs.Slots.{slot_at}
 use Rattle.tx_base.specs.declared.marks.Mark.{Mark}
 use Rattle.tx_base.specs.declared.names.Pid.{Pid}
+use Rattle.tx_base.specs.declared.steps.Refusal.TheVariants.{NoMemory}
 use Rattle.tx_base.specs.declared.steps.Reply.TheVariants.{Ended}
 use Rattle.tx_base.specs.declared.steps.Step.{Step}
 use Rattle.tx_judge.specs.Contents.{IsContent}
@@ -31,11 +32,12 @@ use Rattle.tx_base.specs.declared.steps.Reply.TheVariants as reply
 use Rattle.tx_step.proofs.Clear.{commits_too, named_too, unowned_own}
 use Rattle.tx_step.proofs.KnownLow.{known_low}
 use Rattle.tx_step.proofs.Members.{live_at, live_there, LiveAt}
+use Rattle.tx_step.proofs.RefusedSteps.{refused_late}
 use Rattle.tx_step.proofs.Taken.{answered, now_seen, numbers, process_asked, runs_seen, stepped}
 use Rattle.tx_step.proofs.Told.{asked_actor, commits_kind, ends_told, event_told, role_told, OfMember}
 use Rattle.tx_step.specs.Asks.{IsActOf, is_own, kind_asked, step_of}
 use Rattle.tx_step.specs.Laws.{StepLaws}
-use Rattle.tx_step.specs.Steps.{IsStep, replied}
+use Rattle.tx_step.specs.Steps.{IsRefused, IsStep, replied}
 use Rattle.tx_step.specs.Through.{IsLetThrough}
 use Rattle.tx_step.specs.declared.answered.Answered.TheVariants.{Committed}
 use Rattle.tx_step.specs.declared.asked.Asked.{Asked}
@@ -159,3 +161,10 @@ module _ (laws : StepLaws) (k : Content) (is : IsContent k) (pid starter : Pid) 
         (answered laws k is pid asked (role.Commits starter) through R E (sym through.is) event_is ∙ answers answered_is)
         tt (λ no. runs_seen laws k is pid asked (role.Commits starter) through) new inverse
         (λ fits. subst (λ (p : ℕ). IsMade k R E p new inverse) (sym (process_asked pid asked)) (made fits))
+
+    -- and where it is not made memory is wanted
+    pub refused : (old : Content) → old ≡ k → IsRefused k (step_of pid asked) NoMemory old
+    unfolding effect reply_of
+    refused old same =
+        refused_late laws k is pid asked (role.Commits starter) through (Commits starter.0) (Commit starter.0 (event_of (inside_in k starter) pid act)) (sym through.is) event_is refl refl NoMemory
+        (inl (refl, tt)) old same

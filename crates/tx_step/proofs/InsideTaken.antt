@@ -2,14 +2,16 @@
 use Rattle.std.proofs.Common.{◌≡◌, ℕ, true, length, Option, IsSome, is_some, refl, sym, ap, subst, ◌∙◌}
 use Rattle.tx_base.specs.Slots.{slot_at}
 use Rattle.tx_base.specs.declared.names.Pid.{Pid}
+use Rattle.tx_base.specs.declared.steps.Refusal.{Refusal}
 use Rattle.tx_base.specs.declared.steps.Reply.TheVariants.{Ended}
 use Rattle.tx_judge.specs.Contents.{IsContent}
+use Rattle.tx_judge.specs.Late.{IsWhyNot}
 use Rattle.tx_judge.specs.declared.roles.StepRole.TheVariants as role
 use Rattle.tx_kernel.specs.Acts.{event_of}
 use Rattle.tx_kernel.specs.declared.events.Act.{Act}
 use Rattle.tx_kernel.specs.declared.planned.Outcome.{Outcome}
 use Rattle.tx_laws.specs.Fits.{Fits}
-use Rattle.tx_live.specs.Content.{view_of}
+use Rattle.tx_live.specs.Content.{now_of, view_of}
 use Rattle.tx_live.specs.Insides.{inside_in, IsFootprint, IsFree}
 use Rattle.tx_live.specs.Made.{Answers, IsMade}
 use Rattle.tx_live.specs.Progresses.{part_of, HasChild}
@@ -19,17 +21,18 @@ use Rattle.tx_live.specs.declared.marking.Progress.{Progress}
 use Rattle.tx_model.specs.Answer.{has_bad_number}
 use Rattle.tx_model.specs.Effects.{Inside}
 use Rattle.tx_model.specs.Events.{Event}
-use Rattle.tx_model.specs.Membership.{Role, Within}
+use Rattle.tx_model.specs.Membership.{inside_by, Role, Within}
 use Rattle.tx_model.specs.View.{event_on, first_reply, holder}
 use Rattle.tx_reserve.specs.declared.objects.Objects.{Objects}
 use Rattle.tx_step.proofs.Clear.{free_own}
 use Rattle.tx_step.proofs.Members.{has_child, live_at, live_there, LiveAt}
 use Rattle.tx_step.proofs.OutsideTaken.{did_accept}
+use Rattle.tx_step.proofs.RefusedSteps.{refused_late}
 use Rattle.tx_step.proofs.Taken.{answered, numbers, process_asked, runs_seen, stepped}
 use Rattle.tx_step.proofs.Told.{asked_actor, event_told, role_told, within_kind, OfMember}
 use Rattle.tx_step.specs.Asks.{IsActOf, is_own, kind_asked, step_of}
 use Rattle.tx_step.specs.Laws.{StepLaws}
-use Rattle.tx_step.specs.Steps.{IsStep, replied}
+use Rattle.tx_step.specs.Steps.{IsRefused, IsStep, replied}
 use Rattle.tx_step.specs.Through.{IsLetThrough}
 use Rattle.tx_step.specs.declared.answered.Answered.TheVariants.{Acted}
 use Rattle.tx_step.specs.declared.asked.Asked.{Asked}
@@ -81,3 +84,10 @@ module _ (laws : StepLaws) (k : Content) (is : IsContent k) (pid starter : Pid) 
         (answered laws k is pid asked (role.Inside starter progress) through R E (sym through.is) event_is ∙ answers)
         (did_accept _ did) (λ no. runs_seen laws k is pid asked (role.Inside starter progress) through) new inverse
         (subst (λ (p : ℕ). Fits R E p (view_of k) → IsMade k R E p new inverse) (sym (process_asked pid asked)) made)
+
+    -- and where it is not made it is refused for the reason of its rule
+    pub refused : (old : Content) → old ≡ k → (why : Refusal) → IsWhyNot (event_of (inside_by (table_at old.marks) (slot_at old.marks pid.0)) pid act) (now_of old) why → IsRefused k (step_of pid asked) why old
+    refused old same why tells =
+        refused_late laws k is pid asked (role.Inside starter progress) through (Within starter.0 (part_of progress)) (event_of (inside_in k starter) pid act) (sym through.is) event_is refl refl why
+        (subst (λ (E : Event). IsWhyNot E (now_of k) why) (ap (λ (inside : Option Inside). event_of inside pid act) (sym live.inside))
+        (subst (λ (c : Content). IsWhyNot (event_of (inside_by (table_at c.marks) (slot_at c.marks pid.0)) pid act) (now_of c) why) same tells)) old same

@@ -1,10 +1,12 @@
 pub mod NamedObjects
 pub mod Taken
+pub mod RefusedSteps
 pub mod Alone
 pub mod Aborted
 pub mod Told
 pub mod Clear
 pub mod Members
+pub mod ShownBytes
 pub mod KnownLow
 pub mod OutsideTaken
 pub mod InsideTaken

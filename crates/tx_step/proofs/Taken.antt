@@ -5,6 +5,7 @@ use Rattle.tx_base.specs.declared.names.Pid.{Pid}
 use Rattle.tx_base.specs.declared.steps.Refusal.{Refusal}
 use Rattle.tx_base.specs.declared.steps.Refusal.TheVariants.{NoProcess, NotRunning, BadNumber}
 use Rattle.tx_base.specs.declared.steps.Reply.{Reply}
+use Rattle.tx_base.specs.declared.steps.Reply.TheVariants.{Done, Ended, Committed, Aborted as AbortedWith, Out, No}
 use Rattle.tx_base.specs.declared.steps.Step.{Step}
 use Rattle.tx_change.specs.declared.change.Change.{Change}
 use Rattle.std.specs.Option.{option_or}
@@ -35,7 +36,7 @@ use Rattle.tx_proc.specs.declared.proc.Proc.{Proc}
 use Rattle.tx_step.proofs.NamedObjects.{has_either, has_left, named_among, named_shared}
 use Rattle.tx_step.specs.Asks.{step_of}
 use Rattle.tx_step.specs.Laws.{StepLaws}
-use Rattle.tx_step.specs.Steps.{IsNamedBy, InFootprint, GetsSend, WasTouched, IsStep}
+use Rattle.tx_step.specs.Steps.{FitsReply, IsNamedBy, InFootprint, GetsSend, WasTouched, IsStep}
 use Rattle.tx_step.specs.Through.{IsLetThrough}
 use Rattle.tx_step.specs.declared.asked.Asked.{Asked}
 use Rattle.tx_step.specs.declared.asked.Asked.TheVariants.{Call, Delivery}
@@ -51,7 +52,7 @@ others_hold_nothing k s none = by (slot_at k.txns s) none
     by (Some boxed) e = cc
 
 -- there is none of the first three reasons
-no_reason : (a b c : Bool) (rest : Option Refusal) →
+pub no_reason : (a b c : Bool) (rest : Option Refusal) →
     (if not a then Some NoProcess else (if not b then Some NotRunning else (if c then Some BadNumber else rest))) ≡ None → (b ≡ true) × (c ≡ false)
 no_reason false b c rest e = cc
 no_reason true false c rest e = cc
@@ -59,7 +60,7 @@ no_reason true true true rest e = cc
 no_reason true true false rest e = (refl, refl)
 
 -- a call or a delivery is refused, or has the reply of its event
-answer_asked : (V : View) (pid : Pid) (asked : Asked) →
+pub answer_asked : (V : View) (pid : Pid) (asked : Asked) →
     answer V (step_of pid asked) ≡ unless_refused (refusal V pid.0 (step_of pid asked)) (plain_reply called_by_status (role_on V (step_of pid asked)) (event_on V (step_of pid asked)) (present V))
 unfolding answer
 answer_asked V pid (Call call) = refl
@@ -69,7 +70,7 @@ pub process_asked : (pid : Pid) (asked : Asked) → process_of (step_of pid aske
 process_asked pid (Call call) = refl
 process_asked pid (Delivery signo) = refl
 
-running_in : (slot : Option Proc) → is_running (process_in slot) ≡ true → IsRunning slot
+pub running_in : (slot : Option Proc) → is_running (process_in slot) ≡ true → IsRunning slot
 running_in None e = cc
 running_in (Some proc) e = by proc.status e
   where
@@ -154,6 +155,7 @@ module _ (laws : StepLaws) (k : Content) (is : IsContent k) where
   stepped step R E role event reply answered accepted runs new inverse make = record {
     answered = answered;
     accepted = accepted;
+    fits = fits reply answered;
     next = seen.0;
     content = record {
       shaped = made.shaped;
@@ -166,6 +168,14 @@ module _ (laws : StepLaws) (k : Content) (is : IsContent k) where
     local = λ o named. local step R E role event runs (changes_of new inverse) made.local o named;
   }
     where
+      fits : (reply : Reply) → answer (view_of k) step ≡ reply → FitsReply reply
+      fits (Done ret) e = tt
+      fits Ended e = tt
+      fits (Committed missed) e = laws.listed (view_of k) step missed.items sound (is.formed nobody) is.view e
+      fits (AbortedWith status) e = tt
+      fits (Out bytes) e = laws.shown (view_of k) step bytes e
+      fits (No why) e = tt
+
       passed : IsAccepted (answer (view_of k) step)
       passed = subst IsAccepted (sym answered) accepted
 

@@ -5,7 +5,8 @@ use Rattle.tx_laws.specs.Endings.{EndingsAreAnswered}
 use Rattle.tx_laws.specs.Footprints.{ClearIsOfMembers, FootprintIsOfEvent, NoHolderIsClear}
 use Rattle.tx_laws.specs.Laws.{AcceptedStepsFit, NextIsWellFormed}
 use Rattle.tx_laws.specs.LawsOfParts.{PresentIsNow}
-use Rattle.tx_laws.specs.LawsOfTable.{NextViewIsWellFormed}
+use Rattle.tx_laws.specs.LawsOfTable.{NextViewIsWellFormed, ViewsListEnough}
+use Rattle.tx_laws.specs.Shown.{ShowsFew}
 use Rattle.tx_laws.specs.WellFormed.{IsWellFormed, HasGoodNumbers}
 use Rattle.tx_model.specs.Events.{Event, after}
 use Rattle.tx_model.specs.State.{State}
@@ -25,3 +26,5 @@ pub record StepLaws : Type 0 where
   pub clear : NoHolderIsClear
   pub members : ClearIsOfMembers
   pub doom : DoomIsPending
+  pub listed : ViewsListEnough
+  pub shown : ShowsFew

@@ -1,6 +1,7 @@
 -- What a step comes to: its reply, the next content, and what takes it back; or why it is refused.
-use Rattle.std.specs.Prelude.{◌≡◌, ◌≢◌, ◌⊎◌, ℕ, true, Result, Ok, Err, IsSome}
+use Rattle.std.specs.Prelude.{◌≡◌, ◌≢◌, ◌⊎◌, ◌≤◌, length, ℕ, true, Result, Ok, Err, IsSome}
 use Rattle.tx_base.specs.Slots.{slot_at}
+use Rattle.tx_base.specs.declared.limits.TheConstants.{CONSOLE_BYTES, UNDELIVERED}
 use Rattle.tx_base.specs.declared.names.Pid.{Pid}
 use Rattle.tx_base.specs.declared.steps.Call.TheVariants.{SysXabort}
 use Rattle.tx_base.specs.declared.steps.Refusal.{Refusal}
@@ -35,6 +36,12 @@ replied k p inverse (Acted outcome) = reply_of (memory_in (process_in (slot_at k
 replied k p inverse Committed = reply.Committed (record { items = missed_of inverse })
 replied k p inverse (Aborted status) = reply.Aborted status
 
+-- the lists of a reply are as long as it can hold
+abbrev pub FitsReply : Reply → Type 0
+FitsReply (reply.Committed undelivered) = length undelivered.items ≤ UNDELIVERED
+FitsReply (reply.Out bytes) = length bytes.items ≤ CONSOLE_BYTES
+FitsReply reply = Unit {0}
+
 -- what a step names: the objects of its footprint; the processes that its sends go to; and, where it ends a transaction, what
 -- that one touched
 pub data IsNamedBy (view : View) (step : Step) (object : Object) : Type 0 where
@@ -50,6 +57,7 @@ IsLocal old step new inverse = (object : Object) → is_named object (changes_of
 pub record IsStep (old : Content) (step : Step) (reply : Reply) (inverse : Inverse) (new : Content) : Type 0 where
   pub answered : answer (view_of old) step ≡ reply
   pub accepted : IsAccepted reply
+  pub fits : FitsReply reply
   pub next : view_of new ≡ next (view_of old) step
   pub content : IsContent new
   pub goes : GoesWith new inverse

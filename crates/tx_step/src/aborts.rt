@@ -1,5 +1,5 @@
 //! Steps that abort a transaction.
-ghost use Rattle.std.specs.Prelude.{◌≡◌, ◌↔◌, true, IfSome, IsSome, IfNone};
+ghost use Rattle.std.specs.Prelude.{◌≡◌, ◌↔◌, true, Ok, IfSome, IsSome, IfNone};
 ghost use Rattle.tx_base.specs.declared.steps.Reply.TheVariants as reply;
 ghost use Rattle.tx_base.specs.declared.steps.Step.TheVariants.{KernelAbort};
 ghost use Rattle.tx_judge.specs.Contents.{IsContent};
@@ -7,7 +7,7 @@ ghost use Rattle.tx_judge.specs.declared.roles.StepRole.TheVariants as role;
 ghost use Rattle.tx_live.specs.Content.{view_of};
 ghost use Rattle.tx_model.specs.Membership.{is_live};
 ghost use Rattle.tx_step.specs.Asks.{step_of};
-ghost use Rattle.tx_step.specs.Steps.{IsStep, replied};
+ghost use Rattle.tx_step.specs.Steps.{IsStep, Takes};
 ghost use Rattle.tx_step.specs.Through.{IsLetThrough};
 
 use crate::answered::Answered;
@@ -17,7 +17,7 @@ use tx_base::{ABORTED_BY_CALL, ABORTED_BY_KERNEL, ABORTED_DOOMED, Pid};
 use tx_live::{Content, Inverse};
 
 /// Aborts the transaction of a starter, as a member asks. It takes no memory.
-pub fn take_abort(
+pub(crate) fn take_abort(
     content: &mut Content,
     pid: Pid,
     starter: Pid,
@@ -25,7 +25,7 @@ pub fn take_abort(
 ) -> (Answered, Inverse)
     requires content { IsContent content.old }
     requires through { IsLetThrough content.old pid _asked (role.Aborts starter) }
-    ensures { IsStep content.old (step_of pid _asked.entry) (replied content.new pid.0 result.1 result.0) result.1 content.new }
+    ensures { Takes content.old (step_of pid _asked.entry) (Ok result) content.new }
 {
     laws();
     let inverse = content.abort(starter, -i64::from(ABORTED_BY_CALL));

@@ -1,18 +1,33 @@
 //! What a process is asked to do.
-ghost use Rattle.std.specs.Prelude.{◌≡◌, Option, true, is_some};
+ghost use Rattle.std.specs.Prelude.{◌≡◌, Option, true, false, is_some, length, option_map};
+ghost use Rattle.tx_base.specs.Slots.{slot_at};
 ghost use Rattle.tx_base.specs.declared.marks.Mark.{Mark as TheMark};
 ghost use Rattle.tx_base.specs.declared.names.Pid.{Pid as ThePid};
 ghost use Rattle.tx_base.specs.declared.steps.Step.TheVariants.{Call as Calls};
+ghost use Rattle.tx_judge.specs.Contents.{IsContent};
+ghost use Rattle.tx_judge.specs.Early.{early_refusal};
+ghost use Rattle.tx_judge.specs.Roles.{role_as};
 ghost use Rattle.tx_kernel.specs.Acts.{event_of};
+ghost use Rattle.tx_live.specs.Content.{view_of};
+ghost use Rattle.tx_live.specs.Insides.{IsFootprint};
+ghost use Rattle.tx_live.specs.Made.{IsRunning};
+ghost use Rattle.tx_model.specs.Answer.{has_bad_number};
 ghost use Rattle.tx_model.specs.Membership.{Table, inside_by, kind_event, kind_of};
-ghost use Rattle.tx_step.specs.Asks.{IsActOf, is_own};
+ghost use Rattle.tx_model.specs.View.{event_on, holder, role_on};
+ghost use Rattle.tx_reserve.specs.Reservations.{number_of};
+ghost use Rattle.tx_step.specs.Asks.{IsActOf, is_own, step_of};
 
-use tx_base::{Call, Signo};
+use tx_base::{Call, Pid, Refusal, Signo};
+use tx_judge::{
+    StepRole, Way, contents_are_whole, early_refusal_of_call, early_refusal_of_delivery,
+    role_of_call, role_of_delivery, way_of_call, way_of_delivery,
+};
 use tx_kernel::Act;
+use tx_live::Content;
 
 /// What a process is asked to do: to make a call, or to take a pending signal.
 #[derive(Clone, Copy)]
-pub enum Asked<'a> {
+pub(crate) enum Asked<'a> {
     Call(&'a Call),
     Delivery(Signo),
 }
@@ -23,12 +38,51 @@ const MEANS_NOTHING: i64 = -22;
 impl<'a> Asked<'a> {
     /// The same as what a process does that is a member of a live transaction, or is none: a call of
     /// transactions is an answer. One that begins or aborts a transaction is made otherwise.
-    pub fn act(self, is_member: bool) -> Act<'a>
+    pub(crate) fn act(self, is_member: bool) -> Act<'a>
         ensures { IsActOf self.entry is_member result }
     {
         match self {
             Asked::Call(call) => act_of_call(call, is_member),
             Asked::Delivery(signo) => Act::Delivery(signo),
+        }
+    }
+
+    /// Why it is refused before it is asked who is in its way, the first reason that there is.
+    pub(crate) fn early_refusal(self, content: &Content, pid: Pid) -> Option<Refusal>
+        requires { IsContent content.now }
+        ensures { result ≡ early_refusal (view_of content.now) pid.0 (step_of pid self.entry) }
+    {
+        contents_are_whole();
+        match self {
+            Asked::Call(call) => early_refusal_of_call(content, pid, call),
+            Asked::Delivery(signo) => early_refusal_of_delivery(content, pid, signo),
+        }
+    }
+
+    /// What it is to the transactions.
+    pub(crate) fn role(self, content: &Content, pid: Pid) -> StepRole
+        requires content { IsContent content.now }
+        requires running { IsRunning (slot_at content.now.parts.procs pid.0) }
+        ensures { role_as pid.0 result ≡ role_on (view_of content.now) (step_of pid self.entry) }
+    {
+        match self {
+            Asked::Call(call) => role_of_call(content, pid, call),
+            Asked::Delivery(signo) => role_of_delivery(content, pid, signo),
+        }
+    }
+
+    /// What it names, and who is in its way, where it is this to the transactions.
+    pub(crate) fn way(self, content: &Content, pid: Pid, role: StepRole) -> Way
+        requires content { IsContent content.now }
+        requires running { IsRunning (slot_at content.now.parts.procs pid.0) }
+        requires numbers { has_bad_number (length content.now.parts.procs) (step_of pid self) ≡ false }
+        requires role { role_as pid.0 role ≡ role_on (view_of content.now) (step_of pid self) }
+        ensures footprint { IsFootprint content.now (event_on (view_of content.now) (step_of pid self.entry)) result.footprint }
+        ensures holder { option_map number_of result.holder ≡ holder (view_of content.now) (event_on (view_of content.now) (step_of pid self.entry)) }
+    {
+        match self {
+            Asked::Call(call) => way_of_call(content, pid, call, role),
+            Asked::Delivery(signo) => way_of_delivery(content, pid, signo, role),
         }
     }
 }

@@ -1,35 +1,35 @@
 //! Steps that begin a transaction.
-ghost use Rattle.std.specs.Prelude.{◌≡◌, IfOk, OnErr};
 ghost use Rattle.tx_judge.specs.Contents.{IsContent};
 ghost use Rattle.tx_judge.specs.declared.roles.StepRole.TheVariants as role;
 ghost use Rattle.tx_step.specs.Asks.{step_of};
-ghost use Rattle.tx_step.specs.Steps.{IsStep, replied};
+ghost use Rattle.tx_step.specs.Steps.{Takes};
 ghost use Rattle.tx_step.specs.Through.{IsLetThrough};
 
 use crate::answered::Answered;
 use crate::asked::Asked;
 use crate::laws::laws;
 use std::alloc::Global;
-use tx_base::{NoMemory, Pid};
+use tx_base::{NoMemory, Pid, Refusal};
 use tx_kernel::Outcome;
 use tx_live::{Content, Inverse};
 
 /// Begins a transaction, as the process asks.
 ///
 /// NoMemory where a growth is refused; the content is then as it was.
-pub fn take_begin(
+pub(crate) fn take_begin(
     content: &mut Content,
     alloc: Global,
     pid: Pid,
     defers: bool,
     _asked: Asked,
-) -> Result<(Answered, Inverse), NoMemory>
+) -> Result<(Answered, Inverse), Refusal>
     requires content { IsContent content.old }
     requires through { IsLetThrough content.old pid _asked (role.Begins defers) }
-    ensures made { IfOk result (λ made. IsStep content.old (step_of pid _asked.entry) (replied content.new pid.0 made.1 made.0) made.1 content.new) }
-    ensures err { OnErr result (content.new ≡ content.old) }
+    ensures { Takes content.old (step_of pid _asked.entry) result content.new }
 {
     laws();
-    let inverse = content.begin(alloc, pid, defers)?;
-    Ok((Answered::Acted(Outcome::Done(0)), inverse))
+    match content.begin(alloc, pid, defers) {
+        Ok(inverse) => Ok((Answered::Acted(Outcome::Done(0)), inverse)),
+        Err(NoMemory) => Err(Refusal::NoMemory),
+    }
 }

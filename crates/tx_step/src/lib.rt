@@ -10,11 +10,10 @@ mod ends;
 mod inside;
 mod laws;
 mod outside;
+mod replies;
+mod steps;
 
-pub use aborts::{take_abort, take_kernel_abort};
+pub use aborts::take_kernel_abort;
 pub use answered::Answered;
-pub use asked::Asked;
-pub use begins::take_begin;
-pub use ends::take_end;
-pub use inside::take_inside;
-pub use outside::take_outside;
+pub use replies::put_reply;
+pub use steps::{take_call, take_delivery};

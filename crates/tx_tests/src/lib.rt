@@ -39,3 +39,5 @@ mod steps;
 mod texts;
 #[cfg(test)]
 mod txn;
+#[cfg(test)]
+mod walks;

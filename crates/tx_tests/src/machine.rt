@@ -1,34 +1,25 @@
 //! Each public call on its happy path, and each step of a schedule there and back.
-ghost use Rattle.std.specs.Prelude.{◌≡◌};
-ghost use Rattle.tx_core.specs.Built.{AreBuilt, IsBuiltCall, IsBuilt};
-
 use arrayvec::ArrayVec;
 use std::mem;
 use std::test::Fail;
-use tx_base::{Call, Pid, Step};
-use tx_core::{Inverse, Machine, NoTransaction, Outcome, run, run_wide};
+use tx_base::{Call, DescNo, Pid, PipeNo, Reply, Step};
+use tx_core::{Free, Machine, NoTransaction, run, run_kept, run_wide};
+use tx_live::Inverse;
 
 /// The call of a process.
-fn call(number: u16, call: Call) -> Step
-    requires { IsBuiltCall call }
-    ensures { IsBuilt result }
-{
+fn call(number: u16, call: Call) -> Step {
     Step::Call(Pid(number), call)
 }
 
 /// A store of these bytes.
-fn store(address: i64, given: &[u8]) -> Call
-    ensures { IsBuiltCall result }
-{
+fn store(address: i64, given: &[u8]) -> Call {
     let mut bytes = ArrayVec::new();
     let _fits = bytes.try_extend_from_slice(given);
     Call::Store(address, bytes)
 }
 
 /// Process 2 begins, maps a page, stores a byte, and aborts.
-fn taken_back() -> [Step; 4]
-    ensures { AreBuilt result }
-{
+fn taken_back() -> [Step; 4] {
     [
         call(2, Call::SysXbegin),
         call(2, Call::Map(0)),
@@ -38,9 +29,7 @@ fn taken_back() -> [Step; 4]
 }
 
 /// Two transactions side by side, of which one is aborted by the kernel and one commits.
-fn side_by_side() -> [Step; 12]
-    ensures { AreBuilt result }
-{
+fn side_by_side() -> [Step; 12] {
     [
         call(2, Call::SysXbegin),
         call(3, Call::SysXbegin),
@@ -81,7 +70,7 @@ fn boots(rt: HostRuntime) -> Result<(), Fail> {
 
 #[test]
 fn an_inverse_is_small(rt: HostRuntime) {
-    assert!(rt; mem::size_of::<Inverse>() <= 56);
+    assert!(rt; mem::size_of::<Inverse>() <= 72);
 }
 
 #[test]
@@ -90,6 +79,14 @@ fn runs_and_takes_back(rt: HostRuntime) -> Result<(), Fail> {
     assert_eq!(rt; ran.history.len(), 4);
     assert_eq!(rt; shown(&ran.machine, 1), (Some((0, 0, None)), None));
     assert_eq!(rt; shown(&ran.machine, 2), (Some((1, -201, None)), None));
+    Ok(())
+}
+
+#[test]
+fn keeps_a_run_to_its_end(rt: HostRuntime) -> Result<(), Fail> {
+    let kept = run_kept(rt.alloc(), 2, &taken_back())?;
+    assert_eq!(rt; kept.stopped, None);
+    assert_eq!(rt; kept.ran.history.len(), 4);
     Ok(())
 }
 
@@ -123,8 +120,8 @@ fn takes_each_step_back(rt: HostRuntime) -> Result<(), Fail> {
 #[test]
 fn aborts_by_the_kernel_and_back(rt: HostRuntime) -> Result<(), Fail> {
     let mut machine = Machine::boot(rt.alloc(), 3)?;
-    let begun = machine.take(rt.alloc(), &call(2, Call::SysXbegin));
-    assert!(rt; matches!(begun, Ok((Outcome::Done(0), _))), "it begins");
+    let (reply, _inverse) = machine.step(rt.alloc(), &call(2, Call::SysXbegin));
+    assert!(rt; matches!(reply, Reply::Done(0)), "it begins");
     assert_eq!(rt; machine.txn_of(Pid(2)), Some(Pid(2)));
     assert!(rt; machine.marks().get(Pid(2)).is_some(), "it has a mark");
     assert!(rt;
@@ -136,5 +133,35 @@ fn aborts_by_the_kernel_and_back(rt: HostRuntime) -> Result<(), Fail> {
         machine.undo(inverse);
     }
     assert_eq!(rt; shown(&machine, 2), (Some((1, 0, None)), Some(Pid(2))));
+    Ok(())
+}
+
+#[test]
+fn picks_the_least_free_numbers(rt: HostRuntime) -> Result<(), Fail> {
+    let least = Free {
+        proc: Some(Pid(4)),
+        pipe: Some(PipeNo(0)),
+        descs: Some((DescNo(0), DescNo(1))),
+    };
+    let next = Free {
+        proc: Some(Pid(4)),
+        pipe: Some(PipeNo(1)),
+        descs: Some((DescNo(2), DescNo(3))),
+    };
+    let mut steps = [
+        call(2, Call::SysXbegin),
+        call(2, Call::Pipe(PipeNo(0), DescNo(0), DescNo(1))),
+        call(2, Call::Close(0)),
+        call(2, Call::Close(1)),
+    ];
+    let open = run(rt.alloc(), 3, &steps[..2])?;
+    assert_eq!(rt; open.machine.free_numbers(Pid(2)), next);
+    assert_eq!(rt; open.machine.free_numbers(Pid(3)), next);
+    let given_up = run(rt.alloc(), 3, &steps)?;
+    assert_eq!(rt; given_up.machine.free_numbers(Pid(2)), least);
+    assert_eq!(rt; given_up.machine.free_numbers(Pid(3)), next);
+    steps[1] = call(2, Call::Pipe(PipeNo(4), DescNo(8), DescNo(9)));
+    let elsewhere = run(rt.alloc(), 3, &steps)?;
+    assert_eq!(rt; elsewhere.machine.free_numbers(Pid(3)), least);
     Ok(())
 }

@@ -29,9 +29,9 @@ impl Write for Taking<'_> {
 }
 
 /// What the replay of a text answers, and what it writes to a writer with so much room.
-fn replay_into(
+pub(crate) fn replay_into(
     alloc: Global,
-    text: &str,
+    text: &[u8],
     room: usize,
 ) -> (std::result::Result<(), Fault>, Vec<u8>) {
     let mut taken = Vec::new(alloc);
@@ -39,11 +39,7 @@ fn replay_into(
         room,
         taken: &mut taken,
     };
-    let answer = replay(
-        alloc,
-        &mut OverRead::new(text.as_bytes()),
-        &mut OverWrite::new(writer),
-    );
+    let answer = replay(alloc, &mut OverRead::new(text), &mut OverWrite::new(writer));
     (answer, taken)
 }
 
@@ -82,7 +78,7 @@ const ROWS: [(&str, &str); 7] = [
 #[test]
 fn reports(rt: HostRuntime) {
     for (text, report) in ROWS {
-        let (answer, taken) = replay_into(rt.alloc(), text, 10_000);
+        let (answer, taken) = replay_into(rt.alloc(), text.as_bytes(), 10_000);
         assert_eq!(rt; answer, Ok(()), "{text:?}");
         assert_eq!(rt; str::from_utf8(taken.as_slice()), Ok(report), "{text:?}");
     }
@@ -92,7 +88,7 @@ fn reports(rt: HostRuntime) {
 fn writer_fails(rt: HostRuntime) {
     let (text, report) = ROWS[6];
     for room in 0..report.len() {
-        let (answer, taken) = replay_into(rt.alloc(), text, room);
+        let (answer, taken) = replay_into(rt.alloc(), text.as_bytes(), room);
         assert_eq!(rt; answer, Err(Fault::Writer), "after {room}");
         assert_eq!(rt; taken.as_slice(), &report.as_bytes()[..room]);
     }
@@ -104,13 +100,13 @@ fn faults_write_nothing(rt: HostRuntime) {
         ("", Fault::NotALine { line: 1 }),
         ("txos 1 schedule 1\n1 map 0", Fault::NotALine { line: 2 }),
         (
-            "txos 1 schedule 1\n1 map 0\n1 getpid\n",
+            "txos 1 schedule 1\n1 map 0\n1 gettid\n",
             Fault::NotALine { line: 3 },
         ),
-        ("txos 1 schedule 1\n1 getpid", Fault::NotALine { line: 2 }),
+        ("txos 1 schedule 1\n1 gettid", Fault::NotALine { line: 2 }),
     ];
     for (text, fault) in rows {
-        let (answer, taken) = replay_into(rt.alloc(), text, 10_000);
+        let (answer, taken) = replay_into(rt.alloc(), text.as_bytes(), 10_000);
         assert_eq!(rt; answer, Err(fault), "{text:?}");
         assert!(rt; taken.is_empty());
     }
@@ -177,7 +173,7 @@ fn reports_of_wide_machines(rt: HostRuntime) -> std::result::Result<(), Fail> {
         for number in rest..=256 {
             writeln!(report, "proc {number} parent 1 run point 0 ret 0")?;
         }
-        let (answer, taken) = replay_into(rt.alloc(), &text, 20_000);
+        let (answer, taken) = replay_into(rt.alloc(), text.as_bytes(), 20_000);
         assert_eq!(rt; answer, Ok(()), "{steps:?}");
         assert_eq!(rt;
             str::from_utf8(taken.as_slice()),

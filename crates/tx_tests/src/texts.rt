@@ -71,7 +71,7 @@ fn other_lines(rt: HostRuntime) -> Result<(), Fail> {
         b"2 store 0 4A",
         b"2 store 0 41 42",
         b"2 sys_xbegin  defer",
-        b"2 getpid",
+        b"2 getpid 1",
         b"kernel -1",
         b"kernel 65536",
     ];

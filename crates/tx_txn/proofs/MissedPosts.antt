@@ -1,5 +1,5 @@
 -- What of the held signals could not be delivered.
-use Rattle.std.proofs.Common.{◌≡◌, ◌<◌, ℕ, zero, suc, ◌+◌, List, [], ◌∷◌, ◌++◌, append_assoc, length, drop, slice_index_or, Result, Ok, Err, OnOk, OnErr, ◌⊎◌, inl, inr, arith, refl, sym, ap, ◌∙◌}
+use Rattle.std.proofs.Common.{◌≡◌, ◌<◌, ℕ, zero, suc, ◌+◌, List, [], ◌∷◌, ◌++◌, append_assoc, length, length-append, drop, slice_index_or, Result, Ok, Err, OnOk, OnErr, ◌⊎◌, inl, inr, arith, refl, sym, ap, ◌∙◌}
 use Rattle.tx_base.specs.declared.errors.Errno.{Errno}
 use Rattle.tx_base.specs.declared.names.Missed.{Missed}
 use Rattle.tx_base.specs.declared.names.Sending.{Sending as TheSending}
@@ -46,3 +46,15 @@ missed_skipped front all ms posts i m p done few long delivered before =
 pub ok_or_err : {A E P Q : Type 0} (r : Result A E) → OnOk r P → OnErr r Q → P ⊎ Q
 ok_or_err (Ok x) ok err = inl ok
 ok_or_err (Err e) ok err = inr err
+
+-- before one more is added there is room for it
+pub missed_room : (front all : List Missed) (ms : List TheSending) (posts : List HeldPost) (i : ℕ) (m : TheSending) (p : HeldPost) (errno : Errno) → i < length ms → length posts ≡ length ms →
+    (slice_index_or posts i p).answer ≡ Err errno → front ++ missed_in (drop i ms) (drop i posts) ≡ all → length front < length all
+missed_room front all ms posts i m p errno few long failed before =
+    let more : List Missed = missed_in (drop (i + 1) ms) (drop (i + 1) posts) in
+    let last : List Missed → ℕ = λ xs. length (front ++ xs) in
+    let count : length front + suc (length more) ≡ length all =
+    sym (length-append front (with_missed (slice_index_or ms i m) (Err errno) more))
+    ∙ ap last (sym (missed_next ms posts i m p few long ∙ ap (λ (answer : Result (Unit {0}) Errno). with_missed (slice_index_or ms i m) answer more) failed))
+    ∙ ap length before in
+    omega (arith, count)

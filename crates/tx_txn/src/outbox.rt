@@ -119,7 +119,7 @@ impl Outbox {
     /// The signals whose posts were answered by an error, in order, with that error. It takes no
     /// memory.
     pub fn undelivered(&self) -> ArrayVec<Missed, 33>
-        ensures { length self.now.sendings ≤ 33 →
+        ensures { length (missed_in self.now.sendings self.now.posts) ≤ 33 →
             result ≡ record { items = missed_in self.now.sendings self.now.posts } }
     {
         list_missed(self.held(), self.posts.as_slice())
@@ -140,7 +140,7 @@ fn count_sent(held: &[Sending]) -> usize
 /// The signals whose posts were answered by an error, in order, with that error.
 fn list_missed(held: &[Sending], posts: &[HeldPost]) -> ArrayVec<Missed, 33>
     requires { length posts.now ≡ length held.now }
-    ensures { length held.now ≤ 33 → result ≡ record { items = missed_in held.now posts.now } }
+    ensures { length (missed_in held.now posts.now) ≤ 33 → result ≡ record { items = missed_in held.now posts.now } }
 {
     let mut missed = ArrayVec::new();
     for place in 0..held.len() {

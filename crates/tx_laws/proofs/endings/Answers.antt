@@ -1,4 +1,5 @@
 use Rattle.tx_laws.proofs.SaysEnded.{other_calls_say, exits_say, deliveries_say, step_told, other_call_told, exit_told, delivery_told}
+use Rattle.tx_laws.proofs.ShownFew.{shown_few}
 use Rattle.tx_laws.proofs.TellsParent.{endings_answered}
 use Rattle.tx_laws.proofs.endings.Goals as goal
 
@@ -25,3 +26,6 @@ returns-clause-exits c = exits_say
 
 pub returns-clause-exit : goal.returns-clause-exit
 returns-clause-exit c = exit_told
+
+pub returns-clause-shown : goal.returns-clause-shown
+returns-clause-shown c = shown_few

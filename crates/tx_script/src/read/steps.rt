@@ -1,5 +1,6 @@
 //! Reads the lines of a schedule after the first.
 ghost use Rattle.std.specs.Prelude.{◌≡◌, ◌<◌, ◌^◌, ◌++◌, ◌∷◌, ◌↔◌, codes, IfSome, IsTrue, Some};
+ghost use Rattle.std.specs.Bool.{then_some};
 ghost use Rattle.std.specs.Fmt.{decimal};
 ghost use Rattle.tx_base.specs.declared.names.Pid.{Pid};
 ghost use Rattle.tx_base.specs.declared.names.Signo.{Signo};
@@ -13,7 +14,7 @@ use crate::read::calls::read_call;
 use crate::read::header::Version;
 use crate::read::small::{read_byte, read_pid};
 use crate::read::split::{after_front, split_word};
-use tx_base::{Pid, Signo, Step};
+use tx_base::{Call, Pid, Signo, Step};
 
 /// The step that a line of a text of that version spells. Nothing where it is another line.
 pub fn read_step(version: Version, line: &[u8]) -> Option<Step>
@@ -22,12 +23,32 @@ pub fn read_step(version: Version, line: &[u8]) -> Option<Step>
     ensures within { IfSome result (IsOf version) }
     ensures only { (s : Step) → FitsStep s → IsOf version s → line.now ≡ step_text s → result ≡ Some s }
 {
-    let (first, rest) = split_word(line)?;
-    if is_kernel(first) {
-        return kernel_abort(rest);
+    let mut step = Step::KernelAbort(Pid(0));
+    if read_step_into(version, line, &mut step) {
+        Some(step)
+    } else {
+        None
     }
-    let pid = read_pid(first)?;
-    process_step(version, pid, rest)
+}
+
+/// Reads a step as `read_step` does, and puts it where it is to stand: for a caller that reads many,
+/// since a step is large. Answers whether the line spells one.
+pub fn read_step_into(version: Version, line: &[u8], step: &mut Step) -> bool
+    ensures found { IfSome (then_some result step.new) (λ s. line.now ≡ step_text s) }
+    ensures fits { IfSome (then_some result step.new) FitsStep }
+    ensures within { IfSome (then_some result step.new) (IsOf version) }
+    ensures only { (s : Step) → FitsStep s → IsOf version s → line.now ≡ step_text s → then_some result step.new ≡ Some s }
+{
+    let Some((first, rest)) = split_word(line) else {
+        return false;
+    };
+    if is_kernel(first) {
+        return kernel_abort(rest, step);
+    }
+    let Some(pid) = read_pid(first) else {
+        return false;
+    };
+    process_step(version, pid, rest, step)
 }
 
 /// Whether the word stands for the kernel.
@@ -37,27 +58,66 @@ fn is_kernel(word: &[u8]) -> bool
     word == b"kernel".as_slice()
 }
 
-/// The step of the kernel that a text spells, without its first word.
-fn kernel_abort(rest: &[u8]) -> Option<Step>
-    ensures found { IfSome result (λ s. codes "kernel" ++ 32 ∷ rest.now ≡ step_text s) }
-    ensures fits { IfSome result FitsStep }
-    ensures within { (version : Version) → IfSome result (IsOf version) }
-    ensures only { (p : Pid) → p.0 < 2 ^ 16 → rest.now ≡ decimal p.0 → result ≡ Some (Step.KernelAbort p) }
+/// Puts the step of the kernel that a text spells, without its first word, where it is to stand.
+fn kernel_abort(rest: &[u8], step: &mut Step) -> bool
+    ensures found { IfSome (then_some result step.new) (λ s. codes "kernel" ++ 32 ∷ rest.now ≡ step_text s) }
+    ensures fits { IfSome (then_some result step.new) FitsStep }
+    ensures within { (version : Version) → IfSome (then_some result step.new) (IsOf version) }
+    ensures only { (p : Pid) → p.0 < 2 ^ 16 → rest.now ≡ decimal p.0 → then_some result step.new ≡ Some (Step.KernelAbort p) }
 {
-    read_pid(rest).map(Step::KernelAbort)
+    match read_pid(rest) {
+        Some(starter) => {
+            *step = Step::KernelAbort(starter);
+            true
+        }
+        None => false,
+    }
 }
 
-/// The step of a process that a text spells, without its first word.
-fn process_step(version: Version, pid: Pid, rest: &[u8]) -> Option<Step>
+/// Puts the step of a process that a text spells, without its first word, where it is to stand.
+fn process_step(version: Version, pid: Pid, rest: &[u8], step: &mut Step) -> bool
     requires { pid.0 < 2 ^ 16 }
-    ensures found { IfSome result (λ s. decimal pid.0 ++ 32 ∷ rest.now ≡ step_text s) }
-    ensures fits { IfSome result FitsStep }
-    ensures within { IfSome result (IsOf version) }
-    ensures call { (c : Call) → FitsCall c → IsCallOf version c → rest.now ≡ call_text c → result ≡ Some (Step.Call pid c) }
-    ensures delivery { (signo : Signo) → signo.0 < 2 ^ 8 → rest.now ≡ codes "deliver " ++ decimal signo.0 → result ≡ Some (Step.Deliver pid signo) }
+    ensures found { IfSome (then_some result step.new) (λ s. decimal pid.0 ++ 32 ∷ rest.now ≡ step_text s) }
+    ensures fits { IfSome (then_some result step.new) FitsStep }
+    ensures within { IfSome (then_some result step.new) (IsOf version) }
+    ensures call { (c : Call) → FitsCall c → IsCallOf version c → rest.now ≡ call_text c → then_some result step.new ≡ Some (Step.Call pid c) }
+    ensures delivery { (signo : Signo) → signo.0 < 2 ^ 8 → rest.now ≡ codes "deliver " ++ decimal signo.0 → then_some result step.new ≡ Some (Step.Deliver pid signo) }
 {
     match after_front(b"deliver ", rest) {
-        Some(word) => Some(Step::Deliver(pid, Signo(read_byte(word)?))),
-        None => Some(Step::Call(pid, read_call(version, rest)?)),
+        Some(word) => delivery(pid, word, step),
+        None => call_step(version, pid, rest, step),
     }
+}
+
+/// Puts the delivery of the signal that a word spells where it is to stand.
+fn delivery(pid: Pid, word: &[u8], step: &mut Step) -> bool
+    requires { pid.0 < 2 ^ 16 }
+    ensures found { IfSome (then_some result step.new) (λ s. decimal pid.0 ++ 32 ∷ (codes "deliver " ++ word.now) ≡ step_text s) }
+    ensures fits { IfSome (then_some result step.new) FitsStep }
+    ensures within { (version : Version) → IfSome (then_some result step.new) (IsOf version) }
+    ensures only { (signo : Signo) → signo.0 < 2 ^ 8 → word.now ≡ decimal signo.0 → then_some result step.new ≡ Some (Step.Deliver pid signo) }
+{
+    match read_byte(word) {
+        Some(number) => {
+            *step = Step::Deliver(pid, Signo(number));
+            true
+        }
+        None => false,
+    }
+}
+
+/// Puts the call of a process that a text spells where it is to stand.
+fn call_step(version: Version, pid: Pid, rest: &[u8], step: &mut Step) -> bool
+    requires { pid.0 < 2 ^ 16 }
+    ensures found { IfSome (then_some result step.new) (λ s. decimal pid.0 ++ 32 ∷ rest.now ≡ step_text s) }
+    ensures fits { IfSome (then_some result step.new) FitsStep }
+    ensures within { IfSome (then_some result step.new) (IsOf version) }
+    ensures only { (c : Call) → FitsCall c → IsCallOf version c → rest.now ≡ call_text c → then_some result step.new ≡ Some (Step.Call pid c) }
+{
+    let mut call = Call::Getpid;
+    if !read_call(version, rest, &mut call) {
+        return false;
+    }
+    *step = Step::Call(pid, call);
+    true
 }

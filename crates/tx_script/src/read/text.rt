@@ -6,9 +6,10 @@ ghost use Rattle.tx_script.specs.declared.read.header.Version.{Version};
 use crate::faults::Fault;
 use crate::read::header::Header;
 use crate::read::heads::read_header;
-use crate::read::made::read_made_step;
 use crate::read::schedule::Schedule;
+use crate::read::steps::read_step_into;
 use std::alloc::Global;
+use tx_base::{Pid, Step};
 
 /// How long a line may be, in bytes, without its end.
 pub const LINE_BYTES: usize = 512;
@@ -29,11 +30,12 @@ pub fn read_schedule(alloc: Global, text: &[u8]) -> Result<Schedule, Fault>
     let mut steps = Vec::with_capacity(alloc, STEPS.min(left.len() / STEP_BYTES))?;
     while !left.is_empty() {
         let (line, rest) = next_line(steps.len(), left)?;
-        let Some(step) = read_made_step(header.version, line) else {
+        let mut step = Step::KernelAbort(Pid(0));
+        if !read_step_into(header.version, line, &mut step) {
             return Err(Fault::NotALine {
                 line: steps.len() as u64 + 2,
             });
-        };
+        }
         if steps.push(step).is_err() {
             return Err(Fault::NoMemory);
         }

@@ -1,14 +1,13 @@
 //! Prints descriptors, descriptions and pipes.
 ghost use Rattle.std.specs.Option.{option_copied};
 ghost use Rattle.std.specs.Prelude.{◌≡◌, ◌++◌, OnOk, string_bytes};
-ghost use Rattle.hex.specs.Hex.{encode_lower};
 ghost use Rattle.tx_change.specs.Exchange.{pipe_at};
 ghost use Rattle.tx_desc.specs.Descriptions.{described, description_at, description_of, end_for};
 ghost use Rattle.tx_desc.specs.Places.{number_in};
 ghost use Rattle.tx_script.specs.Descriptors.{desc_line, desc_text, descs_text, fd_line, fds_text, pipe_line, pipes_text, side_text, wait_text};
-ghost use Rattle.tx_script.specs.Replies.{bytes_text};
 
-use crate::write::print::{put, put_byte, put_count};
+use crate::write::bytes::put_bytes;
+use crate::write::print::{put, put_count};
 use std::alloc::AllocError;
 use tx_base::{DESCRIPTIONS, DESCRIPTORS, DescNo, PIPES, PipeNo};
 use tx_change::PipeTable;
@@ -114,24 +113,4 @@ fn put_pipe_line(text: &mut String, number: usize, pipe: Option<&Pipe>) -> Resul
         }
         None => Ok(()),
     }
-}
-
-/// Appends bytes in hex digits, or `-` where there is none.
-fn put_bytes(text: &mut String, bytes: &[u8]) -> Result<(), AllocError>
-    ensures { OnOk result (string_bytes text.new ≡ string_bytes text.old ++ bytes_text bytes.now) }
-{
-    if bytes.is_empty() {
-        return put(text, "-");
-    }
-    put_digits(text, bytes)
-}
-
-/// Appends two hex digits for each byte.
-fn put_digits(text: &mut String, bytes: &[u8]) -> Result<(), AllocError>
-    ensures { OnOk result (string_bytes text.new ≡ string_bytes text.old ++ encode_lower bytes.now) }
-{
-    for i in 0..bytes.len() {
-        put_byte(text, bytes[i])?;
-    }
-    Ok(())
 }

@@ -1,46 +1,71 @@
 //! Prints the replies of a schedule's steps.
 ghost use Rattle.std.specs.Prelude.{◌≡◌, ◌++◌, ◌∷◌, ◌<◌, ◌^◌, [], OnOk, string_bytes};
-ghost use Rattle.tx_core.specs.Outcomes.{reply_to};
-ghost use Rattle.tx_script.specs.Replies.{line_text, number_of, refusal_text, reply_text};
+ghost use Rattle.tx_script.specs.Replies.{line_text, missed_text, number_of, refusal_text, reply_text, undelivered_text};
 
+use crate::write::bytes::put_bytes;
 use crate::write::print::{put, put_count, put_number};
 use std::alloc::AllocError;
-use tx_base::Refusal;
-use tx_core::Outcome;
+use tx_base::{Missed, Refusal, Reply};
 
-/// Appends the line of the reply to a step, by its outcome or why it was refused. Steps count from 1.
-pub fn put_reply_line(
-    text: &mut String,
-    number: u64,
-    made: Result<Outcome, Refusal>,
-) -> Result<(), AllocError>
-    ensures { OnOk result (string_bytes text.new ≡ string_bytes text.old ++ line_text number (reply_to made)) }
+/// Appends the line of the reply to a step. Steps count from 1.
+pub fn put_reply_line(text: &mut String, number: u64, reply: &Reply) -> Result<(), AllocError>
+    ensures { OnOk result (string_bytes text.new ≡ string_bytes text.old ++ line_text number reply.now) }
 {
     put_count(text, number)?;
     put(text, " ")?;
-    put_reply(text, made)?;
+    put_reply(text, reply)?;
     put(text, "\n")
 }
 
 /// Appends a reply.
-fn put_reply(text: &mut String, made: Result<Outcome, Refusal>) -> Result<(), AllocError>
-    ensures { OnOk result (string_bytes text.new ≡ string_bytes text.old ++ reply_text (reply_to made)) }
+fn put_reply(text: &mut String, reply: &Reply) -> Result<(), AllocError>
+    ensures { OnOk result (string_bytes text.new ≡ string_bytes text.old ++ reply_text reply.now) }
 {
-    match made {
-        Ok(Outcome::Done(ret)) => {
+    match reply {
+        Reply::Done(ret) => {
             put(text, "ok ")?;
-            put_number(text, ret)
+            put_number(text, *ret)
         }
-        Ok(Outcome::Committed) => put(text, "committed"),
-        Ok(Outcome::Aborted(status)) => {
+        Reply::Ended => put(text, "ended"),
+        Reply::Committed { undelivered } => {
+            put(text, "committed")?;
+            put_undelivered(text, undelivered.as_slice())
+        }
+        Reply::Aborted(status) => {
             put(text, "aborted ")?;
-            put_count(text, u64::from(status))
+            put_count(text, u64::from(*status))
         }
-        Err(refusal) => {
+        Reply::Out(bytes) => {
+            put(text, "out ")?;
+            put_bytes(text, bytes.as_slice())
+        }
+        Reply::No(refusal) => {
             put(text, "no N")?;
-            put_refusal(text, refusal)
+            put_refusal(text, *refusal)
         }
     }
+}
+
+/// Appends the held sends that could not be delivered, in order.
+fn put_undelivered(text: &mut String, undelivered: &[Missed]) -> Result<(), AllocError>
+    ensures { OnOk result (string_bytes text.new ≡ string_bytes text.old ++ undelivered_text undelivered.now) }
+{
+    for i in 0..undelivered.len() {
+        put_missed(text, &undelivered[i])?;
+    }
+    Ok(())
+}
+
+/// Appends a held send that could not be delivered: its target, its signal and its error's number.
+fn put_missed(text: &mut String, missed: &Missed) -> Result<(), AllocError>
+    ensures { OnOk result (string_bytes text.new ≡ string_bytes text.old ++ missed_text missed.now) }
+{
+    put(text, " ")?;
+    put_count(text, u64::from(missed.target.0))?;
+    put(text, ":")?;
+    put_count(text, u64::from(missed.signo.0))?;
+    put(text, ":")?;
+    put_count(text, u64::from(missed.errno.number()))
 }
 
 /// Appends the number of a refusal, and the holder where one is in the way.

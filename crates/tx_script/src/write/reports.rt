@@ -1,9 +1,7 @@
 //! Runs a schedule, and prints what it answers and the state that it leaves.
 ghost use Rattle.std.specs.Prelude.{◌≡◌, ◌++◌, [], List, IfErr, IfOk, OnOk, string_bytes};
 ghost use Rattle.tx_base.specs.declared.steps.Accepted.{Accepted};
-ghost use Rattle.tx_core.specs.Built.{AreBuilt, IsBuilt};
-ghost use Rattle.tx_core.specs.Content.{view_of};
-ghost use Rattle.tx_core.specs.Outcomes.{reply_to};
+ghost use Rattle.tx_live.specs.Content.{view_of};
 ghost use Rattle.tx_core.specs.Runs.{IsAfter};
 ghost use Rattle.tx_model.specs.Answer.{answer};
 ghost use Rattle.tx_model.specs.Schedules.{recorded, answers_of, history_of};
@@ -21,14 +19,13 @@ use crate::write::replies::put_reply_line;
 use crate::write::state::put_procs;
 use crate::write::txns::put_txns;
 use std::alloc::Global;
-use tx_base::{Refusal, Step};
-use tx_core::{Machine, Outcome};
+use tx_base::{Reply, Step};
+use tx_core::Machine;
 
 /// The report of a schedule: a line for each step's reply, and the text of the state after the
 /// last one. The only fault is `NoMemory`.
 pub fn report(alloc: Global, schedule: &Schedule) -> Result<String, Fault>
-    requires header { FitsHeader schedule.now.header }
-    requires steps { AreBuilt schedule.now.steps.items }
+    requires { FitsHeader schedule.now.header }
     ensures text { IfOk result (λ text. string_bytes text ≡ report_text schedule.now.header schedule.now.steps.items) }
     ensures fault { IfErr result (λ fault. fault ≡ NoMemory) }
 {
@@ -59,37 +56,47 @@ fn put_replies(
     machine: &mut Machine,
     steps: &[Step],
 ) -> Result<(), Fault>
-    requires { AreBuilt steps.now }
     ensures text { OnOk result ((start : State) (earlier : List Accepted) → IsAfter start earlier machine.old →
         string_bytes text.new ≡ string_bytes text.old ++ lines_text 1 (answers_of start earlier steps.now)) }
     ensures after { OnOk result ((start : State) (earlier : List Accepted) → IsAfter start earlier machine.old →
         IsAfter start (history_of start earlier steps.now) machine.new) }
     ensures fault { IfErr result (λ fault. fault ≡ NoMemory) }
 {
+    let mut reply = Reply::Ended;
     for i in 0..steps.len() {
-        let made = make_step(alloc, machine, &steps[i])?;
-        put_reply_line(text, i as u64 + 1, made)?;
+        make_step(alloc, machine, &steps[i], &mut reply)?;
+        put_reply_line(text, i as u64 + 1, &reply)?;
     }
     Ok(())
 }
 
-/// Makes a step, which is never taken back. Answers its outcome, or why it was refused.
+/// Makes a step, which is never taken back. Puts its reply where it is to stand.
 fn make_step(
     alloc: Global,
     machine: &mut Machine,
     step: &Step,
-) -> Result<Result<Outcome, Refusal>, Fault>
-    requires { IsBuilt step.now }
-    ensures answer { IfOk result (λ made. reply_to made ≡ answer (view_of machine.old) step.now) }
-    ensures after { IfOk result (λ made. (start : State) (earlier : List Accepted) → IsAfter start earlier machine.old →
-        IsAfter start (recorded earlier step.now (reply_to made)) machine.new) }
+    reply: &mut Reply,
+) -> Result<(), Fault>
+    ensures answer { OnOk result (reply.new ≡ answer (view_of machine.old) step.now) }
+    ensures after { OnOk result ((start : State) (earlier : List Accepted) → IsAfter start earlier machine.old →
+        IsAfter start (recorded earlier step.now reply.new) machine.new) }
     ensures fault { IfErr result (λ fault. fault ≡ NoMemory) }
 {
-    match machine.take(alloc, step) {
-        Ok((outcome, _inverse)) => Ok(Ok(outcome)),
-        Err(Refusal::NoMemory) => Err(Fault::NoMemory),
-        Err(refusal) => Ok(Err(refusal)),
+    let _inverse = machine.step_into(alloc, step, reply);
+    if reply.wants_memory() {
+        return Err(Fault::NoMemory);
     }
+    Ok(())
+}
+
+/// The text of a machine's state, from its line `state` on. The only fault is `NoMemory`.
+pub fn print_state(alloc: Global, machine: &Machine) -> Result<String, Fault>
+    ensures text { IfOk result (λ text. string_bytes text ≡ state_text (view_of machine.now)) }
+    ensures fault { IfErr result (λ fault. fault ≡ NoMemory) }
+{
+    let mut text = String::new(alloc);
+    put_state(&mut text, machine)?;
+    Ok(text)
 }
 
 /// Appends the text of the state.

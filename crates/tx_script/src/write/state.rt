@@ -1,7 +1,7 @@
 //! Prints the processes of a machine.
-ghost use Rattle.std.specs.Prelude.{◌≡◌, ◌++◌, OnOk, string_bytes};
+ghost use Rattle.std.specs.Prelude.{◌≡◌, ◌++◌, [], OnOk, string_bytes};
 ghost use Rattle.std.specs.Option.{option_copied};
-ghost use Rattle.tx_core.specs.Content.{state_of};
+ghost use Rattle.tx_change.specs.States.{state_of};
 ghost use Rattle.tx_cred.specs.Cred.{ids_of};
 ghost use Rattle.tx_proc.specs.Processes.{process_in, process_of};
 ghost use Rattle.tx_script.specs.State.{are_root, byte_text, end_text, flag_text, head_text, ids_line, own_text, page_line, page_text, pages_text, process_lines, process_text, procs_text, status_text, three_ids};
@@ -19,7 +19,7 @@ use tx_proc::Proc;
 
 /// Appends the lines of the processes of the numbers up to a width, by rising number.
 pub fn put_procs(text: &mut String, parts: &Parts, width: u16) -> Result<(), AllocError>
-    ensures { OnOk result (string_bytes text.new ≡ string_bytes text.old ++ procs_text width (state_of parts.now).procs) }
+    ensures { OnOk result (string_bytes text.new ≡ string_bytes text.old ++ procs_text width (state_of (λ starter. []) parts.now).procs) }
 {
     for done in 0..width {
         let pid = Pid(done + 1);

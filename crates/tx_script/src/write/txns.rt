@@ -2,7 +2,7 @@
 ghost use Rattle.std.specs.Option.{option_copied};
 ghost use Rattle.std.specs.Prelude.{◌≡◌, ◌≤◌, ◌++◌, OnOk, map, string_bytes};
 ghost use Rattle.tx_base.specs.Slots.{slot_at};
-ghost use Rattle.tx_core.specs.Content.{view_of};
+ghost use Rattle.tx_live.specs.Content.{view_of};
 ghost use Rattle.tx_kernel.specs.Plans.{sending_of};
 ghost use Rattle.tx_model.specs.View.{present};
 ghost use Rattle.tx_script.specs.Links.{AreLinkedAbove};

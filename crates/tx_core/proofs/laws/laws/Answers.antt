@@ -3,10 +3,8 @@ use Rattle.tx_core.proofs.laws.laws.Goals as goal
 pub returns : goal.returns
 returns c = record {
   history = c.next_view.ensures.history;
-  start_sound = c.step_by_step.ensures.start;
-  next_sound = c.step_by_step.ensures.sound;
-  start = c.two_parts.ensures.start;
-  same = c.two_parts.ensures.same;
-  step = c.two_parts.ensures.step;
   present = c.answers_of_parts.ensures.present;
+  formed = c.well_formed-2.ensures.booted;
+  nothing = c.well_formed_table.ensures.booted;
+  start = c.well_formed_table.ensures.start;
 }

@@ -1,23 +1,27 @@
-use Rattle.std.proofs.Common.{ℕ, suc, ◌≡◌, ◌+◌, List, ◌∷◌, drop, sym, subst, add-one, drop-cons, ◌∙◌, ap}
-use Rattle.std.proofs.Math.ListN.{drop_of_length-le}
+use Rattle.std.proofs.Common.{◌≡◌, ◌+◌, ◌++◌, ◌∷◌, [], Result, Ok, Err, OnOk, List, false, is_err, take, sym, subst, ◌∙◌, ap, true≢false}
+use Rattle.std.proofs.lemmas.List.{take_more, take_all}
 use Rattle.tx_base.specs.declared.steps.Step.{Step}
-use Rattle.tx_core.specs.Runs.{RunsSoFar}
-use Rattle.tx_core.proofs.SoFar.{so_far_start, run_ends}
+use Rattle.tx_core.specs.Runs.{RunsFrom}
+use Rattle.tx_core.proofs.SoFar.{run_starts}
 use Rattle.tx_core.proofs.schedules.run_on.Goals as goal
 
-pub loop-step-init : goal.loop-step-init
-loop-step-init c start same = so_far_start start c.args.steps.now c.args.machine c.new-history.result.items c.new-history.ensures.items same
+-- what a call leaves that did not fail
+where_ok : {T E P : Type 0} (r : Result T E) → is_err r ≡ false → OnOk r P → P
+where_ok (Ok x) none left = left
+where_ok (Err y) none left = absurd (true≢false none)
 
-pub loop-step-preserved : goal.loop-step-preserved
-loop-step-preserved c start same =
-    let i = c.loop-step.step-index in
-    let cut : drop i c.args.steps.now ≡ c.step-item.result ∷ drop (i + 1) c.args.steps.now =
-    drop-cons c.args.steps.now i c.step-item.result c.loop-step-test.true
-    ∙ ap (λ (x : Step). x ∷ drop (suc i) c.args.steps.now) (sym c.step-item.is)
-    ∙ ap (λ (n : ℕ). c.step-item.result ∷ drop n c.args.steps.now) (sym (add-one i)) in
-    c.in_ok-run_step.ensures start c.args.steps.now (drop (i + 1) c.args.steps.now)
-    (subst (λ (xs : List Step). RunsSoFar start c.args.steps.now xs c.loop-step.machine c.loop-step.history.items) cut (c.loop-step.invariant start same))
+pub loop-i-init : goal.loop-i-init
+loop-i-init c start same = run_starts start c.args.machine c.new-history.result.items c.new-history.ensures.items same
 
-pub returns : goal.returns
-returns c start same = run_ends start c.args.steps.now record { machine = c.loop-step.machine; history = c.loop-step.history }
-    (subst (λ (xs : List Step). RunsSoFar start c.args.steps.now xs c.loop-step.machine c.loop-step.history.items) (drop_of_length-le c.args.steps.now c.loop-step-test.false) (c.loop-step.invariant start same))
+pub loop-i-preserved : goal.loop-i-preserved
+loop-i-preserved c start same =
+    let steps = c.args.steps.now in
+    let i = c.loop-i.i in
+    let more : take i steps ++ c.index-steps-i.result ∷ [] ≡ take (i + 1) steps =
+    ap (λ (x : Step). take i steps ++ x ∷ []) c.index-steps-i.is ∙ sym (take_more steps i c.index-steps-i.result c.loop-i-test.true) in
+    subst (λ (made : List Step). RunsFrom start made c.run_step.new.machine c.run_step.new.history.items) more
+    (where_ok c.run_step.result (sym c.is_err.ensures.value ∙ c.if-is_err.false) c.run_step.ensures.run start (take i steps) (c.loop-i.invariant start same))
+
+pub returns-clause-run : goal.returns-clause-run
+returns-clause-run c start same =
+    subst (λ (made : List Step). RunsFrom start made c.loop-i.machine c.loop-i.history.items) (take_all c.loop-i.i c.args.steps.now c.loop-i-test.false) (c.loop-i.invariant start same)

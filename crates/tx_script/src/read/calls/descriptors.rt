@@ -1,5 +1,6 @@
 //! The calls on descriptors.
 ghost use Rattle.std.specs.Prelude.{◌≡◌, ◌<◌, ◌≤◌, ◌^◌, ◌++◌, ◌∷◌, Bool, ℕ, ℤ, codes, FitsSigned, IfSome, Some};
+ghost use Rattle.std.specs.Bool.{then_some};
 ghost use Rattle.std.specs.Int.{w64};
 ghost use Rattle.std.specs.Fmt.{decimal, signed_decimal};
 ghost use Rattle.tx_base.specs.declared.names.DescNo.{DescNo};
@@ -11,6 +12,7 @@ ghost use Rattle.tx_script.specs.Lines.{IsCallOf};
 ghost use Rattle.tx_script.specs.Words.{first_word};
 ghost use Rattle.tx_script.specs.declared.read.header.Version.{Version};
 
+use crate::read::calls::place::put;
 use crate::read::calls::transfers::transfer_call;
 use crate::read::header::Version;
 use crate::read::numbers::number;
@@ -20,28 +22,28 @@ use tx_base::{Call, DescNo, PipeNo};
 
 /// The call on descriptors of that name and with those arguments, or one that a later group has.
 /// Nothing where none is spelled so.
-pub fn descriptor_call(version: Version, name: &[u8], arguments: &[u8]) -> Option<Call>
-    ensures found { IfSome result (λ c. name.now ++ 32 ∷ arguments.now ≡ call_text c) }
-    ensures fits { IfSome result FitsCall }
-    ensures within { IfSome result (IsCallOf version) }
-    ensures only { (c : Call) → FitsCall c → IsCallOf version c → 3 ≤ group_of c → first_word (call_text c) ≡ Some (name.now, arguments.now) → result ≡ Some c }
+pub fn descriptor_call(version: Version, name: &[u8], arguments: &[u8], call: &mut Call) -> bool
+    ensures found { IfSome (then_some result call.new) (λ c. name.now ++ 32 ∷ arguments.now ≡ call_text c) }
+    ensures fits { IfSome (then_some result call.new) FitsCall }
+    ensures within { IfSome (then_some result call.new) (IsCallOf version) }
+    ensures only { (c : Call) → FitsCall c → IsCallOf version c → 3 ≤ group_of c → first_word (call_text c) ≡ Some (name.now, arguments.now) → then_some result call.new ≡ Some c }
 {
     if name == b"pipe".as_slice() {
-        return pipe(arguments);
+        return put(call, pipe(arguments));
     }
     if name == b"dup".as_slice() {
-        return number(arguments).map(Call::Dup);
+        return put(call, number(arguments).map(Call::Dup));
     }
     if name == b"dup2".as_slice() {
-        return dup2(arguments);
+        return put(call, dup2(arguments));
     }
     if name == b"close".as_slice() {
-        return number(arguments).map(Call::Close);
+        return put(call, number(arguments).map(Call::Close));
     }
     if name == b"set_nonblock".as_slice() {
-        return set_nonblock(arguments);
+        return put(call, set_nonblock(arguments));
     }
-    transfer_call(version, name, arguments)
+    transfer_call(version, name, arguments, call)
 }
 
 /// The call that makes a pipe, by the text of its arguments.

@@ -1,5 +1,6 @@
 //! The calls on memory.
 ghost use Rattle.std.specs.Prelude.{◌≡◌, ◌++◌, ◌∷◌, Bool, ℕ, ℤ, codes, FitsSigned, IfSome, Some};
+ghost use Rattle.std.specs.Bool.{then_some};
 ghost use Rattle.std.specs.Int.{w64};
 ghost use Rattle.std.specs.Fmt.{signed_decimal};
 ghost use Rattle.arrayvec.specs.ArrayVec.{ArrayVec};
@@ -11,6 +12,7 @@ ghost use Rattle.tx_script.specs.Words.{first_word};
 ghost use Rattle.tx_script.specs.declared.read.header.Version.{Version};
 
 use crate::read::byte_words::read_bytes;
+use crate::read::calls::place::put;
 use crate::read::calls::processes::process_call;
 use crate::read::header::Version;
 use crate::read::numbers::number;
@@ -19,31 +21,37 @@ use tx_base::Call;
 
 /// The call on memory of that name and with those arguments, or one that a later group has. Nothing
 /// where none is spelled so.
-pub fn memory_call(version: Version, name: &[u8], arguments: &[u8]) -> Option<Call>
-    ensures found { IfSome result (λ c. name.now ++ 32 ∷ arguments.now ≡ call_text c) }
-    ensures fits { IfSome result FitsCall }
-    ensures within { IfSome result (IsCallOf version) }
-    ensures only { (c : Call) → FitsCall c → IsCallOf version c → first_word (call_text c) ≡ Some (name.now, arguments.now) → result ≡ Some c }
+pub fn memory_call(version: Version, name: &[u8], arguments: &[u8], call: &mut Call) -> bool
+    ensures found { IfSome (then_some result call.new) (λ c. name.now ++ 32 ∷ arguments.now ≡ call_text c) }
+    ensures fits { IfSome (then_some result call.new) FitsCall }
+    ensures within { IfSome (then_some result call.new) (IsCallOf version) }
+    ensures only { (c : Call) → FitsCall c → IsCallOf version c → first_word (call_text c) ≡ Some (name.now, arguments.now) → then_some result call.new ≡ Some c }
 {
     match name {
-        b"map" => number(arguments).map(Call::Map),
-        b"unmap" => number(arguments).map(Call::Unmap),
-        b"protect" => protect(arguments),
-        b"store" => store(arguments),
-        b"load" => number(arguments).map(Call::Load),
-        _ => process_call(version, name, arguments),
+        b"map" => put(call, number(arguments).map(Call::Map)),
+        b"unmap" => put(call, number(arguments).map(Call::Unmap)),
+        b"protect" => protect(arguments, call),
+        b"store" => store(arguments, call),
+        b"load" => put(call, number(arguments).map(Call::Load)),
+        _ => process_call(version, name, arguments, call),
     }
 }
 
 /// The call that says whether a page may be written, by the text of its arguments.
-fn protect(arguments: &[u8]) -> Option<Call>
-    ensures found { IfSome result (λ c. codes "protect " ++ arguments.now ≡ call_text c) }
-    ensures fits { IfSome result FitsCall }
-    ensures within { (version : Version) → IfSome result (IsCallOf version) }
-    ensures only { (page : ℤ) (writable : Bool) → FitsSigned w64 page → arguments.now ≡ signed_decimal page ++ 32 ∷ access_text writable → result ≡ Some (Call.Protect page writable) }
+fn protect(arguments: &[u8], call: &mut Call) -> bool
+    ensures found { IfSome (then_some result call.new) (λ c. codes "protect " ++ arguments.now ≡ call_text c) }
+    ensures fits { IfSome (then_some result call.new) FitsCall }
+    ensures within { (version : Version) → IfSome (then_some result call.new) (IsCallOf version) }
+    ensures only { (page : ℤ) (writable : Bool) → FitsSigned w64 page → arguments.now ≡ signed_decimal page ++ 32 ∷ access_text writable → then_some result call.new ≡ Some (Call.Protect page writable) }
 {
-    let (page, word) = split_number(arguments)?;
-    Some(Call::Protect(page, access(word)?))
+    let Some((page, word)) = split_number(arguments) else {
+        return false;
+    };
+    let Some(writable) = access(word) else {
+        return false;
+    };
+    *call = Call::Protect(page, writable);
+    true
 }
 
 /// What may be done with a page: whether it may be written.
@@ -59,12 +67,18 @@ fn access(word: &[u8]) -> Option<bool>
 }
 
 /// The call that stores bytes, by the text of its arguments.
-fn store(arguments: &[u8]) -> Option<Call>
-    ensures found { IfSome result (λ c. codes "store " ++ arguments.now ≡ call_text c) }
-    ensures fits { IfSome result FitsCall }
-    ensures within { (version : Version) → IfSome result (IsCallOf version) }
-    ensures only { (address : ℤ) (bytes : ArrayVec ℕ) → FitsCall (Call.Store address bytes) → arguments.now ≡ signed_decimal address ++ 32 ∷ encode_lower bytes.items → result ≡ Some (Call.Store address bytes) }
+fn store(arguments: &[u8], call: &mut Call) -> bool
+    ensures found { IfSome (then_some result call.new) (λ c. codes "store " ++ arguments.now ≡ call_text c) }
+    ensures fits { IfSome (then_some result call.new) FitsCall }
+    ensures within { (version : Version) → IfSome (then_some result call.new) (IsCallOf version) }
+    ensures only { (address : ℤ) (bytes : ArrayVec ℕ) → FitsCall (Call.Store address bytes) → arguments.now ≡ signed_decimal address ++ 32 ∷ encode_lower bytes.items → then_some result call.new ≡ Some (Call.Store address bytes) }
 {
-    let (address, word) = split_number(arguments)?;
-    Some(Call::Store(address, read_bytes(word)?))
+    let Some((address, word)) = split_number(arguments) else {
+        return false;
+    };
+    let Some(bytes) = read_bytes(word) else {
+        return false;
+    };
+    *call = Call::Store(address, bytes);
+    true
 }

@@ -1,5 +1,6 @@
 //! The calls that make, end and wait for processes.
 ghost use Rattle.std.specs.Prelude.{◌≡◌, ◌≤◌, ◌++◌, ◌∷◌, Bool, ℤ, codes, FitsSigned, IfSome, Some};
+ghost use Rattle.std.specs.Bool.{then_some};
 ghost use Rattle.std.specs.Int.{w64};
 ghost use Rattle.std.specs.Fmt.{signed_decimal};
 ghost use Rattle.tx_base.specs.declared.steps.Call.{Call};
@@ -10,6 +11,7 @@ ghost use Rattle.tx_script.specs.Words.{first_word};
 ghost use Rattle.tx_script.specs.declared.read.header.Version.{Version};
 
 use crate::read::calls::ids::id_call;
+use crate::read::calls::place::put;
 use crate::read::header::Version;
 use crate::read::numbers::number;
 use crate::read::small::read_pid;
@@ -18,17 +20,17 @@ use tx_base::Call;
 
 /// The call on processes of that name and with those arguments, or one that a later group has.
 /// Nothing where none is spelled so.
-pub fn process_call(version: Version, name: &[u8], arguments: &[u8]) -> Option<Call>
-    ensures found { IfSome result (λ c. name.now ++ 32 ∷ arguments.now ≡ call_text c) }
-    ensures fits { IfSome result FitsCall }
-    ensures within { IfSome result (IsCallOf version) }
-    ensures only { (c : Call) → FitsCall c → IsCallOf version c → 1 ≤ group_of c → first_word (call_text c) ≡ Some (name.now, arguments.now) → result ≡ Some c }
+pub fn process_call(version: Version, name: &[u8], arguments: &[u8], call: &mut Call) -> bool
+    ensures found { IfSome (then_some result call.new) (λ c. name.now ++ 32 ∷ arguments.now ≡ call_text c) }
+    ensures fits { IfSome (then_some result call.new) FitsCall }
+    ensures within { IfSome (then_some result call.new) (IsCallOf version) }
+    ensures only { (c : Call) → FitsCall c → IsCallOf version c → 1 ≤ group_of c → first_word (call_text c) ≡ Some (name.now, arguments.now) → then_some result call.new ≡ Some c }
 {
     match name {
-        b"fork" => read_pid(arguments).map(Call::Fork),
-        b"exit" => number(arguments).map(Call::Exit),
-        b"waitpid" => waitpid(arguments),
-        _ => id_call(version, name, arguments),
+        b"fork" => put(call, read_pid(arguments).map(Call::Fork)),
+        b"exit" => put(call, number(arguments).map(Call::Exit)),
+        b"waitpid" => put(call, waitpid(arguments)),
+        _ => id_call(version, name, arguments, call),
     }
 }
 

@@ -1,5 +1,6 @@
 //! The calls of a script, and on the console.
 ghost use Rattle.std.specs.Prelude.{◌≡◌, ◌<◌, ◌≤◌, ◌^◌, ◌++◌, ◌∷◌, ℕ, ℤ, codes, IfSome, Some};
+ghost use Rattle.std.specs.Bool.{then_some};
 ghost use Rattle.std.specs.Fmt.{decimal};
 ghost use Rattle.tx_base.specs.declared.steps.Call.{Call};
 ghost use Rattle.tx_base.specs.declared.steps.When.{When};
@@ -9,6 +10,7 @@ ghost use Rattle.tx_script.specs.Lines.{IsCallOf};
 ghost use Rattle.tx_script.specs.Words.{first_word};
 ghost use Rattle.tx_script.specs.declared.read.header.Version.{Version};
 
+use crate::read::calls::place::put;
 use crate::read::calls::transactions::transaction_call;
 use crate::read::header::Version;
 use crate::read::numbers::number;
@@ -17,22 +19,22 @@ use tx_base::{Call, When};
 
 /// The call of a script or on the console of that name and with those arguments, or one that a later
 /// group has. Nothing where none is spelled so.
-pub fn script_call(version: Version, name: &[u8], arguments: &[u8]) -> Option<Call>
-    ensures found { IfSome result (λ c. name.now ++ 32 ∷ arguments.now ≡ call_text c) }
-    ensures fits { IfSome result FitsCall }
-    ensures within { IfSome result (IsCallOf version) }
-    ensures only { (c : Call) → FitsCall c → IsCallOf version c → 6 ≤ group_of c → first_word (call_text c) ≡ Some (name.now, arguments.now) → result ≡ Some c }
+pub fn script_call(version: Version, name: &[u8], arguments: &[u8], call: &mut Call) -> bool
+    ensures found { IfSome (then_some result call.new) (λ c. name.now ++ 32 ∷ arguments.now ≡ call_text c) }
+    ensures fits { IfSome (then_some result call.new) FitsCall }
+    ensures within { IfSome (then_some result call.new) (IsCallOf version) }
+    ensures only { (c : Call) → FitsCall c → IsCallOf version c → 6 ≤ group_of c → first_word (call_text c) ≡ Some (name.now, arguments.now) → then_some result call.new ≡ Some c }
 {
     if name == b"console_write".as_slice() {
-        return console_write(arguments);
+        return put(call, console_write(arguments));
     }
     if name == b"jump".as_slice() {
-        return jump(arguments);
+        return put(call, jump(arguments));
     }
     if name == b"keep".as_slice() {
-        return number(arguments).map(Call::Keep);
+        return put(call, number(arguments).map(Call::Keep));
     }
-    transaction_call(version, name, arguments)
+    transaction_call(version, name, arguments, call)
 }
 
 /// The call that shows bytes, by the text of its arguments.

@@ -1,5 +1,6 @@
 //! The calls on signals.
 ghost use Rattle.std.specs.Prelude.{◌≡◌, ◌≤◌, ◌++◌, ◌∷◌, ℤ, codes, FitsSigned, IfSome, Some};
+ghost use Rattle.std.specs.Bool.{then_some};
 ghost use Rattle.std.specs.Int.{w64};
 ghost use Rattle.std.specs.Fmt.{signed_decimal};
 ghost use Rattle.tx_base.specs.declared.signals.Action.{Action};
@@ -13,6 +14,7 @@ ghost use Rattle.tx_script.specs.Sets.{set_text};
 ghost use Rattle.tx_script.specs.Words.{first_word};
 ghost use Rattle.tx_script.specs.declared.read.header.Version.{Version};
 
+use crate::read::calls::place::put;
 use crate::read::calls::script::script_call;
 use crate::read::header::Version;
 use crate::read::sets::read_set;
@@ -21,25 +23,25 @@ use tx_base::{Action, Call, How};
 
 /// The call on signals of that name and with those arguments, or one that a later group has. Nothing
 /// where none is spelled so.
-pub fn signal_call(version: Version, name: &[u8], arguments: &[u8]) -> Option<Call>
-    ensures found { IfSome result (λ c. name.now ++ 32 ∷ arguments.now ≡ call_text c) }
-    ensures fits { IfSome result FitsCall }
-    ensures within { IfSome result (IsCallOf version) }
-    ensures only { (c : Call) → FitsCall c → IsCallOf version c → 5 ≤ group_of c → first_word (call_text c) ≡ Some (name.now, arguments.now) → result ≡ Some c }
+pub fn signal_call(version: Version, name: &[u8], arguments: &[u8], call: &mut Call) -> bool
+    ensures found { IfSome (then_some result call.new) (λ c. name.now ++ 32 ∷ arguments.now ≡ call_text c) }
+    ensures fits { IfSome (then_some result call.new) FitsCall }
+    ensures within { IfSome (then_some result call.new) (IsCallOf version) }
+    ensures only { (c : Call) → FitsCall c → IsCallOf version c → 5 ≤ group_of c → first_word (call_text c) ≡ Some (name.now, arguments.now) → then_some result call.new ≡ Some c }
 {
     if name == b"kill".as_slice() {
-        return kill(arguments);
+        return put(call, kill(arguments));
     }
     if name == b"sigqueue".as_slice() {
-        return sigqueue(arguments);
+        return put(call, sigqueue(arguments));
     }
     if name == b"sigaction".as_slice() {
-        return sigaction(arguments);
+        return put(call, sigaction(arguments));
     }
     if name == b"sigprocmask".as_slice() {
-        return sigprocmask(arguments);
+        return put(call, sigprocmask(arguments));
     }
-    script_call(version, name, arguments)
+    script_call(version, name, arguments, call)
 }
 
 /// The call that sends a signal, by the text of its arguments.

@@ -1,4 +1,4 @@
-use Rattle.tx_step.proofs.Alone.{alone, begun_step}
+use Rattle.tx_step.proofs.Alone.{alone, begun_step, refused}
 use Rattle.tx_step.proofs.Taken.{runs}
 use Rattle.tx_judge.specs.declared.roles.StepRole.TheVariants as the
 use Rattle.tx_step.proofs.begins.take_begin.Goals as goal
@@ -9,6 +9,9 @@ begin-requires-clause-running c = runs c.laws.ensures c.args.content.now c.requi
 pub begin-requires-clause-alone : goal.begin-requires-clause-alone
 begin-requires-clause-alone c = alone c.laws.ensures c.args.content.now c.requires.content c.args.pid c.args._asked c.args.defers c.requires.through
 
-pub returns-clause-made : goal.returns-clause-made
-returns-clause-made c =
-    begun_step c.laws.ensures c.args.content.now c.requires.content c.args.pid c.args._asked c.args.defers c.requires.through c.begin.new.self c.in_ok-inverse.inverse c.in_ok-inverse.ensures.made
+pub returns-in-Ok : goal.returns-in-Ok
+returns-in-Ok c =
+    begun_step c.laws.ensures c.args.content.now c.requires.content c.args.pid c.args._asked c.args.defers c.requires.through c.begin.new.self c.in-Ok.inverse c.in-Ok.ensures.made
+
+pub returns-in-Err : goal.returns-in-Err
+returns-in-Err c = refused c.laws.ensures c.args.content.now c.requires.content c.args.pid c.args._asked c.args.defers c.requires.through c.begin.new.self c.in-Err.ensures.err

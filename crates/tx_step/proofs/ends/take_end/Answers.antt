@@ -1,6 +1,8 @@
 use Rattle.tx_judge.specs.declared.roles.StepRole.TheVariants as role
-use Rattle.tx_step.proofs.EndTaken.{end_is, live_is, signals, taken, unowned}
+use Rattle.tx_step.proofs.EndTaken.{end_is, live_is, refused, signals, taken, unowned}
+use Rattle.tx_step.proofs.RefusedSteps.{of_process}
 use Rattle.tx_step.proofs.Taken.{runs}
+use Rattle.tx_step.specs.declared.answered.Answered.TheVariants.{Committed}
 use Rattle.tx_step.proofs.ends.take_end.Goals as goal
 
 pub commit-requires-clause-running : goal.commit-requires-clause-running
@@ -21,7 +23,13 @@ pub commit-requires-clause-signals : goal.commit-requires-clause-signals
 commit-requires-clause-signals c =
     signals c.laws.ensures c.args.content.now c.requires.content c.args.pid c.args.starter c.args.asked c.requires.through c.act-act.result c.act-act.ensures
 
-pub returns-clause-made : goal.returns-clause-made
-returns-clause-made c =
-    taken c.laws.ensures c.args.content.now c.requires.content c.args.pid c.args.starter c.args.asked c.requires.through c.act-act.result c.act-act.ensures
-    c.commit.new.self c.in_ok-inverse.inverse c.in_ok-inverse.ensures.made c.in_ok-inverse.ensures.answer
+pub returns-in-Ok : goal.returns-in-Ok
+returns-in-Ok c =
+    of_process c.args.content.now c.args.pid c.args.asked c.commit.new.self c.in-Ok.inverse Committed
+    (taken c.laws.ensures c.args.content.now c.requires.content c.args.pid c.args.starter c.args.asked c.requires.through c.act-act.result c.act-act.ensures
+    c.commit.new.self c.in-Ok.inverse c.in-Ok.ensures.made c.in-Ok.ensures.answer)
+
+pub returns-in-Err : goal.returns-in-Err
+returns-in-Err c =
+    refused c.laws.ensures c.args.content.now c.requires.content c.args.pid c.args.starter c.args.asked c.requires.through c.act-act.result c.act-act.ensures
+    c.commit.new.self c.in-Err.ensures.err

@@ -1,6 +1,12 @@
+use Rattle.std.proofs.Common.{sym, subst}
+use Rattle.tx_base.specs.Slots.{slot_at}
 use Rattle.tx_judge.specs.declared.roles.StepRole.TheVariants as role
-use Rattle.tx_step.proofs.InsideTaken.{child_is, footprint_is, free, live_is, taken}
+use Rattle.tx_step.proofs.InsideTaken.{child_is, footprint_is, free, live_is, refused, taken}
+use Rattle.tx_live.specs.Made.{IsRunning}
+use Rattle.tx_live.specs.declared.content.Content.{Content}
+use Rattle.tx_step.proofs.RefusedSteps.{of_process}
 use Rattle.tx_step.proofs.Taken.{runs}
+use Rattle.tx_step.specs.declared.answered.Answered.TheVariants.{Acted}
 use Rattle.tx_step.proofs.inside.take_inside.Goals as goal
 
 pub make_inside-requires-clause-running : goal.make_inside-requires-clause-running
@@ -25,7 +31,18 @@ make_inside-requires-clause-free c =
     free c.laws.ensures c.args.content.now c.requires.content c.args.pid c.args.starter c.args.progress c.args.asked c.requires.through
     c.act-act.result c.act-act.ensures c.args.footprint.now c.requires.footprint
 
-pub returns-clause-made : goal.returns-clause-made
-returns-clause-made c =
-    taken c.laws.ensures c.args.content.now c.requires.content c.args.pid c.args.starter c.args.progress c.args.asked c.requires.through
-    c.act-act.result c.act-act.ensures c.make_inside.new.self c.in_ok-outcome.inverse c.in_ok-outcome.outcome c.in_ok-outcome.ensures.made c.in_ok-outcome.ensures.answer
+pub late_refusal-requires-clause-running : goal.late_refusal-requires-clause-running
+late_refusal-requires-clause-running c =
+    subst (λ (k : Content). IsRunning (slot_at k.parts.procs c.args.pid.0)) (sym c.in-Err.ensures.err)
+    (runs c.laws.ensures c.args.content.now c.requires.content c.args.pid c.args.asked (role.Inside c.args.starter c.args.progress) c.requires.through)
+
+pub returns-in-Ok : goal.returns-in-Ok
+returns-in-Ok c =
+    of_process c.args.content.now c.args.pid c.args.asked c.make_inside.new.self c.in-Ok.inverse (Acted c.in-Ok.outcome)
+    (taken c.laws.ensures c.args.content.now c.requires.content c.args.pid c.args.starter c.args.progress c.args.asked c.requires.through
+    c.act-act.result c.act-act.ensures c.make_inside.new.self c.in-Ok.inverse c.in-Ok.outcome c.in-Ok.ensures.made c.in-Ok.ensures.answer)
+
+pub returns-in-Err : goal.returns-in-Err
+returns-in-Err c =
+    refused c.laws.ensures c.args.content.now c.requires.content c.args.pid c.args.starter c.args.progress c.args.asked c.requires.through
+    c.act-act.result c.act-act.ensures c.make_inside.new.self c.in-Err.ensures.err c.late_refusal.result c.late_refusal.ensures

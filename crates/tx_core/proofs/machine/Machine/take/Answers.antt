@@ -1,5 +1,14 @@
-use Rattle.tx_core.proofs.Accepts.{takes_history}
+use Rattle.std.proofs.Common.{◌≡◌, true, false}
+use Rattle.tx_core.proofs.Steps.{kernel_none, kernel_takes}
+use Rattle.tx_core.proofs.machine.Machine.take.Goals.{in-Some, in-None}
 use Rattle.tx_core.proofs.machine.Machine.take.Goals as goal
 
-pub returns-clause-history : goal.returns-clause-history
-returns-clause-history c = takes_history c.args.self.now c.any.new.self c.args.step.now c.laws.ensures c.any.result c.any.ensures
+pub returns-after-take_kernel_abort-clause-takes : goal.returns-after-take_kernel_abort-clause-takes
+returns-after-take_kernel_abort-clause-takes c = elim c.match-take_kernel_abort.branch [
+  | in-Some w ↦
+      kernel_takes c.self.inside.content c.args.self.now c.take_kernel_abort.new.content c.args.step.now c.in-KernelAbort.starter w.in-Some.status w.in-Some.inverse
+      c.self.view_is c.in-KernelAbort.is w.in-Some.ensures.made c.match-take_kernel_abort.result w.result-is
+  | in-None w ↦
+      kernel_none c.self.inside.content c.args.self.now c.take_kernel_abort.new.content c.args.step.now c.in-KernelAbort.starter
+      c.self.view_is c.in-KernelAbort.is w.in-None.ensures.none (λ live. let clash : false ≡ true = w.in-None.ensures.live.1 live in cc) c.match-take_kernel_abort.result w.result-is
+]

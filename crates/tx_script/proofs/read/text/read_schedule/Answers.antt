@@ -1,8 +1,8 @@
-use Rattle.std.proofs.Common.{rules, ◌≡◌, ◌≢◌, ◌<◌, length, [], ◌∷◌, ◌++◌}
+use Rattle.std.proofs.Common.{rules, true, ◌≡◌, ◌≢◌, ◌<◌, length, [], ◌∷◌, ◌++◌}
 use Rattle.std.proofs.lemmas.Result.{err_from_is_err_and}
 use Rattle.tx_script.proofs.Growing.{faults_after, schedule_more, text_more}
 use Rattle.tx_script.proofs.LineEnds.{line_spelled, shorter_rest}
-use Rattle.tx_script.specs.Lines.{step_text}
+use Rattle.tx_script.specs.Lines.{step_text, FitsStep, IsOf}
 use Rattle.tx_script.proofs.read.text.read_schedule.Goals as goal
 
 pub returns-in_err-line : goal.returns-in_err-line
@@ -19,11 +19,15 @@ loop-left-smaller c = shorter_rest c.loop-left.left.now c.in_ok-line.line.now c.
 pub loop-left-preserved : goal.loop-left-preserved
 loop-left-preserved c =
     let header = c.in_ok-header.header in
-    let step = c.in-Some.step in
+    let step = c.read_step_into.new.step in
+    let read : c.read_step_into.result ≡ true = c.if-not-read_step_into.false in
+    let found : c.in_ok-line.line.now ≡ step_text step = rw read at c.read_step_into.ensures.found in
+    let fits : FitsStep step = rw read at c.read_step_into.ensures.fits in
+    let within : IsOf header.version step = rw read at c.read_step_into.ensures.within in
     let pushed : c.push.new.self.items ≡ c.loop-left.steps.items ++ step ∷ [] = search rules in
     let few : length c.loop-left.steps.items < 4096 = search (rules, c.in_ok-line.ensures.few, c.len.ensures) in
-    let spelled : c.loop-left.left.now ≡ step_text step ++ 10 ∷ c.in_ok-line.rest.now = line_spelled c.loop-left.left.now c.in_ok-line.line.now (step_text step) c.in_ok-line.rest.now c.in_ok-line.ensures.line c.in-Some.ensures.found in
+    let spelled : c.loop-left.left.now ≡ step_text step ++ 10 ∷ c.in_ok-line.rest.now = line_spelled c.loop-left.left.now c.in_ok-line.line.now (step_text step) c.in_ok-line.rest.now c.in_ok-line.ensures.line found in
     record {
-      good = schedule_more header c.loop-left.steps.items step c.push.new.self.items c.loop-left.invariant.good c.in-Some.ensures.fits c.in-Some.ensures.within few pushed;
+      good = schedule_more header c.loop-left.steps.items step c.push.new.self.items c.loop-left.invariant.good fits within few pushed;
       parts = text_more header c.loop-left.steps.items step c.push.new.self.items c.args.text.now c.loop-left.left.now c.in_ok-line.rest.now c.loop-left.invariant.parts spelled pushed;
     }

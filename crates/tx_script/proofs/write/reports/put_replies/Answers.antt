@@ -1,7 +1,6 @@
 use Rattle.std.proofs.Common.{◌≡◌, ◌+◌, suc, ℕ, List, ◌∷◌, drop, string_bytes, refl, sym, ap, ◌∙◌, subst, add-one, drop-cons}
 use Rattle.std.proofs.Math.ListN.{drop_of_length-le}
 use Rattle.tx_base.specs.declared.steps.Step.{Step}
-use Rattle.tx_core.specs.Outcomes.{reply_to}
 use Rattle.tx_script.proofs.Reported.{RepliesSoFar, one_reply_more, replies_whole}
 use Rattle.tx_script.proofs.write.reports.put_replies.Goals as goal
 
@@ -19,9 +18,9 @@ loop-i-preserved c start earlier after =
     drop-cons steps i c.index-steps-i.result c.loop-i-test.true
     ∙ ap (λ (x : Step). x ∷ drop (suc i) steps) (sym c.index-steps-i.is)
     ∙ ap (λ (n : ℕ). step ∷ drop n steps) (sym (add-one i)) in
-    one_reply_more start earlier steps before c.loop-i.machine c.make_step.new.machine text (string_bytes c.put_reply_line.new.text) (i + 1) step (drop (i + 1) steps) (reply_to c.in_ok-made.made)
+    one_reply_more start earlier steps before c.loop-i.machine c.make_step.new.machine text (string_bytes c.put_reply_line.new.text) (i + 1) step (drop (i + 1) steps) c.make_step.new.reply
     (subst (λ (xs : List Step). RepliesSoFar start earlier steps before c.loop-i.machine text (i + 1) xs) cut (c.loop-i.invariant start earlier after))
-    c.in_ok-made.ensures.answer (c.in_ok-made.ensures.after start) c.in_ok-put_reply_line.ensures
+    c.in_ok-make_step.ensures.answer (c.in_ok-make_step.ensures.after start) c.in_ok-put_reply_line.ensures
 
 pub returns-clause-text : goal.returns-clause-text
 returns-clause-text c start earlier after =

@@ -1,6 +1,6 @@
 use Rattle.std.proofs.Common.{◌++◌, List, [], ap, ◌∙◌, ℕ}
 use Rattle.tx_base.specs.declared.steps.Step.{Step}
-use Rattle.tx_core.specs.Content.{view_of}
+use Rattle.tx_live.specs.Content.{view_of}
 use Rattle.tx_model.specs.Schedules.{answers_of, history_of}
 use Rattle.tx_model.specs.View.{View, view}
 use Rattle.tx_script.proofs.Reported.{after_nothing}

@@ -1,6 +1,6 @@
 use Rattle.std.proofs.Common.{◌+◌, string_bytes}
 use Rattle.tx_base.specs.Slots.{slot_at}
-use Rattle.tx_core.specs.Content.{view_of}
+use Rattle.tx_live.specs.Content.{view_of}
 use Rattle.tx_model.specs.View.{present}
 use Rattle.tx_script.specs.Txns.{txn_lines}
 use Rattle.tx_script.proofs.Upto.{upto_none, upto_more}

@@ -1,5 +1,5 @@
 use Rattle.std.proofs.Common.{◌≡◌, ◌+◌, ◌++◌, string_bytes}
-use Rattle.tx_core.specs.Content.{view_of}
+use Rattle.tx_live.specs.Content.{view_of}
 use Rattle.tx_model.specs.View.{present}
 use Rattle.tx_script.specs.Each.{upto}
 use Rattle.tx_base.specs.Slots.{slot_at}

@@ -1,0 +1,17 @@
+use Rattle.std.proofs.Common.{is_none}
+use Rattle.tx_core.proofs.FreeNumbers.{free_else, free_then, no_description}
+use Rattle.tx_live.specs.Content.{view_of}
+use Rattle.tx_model.specs.FreeNumbers.{is_reserved_from}
+use Rattle.tx_model.specs.State.{Desc}
+use Rattle.tx_model.specs.View.{present}
+use Rattle.tx_core.proofs.free.is_free_description.Goals as goal
+
+pub returns-then-is_none : goal.returns-then-is_none
+returns-then-is_none c =
+    free_then c.is_none.result c.is_reserved_from.result (is_none ((present (view_of c.args.content.now)).descs c.args.number.0)) (is_reserved_from (view_of c.args.content.now) c.args.pid.0 (Desc c.args.number.0))
+    (no_description c.laws.ensures c.args.content.now c.args.number.0 c.get.result c.is_none.result c.get.ensures c.is_none.ensures) c.if-is_none.true c.is_reserved_from.ensures
+
+pub returns-else-is_none : goal.returns-else-is_none
+returns-else-is_none c =
+    free_else c.is_none.result (is_none ((present (view_of c.args.content.now)).descs c.args.number.0)) (is_reserved_from (view_of c.args.content.now) c.args.pid.0 (Desc c.args.number.0))
+    (no_description c.laws.ensures c.args.content.now c.args.number.0 c.get.result c.is_none.result c.get.ensures c.is_none.ensures) c.if-is_none.false

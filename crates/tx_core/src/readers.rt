@@ -1,0 +1,60 @@
+//! What there is to read of a machine.
+ghost use Rattle.std.specs.Prelude.{◌≡◌, ℕ, length, map, option_map};
+ghost use Rattle.tx_base.specs.Slots.{slot_at};
+ghost use Rattle.tx_change.specs.States.{state_of};
+ghost use Rattle.tx_kernel.specs.Plans.{sending_of};
+ghost use Rattle.tx_live.specs.Content.{held_of, view_of};
+ghost use Rattle.tx_model.specs.View.{present};
+
+use crate::laws::laws;
+use crate::machine::Machine;
+use tx_base::{Mark, Pid, Sending, Slots};
+use tx_change::Parts;
+
+impl Machine {
+    /// How many process numbers there are: 64, or 256 of a wide machine.
+    pub fn processes(&self) -> u16
+        ensures procs { result ≡ length self.now.parts.procs }
+        ensures table { result ≡ (view_of self.now).table.width }
+    {
+        self.content.parts.procs.width() as u16
+    }
+
+    /// The parts, whose state, with what transactions hold, is that of the machine's view.
+    pub fn parts(&self) -> &Parts
+        ensures parts { result.now ≡ self.now.parts }
+        ensures state { state_of (held_of self.now) result.now ≡ present (view_of self.now) }
+    {
+        laws();
+        &self.content.parts
+    }
+
+    /// For each process number its mark, if it is a member of a live transaction.
+    pub fn marks(&self) -> &Slots<Mark>
+        ensures marks { result.now ≡ self.now.marks }
+        ensures table { (n : ℕ) → slot_at result.now n ≡ (view_of self.now).table.marks n }
+    {
+        &self.content.marks
+    }
+
+    /// The sends that the live transaction of a starter holds, in order; none where it has begun none.
+    pub fn held(&self, starter: Pid) -> &[Sending]
+        ensures { map sending_of result.now ≡ (present (view_of self.now)).held starter.0 }
+    {
+        laws();
+        match self.content.txns.get(starter) {
+            Some(boxed) => boxed.txn.outbox.held(),
+            None => &[],
+        }
+    }
+
+    /// The starter of the live transaction that the process is a member of.
+    pub fn txn_of(&self, pid: Pid) -> Option<Pid>
+        ensures { result ≡ option_map (λ m. m.starter) ((view_of self.now).table.marks pid.0) }
+    {
+        match self.content.marks.get(pid) {
+            Some(mark) => Some(mark.starter),
+            None => None,
+        }
+    }
+}

@@ -1,0 +1,204 @@
+-- What a step shows on the console fits its reply.
+use Rattle.std.proofs.Common.{◌≡◌, ◌+◌, ◌<◌, ℕ, Bool, true, false, List, [], ◌∷◌, ◌++◌, length, ℤ, pos, Option, Some, None, if◌then◌else◌, ◌==◌, nat_lt, refl, subst, arith}
+use Rattle.std.proofs.lemmas.Bool.{ltb-true}
+use Rattle.tx_base.specs.declared.limits.TheConstants.{CONSOLE_BYTES, HELD_SENDS, SLOTS}
+use Rattle.tx_base.specs.declared.errors.Errno.TheVariants.{NotPermitted, TryAgain}
+use Rattle.tx_base.specs.declared.steps.Call.{Call}
+use Rattle.tx_base.specs.declared.steps.Call.TheVariants as call
+use Rattle.tx_base.specs.declared.steps.Refusal.{Refusal}
+use Rattle.tx_base.specs.declared.steps.Refusal.TheVariants.{Deferred, FramesFull, NoTransaction}
+use Rattle.tx_base.specs.declared.steps.Reply.{Reply}
+use Rattle.tx_base.specs.declared.steps.Reply.TheVariants.{Done, Ended, Committed, Aborted, Out, No}
+use Rattle.tx_base.specs.declared.steps.Step.{Step}
+use Rattle.tx_base.specs.declared.steps.Step.TheVariants.{Call as Calls, Deliver, KernelAbort}
+use Rattle.tx_model.specs.Numbers.{below, failing}
+use Rattle.tx_model.specs.State.{Process, State, Sending, SetHeld}
+use Rattle.tx_model.specs.Effects.{Inside, Effect, Conclusion, Replies, AnswersPost, ListsFailed, concluding_reply, send_answers, idle, own_effect, done, done_with}
+use Rattle.tx_model.specs.Scripts.{closed_inside}
+use Rattle.tx_model.specs.Sends.{sent_by, sent_by_members, posts_now, hands_out, sends_signal, sendable}
+use Rattle.tx_model.specs.Processes.{ending, exit_status, exit_effect, numbered}
+use Rattle.tx_model.specs.Signals.{Disposition, Ignored, Fatal, Caught, disposition, known, newest}
+use Rattle.tx_model.specs.Descriptors.{named, descriptor}
+use Rattle.tx_model.specs.Deliveries.{action_at, acts_on, caught, delivered_value, delivers, is_deferred, is_full, relieved}
+use Rattle.tx_model.specs.Calls.{Act, MakesCall, TakesSignal, act_effect, call_effect, effect_at, running_effect}
+use Rattle.tx_model.specs.Events.{Event, Do, Note, Commit, effect, reply_of}
+use Rattle.tx_model.specs.Membership.{Role, Outside, Within, Commits, Aborts, is_live}
+use Rattle.tx_model.specs.View.{View, present, kernel_status, abort_status, role_on, event_on}
+use Rattle.tx_model.specs.Answer.{refusal, plain_reply, accepted_reply, unless_refused, answer}
+use Rattle.tx_laws.specs.Shown.{ShowsFew}
+use Rattle.tx_laws.proofs.Mild
+use Rattle.tx_laws.proofs.Mild.{GoesOn, IsMild, goes}
+
+-- whether what the reply shows fits it
+abbrev shows_few : Reply → Bool
+shows_few (Done r) = true
+shows_few Ended = true
+shows_few (Committed undelivered) = true
+shows_few (Aborted status) = true
+shows_few (Out bytes) = nat_lt (length bytes.items) (CONSOLE_BYTES + 1)
+shows_few (No why) = true
+
+abbrev concludes_few : Conclusion → Bool
+concludes_few (Replies r) = shows_few r
+concludes_few (AnswersPost p) = true
+concludes_few ListsFailed = true
+
+goes_few : (r : Reply) → goes r ≡ true → shows_few r ≡ true
+goes_few (Done r) h = refl
+goes_few Ended h = refl
+goes_few (Committed undelivered) h = refl
+goes_few (Aborted status) h = refl
+goes_few (Out bytes) h = h
+goes_few (No why) h = refl
+
+on_few : (c : Conclusion) → GoesOn c → concludes_few c ≡ true
+on_few (Replies r) h = goes_few r h
+on_few (AnswersPost p) h = refl
+on_few ListsFailed h = refl
+
+mild_few : {p : ℕ} (f : Effect) → IsMild p f → concludes_few f.conclusion ≡ true
+mild_few f h = on_few f.conclusion h.goes_on
+
+-- an act of process p, which is me and runs
+module _ (inside : Option Inside) (p : ℕ) (me : Process) (S : State) where
+  -- a send
+  out_few : (m : Sending) (x : Option Inside) → concludes_few (hands_out p x me m S).conclusion ≡ true
+  out_few m None = refl
+  out_few m (Some i) = by (i.members m.target) (m.signo == 0) (nat_lt (sent_by_members (S.held i.starter)) HELD_SENDS)
+    where
+      by : (a b c : Bool) → concludes_few (if a then posts_now p m else (if b then done p closed_inside me
+          else (if c then done_with (SetHeld i.starter (S.held i.starter ++ m ∷ []) ∷ []) p (pos 0) me else done p (failing TryAgain) me))).conclusion ≡ true
+      by true b c = refl
+      by false true c = refl
+      by false false true = refl
+      by false false false = refl
+
+  signal_few : (target signo : Option ℕ) (value : ℤ) → concludes_few (sends_signal p inside me target signo value S).conclusion ≡ true
+  signal_few target None value = refl
+  signal_few None (Some signo) value = refl
+  signal_few (Some n) (Some signo) value = out_few (sent_by me n signo value) inside
+
+  exit_few : (v : ℤ) → concludes_few (exit_effect inside p v me S).conclusion ≡ true
+  exit_few v = by (p == 1)
+    where
+      by : (b : Bool) → concludes_few (if b then done p (failing NotPermitted) me else ending inside p (exit_status v) me S).conclusion ≡ true
+      by true = refl
+      by false = refl
+
+  call_few : (c : Call) → concludes_few (call_effect inside p c me S).conclusion ≡ true
+  call_few (call.Map page) = refl
+  call_few (call.Unmap page) = refl
+  call_few (call.Protect page writable) = refl
+  call_few (call.Store address bytes) = refl
+  call_few (call.Load address) = refl
+  call_few (call.Fork child) = mild_few _ (Mild.fork_mild p child.0 me S)
+  call_few (call.Exit status) = exit_few status
+  call_few (call.Waitpid t nohang) = mild_few _ (Mild.waitpid_mild p t nohang me S)
+  call_few call.Getpid = refl
+  call_few call.Getppid = refl
+  call_few (call.Setuid u) = refl
+  call_few (call.Seteuid u) = refl
+  call_few (call.Setgid g) = refl
+  call_few (call.Setegid g) = refl
+  call_few (call.Pipe q r w) = mild_few _ (Mild.pipe_mild p q.0 r.0 w.0 me S)
+  call_few (call.Dup f) = mild_few _ (Mild.dup_mild p me (named me (descriptor f)))
+  call_few (call.Dup2 f g) = mild_few _ (Mild.dup2_mild p (descriptor f) (descriptor g) me S)
+  call_few (call.Close f) = mild_few _ (Mild.close_mild p (descriptor f) me S)
+  call_few (call.SetNonblock f on) = mild_few _ (Mild.nonblock_mild p on me (named me (descriptor f)) S)
+  call_few (call.Read f address n) = mild_few _ (Mild.read_mild p (named me (descriptor f)) address n me S)
+  call_few (call.Write f address n) = mild_few _ (Mild.write_mild p (named me (descriptor f)) address n me S)
+  call_few (call.Kill t signo) = signal_few (numbered S.width t) (sendable signo) (pos 0)
+  call_few (call.Sigqueue t signo value) = signal_few (numbered S.width t) (sendable signo) value
+  call_few (call.Sigaction signo action) = mild_few _ (Mild.action_mild p (known signo) action me)
+  call_few (call.Sigprocmask how set) = refl
+  call_few call.Sigpending = refl
+  call_few call.Sigreturn = mild_few _ (Mild.return_mild p (newest me.frames) me)
+  call_few (call.ConsoleWrite address n) = mild_few _ (Mild.console_mild p inside address n me)
+  call_few (call.Jump point when) = mild_few _ (Mild.jump_mild p point when me)
+  call_few (call.Keep slot) = mild_few _ (Mild.keep_mild p (below SLOTS slot) me)
+  call_few call.SysXbegin = refl
+  call_few call.SysXbeginDefer = refl
+  call_few call.SysXend = refl
+  call_few call.SysXabort = refl
+
+  -- a delivery
+  acts_few : (signo : ℕ) (value : ℤ) (what : Disposition) (now : Process) → concludes_few (acts_on inside p signo value what now S).conclusion ≡ true
+  acts_few signo value Ignored now = refl
+  acts_few signo value Fatal now = refl
+  acts_few signo value (Caught point mask) now = by (is_full now)
+    where
+      by : (b : Bool) → concludes_few (if b then idle FramesFull else own_effect p (record { process = caught signo value point mask now; reply = Done value })).conclusion ≡ true
+      by true = refl
+      by false = refl
+
+  delivers_few : (signo : ℕ) (value : Option ℤ) → concludes_few (delivers inside p signo me value S).conclusion ≡ true
+  delivers_few signo None = refl
+  delivers_few signo (Some value) = by (is_deferred inside signo)
+    where
+      what : Disposition
+      what = disposition signo (action_at signo me)
+
+      by : (b : Bool) → concludes_few (if b then idle Deferred else acts_on inside p signo value what (relieved signo me) S).conclusion ≡ true
+      by true = refl
+      by false = acts_few signo value what (relieved signo me)
+
+  act_few : (act : Act) → concludes_few (act_effect inside p act me S).conclusion ≡ true
+  act_few (MakesCall c) = call_few c
+  act_few (TakesSignal signo) = delivers_few signo (delivered_value signo me)
+
+-- an act of a process that may not run, or may not be there
+act_at_few : (inside : Option Inside) (p : ℕ) (act : Act) (S : State) (x : Option Process) → concludes_few (effect_at inside p act S x).conclusion ≡ true
+act_at_few inside p act S None = refl
+act_at_few inside p act S (Some me) = by me.status
+  where
+    by : (status : Option ℕ) → concludes_few (running_effect inside p act S me status).conclusion ≡ true
+    by None = act_few inside p me S act
+    by (Some n) = refl
+
+event_few : (ev : Event) (S : State) → concludes_few (effect ev S).conclusion ≡ true
+unfolding effect
+event_few (Do (Calls pid c) inside) S = act_at_few inside pid.0 (MakesCall c) S (S.procs pid.0)
+event_few (Do (Deliver pid signo) inside) S = act_at_few inside pid.0 (TakesSignal signo.0) S (S.procs pid.0)
+event_few (Do (KernelAbort s) inside) S = refl
+event_few (Note p r) S = refl
+event_few (Commit s ev) S = refl
+
+-- the replies
+concluded_few : (c : Conclusion) (ms : List Sending) (rs : List ℤ) → concludes_few c ≡ true → shows_few (concluding_reply c ms rs) ≡ true
+concluded_few (Replies r) ms rs h = h
+concluded_few (AnswersPost p) ms rs h = refl
+concluded_few ListsFailed ms rs h = refl
+
+reply_few : (ev : Event) (S : State) → shows_few (reply_of ev S) ≡ true
+unfolding reply_of
+reply_few ev S = concluded_few (effect ev S).conclusion (effect ev S).sends (send_answers (effect ev S) S) (event_few ev S)
+
+plain_few : (status : ℕ) (r : Role) (ev : Event) (S : State) → shows_few (plain_reply status r ev S) ≡ true
+plain_few status Outside ev S = reply_few ev S
+plain_few status (Within s part) ev S = reply_few ev S
+plain_few status (Commits s) ev S = reply_few ev S
+plain_few status (Aborts s k) ev S = refl
+
+refused_few : (why : Option Refusal) (r : Reply) → shows_few r ≡ true → shows_few (unless_refused why r) ≡ true
+refused_few None r h = h
+refused_few (Some why) r h = refl
+
+accepted_few : (V : View) (step : Step) → shows_few (accepted_reply V step) ≡ true
+accepted_few V step = plain_few (abort_status V step) (role_on V step) (event_on V step) (present V)
+
+answer_few : (V : View) (step : Step) → shows_few (answer V step) ≡ true
+unfolding answer
+answer_few V (Calls p c) = refused_few (refusal V p.0 (Calls p c)) (accepted_reply V (Calls p c)) (accepted_few V (Calls p c))
+answer_few V (Deliver p signo) = refused_few (refusal V p.0 (Deliver p signo)) (accepted_reply V (Deliver p signo)) (accepted_few V (Deliver p signo))
+answer_few V (KernelAbort s) = by (is_live V.table s.0)
+  where
+    by : (b : Bool) → shows_few (if b then Aborted (kernel_status V s.0) else No NoTransaction) ≡ true
+    by true = refl
+    by false = refl
+
+-- what a step shows fits its reply
+pub shown_few : ShowsFew
+shown_few V step bytes h =
+    let few : nat_lt (length bytes.items) 65 ≡ true = subst (λ (r : Reply). shows_few r ≡ true) h (answer_few V step) in
+    let less : length bytes.items < 65 = ltb-true (length bytes.items) 65 few in
+    omega arith

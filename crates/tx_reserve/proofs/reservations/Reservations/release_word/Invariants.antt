@@ -1,0 +1,13 @@
+use Rattle.std.proofs.Common.{◌<◌, None}
+use Rattle.tx_reserve.specs.Objects.{is_of}
+use Rattle.tx_reserve.proofs.Owned.{Gave}
+use Rattle.tx_reserve.proofs.reservations.Reservations.release_word.Given as goal
+
+abbrev pub invariant-loop-object : goal.invariant-loop-object
+invariant-loop-object l = record {
+  index : l.rest.index < 11;
+  gave : Gave None (is_of l.fn.word) (is_of l.rest) l.fn.self l.self;
+}
+
+abbrev pub decreases-loop-object : goal.decreases-loop-object
+decreases-loop-object l = l.rest.bits

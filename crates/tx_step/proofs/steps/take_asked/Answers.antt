@@ -1,0 +1,20 @@
+use Rattle.std.proofs.Common.{sym, ◌∙◌}
+use Rattle.tx_step.proofs.RefusedSteps.{numbers_early, refused_busy, refused_early, runs_early}
+use Rattle.tx_step.proofs.steps.take_asked.Goals as goal
+
+pub returns-in-Some : goal.returns-in-Some
+returns-in-Some c = refused_early c.laws.ensures c.args.content.now c.requires c.args.pid c.args.asked c.in-Some.why (sym c.early_refusal.ensures ∙ c.in-Some.is) c.args.content.now (λ j. c.args.content.now)
+
+pub role-role-requires-clause-running : goal.role-role-requires-clause-running
+role-role-requires-clause-running c = runs_early c.laws.ensures c.args.content.now c.requires c.args.pid c.args.asked (sym c.in_default.is ∙ c.early_refusal.ensures)
+
+pub way-way-requires-clause-running : goal.way-way-requires-clause-running
+way-way-requires-clause-running c = runs_early c.laws.ensures c.args.content.now c.requires c.args.pid c.args.asked (sym c.in_default.is ∙ c.early_refusal.ensures)
+
+pub way-way-requires-clause-numbers : goal.way-way-requires-clause-numbers
+way-way-requires-clause-numbers c = numbers_early c.laws.ensures c.args.content.now c.requires c.args.pid c.args.asked (sym c.in_default.is ∙ c.early_refusal.ensures)
+
+pub returns-in-Some-holder : goal.returns-in-Some-holder
+returns-in-Some-holder c =
+    refused_busy c.laws.ensures c.args.content.now c.requires c.args.pid c.args.asked (sym c.in_default.is ∙ c.early_refusal.ensures) c.way-way.result.holder c.in-Some-holder.holder
+    c.in-Some-holder.is c.way-way.ensures.holder c.args.content.now (λ j. c.args.content.now)

@@ -1,0 +1,105 @@
+//! Steps of processes.
+ghost use Rattle.tx_base.specs.declared.steps.Step.TheVariants.{Call as Calls, Deliver};
+ghost use Rattle.tx_judge.specs.Contents.{IsContent};
+ghost use Rattle.tx_live.specs.Content.{view_of};
+ghost use Rattle.tx_live.specs.Insides.{IsFootprint};
+ghost use Rattle.tx_model.specs.View.{event_on};
+ghost use Rattle.tx_step.specs.Asks.{step_of};
+ghost use Rattle.tx_step.specs.Steps.{Takes};
+ghost use Rattle.tx_step.specs.Through.{IsLetThrough};
+
+use crate::aborts::take_abort;
+use crate::answered::Answered;
+use crate::asked::Asked;
+use crate::begins::take_begin;
+use crate::ends::take_end;
+use crate::inside::take_inside;
+use crate::laws::laws;
+use crate::outside::take_outside;
+use std::alloc::Global;
+use tx_base::{Call, Pid, Refusal, Signo};
+use tx_judge::StepRole;
+use tx_live::{Content, Inverse};
+use tx_reserve::Objects;
+
+/// Makes a call of a process. Answers what it is answered, and what takes it back.
+///
+/// A refused call changes nothing. It is refused for the first of these reasons that there is:
+/// NoProcess, NotRunning, BadNumber, NumberTaken, Doomed, Parked, KillPending, Busy, Wait; and NoMemory
+/// where a growth is refused and nothing else refuses it. A member's sys_xabort takes no memory.
+pub fn take_call(
+    content: &mut Content,
+    alloc: Global,
+    pid: Pid,
+    call: &Call,
+) -> Result<(Answered, Inverse), Refusal>
+    requires { IsContent content.old }
+    ensures { Takes content.old (Calls pid call.now) result content.new }
+{
+    take_asked(content, alloc, pid, Asked::Call(call))
+}
+
+/// Delivers a signal to a process at which it is pending. Answers what the delivery is answered, and what
+/// takes it back.
+///
+/// A refused delivery changes nothing. It is refused for the first of these reasons that there is:
+/// NoProcess, NotRunning, Doomed, Parked, KillPending, Busy, NotDeliverable, Deferred, FramesFull; and
+/// NoMemory where a growth is refused and nothing else refuses it.
+pub fn take_delivery(
+    content: &mut Content,
+    alloc: Global,
+    pid: Pid,
+    signo: Signo,
+) -> Result<(Answered, Inverse), Refusal>
+    requires { IsContent content.old }
+    ensures { Takes content.old (Deliver pid signo) result content.new }
+{
+    take_asked(content, alloc, pid, Asked::Delivery(signo))
+}
+
+/// Makes what a process is asked to do, where nothing refuses it.
+fn take_asked(
+    content: &mut Content,
+    alloc: Global,
+    pid: Pid,
+    asked: Asked,
+) -> Result<(Answered, Inverse), Refusal>
+    requires { IsContent content.old }
+    ensures { Takes content.old (step_of pid asked.entry) result content.new }
+{
+    laws();
+    if let Some(why) = asked.early_refusal(content, pid) {
+        return Err(why);
+    }
+    let role = asked.role(content, pid);
+    let way = asked.way(content, pid, role);
+    if let Some(holder) = way.holder {
+        return Err(Refusal::Busy { holder });
+    }
+    take_as(content, alloc, pid, role, asked, &way.footprint)
+}
+
+/// Makes what a process is asked to do, as what it is to the transactions.
+fn take_as(
+    content: &mut Content,
+    alloc: Global,
+    pid: Pid,
+    role: StepRole,
+    asked: Asked,
+    footprint: &Objects,
+) -> Result<(Answered, Inverse), Refusal>
+    requires content { IsContent content.old }
+    requires through { IsLetThrough content.old pid asked role }
+    requires footprint { IsFootprint content.old (event_on (view_of content.old) (step_of pid asked)) footprint.now }
+    ensures { Takes content.old (step_of pid asked.entry) result content.new }
+{
+    match role {
+        StepRole::Outside => take_outside(content, alloc, pid, asked),
+        StepRole::Begins(defers) => take_begin(content, alloc, pid, defers, asked),
+        StepRole::Inside(starter, progress) => {
+            take_inside(content, alloc, pid, starter, progress, asked, footprint)
+        }
+        StepRole::Commits(starter) => take_end(content, alloc, pid, starter, asked),
+        StepRole::Aborts(starter) => Ok(take_abort(content, pid, starter, asked)),
+    }
+}
