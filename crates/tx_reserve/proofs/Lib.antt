@@ -1,6 +1,5 @@
 pub mod Places
 pub mod Members
-pub mod Words
 pub mod Owned
 pub mod Rows
 pub mod Silent

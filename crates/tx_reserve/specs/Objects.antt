@@ -5,7 +5,6 @@ use Rattle.tx_model.specs.State.{Object, Proc, Desc, Pipe, Held, is_between, sam
 use Rattle.tx_reserve.specs.declared.objects.Object.{Object as TheObject}
 use Rattle.tx_reserve.specs.declared.objects.Object.TheVariants as the
 use Rattle.tx_reserve.specs.declared.objects.Objects.{Objects}
-use Rattle.tx_reserve.specs.declared.objects.Word.{Word}
 
 -- the object, as the definitions have it
 abbrev pub object_of : TheObject → Object
@@ -44,22 +43,3 @@ pub record TakesOut (before after : Objects) (object : Object) : Type 0 where
   pub was_in : is_in before object ≡ true
   pub left : (o : Object) → is_in after o ≡ (if same_object o object then false else is_in before o)
   pub falls : weight after < weight before
-
--- one word of a set
-abbrev pub word_at : Objects → ℕ → Word
-word_at objects i = record { index = i; bits = slice_index objects.words i }
-
--- whether the object is one of the word's
-unfoldable pub is_of : Word → Object → Bool
-is_of word o = if is_small o then (if place_of o / 32 == word.index then bit_at word.bits (place_of o % 32) == 1 else false) else false
-
--- the object was one of these, and is taken out of them
-pub record Leaves (these rest : Object → Bool) (object : Object) : Type 0 where
-  pub was_in : these object ≡ true
-  pub left : (o : Object) → rest o ≡ (if same_object o object then false else these o)
-
--- the object was one of the word's, and is taken out
-pub record TakesBit (before after : Word) (object : Object) : Type 0 where
-  pub out : Leaves (is_of before) (is_of after) object
-  pub index : after.index ≡ before.index
-  pub falls : after.bits < before.bits

@@ -1,7 +1,7 @@
 //! Sets of objects.
 ghost use Rattle.std.specs.Prelude.{◌≡◌, ◌<◌, ◌≤◌, ◌*◌, ◌↔◌, ◌||◌, ◌&&◌, ◌==◌, ℕ, true, false, not, if◌then◌else◌, sum, IsTrue, IfNone, IfSome};
 ghost use Rattle.tx_model.specs.State.{Object as TheObject, Proc, same_object};
-ghost use Rattle.tx_reserve.specs.Objects.{TakesBit, TakesOut, has_place, is_in, is_of, is_small, object_of, place_of, weight, word_at};
+ghost use Rattle.tx_reserve.specs.Objects.{TakesOut, has_place, is_in, is_small, object_of, place_of, weight};
 
 use tx_base::{DescNo, Pid, PipeNo};
 
@@ -9,7 +9,7 @@ use tx_base::{DescNo, Pid, PipeNo};
 const BITS: usize = 32;
 
 /// How many words there are: 8 of processes, 2 of descriptions, 1 of pipes.
-pub(crate) const WORDS: usize = 11;
+const WORDS: usize = 11;
 
 /// How many words processes have.
 const PROC_WORDS: usize = 8;
@@ -90,17 +90,6 @@ impl Objects {
         ensures { IsTrue result ↔ ((o : TheObject) → is_in self.now o ≡ false) }
     {
         self.first_place(WORDS).is_none()
-    }
-
-    /// The objects of one word of the set; `index` is below 11.
-    pub(crate) fn word(&self, index: usize) -> Word
-        requires { index < 11 }
-        ensures { result ≡ word_at self.now index }
-    {
-        Word {
-            index,
-            bits: self.words[index],
-        }
     }
 
     /// What is in this set, in the other, or in both.
@@ -190,35 +179,5 @@ impl Objects {
         ensures { result ≡ has_place self.now.words place }
     {
         (self.words[place / BITS] >> (place % BITS)) & 1 == 1
-    }
-}
-
-/// The objects of one word of a set: to go over a set, each of its words is looked at once.
-#[derive(Clone, Copy, Debug)]
-pub(crate) struct Word {
-    index: usize,
-    bits: u32,
-}
-
-impl Word {
-    /// Whether the word has no object.
-    pub(crate) fn is_empty(&self) -> bool
-        ensures { result ≡ (self.now.bits == 0) }
-    {
-        self.bits == 0
-    }
-
-    /// Takes an object out of the word, and answers it; nothing where the word has none.
-    pub(crate) fn pop(&mut self) -> Option<Object>
-        requires { self.old.index < 11 }
-        ensures none { IfNone result ((o : TheObject) → is_of self.old o ≡ false) }
-        ensures some { IfSome result (λ object. TakesBit self.old self.new (object_of object)) }
-    {
-        if self.bits == 0 {
-            return None;
-        }
-        let bit = self.bits.trailing_zeros() as usize;
-        self.bits &= !(1 << bit);
-        Some(Object::at(BITS * self.index + bit))
     }
 }

@@ -1,10 +1,10 @@
 //! Who owns which object.
-ghost use Rattle.std.specs.Prelude.{◌≡◌, ◌<◌, ◌||◌, ◌&&◌, None, Some, false, not, if◌then◌else◌, is_some, option_map, length, IfOk};
+ghost use Rattle.std.specs.Prelude.{◌≡◌, None, Some, false, if◌then◌else◌, is_some, option_map, length, IfOk};
 ghost use Rattle.tx_model.specs.State.{Object as TheObject, same_object};
-ghost use Rattle.tx_reserve.specs.Objects.{is_in, is_of, is_small, object_of};
+ghost use Rattle.tx_reserve.specs.Objects.{is_in, is_small, object_of};
 ghost use Rattle.tx_reserve.specs.Reservations.{IsLeast, lesser_of, number_of, owner_of, unless};
 
-use crate::objects::{Object, Objects, WORDS, Word};
+use crate::objects::{Object, Objects};
 use std::alloc::Global;
 use std::marker::Model;
 use tx_base::{NoMemory, Pid};
@@ -74,22 +74,7 @@ impl Reservations {
         ensures { IsLeast (is_in objects.now) (λ o. unless (option_map number_of own) (owner_of self.now o)) (option_map number_of result) }
     {
         let mut least = None;
-        for index in 0..WORDS {
-            let word = objects.word(index);
-            if !word.is_empty() {
-                least = lesser(self.conflict_of_word(word, own), least);
-            }
-        }
-        least
-    }
-
-    /// The least starter but this own one that owns one of the word's objects.
-    fn conflict_of_word(&self, word: Word, own: Option<Pid>) -> Option<Pid>
-        requires { word.index < 11 }
-        ensures { IsLeast (is_of word) (λ o. unless (option_map number_of own) (owner_of self.now o)) (option_map number_of result) }
-    {
-        let mut least = None;
-        let mut rest = word;
+        let mut rest = *objects;
         while let Some(object) = rest.pop() {
             least = lesser(self.other_owner(object, own), least);
         }
@@ -114,48 +99,21 @@ impl Reservations {
         ensures fresh { (o : TheObject) → is_in result o ≡ (if is_some (owner_of self.old o) then false else is_in objects.now o) }
     {
         let mut fresh = Objects::new();
-        for index in 0..WORDS {
-            let word = objects.word(index);
-            if !word.is_empty() {
-                self.take_word(starter, word, &mut fresh);
-            }
-        }
-        fresh
-    }
-
-    /// Makes the word's objects the starter's, and puts those that nobody owned into a set.
-    fn take_word(&mut self, starter: Pid, word: Word, fresh: &mut Objects)
-        requires { word.index < 11 }
-        ensures taken { (o : TheObject) → owner_of self.new o ≡ (if is_of word o then Some starter.0 else owner_of self.old o) }
-        ensures fresh { (o : TheObject) → is_in fresh.new o ≡ (is_in fresh.old o || (is_of word o && not (is_some (owner_of self.old o)))) }
-    {
-        let mut rest = word;
+        let mut rest = *objects;
         while let Some(object) = rest.pop() {
             if self.owner(object).is_none() {
                 fresh.insert(object);
             }
             self.set_owner(object, Some(starter));
         }
+        fresh
     }
 
     /// Makes the objects nobody's.
     pub fn release(&mut self, objects: &Objects)
         ensures { (o : TheObject) → owner_of self.new o ≡ (if is_in objects.now o then None else owner_of self.old o) }
     {
-        for index in 0..WORDS {
-            let word = objects.word(index);
-            if !word.is_empty() {
-                self.release_word(word);
-            }
-        }
-    }
-
-    /// Makes the word's objects nobody's.
-    fn release_word(&mut self, word: Word)
-        requires { word.index < 11 }
-        ensures { (o : TheObject) → owner_of self.new o ≡ (if is_of word o then None else owner_of self.old o) }
-    {
-        let mut rest = word;
+        let mut rest = *objects;
         while let Some(object) = rest.pop() {
             self.set_owner(object, None);
         }

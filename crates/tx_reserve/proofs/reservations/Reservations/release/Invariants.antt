@@ -1,8 +1,10 @@
-use Rattle.std.proofs.Common.{◌≡◌, None, if◌then◌else◌}
-use Rattle.tx_model.specs.State.{Object}
-use Rattle.tx_reserve.specs.Reservations.{owner_of}
-use Rattle.tx_reserve.proofs.Words.{is_before}
+use Rattle.std.proofs.Common.{None}
+use Rattle.tx_reserve.specs.Objects.{weight}
+use Rattle.tx_reserve.proofs.Owned.{Gave}
 use Rattle.tx_reserve.proofs.reservations.Reservations.release.Given as goal
 
-abbrev pub invariant-loop-index : goal.invariant-loop-index
-invariant-loop-index l = (o : Object) → owner_of l.self o ≡ (if is_before l.objects l.index o then None else owner_of l.fn.self o)
+abbrev pub invariant-loop-object : goal.invariant-loop-object
+invariant-loop-object l = Gave None l.objects l.rest l.fn.self l.self
+
+abbrev pub decreases-loop-object : goal.decreases-loop-object
+decreases-loop-object l = weight l.rest
