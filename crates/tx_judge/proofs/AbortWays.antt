@@ -1,5 +1,5 @@
 -- What the note that an abort stands for names, and who makes it.
-use Rattle.std.proofs.Common.{◌≡◌, ◌≤◌, arith, ℕ, ℤ, Bool, true, false, [], length, Option, Some, None, if◌then◌else◌, refl, sym, ap, subst, ◌∙◌, eqb-true}
+use Rattle.std.proofs.Common.{◌≡◌, ◌≤◌, arith, ℕ, ℤ, Bool, true, false, [], ◌∷◌, length, Option, Some, None, if◌then◌else◌, refl, sym, ap, subst, ◌∙◌, eqb-true}
 use Rattle.tx_base.specs.Slots.{slot_at}
 use Rattle.tx_base.specs.declared.marks.Mark.{Mark}
 use Rattle.tx_judge.proofs.MetObjects.{same_is}
@@ -13,7 +13,8 @@ use Rattle.tx_model.specs.Events.{Note, effect, objects}
 use Rattle.tx_model.specs.History.{event_footprint, targets}
 use Rattle.tx_model.specs.Membership.{is_live, is_of}
 use Rattle.tx_model.specs.State.{Object, Proc, has, is_between, same_object}
-use Rattle.tx_reserve.specs.Objects.{is_in, is_small}
+use Rattle.tx_reserve.specs.Footprints.{IsSetOf}
+use Rattle.tx_reserve.specs.Objects.{is_small}
 use Rattle.tx_reserve.specs.declared.objects.Objects.{Objects}
 use Rattle.tx_txn.specs.Marks.{table_at}
 
@@ -29,13 +30,17 @@ unfolding event_footprint objects effect targets has
 note_names k s r o = refl
 
 -- the set of the starter alone is what the note names
-pub note_footprint : (k : Content) (s : ℕ) (r : ℤ) (before set : Objects) → IsShaped k → is_live (table_at k.marks) s ≡ true →
-    ((o : Object) → is_in before o ≡ false) → ((o : Object) → is_in set o ≡ (if same_object o (Proc s) then is_small o else is_in before o)) → IsFootprint k (Note s r) set
-note_footprint k s r before set shaped live empty is o shared = is o ∙ by (same_object o (Proc s)) refl ∙ sym (note_names k s r o)
+pub note_footprint : (k : Content) (s : ℕ) (r : ℤ) (set : Objects) → IsShaped k → is_live (table_at k.marks) s ≡ true → IsSetOf set (Proc s ∷ []) → IsFootprint k (Note s r) set
+unfolding has
+note_footprint k s r set shaped live is o shared = is.each o ∙ by (same_object o (Proc s)) refl ∙ sym (note_names k s r o)
   where
-    by : (b : Bool) → same_object o (Proc s) ≡ b → (if b then is_small o else is_in before o) ≡ (if b then true else false)
-    by true e = ap is_small (same_is o (Proc s) e) ∙ starter_there k s (slot_at k.marks s) refl live shaped
-    by false e = empty o
+    none : (b : Bool) → (if b then false else false) ≡ false
+    none true = refl
+    none false = refl
+
+    by : (b : Bool) → same_object o (Proc s) ≡ b → (if is_small o then (if b then true else false) else false) ≡ (if b then true else false)
+    by true e = rw (ap is_small (same_is o (Proc s) e) ∙ starter_there k s (slot_at k.marks s) refl live shaped) refl
+    by false e = none (is_small o)
 
 starter_self : (s : ℕ) (mark : Option Mark) → is_of s mark ≡ true → Some s ≡ starter_in mark
 starter_self s None h = cc

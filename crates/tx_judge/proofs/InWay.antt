@@ -72,7 +72,7 @@ shared_small (Desc n) h = refl
 shared_small (Pipe n) h = refl
 shared_small (Held n) h = h
 
-in_small : (set : Objects) (o : Object) → is_in set o ≡ true → is_small o ≡ true
+pub in_small : (set : Objects) (o : Object) → is_in set o ≡ true → is_small o ≡ true
 unfolding is_in
 in_small set o h = by (is_small o) h
   where

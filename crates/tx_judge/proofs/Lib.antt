@@ -11,5 +11,6 @@ pub mod StepFootprints
 pub mod LastHeld
 pub mod OwnActors
 pub mod AbortWays
+pub mod OwnWays
 pub mod WaysTold
 pub mod LateTold

@@ -13,7 +13,7 @@ pub record Meets (os : List Object) (P : Object → Bool) : Type 0 where
   pub named : has at os ≡ true
   pub passes : P at ≡ true
 
-same_self : (o : Object) → same_object o o ≡ true
+pub same_self : (o : Object) → same_object o o ≡ true
 same_self (Proc n) = eq-eqb n n refl
 same_self (Desc n) = eq-eqb n n refl
 same_self (Pipe n) = eq-eqb n n refl

@@ -8,6 +8,7 @@ mod faces;
 mod holder;
 mod late;
 mod laws;
+mod own;
 mod roles;
 mod ways;
 
@@ -16,4 +17,4 @@ pub use holder::find_holder;
 pub use late::late_refusal;
 pub use laws::{contents_are_whole, refusals_are_early};
 pub use roles::{StepRole, role_of_call, role_of_delivery};
-pub use ways::{Way, way_of_call, way_of_delivery};
+pub use ways::{way_of_call, way_of_delivery};

@@ -1,6 +1,6 @@
 //! What a step names, and who is in its way.
 ghost use Rattle.std.specs.Option.{option_copied};
-ghost use Rattle.std.specs.Prelude.{◌≡◌, true, false, map, length, [], option_map};
+ghost use Rattle.std.specs.Prelude.{◌≡◌, true, false, map, length, [], ◌∷◌, option_map};
 ghost use Rattle.tx_base.specs.Slots.{slot_at};
 ghost use Rattle.tx_base.specs.declared.steps.Step.TheVariants.{Call as Calls, Deliver};
 ghost use Rattle.tx_judge.specs.Contents.{IsContent};
@@ -10,88 +10,125 @@ ghost use Rattle.tx_judge.specs.Roles.{role_as};
 ghost use Rattle.tx_judge.specs.Ways.{IsOwnActor, posted_with};
 ghost use Rattle.tx_kernel.specs.Actors.{CountsHeld, inside_of};
 ghost use Rattle.tx_kernel.specs.Plans.{sending_of, sent_at_once};
+ghost use Rattle.tx_laws.specs.Footprints.{is_abort};
 ghost use Rattle.tx_live.specs.Content.{content_of, held_of, now_of, view_of, IsShaped};
 ghost use Rattle.tx_live.specs.Insides.{IsFootprint};
 ghost use Rattle.tx_live.specs.Made.{IsRunning};
 ghost use Rattle.tx_model.specs.Answer.{has_bad_number};
-ghost use Rattle.tx_model.specs.Events.{Event, Note, effect};
-ghost use Rattle.tx_model.specs.Membership.{called_by_status, inside_by, is_live};
-ghost use Rattle.tx_model.specs.Numbers.{negative};
+ghost use Rattle.tx_model.specs.Events.{Event, effect};
+ghost use Rattle.tx_model.specs.Membership.{inside_by};
+ghost use Rattle.tx_model.specs.State.{Object as TheObject, Proc};
 ghost use Rattle.tx_model.specs.View.{event_on, holder, role_on};
-ghost use Rattle.tx_reserve.specs.Footprints.{GoesBy, table_of};
+ghost use Rattle.tx_reserve.specs.Footprints.{GoesBy, IsSetOf, table_of};
+ghost use Rattle.tx_reserve.specs.Objects.{is_in};
 ghost use Rattle.tx_reserve.specs.Reservations.{number_of};
 ghost use Rattle.tx_txn.specs.Content.{IsKept};
 ghost use Rattle.tx_txn.specs.Marks.{table_at};
 
 use crate::holder::find_holder;
 use crate::laws::{contents_are_whole, way_laws};
+use crate::own::concerns_itself;
 use crate::roles::{StepRole, is_last_part};
 use tx_base::{Call, Pid, Sending, Signo};
 use tx_kernel::{Actor, Inside, Sends};
 use tx_live::Content;
 use tx_reserve::{Object, Objects, footprint_of_call, footprint_of_delivery};
+use tx_txn::answers_of_faces;
 
-/// What a step names, and who is in its way.
-#[derive(Clone, Copy, Debug)]
-pub struct Way {
-    /// The objects of its footprint.
-    pub footprint: Objects,
-    /// The least starter whose live transaction is in its way.
-    pub holder: Option<Pid>,
-}
-
-/// What a call of a process that runs names, and who is in its way, where the call chooses no bad number
-/// and is this to the transactions. It takes no memory.
-pub fn way_of_call(content: &Content, pid: Pid, call: &Call, role: StepRole) -> Way
+/// Puts what a call of a process that runs names into an empty set, and tells who is in its way, where the
+/// call chooses no bad number and is this to the transactions. It takes no memory.
+pub fn way_of_call(
+    content: &Content,
+    pid: Pid,
+    call: &Call,
+    role: StepRole,
+    footprint: &mut Objects,
+) -> Option<Pid>
     requires content { IsContent content.now }
     requires running { IsRunning (slot_at content.now.parts.procs pid.0) }
     requires numbers { has_bad_number (length content.now.parts.procs) (Calls pid call.now) ≡ false }
     requires role { role_as pid.0 role ≡ role_on (view_of content.now) (Calls pid call.now) }
-    ensures footprint { IsFootprint content.now (event_on (view_of content.now) (Calls pid call.now)) result.footprint }
-    ensures holder { option_map number_of result.holder ≡ holder (view_of content.now) (event_on (view_of content.now) (Calls pid call.now)) }
+    requires empty { (o : TheObject) → is_in footprint.old o ≡ false }
+    ensures footprint { IsFootprint content.now (event_on (view_of content.now) (Calls pid call.now)) footprint.new }
+    ensures holder { option_map number_of result ≡ holder (view_of content.now) (event_on (view_of content.now) (Calls pid call.now)) }
 {
     way_laws();
-    if let StepRole::Aborts(starter) = role {
-        return way_of_abort(content, starter);
+    match role {
+        StepRole::Aborts(starter) => way_of_process(content, Some(starter), starter, footprint),
+        StepRole::Commits(_) => way_of_others_call(content, pid, call, role, footprint),
+        _ if concerns_itself(call) => {
+            way_of_process(content, starter_of(content, pid), pid, footprint)
+        }
+        _ => way_of_others_call(content, pid, call, role, footprint),
     }
-    let actor = actor_of(content, pid);
-    let last = last_held(content, pid);
-    let footprint = footprint_of_call(&actor, &content.marks, last, call);
-    let first = actor.sends_of_call(call);
-    let holder = holder_of(content, pid, role, &footprint, &first);
-    Way { footprint, holder }
 }
 
-/// What the delivery of a signal to a process that runs names, and who is in its way, where it is this to
-/// the transactions. It takes no memory.
-pub fn way_of_delivery(content: &Content, pid: Pid, signo: Signo, role: StepRole) -> Way
+/// Puts what the delivery of a signal to a process that runs names into an empty set, and tells who is in
+/// its way, where it is this to the transactions. It takes no memory.
+pub fn way_of_delivery(
+    content: &Content,
+    pid: Pid,
+    signo: Signo,
+    role: StepRole,
+    footprint: &mut Objects,
+) -> Option<Pid>
     requires content { IsContent content.now }
     requires running { IsRunning (slot_at content.now.parts.procs pid.0) }
     requires role { role_as pid.0 role ≡ role_on (view_of content.now) (Deliver pid signo) }
-    ensures footprint { IsFootprint content.now (event_on (view_of content.now) (Deliver pid signo)) result.footprint }
-    ensures holder { option_map number_of result.holder ≡ holder (view_of content.now) (event_on (view_of content.now) (Deliver pid signo)) }
+    requires empty { (o : TheObject) → is_in footprint.old o ≡ false }
+    ensures footprint { IsFootprint content.now (event_on (view_of content.now) (Deliver pid signo)) footprint.new }
+    ensures holder { option_map number_of result ≡ holder (view_of content.now) (event_on (view_of content.now) (Deliver pid signo)) }
 {
     way_laws();
     let actor = actor_of(content, pid);
     let last = last_held(content, pid);
-    let footprint = footprint_of_delivery(&actor, &content.marks, last, signo);
+    footprint_of_delivery(&actor, &content.marks, last, signo, footprint);
     let first = actor.sends_of_delivery(signo);
-    let holder = holder_of(content, pid, role, &footprint, &first);
-    Way { footprint, holder }
+    holder_of(content, pid, role, footprint, &first)
 }
 
-/// What an abort by a member names, which is the starter alone, and who is in its way.
-fn way_of_abort(content: &Content, starter: Pid) -> Way
-    requires shaped { IsShaped content.now }
-    requires kept { IsKept (content_of content.now) }
-    requires live { is_live (table_at content.now.marks) starter.0 ≡ true }
-    ensures footprint { IsFootprint content.now (Note starter.0 (negative called_by_status)) result.footprint }
-    ensures holder { option_map number_of result.holder ≡ holder (view_of content.now) (Note starter.0 (negative called_by_status)) }
+/// The same as `way_of_call` of a call that aborts nothing, and may concern others than its process.
+fn way_of_others_call(
+    content: &Content,
+    pid: Pid,
+    call: &Call,
+    role: StepRole,
+    footprint: &mut Objects,
+) -> Option<Pid>
+    requires content { IsContent content.now }
+    requires running { IsRunning (slot_at content.now.parts.procs pid.0) }
+    requires numbers { has_bad_number (length content.now.parts.procs) (Calls pid call.now) ≡ false }
+    requires role { role_as pid.0 role ≡ role_on (view_of content.now) (Calls pid call.now) }
+    requires no_abort { is_abort (role_on (view_of content.now) (Calls pid call.now)) ≡ false }
+    requires empty { (o : TheObject) → is_in footprint.old o ≡ false }
+    ensures footprint { IsFootprint content.now (event_on (view_of content.now) (Calls pid call.now)) footprint.new }
+    ensures holder { option_map number_of result ≡ holder (view_of content.now) (event_on (view_of content.now) (Calls pid call.now)) }
 {
-    let mut footprint = Objects::new();
-    footprint.insert(Object::Proc(starter));
-    let holder = find_holder(content, Some(starter), &footprint, &Sends::Nothing, &[]);
-    Way { footprint, holder }
+    way_laws();
+    let actor = actor_of(content, pid);
+    let last = last_held(content, pid);
+    footprint_of_call(&actor, &content.marks, last, call, footprint);
+    let first = actor.sends_of_call(call);
+    holder_of(content, pid, role, footprint, &first)
+}
+
+/// Puts one process into an empty set, and tells who is in the way of a step that names it alone and sends
+/// nothing: the owner of the process, unless it is the own transaction.
+fn way_of_process(
+    content: &Content,
+    own: Option<Pid>,
+    process: Pid,
+    footprint: &mut Objects,
+) -> Option<Pid>
+    requires kept { IsKept (content_of content.now) }
+    requires empty { (o : TheObject) → is_in footprint.old o ≡ false }
+    ensures set { IsSetOf footprint.new (Proc process.0 ∷ []) }
+    ensures holder { (event : Event) → IsFootprint content.now event footprint.new → (effect event (now_of content.now)).sends ≡ [] →
+        IsOfMember content.now (option_map number_of own) event → option_map number_of result ≡ holder (view_of content.now) event }
+{
+    answers_of_faces();
+    footprint.insert(Object::Proc(process));
+    content.owners.other_owner(Object::Proc(process), own)
 }
 
 /// The process of a number, which runs, with the transaction that it is a member of.

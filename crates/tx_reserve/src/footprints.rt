@@ -1,6 +1,6 @@
 //! The footprint of a step: the objects that a member's step reserves, a row for each call.
 ghost use Rattle.std.specs.Option.{option_copied};
-ghost use Rattle.std.specs.Prelude.{◌≡◌, ◌≤◌, ◌∷◌, ◌++◌, [], ℕ, List, if◌then◌else◌, ◌==◌, map, length};
+ghost use Rattle.std.specs.Prelude.{◌≡◌, ◌≤◌, false, ◌∷◌, ◌++◌, [], ℕ, List, if◌then◌else◌, ◌==◌, map, length};
 ghost use Rattle.tx_base.specs.Slots.{slot_at};
 ghost use Rattle.tx_base.specs.declared.steps.Step.TheVariants.{Call as Calls, Deliver};
 ghost use Rattle.tx_change.specs.States.{state_of};
@@ -13,15 +13,17 @@ ghost use Rattle.tx_model.specs.History.{is_other_starter, targets};
 ghost use Rattle.tx_model.specs.Membership.{is_of};
 ghost use Rattle.tx_model.specs.Processes.{children_of, fork_objects, numbered, procs_of, waitpid_objects};
 ghost use Rattle.tx_model.specs.Sends.{sendable};
-ghost use Rattle.tx_model.specs.State.{Proc, Sending as TheSending, has_parent};
+ghost use Rattle.tx_model.specs.State.{Object as TheObject, Proc, Sending as TheSending, has_parent};
 ghost use Rattle.tx_reserve.specs.Footprints.{Adds, GoesWith, IsInside, IsSetOf, table_at};
+ghost use Rattle.tx_reserve.specs.Objects.{is_in};
 
 use crate::objects::{Object, Objects};
 use tx_base::{Call, DESCRIPTORS, DescNo, Mark, Pid, PipeNo, Sending, Signo, Slots};
 use tx_desc::FdTable;
 use tx_kernel::{Actor, sendable};
 
-/// The footprint of a call: the objects that it reserves, if its process is a member.
+/// Puts the footprint of a call into an empty set: the objects that it reserves, if its process is a
+/// member.
 ///
 /// `last` is what its transaction holds, given exactly where the process is a member and no other
 /// member's part is open, so that a step which ends its part commits. It takes no memory.
@@ -30,34 +32,35 @@ pub fn footprint_of_call(
     marks: &Slots<Mark>,
     last: Option<&[Sending]>,
     call: &Call,
-) -> Objects
+    set: &mut Objects,
+)
     requires actor { IsActor actor.now }
     requires inside { IsInside actor.now marks.now }
+    requires empty { (o : TheObject) → is_in set.old o ≡ false }
     ensures { (held : ℕ → List TheSending) → GoesWith actor.now marks.now (option_copied last.entry) held →
-        IsSetOf result (footprint (table_at actor.now marks.now) (Calls actor.now.pid call.now) (state_of held actor.now.parts.now)) }
+        IsSetOf set.new (footprint (table_at actor.now marks.now) (Calls actor.now.pid call.now) (state_of held actor.now.parts.now)) }
 {
-    let mut set = Objects::new();
     set.insert(Object::Proc(actor.pid));
-    add_call(actor, marks, last, call, &mut set);
-    set
+    add_call(actor, marks, last, call, set);
 }
 
-/// The footprint of a delivery of the signal; `last` as at a call. It takes no memory.
+/// Puts the footprint of a delivery of the signal into an empty set; `last` as at a call. It takes no
+/// memory.
 pub fn footprint_of_delivery(
     actor: &Actor,
     marks: &Slots<Mark>,
     last: Option<&[Sending]>,
     signo: Signo,
-) -> Objects
+    set: &mut Objects,
+)
     requires actor { IsActor actor.now }
     requires inside { IsInside actor.now marks.now }
+    requires empty { (o : TheObject) → is_in set.old o ≡ false }
     ensures { (held : ℕ → List TheSending) → GoesWith actor.now marks.now (option_copied last.entry) held →
-        IsSetOf result (footprint (table_at actor.now marks.now) (Deliver actor.now.pid signo) (state_of held actor.now.parts.now)) }
+        IsSetOf set.new (footprint (table_at actor.now marks.now) (Deliver actor.now.pid signo) (state_of held actor.now.parts.now)) }
 {
-    let mut set = Objects::new();
     set.insert(Object::Proc(actor.pid));
-    add_delivery(actor, marks, last, signo, &mut set);
-    set
+    add_delivery(actor, marks, last, signo, set);
 }
 
 /// Puts what a call names beside its process into a set.

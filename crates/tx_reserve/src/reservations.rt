@@ -81,8 +81,8 @@ impl Reservations {
         least
     }
 
-    /// The object's owner, unless it is this own one.
-    fn other_owner(&self, object: Object, own: Option<Pid>) -> Option<Pid>
+    /// The object's owner, unless it is this own one: who a busy step names that names this object alone.
+    pub fn other_owner(&self, object: Object, own: Option<Pid>) -> Option<Pid>
         ensures { option_map number_of result ≡ unless (option_map number_of own) (owner_of self.now (object_of object)) }
     {
         let owner = self.owner(object)?;

@@ -13,17 +13,20 @@ ghost use Rattle.tx_live.specs.Insides.{IsFootprint};
 ghost use Rattle.tx_live.specs.Made.{IsRunning};
 ghost use Rattle.tx_model.specs.Answer.{has_bad_number};
 ghost use Rattle.tx_model.specs.Membership.{Table, inside_by, kind_event, kind_of};
+ghost use Rattle.tx_model.specs.State.{Object as TheObject};
 ghost use Rattle.tx_model.specs.View.{event_on, holder, role_on};
+ghost use Rattle.tx_reserve.specs.Objects.{is_in};
 ghost use Rattle.tx_reserve.specs.Reservations.{number_of};
 ghost use Rattle.tx_step.specs.Asks.{IsActOf, is_own, step_of};
 
 use tx_base::{Call, Pid, Refusal, Signo};
 use tx_judge::{
-    StepRole, Way, contents_are_whole, early_refusal_of_call, early_refusal_of_delivery,
-    role_of_call, role_of_delivery, way_of_call, way_of_delivery,
+    StepRole, contents_are_whole, early_refusal_of_call, early_refusal_of_delivery, role_of_call,
+    role_of_delivery, way_of_call, way_of_delivery,
 };
 use tx_kernel::Act;
 use tx_live::Content;
+use tx_reserve::Objects;
 
 /// What a process is asked to do: to make a call, or to take a pending signal.
 #[derive(Clone, Copy)]
@@ -71,18 +74,26 @@ impl<'a> Asked<'a> {
         }
     }
 
-    /// What it names, and who is in its way, where it is this to the transactions.
-    pub(crate) fn way(self, content: &Content, pid: Pid, role: StepRole) -> Way
+    /// Puts what it names into an empty set, and tells who is in its way, where it is this to the
+    /// transactions.
+    pub(crate) fn way(
+        self,
+        content: &Content,
+        pid: Pid,
+        role: StepRole,
+        footprint: &mut Objects,
+    ) -> Option<Pid>
         requires content { IsContent content.now }
         requires running { IsRunning (slot_at content.now.parts.procs pid.0) }
         requires numbers { has_bad_number (length content.now.parts.procs) (step_of pid self) ≡ false }
         requires role { role_as pid.0 role ≡ role_on (view_of content.now) (step_of pid self) }
-        ensures footprint { IsFootprint content.now (event_on (view_of content.now) (step_of pid self.entry)) result.footprint }
-        ensures holder { option_map number_of result.holder ≡ holder (view_of content.now) (event_on (view_of content.now) (step_of pid self.entry)) }
+        requires empty { (o : TheObject) → is_in footprint.old o ≡ false }
+        ensures footprint { IsFootprint content.now (event_on (view_of content.now) (step_of pid self.entry)) footprint.new }
+        ensures holder { option_map number_of result ≡ holder (view_of content.now) (event_on (view_of content.now) (step_of pid self.entry)) }
     {
         match self {
-            Asked::Call(call) => way_of_call(content, pid, call, role),
-            Asked::Delivery(signo) => way_of_delivery(content, pid, signo, role),
+            Asked::Call(call) => way_of_call(content, pid, call, role, footprint),
+            Asked::Delivery(signo) => way_of_delivery(content, pid, signo, role, footprint),
         }
     }
 }

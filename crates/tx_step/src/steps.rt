@@ -72,11 +72,11 @@ fn take_asked(
         return Err(why);
     }
     let role = asked.role(content, pid);
-    let way = asked.way(content, pid, role);
-    if let Some(holder) = way.holder {
+    let mut footprint = Objects::new();
+    if let Some(holder) = asked.way(content, pid, role, &mut footprint) {
         return Err(Refusal::Busy { holder });
     }
-    take_as(content, alloc, pid, role, asked, &way.footprint)
+    take_as(content, alloc, pid, role, asked, &footprint)
 }
 
 /// Makes what a process is asked to do, as what it is to the transactions.

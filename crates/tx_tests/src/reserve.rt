@@ -69,12 +69,14 @@ fn footprints_are_by_rows(rt: HostRuntime) -> Result<(), Fail> {
     let Ok(actor) = Actor::at(&parts, Pid(2), None) else {
         panic!(rt; "process 2 runs");
     };
-    let mut named = footprint_of_call(&actor, &marks, None, &Call::Kill(1, 10));
+    let mut named = Objects::new();
+    footprint_of_call(&actor, &marks, None, &Call::Kill(1, 10), &mut named);
     assert_eq!(rt;
         (named.pop(), named.pop(), named.pop()),
         (Some(Object::Proc(Pid(1))), Some(Object::Proc(Pid(2))), None)
     );
-    let mut delivered = footprint_of_delivery(&actor, &marks, None, Signo(10));
+    let mut delivered = Objects::new();
+    footprint_of_delivery(&actor, &marks, None, Signo(10), &mut delivered);
     assert_eq!(rt;
         (delivered.pop(), delivered.pop()),
         (Some(Object::Proc(Pid(2))), None)

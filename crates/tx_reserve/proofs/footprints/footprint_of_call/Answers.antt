@@ -16,6 +16,6 @@ returns c = λ held goes.
     let t = table_at c.args.actor.now c.args.marks.now in
     let p = c.args.actor.now.pid.0 in
     let S = state_of held c.args.actor.now.parts.now in
-    set_of c.new-set.result _ c.new-set.ensures
+    set_of c.args.set.now _ c.requires.empty
     (adds_same (Proc p ∷ call_row t p c.args.call.now (me_of c.args.actor.now) S) _ (ap (λ (x : Option TheProc). Proc p ∷ call_row_at t p c.args.call.now (process_in x) S) (sym c.requires.actor.there))
     (adds_both (Proc p ∷ []) (call_row t p c.args.call.now (me_of c.args.actor.now) S) (adds_one _ _ (Proc p) c.insert.ensures) (c.add_call.ensures held goes)))

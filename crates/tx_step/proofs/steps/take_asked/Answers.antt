@@ -8,13 +8,13 @@ returns-in-Some c = refused_early c.laws.ensures c.args.content.now c.requires c
 pub role-role-requires-clause-running : goal.role-role-requires-clause-running
 role-role-requires-clause-running c = runs_early c.laws.ensures c.args.content.now c.requires c.args.pid c.args.asked (sym c.in_default.is ∙ c.early_refusal.ensures)
 
-pub way-way-requires-clause-running : goal.way-way-requires-clause-running
-way-way-requires-clause-running c = runs_early c.laws.ensures c.args.content.now c.requires c.args.pid c.args.asked (sym c.in_default.is ∙ c.early_refusal.ensures)
+pub way-requires-clause-running : goal.way-requires-clause-running
+way-requires-clause-running c = runs_early c.laws.ensures c.args.content.now c.requires c.args.pid c.args.asked (sym c.in_default.is ∙ c.early_refusal.ensures)
 
-pub way-way-requires-clause-numbers : goal.way-way-requires-clause-numbers
-way-way-requires-clause-numbers c = numbers_early c.laws.ensures c.args.content.now c.requires c.args.pid c.args.asked (sym c.in_default.is ∙ c.early_refusal.ensures)
+pub way-requires-clause-numbers : goal.way-requires-clause-numbers
+way-requires-clause-numbers c = numbers_early c.laws.ensures c.args.content.now c.requires c.args.pid c.args.asked (sym c.in_default.is ∙ c.early_refusal.ensures)
 
-pub returns-in-Some-holder : goal.returns-in-Some-holder
-returns-in-Some-holder c =
-    refused_busy c.laws.ensures c.args.content.now c.requires c.args.pid c.args.asked (sym c.in_default.is ∙ c.early_refusal.ensures) c.way-way.result.holder c.in-Some-holder.holder
-    c.in-Some-holder.is c.way-way.ensures.holder c.args.content.now (λ j. c.args.content.now)
+pub returns-in-Some-way : goal.returns-in-Some-way
+returns-in-Some-way c =
+    refused_busy c.laws.ensures c.args.content.now c.requires c.args.pid c.args.asked (sym c.in_default.is ∙ c.early_refusal.ensures) c.way.result c.in-Some-way.holder
+    c.in-Some-way.is c.way.ensures.holder c.args.content.now (λ j. c.args.content.now)
