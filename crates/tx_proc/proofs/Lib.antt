@@ -2,3 +2,4 @@ pub mod Names
 pub mod Limits
 pub mod Twice
 pub mod Revised
+pub mod Counted

@@ -1,3 +1,4 @@
 pub mod Parts
 pub mod Processes
+pub mod Children
 pub mod Laws

@@ -3,6 +3,7 @@
 #![tactic(auto)]
 
 mod boxed;
+mod children;
 mod laws;
 mod part;
 mod proc;

@@ -2,9 +2,11 @@
 ghost use Rattle.std.specs.Option.{option_copied};
 ghost use Rattle.std.specs.Prelude.{◌≡◌, ◌≤◌, ◌↔◌, None, Some, IsTrue, IfOk, length, replicate, option_map};
 ghost use Rattle.tx_base.specs.Slots.{slot_at, with_slot};
-ghost use Rattle.tx_proc.specs.Parts.{edited_once, part_in, pending_in, with_pending, HasPlace};
+ghost use Rattle.tx_proc.specs.Children.{child_count, parent_in, HasOne, Recounts};
+ghost use Rattle.tx_proc.specs.Parts.{edited_once, part_in, part_of, pending_in, with_pending, HasPlace};
 
 use crate::boxed::BoxedProc;
+use crate::children::ChildCounts;
 use crate::part::Part;
 use crate::proc::Proc;
 use std::alloc::Global;
@@ -12,18 +14,23 @@ use std::marker::Model;
 use tx_base::{NoMemory, Pid, Slots};
 use tx_signal::Pending;
 
-/// The processes by number, from 1 to the width. Contracts see the list of what each number has,
-/// that of number 1 first.
+/// The processes by number, from 1 to the width. The children of each number are counted beside, so
+/// that an end of a process without children need not look for them. Contracts see the list of what
+/// each number has, that of number 1 first.
 #[derive(Drop)]
 pub struct ProcTable {
     slots: Slots<BoxedProc>,
+    children: ChildCounts,
 }
 
 impl Model for ProcTable {
     ghost use Rattle.std.specs.Prelude.{List, Option};
     ghost use Rattle.tx_proc.specs.declared.proc.Proc.{Proc as TheProc};
+    ghost use Rattle.tx_proc.specs.Children.{IsCounted};
 
     ghost Value = { List (Option TheProc) };
+
+    ghost invariant = { λ table. IsCounted table.slots table.children };
 
     ghost view = { λ table. table.slots };
 }
@@ -36,7 +43,8 @@ impl ProcTable {
         ensures { IfOk result (λ table. table ≡ replicate width None) }
     {
         let slots = Slots::new(alloc, width)?;
-        Ok(ProcTable { slots })
+        let children = ChildCounts::new(alloc, width)?;
+        Ok(ProcTable { slots, children })
     }
 
     /// How many numbers there are.
@@ -64,6 +72,14 @@ impl ProcTable {
         Some(boxed.parent())
     }
 
+    /// How many processes have this parent. It must be one of the numbers that there are, or 0.
+    pub fn child_count(&self, parent: Pid) -> usize
+        requires { parent.0 ≤ length self.now }
+        ensures { result ≡ child_count parent.0 self.now }
+    {
+        self.children.of(parent)
+    }
+
     /// Whether a number has no process.
     pub fn free(&self, pid: Pid) -> bool
         ensures { IsTrue result ↔ (slot_at self.now pid.0 ≡ None) }
@@ -78,7 +94,9 @@ impl ProcTable {
         requires free { slot_at self.old pid.0 ≡ None }
         ensures { self.new ≡ with_slot self.old pid.0 (Some boxed) }
     {
+        let parent = boxed.parent();
         self.slots.swap(pid, &mut Some(boxed));
+        self.children.recount(None, Some(parent));
     }
 
     /// Takes out what a number has, which is free then. The number must be one that there is.
@@ -90,6 +108,7 @@ impl ProcTable {
     {
         let mut taken = None;
         self.slots.swap(pid, &mut taken);
+        self.children.recount(parent_in(&taken), None);
         taken
     }
 
@@ -100,7 +119,9 @@ impl ProcTable {
         ensures exchanged { self.new ≡ with_slot self.old pid.0 slot.old }
         ensures given { slot.new ≡ slot_at self.old pid.0 }
     {
+        let coming = parent_in(slot);
         self.slots.swap(pid, slot);
+        self.children.recount(parent_in(slot), coming);
     }
 
     /// Exchanges a part of the process that a number has; nothing happens where it has none. The
@@ -113,9 +134,10 @@ impl ProcTable {
         ensures exchanged { self.new ≡ with_slot self.old pid.0 (option_map (λ proc. edited_once proc part.old) (slot_at self.old pid.0)) }
         ensures given { part.new ≡ part_in (slot_at self.old pid.0) part.old }
     {
-        let mut slot = self.remove(pid);
+        let mut slot = None;
+        self.slots.swap(pid, &mut slot);
         if let Some(boxed) = &mut slot {
-            boxed.swap_part(part);
+            exchange_part(boxed, part, &mut self.children);
         }
         self.slots.swap(pid, &mut slot);
     }
@@ -129,10 +151,37 @@ impl ProcTable {
         ensures exchanged { self.new ≡ with_slot self.old pid.0 (option_map (with_pending pending.old) (slot_at self.old pid.0)) }
         ensures given { pending.new ≡ pending_in (slot_at self.old pid.0) pending.old }
     {
-        let mut slot = self.remove(pid);
+        let mut slot = None;
+        self.slots.swap(pid, &mut slot);
         if let Some(boxed) = &mut slot {
             boxed.swap_pending(pending);
         }
         self.slots.swap(pid, &mut slot);
+    }
+}
+
+/// Exchanges a part of a process, which is counted, and counts it as the child of its parent then.
+fn exchange_part(boxed: &mut BoxedProc, part: &mut Part, children: &mut ChildCounts)
+    requires place { HasPlace part.old }
+    requires counted { HasOne (Some boxed.old.parent) children.old }
+    ensures proc { boxed.new ≡ edited_once boxed.old part.old }
+    ensures part { part.new ≡ part_of boxed.old part.old }
+    ensures children { Recounts (Some boxed.old.parent) (Some boxed.new.parent) children.old children.new }
+{
+    let old = boxed.parent();
+    boxed.swap_part(part);
+    let new = boxed.parent();
+    if new != old {
+        children.recount(Some(old), Some(new));
+    }
+}
+
+/// The parent of the process in a slot.
+fn parent_in(slot: &Option<BoxedProc>) -> Option<Pid>
+    ensures { result ≡ parent_in slot.now }
+{
+    match slot {
+        Some(boxed) => Some(boxed.parent()),
+        None => None,
     }
 }
