@@ -14,6 +14,7 @@ pub mod PostPlans
 pub mod StepPlans
 pub mod PostedWhole
 pub mod Told
+pub mod Childless
 pub mod Ends
 pub mod EndStates
 pub mod Ended

@@ -41,7 +41,8 @@ impl Actor<'_> {
         self.parts.descs.sized();
         let descs = self.parts.descs.plan_drop_all(&self.proc.descriptors);
         let boxed = BoxedProc::new(alloc, self.proc.ended(status))?;
-        log.reserve(self.parts.procs.width() + 2 * DESCRIPTORS + 2)?;
+        let children = self.parts.procs.child_count(self.pid);
+        log.reserve(children + 2 * DESCRIPTORS + 2)?;
         push_descs(descs.as_slice(), log)?;
         log.push(Change::Slot(self.pid, Some(boxed)))?;
         self.push_orphans(log)?;
@@ -54,10 +55,14 @@ impl Actor<'_> {
 
     /// Appends the changes that give the children of the process parent 1.
     fn push_orphans(&self, log: &mut Log) -> Result<(), NoMemory>
-        requires { length self.now.parts.now.procs ≤ 256 }
+        requires few { length self.now.parts.now.procs ≤ 256 }
+        requires number { self.now.pid.0 ≤ length self.now.parts.now.procs }
         ensures ok { OnOk result (log.new ≡ log.old ++ orphan_changes (children_below self.now.pid.0 (length self.now.parts.now.procs + 1) (plain self.now.parts.now))) }
         ensures err { OnErr result (Extends log.old log.new) }
     {
+        if self.parts.procs.child_count(self.pid) == 0 {
+            return Ok(());
+        }
         for below in (0..self.parts.procs.width()).rev() {
             self.push_orphan(Pid(below as u16 + 1), log)?;
         }

@@ -1,7 +1,13 @@
-use Rattle.std.proofs.Common.{◌≡◌, ◌+◌, ◌-◌, arith}
+use Rattle.std.proofs.Common.{◌≡◌, ◌+◌, ◌-◌, ◌∙◌, length, sym, arith}
+use Rattle.tx_kernel.proofs.Childless.{no_orphans}
 use Rattle.tx_kernel.proofs.Ends.{extends_by, orphans_step, orphans_end}
 use Rattle.tx_kernel.specs.Endings.{child_at, orphan_changes, plain}
 use Rattle.tx_kernel.proofs.actor.Actor.push_orphans.Goals as goal
+
+pub returns-then-child_count-eq0-clause-ok : goal.returns-then-child_count-eq0-clause-ok
+returns-then-child_count-eq0-clause-ok c =
+    let actor = c.args.self.now in
+    no_orphans actor.pid.0 (length actor.parts.now.procs + 1) actor.parts.now c.args.log.now (sym c.child_count.ensures ∙ c.if-child_count-eq0.true)
 
 pub loop-below-preserved : goal.loop-below-preserved
 loop-below-preserved c =
