@@ -7,6 +7,7 @@ use Rattle.tx_base.specs.declared.marks.Mark.{Mark}
 use Rattle.tx_base.specs.declared.names.Sending.{Sending as TheSending}
 use Rattle.tx_change.specs.States.{state_of}
 use Rattle.tx_change.specs.declared.parts.Parts.{Parts}
+use Rattle.tx_kernel.proofs.Childless.{no_children}
 use Rattle.tx_kernel.specs.Plans.{sending_of}
 use Rattle.tx_model.specs.Footprints.{commit_row_of, is_for_later, send_row, target_row, told_for_later}
 use Rattle.tx_model.specs.Descriptors.{desc_objects, desc_pipe_objects, descriptor, dup2_objects, listed, named, open_in, other_than, pipe_list, pipe_of, pipes_of}
@@ -14,6 +15,7 @@ use Rattle.tx_model.specs.History.{is_other_starter, targets}
 use Rattle.tx_model.specs.Membership.{Table, inside_by}
 use Rattle.tx_model.specs.Processes.{children_below, children_of, numbered_objects, procs_of}
 use Rattle.tx_model.specs.State.{Process, State, Sending, Object, Proc, Desc, Pipe, has, has_parent, same_object}
+use Rattle.tx_proc.specs.Children.{child_count}
 use Rattle.tx_reserve.specs.Footprints.{Adds, GoesBy, IsSetOf}
 use Rattle.tx_reserve.specs.Objects.{is_in, is_small}
 use Rattle.tx_reserve.specs.declared.objects.Objects.{Objects}
@@ -183,6 +185,10 @@ children_all {before} {after} p n S other is adds =
 
 pub children_none : (set : Objects) (p : ℕ) (S : State) → p ≡ 1 → Adds set set (procs_of (children_of p S))
 children_none set p S is = adds_same [] (procs_of (children_of p S)) (rw (eq-eqb p 1 is) refl) (adds_none set)
+
+pub childless : (set : Objects) (p n : ℕ) (held : ℕ → List Sending) (parts : Parts) → child_count p parts.procs ≡ 0 → Adds set set (procs_of (children_below p n (state_of held parts)))
+childless set p n held parts none =
+    adds_same [] (procs_of (children_below p n (state_of held parts))) (ap procs_of (sym (no_children p n held parts none))) (adds_none set)
 
 -- a description, with its pipe if it is there
 pub desc_with_pipe : {before between after : Objects} (S : State) (d k : ℕ) → pipe_of (S.descs d) ≡ k ∷ [] → Adds before between (Desc d ∷ []) → Adds between after (Pipe k ∷ [])

@@ -304,10 +304,14 @@ fn add_open_and_pipes(actor: &Actor, set: &mut Objects)
 
 /// Puts the children of the process into a set; those of process 1 are nobody's concern.
 fn add_children(actor: &Actor, set: &mut Objects)
-    requires { length actor.now.parts.now.procs ≤ 256 }
+    requires few { length actor.now.parts.now.procs ≤ 256 }
+    requires number { actor.now.pid.0 ≤ length actor.now.parts.now.procs }
     ensures { (held : ℕ → List TheSending) → Adds set.old set.new (procs_of (children_of actor.now.pid.0 (state_of held actor.now.parts.now))) }
 {
     if actor.pid.0 == 1 {
+        return;
+    }
+    if actor.parts.procs.child_count(actor.pid) == 0 {
         return;
     }
     for number in 0..actor.parts.procs.width() + 1 {
