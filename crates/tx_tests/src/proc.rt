@@ -38,6 +38,19 @@ fn keeps_processes_by_number(rt: HostRuntime) -> Result<(), Fail> {
 }
 
 #[test]
+fn counts_children(rt: HostRuntime) -> Result<(), Fail> {
+    let mut table = ProcTable::new(rt.alloc(), 64)?;
+    assert_eq!(rt; table.width(), 64);
+    table.put(Pid(2), BoxedProc::new(rt.alloc(), Proc::booted(Pid(2)))?);
+    assert_eq!(rt; table.width(), 64);
+    assert_eq!(rt; (table.child_count(Pid(1)), table.child_count(Pid(3))), (1, 0));
+    table.swap_part(Pid(2), &mut Part::Parent(Pid(3)));
+    assert_eq!(rt; table.width(), 64);
+    assert_eq!(rt; (table.child_count(Pid(1)), table.child_count(Pid(3))), (0, 1));
+    Ok(())
+}
+
+#[test]
 fn exchanges_processes(rt: HostRuntime) -> Result<(), Fail> {
     let mut table = ProcTable::new(rt.alloc(), 64)?;
     let mut slot = Some(BoxedProc::new(rt.alloc(), Proc::booted(Pid(1)))?);
