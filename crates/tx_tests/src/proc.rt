@@ -43,10 +43,16 @@ fn counts_children(rt: HostRuntime) -> Result<(), Fail> {
     assert_eq!(rt; table.width(), 64);
     table.put(Pid(2), BoxedProc::new(rt.alloc(), Proc::booted(Pid(2)))?);
     assert_eq!(rt; table.width(), 64);
-    assert_eq!(rt; (table.child_count(Pid(1)), table.child_count(Pid(3))), (1, 0));
+    assert_eq!(rt;
+        (table.child_count(Pid(1)), table.child_count(Pid(3))),
+        (1, 0)
+    );
     table.swap_part(Pid(2), &mut Part::Parent(Pid(3)));
     assert_eq!(rt; table.width(), 64);
-    assert_eq!(rt; (table.child_count(Pid(1)), table.child_count(Pid(3))), (0, 1));
+    assert_eq!(rt;
+        (table.child_count(Pid(1)), table.child_count(Pid(3))),
+        (0, 1)
+    );
     Ok(())
 }
 
