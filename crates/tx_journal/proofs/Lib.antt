@@ -1,0 +1,4 @@
+pub mod After
+pub mod Booted
+pub mod Extended
+pub mod Lives

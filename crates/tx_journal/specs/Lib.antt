@@ -1,0 +1,6 @@
+pub mod Entries
+pub mod Laws
+pub mod Lives
+pub mod Rooms
+pub mod Sessions
+pub mod Walks

@@ -1,0 +1,37 @@
+-- How many transactions are live.
+use Rattle.std.specs.Prelude.{ℕ, zero, suc, ◌+◌, Bool, true, false, Option, Some, None, is_some}
+use Rattle.tx_base.specs.declared.marks.Mark.{Mark}
+use Rattle.tx_base.specs.declared.steps.Call.TheVariants.{SysXabort}
+use Rattle.tx_base.specs.declared.steps.Step.{Step}
+use Rattle.tx_base.specs.declared.steps.Step.TheVariants.{Call as Calls, Deliver, KernelAbort}
+use Rattle.tx_model.specs.Membership.{Table, is_live}
+
+abbrev pub one_if : Bool → ℕ
+one_if true = 1
+one_if false = 0
+
+-- the starters of live transactions among the numbers 1 to n
+unfoldable pub lives_to : Table → ℕ → ℕ
+lives_to t zero = 0
+lives_to t (suc n) = one_if (is_live t (suc n)) + lives_to t n
+
+abbrev pub lives : Table → ℕ
+lives t = lives_to t t.width
+
+-- the starter by whose number a mark of process p names a transaction, or would name it if p began one
+abbrev pub starter_by : ℕ → Option Mark → ℕ
+starter_by p None = p
+starter_by p (Some m) = m.starter.0
+
+-- whose transaction a step may begin or end
+abbrev pub starter_of : Table → Step → ℕ
+starter_of t (Calls p call) = starter_by p.0 (t.marks p.0)
+starter_of t (Deliver p signo) = starter_by p.0 (t.marks p.0)
+starter_of t (KernelAbort s) = s.0
+
+-- whether the step is an abort of a transaction: the kernel's of a live one, or a member's
+abbrev pub aborts_live : Table → Step → Bool
+aborts_live t (Calls p SysXabort) = is_some (t.marks p.0)
+aborts_live t (Calls p call) = false
+aborts_live t (Deliver p signo) = false
+aborts_live t (KernelAbort s) = is_live t s.0

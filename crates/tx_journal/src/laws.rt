@@ -1,0 +1,12 @@
+//! The laws that a session stands on.
+ghost use Rattle.tx_journal.specs.Laws.{SessionLaws};
+
+use tx_laws::{erasure, next_view};
+
+/// The laws on which the proofs of a session stand. It does nothing.
+pub(crate) fn laws()
+    ensures { SessionLaws }
+{
+    next_view();
+    erasure();
+}

@@ -1,0 +1,10 @@
+//! One history of steps, which is walked both ways.
+#![tactic(auto)]
+
+mod entry;
+mod journal;
+mod laws;
+mod session;
+
+pub use entry::{AtStart, Entry, ForwardFault, GotoFault};
+pub use session::Session;

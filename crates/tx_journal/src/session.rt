@@ -1,0 +1,134 @@
+//! A machine with the journal of its steps.
+ghost use Rattle.std.specs.Option.{option_copied};
+ghost use Rattle.std.specs.Prelude.{◌≡◌, ◌≤◌, [], IfOk, length};
+ghost use Rattle.tx_journal.specs.Entries.{entry_at, history_of};
+ghost use Rattle.tx_journal.specs.Sessions.{made_of, position_of, start_of};
+ghost use Rattle.tx_live.specs.Content.{view_of};
+ghost use Rattle.tx_model.specs.Answer.{Agreement, Lawful};
+ghost use Rattle.tx_model.specs.View.{view};
+
+use crate::entry::Entry;
+use crate::journal::Journal;
+use crate::laws::laws;
+use std::alloc::Global;
+use std::marker::Model;
+use tx_base::{NoMemory, PROCESSES, WIDE_PROCESSES};
+use tx_core::Machine;
+
+/// A machine with the journal of all steps that it accepted, which can be walked both ways. Contracts
+/// see what it keeps: its machine's content, all entries, and what takes those back that are made.
+#[derive(Drop)]
+pub struct Session {
+    pub(crate) machine: Machine,
+    pub(crate) journal: Journal,
+    /// How many processes there may be.
+    width: u16,
+    /// With how many it was booted.
+    count: u16,
+}
+
+impl Model for Session {
+    ghost use Rattle.std.specs.Prelude.{vec_capacity};
+    ghost use Rattle.tx_journal.specs.Sessions.{HasRoom, IsJournal, Kept, kept_of};
+
+    ghost Value = { Kept };
+
+    ghost view = { λ session. kept_of session.machine session.journal session.width session.count };
+
+    ghost invariant = { λ session. IsJournal (kept_of session.machine session.journal session.width session.count)
+      × HasRoom (kept_of session.machine session.journal session.width session.count) session.journal.live (vec_capacity session.journal.entries) (vec_capacity session.journal.inverses) };
+}
+
+impl Session {
+    /// A session with the processes 1 to count, of 64 that it may have, before its first step: as
+    /// `Machine::boot`.
+    ///
+    /// NoMemory where a growth is refused.
+    pub fn boot(alloc: Global, count: u16) -> Result<Session, NoMemory>
+        requires low { 1 ≤ count }
+        requires high { count ≤ 64 }
+        ensures entries { IfOk result (λ session. session.entries ≡ []) }
+        ensures inverses { IfOk result (λ session. session.inverses ≡ []) }
+        ensures count { IfOk result (λ session. session.count ≡ count) }
+        ensures width { IfOk result (λ session. session.width ≡ 64) }
+    {
+        let machine = Machine::boot(alloc, count)?;
+        Ok(Session {
+            machine,
+            journal: Journal::new(alloc),
+            width: PROCESSES,
+            count,
+        })
+    }
+
+    /// A session of a wide machine: as `boot`, of 256 processes that it may have.
+    pub fn boot_wide(alloc: Global, count: u16) -> Result<Session, NoMemory>
+        requires low { 1 ≤ count }
+        requires high { count ≤ 256 }
+        ensures entries { IfOk result (λ session. session.entries ≡ []) }
+        ensures inverses { IfOk result (λ session. session.inverses ≡ []) }
+        ensures count { IfOk result (λ session. session.count ≡ count) }
+        ensures width { IfOk result (λ session. session.width ≡ 256) }
+    {
+        let machine = Machine::boot_wide(alloc, count)?;
+        Ok(Session {
+            machine,
+            journal: Journal::new(alloc),
+            width: WIDE_PROCESSES,
+            count,
+        })
+    }
+
+    /// The number of processes with which it was booted.
+    pub fn count(&self) -> u16
+        ensures { result ≡ self.now.count }
+    {
+        self.count
+    }
+
+    /// How many process numbers there are: 64, or 256 of a wide machine.
+    pub fn processes(&self) -> u16
+        ensures { result ≡ self.now.width }
+    {
+        self.width
+    }
+
+    /// How many entries the journal has.
+    pub fn len(&self) -> usize
+        ensures { result ≡ length self.now.entries }
+    {
+        self.journal.entries.len()
+    }
+
+    /// How many of the entries are made: those before the position.
+    pub fn position(&self) -> usize
+        ensures { result ≡ position_of self.now }
+    {
+        self.journal.inverses.len()
+    }
+
+    /// The entry of a number, counted from 1. Nothing where there are fewer entries, and for 0.
+    pub fn entry(&self, number: usize) -> Option<&Entry>
+        ensures { option_copied result ≡ entry_at self.now.entries number }
+    {
+        self.journal.entries.get(number.checked_sub(1)?)
+    }
+
+    /// The machine as it is at the position, to be read.
+    pub fn machine(&self) -> &Machine
+        ensures machine { result.now ≡ self.now.machine }
+        ensures view { view_of result.now ≡ view (start_of self.now) (history_of (made_of self.now)) }
+    {
+        &self.machine
+    }
+
+    /// The journal is a lawful history, in which each surviving step has the reply that the plain kernel
+    /// gives. It does nothing.
+    pub fn is_lawful(&self)
+        ensures lawful { Lawful (start_of self.now) (history_of self.now.entries) }
+        ensures agreement { Agreement (start_of self.now) (history_of self.now.entries) }
+    {
+        laws();
+        let _machine = &self.machine;
+    }
+}
