@@ -8,7 +8,7 @@ use Rattle.tx_base.specs.declared.steps.Step.{Step}
 use Rattle.tx_base.specs.declared.steps.Step.TheVariants.{Call as Calls, Deliver, KernelAbort}
 use Rattle.tx_base.specs.declared.steps.Reply.{Reply}
 use Rattle.tx_journal.proofs.Lives.{LessBut, among, counted, no_more}
-use Rattle.tx_journal.specs.Lives.{aborts_live, lives, lives_to, one_if, starter_by, starter_of}
+use Rattle.tx_journal.specs.Lives.{has_place, lives, lives_to, one_if, starter_by, starter_of}
 use Rattle.tx_laws.specs.Fits.{Fits, FitsWithin}
 use Rattle.tx_laws.specs.Sound.{IsSound}
 use Rattle.tx_model.specs.Events.{Event, process_of}
@@ -174,17 +174,17 @@ fits_live V p None at is fits = cc
 fits_live V p (Some m) at is fits =
     (subst (λ (mark : Option Mark). Fits (kind_role V.table p.0 Aborting (first_reply V (Calls p SysXabort)) mark) (event_on V (Calls p SysXabort)) p.0 V) at fits).0
 
-pub aborts_was : (V : View) (step : Step) → aborts_live V.table step ≡ true → Fits (role_on V step) (event_on V step) (process_of step) V → is_live V.table (starter_of V.table step) ≡ true
+pub aborts_was : (V : View) (step : Step) → has_place V.table step ≡ true → Fits (role_on V step) (event_on V step) (process_of step) V → is_live V.table (starter_of V.table step) ≡ true
 aborts_was V (Calls p SysXabort) is fits = fits_live V p (V.table.marks p.0) refl is fits
 aborts_was V (Calls p call) is fits = cc
 aborts_was V (Deliver p signo) is fits = cc
-aborts_was V (KernelAbort s) is fits = is
+aborts_was V (KernelAbort s) is fits = fits.0
 
 left_by : (V : View) (p : Pid) (mark : Option Mark) → V.table.marks p.0 ≡ mark → is_some mark ≡ true → is_live (next V (Calls p SysXabort)).table (starter_by p.0 mark) ≡ false
 left_by V p None at is = cc
 left_by V p (Some m) at is = member_ends V p m at
 
-pub aborts_is : (V : View) (step : Step) → aborts_live V.table step ≡ true → is_live (next V step).table (starter_of V.table step) ≡ false
+pub aborts_is : (V : View) (step : Step) → has_place V.table step ≡ true → is_live (next V step).table (starter_of V.table step) ≡ false
 aborts_is V (Calls p SysXabort) is = left_by V p (V.table.marks p.0) refl is
 aborts_is V (Calls p call) is = cc
 aborts_is V (Deliver p signo) is = cc

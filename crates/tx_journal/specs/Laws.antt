@@ -1,8 +1,10 @@
 -- The laws that a session stands on.
-use Rattle.tx_laws.specs.Laws.{LawfulViewIsNext, LawfulViewIsSound, PrefixesAgree}
+use Rattle.tx_laws.specs.Laws.{AcceptedStepsFit, LawfulViewIsSound, NextIsSound, PrefixesAgree}
 
--- the view of a lawful history is the next view of that before its last step, and it is sound; and its surviving steps agree
+-- the view of a lawful history is sound, and so is the next one by an accepted step, which fits what it is to the transactions; and the
+-- surviving steps of a lawful history agree with the plain kernel
 pub record SessionLaws : Type 0 where
-  pub next : LawfulViewIsNext
   pub sound : LawfulViewIsSound
+  pub next : NextIsSound
+  pub fits : AcceptedStepsFit
   pub agree : PrefixesAgree

@@ -29,9 +29,9 @@ starter_of t (Calls p call) = starter_by p.0 (t.marks p.0)
 starter_of t (Deliver p signo) = starter_by p.0 (t.marks p.0)
 starter_of t (KernelAbort s) = s.0
 
--- whether the step is an abort of a transaction: the kernel's of a live one, or a member's
-abbrev pub aborts_live : Table → Step → Bool
-aborts_live t (Calls p SysXabort) = is_some (t.marks p.0)
-aborts_live t (Calls p call) = false
-aborts_live t (Deliver p signo) = false
-aborts_live t (KernelAbort s) = is_live t s.0
+-- whether the step has its place from the sys_xbegin of the transaction that it aborts: the kernel's abort, and a member's
+abbrev pub has_place : Table → Step → Bool
+has_place t (Calls p SysXabort) = is_some (t.marks p.0)
+has_place t (Calls p call) = false
+has_place t (Deliver p signo) = false
+has_place t (KernelAbort s) = true

@@ -1,8 +1,15 @@
 -- The room of a journal.
-use Rattle.std.specs.Prelude.{◌≡◌, ◌⊎◌, ℕ, ◌+◌, ◌≤◌, ◌<◌, ◌^◌, true, List, length, vec_capacity}
+use Rattle.std.specs.Prelude.{◌≡◌, ◌⊎◌, ℕ, ◌+◌, ◌≤◌, ◌<◌, ◌^◌, ◌++◌, ◌∷◌, [], true, length, vec_capacity}
 use Rattle.tx_base.specs.declared.steps.Step.{Step}
-use Rattle.tx_journal.specs.Lives.{aborts_live}
+use Rattle.tx_base.specs.declared.steps.Reply.{Reply}
+use Rattle.tx_core.specs.Undo.{LeadsBack}
+use Rattle.tx_journal.specs.Lives.{has_place, lives}
+use Rattle.tx_journal.specs.declared.entry.Entry.{Entry}
 use Rattle.tx_journal.specs.declared.journal.Journal.{Journal}
+use Rattle.tx_live.specs.Content.{view_of}
+use Rattle.tx_live.specs.Inverses.{Undoes}
+use Rattle.tx_live.specs.declared.content.Content.{Content}
+use Rattle.tx_live.specs.declared.inverse.Inverse.{Inverse}
 use Rattle.tx_model.specs.Membership.{Table}
 
 -- the same is in it
@@ -18,4 +25,18 @@ pub record HasPlaces (j : Journal) (count : ℕ) : Type 0 where
 
 -- there is room for the entry of a step, and for the abort of each transaction that is live after it
 abbrev pub IsReady : Table → Step → Journal → Type 0
-IsReady t step j = (HasPlaces j (j.live + 2) × (j.live + 2 < 2 ^ 64)) ⊎ (HasPlaces j j.live × (aborts_live t step ≡ true))
+IsReady t step j = (HasPlaces j (j.live + 2) × (j.live + 2 < 2 ^ 64)) ⊎ (HasPlaces j j.live × (has_place t step ≡ true))
+
+-- what is live is counted, and has room for its aborts
+pub record IsCounted (k : Content) (j : Journal) : Type 0 where
+  pub lives : lives (view_of k).table ≤ j.live
+  pub places : HasPlaces j j.live
+
+-- the entry was added, with what leads the content back
+pub record IsAdded (k : Content) (j : Journal) (entry : Entry) (new : Content) (after : Journal) : Type 0 where
+  pub inverse : Inverse
+  pub entries : after.entries.items ≡ j.entries.items ++ entry ∷ []
+  pub inverses : after.inverses.items ≡ j.inverses.items ++ inverse ∷ []
+  pub leads : LeadsBack new inverse
+  pub undoes : Undoes new inverse k
+  pub counted : IsCounted new after

@@ -4,6 +4,7 @@
 mod entry;
 mod journal;
 mod laws;
+mod making;
 mod session;
 
 pub use entry::{AtStart, Entry, ForwardFault, GotoFault};

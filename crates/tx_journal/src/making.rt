@@ -1,0 +1,114 @@
+//! Makes a step, and adds its entry.
+ghost use Rattle.std.specs.Prelude.{◌≡◌, ◌≢◌, ◌∷◌, ◌↔◌, ◌⊎◌, ◌+◌, ◌≤◌, ◌<◌, ◌^◌, List, IsTrue, false, length, true};
+ghost use Rattle.tx_base.specs.declared.steps.Accepted.{Accepted};
+ghost use Rattle.tx_base.specs.declared.steps.Reply.TheVariants.{No};
+ghost use Rattle.tx_journal.specs.Lives.{has_place, lives, one_if, starter_by, starter_of};
+ghost use Rattle.tx_journal.specs.Rooms.{IsAdded, IsCounted, IsReady};
+ghost use Rattle.tx_laws.specs.Sound.{IsSound};
+ghost use Rattle.tx_live.specs.Content.{view_of};
+ghost use Rattle.tx_model.specs.Answer.{IsAccepted, Lawful, answer};
+ghost use Rattle.tx_model.specs.Membership.{is_live};
+ghost use Rattle.tx_model.specs.State.{State};
+ghost use Rattle.tx_model.specs.View.{view};
+ghost use Rattle.tx_step.specs.Steps.{IsKernelAbort, IsXabort};
+
+use crate::entry::Entry;
+use crate::journal::Journal;
+use crate::laws::laws;
+use std::alloc::Global;
+use tx_base::{Call, Pid, Refusal, Reply, Step};
+use tx_core::Machine;
+
+/// Makes a step, puts its reply where it is to stand, and adds its entry where it was accepted: there
+/// must be room. Answers whether it was.
+pub(crate) fn make(
+    alloc: Global,
+    machine: &mut Machine,
+    journal: &mut Journal,
+    worker: u16,
+    step: &Step,
+    reply: &mut Reply,
+) -> bool
+    requires sound { IsSound (view_of machine.old) }
+    requires at_end { length journal.old.inverses.items ≡ length journal.old.entries.items }
+    requires counted { IsCounted machine.old journal.old }
+    requires ready { IsReady (view_of machine.old).table step.now journal.old }
+    ensures accepted { IsTrue result ↔ IsAccepted reply.new }
+    ensures added { IsTrue result → IsAdded machine.old journal.old (record { step = step.now; worker = worker; reply = reply.new }) machine.new journal.new }
+    ensures machine { result ≡ false → machine.new ≡ machine.old }
+    ensures journal { result ≡ false → journal.new ≡ journal.old }
+    ensures answer { (reply.new ≡ No Refusal.NoMemory) ⊎ (answer (view_of machine.old) step.now ≡ reply.new) }
+    ensures history { IsAccepted reply.new → (start : State) (earlier : List Accepted) → Lawful start earlier → view_of machine.old ≡ view start earlier →
+        Lawful start (record { step = step.now; reply = reply.new } ∷ earlier) × (view_of machine.new ≡ view start (record { step = step.now; reply = reply.new } ∷ earlier)) }
+    ensures xabort { IsXabort machine.old step.now → reply.new ≢ No Refusal.NoMemory }
+    ensures kernel { IsKernelAbort step.now → reply.new ≢ No Refusal.NoMemory }
+{
+    laws();
+    let starter = starter_of(machine, step);
+    let was = is_live(machine, starter);
+    let Some(inverse) = machine.step_into(alloc, step, reply) else {
+        return false;
+    };
+    let is = is_live(machine, starter);
+    let entry = Entry {
+        step: step.copy(),
+        worker,
+        reply: reply.copy(),
+    };
+    journal.push(entry, inverse);
+    journal.live = live_after(journal.live, was, is);
+    true
+}
+
+/// Whether a step has its place from the sys_xbegin of the transaction that it aborts: the kernel's
+/// abort, and a member's sys_xabort.
+pub(crate) fn has_place(machine: &Machine, step: &Step) -> bool
+    ensures { result ≡ has_place (view_of machine.now).table step.now }
+{
+    match step {
+        Step::KernelAbort(_) => true,
+        Step::Call(pid, Call::SysXabort) => machine.txn_of(*pid).is_some(),
+        _ => false,
+    }
+}
+
+/// Whose transaction a step may begin or end.
+fn starter_of(machine: &Machine, step: &Step) -> Pid
+    ensures { result.0 ≡ starter_of (view_of machine.now).table step.now }
+{
+    match step {
+        Step::KernelAbort(starter) => *starter,
+        Step::Call(pid, _) => starter_by(machine, *pid),
+        Step::Deliver(pid, _) => starter_by(machine, *pid),
+    }
+}
+
+/// The starter of the live transaction that a process is a member of, and the process where it is none.
+fn starter_by(machine: &Machine, pid: Pid) -> Pid
+    ensures { result.0 ≡ starter_by pid.0 ((view_of machine.now).table.marks pid.0) }
+{
+    match machine.txn_of(pid) {
+        Some(starter) => starter,
+        None => pid,
+    }
+}
+
+/// Whether a process is the starter of a live transaction.
+fn is_live(machine: &Machine, starter: Pid) -> bool
+    ensures { result ≡ is_live (view_of machine.now).table starter.0 }
+{
+    machine.txn_of(starter) == Some(starter)
+}
+
+/// How many transactions are live, after a step that left one so that was so, or not.
+fn live_after(live: usize, was: bool, is: bool) -> usize
+    requires some { was ≡ true → 1 ≤ live }
+    requires fits { is ≡ true → live + 1 < 2 ^ 64 }
+    ensures { result + one_if was ≡ live + one_if is }
+{
+    match (was, is) {
+        (true, false) => live - 1,
+        (false, true) => live + 1,
+        _ => live,
+    }
+}
