@@ -1,6 +1,7 @@
 -- How many transactions are live after a step.
-use Rattle.std.proofs.Common.{◌≡◌, ◌≢◌, ℕ, zero, suc, ◌+◌, ◌<◌, ◌≤◌, ◌==◌, Bool, true, false, Option, Some, None, is_some, if◌then◌else◌, arith, refl, sym, ap, subst, ◌∙◌, eq-eqb, eqb-true, ltb-true, true≢false}
+use Rattle.std.proofs.Common.{◌≡◌, ◌≢◌, ℕ, zero, suc, ◌+◌, ◌<◌, ◌≤◌, ◌==◌, Bool, true, false, Option, Some, None, is_some, IsSome, IsOk, Result, Ok, Err, is_err, if◌then◌else◌, arith, refl, sym, ap, subst, ◌∙◌, eq-eqb, eqb-true, ltb-true, true≢false}
 use Rattle.std.proofs.lemmas.Bool.{both_ways}
+use Rattle.tx_base.specs.Slots.{slot_at}
 use Rattle.tx_base.specs.declared.marks.Mark.{Mark}
 use Rattle.tx_base.specs.declared.names.Pid.{Pid}
 use Rattle.tx_base.specs.declared.steps.Call.TheVariants.{SysXabort}
@@ -11,9 +12,13 @@ use Rattle.tx_journal.proofs.Lives.{LessBut, among, counted, no_more}
 use Rattle.tx_journal.specs.Lives.{has_place, lives, lives_to, one_if, starter_by, starter_of}
 use Rattle.tx_laws.specs.Fits.{Fits, FitsWithin}
 use Rattle.tx_laws.specs.Sound.{IsSound}
+use Rattle.tx_laws.specs.TwoParts.{parts_view}
+use Rattle.tx_live.specs.Content.{view_of}
+use Rattle.tx_live.specs.declared.content.Content.{Content}
 use Rattle.tx_model.specs.Events.{Event, process_of}
 use Rattle.tx_model.specs.Membership.{Kind, Ordinary, Forking, Beginning, Leaving, Aborting, Progress, Continues, Parks, Forks, Begins, Role, Outside, Within, Commits, Aborts, Table, is_live, is_of, kind_of, kind_role, marks_after, member_end_role, ordinary_role, parked, role, table_after, unmarked, others_open, says_ended}
 use Rattle.tx_model.specs.State.{put_at, is_between}
+use Rattle.tx_step.specs.Steps.{IsXabort}
 use Rattle.tx_model.specs.View.{View, event_on, first_reply, next, next_by, role_on}
 
 -- a mark that was taken out names nobody, and another one whom it named
@@ -189,3 +194,17 @@ aborts_is V (Calls p SysXabort) is = left_by V p (V.table.marks p.0) refl is
 aborts_is V (Calls p call) is = cc
 aborts_is V (Deliver p signo) is = cc
 aborts_is V (KernelAbort s) is = kernel_ends V s
+
+some_true : {A : Type 0} (x : Option A) → IsSome x → is_some x ≡ true
+some_true None some = absurd some
+some_true (Some a) some = refl
+
+-- a member's sys_xabort has its place
+pub xabort_place : (k : Content) (step : Step) → IsXabort k step → has_place (view_of k).table step ≡ true
+unfolding view_of parts_view
+xabort_place k step (pid, same, some) = subst (λ (x : Step). has_place (view_of k).table x ≡ true) (sym same) (some_true (slot_at k.marks pid.0) some)
+
+-- and so it is not refused
+pub not_refused : {T E : Type 0} (r : Result T E) → IsOk r → is_err r ≡ true → ⊥
+not_refused (Ok x) ok is = cc
+not_refused (Err x) ok is = absurd ok

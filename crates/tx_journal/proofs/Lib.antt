@@ -1,5 +1,6 @@
 pub mod After
 pub mod Booted
 pub mod Extended
+pub mod Kept
 pub mod Lives
 pub mod Made

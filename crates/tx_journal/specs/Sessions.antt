@@ -57,8 +57,7 @@ pub record HasRoom (k : Kept) (live room places : ℕ) : Type 0 where
 abbrev pub IsAtEnd : Kept → Type 0
 IsAtEnd k = position_of k ≡ length k.entries
 
--- the one has the journal of the other, wherever it is in it
-pub record SameJournal (new old : Kept) : Type 0 where
-  pub entries : new.entries ≡ old.entries
+-- the one was booted as the other was
+pub record SameBoot (new old : Kept) : Type 0 where
   pub width : new.width ≡ old.width
   pub count : new.count ≡ old.count

@@ -6,6 +6,7 @@ mod journal;
 mod laws;
 mod making;
 mod session;
+mod steps;
 
 pub use entry::{AtStart, Entry, ForwardFault, GotoFault};
 pub use session::Session;

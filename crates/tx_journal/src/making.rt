@@ -1,9 +1,9 @@
 //! Makes a step, and adds its entry.
-ghost use Rattle.std.specs.Prelude.{◌≡◌, ◌≢◌, ◌∷◌, ◌↔◌, ◌⊎◌, ◌+◌, ◌≤◌, ◌<◌, ◌^◌, List, IsTrue, false, length, true};
+ghost use Rattle.std.specs.Prelude.{◌≡◌, ◌≢◌, ◌∷◌, ◌↔◌, ◌⊎◌, ◌+◌, ◌≤◌, ◌<◌, ◌^◌, List, IsOk, IsTrue, OnOk, false, length, true};
 ghost use Rattle.tx_base.specs.declared.steps.Accepted.{Accepted};
 ghost use Rattle.tx_base.specs.declared.steps.Reply.TheVariants.{No};
 ghost use Rattle.tx_journal.specs.Lives.{has_place, lives, one_if, starter_by, starter_of};
-ghost use Rattle.tx_journal.specs.Rooms.{IsAdded, IsCounted, IsReady};
+ghost use Rattle.tx_journal.specs.Rooms.{IsAdded, IsCounted, IsReady, SameRecord};
 ghost use Rattle.tx_laws.specs.Sound.{IsSound};
 ghost use Rattle.tx_live.specs.Content.{view_of};
 ghost use Rattle.tx_model.specs.Answer.{IsAccepted, Lawful, answer};
@@ -16,12 +16,60 @@ use crate::entry::Entry;
 use crate::journal::Journal;
 use crate::laws::laws;
 use std::alloc::Global;
-use tx_base::{Call, Pid, Refusal, Reply, Step};
+use tx_base::{Call, NoMemory, Pid, Refusal, Reply, Step};
 use tx_core::Machine;
+
+/// Makes a step, puts its reply where it is to stand, and adds its entry where it was accepted. The place
+/// of the entry is reserved first, but for an abort, which has its own. Answers whether it was.
+pub(crate) fn record(
+    alloc: Global,
+    machine: &mut Machine,
+    journal: &mut Journal,
+    worker: u16,
+    step: &Step,
+    reply: &mut Reply,
+) -> bool
+    requires sound { IsSound (view_of machine.old) }
+    requires at_end { length journal.old.inverses.items ≡ length journal.old.entries.items }
+    requires counted { IsCounted machine.old journal.old }
+    ensures accepted { IsTrue result ↔ IsAccepted reply.new }
+    ensures added { IsTrue result → IsAdded machine.old journal.old (record { step = step.now; worker = worker; reply = reply.new }) machine.new journal.new }
+    ensures machine { result ≡ false → machine.new ≡ machine.old }
+    ensures journal { result ≡ false → SameRecord journal.new journal.old }
+    ensures counted { result ≡ false → IsCounted machine.old journal.new }
+    ensures answer { (reply.new ≡ No Refusal.NoMemory) ⊎ (answer (view_of machine.old) step.now ≡ reply.new) }
+    ensures history { IsTrue result → (start : State) (earlier : List Accepted) → Lawful start earlier → view_of machine.old ≡ view start earlier →
+        Lawful start (record { step = step.now; reply = reply.new } ∷ earlier) × (view_of machine.new ≡ view start (record { step = step.now; reply = reply.new } ∷ earlier)) }
+    ensures xabort { IsXabort machine.old step.now → reply.new ≢ No Refusal.NoMemory }
+    ensures kernel { IsKernelAbort step.now → reply.new ≢ No Refusal.NoMemory }
+{
+    if prepare(machine, journal, step).is_err() {
+        *reply = Reply::No(Refusal::NoMemory);
+        return false;
+    }
+    make(alloc, machine, journal, worker, step, reply)
+}
+
+/// Makes room for the entry of a step, unless it has its place.
+///
+/// NoMemory where a growth is refused; the journal is then as it was.
+fn prepare(machine: &Machine, journal: &mut Journal, step: &Step) -> Result<(), NoMemory>
+    requires at_end { length journal.old.inverses.items ≡ length journal.old.entries.items }
+    requires counted { IsCounted machine.now journal.old }
+    ensures same { SameRecord journal.new journal.old }
+    ensures counted { IsCounted machine.now journal.new }
+    ensures ready { OnOk result (IsReady (view_of machine.now).table step.now journal.new) }
+    ensures place { has_place (view_of machine.now).table step.now ≡ true → IsOk result }
+{
+    if has_place(machine, step) {
+        return Ok(());
+    }
+    journal.reserve()
+}
 
 /// Makes a step, puts its reply where it is to stand, and adds its entry where it was accepted: there
 /// must be room. Answers whether it was.
-pub(crate) fn make(
+fn make(
     alloc: Global,
     machine: &mut Machine,
     journal: &mut Journal,
@@ -62,7 +110,7 @@ pub(crate) fn make(
 
 /// Whether a step has its place from the sys_xbegin of the transaction that it aborts: the kernel's
 /// abort, and a member's sys_xabort.
-pub(crate) fn has_place(machine: &Machine, step: &Step) -> bool
+fn has_place(machine: &Machine, step: &Step) -> bool
     ensures { result ≡ has_place (view_of machine.now).table step.now }
 {
     match step {

@@ -1,0 +1,80 @@
+-- What a session keeps after a step.
+use Rattle.std.proofs.Common.{◌≡◌, ℕ, ◌+◌, ◌≤◌, ◌++◌, ◌∷◌, [], Bool, true, false, List, length, arith, refl, sym, ap, subst, ◌∙◌}
+use Rattle.std.specs.Prelude.{vec_capacity}
+use Rattle.tx_base.specs.declared.steps.Accepted.{Accepted}
+use Rattle.tx_journal.proofs.Extended.{all_made, history_more, journal_more, more, seen_at_end}
+use Rattle.tx_journal.specs.Entries.{accepted_of, history_of}
+use Rattle.tx_journal.specs.Laws.{SessionLaws}
+use Rattle.tx_journal.specs.Lives.{lives}
+use Rattle.tx_journal.specs.Rooms.{HasPlaces, IsAdded, IsCounted, SameRecord}
+use Rattle.tx_journal.specs.Sessions.{HasRoom, IsAtEnd, IsJournal, Kept, kept_of, start_of}
+use Rattle.tx_journal.specs.declared.entry.Entry.{Entry}
+use Rattle.tx_journal.specs.declared.journal.Journal.{Journal}
+use Rattle.tx_laws.specs.Sound.{IsSound}
+use Rattle.tx_live.specs.Content.{view_of}
+use Rattle.tx_live.specs.declared.content.Content.{Content}
+use Rattle.tx_live.specs.declared.inverse.Inverse.{Inverse}
+use Rattle.tx_model.specs.Answer.{Lawful}
+use Rattle.tx_model.specs.History.{table_of}
+use Rattle.tx_model.specs.Membership.{Table}
+use Rattle.tx_model.specs.State.{State, booted}
+use Rattle.tx_model.specs.View.{View, view}
+
+-- the room of a session, told by its machine's view
+abbrev pub IsKeptSo : Content → Journal → ℕ → ℕ → Type 0
+IsKeptSo machine j width count = IsJournal (kept_of machine j width count) × HasRoom (kept_of machine j width count) j.live (vec_capacity j.entries) (vec_capacity j.inverses)
+
+table_seen : (k : Kept) → view_of k.machine ≡ view (start_of k) (history_of k.entries) → (view_of k.machine).table ≡ table_of (start_of k) (history_of k.entries)
+unfolding view
+table_seen k seen = ap (λ (V : View). V.table) seen
+
+module _ (laws : SessionLaws) (machine : Content) (j : Journal) (width count : ℕ) (is : IsKeptSo machine j width count) (at_end : IsAtEnd (kept_of machine j width count)) where
+  seen : view_of machine ≡ view (booted width count) (history_of j.entries.items)
+  seen = seen_at_end (kept_of machine j width count) is.0 at_end
+
+  pub sound_now : IsSound (view_of machine)
+  sound_now = subst IsSound (sym seen) (laws.sound (booted width count) (history_of j.entries.items) is.0.lawful)
+
+  pub counted_now : IsCounted machine j
+  counted_now = record {
+    lives = subst (λ (t : Table). lives t ≤ j.live) (sym (table_seen (kept_of machine j width count) seen)) is.1.counted;
+    places = record { entries = is.1.entries; inverses = is.1.inverses };
+  }
+
+  -- where nothing was added
+  pub kept_same : (new : Content) (after : Journal) → new ≡ machine → SameRecord after j → IsCounted machine after → IsKeptSo new after width count
+  kept_same new after same stays counted =
+      let back : kept_of machine j width count ≡ kept_of new after width count
+      = λ i. record { machine = sym same i; entries = sym stays.entries i; inverses = sym stays.inverses i; width = width; count = count } in
+      (subst IsJournal back is.0,
+      subst (λ (k : Kept). HasRoom k after.live (vec_capacity after.entries) (vec_capacity after.inverses)) back
+      (record {
+        counted = subst (λ (t : Table). lives t ≤ after.live) (table_seen (kept_of machine j width count) seen) counted.lives;
+        entries = subst (λ (xs : List Entry). length xs + after.live ≤ vec_capacity after.entries) stays.entries counted.places.entries;
+        inverses = subst (λ (xs : List Entry). length xs + after.live ≤ vec_capacity after.inverses) stays.entries counted.places.inverses;
+      }))
+
+  -- where an entry was added
+  pub kept_more : (entry : Entry) (new : Content) (after : Journal) → IsAdded machine j entry new after →
+      ((start : State) (earlier : List Accepted) → Lawful start earlier → view_of machine ≡ view start earlier → Lawful start (accepted_of entry ∷ earlier) × (view_of new ≡ view start (accepted_of entry ∷ earlier))) →
+      IsKeptSo new after width count
+  kept_more entry new after added along =
+      let next = along (booted width count) (history_of j.entries.items) is.0.lawful seen in
+      let same : more (kept_of machine j width count) entry added.inverse new ≡ kept_of new after width count
+      = λ i. record { machine = new; entries = sym added.entries i; inverses = sym added.inverses i; width = width; count = count } in
+      let there : view_of new ≡ view (booted width count) (history_of after.entries.items)
+      = next.1 ∙ ap (view (booted width count)) (sym (history_more j.entries.items entry) ∙ ap history_of (sym added.entries)) in
+      (subst IsJournal same (journal_more (kept_of machine j width count) entry added.inverse new is.0 at_end next.0 next.1 added.leads added.undoes),
+      record {
+        counted = subst (λ (t : Table). lives t ≤ after.live) (table_seen (kept_of new after width count) there) added.counted.lives;
+        entries = added.counted.places.entries;
+        inverses = added.counted.places.inverses;
+      })
+
+  -- whichever
+  pub kept_after : (entry : Entry) (new : Content) (after : Journal) (made : Bool) → (made ≡ true → IsAdded machine j entry new after) → (made ≡ false → new ≡ machine) → (made ≡ false → SameRecord after j) →
+      (made ≡ false → IsCounted machine after) →
+      (made ≡ true → (start : State) (earlier : List Accepted) → Lawful start earlier → view_of machine ≡ view start earlier → Lawful start (accepted_of entry ∷ earlier) × (view_of new ≡ view start (accepted_of entry ∷ earlier))) →
+      IsKeptSo new after width count
+  kept_after entry new after true added same stays counted along = kept_more entry new after (added refl) (along refl)
+  kept_after entry new after false added same stays counted along = kept_same new after (same refl) (stays refl) (counted refl)

@@ -1,0 +1,58 @@
+//! Steps of a session.
+ghost use Rattle.std.specs.Prelude.{◌≡◌, ◌≢◌, ◌⊎◌, ◌++◌, ◌∷◌, []};
+ghost use Rattle.tx_base.specs.declared.steps.Reply.TheVariants.{No};
+ghost use Rattle.tx_journal.specs.Sessions.{IsAtEnd, SameBoot};
+ghost use Rattle.tx_live.specs.Content.{view_of};
+ghost use Rattle.tx_model.specs.Answer.{IsAccepted, answer};
+ghost use Rattle.tx_step.specs.Steps.{IsKernelAbort, IsXabort};
+
+use crate::laws::laws;
+use crate::making::record;
+use crate::session::Session;
+use std::alloc::Global;
+use tx_base::{Refusal, Reply, Step};
+
+impl Session {
+    /// Makes a step of a worker at the end of the journal, as `Machine::step` does. Where it is accepted
+    /// the journal has its entry then; where it is refused nothing changed.
+    ///
+    /// `NoMemory` may come where another reason to refuse it would, since the place of its entry is
+    /// reserved first; but never to a member's sys_xabort, nor to the kernel's abort.
+    pub fn step(&mut self, alloc: Global, worker: u16, step: &Step) -> Reply
+        requires { IsAtEnd self.old }
+        ensures answer { (result ≡ No Refusal.NoMemory) ⊎ (answer (view_of self.old.machine) step.now ≡ result) }
+        ensures accepted { IsAccepted result → self.new.entries ≡ self.old.entries ++ record { step = step.now; worker = worker; reply = result } ∷ [] }
+        ensures refused { (IsAccepted result → ⊥) → self.new ≡ self.old }
+        ensures boot { SameBoot self.new self.old }
+        ensures at_end { IsAtEnd self.new }
+        ensures xabort { IsXabort self.old.machine step.now → result ≢ No Refusal.NoMemory }
+        ensures kernel { IsKernelAbort step.now → result ≢ No Refusal.NoMemory }
+    {
+        let mut reply = Reply::Ended;
+        self.step_into(alloc, worker, step, &mut reply);
+        reply
+    }
+
+    /// Makes a step as `step` does, and puts its reply where it is to stand: for a caller that makes
+    /// many, since a reply is large.
+    pub fn step_into(&mut self, alloc: Global, worker: u16, step: &Step, reply: &mut Reply)
+        requires { IsAtEnd self.old }
+        ensures answer { (reply.new ≡ No Refusal.NoMemory) ⊎ (answer (view_of self.old.machine) step.now ≡ reply.new) }
+        ensures accepted { IsAccepted reply.new → self.new.entries ≡ self.old.entries ++ record { step = step.now; worker = worker; reply = reply.new } ∷ [] }
+        ensures refused { (IsAccepted reply.new → ⊥) → self.new ≡ self.old }
+        ensures boot { SameBoot self.new self.old }
+        ensures at_end { IsAtEnd self.new }
+        ensures xabort { IsXabort self.old.machine step.now → reply.new ≢ No Refusal.NoMemory }
+        ensures kernel { IsKernelAbort step.now → reply.new ≢ No Refusal.NoMemory }
+    {
+        laws();
+        let _made = record(
+            alloc,
+            &mut self.machine,
+            &mut self.journal,
+            worker,
+            step,
+            reply,
+        );
+    }
+}
