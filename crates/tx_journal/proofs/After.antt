@@ -1,7 +1,6 @@
 -- How many transactions are live after a step.
-use Rattle.std.proofs.Common.{◌≡◌, ◌≢◌, ℕ, zero, suc, ◌+◌, ◌<◌, ◌≤◌, ◌==◌, Bool, true, false, Option, Some, None, is_some, IsSome, IsOk, Result, Ok, Err, is_err, if◌then◌else◌, arith, refl, sym, ap, subst, ◌∙◌, eq-eqb, eqb-true, ltb-true, true≢false}
+use Rattle.std.proofs.Common.{◌≡◌, ℕ, zero, suc, ◌+◌, ◌<◌, ◌≤◌, ◌==◌, Bool, true, false, Option, Some, None, is_some, IsOk, Result, Ok, Err, is_err, if◌then◌else◌, arith, refl, sym, ap, subst, ◌∙◌, eqb-true, ltb-true, true≢false}
 use Rattle.std.proofs.lemmas.Bool.{both_ways}
-use Rattle.tx_base.specs.Slots.{slot_at}
 use Rattle.tx_base.specs.declared.marks.Mark.{Mark}
 use Rattle.tx_base.specs.declared.names.Pid.{Pid}
 use Rattle.tx_base.specs.declared.steps.Call.TheVariants.{SysXabort}
@@ -10,16 +9,16 @@ use Rattle.tx_base.specs.declared.steps.Step.TheVariants.{Call as Calls, Deliver
 use Rattle.tx_base.specs.declared.steps.Reply.{Reply}
 use Rattle.tx_journal.proofs.Lives.{LessBut, among, counted, no_more}
 use Rattle.tx_journal.specs.Lives.{has_place, lives, lives_to, one_if, starter_by, starter_of}
-use Rattle.tx_laws.specs.Fits.{Fits, FitsWithin}
+use Rattle.tx_laws.specs.Fits.{Fits}
 use Rattle.tx_laws.specs.Sound.{IsSound}
 use Rattle.tx_laws.specs.TwoParts.{parts_view}
 use Rattle.tx_live.specs.Content.{view_of}
 use Rattle.tx_live.specs.declared.content.Content.{Content}
-use Rattle.tx_model.specs.Events.{Event, process_of}
-use Rattle.tx_model.specs.Membership.{Kind, Ordinary, Forking, Beginning, Leaving, Aborting, Progress, Continues, Parks, Forks, Begins, Role, Outside, Within, Commits, Aborts, Table, is_live, is_of, kind_of, kind_role, marks_after, member_end_role, ordinary_role, parked, role, table_after, unmarked, others_open, says_ended}
+use Rattle.tx_model.specs.Events.{process_of}
+use Rattle.tx_model.specs.Membership.{Kind, Ordinary, Forking, Beginning, Leaving, Aborting, Continues, Parks, Forks, Begins, Role, Outside, Within, Commits, Aborts, Table, is_live, is_of, kind_of, kind_role, marks_after, member_end_role, ordinary_role, parked, role, table_after, unmarked, others_open, says_ended}
 use Rattle.tx_model.specs.State.{put_at, is_between}
 use Rattle.tx_step.specs.Steps.{IsXabort}
-use Rattle.tx_model.specs.View.{View, event_on, first_reply, next, next_by, role_on}
+use Rattle.tx_model.specs.View.{View, event_on, first_reply, next, role_on}
 
 -- a mark that was taken out names nobody, and another one whom it named
 left_marks : (s n : ℕ) (mark : Option Mark) → is_of n (unmarked s mark) ≡ true → is_of n mark ≡ true
@@ -60,6 +59,7 @@ kind_begins t p Ordinary r (Some m) u defers is = by (says_ended r) is
     end : (others : Bool) → member_end_role others m.starter.0 ≡ Within u (Begins defers) → u ≡ m.starter.0
     end true is = cc
     end false is = cc
+
     by : (ends : Bool) → ordinary_role ends t m.starter.0 p ≡ Within u (Begins defers) → u ≡ m.starter.0
     by true is = end (others_open t m.starter.0 p t.width) is
     by false is = cc
@@ -83,6 +83,7 @@ kind_forks t p Ordinary r (Some m) u c is = by (says_ended r) is
     end : (others : Bool) → member_end_role others m.starter.0 ≡ Within u (Forks c) → u ≡ m.starter.0
     end true is = cc
     end false is = cc
+
     by : (ends : Bool) → ordinary_role ends t m.starter.0 p ≡ Within u (Forks c) → u ≡ m.starter.0
     by true is = end (others_open t m.starter.0 p t.width) is
     by false is = cc
@@ -134,12 +135,16 @@ lives_after V step sound after = by (is_live V.table s) refl (is_live new s) ref
   where
     s : ℕ
     s = starter_of V.table step
+
     new : Table
     new = (next V step).table
+
     within : (1 ≤ s) × (s ≤ V.table.width) → lives new + one_if (is_live V.table s) ≤ lives V.table + one_if (is_live new s)
     within bounds = subst (λ (w : ℕ). lives_to new w + one_if (is_live V.table s) ≤ lives V.table + one_if (is_live new s)) (sym (same_width V step)) (among s new V.table V.table.width bounds.0 bounds.1 (step_less V step))
+
     all_less : is_live new s ≡ false → (n : ℕ) → is_live new n ≡ true → is_live V.table n ≡ true
     all_less dead n live = step_less V step n (λ same. true≢false (sym (ap (is_live new) (sym same) ∙ live) ∙ dead)) live
+
     by : (a : Bool) → is_live V.table s ≡ a → (b : Bool) → is_live new s ≡ b → lives new + one_if (is_live V.table s) ≤ lives V.table + one_if (is_live new s)
     by true was b is = within (starts_within V sound s was)
     by false was true is =
@@ -195,16 +200,12 @@ aborts_is V (Calls p call) is = cc
 aborts_is V (Deliver p signo) is = cc
 aborts_is V (KernelAbort s) is = kernel_ends V s
 
-some_true : {A : Type 0} (x : Option A) → IsSome x → is_some x ≡ true
-some_true None some = absurd some
-some_true (Some a) some = refl
-
 -- a member's sys_xabort has its place
 pub xabort_place : (k : Content) (step : Step) → IsXabort k step → has_place (view_of k).table step ≡ true
 unfolding view_of parts_view
-xabort_place k step (pid, same, some) = subst (λ (x : Step). has_place (view_of k).table x ≡ true) (sym same) (some_true (slot_at k.marks pid.0) some)
+xabort_place k step (pid, same, some) = subst (λ (x : Step). has_place (view_of k).table x ≡ true) (sym same) some
 
 -- and so it is not refused
 pub not_refused : {T E : Type 0} (r : Result T E) → IsOk r → is_err r ≡ true → ⊥
 not_refused (Ok x) ok is = cc
-not_refused (Err x) ok is = absurd ok
+not_refused (Err x) ok is = cc

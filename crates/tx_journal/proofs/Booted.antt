@@ -1,5 +1,5 @@
 -- A session as it boots, and what its readers say.
-use Rattle.std.proofs.Common.{◌≡◌, ℕ, zero, suc, ◌+◌, ◌≤◌, [], ◌∷◌, List, length, arith, refl, ap}
+use Rattle.std.proofs.Common.{◌≡◌, ℕ, zero, suc, ◌≤◌, [], ◌∷◌, List, length, arith, refl, ap}
 use Rattle.tx_journal.specs.Entries.{history_of}
 use Rattle.tx_journal.specs.Lives.{lives, lives_to}
 use Rattle.tx_journal.specs.Sessions.{HasRoom, IsJournal, kept_of}

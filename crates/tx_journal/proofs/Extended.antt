@@ -1,9 +1,7 @@
 -- A journal with one more entry.
-use Rattle.std.proofs.Common.{◌≡◌, ℕ, ◌+◌, ◌≤◌, Bool, true, false, List, [], ◌∷◌, ◌++◌, length, map, reverse, take, arith, refl, sym, ap, ap₂, subst, ◌∙◌, length-append}
+use Rattle.std.proofs.Common.{◌≡◌, ℕ, ◌+◌, List, [], ◌∷◌, ◌++◌, length, map, reverse, take, arith, sym, ap, subst, ◌∙◌, length-append}
 use Rattle.std.proofs.lemmas.List.{map-append, reverse-append, take_all}
 use Rattle.tx_base.specs.declared.steps.Accepted.{Accepted}
-use Rattle.tx_base.specs.declared.steps.Reply.{Reply}
-use Rattle.tx_base.specs.declared.steps.Step.{Step}
 use Rattle.tx_core.specs.Undo.{LeadsBack}
 use Rattle.tx_journal.specs.Entries.{accepted_of, history_of}
 use Rattle.tx_journal.specs.Sessions.{Kept, IsAtEnd, IsJournal, made_of, position_of, start_of}
@@ -60,9 +58,12 @@ module _ (k : Kept) (e : Entry) (inverse : Inverse) (new : Content) where
     where
       whole : history_of (made_of more) ≡ accepted_of e ∷ history_of k.entries
       whole = ap history_of (all_made more (more_at_end at_end)) ∙ history_more k.entries e
+
       before : WalksBack (start_of k) k.machine (reverse k.inverses) (history_of k.entries)
       before = subst (λ (es : List Entry). WalksBack (start_of k) k.machine (reverse k.inverses) (history_of es)) (all_made k at_end) is.walks
+
       first : WalksBack (start_of k) new (inverse ∷ reverse k.inverses) (accepted_of e ∷ history_of k.entries)
       first = (seen, leads, (k.machine, undoes, before))
+
       walked : WalksBack (start_of k) new (reverse (k.inverses ++ inverse ∷ [])) (accepted_of e ∷ history_of k.entries)
       walked = subst (λ (xs : List Inverse). WalksBack (start_of k) new xs (accepted_of e ∷ history_of k.entries)) (sym (reverse-append k.inverses (inverse ∷ []))) first

@@ -1,19 +1,18 @@
 -- What a session keeps after a step.
-use Rattle.std.proofs.Common.{◌≡◌, ℕ, ◌+◌, ◌≤◌, ◌++◌, ◌∷◌, [], Bool, true, false, List, length, arith, refl, sym, ap, subst, ◌∙◌}
+use Rattle.std.proofs.Common.{◌≡◌, ℕ, ◌+◌, ◌≤◌, ◌∷◌, Bool, true, false, List, length, refl, sym, ap, subst, ◌∙◌}
 use Rattle.std.specs.Prelude.{vec_capacity}
 use Rattle.tx_base.specs.declared.steps.Accepted.{Accepted}
-use Rattle.tx_journal.proofs.Extended.{all_made, history_more, journal_more, more, seen_at_end}
+use Rattle.tx_journal.proofs.Extended.{history_more, journal_more, more, seen_at_end}
 use Rattle.tx_journal.specs.Entries.{accepted_of, history_of}
 use Rattle.tx_journal.specs.Laws.{SessionLaws}
 use Rattle.tx_journal.specs.Lives.{lives}
-use Rattle.tx_journal.specs.Rooms.{HasPlaces, IsAdded, IsCounted, SameRecord}
+use Rattle.tx_journal.specs.Rooms.{IsAdded, IsCounted, SameRecord}
 use Rattle.tx_journal.specs.Sessions.{HasRoom, IsAtEnd, IsJournal, Kept, kept_of, start_of}
 use Rattle.tx_journal.specs.declared.entry.Entry.{Entry}
 use Rattle.tx_journal.specs.declared.journal.Journal.{Journal}
 use Rattle.tx_laws.specs.Sound.{IsSound}
 use Rattle.tx_live.specs.Content.{view_of}
 use Rattle.tx_live.specs.declared.content.Content.{Content}
-use Rattle.tx_live.specs.declared.inverse.Inverse.{Inverse}
 use Rattle.tx_model.specs.Answer.{Lawful}
 use Rattle.tx_model.specs.History.{table_of}
 use Rattle.tx_model.specs.Membership.{Table}
@@ -45,14 +44,15 @@ module _ (laws : SessionLaws) (machine : Content) (j : Journal) (width count : �
   pub kept_same : (new : Content) (after : Journal) → new ≡ machine → SameRecord after j → IsCounted machine after → IsKeptSo new after width count
   kept_same new after same stays counted =
       let back : kept_of machine j width count ≡ kept_of new after width count
-      = λ i. record { machine = sym same i; entries = sym stays.entries i; inverses = sym stays.inverses i; width = width; count = count } in
-      (subst IsJournal back is.0,
-      subst (λ (k : Kept). HasRoom k after.live (vec_capacity after.entries) (vec_capacity after.inverses)) back
-      (record {
-        counted = subst (λ (t : Table). lives t ≤ after.live) (table_seen (kept_of machine j width count) seen) counted.lives;
-        entries = subst (λ (xs : List Entry). length xs + after.live ≤ vec_capacity after.entries) stays.entries counted.places.entries;
-        inverses = subst (λ (xs : List Entry). length xs + after.live ≤ vec_capacity after.inverses) stays.entries counted.places.inverses;
-      }))
+      = λ i. record { machine = sym same i; entries = sym stays.entries i; inverses = sym stays.inverses i; width = width; count = count } in (
+        subst IsJournal back is.0,
+        subst (λ (k : Kept). HasRoom k after.live (vec_capacity after.entries) (vec_capacity after.inverses)) back
+            (record {
+              counted = subst (λ (t : Table). lives t ≤ after.live) (table_seen (kept_of machine j width count) seen) counted.lives;
+              entries = subst (λ (xs : List Entry). length xs + after.live ≤ vec_capacity after.entries) stays.entries counted.places.entries;
+              inverses = subst (λ (xs : List Entry). length xs + after.live ≤ vec_capacity after.inverses) stays.entries counted.places.inverses;
+            }),
+      )
 
   -- where an entry was added
   pub kept_more : (entry : Entry) (new : Content) (after : Journal) → IsAdded machine j entry new after →
@@ -63,13 +63,14 @@ module _ (laws : SessionLaws) (machine : Content) (j : Journal) (width count : �
       let same : more (kept_of machine j width count) entry added.inverse new ≡ kept_of new after width count
       = λ i. record { machine = new; entries = sym added.entries i; inverses = sym added.inverses i; width = width; count = count } in
       let there : view_of new ≡ view (booted width count) (history_of after.entries.items)
-      = next.1 ∙ ap (view (booted width count)) (sym (history_more j.entries.items entry) ∙ ap history_of (sym added.entries)) in
-      (subst IsJournal same (journal_more (kept_of machine j width count) entry added.inverse new is.0 at_end next.0 next.1 added.leads added.undoes),
-      record {
-        counted = subst (λ (t : Table). lives t ≤ after.live) (table_seen (kept_of new after width count) there) added.counted.lives;
-        entries = added.counted.places.entries;
-        inverses = added.counted.places.inverses;
-      })
+      = next.1 ∙ ap (view (booted width count)) (sym (history_more j.entries.items entry) ∙ ap history_of (sym added.entries)) in (
+        subst IsJournal same (journal_more (kept_of machine j width count) entry added.inverse new is.0 at_end next.0 next.1 added.leads added.undoes),
+        record {
+          counted = subst (λ (t : Table). lives t ≤ after.live) (table_seen (kept_of new after width count) there) added.counted.lives;
+          entries = added.counted.places.entries;
+          inverses = added.counted.places.inverses;
+        },
+      )
 
   -- whichever
   pub kept_after : (entry : Entry) (new : Content) (after : Journal) (made : Bool) → (made ≡ true → IsAdded machine j entry new after) → (made ≡ false → new ≡ machine) → (made ≡ false → SameRecord after j) →

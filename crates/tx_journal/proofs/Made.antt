@@ -1,5 +1,5 @@
 -- The room of a journal as a step is made, and what is counted then.
-use Rattle.std.proofs.Common.{◌≡◌, ℕ, ◌+◌, ◌<◌, ◌≤◌, ◌^◌, ◌⊎◌, inl, inr, Bool, true, false, [], ◌∷◌, ◌++◌, length, arith, refl, sym, ap, subst, ◌∙◌, length-append}
+use Rattle.std.proofs.Common.{◌≡◌, ℕ, ◌+◌, ◌<◌, ◌≤◌, ◌⊎◌, inl, inr, Bool, true, false, [], ◌∷◌, ◌++◌, length, arith, sym, ap, subst, ◌∙◌, length-append}
 use Rattle.std.specs.Prelude.{vec_capacity}
 use Rattle.tx_base.specs.declared.steps.Reply.{Reply}
 use Rattle.tx_base.specs.declared.steps.Step.{Step}
@@ -7,7 +7,7 @@ use Rattle.tx_core.specs.Undo.{LeadsBack}
 use Rattle.tx_journal.proofs.After.{aborts_is, aborts_was, lives_after, lives_some}
 use Rattle.tx_journal.specs.Laws.{SessionLaws}
 use Rattle.tx_journal.specs.Lives.{has_place, lives, one_if, starter_of}
-use Rattle.tx_journal.specs.Rooms.{HasPlaces, IsAdded, IsCounted, IsReady}
+use Rattle.tx_journal.specs.Rooms.{IsAdded, IsCounted, IsReady}
 use Rattle.tx_journal.specs.declared.entry.Entry.{Entry}
 use Rattle.tx_journal.specs.declared.journal.Journal.{Journal}
 use Rattle.tx_laws.specs.Fits.{Fits}
@@ -22,7 +22,7 @@ use Rattle.tx_model.specs.View.{View, event_on, next, role_on}
 use Rattle.tx_step.specs.Steps.{IsStep}
 
 module _ (laws : SessionLaws) (old new : Content) (j : Journal) (step : Step) (reply : Reply) (inverse : Inverse)
-  (sound : IsSound (view_of old)) (at_end : length j.inverses.items ≡ length j.entries.items) (counted : IsCounted old j) (ready : IsReady (view_of old).table step j) (made : IsStep old step reply inverse new) where
+    (sound : IsSound (view_of old)) (at_end : length j.inverses.items ≡ length j.entries.items) (counted : IsCounted old j) (ready : IsReady (view_of old).table step j) (made : IsStep old step reply inverse new) where
   accepted : IsAccepted (answer (view_of old) step)
   accepted = subst IsAccepted (sym made.answered) made.accepted
 
@@ -104,13 +104,17 @@ module _ (laws : SessionLaws) (old new : Content) (j : Journal) (step : Step) (r
       where
         less : lives (next (view_of old) step).table ≤ after.live
         less = let most : lives (view_of old).table ≤ j.live = counted.lives in let b = bound in omega (arith, most, b, live)
+
         longer : length after.entries.items ≡ length j.entries.items + 1
         longer = ap length entries ∙ length-append j.entries.items (entry ∷ [])
+
         here : (room : ℕ) → ((length j.entries.items + (j.live + 2) ≤ room) ⊎ ((length j.entries.items + j.live ≤ room) × (has_place (view_of old).table step ≡ true))) → length after.entries.items + after.live ≤ room
         here room ready = let a = left after.live live room ready in omega (arith, a, longer)
+
         by_entries : IsReady (view_of old).table step j → (length j.entries.items + (j.live + 2) ≤ vec_capacity after.entries) ⊎ ((length j.entries.items + j.live ≤ vec_capacity after.entries) × (has_place (view_of old).table step ≡ true))
         by_entries (inl (p, few)) = let a = p.entries in inl (omega (arith, a, cap))
         by_entries (inr (p, has)) = let a = p.entries in inr (omega (arith, a, cap), has)
+
         by_inverses : IsReady (view_of old).table step j → (length j.entries.items + (j.live + 2) ≤ vec_capacity after.inverses) ⊎ ((length j.entries.items + j.live ≤ vec_capacity after.inverses) × (has_place (view_of old).table step ≡ true))
         by_inverses (inl (p, few)) = let a = p.inverses in inl (omega (arith, a, places))
         by_inverses (inr (p, has)) = let a = p.inverses in inr (omega (arith, a, places), has)

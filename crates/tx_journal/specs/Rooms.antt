@@ -1,7 +1,6 @@
 -- The room of a journal.
 use Rattle.std.specs.Prelude.{◌≡◌, ◌⊎◌, ℕ, ◌+◌, ◌≤◌, ◌<◌, ◌^◌, ◌++◌, ◌∷◌, [], true, length, vec_capacity}
 use Rattle.tx_base.specs.declared.steps.Step.{Step}
-use Rattle.tx_base.specs.declared.steps.Reply.{Reply}
 use Rattle.tx_core.specs.Undo.{LeadsBack}
 use Rattle.tx_journal.specs.Lives.{has_place, lives}
 use Rattle.tx_journal.specs.declared.entry.Entry.{Entry}

@@ -1,6 +1,5 @@
 -- What a session keeps, and what is so of it.
 use Rattle.std.specs.Prelude.{◌≡◌, ℕ, ◌+◌, ◌≤◌, List, length, reverse, take}
-use Rattle.tx_base.specs.declared.steps.Accepted.{Accepted}
 use Rattle.tx_journal.specs.Entries.{history_of}
 use Rattle.tx_journal.specs.Lives.{lives}
 use Rattle.tx_journal.specs.Walks.{WalksBack}

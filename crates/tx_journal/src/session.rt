@@ -36,7 +36,7 @@ impl Model for Session {
     ghost view = { λ session. kept_of session.machine session.journal session.width session.count };
 
     ghost invariant = { λ session. IsJournal (kept_of session.machine session.journal session.width session.count)
-      × HasRoom (kept_of session.machine session.journal session.width session.count) session.journal.live (vec_capacity session.journal.entries) (vec_capacity session.journal.inverses) };
+        × HasRoom (kept_of session.machine session.journal session.width session.count) session.journal.live (vec_capacity session.journal.entries) (vec_capacity session.journal.inverses) };
 }
 
 impl Session {

@@ -1,4 +1,4 @@
-use Rattle.std.proofs.Common.{◌≡◌, reverse, subst}
+use Rattle.std.proofs.Common.{◌≡◌, subst}
 use Rattle.tx_journal.proofs.Extended.{walks_view}
 use Rattle.tx_journal.specs.Entries.{history_of}
 use Rattle.tx_journal.specs.Sessions.{Kept, made_of, start_of}

@@ -1,6 +1,6 @@
-use Rattle.std.proofs.Common.{◌≡◌, sym, subst}
+use Rattle.std.proofs.Common.{sym, subst}
 use Rattle.tx_journal.proofs.Kept.{counted_now, kept_after, sound_now}
-use Rattle.tx_journal.specs.Sessions.{Kept, IsAtEnd}
+use Rattle.tx_journal.specs.Sessions.{IsAtEnd}
 use Rattle.tx_journal.proofs.session.Session.step_into.Goals as goal
 
 pub record-made-requires-clause-sound : goal.record-made-requires-clause-sound
