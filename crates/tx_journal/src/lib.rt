@@ -1,4 +1,4 @@
-//! One history of steps, which is walked both ways.
+//! One history of steps, which is to be walked both ways.
 #![tactic(auto)]
 
 mod entry;
@@ -8,5 +8,5 @@ mod making;
 mod session;
 mod steps;
 
-pub use entry::{AtStart, Entry, ForwardFault, GotoFault};
+pub use entry::Entry;
 pub use session::Session;
