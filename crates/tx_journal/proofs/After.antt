@@ -15,7 +15,7 @@ use Rattle.tx_laws.specs.TwoParts.{parts_view}
 use Rattle.tx_live.specs.Content.{view_of}
 use Rattle.tx_live.specs.declared.content.Content.{Content}
 use Rattle.tx_model.specs.Events.{process_of}
-use Rattle.tx_model.specs.Membership.{Kind, Ordinary, Forking, Beginning, Leaving, Aborting, Continues, Parks, Forks, Begins, Role, Outside, Within, Commits, Aborts, Table, is_live, is_of, kind_of, kind_role, marks_after, member_end_role, ordinary_role, parked, role, table_after, unmarked, others_open, says_ended}
+use Rattle.tx_model.specs.Membership.{Kind, Ordinary, Forking, Beginning, Leaving, Aborting, Progress, Continues, Parks, Forks, Begins, Role, Outside, Within, Commits, Aborts, Table, is_live, is_of, kind_of, kind_role, marks_after, member_end_role, ordinary_role, parked, role, table_after, unmarked, others_open, says_ended}
 use Rattle.tx_model.specs.State.{put_at, is_between}
 use Rattle.tx_step.specs.Steps.{IsXabort}
 use Rattle.tx_model.specs.View.{View, event_on, first_reply, next, role_on}
@@ -51,71 +51,42 @@ role_less (Within u (Begins defers)) p t s begins forks n other is = put_less s 
 role_less (Commits u) p t s begins forks n other is = left_marks u n (t.marks n) is
 role_less (Aborts u k) p t s begins forks n other is = left_marks u n (t.marks n) is
 
--- a step that begins a transaction, or whose member forks, is of the starter by whose number its mark goes
-kind_begins : (t : Table) (p : ℕ) (kind : Kind) (r : Reply) (mark : Option Mark) (u : ℕ) (defers : Bool) → kind_role t p kind r mark ≡ Within u (Begins defers) → u ≡ starter_by p mark
-kind_begins t p Ordinary r None u defers is = cc
-kind_begins t p Ordinary r (Some m) u defers is = by (says_ended r) is
+-- a step inside of a transaction, or that begins it, is of the starter by whose number its mark goes
+kind_within : (t : Table) (p : ℕ) (kind : Kind) (r : Reply) (mark : Option Mark) (u : ℕ) (part : Progress) → kind_role t p kind r mark ≡ Within u part → u ≡ starter_by p mark
+kind_within t p Ordinary r None u part is = cc
+kind_within t p Ordinary r (Some m) u part is = by (says_ended r) is
   where
-    end : (others : Bool) → member_end_role others m.starter.0 ≡ Within u (Begins defers) → u ≡ m.starter.0
+    end : (others : Bool) → member_end_role others m.starter.0 ≡ Within u part → u ≡ m.starter.0
     end true is = cc
     end false is = cc
 
-    by : (ends : Bool) → ordinary_role ends t m.starter.0 p ≡ Within u (Begins defers) → u ≡ m.starter.0
+    by : (ends : Bool) → ordinary_role ends t m.starter.0 p ≡ Within u part → u ≡ m.starter.0
     by true is = end (others_open t m.starter.0 p t.width) is
     by false is = cc
-kind_begins t p (Forking c) r None u defers is = cc
-kind_begins t p (Forking c) r (Some m) u defers is = cc
-kind_begins t p (Beginning d) r None u defers is = cc
-kind_begins t p (Beginning d) r (Some m) u defers is = cc
-kind_begins t p Leaving r None u defers is = cc
-kind_begins t p Leaving r (Some m) u defers is = by (others_open t m.starter.0 p t.width) is
+kind_within t p (Forking c) r None u part is = cc
+kind_within t p (Forking c) r (Some m) u part is = cc
+kind_within t p (Beginning d) r None u part is = cc
+kind_within t p (Beginning d) r (Some m) u part is = cc
+kind_within t p Leaving r None u part is = cc
+kind_within t p Leaving r (Some m) u part is = by (others_open t m.starter.0 p t.width) is
   where
-    by : (others : Bool) → member_end_role others m.starter.0 ≡ Within u (Begins defers) → u ≡ m.starter.0
+    by : (others : Bool) → member_end_role others m.starter.0 ≡ Within u part → u ≡ m.starter.0
     by true is = cc
     by false is = cc
-kind_begins t p Aborting r None u defers is = cc
-kind_begins t p Aborting r (Some m) u defers is = cc
+kind_within t p Aborting r None u part is = cc
+kind_within t p Aborting r (Some m) u part is = cc
 
-kind_forks : (t : Table) (p : ℕ) (kind : Kind) (r : Reply) (mark : Option Mark) (u c : ℕ) → kind_role t p kind r mark ≡ Within u (Forks c) → u ≡ starter_by p mark
-kind_forks t p Ordinary r None u c is = cc
-kind_forks t p Ordinary r (Some m) u c is = by (says_ended r) is
-  where
-    end : (others : Bool) → member_end_role others m.starter.0 ≡ Within u (Forks c) → u ≡ m.starter.0
-    end true is = cc
-    end false is = cc
-
-    by : (ends : Bool) → ordinary_role ends t m.starter.0 p ≡ Within u (Forks c) → u ≡ m.starter.0
-    by true is = end (others_open t m.starter.0 p t.width) is
-    by false is = cc
-kind_forks t p (Forking d) r None u c is = cc
-kind_forks t p (Forking d) r (Some m) u c is = cc
-kind_forks t p (Beginning d) r None u c is = cc
-kind_forks t p (Beginning d) r (Some m) u c is = cc
-kind_forks t p Leaving r None u c is = cc
-kind_forks t p Leaving r (Some m) u c is = by (others_open t m.starter.0 p t.width) is
-  where
-    by : (others : Bool) → member_end_role others m.starter.0 ≡ Within u (Forks c) → u ≡ m.starter.0
-    by true is = cc
-    by false is = cc
-kind_forks t p Aborting r None u c is = cc
-kind_forks t p Aborting r (Some m) u c is = cc
-
-role_begins : (t : Table) (step : Step) (r : Reply) (u : ℕ) (defers : Bool) → role t step r ≡ Within u (Begins defers) → u ≡ starter_of t step
-role_begins t (Calls p call) r u defers is = kind_begins t p.0 (kind_of call) r (t.marks p.0) u defers is
-role_begins t (Deliver p signo) r u defers is = kind_begins t p.0 Ordinary r (t.marks p.0) u defers is
-role_begins t (KernelAbort s) r u defers is = cc
-
-role_forks : (t : Table) (step : Step) (r : Reply) (u c : ℕ) → role t step r ≡ Within u (Forks c) → u ≡ starter_of t step
-role_forks t (Calls p call) r u c is = kind_forks t p.0 (kind_of call) r (t.marks p.0) u c is
-role_forks t (Deliver p signo) r u c is = kind_forks t p.0 Ordinary r (t.marks p.0) u c is
-role_forks t (KernelAbort s) r u c is = cc
+role_within : (t : Table) (step : Step) (r : Reply) (u : ℕ) (part : Progress) → role t step r ≡ Within u part → u ≡ starter_of t step
+role_within t (Calls p call) r u part is = kind_within t p.0 (kind_of call) r (t.marks p.0) u part is
+role_within t (Deliver p signo) r u part is = kind_within t p.0 Ordinary r (t.marks p.0) u part is
+role_within t (KernelAbort s) r u part is = cc
 
 -- after a step no other starter is live that was not
 step_less : (V : View) (step : Step) → LessBut (starter_of V.table step) (next V step).table V.table
 unfolding next
 step_less V step =
-    role_less (role_on V step) (process_of step) V.table (starter_of V.table step) (λ u defers is. role_begins V.table step (first_reply V step) u defers is)
-    (λ u c is. role_forks V.table step (first_reply V step) u c is)
+    role_less (role_on V step) (process_of step) V.table (starter_of V.table step) (λ u defers is. role_within V.table step (first_reply V step) u (Begins defers) is)
+    (λ u c is. role_within V.table step (first_reply V step) u (Forks c) is)
 
 same_width : (V : View) (step : Step) → (next V step).table.width ≡ V.table.width
 unfolding next
