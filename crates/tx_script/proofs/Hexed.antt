@@ -2,8 +2,8 @@
 use Rattle.std.proofs.Common.{◌≡◌, ℕ, zero, suc, ◌+◌, ◌*◌, ◌/◌, ◌%◌, ◌<◌, ◌≤◌, List, [], ◌∷◌, ◌++◌, Ok, length, take, get_or, slice_index, refl, ap, ◌∙◌, sym, arith}
 use Rattle.std.proofs.lemmas.List.{append_assoc, length_push, take_all, take_more}
 use Rattle.hex.specs.Hex.{IsBytes, decode_of, encode_lower, encode_with, lower_digits}
-use Rattle.tx_script.specs.Each.{each_text}
 use Rattle.hex.proofs.HexLemmas.{decode_of-encode_lower, length-encode_with}
+use Rattle.tx_text.specs.Bytes.{two_digits}
 
 -- it has two digits for each byte
 pub count_of : (word bytes : List ℕ) → word ≡ encode_lower bytes → length word ≡ 2 * length bytes
@@ -36,19 +36,10 @@ digits_at word bytes i e are inside =
     rw e (high_digit bytes i at, low_digit bytes i at, omega arith)
 
 -- the text of one byte more
-abbrev pub pair_text : ℕ → List ℕ
-pair_text byte = slice_index lower_digits (byte / 16) ∷ slice_index lower_digits (byte % 16) ∷ []
-
-pub hex_push : (bytes : List ℕ) (byte : ℕ) → encode_lower (bytes ++ byte ∷ []) ≡ encode_lower bytes ++ pair_text byte
+pub hex_push : (bytes : List ℕ) (byte : ℕ) → encode_lower (bytes ++ byte ∷ []) ≡ encode_lower bytes ++ two_digits byte
 unfolding encode_with
 hex_push [] byte = refl
 hex_push (first ∷ bytes) byte = ap (λ (t : List ℕ). slice_index lower_digits (first / 16) ∷ slice_index lower_digits (first % 16) ∷ t) (hex_push bytes byte)
-
--- the text of each byte, one after another
-pub each_pair : (bytes : List ℕ) → each_text pair_text bytes ≡ encode_lower bytes
-unfolding encode_with
-each_pair [] = refl
-each_pair (byte ∷ bytes) = ap (λ (t : List ℕ). slice_index lower_digits (byte / 16) ∷ slice_index lower_digits (byte % 16) ∷ t) (each_pair bytes)
 
 bytes_push : (bytes : List ℕ) (byte : ℕ) → IsBytes bytes → byte < 256 → IsBytes (bytes ++ byte ∷ [])
 bytes_push [] byte are small zero = small

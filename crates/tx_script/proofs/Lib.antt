@@ -3,14 +3,9 @@ pub mod FirstWord
 pub mod Growing
 pub mod Heading
 pub mod Hexed
-pub mod Known
 pub mod LineEnds
-pub mod Listed
-pub mod OneMore
 pub mod Reported
 pub mod SignalLists
 pub mod Spelled
-pub mod StateSpelled
 pub mod StepParts
-pub mod Upto
 pub mod Written

@@ -14,8 +14,7 @@ use Rattle.tx_model.specs.Answer.{answer, IsAccepted, Lawful}
 use Rattle.tx_model.specs.Schedules.{recorded, answers_of, history_of}
 use Rattle.tx_model.specs.State.{State}
 use Rattle.tx_model.specs.View.{View, view}
-use Rattle.tx_script.specs.Replies.{line_text}
-use Rattle.tx_script.specs.Report.{lines_text}
+use Rattle.tx_script.specs.Report.{line_text, lines_text}
 
 -- so far: the steps that are left lead from the history so far to that of the whole schedule, and their lines from the
 -- text so far to the whole text

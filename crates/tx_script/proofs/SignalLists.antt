@@ -14,8 +14,9 @@ use Rattle.std.proofs.lemmas.Nat.Bits.{bit_at_or, bit_at-lt, bit_at-pow_same, bi
 use Rattle.tx_base.specs.Signals.{bits_of, set_of_bits}
 use Rattle.tx_base.specs.declared.signals.SigSet.{SigSet}
 use Rattle.tx_model.specs.SignalSets.{standard_signals, realtime_signals, is_in_set, is_known, is_one_of, set_of, with_one_more}
-use Rattle.tx_script.specs.Sets.{members, set_text, AreListed, AreRising, FitsSet}
-use Rattle.tx_script.specs.Lists.{list_text, more_text}
+use Rattle.tx_text.specs.Lists.{list_text, more_text}
+use Rattle.tx_text.specs.Sets.{members, set_text}
+use Rattle.tx_script.specs.Sets.{AreListed, AreRising, FitsSet}
 use Rattle.tx_script.specs.Words.{parts_at}
 use Rattle.tx_script.proofs.FirstWord.{free_decimal, parts_at-free, parts_at-word, same_parts, split_parts}
 use borrow.Author.Tests.{ltb-true}

@@ -11,7 +11,8 @@ use Rattle.tx_base.specs.declared.steps.Call.{Call}
 use Rattle.tx_base.specs.declared.steps.Call.TheVariants as call
 use Rattle.tx_base.specs.declared.steps.When.{When}
 use Rattle.tx_base.specs.declared.steps.When.TheVariants.{Always, IfRet}
-use Rattle.tx_script.specs.Sets.{set_text, FitsSet}
+use Rattle.tx_script.specs.Sets.{FitsSet}
+use Rattle.tx_text.specs.Sets.{set_text}
 
 -- what may be done with a page
 abbrev pub access_text : Bool → List ℕ

@@ -1,23 +1,11 @@
--- The spelling of a set of signals.
+-- The sets of signals that a text can hold.
 use Rattle.std.specs.Prelude.{◌≡◌, ℕ, ◌<◌, ◌^◌, true, List, [], ◌∷◌, ◌++◌}
-use Rattle.std.specs.List.{filter}
 use Rattle.std.specs.Fmt.{decimal}
 use Rattle.tx_base.specs.Signals.{bits_of}
 use Rattle.tx_base.specs.declared.signals.SigSet.{SigSet}
-use Rattle.tx_model.specs.SignalSets.{standard_signals, realtime_signals, is_in_set, is_known, set_of}
-use Rattle.tx_script.specs.Lists.{list_text, more_text}
-
--- the known signals that are in a set, rising
-unfoldable pub members : ℕ → List ℕ
-members set = filter (λ signo. is_in_set set signo) (standard_signals ++ realtime_signals)
-
--- the spelling of a set as a number
-abbrev pub bits_text : ℕ → List ℕ
-bits_text bits = list_text (members bits)
-
--- the spelling of a set
-abbrev pub set_text : SigSet → List ℕ
-set_text set = bits_text (bits_of set)
+use Rattle.tx_model.specs.SignalSets.{is_known, set_of}
+use Rattle.tx_text.specs.Lists.{more_text}
+use Rattle.tx_text.specs.Sets.{members}
 
 -- a set that a text can hold: it has known signals alone
 abbrev pub FitsSet : SigSet → Type 0

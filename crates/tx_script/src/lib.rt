@@ -5,7 +5,7 @@ mod ends;
 mod faults;
 mod read;
 mod replays;
-mod write;
+mod reports;
 
 pub use ends::flow::{Flow, Sink, Source};
 pub use ends::over::{OverRead, OverWrite};
@@ -16,4 +16,4 @@ pub use read::schedule::Schedule;
 pub use read::steps::read_step;
 pub use read::text::read_schedule;
 pub use replays::replay;
-pub use write::reports::{print_state, report};
+pub use reports::report;

@@ -7,7 +7,7 @@ use crate::ends::flow::{Sink, Source};
 use crate::ends::whole::{read_whole, write_whole};
 use crate::faults::Fault;
 use crate::read::text::read_schedule;
-use crate::write::reports::report;
+use crate::reports::report;
 use std::alloc::Global;
 
 /// Reads the text of a schedule to its end, runs it, and writes the report. Nothing is written

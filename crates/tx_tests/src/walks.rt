@@ -8,7 +8,8 @@ use std::process::Abort;
 use std::test::Fail;
 use tx_base::Step;
 use tx_core::Machine;
-use tx_script::{Version, print_state, read_schedule};
+use tx_script::{Version, read_schedule};
+use tx_text::print_state;
 
 /// Schedules of aborts, commits, pipes, signals and trees, as those of the same steps in
 /// `tests/schedules`.

@@ -5,7 +5,8 @@ ghost use Rattle.tx_base.specs.Signals.{bits_of, set_of_bits};
 ghost use Rattle.tx_base.specs.declared.names.Signo.{Signo};
 ghost use Rattle.tx_base.specs.declared.signals.SigSet.{SigSet};
 ghost use Rattle.tx_model.specs.SignalSets.{is_known, set_of};
-ghost use Rattle.tx_script.specs.Sets.{set_text, AreListed, FitsSet};
+ghost use Rattle.tx_script.specs.Sets.{AreListed, FitsSet};
+ghost use Rattle.tx_text.specs.Sets.{set_text};
 
 use crate::read::small::read_byte;
 use crate::read::split::split_at;

@@ -10,7 +10,7 @@ ghost use Rattle.tx_base.specs.declared.steps.Call.{Call};
 ghost use Rattle.tx_script.specs.Calls.{action_text, call_text, how_text, pair_text, triple_text, FitsAction, FitsCall};
 ghost use Rattle.tx_script.specs.Groups.{group_of};
 ghost use Rattle.tx_script.specs.Lines.{IsCallOf};
-ghost use Rattle.tx_script.specs.Sets.{set_text};
+ghost use Rattle.tx_text.specs.Sets.{set_text};
 ghost use Rattle.tx_script.specs.Words.{first_word};
 ghost use Rattle.tx_script.specs.declared.read.header.Version.{Version};
 

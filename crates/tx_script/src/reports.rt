@@ -1,0 +1,96 @@
+//! Runs a schedule, and prints what it answers and the state that it leaves.
+ghost use Rattle.std.specs.Prelude.{◌≡◌, ◌++◌, [], List, IfErr, IfOk, OnOk, string_bytes};
+ghost use Rattle.tx_base.specs.declared.steps.Accepted.{Accepted};
+ghost use Rattle.tx_live.specs.Content.{view_of};
+ghost use Rattle.tx_core.specs.Runs.{IsAfter};
+ghost use Rattle.tx_model.specs.Answer.{answer};
+ghost use Rattle.tx_model.specs.Schedules.{recorded, answers_of, history_of};
+ghost use Rattle.tx_model.specs.State.{State};
+ghost use Rattle.tx_script.specs.Lines.{FitsHeader};
+ghost use Rattle.tx_script.specs.Report.{line_text, lines_text, report_text, start_of};
+ghost use Rattle.tx_script.specs.declared.faults.Fault.TheVariants.{NoMemory};
+
+use crate::faults::Fault;
+use crate::read::header::{Header, Version};
+use crate::read::schedule::Schedule;
+use std::alloc::{AllocError, Global};
+use tx_base::{Reply, Step};
+use tx_core::Machine;
+use tx_text::{put, put_count, put_reply, put_state};
+
+/// The report of a schedule: a line for each step's reply, and the text of the state after the
+/// last one. The only fault is `NoMemory`.
+pub fn report(alloc: Global, schedule: &Schedule) -> Result<String, Fault>
+    requires { FitsHeader schedule.now.header }
+    ensures text { IfOk result (λ text. string_bytes text ≡ report_text schedule.now.header schedule.now.steps.items) }
+    ensures fault { IfErr result (λ fault. fault ≡ NoMemory) }
+{
+    let mut machine = boot(alloc, schedule.header)?;
+    let mut text = String::new(alloc);
+    put_replies(alloc, &mut text, &mut machine, schedule.steps.as_slice())?;
+    put_state(&mut text, &machine)?;
+    Ok(text)
+}
+
+/// A machine as it is at the start.
+fn boot(alloc: Global, header: Header) -> Result<Machine, Fault>
+    requires { FitsHeader header }
+    ensures view { IfOk result (λ machine. view_of machine ≡ start_of header) }
+    ensures fault { IfErr result (λ fault. fault ≡ NoMemory) }
+{
+    let machine = match header.version {
+        Version::One => Machine::boot(alloc, header.count)?,
+        Version::Two => Machine::boot_wide(alloc, header.count)?,
+    };
+    Ok(machine)
+}
+
+/// Makes the steps, and appends the line of each reply.
+fn put_replies(
+    alloc: Global,
+    text: &mut String,
+    machine: &mut Machine,
+    steps: &[Step],
+) -> Result<(), Fault>
+    ensures text { OnOk result ((start : State) (earlier : List Accepted) → IsAfter start earlier machine.old →
+        string_bytes text.new ≡ string_bytes text.old ++ lines_text 1 (answers_of start earlier steps.now)) }
+    ensures after { OnOk result ((start : State) (earlier : List Accepted) → IsAfter start earlier machine.old →
+        IsAfter start (history_of start earlier steps.now) machine.new) }
+    ensures fault { IfErr result (λ fault. fault ≡ NoMemory) }
+{
+    let mut reply = Reply::Ended;
+    for i in 0..steps.len() {
+        make_step(alloc, machine, &steps[i], &mut reply)?;
+        put_reply_line(text, i as u64 + 1, &reply)?;
+    }
+    Ok(())
+}
+
+/// Makes a step, which is never taken back. Puts its reply where it is to stand.
+fn make_step(
+    alloc: Global,
+    machine: &mut Machine,
+    step: &Step,
+    reply: &mut Reply,
+) -> Result<(), Fault>
+    ensures answer { OnOk result (reply.new ≡ answer (view_of machine.old) step.now) }
+    ensures after { OnOk result ((start : State) (earlier : List Accepted) → IsAfter start earlier machine.old →
+        IsAfter start (recorded earlier step.now reply.new) machine.new) }
+    ensures fault { IfErr result (λ fault. fault ≡ NoMemory) }
+{
+    let _inverse = machine.step_into(alloc, step, reply);
+    if reply.wants_memory() {
+        return Err(Fault::NoMemory);
+    }
+    Ok(())
+}
+
+/// Appends the line of the reply to a step. Steps count from 1.
+fn put_reply_line(text: &mut String, number: u64, reply: &Reply) -> Result<(), AllocError>
+    ensures { OnOk result (string_bytes text.new ≡ string_bytes text.old ++ line_text number reply.now) }
+{
+    put_count(text, number)?;
+    put(text, " ")?;
+    put_reply(text, reply)?;
+    put(text, "\n")
+}

@@ -1,0 +1,6 @@
+pub mod Hexed
+pub mod Known
+pub mod Listed
+pub mod OneMore
+pub mod StateSpelled
+pub mod Upto

@@ -1,0 +1,50 @@
+-- The spelling of a reply.
+use Rattle.std.specs.Prelude.{ℕ, List, ◌∷◌, ◌++◌, codes}
+use Rattle.std.specs.Fmt.{decimal, signed_decimal}
+use Rattle.tx_base.specs.Errors.{error_number}
+use Rattle.tx_base.specs.declared.names.Missed.{Missed}
+use Rattle.tx_base.specs.declared.steps.Refusal.{Refusal}
+use Rattle.tx_base.specs.declared.steps.Refusal.TheVariants.{NoProcess, NotRunning, BadNumber, NumberTaken, Doomed, Parked, KillPending, Busy, Wait, NotDeliverable, FramesFull, NoTransaction, NoMemory, Deferred}
+use Rattle.tx_base.specs.declared.steps.Reply.{Reply}
+use Rattle.tx_base.specs.declared.steps.Reply.TheVariants.{Done, Ended, Committed, Aborted, Out, No}
+use Rattle.tx_text.specs.Bytes.{bytes_text}
+use Rattle.tx_text.specs.Each.{each_text}
+
+-- the number of a refusal
+abbrev pub number_of : Refusal → ℕ
+number_of NoProcess = 1
+number_of NotRunning = 2
+number_of BadNumber = 3
+number_of NumberTaken = 4
+number_of Doomed = 5
+number_of Parked = 6
+number_of KillPending = 7
+number_of (Busy holder) = 8
+number_of Wait = 9
+number_of NotDeliverable = 10
+number_of FramesFull = 11
+number_of NoTransaction = 12
+number_of NoMemory = 13
+number_of Deferred = 14
+
+-- a refusal: its number, and who holds what is wanted
+abbrev pub refusal_text : Refusal → List ℕ
+refusal_text (Busy holder) = decimal 8 ++ 32 ∷ decimal holder.0
+refusal_text refusal = decimal (number_of refusal)
+
+-- a send that could not be delivered
+abbrev pub missed_text : Missed → List ℕ
+missed_text missed = 32 ∷ (decimal missed.target.0 ++ 58 ∷ (decimal missed.signo.0 ++ 58 ∷ decimal (error_number missed.errno)))
+
+-- those that could not be delivered, in order
+abbrev pub undelivered_text : List Missed → List ℕ
+undelivered_text undelivered = each_text missed_text undelivered
+
+-- the spelling of a reply
+abbrev pub reply_text : Reply → List ℕ
+reply_text (Done ret) = codes "ok " ++ signed_decimal ret
+reply_text Ended = codes "ended"
+reply_text (Committed undelivered) = codes "committed" ++ undelivered_text undelivered.items
+reply_text (Aborted status) = codes "aborted " ++ decimal status
+reply_text (Out bytes) = codes "out " ++ bytes_text bytes.items
+reply_text (No refusal) = codes "no N" ++ refusal_text refusal

@@ -1,0 +1,27 @@
+//! Prints bytes in hex digits.
+ghost use Rattle.std.specs.Prelude.{◌≡◌, ◌++◌, OnOk, string_bytes};
+ghost use Rattle.hex.specs.Hex.{encode_lower};
+ghost use Rattle.tx_text.specs.Bytes.{bytes_text};
+
+use crate::print::{put, put_byte};
+use std::alloc::AllocError;
+
+/// Appends bytes in hex digits, or `-` where there is none.
+pub fn put_bytes(text: &mut String, bytes: &[u8]) -> Result<(), AllocError>
+    ensures { OnOk result (string_bytes text.new ≡ string_bytes text.old ++ bytes_text bytes.now) }
+{
+    if bytes.is_empty() {
+        return put(text, "-");
+    }
+    put_digits(text, bytes)
+}
+
+/// Appends two hex digits for each byte.
+fn put_digits(text: &mut String, bytes: &[u8]) -> Result<(), AllocError>
+    ensures { OnOk result (string_bytes text.new ≡ string_bytes text.old ++ encode_lower bytes.now) }
+{
+    for i in 0..bytes.len() {
+        put_byte(text, bytes[i])?;
+    }
+    Ok(())
+}

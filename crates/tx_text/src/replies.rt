@@ -1,0 +1,96 @@
+//! Prints replies.
+ghost use Rattle.std.specs.Prelude.{◌≡◌, ◌++◌, ◌∷◌, ◌<◌, ◌^◌, [], OnOk, string_bytes};
+ghost use Rattle.tx_text.specs.Replies.{missed_text, number_of, refusal_text, reply_text, undelivered_text};
+
+use crate::bytes::put_bytes;
+use crate::print::{put, put_count, put_number};
+use std::alloc::AllocError;
+use tx_base::{Missed, Refusal, Reply};
+
+/// Appends a reply, without its step's number and without a line's end. The only error is that a
+/// growth of memory was refused: the text may then have some of the reply behind what it had.
+pub fn put_reply(text: &mut String, reply: &Reply) -> Result<(), AllocError>
+    ensures { OnOk result (string_bytes text.new ≡ string_bytes text.old ++ reply_text reply.now) }
+{
+    match reply {
+        Reply::Done(ret) => {
+            put(text, "ok ")?;
+            put_number(text, *ret)
+        }
+        Reply::Ended => put(text, "ended"),
+        Reply::Committed { undelivered } => {
+            put(text, "committed")?;
+            put_undelivered(text, undelivered.as_slice())
+        }
+        Reply::Aborted(status) => {
+            put(text, "aborted ")?;
+            put_count(text, u64::from(*status))
+        }
+        Reply::Out(bytes) => {
+            put(text, "out ")?;
+            put_bytes(text, bytes.as_slice())
+        }
+        Reply::No(refusal) => {
+            put(text, "no N")?;
+            put_refusal(text, *refusal)
+        }
+    }
+}
+
+/// Appends the held sends that could not be delivered, in order.
+fn put_undelivered(text: &mut String, undelivered: &[Missed]) -> Result<(), AllocError>
+    ensures { OnOk result (string_bytes text.new ≡ string_bytes text.old ++ undelivered_text undelivered.now) }
+{
+    for i in 0..undelivered.len() {
+        put_missed(text, &undelivered[i])?;
+    }
+    Ok(())
+}
+
+/// Appends a held send that could not be delivered: its target, its signal and its error's number.
+fn put_missed(text: &mut String, missed: &Missed) -> Result<(), AllocError>
+    ensures { OnOk result (string_bytes text.new ≡ string_bytes text.old ++ missed_text missed.now) }
+{
+    put(text, " ")?;
+    put_count(text, u64::from(missed.target.0))?;
+    put(text, ":")?;
+    put_count(text, u64::from(missed.signo.0))?;
+    put(text, ":")?;
+    put_count(text, u64::from(missed.errno.number()))
+}
+
+/// Appends the number of a refusal, and the holder where one is in the way.
+fn put_refusal(text: &mut String, refusal: Refusal) -> Result<(), AllocError>
+    ensures { OnOk result (string_bytes text.new ≡ string_bytes text.old ++ refusal_text refusal) }
+{
+    put_count(text, number(refusal))?;
+    match refusal {
+        Refusal::Busy { holder } => {
+            put(text, " ")?;
+            put_count(text, u64::from(holder.0))
+        }
+        _ => Ok(()),
+    }
+}
+
+/// The number of a refusal.
+fn number(refusal: Refusal) -> u64
+    ensures { result ≡ number_of refusal }
+{
+    match refusal {
+        Refusal::NoProcess => 1,
+        Refusal::NotRunning => 2,
+        Refusal::BadNumber => 3,
+        Refusal::NumberTaken => 4,
+        Refusal::Doomed => 5,
+        Refusal::Parked => 6,
+        Refusal::KillPending => 7,
+        Refusal::Busy { .. } => 8,
+        Refusal::Wait => 9,
+        Refusal::NotDeliverable => 10,
+        Refusal::FramesFull => 11,
+        Refusal::NoTransaction => 12,
+        Refusal::NoMemory => 13,
+        Refusal::Deferred => 14,
+    }
+}

@@ -1,0 +1,37 @@
+//! Prints the state of a machine.
+ghost use Rattle.std.specs.Prelude.{◌≡◌, ◌++◌, IfOk, OnOk, string_bytes};
+ghost use Rattle.tx_live.specs.Content.{view_of};
+ghost use Rattle.tx_text.specs.State.{state_text};
+
+use crate::descriptors::{put_descs, put_pipes};
+use crate::print::put;
+use crate::processes::put_procs;
+use crate::txns::put_txns;
+use std::alloc::{AllocError, Global};
+use tx_base::NoMemory;
+use tx_core::Machine;
+
+/// The text of a machine's state, from its line `state` on: its processes, descriptions, pipes and
+/// live transactions. The only error is that a growth of memory was refused; the machine is only
+/// read.
+pub fn print_state(alloc: Global, machine: &Machine) -> Result<String, NoMemory>
+    ensures { IfOk result (λ text. string_bytes text ≡ state_text (view_of machine.now)) }
+{
+    let mut text = String::new(alloc);
+    put_state(&mut text, machine)?;
+    Ok(text)
+}
+
+/// Appends the text of a machine's state. The only error is that a growth of memory was refused:
+/// the text may then have some of the state behind what it had.
+pub fn put_state(text: &mut String, machine: &Machine) -> Result<(), AllocError>
+    ensures { OnOk result (string_bytes text.new ≡ string_bytes text.old ++ state_text (view_of machine.now)) }
+{
+    put(text, "state\n")?;
+    let width = machine.processes();
+    let parts = machine.parts();
+    put_procs(text, parts, width)?;
+    put_descs(text, &parts.descs)?;
+    put_pipes(text, &parts.pipes)?;
+    put_txns(text, machine, width)
+}
