@@ -22,13 +22,12 @@ use Rattle.tx_laws.specs.TwoParts.{is_owner, made}
 use Rattle.tx_live.proofs.KeptPosted.{slot_there}
 use Rattle.tx_live.proofs.Others.{counts_stay, txn_stays, Stays}
 use Rattle.tx_live.proofs.Outsides.{same_content, targets_are}
-use Rattle.tx_live.specs.Begins.{is_only, IsAlone, IsBegun, Starts}
+use Rattle.tx_live.specs.Begins.{is_only, IsAlone, IsBegun, Starts, StartsOf}
 use Rattle.tx_live.specs.Content.{content_of, held_in, held_of, now_of, owner_at, own_held, txn_of, IsShaped, IsTxn}
 use Rattle.tx_live.specs.Inverses.{log_in, with_txn, UndoesBegun}
 use Rattle.tx_live.specs.Laws.{LiveLaws}
 use Rattle.tx_live.proofs.Planned.{makes_all}
 use Rattle.tx_live.specs.Made.{IsMade, IsPlanned}
-use Rattle.tx_txn.specs.Txns.{none_held}
 use Rattle.tx_live.specs.declared.content.BoxedTxn.{BoxedTxn}
 use Rattle.tx_live.specs.declared.content.Content.{Content}
 use Rattle.tx_live.specs.declared.inverse.Inverse.TheVariants.{Begun}
@@ -350,22 +349,20 @@ unfolding reply_of effect
 answers_nothing s R = refl
 
 -- a transaction that was made so begins so
-pub as_begun : (parts : Parts) (pid : Pid) (defers : Bool) (txn first : Txn) (planned : Planned) → txn ≡ first → first.starter ≡ pid → first.defers ≡ defers → (proc : TheProc) → slot_at parts.procs pid.0 ≡ Some proc →
-    first.kept.ids ≡ proc.cred → first.kept.pending ≡ proc.pending → first.outbox ≡ none_held → ((o : Object) → is_in first.objects o ≡ false) → first.members ≡ None →
-    (before between : List Change) → before ≡ [] → first.log ≡ between → AreNamed parts (drop (length before) between) → IsPlanned parts pid None (Note pid.0 (pos 0)) before between planned → IsBegun parts pid defers txn
-as_begun parts pid defers txn first planned is starter deferring proc there ids pending outbox objects members before between empty log named plans =
-    subst (IsBegun parts pid defers) (sym is) (record {
-      starter = starter;
-      deferring = deferring;
-      proc = proc;
-      there = there;
-      ids = ids;
-      pending = pending;
-      outbox = outbox;
-      objects = objects;
-      members = members;
-      named = subst (AreNamed parts) (sym log) (subst (λ (xs : List Change). AreNamed parts (drop (length xs) between)) empty named);
-      planned = planned;
-      makes = subst (λ (xs : List Change). Makes parts pid None (Note pid.0 (pos 0)) [] (exchanged parts xs) (applied parts xs) planned) (sym log)
-          (makes_all parts pid None (Note pid.0 (pos 0)) before between planned empty plans);
-    })
+pub as_begun : (parts : Parts) (pid : Pid) (defers : Bool) (proc : TheProc) (first : Txn) (between : List Change) (planned : Planned) →
+    slot_at parts.procs pid.0 ≡ Some proc → StartsOf pid defers proc first → AreNamed parts (drop (length first.log) between) →
+    IsPlanned parts pid None (Note pid.0 (pos 0)) first.log between planned → IsBegun parts pid defers (record first { log = between })
+as_begun parts pid defers proc first between planned there starts named plans = record {
+  starter = starts.starter;
+  deferring = starts.deferring;
+  proc = proc;
+  there = there;
+  ids = starts.ids;
+  pending = starts.pending;
+  outbox = starts.outbox;
+  objects = starts.objects;
+  members = starts.members;
+  named = subst (λ (xs : List Change). AreNamed parts (drop (length xs) between)) starts.log named;
+  planned = planned;
+  makes = makes_all parts pid None (Note pid.0 (pos 0)) first.log between planned starts.log plans;
+}

@@ -44,6 +44,17 @@ pub record IsBegun (parts : Parts) (pid : Pid) (defers : Bool) (txn : Txn) : Typ
   pub planned : Planned
   pub makes : Makes parts pid None (Note pid.0 (pos 0)) [] (exchanged parts txn.log) (applied parts txn.log) planned
 
+-- a transaction that a process begins, of which nothing is made: it keeps what is pending at its starter, and the starter's ids
+pub record StartsOf (pid : Pid) (defers : Bool) (proc : TheProc) (txn : Txn) : Type 0 where
+  pub starter : txn.starter ≡ pid
+  pub deferring : txn.defers ≡ defers
+  pub ids : txn.kept.ids ≡ proc.cred
+  pub pending : txn.kept.pending ≡ proc.pending
+  pub log : txn.log ≡ []
+  pub outbox : txn.outbox ≡ none_held
+  pub objects : (o : Object) → is_in txn.objects o ≡ false
+  pub members : txn.members ≡ None
+
 -- the first step was made: its exchanges, and what it reserves
 pub record Starts (before after : Parts) (owners others : List (Option Pid)) (old new : Txn) : Type 0 where
   pub parts : after ≡ applied before old.log

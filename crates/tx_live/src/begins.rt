@@ -17,9 +17,10 @@ use crate::content::{BoxedTxn, Content};
 use crate::inverse::Inverse;
 use crate::laws::laws;
 use crate::planning::plan;
+use crate::table::TxnTable;
 use std::alloc::Global;
 use tx_base::{Mark, NoMemory, Pid};
-use tx_change::{Log, Parts};
+use tx_change::Parts;
 use tx_kernel::Act;
 use tx_reserve::{Object, Objects, Reservations};
 use tx_txn::Txn;
@@ -40,7 +41,7 @@ impl Content {
         ensures err { OnErr result (self.new ≡ self.old) }
     {
         laws();
-        let mut boxed = begun(alloc, &self.parts, pid, defers)?;
+        let mut boxed = begun(alloc, &self.parts, &mut self.txns, pid, defers)?;
         start(&mut boxed.txn, &mut self.parts, &mut self.owners);
         let mark = Mark {
             starter: pid,
@@ -56,17 +57,23 @@ impl Content {
 /// The transaction that a process begins, with the plan of its first step in the log.
 ///
 /// NoMemory where a growth is refused.
-fn begun(alloc: Global, parts: &Parts, pid: Pid, defers: bool) -> Result<BoxedTxn, NoMemory>
+fn begun(
+    alloc: Global,
+    parts: &Parts,
+    txns: &mut TxnTable,
+    pid: Pid,
+    defers: bool,
+) -> Result<BoxedTxn, NoMemory>
     requires whole { IsWhole parts.now }
     requires running { IsRunning (slot_at parts.now.procs pid.0) }
-    ensures { IfOk result (λ boxed. IsBegun parts.now pid defers boxed.txn.value) }
+    ensures boxed { IfOk result (λ boxed. IsBegun parts.now pid defers boxed.txn.value) }
+    ensures table { txns.new ≡ txns.old }
 {
-    let mut log = Log::with_room(alloc, 4)?;
-    let _planned = plan(alloc, parts, pid, None, &Act::Answer(0), &mut log)?;
     let proc = parts.proc(pid).unwrap();
-    let txn = Txn::begin(alloc, pid, defers, proc, log);
-    let txn = Box::new(alloc, txn)?;
-    Ok(BoxedTxn { txn })
+    let mut boxed = txns.fresh(alloc, pid, defers, proc)?;
+    let answer = Act::Answer(0);
+    let _planned = plan(alloc, parts, pid, None, &answer, &mut boxed.txn.log)?;
+    Ok(boxed)
 }
 
 /// Makes the first step of a transaction, which reserves its starter.

@@ -11,6 +11,7 @@ ghost use Rattle.tx_txn.specs.Content.{IsKept};
 
 use crate::content::Content;
 use crate::laws::laws;
+use crate::table::TxnTable;
 use std::alloc::Global;
 use tx_base::{NoMemory, Slots};
 use tx_change::Parts;
@@ -42,7 +43,7 @@ impl Content {
         let marks = Slots::new(alloc, width)?;
         let owners = Reservations::new(alloc)?;
         owners.sized();
-        let txns = Slots::new(alloc, width)?;
+        let txns = TxnTable::new(alloc, width)?;
         Ok(Content {
             parts,
             marks,

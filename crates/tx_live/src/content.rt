@@ -1,4 +1,5 @@
 //! What the machine keeps.
+use crate::table::TxnTable;
 use tx_base::{Mark, Slots};
 use tx_change::Parts;
 use tx_reserve::Reservations;
@@ -17,5 +18,5 @@ pub struct Content {
     pub parts: Parts,
     pub marks: Slots<Mark>,
     pub owners: Reservations,
-    pub txns: Slots<BoxedTxn>,
+    pub txns: TxnTable,
 }

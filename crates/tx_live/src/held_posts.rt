@@ -6,16 +6,16 @@ ghost use Rattle.tx_kernel.specs.Posts.{listed_change};
 ghost use Rattle.tx_live.specs.HeldPosts.{HaveSignals, PostsAll};
 ghost use Rattle.tx_live.specs.Inverses.{kept_post, none_made, post_changes, unposted_all, unposted_in, HasStarter, HaveStarters};
 
-use crate::content::BoxedTxn;
 use crate::kept_posts::{KeptPost, post_kept, take_post};
 use crate::laws::laws;
-use tx_base::{Sending, Slots};
+use crate::table::TxnTable;
+use tx_base::Sending;
 use tx_change::Parts;
 use tx_kernel::post;
 use tx_txn::{HeldPost, Outbox, Unpost};
 
 /// Posts all that is held, in order, and keeps what each post came to. It takes no memory.
-pub(crate) fn post_held(parts: &mut Parts, txns: &mut Slots<BoxedTxn>, outbox: &mut Outbox)
+pub(crate) fn post_held(parts: &mut Parts, txns: &mut TxnTable, outbox: &mut Outbox)
     requires signals { HaveSignals (map sending_of outbox.old.sendings) }
     requires posts { length outbox.old.posts ≡ length outbox.old.sendings }
     ensures sendings { outbox.new.sendings ≡ outbox.old.sendings }
@@ -30,7 +30,7 @@ pub(crate) fn post_held(parts: &mut Parts, txns: &mut Slots<BoxedTxn>, outbox: &
 }
 
 /// Posts a signal, to the process and to what is kept of it where it is the starter of a live transaction.
-fn post_one(parts: &mut Parts, txns: &mut Slots<BoxedTxn>, sending: &Sending) -> HeldPost
+fn post_one(parts: &mut Parts, txns: &mut TxnTable, sending: &Sending) -> HeldPost
     requires { sending.now.signo.0 < 64 }
     ensures { PostsAll parts.old parts.new txns.old txns.new (sending.now ∷ []) (result ∷ []) }
 {
@@ -54,7 +54,7 @@ fn unpost_of(post: Option<KeptPost>) -> Option<Unpost>
 }
 
 /// Takes the posts of a commit back, the last one first: none is made then. It takes no memory.
-pub(crate) fn take_posts(parts: &mut Parts, txns: &mut Slots<BoxedTxn>, outbox: &mut Outbox)
+pub(crate) fn take_posts(parts: &mut Parts, txns: &mut TxnTable, outbox: &mut Outbox)
     requires posts { length outbox.old.posts ≡ length outbox.old.sendings }
     requires named { AreNamed parts.old (post_changes outbox.old.posts) }
     requires starters { HaveStarters txns.old outbox.old.sendings outbox.old.posts }
@@ -74,7 +74,7 @@ pub(crate) fn take_posts(parts: &mut Parts, txns: &mut Slots<BoxedTxn>, outbox: 
 }
 
 /// Takes a post back, which came to this.
-fn take_one(parts: &mut Parts, txns: &mut Slots<BoxedTxn>, sending: &Sending, made: HeldPost)
+fn take_one(parts: &mut Parts, txns: &mut TxnTable, sending: &Sending, made: HeldPost)
     requires named { AreNamed parts.old (listed_change made.change) }
     requires starter { HasStarter txns.old (kept_post sending.now made.kept) }
     ensures parts { parts.new ≡ undone parts.old (listed_change made.change) }

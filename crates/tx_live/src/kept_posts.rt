@@ -5,7 +5,8 @@ ghost use Rattle.tx_live.specs.Inverses.{unposted_at, unposted_if, unposted_in, 
 ghost use Rattle.tx_live.specs.Made.{posted_one, PostsKept};
 
 use crate::content::BoxedTxn;
-use tx_base::{Pid, Sending, Slots};
+use crate::table::TxnTable;
+use tx_base::{Pid, Sending};
 use tx_kernel::Sends;
 use tx_txn::Unpost;
 
@@ -18,7 +19,7 @@ pub struct KeptPost {
 
 /// Posts what a step sends at once to what is kept of its target, if that is the starter of a live
 /// transaction. Answers what takes the post back, where it changed anything. It takes no memory.
-pub(crate) fn post_sends(txns: &mut Slots<BoxedTxn>, sends: &Sends) -> Option<KeptPost>
+pub(crate) fn post_sends(txns: &mut TxnTable, sends: &Sends) -> Option<KeptPost>
     requires { HasSignal sends.now }
     ensures posted { PostsKept txns.old txns.new (sent_at_once sends.now) }
     ensures back { unposted_in result txns.new ≡ txns.old }
@@ -33,7 +34,7 @@ pub(crate) fn post_sends(txns: &mut Slots<BoxedTxn>, sends: &Sends) -> Option<Ke
 
 /// Posts a signal, whose number must be below 64, to what is kept of its target, if that is the starter
 /// of a live transaction. Answers what takes the post back, where it changed anything.
-pub(crate) fn post_kept(txns: &mut Slots<BoxedTxn>, sending: &Sending) -> Option<KeptPost>
+pub(crate) fn post_kept(txns: &mut TxnTable, sending: &Sending) -> Option<KeptPost>
     requires { sending.now.signo.0 < 64 }
     ensures posted { PostsKept txns.old txns.new (sending_of sending.now ∷ []) }
     ensures back { unposted_in result txns.new ≡ txns.old }
@@ -63,7 +64,7 @@ fn post_boxed(boxed: &mut BoxedTxn, sending: &Sending) -> Option<Unpost>
 }
 
 /// Takes the last post to what is kept of a starter back. Nothing happens where it has no transaction.
-pub(crate) fn take_post(txns: &mut Slots<BoxedTxn>, post: KeptPost)
+pub(crate) fn take_post(txns: &mut TxnTable, post: KeptPost)
     requires { HasStarter txns.old (Some post) }
     ensures { txns.new ≡ unposted_in (Some post) txns.old }
 {

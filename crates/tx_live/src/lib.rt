@@ -15,9 +15,11 @@ mod laws;
 mod marking;
 mod outside;
 mod planning;
+mod table;
 mod undo;
 
 pub use content::{BoxedTxn, Content};
 pub use inverse::Inverse;
 pub use kept_posts::KeptPost;
 pub use marking::{Marked, Progress};
+pub use table::TxnTable;

@@ -15,7 +15,6 @@ use crate::laws::laws;
 use crate::planning::plan;
 use std::alloc::Global;
 use tx_base::{NoMemory, Pid};
-use tx_change::Log;
 use tx_kernel::{Act, Outcome};
 
 impl Content {
@@ -39,7 +38,7 @@ impl Content {
         ensures err { OnErr result (self.new ≡ self.old) }
     {
         laws();
-        let mut log = Log::with_room(alloc, 2)?;
+        let mut log = self.txns.fresh_log(alloc)?;
         let planned = plan(alloc, &self.parts, pid, None, act, &mut log)?;
         log.lead_forward(&mut self.parts);
         let post = post_sends(&mut self.txns, &planned.sends);

@@ -47,6 +47,18 @@ impl Kept {
         }
     }
 
+    /// Keeps the same of another process, in the place of what it kept.
+    pub fn keep(&mut self, proc: &Proc)
+        ensures ids { self.new.ids ≡ proc.now.cred }
+        ensures pending { self.new.pending ≡ proc.now.pending }
+    {
+        self.ids = proc.cred;
+        // A queue is large, and most often there is none to copy.
+        if !(self.pending.is_empty() && proc.pending.is_empty()) {
+            self.pending = proc.pending.copy();
+        }
+    }
+
     /// What of the process decides how a post to it is answered after an abort.
     pub fn face(&self) -> Face
         ensures { (me : Process) → HasFace result (kept_as self.now me) }

@@ -3,6 +3,7 @@ ghost use Rattle.std.specs.Prelude.{◌≡◌, ◌<◌, ◌≤◌, ◌++◌, ◌
 ghost use Rattle.tx_model.specs.Sends.{has_sender, sent_by_members};
 ghost use Rattle.tx_kernel.specs.Plans.{sender_of, sending_of};
 ghost use Rattle.tx_txn.specs.Outboxes.{missed_in, unmade};
+ghost use Rattle.tx_txn.specs.Txns.{none_held};
 
 use crate::kept::Unpost;
 use arrayvec::ArrayVec;
@@ -66,6 +67,14 @@ impl Outbox {
             sendings: Vec::new(alloc),
             posts: Vec::new(alloc),
         }
+    }
+
+    /// Forgets all that is held, and keeps its room.
+    pub fn clear(&mut self)
+        ensures { self.new ≡ none_held }
+    {
+        self.sendings.clear();
+        self.posts.clear();
     }
 
     /// What is held, in order.

@@ -1,5 +1,5 @@
 //! A live transaction.
-ghost use Rattle.std.specs.Prelude.{◌≡◌, ◌≤◌, ◌&&◌, ◌||◌, ℕ, true, false, not, if◌then◌else◌, Some, None, IfSome, IsSomeAnd, is_some, length, map};
+ghost use Rattle.std.specs.Prelude.{◌≡◌, ◌≤◌, ◌&&◌, ◌||◌, ℕ, true, false, not, if◌then◌else◌, Some, None, [], IfSome, IsSomeAnd, IsTrue, is_some, length, map};
 ghost use Rattle.tx_base.specs.Slots.{slot_at};
 ghost use Rattle.tx_change.specs.Exchange.{AreNamed, applied, exchanged, reverted, undone};
 ghost use Rattle.tx_kernel.specs.Actors.{transaction_of};
@@ -65,6 +65,35 @@ impl Txn {
             objects: Objects::new(),
             members: None,
         }
+    }
+
+    /// Makes this one a transaction that the process begins, with no old parts. It takes no memory,
+    /// and keeps the room of the log and of what was held.
+    pub fn begin_again(&mut self, starter: Pid, defers: bool, proc: &Process)
+        ensures starter { self.new.starter ≡ starter }
+        ensures defers { self.new.defers ≡ defers }
+        ensures ids { self.new.kept.ids ≡ proc.now.cred }
+        ensures pending { self.new.kept.pending ≡ proc.now.pending }
+        ensures log { self.new.log ≡ [] }
+        ensures outbox { self.new.outbox ≡ none_held }
+        ensures objects { (o : Object) → is_in self.new.objects o ≡ false }
+        ensures members { self.new.members ≡ None }
+    {
+        self.clear();
+        self.starter = starter;
+        self.defers = defers;
+        self.kept.keep(proc);
+        self.objects = Objects::new();
+        self.members = None;
+    }
+
+    /// Lets go of all that it owns but for the room that it has.
+    pub fn clear(&mut self)
+        ensures log { self.new.log ≡ [] }
+        ensures outbox { self.new.outbox ≡ none_held }
+    {
+        self.log.truncate(0);
+        self.outbox.clear();
     }
 
     /// Reserves what a step of a member names. Answers what was reserved before.
@@ -133,9 +162,26 @@ impl Txn {
     {
         appended();
         self.log.lead_back(parts);
-        parts
-            .procs
-            .swap_pending(self.starter, &mut self.kept.pending);
+        // What is pending is large to exchange, and most often there is nothing.
+        if !self.has_none_pending(parts) {
+            parts
+                .procs
+                .swap_pending(self.starter, &mut self.kept.pending);
+        }
+    }
+
+    /// Whether nothing was pending at the starter when it began, and nothing is now: to exchange
+    /// these changes nothing.
+    fn has_none_pending(&self, parts: &Parts) -> bool
+        ensures { IsTrue result → pending_in (slot_at parts.now.procs self.now.starter.0) self.now.kept.pending ≡ self.now.kept.pending }
+    {
+        if !self.kept.pending.is_empty() {
+            return false;
+        }
+        match parts.proc(self.starter) {
+            Some(proc) => proc.pending.is_empty(),
+            None => true,
+        }
     }
 
     /// Makes all again that was led back.

@@ -1,0 +1,146 @@
+//! The live transactions by number, and the room that steps left.
+ghost use Rattle.std.specs.Option.{option_copied};
+ghost use Rattle.std.specs.Prelude.{◌≡◌, ◌≤◌, ℕ, false, [], None, Some, IfOk, length, replicate};
+ghost use Rattle.tx_base.specs.Slots.{slot_at, with_slot};
+ghost use Rattle.tx_live.specs.Begins.{StartsOf};
+
+use crate::content::BoxedTxn;
+use std::alloc::Global;
+use std::marker::Model;
+use tx_base::{NoMemory, Pid, Slots};
+use tx_change::Log;
+use tx_proc::Proc;
+use tx_txn::Txn;
+
+/// How many old parts a log may have whose room is kept.
+const KEPT_PARTS: usize = 64;
+
+/// The live transactions by the numbers of their starters. Contracts see the list of them, that of
+/// number 1 first. Beside it the room is kept of one transaction that ended, and of the log of one
+/// step outside, so that the next ones need not take memory.
+#[derive(Drop)]
+pub struct TxnTable {
+    slots: Slots<BoxedTxn>,
+    spare: Option<BoxedTxn>,
+    spare_log: Option<Log>,
+}
+
+impl Model for TxnTable {
+    ghost use Rattle.std.specs.Prelude.{List, Option};
+    ghost use Rattle.tx_live.specs.declared.content.BoxedTxn.{BoxedTxn as TheBoxedTxn};
+
+    ghost Value = { List (Option TheBoxedTxn) };
+
+    ghost view = { λ table. table.slots };
+}
+
+impl TxnTable {
+    /// So many numbers without a transaction. NoMemory where a growth is refused.
+    pub fn new(alloc: Global, width: u16) -> Result<TxnTable, NoMemory>
+        ensures { IfOk result (λ table. table ≡ replicate width None) }
+    {
+        let slots = Slots::new(alloc, width)?;
+        Ok(TxnTable {
+            slots,
+            spare: None,
+            spare_log: None,
+        })
+    }
+
+    /// The transaction of a starter; nothing where it has none.
+    pub fn get(&self, starter: Pid) -> Option<&BoxedTxn>
+        ensures { option_copied result ≡ slot_at self.now starter.0 }
+    {
+        self.slots.get(starter)
+    }
+
+    /// Takes out the transaction of a starter, whose number must be one that there is.
+    pub fn take(&mut self, starter: Pid) -> Option<BoxedTxn>
+        requires low { 1 ≤ starter.0 }
+        requires high { starter.0 ≤ length self.old }
+        ensures emptied { self.new ≡ with_slot self.old starter.0 None }
+        ensures taken { result ≡ slot_at self.old starter.0 }
+    {
+        self.slots.take(starter)
+    }
+
+    /// Puts in the transaction of a starter, whose number must be one that there is.
+    pub fn put(&mut self, starter: Pid, boxed: BoxedTxn)
+        requires low { 1 ≤ starter.0 }
+        requires high { starter.0 ≤ length self.old }
+        ensures { self.new ≡ with_slot self.old starter.0 (Some boxed) }
+    {
+        self.slots.put(starter, boxed);
+    }
+
+    /// A transaction that the process begins, with no old parts, for the table to hold. The room is
+    /// that of one that ended, if some was kept.
+    ///
+    /// NoMemory where a growth is refused.
+    pub(crate) fn fresh(
+        &mut self,
+        alloc: Global,
+        starter: Pid,
+        defers: bool,
+        proc: &Proc,
+    ) -> Result<BoxedTxn, NoMemory>
+        ensures table { self.new ≡ self.old }
+        ensures boxed { IfOk result (λ boxed. StartsOf starter defers proc.now boxed.txn.value) }
+    {
+        if let Some(mut boxed) = self.spare.take() {
+            boxed.txn.begin_again(starter, defers, proc);
+            return Ok(boxed);
+        }
+        new_box(alloc, starter, defers, proc)
+    }
+
+    /// An empty log for a step outside. The room is that of an earlier step's, if some was kept.
+    ///
+    /// NoMemory where a growth is refused.
+    pub(crate) fn fresh_log(&mut self, alloc: Global) -> Result<Log, NoMemory>
+        ensures table { self.new ≡ self.old }
+        ensures log { IfOk result (λ log. log ≡ []) }
+    {
+        if let Some(mut log) = self.spare_log.take() {
+            log.truncate(0);
+            return Ok(log);
+        }
+        let log = Log::with_room(alloc, 2)?;
+        Ok(log)
+    }
+
+    /// Keeps the room of a transaction that ended, if that is not large.
+    pub(crate) fn keep(&mut self, boxed: BoxedTxn)
+        ensures { self.new ≡ self.old }
+    {
+        let mut boxed = boxed;
+        if boxed.txn.log.len() <= KEPT_PARTS {
+            boxed.txn.clear();
+            self.spare = Some(boxed);
+        }
+    }
+
+    /// Keeps the room of the log of a step outside, if that is not large.
+    pub(crate) fn keep_log(&mut self, log: Log)
+        ensures { self.new ≡ self.old }
+    {
+        let mut log = log;
+        if log.len() <= KEPT_PARTS {
+            log.truncate(0);
+            self.spare_log = Some(log);
+        }
+    }
+}
+
+/// A transaction that the process begins, with no old parts, in a new box. Its place on the stack is
+/// large, so it is a function of its own.
+///
+/// NoMemory where a growth is refused.
+fn new_box(alloc: Global, starter: Pid, defers: bool, proc: &Proc) -> Result<BoxedTxn, NoMemory>
+    ensures { IfOk result (λ boxed. StartsOf starter defers proc.now boxed.txn.value) }
+{
+    let log = Log::with_room(alloc, 4)?;
+    let txn = Txn::begin(alloc, starter, defers, proc, log);
+    let txn = Box::new(alloc, txn)?;
+    Ok(BoxedTxn { txn })
+}
