@@ -139,6 +139,14 @@ impl Machine {
         self.content.undo(inverse);
     }
 
+    /// Lets go of the inverse of a step that will never be taken back: the machine stays as it is. Room
+    /// that the step left is kept for the next one, if it is not large.
+    pub fn let_go(&mut self, inverse: Inverse)
+        ensures { self.new ≡ self.old }
+    {
+        self.content.let_go(inverse);
+    }
+
     /// A machine of so many process numbers, of which the first few run.
     fn booted(alloc: Global, width: u16, count: u16) -> Result<Machine, NoMemory>
         requires low { 1 ≤ count }
