@@ -16,6 +16,7 @@ use crate::read::schedule::Schedule;
 use std::alloc::{AllocError, Global};
 use tx_base::{Reply, Step};
 use tx_core::Machine;
+use tx_live::Inverse;
 use tx_text::{put, put_count, put_reply, put_state};
 
 /// The report of a schedule: a line for each step's reply, and the text of the state after the
@@ -78,11 +79,21 @@ fn make_step(
         IsAfter start (recorded earlier step.now reply.new) machine.new) }
     ensures fault { IfErr result (λ fault. fault ≡ NoMemory) }
 {
-    let _inverse = machine.step_into(alloc, step, reply);
+    let inverse = machine.step_into(alloc, step, reply);
+    let_go(machine, inverse);
     if reply.wants_memory() {
         return Err(Fault::NoMemory);
     }
     Ok(())
+}
+
+/// Lets go of the inverse of a step, where it has one.
+fn let_go(machine: &mut Machine, inverse: Option<Inverse>)
+    ensures { machine.new ≡ machine.old }
+{
+    if let Some(inverse) = inverse {
+        machine.let_go(inverse);
+    }
 }
 
 /// Appends the line of the reply to a step. Steps count from 1.
