@@ -21,18 +21,16 @@ parts_at-at mark (byte ∷ bytes) (suc i) none inside here =
     let rest = parts_at-at mark bytes i (λ k below. none (suc k) (omega arith)) (omega arith) here in
     rw (other, rest) refl
 
+pub parts_at-found : (mark : ℕ) (bytes : List ℕ) (i : ℕ) → ((k : ℕ) → k < i → get_or bytes k 0 ≡ mark → ⊥) → i < length bytes → get_or bytes i 0 ≡ mark →
+    Some (take i bytes, drop (i + 1) bytes) ≡ parts_at mark bytes
+parts_at-found mark bytes i none inside here = rw add-one (sym (parts_at-at mark bytes i none inside here))
+
 pub parts_at-none : (mark : ℕ) (bytes : List ℕ) → ((k : ℕ) → k < length bytes → get_or bytes k 0 ≡ mark → ⊥) → parts_at mark bytes ≡ None
 parts_at-none mark [] none = refl
 parts_at-none mark (byte ∷ bytes) none =
     let other : eqb byte mark ≡ false = ne_eqb byte mark (none 0 (omega arith)) in
     let rest = parts_at-none mark bytes (λ k below. none (suc k) (omega arith)) in
     rw (other, rest) refl
-
-pub parts_at-found : (mark : ℕ) (bytes : List ℕ) (i : ℕ) → ((k : ℕ) → k < i → get_or bytes k 0 ≡ mark → ⊥) → i < length bytes → get_or bytes i 0 ≡ mark →
-    Some (take i bytes, take (length bytes - (i + 1)) (drop (i + 1) bytes)) ≡ parts_at mark bytes
-parts_at-found mark bytes i none inside here =
-    let long : length (drop (i + 1) bytes) ≤ length bytes - (i + 1) = omega (arith, length-drop (i + 1) bytes) in
-    rw (take_all (length bytes - (i + 1)) (drop (i + 1) bytes) long, add-one) (sym (parts_at-at mark bytes i none inside here))
 
 -- none of the bytes is the mark
 pub IsFree : ℕ → List ℕ → Type 0
@@ -66,7 +64,7 @@ unfolding IsFree
 free_signed (pos n) fits = (free_decimal n (omega (arith, mag_small (pos n) fits))).0
 free_signed (negsuc n) fits = ((λ e. let bad : 45 ≡ 32 = e in omega arith), (free_decimal (suc n) (omega (arith, mag_small (negsuc n) fits))).0)
 
-parts_front : (byte : ℕ) (found : Option (List ℕ × List ℕ)) (a b : List ℕ) → with_front byte found ≡ Some (a, b) → (rest : List ℕ) × (a ≡ byte ∷ rest) × (found ≡ Some (rest, b))
+pub parts_front : (byte : ℕ) (found : Option (List ℕ × List ℕ)) (a b : List ℕ) → with_front byte found ≡ Some (a, b) → (rest : List ℕ) × (a ≡ byte ∷ rest) × (found ≡ Some (rest, b))
 parts_front byte None a b e = absurd (cc)
 parts_front byte (Some parts) a b e =
     let left : List ℕ × List ℕ = (byte ∷ parts.0, parts.1) in

@@ -1,45 +1,40 @@
 -- The first line of a text, and what follows it.
-use Rattle.std.proofs.Common.{◌≡◌, ℕ, zero, suc, ◌+◌, ◌-◌, ◌<◌, ◌≤◌, List, [], ◌∷◌, ◌++◌, Some, None, false, take, drop, get_or, length, refl, ap, ◌∙◌, sym, arith, eqb, eq-eqb, inl, inr, add-one, length-append, length-drop}
+use Rattle.std.proofs.Common.{◌≡◌, ℕ, zero, suc, ◌+◌, ◌-◌, ◌<◌, ◌≤◌, List, [], ◌∷◌, ◌++◌, Option, Some, None, false, take, drop, get_or, length, refl, ap, ◌∙◌, sym, arith, eqb, eq-eqb, inl, inr, add-one, length-append, length-drop}
 use Rattle.std.proofs.lemmas.List.{take_all}
 use Rattle.std.proofs.lemmas.Bool.{ne_eqb}
 use Rattle.std.proofs.lemmas.Bool.Decides.{eqb_tells}
+use Rattle.tx_script.proofs.FirstWord.{parts_front, same_parts}
 use Rattle.tx_script.specs.Schedule.{first_line, after_line, IsLine}
+use Rattle.tx_script.specs.Words.{parts_at, with_front}
 
-pub first_line-none : (text : List ℕ) → ((k : ℕ) → k < length text → get_or text k 0 ≡ 10 → ⊥) → text ≡ first_line text
-first_line-none [] none = refl
-first_line-none (byte ∷ bytes) none =
-    let other : eqb byte 10 ≡ false = ne_eqb byte 10 (none 0 (omega arith)) in
-    let rest = first_line-none bytes (λ k below. none (suc k) (omega arith)) in
-    rw other (ap (λ (t : List ℕ). byte ∷ t) rest)
+-- what stands before the first line's end, and behind it
+pub line_found : (text line rest : List ℕ) → Some (line, rest) ≡ parts_at 10 text → (line ≡ first_line text) × (Some rest ≡ after_line text)
+line_found [] line rest e = absurd (cc)
+line_found (byte ∷ bytes) line rest e =
+    elim (eqb_tells byte 10) [
+      | inl h ↦ let here : Some (line, rest) ≡ Some ([], bytes) = rw h.0 at e in
+          let same = same_parts (line, rest) ([], bytes) here in
+          (rw h.0 same.0, rw h.0 (ap Some same.1))
+      | inr h ↦ let on : Some (line, rest) ≡ with_front byte (parts_at 10 bytes) = rw h.0 at e in
+          let parts = parts_front byte (parts_at 10 bytes) line rest (sym on) in
+          let found = line_found bytes parts.0 rest (sym parts.2) in
+          (rw h.0 (parts.1 ∙ ap (λ (t : List ℕ). byte ∷ t) found.0), rw h.0 found.1)
+    ]
 
-pub after_line-none : (text : List ℕ) → ((k : ℕ) → k < length text → get_or text k 0 ≡ 10 → ⊥) → after_line text ≡ None
-after_line-none [] none = refl
-after_line-none (byte ∷ bytes) none =
-    let other : eqb byte 10 ≡ false = ne_eqb byte 10 (none 0 (omega arith)) in
-    let rest = after_line-none bytes (λ k below. none (suc k) (omega arith)) in
-    rw other rest
+no_front : (byte : ℕ) (found : Option (List ℕ × List ℕ)) → None ≡ with_front byte found → None ≡ found
+no_front byte None e = refl
+no_front byte (Some parts) e = absurd (cc)
 
-pub first_line-found : (text : List ℕ) (i : ℕ) → ((k : ℕ) → k < i → get_or text k 0 ≡ 10 → ⊥) → i < length text → get_or text i 0 ≡ 10 → take i text ≡ first_line text
-first_line-found [] i none inside here = absurd (omega arith)
-first_line-found (byte ∷ bytes) zero none inside here = rw (eq-eqb byte 10 here) refl
-first_line-found (byte ∷ bytes) (suc i) none inside here =
-    let other : eqb byte 10 ≡ false = ne_eqb byte 10 (none 0 (omega arith)) in
-    let rest = first_line-found bytes i (λ k below. none (suc k) (omega arith)) (omega arith) here in
-    rw other (ap (λ (t : List ℕ). byte ∷ t) rest)
-
-after_line-at : (text : List ℕ) (i : ℕ) → ((k : ℕ) → k < i → get_or text k 0 ≡ 10 → ⊥) → i < length text → get_or text i 0 ≡ 10 → after_line text ≡ Some (drop (suc i) text)
-after_line-at [] i none inside here = absurd (omega arith)
-after_line-at (byte ∷ bytes) zero none inside here = rw (eq-eqb byte 10 here) refl
-after_line-at (byte ∷ bytes) (suc i) none inside here =
-    let other : eqb byte 10 ≡ false = ne_eqb byte 10 (none 0 (omega arith)) in
-    let rest = after_line-at bytes i (λ k below. none (suc k) (omega arith)) (omega arith) here in
-    rw other rest
-
-pub after_line-found : (text : List ℕ) (i : ℕ) → ((k : ℕ) → k < i → get_or text k 0 ≡ 10 → ⊥) → i < length text → get_or text i 0 ≡ 10 →
-    Some (take (length text - (i + 1)) (drop (i + 1) text)) ≡ after_line text
-after_line-found text i none inside here =
-    let long : length (drop (i + 1) text) ≤ length text - (i + 1) = omega (arith, length-drop (i + 1) text) in
-    rw (take_all (length text - (i + 1)) (drop (i + 1) text) long, add-one) (sym (after_line-at text i none inside here))
+-- no line has an end
+pub line_none : (text : List ℕ) → None ≡ parts_at 10 text → (text ≡ first_line text) × (None ≡ after_line text)
+line_none [] e = (refl, refl)
+line_none (byte ∷ bytes) e =
+    elim (eqb_tells byte 10) [
+      | inl h ↦ let here : None ≡ Some ([], bytes) = rw h.0 at e in absurd (cc)
+      | inr h ↦ let on : None ≡ with_front byte (parts_at 10 bytes) = rw h.0 at e in
+          let left = line_none bytes (no_front byte (parts_at 10 bytes) on) in
+          (rw h.0 (ap (λ (t : List ℕ). byte ∷ t) left.0), rw h.0 left.1)
+    ]
 
 -- the first line, its end, and what follows
 pub line_parts : (text rest : List ℕ) → after_line text ≡ Some rest → text ≡ first_line text ++ 10 ∷ rest

@@ -1,5 +1,5 @@
 //! The words of a line, parted by spaces, and the numbers among them.
-ghost use Rattle.std.specs.Prelude.{◌≡◌, ◌≢◌, ◌<◌, ◌^◌, ◌++◌, ◌∷◌, ℤ, ℕ, List, FitsSigned, IfSome, IsSomeAnd, MatchOption, Some, option_map};
+ghost use Rattle.std.specs.Prelude.{◌≡◌, ◌≢◌, ◌+◌, ◌<◌, ◌^◌, ◌++◌, ◌∷◌, ℤ, ℕ, List, FitsSigned, IfSome, IsSomeAnd, MatchOption, Some, drop, length, option_map, take};
 ghost use Rattle.std.specs.Int.{w64};
 ghost use Rattle.std.specs.Fmt.{decimal, signed_decimal};
 ghost use Rattle.tx_script.specs.Calls.{pair_text, triple_text};
@@ -8,17 +8,26 @@ ghost use Rattle.tx_script.specs.Words.{first_word, parts_at};
 use crate::read::numbers::number;
 use crate::read::small::{read_byte, read_point};
 
-/// The text before the first byte of that kind, and the text after it. Nothing where there is none.
+/// Where the first byte of that kind stands. Nothing where there is none.
 #[inline(never)] // inlined, its loop would keep the offsets that its callers go on with
-pub fn split_at(mark: u8, text: &[u8]) -> Option<(&[u8], &[u8])>
-    ensures { option_map (λ r. (r.0.now, r.1.now)) result ≡ parts_at mark text.now }
+fn find(mark: u8, text: &[u8]) -> Option<usize>
+    ensures place { option_map (λ i. (take i text.now, drop (i + 1) text.now)) result ≡ parts_at mark text.now }
+    ensures inside { IfSome result (λ i. i < length text.now) }
 {
     for i in 0..text.len() {
         if text[i] == mark {
-            return Some((&text[..i], &text[i + 1..]));
+            return Some(i);
         }
     }
     None
+}
+
+/// The text before the first byte of that kind, and the text after it. Nothing where there is none.
+pub fn split_at(mark: u8, text: &[u8]) -> Option<(&[u8], &[u8])>
+    ensures { option_map (λ r. (r.0.now, r.1.now)) result ≡ parts_at mark text.now }
+{
+    let at = find(mark, text)?;
+    Some((&text[..at], &text[at + 1..]))
 }
 
 /// The text before the first space, and the text after it. Nothing where there is no space.

@@ -114,10 +114,9 @@ fn call_step(version: Version, pid: Pid, rest: &[u8], step: &mut Step) -> bool
     ensures within { IfSome (then_some result step.new) (IsOf version) }
     ensures only { (c : Call) → FitsCall c → IsCallOf version c → rest.now ≡ call_text c → then_some result step.new ≡ Some (Step.Call pid c) }
 {
-    let mut call = Call::Getpid;
-    if !read_call(version, rest, &mut call) {
-        return false;
+    *step = Step::Call(pid, Call::Getpid);
+    match step {
+        Step::Call(_, call) => read_call(version, rest, call),
+        _ => false,
     }
-    *step = Step::Call(pid, call);
-    true
 }

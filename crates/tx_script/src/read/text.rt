@@ -7,6 +7,7 @@ use crate::faults::Fault;
 use crate::read::header::Header;
 use crate::read::heads::read_header;
 use crate::read::schedule::Schedule;
+use crate::read::split::split_at;
 use crate::read::steps::read_step_into;
 use std::alloc::Global;
 use tx_base::{Pid, Step};
@@ -30,14 +31,14 @@ pub fn read_schedule(alloc: Global, text: &[u8]) -> Result<Schedule, Fault>
     let mut steps = Vec::with_capacity(alloc, STEPS.min(left.len() / STEP_BYTES))?;
     while !left.is_empty() {
         let (line, rest) = next_line(steps.len(), left)?;
-        let mut step = Step::KernelAbort(Pid(0));
-        if !read_step_into(header.version, line, &mut step) {
-            return Err(Fault::NotALine {
-                line: steps.len() as u64 + 2,
-            });
-        }
-        if steps.push(step).is_err() {
+        let count = steps.len();
+        if steps.push(Step::KernelAbort(Pid(0))).is_err() {
             return Err(Fault::NoMemory);
+        }
+        if !read_step_into(header.version, line, &mut steps[count]) {
+            return Err(Fault::NotALine {
+                line: count as u64 + 2,
+            });
         }
         left = rest;
     }
@@ -85,15 +86,12 @@ fn line_of(number: u64, text: &[u8]) -> Result<(&[u8], &[u8]), Fault>
 
 /// The first line of a text without its end, and the text after that end. All of the text and
 /// nothing, where no line has an end.
-#[inline(never)] // as `split_at`
 fn take_line(text: &[u8]) -> (&[u8], Option<&[u8]>)
     ensures line { result.0.now ≡ first_line text.now }
     ensures rest { option_map (λ r. r.now) result.1 ≡ after_line text.now }
 {
-    for i in 0..text.len() {
-        if text[i] == b'\n' {
-            return (&text[..i], Some(&text[i + 1..]));
-        }
+    match split_at(b'\n', text) {
+        Some((line, rest)) => (line, Some(rest)),
+        None => (text, None),
     }
-    (text, None)
 }
