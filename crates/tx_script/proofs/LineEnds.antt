@@ -1,7 +1,5 @@
 -- The first line of a text, and what follows it.
-use Rattle.std.proofs.Common.{◌≡◌, ℕ, zero, suc, ◌+◌, ◌-◌, ◌<◌, ◌≤◌, List, [], ◌∷◌, ◌++◌, Option, Some, None, false, take, drop, get_or, length, refl, ap, ◌∙◌, sym, arith, eqb, eq-eqb, inl, inr, add-one, length-append, length-drop}
-use Rattle.std.proofs.lemmas.List.{take_all}
-use Rattle.std.proofs.lemmas.Bool.{ne_eqb}
+use Rattle.std.proofs.Common.{◌≡◌, ℕ, ◌<◌, List, [], ◌∷◌, ◌++◌, Option, Some, None, length, refl, ap, ◌∙◌, sym, arith, inl, inr, length-append}
 use Rattle.std.proofs.lemmas.Bool.Decides.{eqb_tells}
 use Rattle.tx_script.proofs.FirstWord.{parts_front, same_parts}
 use Rattle.tx_script.specs.Schedule.{first_line, after_line, IsLine}

@@ -6,6 +6,7 @@ pub mod header;
 pub mod heads;
 pub mod numbers;
 pub mod schedule;
+pub mod search;
 pub mod sets;
 pub mod small;
 pub mod split;

@@ -1,26 +1,13 @@
 //! The words of a line, parted by spaces, and the numbers among them.
-ghost use Rattle.std.specs.Prelude.{◌≡◌, ◌≢◌, ◌+◌, ◌<◌, ◌^◌, ◌++◌, ◌∷◌, ℤ, ℕ, List, FitsSigned, IfSome, IsSomeAnd, MatchOption, Some, drop, length, option_map, take};
+ghost use Rattle.std.specs.Prelude.{◌≡◌, ◌≢◌, ◌<◌, ◌^◌, ◌++◌, ◌∷◌, ℤ, ℕ, List, FitsSigned, IfSome, IsSomeAnd, MatchOption, Some, option_map};
 ghost use Rattle.std.specs.Int.{w64};
 ghost use Rattle.std.specs.Fmt.{decimal, signed_decimal};
 ghost use Rattle.tx_script.specs.Calls.{pair_text, triple_text};
 ghost use Rattle.tx_script.specs.Words.{first_word, parts_at};
 
 use crate::read::numbers::number;
+use crate::read::search::find;
 use crate::read::small::{read_byte, read_point};
-
-/// Where the first byte of that kind stands. Nothing where there is none.
-#[inline(never)] // inlined, its loop would keep the offsets that its callers go on with
-fn find(mark: u8, text: &[u8]) -> Option<usize>
-    ensures place { option_map (λ i. (take i text.now, drop (i + 1) text.now)) result ≡ parts_at mark text.now }
-    ensures inside { IfSome result (λ i. i < length text.now) }
-{
-    for i in 0..text.len() {
-        if text[i] == mark {
-            return Some(i);
-        }
-    }
-    None
-}
 
 /// The text before the first byte of that kind, and the text after it. Nothing where there is none.
 pub fn split_at(mark: u8, text: &[u8]) -> Option<(&[u8], &[u8])>

@@ -1,6 +1,6 @@
 use Rattle.std.proofs.Common.{arith, sym}
 use Rattle.tx_script.proofs.FirstWord.{parts_at-found, parts_at-none}
-use Rattle.tx_script.proofs.read.split.find.Goals as goal
+use Rattle.tx_script.proofs.read.search.find_from.Goals as goal
 
 pub returns-clause-place : goal.returns-clause-place
 returns-clause-place c = sym (parts_at-none c.args.mark c.args.text.now (λ k below. c.loop-i.invariant k (omega arith)))
