@@ -38,7 +38,6 @@ use Rattle.tx_model.specs.Membership.{Begins, Within, is_of, new_mark}
 use Rattle.tx_model.specs.State.{Object, Proc, Desc, Pipe, Held, State, has, is_between}
 use Rattle.tx_proc.specs.Processes.{process_in}
 use Rattle.tx_proc.specs.declared.proc.Proc.{Proc as TheProc}
-use Rattle.tx_reserve.specs.Objects.{is_in}
 use Rattle.tx_reserve.specs.Reservations.{owner_of}
 use Rattle.tx_txn.specs.Content.{IsKept}
 use Rattle.tx_txn.specs.Logs.{newest_first}
