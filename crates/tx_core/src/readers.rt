@@ -1,15 +1,17 @@
 //! What there is to read of a machine.
-ghost use Rattle.std.specs.Prelude.{◌≡◌, ℕ, length, map, option_map};
+ghost use Rattle.std.specs.Prelude.{◌≡◌, ◌↔◌, ℕ, true, length, map, option_map, IfSome, IsSome};
 ghost use Rattle.tx_base.specs.Slots.{slot_at};
 ghost use Rattle.tx_change.specs.States.{state_of};
 ghost use Rattle.tx_kernel.specs.Plans.{sending_of};
 ghost use Rattle.tx_live.specs.Content.{held_of, view_of};
-ghost use Rattle.tx_model.specs.View.{present};
+ghost use Rattle.tx_model.specs.Membership.{is_live};
+ghost use Rattle.tx_model.specs.View.{kernel_status, present};
 
 use crate::laws::laws;
 use crate::machine::Machine;
 use tx_base::{Mark, Pid, Sending, Slots};
 use tx_change::Parts;
+use tx_step::kernel_status;
 
 impl Machine {
     /// How many process numbers there are: 64, or 256 of a wide machine.
@@ -56,5 +58,14 @@ impl Machine {
             Some(mark) => Some(mark.starter),
             None => None,
         }
+    }
+
+    /// The status that `kernel_abort` of a starter's live transaction gives: 203 where it is doomed, and
+    /// else 202. Nothing where the starter has no live transaction. It takes no memory. Own rule.
+    pub fn kernel_status(&self, starter: Pid) -> Option<u16>
+        ensures status { IfSome result (λ status. status ≡ kernel_status (view_of self.now) starter.0) }
+        ensures live { IsSome result ↔ (is_live (view_of self.now).table starter.0 ≡ true) }
+    {
+        kernel_status(&self.content, starter)
     }
 }

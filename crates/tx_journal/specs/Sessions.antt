@@ -1,5 +1,5 @@
 -- What a session keeps, and what is so of it.
-use Rattle.std.specs.Prelude.{◌≡◌, ℕ, ◌+◌, ◌≤◌, List, length, reverse, take}
+use Rattle.std.specs.Prelude.{◌≡◌, ◌⊎◌, ℕ, ◌+◌, ◌≤◌, List, length, reverse, take}
 use Rattle.tx_journal.specs.Entries.{history_of}
 use Rattle.tx_journal.specs.Lives.{lives}
 use Rattle.tx_journal.specs.Walks.{WalksBack}
@@ -60,3 +60,12 @@ IsAtEnd k = position_of k ≡ length k.entries
 pub record SameBoot (new old : Kept) : Type 0 where
   pub width : new.width ≡ old.width
   pub count : new.count ≡ old.count
+
+-- the one has the entries of the other, and was booted as it was: they differ in their position at most
+pub record SameJournal (new old : Kept) : Type 0 where
+  pub entries : new.entries ≡ old.entries
+  pub boot : SameBoot new old
+
+-- a position lies between two others, or is one of them
+abbrev pub IsBetween : ℕ → ℕ → ℕ → Type 0
+IsBetween from at to = ((from ≤ at) × (at ≤ to)) ⊎ ((to ≤ at) × (at ≤ from))

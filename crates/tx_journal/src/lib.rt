@@ -2,11 +2,14 @@
 #![tactic(auto)]
 
 mod entry;
+mod faults;
 mod journal;
 mod laws;
 mod making;
 mod session;
 mod steps;
+mod walks;
 
 pub use entry::Entry;
+pub use faults::{AtStart, ForwardFault, GotoFault};
 pub use session::Session;

@@ -1,7 +1,8 @@
 //! Makes a step, and adds its entry.
-ghost use Rattle.std.specs.Prelude.{◌≡◌, ◌≢◌, ◌∷◌, ◌↔◌, ◌⊎◌, ◌+◌, ◌≤◌, ◌<◌, ◌^◌, List, IsOk, IsTrue, OnOk, false, length, true};
+ghost use Rattle.std.specs.Prelude.{◌≡◌, ◌≢◌, ◌∷◌, ◌↔◌, ◌⊎◌, ◌+◌, ◌≤◌, ◌<◌, ◌^◌, List, IsOk, IsTrue, OnErr, OnOk, false, length, true};
 ghost use Rattle.tx_base.specs.declared.steps.Accepted.{Accepted};
-ghost use Rattle.tx_base.specs.declared.steps.Reply.TheVariants.{No};
+ghost use Rattle.tx_base.specs.declared.steps.Reply.TheVariants.{Aborted, No};
+ghost use Rattle.tx_base.specs.declared.steps.Step.TheVariants.{KernelAbort};
 ghost use Rattle.tx_journal.specs.Lives.{has_place, lives, one_if, starter_by, starter_of};
 ghost use Rattle.tx_journal.specs.Rooms.{IsAdded, IsCounted, IsReady, SameRecord};
 ghost use Rattle.tx_laws.specs.Sound.{IsSound};
@@ -9,7 +10,7 @@ ghost use Rattle.tx_live.specs.Content.{view_of};
 ghost use Rattle.tx_model.specs.Answer.{IsAccepted, Lawful, answer};
 ghost use Rattle.tx_model.specs.Membership.{is_live};
 ghost use Rattle.tx_model.specs.State.{State};
-ghost use Rattle.tx_model.specs.View.{view};
+ghost use Rattle.tx_model.specs.View.{kernel_status, view};
 ghost use Rattle.tx_step.specs.Steps.{IsKernelAbort, IsXabort};
 
 use crate::entry::Entry;
@@ -17,7 +18,7 @@ use crate::journal::Journal;
 use crate::laws::laws;
 use std::alloc::Global;
 use tx_base::{Call, NoMemory, Pid, Refusal, Reply, Step};
-use tx_core::Machine;
+use tx_core::{Machine, NoTransaction};
 
 /// Makes a step, puts its reply where it is to stand, and adds its entry where it was accepted. The place
 /// of the entry is reserved first, but for an abort, which has its own. Answers whether it was.
@@ -106,6 +107,42 @@ fn make(
     journal.push(entry, inverse);
     journal.live = live_after(journal.live, was, is);
     true
+}
+
+/// Aborts a starter's live transaction as the kernel does, and adds its entry, which has its place from
+/// the sys_xbegin. It takes no memory.
+///
+/// `NoTransaction` where the starter has no live transaction, with nothing changed.
+pub(crate) fn abort(
+    machine: &mut Machine,
+    journal: &mut Journal,
+    worker: u16,
+    starter: Pid,
+) -> Result<(), NoTransaction>
+    requires sound { IsSound (view_of machine.old) }
+    requires at_end { length journal.old.inverses.items ≡ length journal.old.entries.items }
+    requires counted { IsCounted machine.old journal.old }
+    ensures live { IsOk result ↔ (is_live (view_of machine.old).table starter.0 ≡ true) }
+    ensures added { OnOk result (IsAdded machine.old journal.old (record { step = KernelAbort starter; worker = worker; reply = Aborted (kernel_status (view_of machine.old) starter.0) }) machine.new journal.new) }
+    ensures machine { OnErr result (machine.new ≡ machine.old) }
+    ensures journal { OnErr result (journal.new ≡ journal.old) }
+    ensures history { OnOk result ((start : State) (earlier : List Accepted) → Lawful start earlier → view_of machine.old ≡ view start earlier →
+        Lawful start (record { step = KernelAbort starter; reply = Aborted (kernel_status (view_of machine.old) starter.0) } ∷ earlier)
+        × (view_of machine.new ≡ view start (record { step = KernelAbort starter; reply = Aborted (kernel_status (view_of machine.old) starter.0) } ∷ earlier))) }
+{
+    laws();
+    let Some(status) = machine.kernel_status(starter) else {
+        return Err(NoTransaction);
+    };
+    let inverse = machine.kernel_abort(starter)?;
+    let entry = Entry {
+        step: Step::KernelAbort(starter),
+        worker,
+        reply: Reply::Aborted(status),
+    };
+    journal.push(entry, inverse);
+    journal.live -= 1;
+    Ok(())
 }
 
 /// Whether a step has its place from the sys_xbegin of the transaction that it aborts: the kernel's

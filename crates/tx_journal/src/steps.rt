@@ -1,16 +1,20 @@
 //! Steps of a session.
-ghost use Rattle.std.specs.Prelude.{◌≡◌, ◌≢◌, ◌⊎◌, ◌++◌, ◌∷◌, []};
-ghost use Rattle.tx_base.specs.declared.steps.Reply.TheVariants.{No};
+ghost use Rattle.std.specs.Prelude.{◌≡◌, ◌≢◌, ◌⊎◌, ◌↔◌, ◌++◌, ◌∷◌, [], IsOk, OnErr, OnOk, true};
+ghost use Rattle.tx_base.specs.declared.steps.Reply.TheVariants.{Aborted, No};
+ghost use Rattle.tx_base.specs.declared.steps.Step.TheVariants.{KernelAbort};
 ghost use Rattle.tx_journal.specs.Sessions.{IsAtEnd, SameBoot};
 ghost use Rattle.tx_live.specs.Content.{view_of};
 ghost use Rattle.tx_model.specs.Answer.{IsAccepted, answer};
+ghost use Rattle.tx_model.specs.Membership.{is_live};
+ghost use Rattle.tx_model.specs.View.{kernel_status};
 ghost use Rattle.tx_step.specs.Steps.{IsKernelAbort, IsXabort};
 
 use crate::laws::laws;
-use crate::making::record;
+use crate::making::{abort, record};
 use crate::session::Session;
 use std::alloc::Global;
-use tx_base::{Refusal, Reply, Step};
+use tx_base::{Pid, Refusal, Reply, Step};
+use tx_core::NoTransaction;
 
 impl Session {
     /// Makes a step of a worker at the end of the journal, as `Machine::step` does. Where it is accepted
@@ -54,5 +58,21 @@ impl Session {
             step,
             reply,
         );
+    }
+
+    /// Aborts the live transaction of a starter as the kernel does, at the end of the journal, as
+    /// `Machine::kernel_abort` does, and adds its entry. It takes no memory.
+    ///
+    /// `NoTransaction` where the starter has no live transaction, with nothing changed.
+    pub fn kernel_abort(&mut self, worker: u16, starter: Pid) -> Result<(), NoTransaction>
+        requires { IsAtEnd self.old }
+        ensures ok { OnOk result (self.new.entries ≡ self.old.entries ++ record { step = KernelAbort starter; worker = worker; reply = Aborted (kernel_status (view_of self.old.machine) starter.0) } ∷ []) }
+        ensures live { IsOk result ↔ (is_live (view_of self.old.machine).table starter.0 ≡ true) }
+        ensures refused { OnErr result (self.new ≡ self.old) }
+        ensures boot { SameBoot self.new self.old }
+        ensures at_end { IsAtEnd self.new }
+    {
+        laws();
+        abort(&mut self.machine, &mut self.journal, worker, starter)
     }
 }

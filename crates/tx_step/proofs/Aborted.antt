@@ -135,11 +135,18 @@ module _ (laws : StepLaws) (k : Content) (is : IsContent k) where
   unfolding view_of
   doom_seen s boxed there = laws.doom (content_of k) s (txn_of boxed) is.kept (ap (option_map txn_of) there)
 
-  -- the kernel's abort, with the status that this tells, is a step
-  pub kernel_taken : (starter : Pid) (boxed : BoxedTxn) → slot_at k.txns starter.0 ≡ Some boxed → (doomed : Bool) → doomed ≡ is_in_set boxed.txn.value.kept.pending.standard kill_signo →
-      (status : ℕ) → status ≡ (if doomed then 203 else 202) → (ret : ℤ) → ret ≡ negative status → (new : Content) (inverse : Inverse) →
-      IsMade k (Aborts starter.0 status) (Note starter.0 ret) starter.0 new inverse → IsStep k (KernelAbort starter) (Aborted status) inverse new
-  kernel_taken starter boxed there doomed is_doom status is_status ret is_ret new inverse made =
-      kernel_step starter status (txn_live k is.kept starter.0 (ap is_some there))
-      (ap (λ (b : Bool). if b then 203 else 202) (doom_seen starter.0 boxed there ∙ sym is_doom) ∙ sym is_status) new inverse
-      (subst (λ (r : ℤ). IsMade k (Aborts starter.0 status) (Note starter.0 r) starter.0 new inverse) is_ret made)
+  -- and so it tells the status of the kernel's abort
+  pub status_seen : (s : ℕ) (boxed : BoxedTxn) → slot_at k.txns s ≡ Some boxed → (doomed : Bool) → doomed ≡ is_in_set boxed.txn.value.kept.pending.standard kill_signo →
+      (if doomed then 203 else 202) ≡ kernel_status (view_of k) s
+  status_seen s boxed there doomed is_doom = ap (λ (b : Bool). if b then 203 else 202) (is_doom ∙ sym (doom_seen s boxed there))
+
+  status_negates : (doomed : Bool) → negated (pos (if doomed then 203 else 202)) ≡ negative (if doomed then 203 else 202)
+  status_negates true = refl
+  status_negates false = refl
+
+  -- the kernel's abort with that status is a step
+  pub kernel_taken : (starter : Pid) (status : ℕ) → status ≡ kernel_status (view_of k) starter.0 → is_live (view_of k).table starter.0 ≡ true → (ret : ℤ) → ret ≡ pos status →
+      (new : Content) (inverse : Inverse) → IsMade k (Aborts starter.0 status) (Note starter.0 (negated ret)) starter.0 new inverse → IsStep k (KernelAbort starter) (Aborted status) inverse new
+  kernel_taken starter status is_status live ret is_ret new inverse made =
+      let answered : negated ret ≡ negative status = ap negated (is_ret ∙ ap pos is_status) ∙ status_negates (is_doomed (view_of k) starter.0) ∙ sym (ap negative is_status) in
+      kernel_step starter status live (sym is_status) new inverse (subst (λ (r : ℤ). IsMade k (Aborts starter.0 status) (Note starter.0 r) starter.0 new inverse) answered made)

@@ -6,6 +6,7 @@ ghost use Rattle.tx_judge.specs.Contents.{IsContent};
 ghost use Rattle.tx_judge.specs.declared.roles.StepRole.TheVariants as role;
 ghost use Rattle.tx_live.specs.Content.{view_of};
 ghost use Rattle.tx_model.specs.Membership.{is_live};
+ghost use Rattle.tx_model.specs.View.{kernel_status};
 ghost use Rattle.tx_step.specs.Asks.{step_of};
 ghost use Rattle.tx_step.specs.Steps.{IsStep, Takes};
 ghost use Rattle.tx_step.specs.Through.{IsLetThrough};
@@ -44,12 +45,23 @@ pub fn take_kernel_abort(content: &mut Content, starter: Pid) -> Option<(u16, In
     ensures none { IfNone result (content.new ≡ content.old) }
 {
     laws();
+    let status = kernel_status(content, starter)?;
+    let inverse = content.abort(starter, -i64::from(status));
+    Some((status, inverse))
+}
+
+/// The status that the kernel's abort of a starter's live transaction gives: 203 where it is doomed,
+/// and else 202. Nothing where the starter has no live transaction. It takes no memory. Own rule.
+pub fn kernel_status(content: &Content, starter: Pid) -> Option<u16>
+    requires { IsContent content.now }
+    ensures status { IfSome result (λ status. status ≡ kernel_status (view_of content.now) starter.0) }
+    ensures live { IsSome result ↔ (is_live (view_of content.now).table starter.0 ≡ true) }
+{
+    laws();
     let boxed = content.txns.get(starter)?;
-    let status = if boxed.txn.kept.is_doomed() {
+    Some(if boxed.txn.kept.is_doomed() {
         ABORTED_DOOMED
     } else {
         ABORTED_BY_KERNEL
-    };
-    let inverse = content.abort(starter, -i64::from(status));
-    Some((status, inverse))
+    })
 }

@@ -13,7 +13,7 @@ mod outside;
 mod replies;
 mod steps;
 
-pub use aborts::take_kernel_abort;
+pub use aborts::{kernel_status, take_kernel_abort};
 pub use answered::Answered;
 pub use replies::put_reply;
 pub use steps::{take_call, take_delivery};

@@ -1,0 +1,119 @@
+-- A session that went back by an entry, or forward by one.
+use Rattle.std.proofs.Common.{◌≡◌, ℕ, ◌+◌, ◌<◌, ◌≤◌, List, [], ◌∷◌, ◌++◌, length, map, reverse, take, drop, get_or, Option, Some, slice_get, ◌⊎◌, inl, inr, arith, refl, sym, ap, subst, ◌∙◌, length-append}
+use Rattle.std.specs.Prelude.{vec_capacity}
+use Rattle.std.proofs.lemmas.List.{append_assoc, map-append, reverse-append, take_more, take-append-drop}
+use Rattle.std.proofs.lemmas.Option.{get_or_from_slice_get}
+use Rattle.tx_base.specs.declared.steps.Accepted.{Accepted}
+use Rattle.tx_base.specs.declared.steps.Refusal.TheVariants.{NoMemory}
+use Rattle.tx_base.specs.declared.steps.Reply.{Reply}
+use Rattle.tx_base.specs.declared.steps.Reply.TheVariants.{No}
+use Rattle.tx_core.specs.Undo.{LeadsBack}
+use Rattle.tx_journal.proofs.Extended.{history_more, walks_view}
+use Rattle.tx_journal.specs.Entries.{accepted_of, history_of}
+use Rattle.tx_journal.specs.Sessions.{IsJournal, Kept, position_of, start_of}
+use Rattle.tx_journal.specs.Walks.{WalksBack}
+use Rattle.tx_journal.specs.declared.entry.Entry.{Entry}
+use Rattle.tx_live.specs.Content.{view_of}
+use Rattle.tx_live.specs.Inverses.{Undoes}
+use Rattle.tx_live.specs.declared.content.Content.{Content}
+use Rattle.tx_live.specs.declared.inverse.Inverse.{Inverse}
+use Rattle.tx_model.specs.Answer.{IsAccepted, Lawful, answer}
+use Rattle.tx_model.specs.State.{State}
+use Rattle.tx_model.specs.View.{View, view}
+
+-- the history of the entries up to one of them
+history_to : (entries : List Entry) (n : ℕ) (d : Entry) → n < length entries → history_of (take (n + 1) entries) ≡ accepted_of (get_or entries n d) ∷ history_of (take n entries)
+history_to entries n d under = ap history_of (take_more entries n d under) ∙ history_more (take n entries) (get_or entries n d)
+
+-- what is lawful is so without its newest steps
+lawful_before : (start : State) (later earlier : List Accepted) → Lawful start (later ++ earlier) → Lawful start earlier
+unfolding Lawful
+lawful_before start [] earlier lawful = lawful
+lawful_before start (e ∷ later) earlier lawful = lawful_before start later earlier lawful.0
+
+lawful_to : (start : State) (entries : List Entry) (n : ℕ) → Lawful start (history_of entries) → Lawful start (history_of (take n entries))
+lawful_to start entries n lawful = lawful_before start (history_of (drop n entries)) (history_of (take n entries)) (subst (Lawful start) parts lawful)
+  where
+    parts : history_of entries ≡ history_of (drop n entries) ++ history_of (take n entries)
+    parts = ap history_of (sym (take-append-drop n entries)) ∙ ap reverse (map-append accepted_of (take n entries) (drop n entries)) ∙ reverse-append (map accepted_of (take n entries)) (map accepted_of (drop n entries))
+
+-- the session without its newest inverse
+module _ (k : Kept) (is : IsJournal k) (rest : List Inverse) (inverse : Inverse) (parts : k.inverses ≡ rest ++ inverse ∷ []) where
+  fewer : position_of k ≡ length rest + 1
+  fewer = ap length parts ∙ length-append rest (inverse ∷ [])
+
+  walked : WalksBack (start_of k) k.machine (inverse ∷ reverse rest) (history_of (take (length rest + 1) k.entries))
+  walked = subst (λ (xs : List Inverse). WalksBack (start_of k) k.machine xs (history_of (take (length rest + 1) k.entries))) (ap reverse parts ∙ reverse-append rest (inverse ∷ []))
+      (subst (λ (n : ℕ). WalksBack (start_of k) k.machine (reverse k.inverses) (history_of (take n k.entries))) fewer is.walks)
+
+  first_walk : (entries : List Entry) → entries ≡ k.entries → LeadsBack k.machine inverse × ((before : Content) × Undoes k.machine inverse before × WalksBack (start_of k) before (reverse rest) (history_of (take (length rest) k.entries)))
+  unfolding WalksBack
+  first_walk [] none = let f = fewer in let few = is.few in let no : length k.entries ≡ 0 = ap length (sym none) in absurd (omega (arith, f, few, no))
+  first_walk (d ∷ entries) some =
+      let under : length rest < length k.entries = let f = fewer in let few = is.few in omega (arith, f, few) in
+      let at : WalksBack (start_of k) k.machine (inverse ∷ reverse rest) (accepted_of (get_or k.entries (length rest) d) ∷ history_of (take (length rest) k.entries))
+      = subst (WalksBack (start_of k) k.machine (inverse ∷ reverse rest)) (history_to k.entries (length rest) d under) walked in
+      (at.1, at.2)
+
+  pub leads_back : LeadsBack k.machine inverse
+  leads_back = (first_walk k.entries refl).0
+
+  abbrev pub less : Content → Kept
+  less before = record { machine = before; entries = k.entries; inverses = rest; width = k.width; count = k.count }
+
+  pub journal_less : (new : Content) → ((before : Content) → Undoes k.machine inverse before → new ≡ before) → IsJournal (less new)
+  journal_less new undone =
+      let walk = (first_walk k.entries refl).1 in
+      record {
+        low = is.low;
+        high = is.high;
+        wide = is.wide;
+        few = let f = fewer in let few = is.few in omega (arith, f, few);
+        lawful = is.lawful;
+        walks = subst (λ (content : Content). WalksBack (start_of k) content (reverse rest) (history_of (take (length rest) k.entries))) (sym (undone walk.0 walk.1)) walk.2;
+      }
+
+-- the session after it made the next entry
+module _ (k : Kept) (is : IsJournal k) (entry : Entry) (next : Some entry ≡ slice_get k.entries (position_of k)) (under : position_of k < length k.entries) where
+  earlier : List Accepted
+  earlier = history_of (take (position_of k) k.entries)
+
+  seen : view_of k.machine ≡ view (start_of k) earlier
+  seen = walks_view (start_of k) k.machine (reverse k.inverses) earlier is.walks
+
+  next_history : history_of (take (position_of k + 1) k.entries) ≡ accepted_of entry ∷ earlier
+  next_history = history_to k.entries (position_of k) entry under ∙ ap (λ (e : Entry). accepted_of e ∷ earlier) (get_or_from_slice_get k.entries (position_of k) entry entry (sym next))
+
+  next_lawful : Lawful (start_of k) (accepted_of entry ∷ earlier)
+  next_lawful = subst (Lawful (start_of k)) next_history (lawful_to (start_of k) k.entries (position_of k + 1) is.lawful)
+
+  -- the entry's reply is the answer to its step
+  its_reply : (reply : Reply) → IsAccepted reply → (reply ≡ No NoMemory) ⊎ (answer (view_of k.machine) entry.step ≡ reply) → reply ≡ entry.reply
+  unfolding Lawful
+  its_reply reply accepted (inl refused) = absurd (subst IsAccepted refused accepted)
+  its_reply reply accepted (inr answered) = sym answered ∙ ap (λ (V : View). answer V entry.step) seen ∙ next_lawful.1
+
+  pub journal_next : (new : Content) (inverse : Inverse) (reply : Reply) → IsAccepted reply → (reply ≡ No NoMemory) ⊎ (answer (view_of k.machine) entry.step ≡ reply) →
+      ((start : State) (earlier : List Accepted) → Lawful start earlier → view_of k.machine ≡ view start earlier →
+      Lawful start (record { step = entry.step; reply = reply } ∷ earlier) × (view_of new ≡ view start (record { step = entry.step; reply = reply } ∷ earlier))) →
+      LeadsBack new inverse → Undoes new inverse k.machine →
+      IsJournal (record { machine = new; entries = k.entries; inverses = k.inverses ++ inverse ∷ []; width = k.width; count = k.count })
+  unfolding Lawful WalksBack
+  journal_next new inverse reply accepted answered along leads undoes = record {
+    low = is.low;
+    high = is.high;
+    wide = is.wide;
+    few = omega (arith, under, longer);
+    lawful = is.lawful;
+    walks = subst (λ (xs : List Inverse). WalksBack (start_of k) new xs (history_of (take (length (k.inverses ++ inverse ∷ [])) k.entries))) (sym (reverse-append k.inverses (inverse ∷ [])))
+        (subst (WalksBack (start_of k) new (inverse ∷ reverse k.inverses)) (sym here) (view_new, leads, (k.machine, undoes, is.walks)));
+  }
+    where
+      longer : length (k.inverses ++ inverse ∷ []) ≡ position_of k + 1
+      longer = length-append k.inverses (inverse ∷ [])
+
+      here : history_of (take (length (k.inverses ++ inverse ∷ [])) k.entries) ≡ accepted_of entry ∷ earlier
+      here = ap (λ (n : ℕ). history_of (take n k.entries)) longer ∙ next_history
+
+      view_new : view_of new ≡ view (start_of k) (accepted_of entry ∷ earlier)
+      view_new = (along (start_of k) earlier next_lawful.0 seen).1 ∙ ap (λ (r : Reply). view (start_of k) (record { step = entry.step; reply = r } ∷ earlier)) (its_reply reply accepted answered)

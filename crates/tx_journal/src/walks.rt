@@ -1,0 +1,101 @@
+//! Walks over the entries of a session, back and forward again.
+ghost use Rattle.std.specs.Prelude.{◌≡◌, ◌≤◌, ◌<◌, ◌↔◌, ◌+◌, Err, IsErr, OnErr, OnOk, length};
+ghost use Rattle.tx_journal.specs.Sessions.{IsAtEnd, IsBetween, SameJournal, position_of};
+ghost use Rattle.tx_journal.specs.declared.faults.ForwardFault.TheVariants as forward;
+ghost use Rattle.tx_journal.specs.declared.faults.GotoFault.TheVariants as goto;
+
+use crate::faults::{AtStart, ForwardFault, GotoFault};
+use crate::laws::laws;
+use crate::session::Session;
+use std::alloc::Global;
+use tx_base::{NoMemory, Reply};
+
+impl Session {
+    /// Takes the newest entry back that is made. It takes no memory.
+    ///
+    /// `AtStart` where none is made, with nothing changed.
+    pub fn back(&mut self) -> Result<(), AtStart>
+        ensures moved { OnOk result (position_of self.new + 1 ≡ position_of self.old) }
+        ensures start { IsErr result ↔ (position_of self.old ≡ 0) }
+        ensures refused { OnErr result (self.new ≡ self.old) }
+        ensures journal { SameJournal self.new self.old }
+    {
+        let Some(inverse) = self.journal.inverses.pop() else {
+            return Err(AtStart);
+        };
+        self.machine.undo(inverse);
+        Ok(())
+    }
+
+    /// Makes the entry after the position again: its step has the reply that it had.
+    ///
+    /// `AtEnd` where all entries are made, and `NoMemory` where a growth is refused, with nothing
+    /// changed.
+    pub fn forward(&mut self, alloc: Global) -> Result<(), ForwardFault>
+        ensures moved { OnOk result (position_of self.new ≡ position_of self.old + 1) }
+        ensures end { (result ≡ Err forward.AtEnd) ↔ IsAtEnd self.old }
+        ensures refused { OnErr result (self.new ≡ self.old) }
+        ensures journal { SameJournal self.new self.old }
+    {
+        laws();
+        let Some(entry) = self.journal.entries.get(self.journal.inverses.len()) else {
+            return Err(ForwardFault::AtEnd);
+        };
+        let mut reply = Reply::Ended;
+        let Some(inverse) = self.machine.step_into(alloc, &entry.step, &mut reply) else {
+            return Err(ForwardFault::NoMemory);
+        };
+        self.journal.inverses.push_reserved(inverse);
+        Ok(())
+    }
+
+    /// Goes to the position after so many entries, step by step: it pays for the entries between.
+    ///
+    /// `Beyond` where the journal has fewer entries, with nothing changed. `NoMemory` where a growth is
+    /// refused on the way forward: the position is then between the old one and the new one.
+    pub fn goto(&mut self, alloc: Global, position: usize) -> Result<(), GotoFault>
+        ensures moved { OnOk result (position_of self.new ≡ position) }
+        ensures beyond { (result ≡ Err goto.Beyond) ↔ (length self.old.entries < position) }
+        ensures unmoved { result ≡ Err goto.Beyond → self.new ≡ self.old }
+        ensures stopped { result ≡ Err goto.NoMemory → IsBetween (position_of self.old) (position_of self.new) position }
+        ensures journal { SameJournal self.new self.old }
+    {
+        if position > self.len() {
+            return Err(GotoFault::Beyond);
+        }
+        self.back_to(position);
+        match self.forward_to(alloc, position) {
+            Ok(()) => Ok(()),
+            Err(NoMemory) => Err(GotoFault::NoMemory),
+        }
+    }
+
+    /// Takes entries back until no more than so many are made.
+    fn back_to(&mut self, position: usize)
+        ensures moved { position ≤ position_of self.old → position_of self.new ≡ position }
+        ensures stayed { position_of self.old ≤ position → position_of self.new ≡ position_of self.old }
+        ensures journal { SameJournal self.new self.old }
+    {
+        while self.position() > position {
+            let _moved = self.back();
+        }
+    }
+
+    /// Makes entries again until so many are made, which the journal must have.
+    ///
+    /// `NoMemory` where a growth is refused; fewer are made then, and no fewer than before.
+    fn forward_to(&mut self, alloc: Global, position: usize) -> Result<(), NoMemory>
+        requires low { position_of self.old ≤ position }
+        requires high { position ≤ length self.old.entries }
+        ensures moved { OnOk result (position_of self.new ≡ position) }
+        ensures stopped { OnErr result ((position_of self.old ≤ position_of self.new) × (position_of self.new < position)) }
+        ensures journal { SameJournal self.new self.old }
+    {
+        while self.position() < position {
+            if self.forward(alloc).is_err() {
+                return Err(NoMemory);
+            }
+        }
+        Ok(())
+    }
+}
