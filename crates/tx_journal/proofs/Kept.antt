@@ -1,5 +1,5 @@
 -- What a session keeps after a step.
-use Rattle.std.proofs.Common.{◌≡◌, ℕ, ◌+◌, ◌≤◌, ◌∷◌, Bool, true, false, List, length, refl, sym, ap, subst, ◌∙◌}
+use Rattle.std.proofs.Common.{◌≡◌, ℕ, ◌+◌, ◌≤◌, ◌∷◌, Bool, true, false, List, Result, Ok, Err, OnOk, OnErr, length, refl, sym, ap, subst, ◌∙◌}
 use Rattle.std.specs.Prelude.{vec_capacity}
 use Rattle.tx_base.specs.declared.steps.Accepted.{Accepted}
 use Rattle.tx_journal.proofs.Extended.{history_more, journal_more, more, seen_at_end}
@@ -79,3 +79,11 @@ module _ (laws : SessionLaws) (machine : Content) (j : Journal) (width count : �
       IsKeptSo new after width count
   kept_after entry new after true added same stays counted along = kept_more entry new after (added refl) (along refl)
   kept_after entry new after false added same stays counted along = kept_same new after (same refl) (stays refl) (counted refl)
+
+  -- the same, as it is answered
+  pub kept_answered : {T E : Type 0} (entry : Entry) (new : Content) (after : Journal) (r : Result T E) → OnOk r (IsAdded machine j entry new after) → OnErr r (new ≡ machine) → OnErr r (after ≡ j) →
+      OnOk r ((start : State) (earlier : List Accepted) → Lawful start earlier → view_of machine ≡ view start earlier → Lawful start (accepted_of entry ∷ earlier) × (view_of new ≡ view start (accepted_of entry ∷ earlier))) →
+      IsKeptSo new after width count
+  kept_answered entry new after (Ok x) added same stays along = kept_more entry new after added along
+  kept_answered entry new after (Err x) added same stays along =
+      subst (λ (c : Content). IsKeptSo c after width count) (sym same) (subst (λ (a : Journal). IsKeptSo machine a width count) (sym stays) is)

@@ -1,8 +1,7 @@
 -- A session that went back by an entry, or forward by one.
-use Rattle.std.proofs.Common.{◌≡◌, ℕ, ◌+◌, ◌<◌, ◌≤◌, List, [], ◌∷◌, ◌++◌, length, map, reverse, take, drop, get_or, Option, Some, slice_get, ◌⊎◌, inl, inr, arith, refl, sym, ap, subst, ◌∙◌, length-append}
-use Rattle.std.specs.Prelude.{vec_capacity}
-use Rattle.std.proofs.lemmas.List.{append_assoc, map-append, reverse-append, take_more, take-append-drop}
-use Rattle.std.proofs.lemmas.Option.{get_or_from_slice_get}
+use Rattle.std.proofs.Common.{◌≡◌, ℕ, ◌+◌, ◌<◌, ◌≤◌, List, [], ◌∷◌, ◌++◌, length, map, reverse, take, drop, get_or, Some, None, slice_get, ◌⊎◌, inl, inr, arith, refl, sym, ap, subst, ◌∙◌, length-append}
+use Rattle.std.proofs.lemmas.List.{map-append, reverse-append, take_more, take-append-drop}
+use Rattle.std.proofs.lemmas.Option.{get_or_from_slice_get, slice_get_cases}
 use Rattle.tx_base.specs.declared.steps.Accepted.{Accepted}
 use Rattle.tx_base.specs.declared.steps.Refusal.TheVariants.{NoMemory}
 use Rattle.tx_base.specs.declared.steps.Reply.{Reply}
@@ -74,9 +73,19 @@ module _ (k : Kept) (is : IsJournal k) (rest : List Inverse) (inverse : Inverse)
       }
 
 -- the session after it made the next entry
-module _ (k : Kept) (is : IsJournal k) (entry : Entry) (next : Some entry ≡ slice_get k.entries (position_of k)) (under : position_of k < length k.entries) where
-  earlier : List Accepted
+within : (entries : List Entry) (n : ℕ) (entry : Entry) → Some entry ≡ slice_get entries n → n < length entries
+within entries n entry at = by (slice_get_cases entries n).1
+  where
+    by : ((x : Entry) × (n < length entries) × (slice_get entries n ≡ Some x) × (get_or entries n x ≡ x)) ⊎ ((length entries ≤ n) × (slice_get entries n ≡ None)) → n < length entries
+    by (inl (x, under, is, same)) = under
+    by (inr (past, none)) = let clash : Some entry ≡ None = at ∙ none in cc
+
+module _ (k : Kept) (is : IsJournal k) (entry : Entry) (next : Some entry ≡ slice_get k.entries (position_of k)) where
+  abbrev earlier : List Accepted
   earlier = history_of (take (position_of k) k.entries)
+
+  under : position_of k < length k.entries
+  under = within k.entries (position_of k) entry next
 
   seen : view_of k.machine ≡ view (start_of k) earlier
   seen = walks_view (start_of k) k.machine (reverse k.inverses) earlier is.walks
@@ -103,7 +112,7 @@ module _ (k : Kept) (is : IsJournal k) (entry : Entry) (next : Some entry ≡ sl
     low = is.low;
     high = is.high;
     wide = is.wide;
-    few = omega (arith, under, longer);
+    few = let u = under in let l = longer in omega (arith, u, l);
     lawful = is.lawful;
     walks = subst (λ (xs : List Inverse). WalksBack (start_of k) new xs (history_of (take (length (k.inverses ++ inverse ∷ [])) k.entries))) (sym (reverse-append k.inverses (inverse ∷ [])))
         (subst (WalksBack (start_of k) new (inverse ∷ reverse k.inverses)) (sym here) (view_new, leads, (k.machine, undoes, is.walks)));

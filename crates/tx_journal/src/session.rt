@@ -1,11 +1,12 @@
 //! A machine with the journal of its steps.
 ghost use Rattle.std.specs.Option.{option_copied};
-ghost use Rattle.std.specs.Prelude.{◌≡◌, ◌≤◌, [], IfOk, length};
+ghost use Rattle.std.specs.Prelude.{◌≡◌, ◌≤◌, [], IfOk, length, string_bytes};
 ghost use Rattle.tx_journal.specs.Entries.{entry_at, history_of};
 ghost use Rattle.tx_journal.specs.Sessions.{made_of, position_of, start_of};
 ghost use Rattle.tx_live.specs.Content.{view_of};
 ghost use Rattle.tx_model.specs.Answer.{Agreement, Lawful};
 ghost use Rattle.tx_model.specs.View.{view};
+ghost use Rattle.tx_text.specs.State.{state_text};
 
 use crate::entry::Entry;
 use crate::journal::Journal;
@@ -14,6 +15,7 @@ use std::alloc::Global;
 use std::marker::Model;
 use tx_base::{NoMemory, PROCESSES, WIDE_PROCESSES};
 use tx_core::Machine;
+use tx_text::print_state;
 
 /// A machine with the journal of all steps that it accepted, which can be walked both ways. Contracts
 /// see what it keeps: its machine's content, all entries, and what takes those back that are made.
@@ -120,6 +122,15 @@ impl Session {
         ensures view { view_of result.now ≡ view (start_of self.now) (history_of (made_of self.now)) }
     {
         &self.machine
+    }
+
+    /// The text of the state at the position, from its line `state` on.
+    ///
+    /// `NoMemory` where a growth is refused.
+    pub fn state_text(&self, alloc: Global) -> Result<String, NoMemory>
+        ensures { IfOk result (λ text. string_bytes text ≡ state_text (view (start_of self.now) (history_of (made_of self.now)))) }
+    {
+        print_state(alloc, self.machine())
     }
 
     /// The journal is a lawful history, in which each surviving step has the reply that the plain kernel

@@ -38,7 +38,8 @@ impl Session {
         ensures journal { SameJournal self.new self.old }
     {
         laws();
-        let Some(entry) = self.journal.entries.get(self.journal.inverses.len()) else {
+        let position = self.position();
+        let Some(entry) = self.journal.entries.get(position) else {
             return Err(ForwardFault::AtEnd);
         };
         let mut reply = Reply::Ended;

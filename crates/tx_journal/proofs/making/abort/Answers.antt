@@ -1,0 +1,35 @@
+use Rattle.std.proofs.Common.{◌≡◌, ℕ, ◌-◌, ◌≤◌, ◌++◌, ◌∷◌, [], refl, sym, ap, subst, ◌∙◌}
+use Rattle.tx_base.specs.declared.steps.Reply.TheVariants.{Aborted}
+use Rattle.tx_base.specs.declared.steps.Step.TheVariants.{KernelAbort}
+use Rattle.tx_journal.proofs.Aborted.{abort_added, abort_room_entries, abort_room_inverses, abort_some}
+use Rattle.tx_journal.specs.declared.entry.Entry.{Entry}
+use Rattle.tx_live.specs.Content.{view_of}
+use Rattle.tx_model.specs.View.{kernel_status}
+use Rattle.tx_journal.proofs.making.abort.Goals as goal
+
+pub push-requires-clause-entries : goal.push-requires-clause-entries
+push-requires-clause-entries c =
+    abort_room_entries c.laws.ensures c.args.machine.now c.kernel_abort.new.self c.args.journal.now c.args.starter (kernel_status (view_of c.args.machine.now) c.args.starter.0) c.in_ok-inverse.inverse
+    c.requires.sound c.requires.at_end c.requires.counted (c.in-Some.ensures.live.0 refl) c.in_ok-inverse.ensures.ok
+
+pub push-requires-clause-inverses : goal.push-requires-clause-inverses
+push-requires-clause-inverses c =
+    abort_room_inverses c.laws.ensures c.args.machine.now c.kernel_abort.new.self c.args.journal.now c.args.starter (kernel_status (view_of c.args.machine.now) c.args.starter.0) c.in_ok-inverse.inverse
+    c.requires.sound c.requires.at_end c.requires.counted (c.in-Some.ensures.live.0 refl) c.in_ok-inverse.ensures.ok
+
+pub overflow_sub-journal : goal.overflow_sub-journal
+overflow_sub-journal c =
+    subst (λ (n : ℕ). 1 ≤ n) (sym c.push.ensures.live)
+    (abort_some c.laws.ensures c.args.machine.now c.kernel_abort.new.self c.args.journal.now c.args.starter (kernel_status (view_of c.args.machine.now) c.args.starter.0) c.in_ok-inverse.inverse
+    c.requires.sound c.requires.at_end c.requires.counted (c.in-Some.ensures.live.0 refl) c.in_ok-inverse.ensures.ok)
+
+pub returns-clause-added : goal.returns-clause-added
+returns-clause-added c =
+    let status : ℕ = kernel_status (view_of c.args.machine.now) c.args.starter.0 in
+    let entry : Entry = record { step = KernelAbort c.args.starter; worker = c.args.worker; reply = Aborted status } in
+    let items : c.push.new.self.entries.items ≡ c.args.journal.now.entries.items ++ entry ∷ []
+    = c.push.ensures.entries ∙ ap (λ (n : ℕ). c.args.journal.now.entries.items ++ record { step = KernelAbort c.args.starter; worker = c.args.worker; reply = Aborted n } ∷ []) c.in-Some.ensures.status in
+    abort_added c.laws.ensures c.args.machine.now c.kernel_abort.new.self c.args.journal.now c.args.starter status c.in_ok-inverse.inverse
+    c.requires.sound c.requires.at_end c.requires.counted (c.in-Some.ensures.live.0 refl) c.in_ok-inverse.ensures.ok
+    entry (record { entries = c.push.new.self.entries; inverses = c.push.new.self.inverses; live = c.push.new.self.live - 1 }) c.in_ok-inverse.ensures.back items c.push.ensures.inverses c.push.ensures.room c.push.ensures.places
+    (ap (λ (n : ℕ). n - 1) c.push.ensures.live)

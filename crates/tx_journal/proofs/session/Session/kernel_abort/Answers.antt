@@ -1,0 +1,22 @@
+use Rattle.std.proofs.Common.{sym, subst}
+use Rattle.tx_base.specs.declared.steps.Reply.TheVariants.{Aborted}
+use Rattle.tx_base.specs.declared.steps.Step.TheVariants.{KernelAbort}
+use Rattle.tx_journal.proofs.Kept.{counted_now, kept_answered, sound_now}
+use Rattle.tx_journal.specs.Sessions.{IsAtEnd}
+use Rattle.tx_live.specs.Content.{view_of}
+use Rattle.tx_model.specs.View.{kernel_status}
+use Rattle.tx_journal.proofs.session.Session.kernel_abort.Goals as goal
+
+pub abort-requires-clause-sound : goal.abort-requires-clause-sound
+abort-requires-clause-sound c =
+    sound_now c.laws.ensures c.self.inside.machine c.self.inside.journal c.self.inside.width c.self.inside.count c.self.invariant (subst IsAtEnd (sym c.self.view_is) c.requires)
+
+pub abort-requires-clause-counted : goal.abort-requires-clause-counted
+abort-requires-clause-counted c =
+    counted_now c.laws.ensures c.self.inside.machine c.self.inside.journal c.self.inside.width c.self.inside.count c.self.invariant (subst IsAtEnd (sym c.self.view_is) c.requires)
+
+pub invariant_of-self : goal.invariant_of-self
+invariant_of-self c =
+    kept_answered c.laws.ensures c.self.inside.machine c.self.inside.journal c.self.inside.width c.self.inside.count c.self.invariant (subst IsAtEnd (sym c.self.view_is) c.requires)
+    (record { step = KernelAbort c.args.starter; worker = c.args.worker; reply = Aborted (kernel_status (view_of c.self.inside.machine) c.args.starter.0) }) c.abort.new.machine c.abort.new.journal c.abort.result
+    c.abort.ensures.added c.abort.ensures.machine c.abort.ensures.journal c.abort.ensures.history
