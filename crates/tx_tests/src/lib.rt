@@ -16,6 +16,8 @@ mod ends;
 #[cfg(test)]
 mod judge;
 #[cfg(test)]
+mod journal;
+#[cfg(test)]
 mod kernel;
 #[cfg(test)]
 mod live;
