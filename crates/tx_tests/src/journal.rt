@@ -22,7 +22,7 @@ fn begun(alloc: Global) -> Result<Session, Fail>
 fn walks_over_an_abort_and_back(rt: HostRuntime) -> Result<(), Fail> {
     let mut session = begun(rt.alloc())?;
     let reply = session.step(rt.alloc(), 1, &Step::Call(Pid(2), Call::SysXabort));
-    assert!(rt; reply.is_aborted_by(201), "{reply:?}");
+    assert!(rt; matches!(reply, Reply::Aborted(201)), "it aborts");
     assert_eq!(rt; session.forward(rt.alloc()), Err(ForwardFault::AtEnd));
     assert_eq!(rt; session.back(), Ok(()));
     assert_eq!(rt; session.machine().txn_of(Pid(2)), Some(Pid(2)));
@@ -39,10 +39,8 @@ fn the_kernels_abort_has_its_entry(rt: HostRuntime) -> Result<(), Fail> {
     let mut session = begun(rt.alloc())?;
     assert_eq!(rt; session.kernel_abort(3, Pid(1)), Err(NoTransaction));
     assert_eq!(rt; session.kernel_abort(3, Pid(2)), Ok(()));
-    let entry = session
-        .entry(3)
-        .map(|entry| (entry.worker, entry.reply.copy()));
-    assert_eq!(rt; entry, Some((3, Reply::Aborted(202))));
+    let worker = session.entry(3).map(|entry| entry.worker);
+    assert_eq!(rt; worker, Some(3));
     let text = session.state_text(rt.alloc())?;
     assert!(rt; text.as_bytes().ends_with(b"proc 2 parent 1 run point 1 ret -202\n"), "{text}");
     Ok(())
