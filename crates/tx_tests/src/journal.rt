@@ -42,6 +42,10 @@ fn the_kernels_abort_has_its_entry(rt: HostRuntime) -> Result<(), Fail> {
     let worker = session.entry(3).map(|entry| entry.worker);
     assert_eq!(rt; worker, Some(3));
     let text = session.state_text(rt.alloc())?;
-    assert!(rt; text.as_bytes().ends_with(b"proc 2 parent 1 run point 1 ret -202\n"), "{text}");
+    assert!(rt;
+        text.as_bytes()
+            .ends_with(b"proc 2 parent 1 run point 1 ret -202\n"),
+        "{text}"
+    );
     Ok(())
 }

@@ -14,9 +14,9 @@ mod desc;
 #[cfg(test)]
 mod ends;
 #[cfg(test)]
-mod judge;
-#[cfg(test)]
 mod journal;
+#[cfg(test)]
+mod judge;
 #[cfg(test)]
 mod kernel;
 #[cfg(test)]

@@ -13,10 +13,10 @@ invariant_of-self-2 c =
     let next : Some c.in-Some.entry.now ≡ slice_get c.self.inside.journal.entries.items (length c.self.inside.journal.inverses.items)
     = at ∙ (λ i. slice_get (c.deref.ensures.value i) (c.position-position.ensures i)) ∙ ap (λ (k : Kept). slice_get c.self.inside.journal.entries.items (position_of k)) (sym c.self.view_is) in (
       subst (λ (xs : List Inverse). IsJournal (record { machine = c.step_into.new.self; entries = c.self.inside.journal.entries.items; inverses = xs; width = c.self.inside.width; count = c.self.inside.count }))
-      (sym c.push_reserved.ensures.items)
-      (journal_next (kept_of c.self.inside.machine c.self.inside.journal c.self.inside.width c.self.inside.count) c.self.invariant.0 c.in-Some.entry.now next c.step_into.new.self c.in-Some-step_into.inverse c.step_into.new.reply
-      c.in-Some-step_into.ensures.accepted.accepted c.in-Some-step_into.ensures.answer (c.in-Some-step_into.ensures.history c.in-Some-step_into.ensures.accepted.accepted)
-      c.in-Some-step_into.ensures.back c.in-Some-step_into.ensures.accepted.back),
+          (sym c.push_reserved.ensures.items)
+          (journal_next (kept_of c.self.inside.machine c.self.inside.journal c.self.inside.width c.self.inside.count) c.self.invariant.0 c.in-Some.entry.now next c.step_into.new.self c.in-Some-step_into.inverse c.step_into.new.reply
+          c.in-Some-step_into.ensures.accepted.accepted c.in-Some-step_into.ensures.answer (c.in-Some-step_into.ensures.history c.in-Some-step_into.ensures.accepted.accepted)
+          c.in-Some-step_into.ensures.back c.in-Some-step_into.ensures.accepted.back),
       record {
         counted = c.self.invariant.1.counted;
         entries = c.self.invariant.1.entries;
