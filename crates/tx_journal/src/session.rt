@@ -81,6 +81,20 @@ impl Session {
         })
     }
 
+    /// Makes room for the entries of so many steps more, and for the aborts of all transactions that
+    /// may be live then, so that these steps want no more room for their entries.
+    ///
+    /// `NoMemory` where a growth is refused; nothing has changed then.
+    pub fn reserve(&mut self, steps: usize) -> Result<(), NoMemory>
+        ensures { self.new ≡ self.old }
+    {
+        let aborts = usize::from(self.width) + 2;
+        let Some(count) = steps.checked_add(aborts) else {
+            return Err(NoMemory);
+        };
+        self.journal.grow(count)
+    }
+
     /// The number of processes with which it was booted.
     pub fn count(&self) -> u16
         ensures { result ≡ self.now.count }
@@ -104,7 +118,8 @@ impl Session {
 
     /// How many of the entries are made: those before the position.
     pub fn position(&self) -> usize
-        ensures { result ≡ position_of self.now }
+        ensures count { result ≡ position_of self.now }
+        ensures inside { position_of self.now ≤ length self.now.entries }
     {
         self.journal.inverses.len()
     }

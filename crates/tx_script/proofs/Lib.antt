@@ -8,4 +8,7 @@ pub mod Reported
 pub mod SignalLists
 pub mod Spelled
 pub mod StepParts
+pub mod Told
+pub mod WalkParts
+pub mod Walked
 pub mod Written

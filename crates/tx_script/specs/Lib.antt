@@ -1,11 +1,14 @@
+pub mod Answered
 pub mod Calls
+pub mod Debug
 pub mod Ends
+pub mod Grammars
 pub mod Groups
 pub mod Lines
 pub mod Over
-pub mod Replay
 pub mod Report
 pub mod Schedule
 pub mod Sets
+pub mod Walks
 pub mod Whole
 pub mod Words

@@ -1,9 +1,11 @@
-//! Reads the text of a schedule.
+//! Reads the texts of schedules, and of schedules with commands.
 
 pub mod byte_words;
 pub mod calls;
+pub mod command;
 pub mod header;
 pub mod heads;
+pub mod lines;
 pub mod numbers;
 pub mod schedule;
 pub mod search;
@@ -12,3 +14,5 @@ pub mod small;
 pub mod split;
 pub mod steps;
 pub mod text;
+pub mod walk;
+pub mod walk_text;

@@ -1,7 +1,8 @@
 //! Reads a schedule, runs it, and writes the report.
 ghost use Rattle.std.specs.Prelude.{◌≡◌};
+ghost use Rattle.tx_script.specs.Answered.{Answers};
 ghost use Rattle.tx_script.specs.Ends.{IsFresh};
-ghost use Rattle.tx_script.specs.Replay.{Replays};
+ghost use Rattle.tx_script.specs.Grammars.{schedules, AnswersText};
 
 use crate::ends::flow::{Sink, Source};
 use crate::ends::whole::{read_whole, write_whole};
@@ -15,10 +16,17 @@ use std::alloc::Global;
 pub fn replay<S: Source, W: Sink>(alloc: Global, source: &mut S, sink: &mut W) -> Result<(), Fault>
     requires source { IsFresh (S.counts source.old) }
     requires sink { IsFresh (W.counts sink.old) }
-    ensures { Replays (S.left source.old) (S.counts source.old) (W.written sink.old) (W.counts sink.old) result (S.counts source.new) (W.written sink.new) (W.counts sink.new) }
+    ensures { Answers schedules (S.left source.old) (S.counts source.old) (W.written sink.old) (W.counts sink.old) result (S.counts source.new) (W.written sink.new) (W.counts sink.new) }
 {
     let text = read_whole(alloc, source)?;
-    let schedule = read_schedule(alloc, text.as_slice())?;
-    let report = report(alloc, &schedule)?;
+    let report = replay_text(alloc, text.as_slice())?;
     write_whole(sink, report.as_bytes())
+}
+
+/// The report of the schedule that a text spells.
+fn replay_text(alloc: Global, text: &[u8]) -> Result<String, Fault>
+    ensures { AnswersText schedules text.now result }
+{
+    let schedule = read_schedule(alloc, text)?;
+    report(alloc, &schedule)
 }

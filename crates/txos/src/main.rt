@@ -9,7 +9,7 @@ mod words;
 use clap::error::ErrorKind;
 use std::process::ExitCode;
 use std::{env, io};
-use tx_script::{Fault, OverRead, OverWrite, replay};
+use tx_script::{Fault, OverRead, OverWrite, debug, replay};
 use words::{Asked, read_words};
 
 /// The status of a fault.
@@ -37,6 +37,11 @@ fn main(rt: HostRuntime) -> ExitCode {
             let mut source = OverRead::new(rt.reader());
             let mut sink = OverWrite::new(io::writer(&rt));
             status_of(&rt, replay(rt.alloc(), &mut source, &mut sink))
+        }
+        Ok(Asked::Debug) => {
+            let mut source = OverRead::new(rt.reader());
+            let mut sink = OverWrite::new(io::writer(&rt));
+            status_of(&rt, debug(rt.alloc(), &mut source, &mut sink))
         }
         Err(error) => {
             if error.kind() == ErrorKind::OutOfMemory {

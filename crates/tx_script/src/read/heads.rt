@@ -1,14 +1,28 @@
-//! Reads the first line of a schedule.
-ghost use Rattle.std.specs.Prelude.{◌≡◌, ◌<◌, ◌≤◌, IfSome, Some};
+//! Reads the first line of a text.
+ghost use Rattle.std.specs.Prelude.{◌≡◌, ◌<◌, ◌≤◌, IfSome, MatchResult, Some};
 ghost use Rattle.std.specs.Fmt.{decimal};
 ghost use Rattle.tx_base.specs.declared.names.Pid.{Pid};
 ghost use Rattle.tx_script.specs.declared.read.header.Header.{Header};
 ghost use Rattle.tx_script.specs.Lines.{header_front, header_text, most_of, FitsHeader};
+ghost use Rattle.tx_script.specs.Schedule.{FaultsAtHeader, SpellsHeader};
 
+use crate::faults::Fault;
 use crate::read::header::{Header, Version};
+use crate::read::lines::line_of;
 use crate::read::small::read_pid;
 use crate::read::split::after_front;
 use tx_base::{PROCESSES, Pid, WIDE_PROCESSES};
+
+/// The header in the first line of a text, and the text after that line.
+pub fn first_header(text: &[u8]) -> Result<(Header, &[u8]), Fault>
+    ensures { MatchResult result (λ r. SpellsHeader text.now r.0 r.1.now) (FaultsAtHeader text.now) }
+{
+    let (line, rest) = line_of(1, text)?;
+    match read_header(line) {
+        Some(header) => Ok((header, rest)),
+        None => Err(Fault::NotALine { line: 1 }),
+    }
+}
 
 /// The header that a line spells. Nothing where it is another line.
 pub fn read_header(line: &[u8]) -> Option<Header>

@@ -1,5 +1,5 @@
 //! The numbers of a text that have a narrower range: those of processes, pipes and descriptions,
-//! and points.
+//! points, and positions.
 ghost use Rattle.std.specs.Prelude.{◌≡◌, ◌<◌, ◌^◌, ℕ, IfSome, Some};
 ghost use Rattle.std.specs.Fmt.{decimal};
 ghost use Rattle.tx_base.specs.declared.names.Pid.{Pid};
@@ -33,4 +33,17 @@ pub fn read_point(word: &[u8]) -> Option<u32>
     ensures only { (n : ℕ) → n < 2 ^ 32 → word.now ≡ decimal n → result ≡ Some n }
 {
     u32::try_from(unsigned(word)?).ok()
+}
+
+/// The position that a word spells, 0 to 9223372036854775807. Nothing where it is another word.
+pub fn read_position(word: &[u8]) -> Option<u64>
+    ensures found { IfSome result (λ n. word.now ≡ decimal n) }
+    ensures fits { IfSome result (λ n. n < 2 ^ 63) }
+    ensures only { (n : ℕ) → n < 2 ^ 63 → word.now ≡ decimal n → result ≡ Some n }
+{
+    let position = unsigned(word)?;
+    if position > i64::MAX.unsigned_abs() {
+        return None;
+    }
+    Some(position)
 }

@@ -19,13 +19,16 @@ fn read(alloc: Global, words: &[&str]) -> Result<Result<Asked, ErrorKind>, Fail>
 #[test]
 fn words(rt: HostRuntime) -> Result<(), Fail> {
     assert_eq!(rt; read(rt.alloc(), &["replay"])?, Ok(Asked::Replay));
-    let lists: [&[&str]; 6] = [
+    assert_eq!(rt; read(rt.alloc(), &["debug"])?, Ok(Asked::Debug));
+    let lists: [&[&str]; 8] = [
         &[],
         &["--help"],
         &["help"],
         &["undo"],
         &["replay", "more"],
         &["replay", "--help"],
+        &["debug", "more"],
+        &["debug", "--help"],
     ];
     for list in lists {
         let kind = read(rt.alloc(), list)?.err();

@@ -1,6 +1,6 @@
 use Rattle.tx_script.specs.Lines.{header_text}
 use Rattle.tx_script.proofs.LineEnds.{line_spelled}
-use Rattle.tx_script.proofs.read.text.first_header.Goals as goal
+use Rattle.tx_script.proofs.read.heads.first_header.Goals as goal
 
 pub returns-in-Some : goal.returns-in-Some
 returns-in-Some c = record {

@@ -1,5 +1,5 @@
 use Rattle.tx_script.proofs.LineEnds.{line_found, line_none}
-use Rattle.tx_script.proofs.read.text.take_line.Goals as goal
+use Rattle.tx_script.proofs.read.lines.take_line.Goals as goal
 
 pub returns-in-Some-clause-line : goal.returns-in-Some-clause-line
 returns-in-Some-clause-line c = (line_found c.args.text.now c.in-Some.line.now c.in-Some.rest.now c.in-Some.ensures).0

@@ -1,0 +1,12 @@
+-- The answer to a text that was read.
+use Rattle.std.proofs.Common.{◌≡◌, ℕ, List, Result, Ok, Err, IfOk, IfErr, String, string_bytes, sym, subst}
+use Rattle.tx_script.specs.Grammars.{Grammar, AnswersText}
+use Rattle.tx_script.specs.Schedule.{FaultsBy}
+use Rattle.tx_script.specs.declared.faults.Fault.{Fault}
+use Rattle.tx_script.specs.declared.faults.Fault.TheVariants.{NoMemory}
+
+-- where the only fault is want of memory
+pub answers_text : {A B : Type 0} (G : Grammar A) (text : List ℕ) (spelled : A) (result : Result (String B) Fault) → G.IsGood spelled → text ≡ G.text spelled
+    → IfOk result (λ answer. string_bytes answer ≡ G.answer spelled) → IfErr result (λ fault. fault ≡ NoMemory) → AnswersText G text result
+answers_text G text spelled (Ok answer) good same answers none = (spelled, good, same, answers)
+answers_text G text spelled (Err fault) good same answers none = subst (FaultsBy (G.IsFault text)) (sym none) tt

@@ -1,0 +1,51 @@
+-- What the commands of a debugger answer: functions of the history of the schedule and of the position alone.
+use Rattle.std.specs.Prelude.{ℕ, zero, suc, ◌+◌, List, [], ◌∷◌, ◌++◌, length, nat_le, nat_lt, reverse, take, codes, if◌then◌else◌}
+use Rattle.std.specs.Fmt.{decimal}
+use Rattle.tx_base.specs.declared.steps.Accepted.{Accepted}
+use Rattle.tx_base.specs.declared.steps.Step.{Step}
+use Rattle.tx_model.specs.Schedules.{history_of}
+use Rattle.tx_model.specs.State.{State as Start}
+use Rattle.tx_model.specs.View.{View, view}
+use Rattle.tx_script.specs.Report.{start_state}
+use Rattle.tx_script.specs.declared.read.command.Command.{Command}
+use Rattle.tx_script.specs.declared.read.command.Command.TheVariants.{Back, Forward, Goto, State}
+use Rattle.tx_script.specs.declared.read.header.Header.{Header}
+use Rattle.tx_text.specs.State.{state_text}
+
+-- the first so many steps of a history, the newest first
+abbrev pub first_steps : ℕ → List Accepted → List Accepted
+first_steps at history = reverse (take at (reverse history))
+
+-- what is shown at a position: the view of the steps before it
+abbrev pub view_at : Start → List Accepted → ℕ → View
+view_at start history at = view start (first_steps at history)
+
+-- the line of a position
+abbrev pub position_text : ℕ → List ℕ
+position_text at = codes "at " ++ (decimal at ++ codes "\n")
+
+-- what a command answers at a position
+abbrev pub command_answer : Start → List Accepted → ℕ → Command → List ℕ
+command_answer start history zero Back = codes "no start\n"
+command_answer start history (suc at) Back = position_text at
+command_answer start history at Forward = if nat_lt at (length history) then position_text (at + 1) else codes "no end\n"
+command_answer start history at (Goto to) = if nat_le to (length history) then position_text to else codes "no place\n"
+command_answer start history at State = state_text (view_at start history at)
+
+-- the position after a command
+abbrev pub position_after : List Accepted → ℕ → Command → ℕ
+position_after history zero Back = zero
+position_after history (suc at) Back = at
+position_after history at Forward = if nat_lt at (length history) then at + 1 else at
+position_after history at (Goto to) = if nat_le to (length history) then to else at
+position_after history at State = at
+
+-- what some commands answer in turn, from a position on
+abbrev pub answers_at : Start → List Accepted → ℕ → List Command → List ℕ
+answers_at start history at [] = []
+answers_at start history at (command ∷ commands) = command_answer start history at command ++ answers_at start history (position_after history at command) commands
+
+-- what the commands of a text answer, of which the first stands at the end of the schedule's history
+abbrev pub walk_answers : Header → List Step → List Command → List ℕ
+walk_answers header steps commands =
+    let history = history_of (start_state header) [] steps in answers_at (start_state header) history (length history) commands

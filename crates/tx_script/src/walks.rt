@@ -1,0 +1,173 @@
+//! Walks over the steps of a schedule as commands say, and prints what each command answers.
+ghost use Rattle.std.specs.Prelude.{◌≡◌, ◌≤◌, ◌++◌, [], IfErr, IfOk, OnOk, length, string_bytes};
+ghost use Rattle.tx_journal.specs.Entries.{history_of};
+ghost use Rattle.tx_journal.specs.Sessions.{position_of, start_of, IsAtEnd, SameBoot, SameJournal};
+ghost use Rattle.tx_model.specs.Answer.{answer};
+ghost use Rattle.tx_model.specs.Schedules.{recorded, history_of as history_after};
+ghost use Rattle.tx_model.specs.View.{view};
+ghost use Rattle.tx_script.specs.Debug.{answers_at, command_answer, position_after, position_text, view_at, walk_answers};
+ghost use Rattle.tx_script.specs.Lines.{FitsHeader};
+ghost use Rattle.tx_script.specs.Report.{start_state};
+ghost use Rattle.tx_script.specs.declared.faults.Fault.TheVariants.{NoMemory};
+ghost use Rattle.tx_script.specs.declared.read.command.Command.TheVariants as command;
+ghost use Rattle.tx_text.specs.State.{state_text};
+
+use crate::faults::Fault;
+use crate::read::command::Command;
+use crate::read::header::{Header, Version};
+use crate::read::walk::Walk;
+use std::alloc::{AllocError, Global};
+use tx_base::Step;
+use tx_journal::{AtStart, ForwardFault, GotoFault, Session};
+use tx_text::{put, put_count, put_state};
+
+/// The worker that makes the steps of a schedule.
+const WORKER: u16 = 1;
+
+/// What the commands answer in turn, once the steps of the schedule are made. The only fault is
+/// `NoMemory`.
+pub fn answer_walk(alloc: Global, walk: &Walk) -> Result<String, Fault>
+    requires { FitsHeader walk.now.schedule.header }
+    ensures text { IfOk result (λ text. string_bytes text ≡ walk_answers walk.now.schedule.header walk.now.schedule.steps.items walk.now.commands.items) }
+    ensures fault { IfErr result (λ fault. fault ≡ NoMemory) }
+{
+    let mut session = boot(alloc, walk.schedule.header)?;
+    session.reserve(walk.schedule.steps.len())?;
+    make_steps(alloc, &mut session, walk.schedule.steps.as_slice())?;
+    let mut text = String::new(alloc);
+    put_answers(alloc, &mut text, &mut session, walk.commands.as_slice())?;
+    Ok(text)
+}
+
+/// A session before its first step.
+fn boot(alloc: Global, header: Header) -> Result<Session, Fault>
+    requires { FitsHeader header }
+    ensures start { IfOk result (λ session. start_of session ≡ start_state header) }
+    ensures entries { IfOk result (λ session. session.entries ≡ []) }
+    ensures inverses { IfOk result (λ session. session.inverses ≡ []) }
+    ensures fault { IfErr result (λ fault. fault ≡ NoMemory) }
+{
+    let session = match header.version {
+        Version::One => Session::boot(alloc, header.count)?,
+        Version::Two => Session::boot_wide(alloc, header.count)?,
+    };
+    Ok(session)
+}
+
+/// Makes the steps at the end of the journal.
+fn make_steps(alloc: Global, session: &mut Session, steps: &[Step]) -> Result<(), Fault>
+    requires { IsAtEnd session.old }
+    ensures history { OnOk result (history_of session.new.entries ≡ history_after (start_of session.old) (history_of session.old.entries) steps.now) }
+    ensures boot { SameBoot session.new session.old }
+    ensures at_end { IsAtEnd session.new }
+    ensures fault { IfErr result (λ fault. fault ≡ NoMemory) }
+{
+    for step in steps {
+        make_step(alloc, session, step)?;
+    }
+    Ok(())
+}
+
+/// Makes a step at the end of the journal.
+fn make_step(alloc: Global, session: &mut Session, step: &Step) -> Result<(), Fault>
+    requires { IsAtEnd session.old }
+    ensures history { OnOk result (history_of session.new.entries ≡ recorded (history_of session.old.entries) step.now (answer (view (start_of session.old) (history_of session.old.entries)) step.now)) }
+    ensures boot { SameBoot session.new session.old }
+    ensures at_end { IsAtEnd session.new }
+    ensures fault { IfErr result (λ fault. fault ≡ NoMemory) }
+{
+    let _machine = session.machine();
+    if session.step(alloc, WORKER, step).wants_memory() {
+        return Err(Fault::NoMemory);
+    }
+    Ok(())
+}
+
+/// Appends what the commands answer in turn.
+fn put_answers(
+    alloc: Global,
+    text: &mut String,
+    session: &mut Session,
+    commands: &[Command],
+) -> Result<(), Fault>
+    ensures text { OnOk result (string_bytes text.new ≡ string_bytes text.old ++ answers_at (start_of session.old) (history_of session.old.entries) (position_of session.old) commands.now) }
+    ensures fault { IfErr result (λ fault. fault ≡ NoMemory) }
+{
+    for command in commands {
+        put_answer(alloc, text, session, *command)?;
+    }
+    Ok(())
+}
+
+/// Does what a command says, and appends what it answers.
+fn put_answer(
+    alloc: Global,
+    text: &mut String,
+    session: &mut Session,
+    command: Command,
+) -> Result<(), Fault>
+    ensures text { OnOk result (string_bytes text.new ≡ string_bytes text.old ++ command_answer (start_of session.old) (history_of session.old.entries) (position_of session.old) command) }
+    ensures moved { OnOk result (position_of session.new ≡ position_after (history_of session.old.entries) (position_of session.old) command) }
+    ensures journal { SameJournal session.new session.old }
+    ensures fault { IfErr result (λ fault. fault ≡ NoMemory) }
+{
+    match command {
+        Command::Back => back(text, session)?,
+        Command::Forward => forward(alloc, text, session)?,
+        Command::Goto(position) => goto(alloc, text, session, position)?,
+        Command::State => put_state(text, session.machine())?,
+    }
+    Ok(())
+}
+
+/// Takes the newest entry back that is made, and appends the position.
+fn back(text: &mut String, session: &mut Session) -> Result<(), AllocError>
+    ensures text { OnOk result (string_bytes text.new ≡ string_bytes text.old ++ command_answer (start_of session.old) (history_of session.old.entries) (position_of session.old) command.Back) }
+    ensures moved { position_of session.new ≡ position_after (history_of session.old.entries) (position_of session.old) command.Back }
+    ensures journal { SameJournal session.new session.old }
+{
+    match session.back() {
+        Ok(()) => put_position(text, session),
+        Err(AtStart) => put(text, "no start\n"),
+    }
+}
+
+/// Makes the next entry again, and appends the position.
+fn forward(alloc: Global, text: &mut String, session: &mut Session) -> Result<(), Fault>
+    ensures text { OnOk result (string_bytes text.new ≡ string_bytes text.old ++ command_answer (start_of session.old) (history_of session.old.entries) (position_of session.old) command.Forward) }
+    ensures moved { OnOk result (position_of session.new ≡ position_after (history_of session.old.entries) (position_of session.old) command.Forward) }
+    ensures journal { SameJournal session.new session.old }
+    ensures fault { IfErr result (λ fault. fault ≡ NoMemory) }
+{
+    match session.forward(alloc) {
+        Ok(()) => put_position(text, session)?,
+        Err(ForwardFault::AtEnd) => put(text, "no end\n")?,
+        Err(ForwardFault::NoMemory) => return Err(Fault::NoMemory),
+    }
+    Ok(())
+}
+
+/// Goes to a position, and appends it.
+fn goto(alloc: Global, text: &mut String, session: &mut Session, position: u64) -> Result<(), Fault>
+    ensures text { OnOk result (string_bytes text.new ≡ string_bytes text.old ++ command_answer (start_of session.old) (history_of session.old.entries) (position_of session.old) (command.Goto position)) }
+    ensures moved { OnOk result (position_of session.new ≡ position_after (history_of session.old.entries) (position_of session.old) (command.Goto position)) }
+    ensures journal { SameJournal session.new session.old }
+    ensures fault { IfErr result (λ fault. fault ≡ NoMemory) }
+{
+    match session.goto(alloc, position as usize) {
+        Ok(()) => put_position(text, session)?,
+        Err(GotoFault::Beyond) => put(text, "no place\n")?,
+        Err(GotoFault::NoMemory) => return Err(Fault::NoMemory),
+    }
+    Ok(())
+}
+
+/// Appends the line of the position.
+fn put_position(text: &mut String, session: &Session) -> Result<(), AllocError>
+    ensures text { OnOk result (string_bytes text.new ≡ string_bytes text.old ++ position_text (position_of session.now)) }
+    ensures inside { OnOk result (position_of session.now ≤ length session.now.entries) }
+{
+    put(text, "at ")?;
+    put_count(text, session.position() as u64)?;
+    put(text, "\n")
+}
