@@ -6,10 +6,10 @@ use tx_script::{Fault, OverRead, OverWrite, read_whole, write_whole};
 
 /// A reader that is interrupted so often, then gives some bytes, and then ends or fails.
 #[derive(Drop)]
-struct Given<'a> {
-    interruptions: u32,
-    bytes: &'a [u8],
-    fails: bool,
+pub(crate) struct Given<'a> {
+    pub(crate) interruptions: u32,
+    pub(crate) bytes: &'a [u8],
+    pub(crate) fails: bool,
 }
 
 impl Read for Given<'_> {
@@ -80,11 +80,11 @@ fn longest_text(rt: HostRuntime) -> std::result::Result<(), Fail> {
 /// A writer that is interrupted so often, then takes so many bytes at a time, and fails once it
 /// has taken so many in all.
 #[derive(Drop)]
-struct Taking<'a> {
-    interruptions: u32,
-    step: usize,
-    room: usize,
-    taken: &'a mut Vec<u8>,
+pub(crate) struct Taking<'a> {
+    pub(crate) interruptions: u32,
+    pub(crate) step: usize,
+    pub(crate) room: usize,
+    pub(crate) taken: &'a mut Vec<u8>,
 }
 
 impl Write for Taking<'_> {

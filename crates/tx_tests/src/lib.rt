@@ -10,6 +10,8 @@ mod change;
 #[cfg(test)]
 mod cred;
 #[cfg(test)]
+mod debugs;
+#[cfg(test)]
 mod desc;
 #[cfg(test)]
 mod ends;
@@ -33,6 +35,10 @@ mod proc;
 mod replays;
 #[cfg(test)]
 mod reserve;
+#[cfg(test)]
+mod schedules;
+#[cfg(test)]
+mod sessions;
 #[cfg(test)]
 mod signal;
 #[cfg(test)]

@@ -1,41 +1,16 @@
 //! Replays of whole texts, and of writers that fail.
+use crate::ends::Taking;
 use std::alloc::Global;
-use std::io::{Error, ErrorKind, Result, Write};
 use std::str;
 use std::test::Fail;
 use tx_script::{Fault, OverRead, OverWrite, replay};
 
-/// A writer into memory that fails once it has taken so many bytes.
-#[derive(Drop)]
-struct Taking<'a> {
-    room: usize,
-    taken: &'a mut Vec<u8>,
-}
-
-impl Write for Taking<'_> {
-    fn write(&mut self, bytes: &[u8]) -> Result<usize> {
-        if self.room == 0 {
-            return Err(Error::from(ErrorKind::BrokenPipe));
-        }
-        let count = bytes.len().min(self.room);
-        self.taken.extend_from_slice(&bytes[..count])?;
-        self.room -= count;
-        Ok(count)
-    }
-
-    fn flush(&mut self) -> Result<()> {
-        Ok(())
-    }
-}
-
 /// What the replay of a text answers, and what it writes to a writer with so much room.
-pub(crate) fn replay_into(
-    alloc: Global,
-    text: &[u8],
-    room: usize,
-) -> (std::result::Result<(), Fault>, Vec<u8>) {
+pub(crate) fn replay_into(alloc: Global, text: &[u8], room: usize) -> (Result<(), Fault>, Vec<u8>) {
     let mut taken = Vec::new(alloc);
     let writer = Taking {
+        interruptions: 0,
+        step: room,
         room,
         taken: &mut taken,
     };
@@ -113,17 +88,15 @@ fn faults_write_nothing(rt: HostRuntime) {
 }
 
 /// What the replay of so many bytes answers, of which the first are a text and the others `x`.
-fn answer_of_long(
-    alloc: Global,
-    front: &[u8],
-    count: usize,
-) -> std::result::Result<std::result::Result<(), Fault>, Fail> {
+fn answer_of_long(alloc: Global, front: &[u8], count: usize) -> Result<Result<(), Fault>, Fail> {
     let mut bytes = vec![in alloc; b'x'; count]?;
     if front.len() <= bytes.len() {
         bytes[..front.len()].copy_from_slice(front);
     }
     let mut taken = Vec::new(alloc);
     let writer = Taking {
+        interruptions: 0,
+        step: 10_000,
         room: 10_000,
         taken: &mut taken,
     };
@@ -135,7 +108,7 @@ fn answer_of_long(
 }
 
 #[test]
-fn longest_text(rt: HostRuntime) -> std::result::Result<(), Fail> {
+fn longest_text(rt: HostRuntime) -> Result<(), Fail> {
     let rows: [(&[u8], Fault); 3] = [
         (b"", Fault::TooLong { line: 1 }),
         (b"\n", Fault::NotALine { line: 1 }),
@@ -166,7 +139,7 @@ const WIDE_ROWS: [(&str, &str, u16); 2] = [
 ];
 
 #[test]
-fn reports_of_wide_machines(rt: HostRuntime) -> std::result::Result<(), Fail> {
+fn reports_of_wide_machines(rt: HostRuntime) -> Result<(), Fail> {
     for (steps, front, rest) in WIDE_ROWS {
         let text = format!(in rt.alloc(); "txos 2 schedule 256\n{steps}")?;
         let mut report = format!(in rt.alloc(); "{front}")?;

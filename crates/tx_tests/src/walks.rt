@@ -3,6 +3,7 @@
 ghost use Rattle.std.specs.Prelude.{◌≡◌, OnOk};
 
 use crate::replays::replay_into;
+use crate::schedules::SCHEDULES;
 use std::alloc::Global;
 use std::process::Abort;
 use std::test::Fail;
@@ -10,24 +11,6 @@ use tx_base::Step;
 use tx_core::Machine;
 use tx_script::{Version, read_schedule};
 use tx_text::print_state;
-
-/// Schedules of aborts, commits, pipes, signals and trees, as those of the same steps in
-/// `tests/schedules`.
-const SCHEDULES: [&str; 13] = [
-    "txos 1 schedule 3\n2 sigaction 10 ignore\n2 sys_xbegin\n3 kill 2 10\n2 deliver 10\n3 kill 2 10\n2 sys_xabort\n",
-    "txos 1 schedule 3\n2 sigaction 32 ignore\n3 sigqueue 2 32 0\n3 sigqueue 2 32 0\n3 sigqueue 2 32 0\n3 sigqueue 2 32 0\n3 sigqueue 2 32 0\n3 sigqueue 2 32 0\n3 sigqueue 2 32 0\n3 sigqueue 2 32 0\n3 sigqueue 2 32 0\n3 sigqueue 2 32 0\n3 sigqueue 2 32 0\n3 sigqueue 2 32 0\n3 sigqueue 2 32 0\n3 sigqueue 2 32 0\n3 sigqueue 2 32 0\n3 sigqueue 2 32 0\n2 sys_xbegin\n2 deliver 32\n3 sigqueue 2 32 9\n2 sys_xabort\n3 sigqueue 2 32 9\n",
-    "txos 1 schedule 1\n1 map 0\n1 pipe 0 0 1\n1 fork 2\n1 close 1\n2 sys_xbegin\n2 close 1\n1 read 0 0 4\n2 sys_xabort\n1 read 0 0 4\n",
-    "txos 1 schedule 1\n1 pipe 3 5 6\n1 fork 2\n2 sys_xbegin\n2 fork 7\n7 set_nonblock 0 on\n1 close 0\n2 sys_xabort\n1 close 0\n",
-    "txos 1 schedule 1\n1 pipe 0 0 1\n1 pipe 1 2 3\n1 fork 2\n1 fork 3\n2 sys_xbegin\n3 sys_xbegin\n2 set_nonblock 0 on\n3 set_nonblock 2 on\n2 set_nonblock 2 on\n3 set_nonblock 0 on\nkernel 2\n3 set_nonblock 0 on\n3 sys_xend\n",
-    "txos 1 schedule 4\n3 sigaction 32 ignore\n4 sigqueue 3 32 0\n4 sigqueue 3 32 0\n4 sigqueue 3 32 0\n4 sigqueue 3 32 0\n4 sigqueue 3 32 0\n4 sigqueue 3 32 0\n4 sigqueue 3 32 0\n4 sigqueue 3 32 0\n4 sigqueue 3 32 0\n4 sigqueue 3 32 0\n4 sigqueue 3 32 0\n4 sigqueue 3 32 0\n4 sigqueue 3 32 0\n4 sigqueue 3 32 0\n4 sigqueue 3 32 0\n4 sigqueue 3 32 0\n3 sys_xbegin\n3 deliver 32\n2 sys_xbegin\n2 sigqueue 4 33 1\n2 sigqueue 3 32 9\n2 setuid 5\n2 sys_xend\n3 sys_xabort\n2 sys_xend\n",
-    "txos 1 schedule 3\n2 sys_xbegin\n2 fork 7\n2 exit 1\n3 kill 2 9\n7 sys_xend\nkernel 2\n2 deliver 9\n",
-    "txos 1 schedule 3\n2 sys_xbegin\n3 sys_xbegin\n2 map 0\n3 map 0\n2 sys_xbegin\n3 store 0 0a\nkernel 3\n2 store 1 ff00\n2 load 1\n2 sys_xend\n3 sys_xend\n9 map 0\n",
-    "txos 1 schedule 2\n2 setuid 5\n2 seteuid 0\n2 fork 3\n3 fork 4\n3 exit 259\n2 waitpid 3 nohang\n2 waitpid 4 wait\n4 getppid\n1 waitpid 4 wait\n4 setgid 0\n4 setegid 70000\n",
-    "txos 1 schedule 3\n2 sys_xbegin\n2 pipe 4 8 9\n3 pipe 4 1 2\n2 close 0\n2 close 1\n3 pipe 4 1 2\n2 sys_xabort\n3 pipe 4 1 2\n",
-    "txos 1 schedule 2\n2 sys_xbegin\n2 fork 7\n7 exit 1\n2 waitpid 7 wait\n2 fork 7\n2 sys_xend\n2 getpid\n7 sys_xend\n",
-    "txos 1 schedule 2\n2 sys_xbegin\n2 fork 7\n7 kill 2 9\n2 getpid\n7 getpid\n2 deliver 9\n7 sys_xend\n",
-    "txos 2 schedule 3\n2 sys_xbegin defer\n3 kill 2 10\n2 deliver 10\n2 fork 256\n256 kill 2 9\n2 deliver 9\n256 sys_xend\n",
-];
 
 /// A walk: the steps, and the report of each front of the schedule, from that of no step on.
 #[derive(Drop)]
