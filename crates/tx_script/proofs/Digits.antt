@@ -12,7 +12,7 @@ use Rattle.std.specs.Int.{w64, IsInRange}
 use Rattle.std.specs.Str.Parse.{AllDigits, digits_value}
 use Rattle.tx_script.proofs.Spelled.{mag_small}
 
-own : IsNumeralModel (AllDigits 10) (digits_value 10)
+pub own : IsNumeralModel (AllDigits 10) (digits_value 10)
 own = numerals_by_value (AllDigits 10) tells_digits
 
 -- so far: the first i bytes are digits, and that is their number

@@ -3,6 +3,7 @@ pub mod FirstWord
 pub mod Growing
 pub mod Heading
 pub mod Hexed
+pub mod Leading
 pub mod LineEnds
 pub mod Reported
 pub mod SignalLists

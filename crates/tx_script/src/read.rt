@@ -5,6 +5,7 @@ pub mod calls;
 pub mod command;
 pub mod header;
 pub mod heads;
+pub mod leading;
 pub mod lines;
 pub mod numbers;
 pub mod schedule;

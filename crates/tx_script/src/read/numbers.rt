@@ -5,7 +5,7 @@ ghost use Rattle.std.specs.Int.{w64};
 ghost use Rattle.std.specs.Fmt.{decimal, signed_decimal};
 
 /// How many digits a number may have.
-const DIGITS: usize = 19;
+pub const DIGITS: usize = 19;
 
 /// The number that a word spells: `0`, or digits of which the first is not 0, with `-` before a
 /// negative one. Nothing where it is another word, or out of range.

@@ -5,9 +5,9 @@ ghost use Rattle.std.specs.Fmt.{decimal, signed_decimal};
 ghost use Rattle.tx_script.specs.Calls.{pair_text, triple_text};
 ghost use Rattle.tx_script.specs.Words.{first_word, parts_at};
 
+use crate::read::leading::split_unsigned;
 use crate::read::numbers::number;
 use crate::read::search::find;
-use crate::read::small::{read_byte, read_point};
 
 /// The text before the first byte of that kind, and the text after it. Nothing where there is none.
 pub fn split_at(mark: u8, text: &[u8]) -> Option<(&[u8], &[u8])>
@@ -38,33 +38,22 @@ pub fn split_number(line: &[u8]) -> Option<(i64, &[u8])>
     ensures fits { IfSome result (λ r. FitsSigned w64 r.0) }
     ensures only { (z : ℤ) (rest : List ℕ) → FitsSigned w64 z → line.now ≡ signed_decimal z ++ 32 ∷ rest → IsSomeAnd result (λ r. (r.0 ≡ z) × (r.1.now ≡ rest)) }
 {
+    match split_unsigned(line) {
+        Some((number, rest)) => Some((i64::try_from(number).ok()?, rest)),
+        None => split_any(line),
+    }
+}
+
+/// The number that stands before the first space, with a sign or without, and the text after it:
+/// as `split_number`.
+fn split_any(line: &[u8]) -> Option<(i64, &[u8])>
+    ensures found { IfSome result (λ r. line.now ≡ signed_decimal r.0 ++ 32 ∷ r.1.now) }
+    ensures fits { IfSome result (λ r. FitsSigned w64 r.0) }
+    ensures only { (z : ℤ) (rest : List ℕ) → FitsSigned w64 z → line.now ≡ signed_decimal z ++ 32 ∷ rest → IsSomeAnd result (λ r. (r.0 ≡ z) × (r.1.now ≡ rest)) }
+{
     let (first, rest) = split_word(line)?;
     let number = number(first)?;
     Some((number, rest))
-}
-
-/// The number of 0 to 255 that stands before the first space, and the text after it. Nothing where
-/// there is no space, or no such number before it.
-pub fn split_byte(line: &[u8]) -> Option<(u8, &[u8])>
-    ensures found { IfSome result (λ r. line.now ≡ decimal r.0 ++ 32 ∷ r.1.now) }
-    ensures fits { IfSome result (λ r. r.0 < 2 ^ 8) }
-    ensures only { (n : ℕ) (rest : List ℕ) → n < 2 ^ 8 → line.now ≡ decimal n ++ 32 ∷ rest → IsSomeAnd result (λ r. (r.0 ≡ n) × (r.1.now ≡ rest)) }
-{
-    let (first, rest) = split_word(line)?;
-    let number = read_byte(first)?;
-    Some((number, rest))
-}
-
-/// The point that stands before the first space, and the text after it. Nothing where there is no
-/// space, or no point before it.
-pub fn split_point(line: &[u8]) -> Option<(u32, &[u8])>
-    ensures found { IfSome result (λ r. line.now ≡ decimal r.0 ++ 32 ∷ r.1.now) }
-    ensures fits { IfSome result (λ r. r.0 < 2 ^ 32) }
-    ensures only { (n : ℕ) (rest : List ℕ) → n < 2 ^ 32 → line.now ≡ decimal n ++ 32 ∷ rest → IsSomeAnd result (λ r. (r.0 ≡ n) × (r.1.now ≡ rest)) }
-{
-    let (first, rest) = split_word(line)?;
-    let point = read_point(first)?;
-    Some((point, rest))
 }
 
 /// The two numbers that a text spells. Nothing where it is another text.

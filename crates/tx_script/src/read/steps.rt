@@ -1,5 +1,5 @@
 //! Reads the lines of a schedule after the first.
-ghost use Rattle.std.specs.Prelude.{◌≡◌, ◌<◌, ◌^◌, ◌++◌, ◌∷◌, ◌↔◌, codes, IfSome, IsTrue, Some};
+ghost use Rattle.std.specs.Prelude.{◌≡◌, ◌<◌, ◌^◌, ◌++◌, ◌∷◌, codes, IfSome, Some};
 ghost use Rattle.std.specs.Bool.{then_some};
 ghost use Rattle.std.specs.Fmt.{decimal};
 ghost use Rattle.tx_base.specs.declared.names.Pid.{Pid};
@@ -12,8 +12,9 @@ ghost use Rattle.tx_script.specs.Lines.{step_text, FitsStep, IsCallOf, IsOf};
 
 use crate::read::calls::read_call;
 use crate::read::header::Version;
+use crate::read::leading::split_pid;
 use crate::read::small::{read_byte, read_pid};
-use crate::read::split::{after_front, split_word};
+use crate::read::split::after_front;
 use tx_base::{Call, Pid, Signo, Step};
 
 /// The step that a line of a text of that version spells. Nothing where it is another line.
@@ -39,33 +40,33 @@ pub fn read_step_into(version: Version, line: &[u8], step: &mut Step) -> bool
     ensures within { IfSome (then_some result step.new) (IsOf version) }
     ensures only { (s : Step) → FitsStep s → IsOf version s → line.now ≡ step_text s → then_some result step.new ≡ Some s }
 {
-    let Some((first, rest)) = split_word(line) else {
-        return false;
-    };
-    if is_kernel(first) {
-        return kernel_abort(rest, step);
+    match split_pid(line) {
+        Some((pid, rest)) => process_step(version, pid, rest, step),
+        None => kernel_step(line, step),
     }
-    let Some(pid) = read_pid(first) else {
-        return false;
-    };
-    process_step(version, pid, rest, step)
 }
 
-/// Whether the word stands for the kernel.
-fn is_kernel(word: &[u8]) -> bool
-    ensures { IsTrue result ↔ (word.now ≡ codes "kernel") }
-{
-    word == b"kernel".as_slice()
-}
-
-/// Puts the step of the kernel that a text spells, without its first word, where it is to stand.
-fn kernel_abort(rest: &[u8], step: &mut Step) -> bool
-    ensures found { IfSome (then_some result step.new) (λ s. codes "kernel" ++ 32 ∷ rest.now ≡ step_text s) }
+/// Puts the step of the kernel that a line spells where it is to stand.
+fn kernel_step(line: &[u8], step: &mut Step) -> bool
+    ensures found { IfSome (then_some result step.new) (λ s. line.now ≡ step_text s) }
     ensures fits { IfSome (then_some result step.new) FitsStep }
     ensures within { (version : Version) → IfSome (then_some result step.new) (IsOf version) }
-    ensures only { (p : Pid) → p.0 < 2 ^ 16 → rest.now ≡ decimal p.0 → then_some result step.new ≡ Some (Step.KernelAbort p) }
+    ensures only { (p : Pid) → p.0 < 2 ^ 16 → line.now ≡ step_text (Step.KernelAbort p) → then_some result step.new ≡ Some (Step.KernelAbort p) }
 {
-    match read_pid(rest) {
+    match after_front(b"kernel ", line) {
+        Some(word) => kernel_abort(word, step),
+        None => false,
+    }
+}
+
+/// Puts the abort of the transaction of the starter that a word spells where it is to stand.
+fn kernel_abort(word: &[u8], step: &mut Step) -> bool
+    ensures found { IfSome (then_some result step.new) (λ s. codes "kernel " ++ word.now ≡ step_text s) }
+    ensures fits { IfSome (then_some result step.new) FitsStep }
+    ensures within { (version : Version) → IfSome (then_some result step.new) (IsOf version) }
+    ensures only { (p : Pid) → p.0 < 2 ^ 16 → word.now ≡ decimal p.0 → then_some result step.new ≡ Some (Step.KernelAbort p) }
+{
+    match read_pid(word) {
         Some(starter) => {
             *step = Step::KernelAbort(starter);
             true

@@ -17,7 +17,8 @@ use crate::read::calls::transfers::transfer_call;
 use crate::read::header::Version;
 use crate::read::numbers::number;
 use crate::read::small::read_byte;
-use crate::read::split::{pair, split_byte, split_number};
+use crate::read::leading::split_byte;
+use crate::read::split::{pair, split_number};
 use tx_base::{Call, DescNo, PipeNo};
 
 /// The call on descriptors of that name and with those arguments, or one that a later group has.

@@ -14,7 +14,8 @@ use crate::read::calls::place::put;
 use crate::read::calls::transactions::transaction_call;
 use crate::read::header::Version;
 use crate::read::numbers::number;
-use crate::read::split::{after_front, pair, split_point};
+use crate::read::leading::split_point;
+use crate::read::split::{after_front, pair};
 use tx_base::{Call, When};
 
 /// The call of a script or on the console of that name and with those arguments, or one that a later

@@ -18,7 +18,8 @@ use crate::read::calls::place::put;
 use crate::read::calls::script::script_call;
 use crate::read::header::Version;
 use crate::read::sets::read_set;
-use crate::read::split::{after_front, pair, split_number, split_point, split_word, triple};
+use crate::read::leading::split_point;
+use crate::read::split::{after_front, pair, split_number, split_word, triple};
 use tx_base::{Action, Call, How};
 
 /// The call on signals of that name and with those arguments, or one that a later group has. Nothing

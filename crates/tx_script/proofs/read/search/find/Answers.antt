@@ -2,9 +2,9 @@ use Rattle.std.proofs.Common.{◌≢◌, ℕ, ◌+◌, ◌<◌, length, get_or, 
 use Rattle.tx_script.proofs.FirstWord.{parts_at-found}
 use Rattle.tx_script.proofs.read.search.find.Goals as goal
 
-pub returns-then-others-lt-LANES-clause-place : goal.returns-then-others-lt-LANES-clause-place
-returns-then-others-lt-LANES-clause-place c =
+pub returns-then-others-lt16-clause-place : goal.returns-then-others-lt16-clause-place
+returns-then-others-lt16-clause-place c =
     let at = c.loop-at.at + c.others-others.result in
     let none : (k : ℕ) → k < at → get_or c.args.text.now k 0 ≢ c.args.mark = search (rules, c.loop-at.invariant.before, c.others-others.ensures.before) in
     let inside : at < length c.args.text.now = search rules in
-    parts_at-found c.args.mark c.args.text.now at none inside (c.others-others.ensures.first c.if-others-lt-LANES.true)
+    parts_at-found c.args.mark c.args.text.now at none inside (c.others-others.ensures.first c.if-others-lt16.true)

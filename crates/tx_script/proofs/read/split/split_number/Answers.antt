@@ -1,33 +1,28 @@
-use Rattle.std.proofs.Common.{◌≡◌, ◌∙◌, sym, ap, refl, Some, ◌∷◌, ◌++◌}
-use Rattle.std.specs.Prelude.{FitsSigned}
+use Rattle.std.proofs.Common.{rules, ◌≡◌, ◌∙◌, Bool, Option, sym, ap, refl, arith, Some, false, true}
+use Rattle.std.specs.Prelude.{FitsSigned, pos}
 use Rattle.std.specs.Int.{w64}
+use Rattle.std.specs.Result.{is_ok, result_ok}
 use Rattle.std.proofs.lemmas.Int.{to_z-of_z}
-use Rattle.std.specs.Fmt.{signed_decimal}
-use Rattle.tx_script.specs.Words.{first_word}
-use Rattle.tx_script.proofs.FirstWord.{parts_at-word, free_signed, split_parts, same_parts}
+use Rattle.std.proofs.lemmas.Result.{Ok-from_Ok_iff}
+use Rattle.tx_script.proofs.Leading.{number_front}
+use Rattle.tx_script.proofs.Spelled.{pos_fits}
 use Rattle.tx_script.proofs.read.split.split_number.Goals as goal
 
-pub returns-in_err-first-clause-only : goal.returns-in_err-first-clause-only
-returns-in_err-first-clause-only c z rest fits e =
-    let parts = parts_at-word 32 (signed_decimal z) rest (free_signed z fits) in cc (parts, c.in_err-first.ensures)
+pub returns-in_err-ok-in-Some-clause-only : goal.returns-in_err-ok-in-Some-clause-only
+returns-in_err-ok-in-Some-clause-only c z rest fits e =
+    let front = number_front c.args.line.now c.in-Some.number c.in-Some.rest.now z rest c.in-Some.ensures.fits c.in-Some.ensures.found fits e in
+    let same = (c.in-Some.ensures.only front.0 rest (omega (arith, front.1)) front.3).0 in
+    let read = Ok-from_Ok_iff c.try_from.result (FitsSigned w64 (pos c.in-Some.number)) (pos c.in-Some.number) c.try_from.ensures (pos_fits c.in-Some.number (omega (arith, front.1, same))) in
+    let bad : false ≡ true = c.in_err-ok-in-Some.ensures.variant ∙ ap is_ok read in
+    cc
 
-pub returns-in_err-number-clause-only : goal.returns-in_err-number-clause-only
-returns-in_err-number-clause-only c z rest fits e =
-    let same = same_parts (c.in_ok-first.first.now, c.in_ok-first.rest.now) (signed_decimal z, rest) (c.in_ok-first.ensures ∙ ap first_word e ∙ parts_at-word 32 (signed_decimal z) rest (free_signed z fits)) in
-    let none = c.in_err-number.ensures.only z fits same.0 in
-    cc none
-
-pub returns-clause-only : goal.returns-clause-only
-returns-clause-only c z rest fits e =
-    let same = same_parts (c.in_ok-first.first.now, c.in_ok-first.rest.now) (signed_decimal z, rest) (c.in_ok-first.ensures ∙ ap first_word e ∙ parts_at-word 32 (signed_decimal z) rest (free_signed z fits)) in
-    let spelled : Some c.in_ok-number.number ≡ Some z = c.in_ok-number.ensures.only z fits same.0 in
-    let here : c.in_ok-number.number ≡ z = cc in
-    let fits' : FitsSigned w64 c.in_ok-number.number = rw here fits in
-    (to_z-of_z w64 c.in_ok-number.number fits' ∙ here, same.1)
-
-pub returns-clause-found : goal.returns-clause-found
-returns-clause-found c =
-    let whole : c.args.line.now ≡ c.in_ok-first.first.now ++ 32 ∷ c.in_ok-first.rest.now = split_parts 32 c.args.line.now c.in_ok-first.first.now c.in_ok-first.rest.now (sym c.in_ok-first.ensures) in
-    let fits : FitsSigned w64 c.in_ok-number.number = c.in_ok-number.ensures.fits in
-    let spelled : c.in_ok-first.first.now ≡ signed_decimal c.in_ok-number.number = c.in_ok-number.ensures.found in
-    simp to_z-of_z (whole ∙ rw spelled refl)
+pub returns-in_ok-ok-in-Some-clause-only : goal.returns-in_ok-ok-in-Some-clause-only
+returns-in_ok-ok-in-Some-clause-only c z rest fits e =
+    let front = number_front c.args.line.now c.in-Some.number c.in-Some.rest.now z rest c.in-Some.ensures.fits c.in-Some.ensures.found fits e in
+    let same = c.in-Some.ensures.only front.0 rest (omega (arith, front.1)) front.3 in
+    let here = pos_fits c.in-Some.number (omega (arith, front.1, same.0)) in
+    let read = Ok-from_Ok_iff c.try_from.result (FitsSigned w64 (pos c.in-Some.number)) (pos c.in-Some.number) c.try_from.ensures here in
+    let some : Some c.in_ok-ok-in-Some.field-0 ≡ Some (pos c.in-Some.number) = c.in_ok-ok-in-Some.ensures.value ∙ ap result_ok read in
+    let is : c.in_ok-ok-in-Some.field-0 ≡ pos c.in-Some.number = cc in
+    let fits' : FitsSigned w64 c.in_ok-ok-in-Some.field-0 = rw is here in
+    (to_z-of_z w64 c.in_ok-ok-in-Some.field-0 fits' ∙ is ∙ ap pos same.0 ∙ sym front.2, same.1)
