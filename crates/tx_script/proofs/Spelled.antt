@@ -7,8 +7,5 @@ use lib.Signed.{mag}
 pub mag_small : (z : ℤ) → FitsSigned w64 z → mag z < 2 ^ 63
 mag_small z fits = search (rules, fits)
 
-pub pid_fits : (n : ℕ) → n < 2 ^ 16 → FitsSigned w64 (pos n)
-pid_fits n small = search (rules, small)
-
 pub pos_fits : (n : ℕ) → n < 2 ^ 63 → FitsSigned w64 (pos n)
 pos_fits n small = search (rules, small)

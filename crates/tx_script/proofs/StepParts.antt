@@ -1,11 +1,9 @@
 -- The parts of a step's line.
-use Rattle.std.proofs.Common.{◌≡◌, ℕ, ◌<◌, ◌^◌, List, ◌∷◌, ◌++◌, Option, Some, codes, Bool, false, ◌&&◌, eqb, get_or, ap, refl, ◌∙◌, arith}
-use Rattle.std.proofs.lemmas.Bool.{both_ways}
+use Rattle.std.proofs.Common.{◌≡◌, ℕ, ◌<◌, ◌^◌, List, ◌∷◌, ◌++◌, Option, Some, codes, get_or, ap, ◌∙◌, arith}
 use Rattle.std.specs.Fmt.{decimal}
 use Rattle.tx_base.specs.declared.names.Pid.{Pid}
 use Rattle.tx_base.specs.declared.names.Signo.{Signo}
 use Rattle.tx_base.specs.declared.steps.Call.{Call}
-use Rattle.tx_base.specs.declared.steps.Call.TheVariants as call
 use Rattle.tx_base.specs.declared.steps.Step.{Step}
 use Rattle.tx_base.specs.declared.steps.Step.TheVariants as steps
 use Rattle.tx_script.specs.Calls.{call_text, FitsCall}
@@ -30,17 +28,3 @@ steps_of version (steps.KernelAbort starter) fits within line rest pid read smal
     let digit = digit_before line pid.0 rest large found 0 (spelled_length (decimal pid.0) pid.0 large refl).0 in
     let front : get_or line 0 0 ≡ 107 = ap (λ (bytes : List ℕ). get_or bytes 0 0) e in
     absurd (omega (arith, front, digit.1))
-
--- whether a text begins with these two bytes
-begins_with : ℕ → ℕ → List ℕ → Bool
-begins_with first second bytes = eqb (get_or bytes 0 0) first && eqb (get_or bytes 1 0) second
-
-begins_other : (c : Call) → begins_with 100 101 (call_text c) ≡ false
-unfolding begins_with
-begins_other (call.Dup fd) = refl
-begins_other _ = refl
-
--- no call's text begins like a delivery's
-pub no_delivery : (c : Call) (rest : List ℕ) → call_text c ≡ codes "deliver " ++ rest → ⊥
-unfolding begins_with
-no_delivery c rest e = both_ways (begins_with 100 101 (call_text c)) (begins_other c) (ap (begins_with 100 101) e)

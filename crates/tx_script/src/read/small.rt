@@ -1,5 +1,4 @@
-//! The numbers of a text that have a narrower range: those of processes, pipes and descriptions,
-//! points, and positions.
+//! The numbers of a text that have a narrower range: those of processes and signals, and positions.
 ghost use Rattle.std.specs.Prelude.{◌≡◌, ◌<◌, ◌^◌, ℕ, IfSome, Some};
 ghost use Rattle.std.specs.Fmt.{decimal};
 ghost use Rattle.tx_base.specs.declared.names.Pid.{Pid};
@@ -24,15 +23,6 @@ pub fn read_byte(word: &[u8]) -> Option<u8>
     ensures only { (n : ℕ) → n < 2 ^ 8 → word.now ≡ decimal n → result ≡ Some n }
 {
     u8::try_from(unsigned(word)?).ok()
-}
-
-/// The point that a word spells, 0 to 4294967295. Nothing where it is another word.
-pub fn read_point(word: &[u8]) -> Option<u32>
-    ensures found { IfSome result (λ n. word.now ≡ decimal n) }
-    ensures fits { IfSome result (λ n. n < 2 ^ 32) }
-    ensures only { (n : ℕ) → n < 2 ^ 32 → word.now ≡ decimal n → result ≡ Some n }
-{
-    u32::try_from(unsigned(word)?).ok()
 }
 
 /// The position that a word spells, 0 to 9223372036854775807. Nothing where it is another word.
