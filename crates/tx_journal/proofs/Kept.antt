@@ -36,11 +36,11 @@ kept_roomier machine j after width count is stays entries inverses =
       subst IsJournal back is.0,
       subst (λ (k : Kept). HasRoom k after.live (vec_capacity after.entries) (vec_capacity after.inverses)) back
           (subst (λ (live : ℕ). HasRoom (kept_of machine j width count) live (vec_capacity after.entries) (vec_capacity after.inverses)) (sym stays.live)
-              (record {
-                counted = is.1.counted;
-                entries = let room = is.1.entries in omega (arith, room, entries);
-                inverses = let room = is.1.inverses in omega (arith, room, inverses);
-              })),
+          (record {
+            counted = is.1.counted;
+            entries = let room = is.1.entries in omega (arith, room, entries);
+            inverses = let room = is.1.inverses in omega (arith, room, inverses);
+          })),
     )
 
 module _ (laws : SessionLaws) (machine : Content) (j : Journal) (width count : ℕ) (is : IsKeptSo machine j width count) (at_end : IsAtEnd (kept_of machine j width count)) where

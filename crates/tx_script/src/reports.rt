@@ -101,8 +101,10 @@ fn put_reply_line(text: &mut String, number: u64, reply: &Reply) -> Result<(), A
     ensures { OnOk result (string_bytes text.new ≡ string_bytes text.old ++ line_text number reply.now) }
 {
     put_count(text, number)?;
-    if let Reply::Done(0) = reply {
-        return put(text, " ok 0\n"); // what most steps are answered
+    if let Reply::Done(ret) = reply {
+        if *ret == 0 {
+            return put(text, " ok 0\n"); // what most steps are answered
+        }
     }
     put(text, " ")?;
     put_reply(text, reply)?;

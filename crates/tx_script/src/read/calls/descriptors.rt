@@ -15,9 +15,9 @@ ghost use Rattle.tx_script.specs.declared.read.header.Version.{Version};
 use crate::read::calls::place::put;
 use crate::read::calls::transfers::transfer_call;
 use crate::read::header::Version;
+use crate::read::leading::split_byte;
 use crate::read::numbers::number;
 use crate::read::small::read_byte;
-use crate::read::leading::split_byte;
 use crate::read::split::{pair, split_number};
 use tx_base::{Call, DescNo, PipeNo};
 

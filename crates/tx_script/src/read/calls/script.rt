@@ -13,8 +13,8 @@ ghost use Rattle.tx_script.specs.declared.read.header.Version.{Version};
 use crate::read::calls::place::put;
 use crate::read::calls::transactions::transaction_call;
 use crate::read::header::Version;
-use crate::read::numbers::number;
 use crate::read::leading::split_point;
+use crate::read::numbers::number;
 use crate::read::split::{after_front, pair};
 use tx_base::{Call, When};
 

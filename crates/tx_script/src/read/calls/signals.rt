@@ -17,8 +17,8 @@ ghost use Rattle.tx_script.specs.declared.read.header.Version.{Version};
 use crate::read::calls::place::put;
 use crate::read::calls::script::script_call;
 use crate::read::header::Version;
-use crate::read::sets::read_set;
 use crate::read::leading::split_point;
+use crate::read::sets::read_set;
 use crate::read::split::{after_front, pair, split_number, split_word, triple};
 use tx_base::{Action, Call, How};
 

@@ -1,4 +1,4 @@
-use Rattle.std.proofs.Common.{rules, ◌≡◌, ◌<◌, get_or, length, refl, ap, sym, arith}
+use Rattle.std.proofs.Common.{rules, get_or, refl, arith}
 use Rattle.std.specs.Fmt.{decimal}
 use Rattle.tx_script.proofs.Digits.{digit_more, none_read, short_value, spelled_length}
 use Rattle.tx_script.proofs.Leading.{digit_before, is_before_space, is_that_space, not_past, space_inside}
@@ -42,7 +42,7 @@ overflow_add-number c =
 
 pub loop-i-preserved : goal.loop-i-preserved
 loop-i-preserved c = (
-    digit_more c.args.line.now c.loop-i.i c.loop-i.number (get_or c.args.line.now c.loop-i.i 0) c.from.result c.loop-i-test.true refl
-    (search rules) (search rules) c.loop-i.invariant.0,
-    omega (arith, c.loop-i.invariant.1, c.if-i-eq-DIGITS.false),
+  digit_more c.args.line.now c.loop-i.i c.loop-i.number (get_or c.args.line.now c.loop-i.i 0) c.from.result c.loop-i-test.true refl
+      (search rules) (search rules) c.loop-i.invariant.0,
+  omega (arith, c.loop-i.invariant.1, c.if-i-eq-DIGITS.false),
 )

@@ -1,4 +1,4 @@
-use Rattle.std.proofs.Common.{rules, ◌≡◌, ◌∙◌, ◌<◌, ◌+◌, ◌∷◌, ◌++◌, List, ℕ, get_or, length, refl, ap, sym, arith}
+use Rattle.std.proofs.Common.{◌∙◌, ◌<◌, ◌+◌, ◌∷◌, ◌++◌, List, ℕ, get_or, length, refl, ap, sym, arith}
 use Rattle.std.specs.Fmt.{decimal}
 use Rattle.tx_script.proofs.Digits.{spelled_length}
 use Rattle.tx_script.proofs.Leading.{all_left, same_rest, same_value, spelled_front, spelled_zero_front, value_small, zero_front}
@@ -33,9 +33,10 @@ returns-clause-found c =
 
 pub returns-clause-only : goal.returns-clause-only
 returns-clause-only c n rest small e =
-    let at = c.in_ok-number.ensures.only n rest small e in
-    (same_value c.args.line.now n rest small e c.in_ok-number.count c.in_ok-number.number at c.in_ok-number.ensures.value,
-    all_left c.args.line.now (c.in_ok-number.count + 1) ∙ same_rest c.args.line.now n rest small e c.in_ok-number.count at)
+    let at = c.in_ok-number.ensures.only n rest small e in (
+      same_value c.args.line.now n rest small e c.in_ok-number.count c.in_ok-number.number at c.in_ok-number.ensures.value,
+      all_left c.args.line.now (c.in_ok-number.count + 1) ∙ same_rest c.args.line.now n rest small e c.in_ok-number.count at,
+    )
 
 pub returns-clause-fits : goal.returns-clause-fits
 returns-clause-fits c =
