@@ -135,26 +135,34 @@ fn to_and_fro(
     for position in 0..=end {
         assert_eq!(rt; session.goto(alloc, position), Ok(()));
         stands_at(rt, alloc, session, states, position)?;
-        assert_eq!(rt; session.goto(alloc, end + 1), Err(GotoFault::Beyond));
+        assert_eq!(rt;
+            session.goto(alloc, end.saturating_add(1)),
+            Err(GotoFault::Beyond)
+        );
         assert_eq!(rt; session.goto(alloc, end - position), Ok(()));
         stands_at(rt, alloc, session, states, end - position)?;
     }
     Ok(())
 }
 
+/// Makes a schedule in a session, and walks over it.
+fn walks(rt: &impl Abort, alloc: Global, text: &str) -> Result<(), Fail> {
+    let schedule = read_schedule(alloc, text.as_bytes())?;
+    let steps = schedule.steps.as_slice();
+    let ran = run_of(alloc, schedule.header, steps)?;
+    let mut session = session_of(alloc, schedule.header, steps)?;
+    is_history(rt, alloc, &session, ran.history.as_slice())?;
+    let states = states_of(alloc, schedule.header, steps)?;
+    back_to_the_start(rt, alloc, &mut session, states.as_slice())?;
+    forward_to_the_end(rt, alloc, &mut session, states.as_slice())?;
+    to_and_fro(rt, alloc, &mut session, states.as_slice())?;
+    is_history(rt, alloc, &session, ran.history.as_slice())
+}
+
 #[test]
 fn the_journal_is_the_history_of_the_run(rt: HostRuntime) -> Result<(), Fail> {
     for text in SCHEDULES {
-        let schedule = read_schedule(rt.alloc(), text.as_bytes())?;
-        let steps = schedule.steps.as_slice();
-        let ran = run_of(rt.alloc(), schedule.header, steps)?;
-        let mut session = session_of(rt.alloc(), schedule.header, steps)?;
-        is_history(&rt, rt.alloc(), &session, ran.history.as_slice())?;
-        let states = states_of(rt.alloc(), schedule.header, steps)?;
-        back_to_the_start(&rt, rt.alloc(), &mut session, states.as_slice())?;
-        forward_to_the_end(&rt, rt.alloc(), &mut session, states.as_slice())?;
-        to_and_fro(&rt, rt.alloc(), &mut session, states.as_slice())?;
-        is_history(&rt, rt.alloc(), &session, ran.history.as_slice())?;
+        walks(&rt, rt.alloc(), text)?;
     }
     Ok(())
 }

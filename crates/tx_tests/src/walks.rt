@@ -85,20 +85,25 @@ fn reports_of(alloc: Global, text: &[u8]) -> Result<Vec<Vec<u8>>, Fail> {
     Ok(reports)
 }
 
+/// Makes a schedule on a machine, takes its steps back and makes them again.
+fn taken_back(rt: &impl Abort, alloc: Global, text: &str) -> Result<(), Fail> {
+    let schedule = read_schedule(alloc, text.as_bytes())?;
+    let count = schedule.header.count;
+    let mut machine = match schedule.header.version {
+        Version::One => Machine::boot(alloc, count.clamp(1, 64))?,
+        Version::Two => Machine::boot_wide(alloc, count.clamp(1, 256))?,
+    };
+    let walk = Walk {
+        steps: schedule.steps,
+        reports: reports_of(alloc, text.as_bytes())?,
+    };
+    there_and_back(rt, alloc, &mut machine, &walk, walk.steps.len())
+}
+
 #[test]
 fn each_step_is_taken_back_and_made_again(rt: HostRuntime) -> Result<(), Fail> {
     for text in SCHEDULES {
-        let schedule = read_schedule(rt.alloc(), text.as_bytes())?;
-        let count = schedule.header.count;
-        let mut machine = match schedule.header.version {
-            Version::One => Machine::boot(rt.alloc(), count.clamp(1, 64))?,
-            Version::Two => Machine::boot_wide(rt.alloc(), count.clamp(1, 256))?,
-        };
-        let walk = Walk {
-            steps: schedule.steps,
-            reports: reports_of(rt.alloc(), text.as_bytes())?,
-        };
-        there_and_back(&rt, rt.alloc(), &mut machine, &walk, walk.steps.len())?;
+        taken_back(&rt, rt.alloc(), text)?;
     }
     Ok(())
 }
