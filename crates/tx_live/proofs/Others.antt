@@ -29,6 +29,7 @@ use Rattle.tx_reserve.specs.Reservations.{owner_of}
 use Rattle.tx_txn.specs.Content.{overlay_if, is_named, IsKept}
 use Rattle.tx_txn.specs.Faces.{pending_in}
 use Rattle.tx_txn.specs.Logs.{newest_first}
+use Rattle.tx_txn.specs.Txns.{Owns}
 use Rattle.tx_txn.specs.declared.txn.Txn.{Txn}
 
 -- a mark of the transaction of n says whether it defers so
@@ -46,6 +47,10 @@ pub record Stays (old new : Content) (n : ℕ) (txn : Txn) : Type 0 where
 owned_by : (n : ℕ) (x : Option ℕ) → is_owner n x ≡ true → x ≡ Some n
 owned_by n None h = cc
 owned_by n (Some t) h = ap Some (eqb-true t n h)
+
+-- what a live transaction has reserved is its own
+pub has_own : (k : Content) (n : ℕ) (txn : Txn) → IsTxn k n txn → Owns txn.starter.0 k.owners txn.objects
+has_own k n txn was o h = owned_by n (owner_of k.owners o) (sym (was.objects o) ∙ h) ∙ ap Some (sym was.starter)
 
 pub txn_stays : (old new : Content) (n : ℕ) (txn : Txn) → IsTxn old n txn → Stays old new n txn → IsTxn new n txn
 txn_stays old new n txn was stays = record {

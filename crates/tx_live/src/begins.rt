@@ -1,5 +1,5 @@
 //! The first step of a transaction.
-ghost use Rattle.std.specs.Prelude.{◌≡◌, pos, IfOk, OnErr};
+ghost use Rattle.std.specs.Prelude.{◌≡◌, false, pos, IfOk, OnErr};
 ghost use Rattle.tx_base.specs.Slots.{slot_at};
 ghost use Rattle.tx_change.specs.Exchange.{AreNamed};
 ghost use Rattle.tx_kernel.specs.Actors.{IsWhole};
@@ -78,7 +78,8 @@ fn begun(
 
 /// Makes the first step of a transaction, which reserves its starter.
 fn start(txn: &mut Txn, parts: &mut Parts, owners: &mut Reservations)
-    requires { AreNamed parts.old txn.old.log }
+    requires named { AreNamed parts.old txn.old.log }
+    requires nothing { (o : TheObject) → is_in txn.old.objects o ≡ false }
     ensures { Starts parts.old parts.new owners.old owners.new txn.old txn.new }
 {
     txn.log.lead_forward(parts);

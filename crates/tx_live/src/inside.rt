@@ -10,6 +10,7 @@ ghost use Rattle.tx_live.specs.Progresses.{part_of, HasChild};
 ghost use Rattle.tx_laws.specs.Fits.{Fits};
 ghost use Rattle.tx_model.specs.Membership.{Within};
 ghost use Rattle.tx_txn.specs.Content.{IsKept};
+ghost use Rattle.tx_txn.specs.Txns.{Owns};
 
 use crate::content::Content;
 use crate::inverse::Inverse;
@@ -112,6 +113,7 @@ fn step_in(
 ) -> Result<Stepped, NoMemory>
     requires whole { IsWhole parts.old }
     requires running { IsRunning (slot_at parts.old.procs pid.0) }
+    requires own { Owns txn.old.starter.0 owners.old txn.old.objects }
     ensures made { IfOk result (λ stepped. StepsIn parts.old parts.new marks.now owners.old owners.new pid act.now footprint.now txn.old txn.new stepped) }
     ensures parts { OnErr result (parts.new ≡ parts.old) }
     ensures owners { OnErr result (owners.new ≡ owners.old) }

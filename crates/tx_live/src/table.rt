@@ -12,8 +12,9 @@ use tx_change::Log;
 use tx_proc::Proc;
 use tx_txn::Txn;
 
-/// How many old parts a log may have whose room is kept.
-const KEPT_PARTS: usize = 64;
+/// How many old parts a log may have whose room is kept: those of a thousand stores, in 112 KiB. Room
+/// as large that is given back and asked for anew makes the allocator join all that it has free.
+const KEPT_PARTS: usize = 2_048;
 
 /// The live transactions by the numbers of their starters. Contracts see the list of them, that of
 /// number 1 first. Beside it the room is kept of one transaction that ended, and of the log of one

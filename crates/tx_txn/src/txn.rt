@@ -11,7 +11,7 @@ ghost use Rattle.tx_reserve.specs.Objects.{is_in};
 ghost use Rattle.tx_reserve.specs.Reservations.{owner_of};
 ghost use Rattle.tx_txn.specs.Marks.{IsCovered, ended_of, mark_of};
 ghost use Rattle.tx_txn.specs.Logs.{with_pending_at};
-ghost use Rattle.tx_txn.specs.Txns.{inside_at, none_held};
+ghost use Rattle.tx_txn.specs.Txns.{inside_at, none_held, Owns};
 ghost use Rattle.tx_kernel.specs.Plans.{sending_of};
 
 use crate::kept::Kept;
@@ -96,16 +96,21 @@ impl Txn {
         self.outbox.clear();
     }
 
-    /// Reserves what a step of a member names. Answers what was reserved before.
+    /// Reserves what a step of a member names. Answers what was reserved before, which the owners must
+    /// have as the starter's. Most often that is all that the step names, and nothing is to be done.
     pub fn reserve(&mut self, owners: &mut Reservations, objects: &Objects) -> Objects
+        requires { Owns self.old.starter.0 owners.old self.old.objects }
         ensures before { result ≡ self.old.objects }
         ensures owners { (o : Object) → owner_of owners.new o ≡ (if is_in objects.now o then Some self.old.starter.0 else owner_of owners.old o) }
         ensures objects { (o : Object) → is_in self.new.objects o ≡ (is_in self.old.objects o || is_in objects.now o) }
         ensures rest { self.new ≡ record self.old { objects = self.new.objects } }
     {
         let before = self.objects;
-        let _fresh = owners.take(self.starter, objects);
-        self.objects = before.join(objects);
+        let fresh = objects.less(&before);
+        if !fresh.is_empty() {
+            let _taken = owners.take(self.starter, &fresh);
+            self.objects = before.join(&fresh);
+        }
         before
     }
 

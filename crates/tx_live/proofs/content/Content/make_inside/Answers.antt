@@ -4,6 +4,7 @@ use Rattle.tx_base.specs.Slots.{with_slot}
 use Rattle.tx_kernel.specs.Acts.{event_of}
 use Rattle.tx_live.proofs.Insides.{answers_inside, made_inside, put_back}
 use Rattle.tx_live.proofs.KeptPosted.{slot_there}
+use Rattle.tx_live.proofs.Others.{has_own}
 use Rattle.tx_live.specs.Inverses.{with_txn}
 use Rattle.tx_live.specs.Made.{IsMade}
 use Rattle.tx_live.specs.Progresses.{part_of}
@@ -12,6 +13,7 @@ use Rattle.tx_live.specs.declared.content.Content.{Content}
 use Rattle.tx_live.specs.declared.inverse.Inverse.TheVariants.{Inside}
 use Rattle.tx_live.specs.Insides.{inside_in, StepsIn}
 use Rattle.tx_model.specs.Membership.{Within}
+use Rattle.tx_txn.specs.Txns.{Owns}
 use Rattle.tx_txn.specs.declared.txn.Txn.{Txn}
 use Rattle.tx_live.proofs.content.Content.make_inside.Goals as goal
 
@@ -27,6 +29,12 @@ returns-in_default-clause-err c =
           (c.put.ensures ∙ ap (λ (txns : List (Option BoxedTxn)). with_slot txns c.args.starter.0 (Some (with_txn c.unwrap-boxed.result c.step_in-stepped.new.txn))) c.take.ensures.emptied
           ∙ slot_twice old.txns c.args.starter.0 None (Some (with_txn c.unwrap-boxed.result c.step_in-stepped.new.txn))) j;
     }
+
+pub step_in-stepped-requires-clause-own : goal.step_in-stepped-requires-clause-own
+step_in-stepped-requires-clause-own c =
+    subst (λ (t : Txn). Owns t.starter.0 c.args.self.now.owners t.objects) (sym c.deref_mut.ensures.value)
+    (has_own c.args.self.now c.args.starter.0 c.unwrap-boxed.result.txn.value
+    (c.requires.shaped.each c.args.starter.0 c.unwrap-boxed.result (sym c.take.ensures.taken ∙ c.unwrap-boxed.ensures)))
 
 pub put-requires-clause-high : goal.put-requires-clause-high
 put-requires-clause-high c =
