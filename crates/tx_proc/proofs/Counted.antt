@@ -3,7 +3,7 @@ use Rattle.std.proofs.Common.{nat_lt, ◌≡◌, ℕ, zero, suc, ◌+◌, ◌-�
 use Rattle.std.proofs.lemmas.Bool.{cases_Bool, ltb-true, ltb-false}
 use Rattle.std.proofs.lemmas.List.{get_or_past}
 use Rattle.std.proofs.lemmas.List.Sums.{sum_by-set, count_by-le-length, get_or-le-sum_by}
-use Rattle.tx_base.proofs.SlotFacts.{length-with_slot, slot_twice}
+use Rattle.tx_base.proofs.SlotFacts.{length-with_slot}
 use Rattle.tx_base.specs.Slots.{slot_at, with_slot}
 use Rattle.tx_base.specs.declared.names.Pid.{Pid}
 use Rattle.tx_model.specs.State.{has_parent}
@@ -53,17 +53,6 @@ pub counted_with : (slots table : List (Option Proc)) (n : ℕ) (old slot : Opti
 counted_with slots table n old slot before after counts recounted low high is made there was now moves =
     let step : Recounts (parent_in (slot_at slots n)) (parent_in slot) counts recounted = rw (there, ← was, ← now) moves in
     rw made (still_counted slots n slot counts recounted low high is step)
-
--- a table of which a slot was replaced twice: the first one is forgotten
-pub counted_twice : (slots between table : List (Option Proc)) (n : ℕ) (first slot : Option Proc) (counts recounted : List ℕ) → 1 ≤ n → n ≤ length slots →
-    IsCounted slots counts → between ≡ with_slot slots n first → table ≡ with_slot between n slot →
-    Recounts (parent_in (slot_at slots n)) (parent_in slot) counts recounted → IsCounted table recounted
-counted_twice slots between table n first slot counts recounted low high is taken made moves =
-    rw (made, taken, slot_twice slots n first slot) (still_counted slots n slot counts recounted low high is moves)
-
--- nothing is counted anew where the parent stays
-pub same_parent : (old new : Option Pid) (counts : List ℕ) → new ≡ old → Recounts old new counts counts
-same_parent old new counts same = record { width = refl; each = λ p small. rw same refl }
 
 -- what stands in a slot is counted, and there is room for one more
 pub has_one : (slots : List (Option Proc)) (n : ℕ) (counts : List ℕ) → 1 ≤ n → n ≤ length slots → IsCounted slots counts → HasOne (parent_in (slot_at slots n)) counts

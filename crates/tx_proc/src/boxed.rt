@@ -61,8 +61,10 @@ impl BoxedProc {
         ensures part { part.new ≡ part_of self.old part.old }
     {
         let BoxedProc { parent, proc } = self;
+        if let Part::Parent(coming) = part {
+            *parent = *coming;
+        }
         part.swap(proc);
-        *parent = proc.parent;
     }
 
     /// Exchanges all that is pending at the process.
@@ -102,6 +104,7 @@ impl BoxedFrame {
     }
 
     /// Takes the newest frame out where this is none; puts this one in where there is room.
+    #[inline(never)] // inlined, each exchange of a part would make room for a frame
     #[tactic(auto, using(crate::proofs::Limits::frames_fit, crate::proofs::Limits::frame_fits))]
     pub fn swap_newest(&mut self, frames: &mut Frames)
         ensures frames { frames.new ≡ frames_swapped self.old frames.old }

@@ -103,6 +103,7 @@ fn swap_answer(regs: &mut Regs, answer: &mut Answer)
 
 /// Takes the entry at the place out where none comes in; puts the one in there that comes where
 /// there is room.
+#[inline(never)] // inlined, each exchange of a part would save the registers that it takes
 #[tactic(auto, using(crate::proofs::Limits::queue_fits, crate::proofs::Limits::entry_fits))]
 fn swap_entry(pending: &mut Pending, place: usize, entry: &mut Option<Queued>)
     ensures pending { pending.new ≡ record pending.old { queued = queue_swapped place entry.old pending.old.queued } }

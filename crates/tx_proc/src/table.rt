@@ -11,7 +11,8 @@ use crate::part::Part;
 use crate::proc::Proc;
 use std::alloc::Global;
 use std::marker::Model;
-use tx_base::{NoMemory, Pid, Slots};
+use std::mem;
+use tx_base::{NoMemory, Pid};
 use tx_signal::Pending;
 
 /// The processes by number, from 1 to the width. The children of each number are counted beside, so
@@ -19,7 +20,7 @@ use tx_signal::Pending;
 /// each number has, that of number 1 first.
 #[derive(Drop)]
 pub struct ProcTable {
-    slots: Slots<BoxedProc>,
+    slots: Vec<Option<BoxedProc>>,
     children: ChildCounts,
 }
 
@@ -30,9 +31,9 @@ impl Model for ProcTable {
 
     ghost Value = { List (Option TheProc) };
 
-    ghost invariant = { λ table. IsCounted table.slots table.children };
+    ghost invariant = { λ table. IsCounted table.slots.items table.children };
 
-    ghost view = { λ table. table.slots };
+    ghost view = { λ table. table.slots.items };
 }
 
 impl ProcTable {
@@ -42,7 +43,10 @@ impl ProcTable {
     pub fn new(alloc: Global, width: u16) -> Result<ProcTable, NoMemory>
         ensures { IfOk result (λ table. table ≡ replicate width None) }
     {
-        let slots = Slots::new(alloc, width)?;
+        let mut slots = Vec::with_capacity(alloc, width as usize)?;
+        for _number in 0..width {
+            slots.push(None)?;
+        }
         let children = ChildCounts::new(alloc, width)?;
         Ok(ProcTable { slots, children })
     }
@@ -51,14 +55,14 @@ impl ProcTable {
     pub fn width(&self) -> usize
         ensures { result ≡ length self.now }
     {
-        self.slots.width()
+        self.slots.len()
     }
 
     /// The process of a number; nothing where there is none, or no such number.
     pub fn get(&self, pid: Pid) -> Option<&Proc>
         ensures { option_copied result ≡ slot_at self.now pid.0 }
     {
-        match self.slots.get(pid) {
+        match self.at(pid) {
             Some(boxed) => Some(boxed.get()),
             None => None,
         }
@@ -68,7 +72,7 @@ impl ProcTable {
     pub fn parent_of(&self, pid: Pid) -> Option<Pid>
         ensures { result ≡ option_map (λ proc. proc.parent) (slot_at self.now pid.0) }
     {
-        let boxed = self.slots.get(pid)?;
+        let boxed = self.at(pid)?;
         Some(boxed.parent())
     }
 
@@ -95,7 +99,7 @@ impl ProcTable {
         ensures { self.new ≡ with_slot self.old pid.0 (Some boxed) }
     {
         let parent = boxed.parent();
-        self.slots.swap(pid, &mut Some(boxed));
+        self.slots[pid.0 as usize - 1] = Some(boxed);
         self.children.recount(None, Some(parent));
     }
 
@@ -106,8 +110,7 @@ impl ProcTable {
         ensures freed { self.new ≡ with_slot self.old pid.0 None }
         ensures taken { result ≡ slot_at self.old pid.0 }
     {
-        let mut taken = None;
-        self.slots.swap(pid, &mut taken);
+        let taken = self.slots[pid.0 as usize - 1].take();
         self.children.recount(parent_in(&taken), None);
         taken
     }
@@ -120,13 +123,12 @@ impl ProcTable {
         ensures given { slot.new ≡ slot_at self.old pid.0 }
     {
         let coming = parent_in(slot);
-        self.slots.swap(pid, slot);
+        mem::swap(&mut self.slots[pid.0 as usize - 1], slot);
         self.children.recount(parent_in(slot), coming);
     }
 
     /// Exchanges a part of the process that a number has; nothing happens where it has none. The
     /// number, and one in the part, must be ones that there are.
-    #[tactic(auto, using(tx_base::proofs::SlotFacts::slot_twice))]
     pub fn swap_part(&mut self, pid: Pid, part: &mut Part)
         requires low { 1 ≤ pid.0 }
         requires high { pid.0 ≤ length self.old }
@@ -134,29 +136,33 @@ impl ProcTable {
         ensures exchanged { self.new ≡ with_slot self.old pid.0 (option_map (λ proc. edited_once proc part.old) (slot_at self.old pid.0)) }
         ensures given { part.new ≡ part_in (slot_at self.old pid.0) part.old }
     {
-        let mut slot = None;
-        self.slots.swap(pid, &mut slot);
-        if let Some(boxed) = &mut slot {
-            exchange_part(boxed, part, &mut self.children);
+        let ProcTable { slots, children } = self;
+        if let Some(boxed) = &mut slots[pid.0 as usize - 1] {
+            exchange_part(boxed, part, children);
         }
-        self.slots.swap(pid, &mut slot);
     }
 
     /// Exchanges all that is pending at the process that a number has; nothing happens where it has
     /// none. The number must be one that there is.
-    #[tactic(auto, using(tx_base::proofs::SlotFacts::slot_twice))]
     pub fn swap_pending(&mut self, pid: Pid, pending: &mut Pending)
         requires low { 1 ≤ pid.0 }
         requires high { pid.0 ≤ length self.old }
         ensures exchanged { self.new ≡ with_slot self.old pid.0 (option_map (with_pending pending.old) (slot_at self.old pid.0)) }
         ensures given { pending.new ≡ pending_in (slot_at self.old pid.0) pending.old }
     {
-        let mut slot = None;
-        self.slots.swap(pid, &mut slot);
-        if let Some(boxed) = &mut slot {
+        if let Some(boxed) = &mut self.slots[pid.0 as usize - 1] {
             boxed.swap_pending(pending);
         }
-        self.slots.swap(pid, &mut slot);
+    }
+
+    /// What a number has; nothing where there is no such number.
+    fn at(&self, pid: Pid) -> Option<&BoxedProc>
+        ensures { option_copied result ≡ slot_at self.now pid.0 }
+    {
+        if pid.0 == 0 || pid.0 as usize > self.width() {
+            return None;
+        }
+        self.slots[pid.0 as usize - 1].as_ref()
     }
 }
 
@@ -168,12 +174,10 @@ fn exchange_part(boxed: &mut BoxedProc, part: &mut Part, children: &mut ChildCou
     ensures part { part.new ≡ part_of boxed.old part.old }
     ensures children { Recounts (Some boxed.old.parent) (Some boxed.new.parent) children.old children.new }
 {
-    let old = boxed.parent();
-    boxed.swap_part(part);
-    let new = boxed.parent();
-    if new != old {
-        children.recount(Some(old), Some(new));
+    if let Part::Parent(coming) = part {
+        children.recount(Some(boxed.parent()), Some(*coming));
     }
+    boxed.swap_part(part);
 }
 
 /// The parent of the process in a slot.
