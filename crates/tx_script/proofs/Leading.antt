@@ -1,5 +1,5 @@
 -- A number at the front of a line, with a space after it.
-use Rattle.std.proofs.Common.{◌≡◌, ◌∙◌, ℕ, suc, ◌+◌, ◌-◌, ◌<◌, ◌≤◌, ◌^◌, List, ◌∷◌, ◌++◌, take, drop, get_or, length, refl, ap, sym, arith, inl, inr, add-one, drop-cons}
+use Rattle.std.proofs.Common.{◌≡◌, ◌∙◌, ℕ, suc, ◌+◌, ◌-◌, ◌<◌, ◌≤◌, ◌^◌, List, [], ◌∷◌, ◌++◌, take, drop, get_or, length, refl, ap, sym, arith, inl, inr, add-one, drop-cons}
 use Rattle.std.specs.Str.Parse.{AllDigits, digits_value}
 use Rattle.std.specs.Fmt.{decimal, signed_decimal}
 use Rattle.std.specs.Int.{w64, IsInRange}
@@ -8,7 +8,10 @@ use Rattle.std.proofs.lemmas.Bool.{cases_lt}
 use Rattle.std.proofs.lemmas.List.{get_or_append_left, get_or-take, length-append, length-drop, length-take, take-append-drop, take_all, take_at}
 use Rattle.std.proofs.Math.Seq.{drop-append-add, get_or-append_seam}
 use Rattle.std.proofs.lemmas.Str.Parse.{digit_at, digits_value_short}
-use Rattle.tx_script.proofs.Digits.{own, one_byte, one_zero, spelled_by_digits, spelled_digits, spelled_length, spelled_zero}
+use Rattle.std.proofs.lemmas.Fmt.{decimal_digit}
+use Rattle.tx_script.specs.Words.{parts_at}
+use Rattle.tx_script.proofs.Digits.{own, spelled_by_digits, spelled_digits, spelled_length, spelled_zero}
+use Rattle.tx_script.proofs.FirstWord.{free_decimal, parts_at-word, same_parts}
 use Rattle.tx_script.proofs.Spelled.{mag_small}
 
 module _ (line : List ℕ) (n : ℕ) (rest : List ℕ) (small : n < 10 ^ 19) (e : line ≡ decimal n ++ 32 ∷ rest) where
@@ -70,12 +73,12 @@ module _ (line : List ℕ) (n : ℕ) (rest : List ℕ) (small : n < 10 ^ 19) (e 
   same_value count number at value =
       value ∙ ap (digits_value 10) (same_word count at) ∙ (spelled_digits (decimal n) n small refl).1
 
-  -- with a 0 in front the number is 0, of one digit
-  pub zero_front : get_or line 0 0 ≡ 48 → (0 ≡ n) × (length (decimal n) ≡ 1)
+  -- with a 0 in front the number is 0
+  pub zero_front : get_or line 0 0 ≡ 48 → n ≡ 0
   zero_front front =
       let some : 0 < length (decimal n) = (spelled_length (decimal n) n small refl).0 in
       let first : get_or (decimal n) 0 0 ≡ 48 = sym (get_or_append_left (decimal n) (32 ∷ rest) 0 0 some) ∙ sym (ap (λ (bytes : List ℕ). get_or bytes 0 0) e) ∙ front in
-      (sym (spelled_zero (decimal n) n small refl first), one_byte (decimal n) n small refl first)
+      spelled_zero (decimal n) n small refl first
 
 -- a line with a space at a place
 pub parted : (line : List ℕ) (i : ℕ) → i < length line → get_or line i 0 ≡ 32 → line ≡ take i line ++ 32 ∷ drop (i + 1) line
@@ -88,6 +91,17 @@ parted line i within here =
 pub all_left : (line : List ℕ) (k : ℕ) → take (length line - k) (drop k line) ≡ drop k line
 all_left line k = take_all (length line - k) (drop k line) (omega (arith, length-drop k line))
 
+-- a digit and a space spell a number
+pub digit_front : (line : List ℕ) (number : ℕ) → 1 < length line → get_or line 1 0 ≡ 32 → IsInRange 48 57 (get_or line 0 0) → number ≡ get_or line 0 0 - 48
+    → line ≡ decimal number ++ 32 ∷ take (length line - 2) (drop 2 line)
+digit_front [] number within here digit same = absurd (omega arith)
+digit_front (byte ∷ []) number within here digit same = absurd (omega arith)
+digit_front (byte ∷ next ∷ rest) number within here digit same =
+    let spelled : decimal number ≡ (48 + number) ∷ [] = decimal_digit number (omega (arith, digit.1)) in
+    let first : 48 + number ≡ byte = omega (arith, digit.0) in
+    let whole : byte ∷ next ∷ rest ≡ decimal number ++ 32 ∷ rest = rw (spelled, first, here) refl in
+    whole ∙ ap (λ (bytes : List ℕ). decimal number ++ 32 ∷ bytes) (sym (all_left (byte ∷ next ∷ rest) 2))
+
 -- digits and a space spell a number, where no 0 stands in front
 pub spelled_front : (line : List ℕ) (i number : ℕ) → AllDigits 10 (take i line) → number ≡ digits_value 10 (take i line) → 0 < i → i < 20 → i < length line → get_or line i 0 ≡ 32
     → (get_or line 0 0 ≡ 48 → ⊥) → line ≡ decimal number ++ 32 ∷ drop (i + 1) line
@@ -97,12 +111,23 @@ spelled_front line i number digits value some few within here front =
     let word : take i line ≡ decimal number = spelled_by_digits (take i line) number digits value (omega (arith, long)) (omega (arith, long)) front' in
     parted line i within here ∙ ap (λ (bytes : List ℕ). bytes ++ 32 ∷ drop (i + 1) line) word
 
--- a 0 and a space
-pub spelled_zero_front : (line : List ℕ) → 1 < length line → get_or line 0 0 ≡ 48 → get_or line 1 0 ≡ 32 → line ≡ decimal 0 ++ 32 ∷ drop 2 line
-spelled_zero_front line within front here =
-    let long = length-take 1 line in
-    let word : take 1 line ≡ decimal 0 = one_zero (take 1 line) (omega (arith, long)) (get_or-take 1 line 0 0 (omega arith) ∙ front) in
-    parted line 1 within here ∙ ap (λ (bytes : List ℕ). bytes ++ 32 ∷ drop 2 line) word
+-- a line begins with one number alone
+pub same_front : (line : List ℕ) (m n : ℕ) (rest left : List ℕ) → m < 10 ^ 19 → n < 10 ^ 19 → line ≡ decimal m ++ 32 ∷ rest → line ≡ decimal n ++ 32 ∷ left → (m ≡ n) × (rest ≡ left)
+same_front line m n rest left m_small n_small e f =
+    let first = parts_at-word 32 (decimal m) rest (free_decimal m (omega arith)).0 in
+    let second = parts_at-word 32 (decimal n) left (free_decimal n (omega arith)).0 in
+    let parts = same_parts (decimal m, rest) (decimal n, left) (sym first ∙ ap (parts_at 32) (sym e ∙ f) ∙ second) in
+    (sym (spelled_digits (decimal m) m m_small refl).1 ∙ ap (digits_value 10) parts.0 ∙ (spelled_digits (decimal n) n n_small refl).1, parts.1)
+
+-- a line that begins with another number has no digit and a space in front
+pub longer_front : (line : List ℕ) (n : ℕ) (rest : List ℕ) → line ≡ decimal n ++ 32 ∷ rest → (1 < length line → get_or line 1 0 ≡ 32 → IsInRange 48 57 (get_or line 0 0) → ⊥) → 10 ≤ n
+longer_front line n rest e none =
+    elim (cases_lt n 10) [
+      | inl digit ↦
+          let here : line ≡ (48 + n) ∷ 32 ∷ rest = e ∙ ap (λ (word : List ℕ). word ++ 32 ∷ rest) (decimal_digit n digit) in
+          absurd (none (rw here (omega arith)) (rw here refl) (rw here (omega arith, omega arith)))
+      | inr large ↦ large
+    ]
 
 -- where a line spells a number without a sign at its front, it spells no other one
 pub number_front : (line : List ℕ) (m : ℕ) (rest : List ℕ) (z : ℤ) (left : List ℕ) → m < 10 ^ 19 → line ≡ decimal m ++ 32 ∷ rest → FitsSigned w64 z → line ≡ signed_decimal z ++ 32 ∷ left

@@ -46,6 +46,7 @@ pub fn split_number(line: &[u8]) -> Option<(i64, &[u8])>
 
 /// The number that stands before the first space, with a sign or without, and the text after it:
 /// as `split_number`.
+#[inline(never)] // inlined, it would keep `split_number` from being inlined
 fn split_any(line: &[u8]) -> Option<(i64, &[u8])>
     ensures found { IfSome result (λ r. line.now ≡ signed_decimal r.0 ++ 32 ∷ r.1.now) }
     ensures fits { IfSome result (λ r. FitsSigned w64 r.0) }
