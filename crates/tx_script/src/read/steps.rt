@@ -24,7 +24,7 @@ pub fn read_step(version: Version, line: &[u8]) -> Option<Step>
     ensures within { IfSome result (IsOf version) }
     ensures only { (s : Step) → FitsStep s → IsOf version s → line.now ≡ step_text s → result ≡ Some s }
 {
-    let mut step = Step::KernelAbort(Pid(0));
+    let mut step = Step::Call(Pid(0), Call::Getpid);
     if read_step_into(version, line, &mut step) {
         Some(step)
     } else {
@@ -115,9 +115,19 @@ fn call_step(version: Version, pid: Pid, rest: &[u8], step: &mut Step) -> bool
     ensures within { IfSome (then_some result step.new) (IsOf version) }
     ensures only { (c : Call) → FitsCall c → IsCallOf version c → rest.now ≡ call_text c → then_some result step.new ≡ Some (Step.Call pid c) }
 {
-    *step = Step::Call(pid, Call::Getpid);
+    make_call(pid, step);
     match step {
         Step::Call(_, call) => read_call(version, rest, call),
         _ => false,
+    }
+}
+
+/// Makes a step a call of that process, whichever it is: only the process is written where it is one.
+fn make_call(pid: Pid, step: &mut Step)
+    ensures { (call : Call) × (step.new ≡ Step.Call pid call) }
+{
+    match step {
+        Step::Call(caller, _) => *caller = pid,
+        _ => *step = Step::Call(pid, Call::Getpid),
     }
 }
