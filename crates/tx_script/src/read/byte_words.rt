@@ -1,5 +1,6 @@
 //! The bytes of a text: two lower-case hex digits each.
-ghost use Rattle.std.specs.Prelude.{◌≡◌, ◌*◌, ◌%◌, ◌<◌, ◌≤◌, length, slice_index, IfSome, IsSomeAnd, List, ℕ, Some};
+ghost use Rattle.std.specs.Prelude.{◌≡◌, ◌*◌, ◌%◌, ◌<◌, ◌≤◌, [], length, slice_index, IfSome, IsSomeAnd, List, ℕ, Some};
+ghost use Rattle.std.specs.Bool.{then_some};
 ghost use Rattle.hex.specs.Hex.{IsBytes, encode_lower, lower_digits};
 
 use arrayvec::ArrayVec;
@@ -7,41 +8,46 @@ use arrayvec::ArrayVec;
 /// How many bytes one word may spell.
 const BYTES: usize = 64;
 
-/// The bytes that a word spells, 1 to 64. Nothing where it is another word.
-pub fn read_bytes(word: &[u8]) -> Option<ArrayVec<u8, 64>>
-    ensures found { IfSome result (λ bytes. word.now ≡ encode_lower bytes.items) }
-    ensures fits { IfSome result (λ bytes. IsBytes bytes.items) }
-    ensures some { IfSome result (λ bytes. 0 < length bytes.items) }
-    ensures few { IfSome result (λ bytes. length bytes.items ≤ 64) }
-    ensures only { (bytes : List ℕ) → IsBytes bytes → 0 < length bytes → length bytes ≤ 64 → word.now ≡ encode_lower bytes → IsSomeAnd result (λ found. found.items ≡ bytes) }
+/// Puts the bytes that a word spells, 1 to 64, where they are to stand. Answers whether it spells some.
+pub fn read_bytes(word: &[u8], bytes: &mut ArrayVec<u8, 64>) -> bool
+    requires { bytes.old.items ≡ [] }
+    ensures found { IfSome (then_some result bytes.new) (λ bytes. word.now ≡ encode_lower bytes.items) }
+    ensures fits { IfSome (then_some result bytes.new) (λ bytes. IsBytes bytes.items) }
+    ensures some { IfSome (then_some result bytes.new) (λ bytes. 0 < length bytes.items) }
+    ensures few { IfSome (then_some result bytes.new) (λ bytes. length bytes.items ≤ 64) }
+    ensures only { (spelled : List ℕ) → IsBytes spelled → 0 < length spelled → length spelled ≤ 64 → word.now ≡ encode_lower spelled → IsSomeAnd (then_some result bytes.new) (λ found. found.items ≡ spelled) }
 {
     if word.is_empty() {
-        return None;
+        return false;
     }
     if word.len() > 2 * BYTES {
-        return None;
+        return false;
     }
     if word.len() % 2 == 1 {
-        return None;
+        return false;
     }
-    pairs(word)
+    pairs(word, bytes)
 }
 
-/// The bytes of a word of pairs of digits.
-fn pairs(word: &[u8]) -> Option<ArrayVec<u8, 64>>
+/// Puts the bytes of a word of pairs of digits where they are to stand.
+fn pairs(word: &[u8], bytes: &mut ArrayVec<u8, 64>) -> bool
+    requires none { bytes.old.items ≡ [] }
     requires even { length word.now % 2 ≡ 0 }
     requires few { length word.now ≤ 128 }
-    ensures found { IfSome result (λ bytes. word.now ≡ encode_lower bytes.items) }
-    ensures fits { IfSome result (λ bytes. IsBytes bytes.items) }
-    ensures only { (bytes : List ℕ) → IsBytes bytes → word.now ≡ encode_lower bytes → IsSomeAnd result (λ found. found.items ≡ bytes) }
+    ensures found { IfSome (then_some result bytes.new) (λ bytes. word.now ≡ encode_lower bytes.items) }
+    ensures fits { IfSome (then_some result bytes.new) (λ bytes. IsBytes bytes.items) }
+    ensures only { (spelled : List ℕ) → IsBytes spelled → word.now ≡ encode_lower spelled → IsSomeAnd (then_some result bytes.new) (λ found. found.items ≡ spelled) }
 {
-    let mut bytes = ArrayVec::new();
     for at in 0..word.len() / 2 {
-        let high = digit(word[2 * at])?;
-        let low = digit(word[2 * at + 1])?;
+        let Some(high) = digit(word[2 * at]) else {
+            return false;
+        };
+        let Some(low) = digit(word[2 * at + 1]) else {
+            return false;
+        };
         bytes.push(16 * high + low);
     }
-    Some(bytes)
+    true
 }
 
 /// The number that a lower-case hex digit stands for.

@@ -1,5 +1,5 @@
 //! The calls on memory.
-ghost use Rattle.std.specs.Prelude.{◌≡◌, ◌++◌, ◌∷◌, Bool, ℕ, ℤ, codes, FitsSigned, IfSome, Some};
+ghost use Rattle.std.specs.Prelude.{◌≡◌, ◌≤◌, ◌++◌, ◌∷◌, Bool, ℕ, ℤ, codes, FitsSigned, IfSome, Some};
 ghost use Rattle.std.specs.Bool.{then_some};
 ghost use Rattle.std.specs.Int.{w64};
 ghost use Rattle.std.specs.Fmt.{signed_decimal};
@@ -7,6 +7,7 @@ ghost use Rattle.arrayvec.specs.ArrayVec.{ArrayVec};
 ghost use Rattle.hex.specs.Hex.{encode_lower};
 ghost use Rattle.tx_base.specs.declared.steps.Call.{Call};
 ghost use Rattle.tx_script.specs.Calls.{access_text, call_text, FitsCall};
+ghost use Rattle.tx_script.specs.Groups.{group_of};
 ghost use Rattle.tx_script.specs.Lines.{IsCallOf};
 ghost use Rattle.tx_script.specs.Words.{first_word};
 ghost use Rattle.tx_script.specs.declared.read.header.Version.{Version};
@@ -25,14 +26,12 @@ pub fn memory_call(version: Version, name: &[u8], arguments: &[u8], call: &mut C
     ensures found { IfSome (then_some result call.new) (λ c. name.now ++ 32 ∷ arguments.now ≡ call_text c) }
     ensures fits { IfSome (then_some result call.new) FitsCall }
     ensures within { IfSome (then_some result call.new) (IsCallOf version) }
-    ensures only { (c : Call) → FitsCall c → IsCallOf version c → first_word (call_text c) ≡ Some (name.now, arguments.now) → then_some result call.new ≡ Some c }
+    ensures only { (c : Call) → FitsCall c → IsCallOf version c → 1 ≤ group_of c → first_word (call_text c) ≡ Some (name.now, arguments.now) → then_some result call.new ≡ Some c }
 {
     match name {
         b"map" => put(call, number(arguments).map(Call::Map)),
         b"unmap" => put(call, number(arguments).map(Call::Unmap)),
         b"protect" => protect(arguments, call),
-        b"store" => store(arguments, call),
-        b"load" => put(call, number(arguments).map(Call::Load)),
         _ => process_call(version, name, arguments, call),
     }
 }
@@ -67,7 +66,7 @@ fn access(word: &[u8]) -> Option<bool>
 }
 
 /// The call that stores bytes, by the text of its arguments.
-fn store(arguments: &[u8], call: &mut Call) -> bool
+pub fn store(arguments: &[u8], call: &mut Call) -> bool
     ensures found { IfSome (then_some result call.new) (λ c. codes "store " ++ arguments.now ≡ call_text c) }
     ensures fits { IfSome (then_some result call.new) FitsCall }
     ensures within { (version : Version) → IfSome (then_some result call.new) (IsCallOf version) }
@@ -76,9 +75,9 @@ fn store(arguments: &[u8], call: &mut Call) -> bool
     let Some((address, word)) = split_number(arguments) else {
         return false;
     };
-    let Some(bytes) = read_bytes(word) else {
-        return false;
-    };
-    *call = Call::Store(address, bytes);
-    true
+    *call = Call::Store(address, arrayvec::ArrayVec::new());
+    match call {
+        Call::Store(_, bytes) => read_bytes(word, bytes),
+        _ => false,
+    }
 }

@@ -24,7 +24,7 @@ pub fn process_call(version: Version, name: &[u8], arguments: &[u8], call: &mut 
     ensures found { IfSome (then_some result call.new) (λ c. name.now ++ 32 ∷ arguments.now ≡ call_text c) }
     ensures fits { IfSome (then_some result call.new) FitsCall }
     ensures within { IfSome (then_some result call.new) (IsCallOf version) }
-    ensures only { (c : Call) → FitsCall c → IsCallOf version c → 1 ≤ group_of c → first_word (call_text c) ≡ Some (name.now, arguments.now) → then_some result call.new ≡ Some c }
+    ensures only { (c : Call) → FitsCall c → IsCallOf version c → 2 ≤ group_of c → first_word (call_text c) ≡ Some (name.now, arguments.now) → then_some result call.new ≡ Some c }
 {
     match name {
         b"fork" => put(call, read_pid(arguments).map(Call::Fork)),

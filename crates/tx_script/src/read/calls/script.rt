@@ -11,20 +11,19 @@ ghost use Rattle.tx_script.specs.Words.{first_word};
 ghost use Rattle.tx_script.specs.declared.read.header.Version.{Version};
 
 use crate::read::calls::place::put;
-use crate::read::calls::transactions::transaction_call;
 use crate::read::header::Version;
 use crate::read::leading::split_point;
 use crate::read::numbers::number;
 use crate::read::split::{after_front, pair};
 use tx_base::{Call, When};
 
-/// The call of a script or on the console of that name and with those arguments, or one that a later
-/// group has. Nothing where none is spelled so.
+/// The call of a script or on the console of that name and with those arguments. Nothing where none is
+/// spelled so.
 pub fn script_call(version: Version, name: &[u8], arguments: &[u8], call: &mut Call) -> bool
     ensures found { IfSome (then_some result call.new) (λ c. name.now ++ 32 ∷ arguments.now ≡ call_text c) }
     ensures fits { IfSome (then_some result call.new) FitsCall }
     ensures within { IfSome (then_some result call.new) (IsCallOf version) }
-    ensures only { (c : Call) → FitsCall c → IsCallOf version c → 6 ≤ group_of c → first_word (call_text c) ≡ Some (name.now, arguments.now) → then_some result call.new ≡ Some c }
+    ensures only { (c : Call) → FitsCall c → IsCallOf version c → 7 ≤ group_of c → first_word (call_text c) ≡ Some (name.now, arguments.now) → then_some result call.new ≡ Some c }
 {
     if name == b"console_write".as_slice() {
         return put(call, console_write(arguments));
@@ -35,7 +34,7 @@ pub fn script_call(version: Version, name: &[u8], arguments: &[u8], call: &mut C
     if name == b"keep".as_slice() {
         return put(call, number(arguments).map(Call::Keep));
     }
-    transaction_call(version, name, arguments, call)
+    false
 }
 
 /// The call that shows bytes, by the text of its arguments.

@@ -20,7 +20,7 @@ pub fn transfer_call(version: Version, name: &[u8], arguments: &[u8], call: &mut
     ensures found { IfSome (then_some result call.new) (λ c. name.now ++ 32 ∷ arguments.now ≡ call_text c) }
     ensures fits { IfSome (then_some result call.new) FitsCall }
     ensures within { IfSome (then_some result call.new) (IsCallOf version) }
-    ensures only { (c : Call) → FitsCall c → IsCallOf version c → 4 ≤ group_of c → first_word (call_text c) ≡ Some (name.now, arguments.now) → then_some result call.new ≡ Some c }
+    ensures only { (c : Call) → FitsCall c → IsCallOf version c → 5 ≤ group_of c → first_word (call_text c) ≡ Some (name.now, arguments.now) → then_some result call.new ≡ Some c }
 {
     match name {
         b"read" => put(call, read(arguments)),

@@ -1,4 +1,5 @@
 use Rattle.std.proofs.Common.{rules, ◌≡◌, ◌<◌, length, arith}
+use Rattle.std.specs.Bool.{then_some}
 use Rattle.std.proofs.lemmas.Option.{IfSome_then}
 use Rattle.tx_script.proofs.Hexed.{count_of}
 use Rattle.tx_script.proofs.read.byte_words.read_bytes.Goals as goal
@@ -17,4 +18,8 @@ returns-then-word-eq1-clause-only c bytes are some few e = absurd (omega (arith,
 pub returns-clause-some : goal.returns-clause-some
 returns-clause-some c =
     let some : 0 < length c.args.word.now = search rules in
-    IfSome_then c.pairs.result c.pairs.ensures.found (λ bytes e. omega (arith, count_of c.args.word.now bytes.items e))
+    IfSome_then (then_some c.pairs.result c.pairs.new.bytes) c.pairs.ensures.found (λ bytes e. omega (arith, count_of c.args.word.now bytes.items e))
+
+pub returns-clause-few : goal.returns-clause-few
+returns-clause-few c =
+    IfSome_then (then_some c.pairs.result c.pairs.new.bytes) c.pairs.ensures.found (λ bytes e. omega (arith, count_of c.args.word.now bytes.items e, c.if-word.false))
