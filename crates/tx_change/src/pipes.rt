@@ -133,6 +133,7 @@ impl PipeTable {
 
     /// Exchanges what a number has, or some bytes of its pipe. The number must be one
     /// that there is.
+    #[inline(never)] // inlined, each exchange of a part would save the registers that it takes
     pub fn swap_part(&mut self, number: PipeNo, part: &mut PipePart)
         requires { number.0 < length self.old }
         ensures exchanged { self.new ≡ slice_set self.old number.0 (piped_in (slice_index_or self.old number.0 None) part.old) }
