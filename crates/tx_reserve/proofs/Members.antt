@@ -1,9 +1,12 @@
 -- Objects, their places, and the sets that have their bits.
-use Rattle.std.proofs.Common.{◌≡◌, ℕ, zero, suc, ◌+◌, ◌-◌, ◌*◌, ◌/◌, ◌%◌, ◌^◌, ◌<◌, ◌≤◌, Bool, true, false, not, ◌&&◌, ◌||◌, List, length, if◌then◌else◌, ◌==◌, min, max, bit_and, bit_or, w32, arith, refl, ap, ap₂, sym, ◌∙◌, inl, inr, get_or, eqb-true, eq-eqb, add-one, replicate, slice_set, nat_lt, Option, Some, None, is_some, IfNone, IfSome, IsTrue, ◌↔◌}
+use Rattle.std.proofs.Common.{◌≡◌, ℕ, zero, suc, ◌+◌, ◌-◌, ◌*◌, ◌/◌, ◌%◌, ◌^◌, ◌<◌, ◌≤◌, Bool, true, false, not, ◌&&◌, ◌||◌, List, length, if◌then◌else◌, ◌==◌, min, max, bit_and, bit_or, w32, arith, refl, ap, ap₂, sym, ◌∙◌, subst, inl, inr, get_or, eqb-true, eq-eqb, add-one, replicate, slice_set, nat_lt, Option, Some, None, is_some, IfNone, IfSome, IsTrue, ◌↔◌}
 use Rattle.std.specs.List.{sum}
 use Rattle.std.proofs.lemmas.Bool.{cases_Bool, cases_lt, both_ways, ltb-true, lt-ltb}
 use Rattle.std.proofs.lemmas.List.{get_or-replicate, get_or-set_same, get_or-set_other, get_or_past, length-replicate}
 use Rattle.std.proofs.lemmas.Bool.Decides.{nat_tests}
+use Rattle.std.proofs.Math.Nat.{eq-zero-or-pos}
+use Rattle.std.proofs.lemmas.Nat.{le_or_l, le_or_r}
+use Rattle.std.specs.Int.Bits.{or_zero_l}
 use Rattle.std.proofs.lemmas.Nat.Bits.{bit_at_and, bit_at_or, bit_at_not, bit_at-lt, bit_at-trailing_zeros, bit_at-zero}
 use Rattle.std.specs.Int.{bit_at, bit_not, trailing_zeros}
 use Rattle.tx_model.specs.State.{Object, Proc, Desc, Pipe, Held, same_object}
@@ -267,16 +270,40 @@ object_of_place place lt = elim (cases_lt place 256) [
   ]
 ]
 
--- where there is no first place, the set is empty
-pub empty_test : (objects : Objects) (first : Option ℕ) (b : Bool) → is_some first ≡ not b → IfNone first ((q : ℕ) → q < 352 → has_place objects.words q ≡ false)
-    → IfSome first (λ p. p < 352) → IfSome first (λ p. has_place objects.words p ≡ true) → IsTrue b ↔ ((o : Object) → is_in objects o ≡ false)
-empty_test objects None true test none within set = (λ t o. nothing_in objects o none, λ all. refl)
-empty_test objects None false test none within set = absurd (both_ways false refl test)
-empty_test objects (Some p) true test none within set = absurd (both_ways false refl (sym test))
-empty_test objects (Some p) false test none within set = (
-  λ t. absurd (both_ways false refl t),
-  λ all. let found = object_of_place p within in
-      absurd (both_ways (is_in objects found.0) (all found.0) (sym (in_by_place objects found.0 p found.1.0 found.1.1) ∙ set)),
+-- whether a bit of the first so many words is set, told by a number that is 0 where none is
+pub record Tells (words : List ℕ) (count all : ℕ) : Type 0 where
+  pub none : all ≡ 0 → (q : ℕ) → q < 32 * count → has_place words q ≡ false
+  pub some : 0 < all → (place : ℕ) × ((place < 352) × (has_place words place ≡ true))
+
+-- by one word more
+pub tells_more : (words : List ℕ) (i all : ℕ) → i < 11 → get_or words i 0 < 2 ^ 32 → Tells words i all → Tells words (i + 1) (bit_or all (get_or words i 0))
+tells_more words i all few fits told = record {
+  none = λ zeros. no_places words i (no_more (get_or words i 0) (le_or_r all (get_or words i 0)) zeros) (told.none (no_more all (le_or_l all (get_or words i 0)) zeros));
+  some = λ positive. elim (eq-zero-or-pos all) [
+    | inl none ↦ here (subst (λ (n : ℕ). 0 < n) (or_zero_l (get_or words i 0)) (subst (λ (n : ℕ). 0 < bit_or n (get_or words i 0)) none positive))
+    | inr before ↦ told.some before
+  ];
+}
+  where
+    no_more : (a : ℕ) → a ≤ bit_or all (get_or words i 0) → bit_or all (get_or words i 0) ≡ 0 → a ≡ 0
+    no_more a most zeros = omega (arith, most, zeros)
+
+    here : 0 < get_or words i 0 → (place : ℕ) × ((place < 352) × (has_place words place ≡ true))
+    here positive =
+        let within : trailing_zeros w32 (get_or words i 0) < 32 = (bit_at-trailing_zeros w32 (get_or words i 0) positive fits).0 in
+        (32 * i + trailing_zeros w32 (get_or words i 0), (omega arith, lowest_is_set words i positive fits))
+
+-- where no bit of the 11 words is set, the set is empty
+pub empty_test : (objects : Objects) (count all : ℕ) → count ≡ 11 → Tells objects.words count all → IsTrue (all == 0) ↔ ((o : Object) → is_in objects o ≡ false)
+empty_test objects count all most told = (
+  λ t o. nothing_in objects o (λ q lt. told.none (eqb-true all 0 t) q (omega arith)),
+  λ none. elim (eq-zero-or-pos all) [
+    | inl zeros ↦ eq-eqb all 0 zeros
+    | inr positive ↦
+        let place = told.some positive in
+        let found = object_of_place place.0 place.1.0 in
+        absurd (both_ways (is_in objects found.0) (none found.0) (sym (in_by_place objects found.0 place.0 found.1.0 found.1.1) ∙ place.1.1))
+  ],
 )
 
 -- what is in a set has a number that there may be

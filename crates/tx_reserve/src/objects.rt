@@ -89,7 +89,11 @@ impl Objects {
     pub fn is_empty(&self) -> bool
         ensures { IsTrue result ↔ ((o : TheObject) → is_in self.now o ≡ false) }
     {
-        self.first_place(WORDS).is_none()
+        let mut all = 0;
+        for i in 0..WORDS {
+            all |= self.words[i];
+        }
+        all == 0
     }
 
     /// What is in this set, in the other, or in both.
