@@ -14,7 +14,7 @@ use crate::faults::Fault;
 use crate::read::header::{Header, Version};
 use crate::read::schedule::Schedule;
 use std::alloc::{AllocError, Global};
-use tx_base::{Reply, Step};
+use tx_base::{ABORTED_BY_CALL, Reply, Step};
 use tx_core::Machine;
 use tx_live::Inverse;
 use tx_text::{put, put_count, put_reply, put_state};
@@ -104,6 +104,11 @@ fn put_reply_line(text: &mut String, number: u64, reply: &Reply) -> Result<(), A
     if let Reply::Done(ret) = reply {
         if *ret == 0 {
             return put(text, " ok 0\n"); // what most steps are answered
+        }
+    }
+    if let Reply::Aborted(status) = reply {
+        if *status == ABORTED_BY_CALL {
+            return put(text, " aborted 201\n"); // and most aborts
         }
     }
     put(text, " ")?;

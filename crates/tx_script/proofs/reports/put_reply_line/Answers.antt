@@ -3,9 +3,20 @@ use Rattle.std.specs.Int.{w64}
 use Rattle.std.specs.Prelude.{FitsSigned, OnOk}
 use Rattle.std.specs.Fmt.{decimal, signed_decimal}
 use Rattle.std.proofs.lemmas.Int.{to_z-of_z}
-use Rattle.std.proofs.lemmas.Fmt.{decimal_digit}
+use Rattle.std.proofs.lemmas.Fmt.{decimal_digit, decimal_step}
 use Rattle.tx_script.specs.Report.{line_text}
 use Rattle.tx_script.proofs.reports.put_reply_line.Goals as goal
+
+-- a line whose number was appended, and then what stands behind it
+line_behind : (before appended number behind line : List ℕ) → appended ≡ before ++ number → line ≡ number ++ behind → appended ++ behind ≡ before ++ line
+line_behind before appended number behind line is spelled =
+    ap (λ (front : List ℕ). front ++ behind) is ∙ append_assoc before number behind ∙ ap (λ (bytes : List ℕ). before ++ bytes) (sym spelled)
+
+-- the status of an abort that a member asked for
+called_off : decimal 201 ≡ codes "201"
+called_off =
+    decimal_step 201 (omega arith) (omega arith)
+    ∙ ap (λ (front : List ℕ). front ++ 49 ∷ []) (decimal_step 20 (omega arith) (omega arith) ∙ ap (λ (front : List ℕ). front ++ 48 ∷ []) (decimal_digit 2 (omega arith)))
 
 pub returns-then-ret-eq0 : goal.returns-then-ret-eq0
 returns-then-ret-eq0 c =
@@ -14,8 +25,15 @@ returns-then-ret-eq0 c =
     let spelled : signed_decimal c.in-Done.ret ≡ 48 ∷ [] = ap signed_decimal none ∙ decimal_digit 0 (omega arith) in
     let line : line_text c.args.number c.args.reply.now ≡ decimal c.args.number ++ codes " ok 0\n" =
     ap (line_text c.args.number) c.in-Done.is ∙ ap (λ (digits : List ℕ). decimal c.args.number ++ 32 ∷ ((codes "ok " ++ digits) ++ 10 ∷ [])) spelled in
-    let whole : string_bytes c.put_count.new.text ++ codes " ok 0\n" ≡ string_bytes c.args.text.now ++ line_text c.args.number c.args.reply.now =
-    ap (λ (front : List ℕ). front ++ codes " ok 0\n") c.in_ok-put_count.ensures
-    ∙ append_assoc (string_bytes c.args.text.now) (decimal c.args.number) (codes " ok 0\n")
-    ∙ ap (λ (bytes : List ℕ). string_bytes c.args.text.now ++ bytes) (sym line) in
-    subst (λ (bytes : List ℕ). OnOk c.put.result (string_bytes c.put.new.text ≡ bytes)) whole c.put.ensures
+    subst (λ (bytes : List ℕ). OnOk c.put.result (string_bytes c.put.new.text ≡ bytes))
+    (line_behind (string_bytes c.args.text.now) (string_bytes c.put_count.new.text) (decimal c.args.number) (codes " ok 0\n") (line_text c.args.number c.args.reply.now) c.in_ok-put_count.ensures line)
+    c.put.ensures
+
+pub returns-then-status-eq-ABORTED_BY_CALL : goal.returns-then-status-eq-ABORTED_BY_CALL
+returns-then-status-eq-ABORTED_BY_CALL c =
+    let spelled : decimal c.in-Aborted.status ≡ codes "201" = ap decimal c.if-status-eq-ABORTED_BY_CALL.true ∙ called_off in
+    let line : line_text c.args.number c.args.reply.now ≡ decimal c.args.number ++ codes " aborted 201\n" =
+    ap (line_text c.args.number) c.in-Aborted.is ∙ ap (λ (digits : List ℕ). decimal c.args.number ++ 32 ∷ ((codes "aborted " ++ digits) ++ 10 ∷ [])) spelled in
+    subst (λ (bytes : List ℕ). OnOk c.put-then-status-eq-ABORTED_BY_CALL.result (string_bytes c.put-then-status-eq-ABORTED_BY_CALL.new.text ≡ bytes))
+    (line_behind (string_bytes c.args.text.now) (string_bytes c.put_count.new.text) (decimal c.args.number) (codes " aborted 201\n") (line_text c.args.number c.args.reply.now) c.in_ok-put_count.ensures line)
+    c.put-then-status-eq-ABORTED_BY_CALL.ensures
