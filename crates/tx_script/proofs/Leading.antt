@@ -1,5 +1,5 @@
 -- A number at the front of a line, with a space after it.
-use Rattle.std.proofs.Common.{◌≡◌, ◌∙◌, ℕ, suc, ◌+◌, ◌-◌, ◌<◌, ◌≤◌, ◌^◌, List, [], ◌∷◌, ◌++◌, take, drop, get_or, length, refl, ap, sym, arith, inl, inr, add-one, drop-cons}
+use Rattle.std.proofs.Common.{◌≡◌, ◌∙◌, ℕ, suc, ◌+◌, ◌-◌, ◌*◌, ◌/◌, ◌%◌, ◌<◌, ◌≤◌, ◌^◌, List, [], ◌∷◌, ◌++◌, take, drop, get_or, length, refl, ap, sym, arith, inl, inr, add-one, drop-cons}
 use Rattle.std.specs.Str.Parse.{AllDigits, digits_value}
 use Rattle.std.specs.Fmt.{decimal, signed_decimal}
 use Rattle.std.specs.Int.{w64, IsInRange}
@@ -8,7 +8,7 @@ use Rattle.std.proofs.lemmas.Bool.{cases_lt}
 use Rattle.std.proofs.lemmas.List.{get_or_append_left, get_or-take, length-append, length-drop, length-take, take-append-drop, take_all, take_at}
 use Rattle.std.proofs.Math.Seq.{drop-append-add, get_or-append_seam}
 use Rattle.std.proofs.lemmas.Str.Parse.{digit_at, digits_value_short}
-use Rattle.std.proofs.lemmas.Fmt.{decimal_digit}
+use Rattle.std.proofs.lemmas.Fmt.{decimal_digit, decimal_step}
 use Rattle.tx_script.specs.Words.{parts_at}
 use Rattle.tx_script.proofs.Digits.{own, spelled_by_digits, spelled_digits, spelled_length, spelled_zero}
 use Rattle.tx_script.proofs.FirstWord.{free_decimal, parts_at-word, same_parts}
@@ -101,6 +101,21 @@ digit_front (byte ∷ next ∷ rest) number within here digit same =
     let first : 48 + number ≡ byte = omega (arith, digit.0) in
     let whole : byte ∷ next ∷ rest ≡ decimal number ++ 32 ∷ rest = rw (spelled, first, here) refl in
     whole ∙ ap (λ (bytes : List ℕ). decimal number ++ 32 ∷ bytes) (sym (all_left (byte ∷ next ∷ rest) 2))
+
+-- two digits and a space spell a number, where no 0 stands in front
+pub two_front : (line : List ℕ) (number : ℕ) → 2 < length line → get_or line 2 0 ≡ 32 → 48 < get_or line 0 0 → IsInRange 48 57 (get_or line 0 0) → IsInRange 48 57 (get_or line 1 0)
+    → number ≡ 10 * (get_or line 0 0 - 48) + (get_or line 1 0 - 48) → line ≡ decimal number ++ 32 ∷ take (length line - 3) (drop 3 line)
+two_front [] number within here front tens ones same = absurd (omega arith)
+two_front (first ∷ []) number within here front tens ones same = absurd (omega arith)
+two_front (first ∷ second ∷ []) number within here front tens ones same = absurd (omega arith)
+two_front (first ∷ second ∷ next ∷ rest) number within here front tens ones same =
+    let ten : number / 10 ≡ first - 48 = omega (arith, same, ones.0, ones.1) in
+    let one : 48 + number % 10 ≡ second = omega (arith, same, ones.0, ones.1) in
+    let byte : 48 + number / 10 ≡ first = omega (arith, ten, tens.0) in
+    let digit : decimal (number / 10) ≡ first ∷ [] = decimal_digit (number / 10) (omega (arith, ten, tens.1)) ∙ ap (λ (b : ℕ). b ∷ []) byte in
+    let spelled : decimal number ≡ decimal (number / 10) ++ (48 + number % 10) ∷ [] = decimal_step number (omega (arith, same, front)) (omega (arith, same, tens.1, ones.1)) in
+    let whole : first ∷ second ∷ next ∷ rest ≡ decimal number ++ 32 ∷ rest = rw (spelled, digit, one, here) refl in
+    whole ∙ ap (λ (bytes : List ℕ). decimal number ++ 32 ∷ bytes) (sym (all_left (first ∷ second ∷ next ∷ rest) 3))
 
 -- digits and a space spell a number, where no 0 stands in front
 pub spelled_front : (line : List ℕ) (i number : ℕ) → AllDigits 10 (take i line) → number ≡ digits_value 10 (take i line) → 0 < i → i < 20 → i < length line → get_or line i 0 ≡ 32

@@ -1,5 +1,6 @@
 //! Numbers at the front of a text, each with a space after it.
-ghost use Rattle.std.specs.Prelude.{◌≡◌, ◌<◌, ◌≤◌, ◌^◌, ◌++◌, ◌∷◌, ℕ, List, IfSome, IsSomeAnd, length, slice_index, take};
+ghost use Rattle.std.specs.Prelude.{◌≡◌, ◌<◌, ◌≤◌, ◌^◌, ◌++◌, ◌∷◌, ◌↔◌, ℕ, List, IfSome, IsSomeAnd, IsTrue, length, slice_index, take};
+ghost use Rattle.std.specs.Int.{IsInRange};
 ghost use Rattle.std.specs.Str.Parse.{digits_value, AllDigits};
 ghost use Rattle.std.specs.Fmt.{decimal};
 ghost use Rattle.tx_base.specs.declared.names.Pid.{Pid};
@@ -18,10 +19,30 @@ pub fn split_unsigned(line: &[u8]) -> Option<(u64, &[u8])>
     if line.len() > 1 && line[1] == b' ' && line[0].is_ascii_digit() {
         return Some((u64::from(line[0] - b'0'), &line[2..])); // what most lines begin with
     }
+    split_two(line)
+}
+
+/// As `split_unsigned`, where the number has more than one digit: two without a loop.
+fn split_two(line: &[u8]) -> Option<(u64, &[u8])>
+    ensures found { IfSome result (λ r. line.now ≡ decimal r.0 ++ 32 ∷ r.1.now) }
+    ensures fits { IfSome result (λ r. r.0 < 10 ^ 19) }
+    ensures only { (n : ℕ) (rest : List ℕ) → 10 ≤ n → n < 10 ^ 19 → line.now ≡ decimal n ++ 32 ∷ rest → IsSomeAnd result (λ r. (r.0 ≡ n) × (r.1.now ≡ rest)) }
+{
+    if line.len() > 2 && line[2] == b' ' && line[0] > b'0' && are_digits(line[0], line[1]) {
+        let number = 10 * (line[0] - b'0') + (line[1] - b'0');
+        return Some((u64::from(number), &line[3..]));
+    }
     split_longer(line)
 }
 
-/// As `split_unsigned`, where the number has more than one digit.
+/// Whether two bytes are digits.
+fn are_digits(first: u8, second: u8) -> bool
+    ensures { IsTrue result ↔ (IsInRange 48 57 first × IsInRange 48 57 second) }
+{
+    first.is_ascii_digit() && second.is_ascii_digit()
+}
+
+/// As `split_two`, by a loop.
 #[inline(never)] // inlined, its loop would keep `split_unsigned` from being inlined
 fn split_longer(line: &[u8]) -> Option<(u64, &[u8])>
     ensures found { IfSome result (λ r. line.now ≡ decimal r.0 ++ 32 ∷ r.1.now) }

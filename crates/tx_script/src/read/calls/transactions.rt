@@ -8,6 +8,7 @@ ghost use Rattle.tx_script.specs.declared.read.header.Version.{Version};
 
 use crate::read::calls::place::put;
 use crate::read::header::Version;
+use crate::read::split::after_front;
 use tx_base::Call;
 
 /// Puts the call of transactions whose text goes on so after `sys_x` where it is to stand. Answers
@@ -18,17 +19,28 @@ pub fn transaction_call(version: Version, word: &[u8], call: &mut Call) -> bool
     ensures within { IfSome (then_some result call.new) (IsCallOf version) }
     ensures only { (c : Call) → IsCallOf version c → codes "sys_x" ++ word.now ≡ call_text c → then_some result call.new ≡ Some c }
 {
-    if word == b"begin".as_slice() {
+    if let Some(rest) = after_front(b"begin", word) {
+        return begin(version, rest, call);
+    }
+    if let Some(rest) = after_front(b"abort", word) {
+        return rest.is_empty() && put(call, Some(Call::SysXabort));
+    }
+    word == b"end".as_slice() && put(call, Some(Call::SysXend))
+}
+
+/// Puts the call that begins a transaction and whose text goes on so where it is to stand. Answers
+/// whether one does.
+fn begin(version: Version, rest: &[u8], call: &mut Call) -> bool
+    ensures found { IfSome (then_some result call.new) (λ c. codes "sys_xbegin" ++ rest.now ≡ call_text c) }
+    ensures fits { IfSome (then_some result call.new) FitsCall }
+    ensures within { IfSome (then_some result call.new) (IsCallOf version) }
+    ensures only { (c : Call) → IsCallOf version c → codes "sys_xbegin" ++ rest.now ≡ call_text c → then_some result call.new ≡ Some c }
+{
+    if rest.is_empty() {
         return put(call, Some(Call::SysXbegin));
     }
-    if word == b"abort".as_slice() {
-        return put(call, Some(Call::SysXabort));
-    }
-    if word == b"end".as_slice() {
-        return put(call, Some(Call::SysXend));
-    }
     match version {
-        Version::Two if word == b"begin defer".as_slice() => put(call, Some(Call::SysXbeginDefer)),
-        _ => false,
+        Version::One => false,
+        Version::Two => rest == b" defer".as_slice() && put(call, Some(Call::SysXbeginDefer)),
     }
 }

@@ -17,7 +17,7 @@ returns-then-is_ascii_digit-clause-only c n rest small e =
 
 pub returns-clause-only : goal.returns-clause-only
 returns-clause-only c n rest small e =
-    c.split_longer.ensures.only n rest (longer_front c.args.line.now n rest e (λ within here digit.
+    c.split_two.ensures.only n rest (longer_front c.args.line.now n rest e (λ within here digit.
     elim c.else-line-gt1.branch [
       | else-line-gt1-via-then-line-gt1+then-line-eq32+else-is_ascii_digit w ↦ search (rules, digit, w)
       | else-line-gt1-via-then-line-gt1+else-line-eq32 w ↦ w.if-line-eq32.false here
