@@ -32,7 +32,7 @@ parts_at-none mark (byte ∷ bytes) none =
     rw (other, rest) refl
 
 -- none of the bytes is the mark
-pub IsFree : ℕ → List ℕ → Type 0
+unfoldable pub IsFree : ℕ → List ℕ → Type 0
 IsFree mark [] = Unit {0}
 IsFree mark (byte ∷ bytes) = (byte ≡ mark → ⊥) × IsFree mark bytes
 

@@ -4,7 +4,7 @@ use Rattle.std.specs.Prelude.{All}
 use Rattle.std.proofs.lemmas.List.Elements.{All-append}
 use Rattle.tx_base.specs.declared.steps.Step.{Step}
 use Rattle.tx_script.specs.declared.faults.Fault.{Fault}
-use Rattle.tx_script.specs.declared.faults.Fault.TheVariants.{NotALine, TooLong, Reader, Writer, NoMemory}
+use Rattle.tx_script.specs.declared.faults.Fault.TheVariants.{NotALine, NoLabel, TooLong, Reader, Writer, NoMemory}
 use Rattle.tx_script.specs.declared.read.header.Version.{Version}
 use Rattle.tx_script.specs.Lines.{step_text}
 use Rattle.tx_script.specs.Schedule.{lines_of, Adds, AreSteps, FaultsAmong, FaultsAtNext, FaultsBy, FaultsUnread, FitsStepOf, IsLine}
@@ -44,6 +44,7 @@ steps_more version line steps more are few adds = record {
 -- of a fault of one kind another is so
 pub faults_by : (P Q : Fault → Type 0) → ((fault : Fault) → P fault → Q fault) → (fault : Fault) → FaultsBy P fault → FaultsBy Q fault
 faults_by P Q so (NotALine line) is = so (NotALine line) is
+faults_by P Q so (NoLabel line) is = so (NoLabel line) is
 faults_by P Q so (TooLong line) is = so (TooLong line) is
 faults_by P Q so NoMemory is = tt
 faults_by P Q so Reader is = absurd is
@@ -52,6 +53,7 @@ faults_by P Q so Writer is = absurd is
 -- a line that is at fault whatever it says
 pub unread_next : (number : ℕ) (IsNone : List ℕ → Type 0) (count : ℕ) (rest : List ℕ) (fault : Fault) → FaultsUnread number count rest fault → FaultsAtNext number IsNone count rest fault
 unread_next number IsNone count rest (NotALine line) is = (is.0, is.1, is.2, inl is.3)
+unread_next number IsNone count rest (NoLabel line) is = is
 unread_next number IsNone count rest (TooLong line) is = is
 unread_next number IsNone count rest NoMemory is = is
 unread_next number IsNone count rest Reader is = is
@@ -76,6 +78,7 @@ module _ {A : Type 0} (spelling : A → List ℕ) (AreGood : List A → Type 0) 
 pub unread_by : (number : ℕ) (IsNone : List ℕ → Type 0) (count : ℕ) (rest : List ℕ) (fault : Fault) → rest ≢ [] → FaultsUnread number count rest fault →
     FaultsBy (λ f. (rest ≢ []) × FaultsAtNext number IsNone count rest f) fault
 unread_by number IsNone count rest (NotALine line) more is = (more, unread_next number IsNone count rest (NotALine line) is)
+unread_by number IsNone count rest (NoLabel line) more is = (more, unread_next number IsNone count rest (NoLabel line) is)
 unread_by number IsNone count rest (TooLong line) more is = (more, unread_next number IsNone count rest (TooLong line) is)
 unread_by number IsNone count rest NoMemory more is = tt
 unread_by number IsNone count rest Reader more is = is

@@ -3,15 +3,16 @@ use Rattle.std.proofs.Common.{◌≡◌, ◌≤◌, ◌++◌, ◌∙◌, List, �
 use Rattle.std.proofs.lemmas.List.{append_cancel_left}
 use Rattle.std.specs.Fmt.{decimal}
 use Rattle.tx_script.specs.declared.read.header.Header.{Header}
+use Rattle.tx_script.specs.declared.read.header.TextKind.{TextKind}
 use Rattle.tx_script.specs.declared.read.header.Version.{Version}
 use Rattle.tx_script.specs.Lines.{header_front, header_text, most_of}
 
 -- what follows the front is the number
-pub counted : (h : Header) (version : Version) (front line word : List ℕ) → front ≡ header_front version → h.version ≡ version → line ≡ front ++ word → line ≡ header_text h → word ≡ decimal h.count
-counted h version front line word f same parts e =
-    let whole : header_front version ++ word ≡ line = rw (← f) (sym parts) in
-    let spelled : line ≡ header_front version ++ decimal h.count = rw (← same) e in
-    append_cancel_left (header_front version) word (decimal h.count) (whole ∙ spelled)
+pub counted : (kind : TextKind) (h : Header) (version : Version) (front line word : List ℕ) → front ≡ header_front kind version → h.version ≡ version → line ≡ front ++ word → line ≡ header_text kind h → word ≡ decimal h.count
+counted kind h version front line word f same parts e =
+    let whole : header_front kind version ++ word ≡ line = rw (← f) (sym parts) in
+    let spelled : line ≡ header_front kind version ++ decimal h.count = rw (← same) e in
+    append_cancel_left (header_front kind version) word (decimal h.count) (whole ∙ spelled)
 
 pub few : (h : Header) (version : Version) (most : ℕ) → h.version ≡ version → most ≡ most_of version → h.count ≤ most_of h.version → h.count ≤ most
 few h version most same m below = rw (m, sym same) below

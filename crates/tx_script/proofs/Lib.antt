@@ -1,3 +1,4 @@
+pub mod CallWords
 pub mod Digits
 pub mod FirstWord
 pub mod Growing
@@ -5,6 +6,10 @@ pub mod Heading
 pub mod Hexed
 pub mod Leading
 pub mod LineEnds
+pub mod LineWords
+pub mod PlainWords
+pub mod ProgramLines
+pub mod ProgramParts
 pub mod Reported
 pub mod SignalLists
 pub mod Spelled

@@ -6,9 +6,10 @@ use Rattle.tx_script.specs.Schedule.{AreSteps, FaultsAmong, FaultsBy, SpellsHead
 use Rattle.tx_script.specs.Walks.{before_commands, command_text, AreCommands, FaultsAtCommand, IsWalkFault}
 use Rattle.tx_script.specs.declared.faults.Fault.{Fault}
 use Rattle.tx_script.specs.declared.read.header.Header.{Header}
+use Rattle.tx_script.specs.declared.read.header.TextKind.TheVariants as kinds
 
 -- a fault among the commands is one of the text
-pub commands_fault : (text : List ℕ) (header : Header) (left : List ℕ) (steps : List Step) (rest : List ℕ) (number : ℕ) (fault : Fault) → SpellsHeader text header left → AreSteps header.version steps
+pub commands_fault : (text : List ℕ) (header : Header) (left : List ℕ) (steps : List Step) (rest : List ℕ) (number : ℕ) (fault : Fault) → SpellsHeader kinds.Schedule text header left → AreSteps header.version steps
     → left ≡ before_commands steps rest → number ≡ length steps + 3 → FaultsBy (FaultsAmong command_text AreCommands (FaultsAtCommand number) rest) fault → FaultsBy (IsWalkFault text) fault
 commands_fault text header left steps rest number fault spells are parts same =
     faults_by (FaultsAmong command_text AreCommands (FaultsAtCommand number) rest) (IsWalkFault text)

@@ -5,7 +5,7 @@ use Rattle.tx_script.specs.Ends.{Counts}
 use Rattle.tx_script.specs.Grammars.{Grammar}
 use Rattle.tx_script.specs.Whole.{IsCalm}
 use Rattle.tx_script.specs.declared.faults.Fault.{Fault}
-use Rattle.tx_script.specs.declared.faults.Fault.TheVariants.{NotALine, TooLong, Reader, Writer, NoMemory}
+use Rattle.tx_script.specs.declared.faults.Fault.TheVariants.{NotALine, NoLabel, TooLong, Reader, Writer, NoMemory}
 
 -- what was left to read spells that
 pub record Spells {A : Type 0} (G : Grammar A) (left : Option (List ℕ)) (spelled : A) : Type 0 where
@@ -23,6 +23,8 @@ Answers {A} G left reads written writes (Ok _) reads' written' writes' =
     ((spelled : A) × Spells G left spelled × Appends written written' (G.answer spelled)) × IsCalm reads reads' × IsCalm writes writes'
 Answers G left reads written writes (Err (NotALine line)) reads' written' writes' =
     IfSome left (λ bytes. (length bytes ≤ 1048576) × G.IsFault bytes (NotALine line)) × Keeps written written'
+Answers G left reads written writes (Err (NoLabel line)) reads' written' writes' =
+    IfSome left (λ bytes. (length bytes ≤ 1048576) × G.IsFault bytes (NoLabel line)) × Keeps written written'
 Answers G left reads written writes (Err (TooLong line)) reads' written' writes' =
     IfSome left (λ bytes. ((line ≡ 0) × (1048576 < length bytes)) ⊎ ((length bytes ≤ 1048576) × G.IsFault bytes (TooLong line))) × Keeps written written'
 Answers G left reads written writes (Err Reader) reads' written' writes' =

@@ -1,11 +1,14 @@
 pub mod Answered
+pub mod Arguments
 pub mod Calls
 pub mod Debug
 pub mod Ends
 pub mod Grammars
 pub mod Groups
+pub mod Instructions
 pub mod Lines
 pub mod Over
+pub mod Programs
 pub mod Report
 pub mod Schedule
 pub mod Sets

@@ -1,4 +1,4 @@
--- The lines of a schedule: one spelling for each header and each step.
+-- The lines of a schedule, and the first line of each text: one spelling for each header and each step.
 use Rattle.std.specs.Prelude.{ℕ, ◌<◌, ◌≤◌, ◌^◌, List, ◌∷◌, ◌++◌, codes}
 use Rattle.std.specs.Fmt.{decimal}
 use Rattle.tx_base.specs.declared.steps.Call.{Call}
@@ -9,6 +9,8 @@ use Rattle.tx_script.specs.Calls.{call_text, FitsCall}
 use Rattle.tx_script.specs.declared.read.header.Version.{Version}
 use Rattle.tx_script.specs.declared.read.header.Version.TheVariants.{One, Two}
 use Rattle.tx_script.specs.declared.read.header.Header.{Header}
+use Rattle.tx_script.specs.declared.read.header.TextKind.{TextKind}
+use Rattle.tx_script.specs.declared.read.header.TextKind.TheVariants.{Schedule, Program}
 
 -- the spelling of a step, without the line's end
 abbrev pub step_text : Step → List ℕ
@@ -44,13 +46,15 @@ most_of One = 64
 most_of Two = 256
 
 -- the front of a header, up to its number
-abbrev pub header_front : Version → List ℕ
-header_front One = codes "txos 1 schedule "
-header_front Two = codes "txos 2 schedule "
+abbrev pub header_front : TextKind → Version → List ℕ
+header_front Schedule One = codes "txos 1 schedule "
+header_front Schedule Two = codes "txos 2 schedule "
+header_front Program One = codes "txos 1 program "
+header_front Program Two = codes "txos 2 program "
 
 -- the spelling of a header, without the line's end
-abbrev pub header_text : Header → List ℕ
-header_text header = header_front header.version ++ decimal header.count
+abbrev pub header_text : TextKind → Header → List ℕ
+header_text kind header = header_front kind header.version ++ decimal header.count
 
 -- the number of processes is one that a text of its version begins with
 abbrev pub FitsHeader : Header → Type 0

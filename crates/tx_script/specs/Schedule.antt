@@ -2,9 +2,11 @@
 use Rattle.std.specs.Prelude.{◌≡◌, ◌≢◌, ℕ, ◌+◌, ◌<◌, ◌≤◌, List, [], ◌∷◌, ◌++◌, length, nat_eq, if◌then◌else◌, All, Option, Some, None, Result, Ok, Err, ◌⊎◌}
 use Rattle.tx_base.specs.declared.steps.Step.{Step}
 use Rattle.tx_script.specs.declared.faults.Fault.{Fault}
-use Rattle.tx_script.specs.declared.faults.Fault.TheVariants.{NotALine, TooLong, Reader, Writer, NoMemory}
+use Rattle.tx_script.specs.declared.faults.Fault.TheVariants.{NotALine, NoLabel, TooLong, Reader, Writer, NoMemory}
 use Rattle.tx_script.specs.declared.read.header.Version.{Version}
 use Rattle.tx_script.specs.declared.read.header.Header.{Header}
+use Rattle.tx_script.specs.declared.read.header.TextKind.{TextKind}
+use Rattle.tx_script.specs.declared.read.header.TextKind.TheVariants as kinds
 use Rattle.tx_script.specs.declared.read.schedule.Schedule.{Schedule}
 use Rattle.tx_script.specs.Lines.{header_text, step_text, FitsHeader, FitsStep, IsOf}
 
@@ -29,7 +31,7 @@ steps_text steps = lines_of step_text steps
 
 -- the whole text of a schedule
 abbrev pub schedule_text : Header → List Step → List ℕ
-schedule_text header steps = header_text header ++ 10 ∷ steps_text steps
+schedule_text header steps = header_text kinds.Schedule header ++ 10 ∷ steps_text steps
 
 -- a text of that version can hold the step
 pub record FitsStepOf (version : Version) (step : Step) : Type 0 where
@@ -46,9 +48,9 @@ pub record IsSchedule (header : Header) (steps : List Step) : Type 0 where
   pub header_fits : FitsHeader header
   pub steps_fit : AreSteps header.version steps
 
--- no header is spelled so
-abbrev pub IsNoHeader : List ℕ → Type 0
-IsNoHeader line = (header : Header) → FitsHeader header → line ≢ header_text header
+-- no header of that kind is spelled so
+abbrev pub IsNoHeader : TextKind → List ℕ → Type 0
+IsNoHeader kind line = (header : Header) → FitsHeader header → line ≢ header_text kind header
 
 -- no step of that version is spelled so
 abbrev pub IsNoStep : Version → List ℕ → Type 0
@@ -61,8 +63,8 @@ pub record IsLine (text line rest : List ℕ) : Type 0 where
   pub short : length line ≤ 512
 
 -- the text begins with the line of that header
-pub record SpellsHeader (text : List ℕ) (header : Header) (rest : List ℕ) : Type 0 where
-  pub spelled : text ≡ header_text header ++ 10 ∷ rest
+pub record SpellsHeader (kind : TextKind) (text : List ℕ) (header : Header) (rest : List ℕ) : Type 0 where
+  pub spelled : text ≡ header_text kind header ++ 10 ∷ rest
   pub fits : FitsHeader header
 
 -- one thing more, that is spelled in that line
@@ -75,6 +77,7 @@ pub record Adds {A : Type 0} (spelling : A → List ℕ) (IsGood : A → Type 0)
 -- the fault is one of the text, of which that is so, or want of memory
 abbrev pub FaultsBy : (Fault → Type 0) → Fault → Type 0
 FaultsBy Is (NotALine line) = Is (NotALine line)
+FaultsBy Is (NoLabel line) = Is (NoLabel line)
 FaultsBy Is (TooLong line) = Is (TooLong line)
 FaultsBy Is NoMemory = Unit {0}
 FaultsBy Is Reader = ⊥
@@ -87,10 +90,10 @@ FaultsAtLine number text (NotALine line) = (line ≡ number) × (length (first_l
 FaultsAtLine number text _ = ⊥
 
 -- the first line of the text is at fault: it is too long; or else it has no end, or is no header
-abbrev pub FaultsAtHeader : List ℕ → Fault → Type 0
-FaultsAtHeader text (TooLong line) = (line ≡ 1) × (512 < length (first_line text))
-FaultsAtHeader text (NotALine line) = (line ≡ 1) × (length (first_line text) ≤ 512) × ((after_line text ≡ None) ⊎ IsNoHeader (first_line text))
-FaultsAtHeader text _ = ⊥
+abbrev pub FaultsAtHeader : TextKind → List ℕ → Fault → Type 0
+FaultsAtHeader kind text (TooLong line) = (line ≡ 1) × (512 < length (first_line text))
+FaultsAtHeader kind text (NotALine line) = (line ≡ 1) × (length (first_line text) ≤ 512) × ((after_line text ≡ None) ⊎ IsNoHeader kind (first_line text))
+FaultsAtHeader kind text _ = ⊥
 
 -- the next line is at fault whatever it says, after so many lines of a kind of which the first has that number: it is too long, or one too many;
 -- or else it has no end
@@ -121,8 +124,8 @@ FaultsAtStep version count rest fault = (rest ≢ []) × FaultsAtNext 2 (IsNoSte
 
 -- the text is at fault: at its header, or else at the first line after it that is
 abbrev pub IsFaultOf : List ℕ → Fault → Type 0
-IsFaultOf text fault = FaultsAtHeader text fault
-    ⊎ ((header : Header) × (rest : List ℕ) × SpellsHeader text header rest × FaultsAmong step_text (AreSteps header.version) (FaultsAtStep header.version) rest fault)
+IsFaultOf text fault = FaultsAtHeader kinds.Schedule text fault
+    ⊎ ((header : Header) × (rest : List ℕ) × SpellsHeader kinds.Schedule text header rest × FaultsAmong step_text (AreSteps header.version) (FaultsAtStep header.version) rest fault)
 
 -- the schedule whose text it is, or the text's fault
 abbrev pub ReadsSchedule : List ℕ → Result Schedule Fault → Type 0

@@ -9,6 +9,7 @@ use Rattle.tx_script.specs.declared.faults.Fault.TheVariants.{NotALine, TooLong}
 use Rattle.tx_script.specs.declared.read.command.Command.{Command}
 use Rattle.tx_script.specs.declared.read.command.Command.TheVariants.{Back, Forward, Goto, State}
 use Rattle.tx_script.specs.declared.read.header.Header.{Header}
+use Rattle.tx_script.specs.declared.read.header.TextKind.TheVariants as kinds
 use Rattle.tx_script.specs.declared.read.header.Version.{Version}
 use Rattle.tx_script.specs.declared.read.walk.Walk.{Walk}
 
@@ -41,7 +42,7 @@ before_commands steps rest = steps_text steps ++ (debug_line ++ 10 ∷ rest)
 
 -- the whole text
 abbrev pub walk_text : Header → List Step → List Command → List ℕ
-walk_text header steps commands = header_text header ++ 10 ∷ before_commands steps (lines_of command_text commands)
+walk_text header steps commands = header_text kinds.Schedule header ++ 10 ∷ before_commands steps (lines_of command_text commands)
 
 -- a text can hold these steps and commands after that header
 pub record IsWalk (header : Header) (steps : List Step) (commands : List Command) : Type 0 where
@@ -88,7 +89,7 @@ FaultsAfterHeader version text fault = FaultsAmong step_text (AreSteps version) 
 
 -- the text is at fault: at its header, or else at the first line after it that is
 abbrev pub IsWalkFault : List ℕ → Fault → Type 0
-IsWalkFault text fault = FaultsAtHeader text fault ⊎ ((header : Header) × (rest : List ℕ) × SpellsHeader text header rest × FaultsAfterHeader header.version rest fault)
+IsWalkFault text fault = FaultsAtHeader kinds.Schedule text fault ⊎ ((header : Header) × (rest : List ℕ) × SpellsHeader kinds.Schedule text header rest × FaultsAfterHeader header.version rest fault)
 
 -- the schedule and the commands whose text it is, or the text's fault
 abbrev pub ReadsWalk : List ℕ → Result Walk Fault → Type 0

@@ -3,7 +3,7 @@ use Rattle.std.specs.Prelude.{◌≡◌, ℕ, ◌+◌, ◌<◌, ◌≤◌, List,
 use Rattle.std.specs.Io.KnownBytes.{Appends, Consumes, IsAtEnd}
 use Rattle.tx_script.specs.Ends.{Counts}
 use Rattle.tx_script.specs.declared.faults.Fault.{Fault}
-use Rattle.tx_script.specs.declared.faults.Fault.TheVariants.{NotALine, TooLong, Reader, Writer, NoMemory}
+use Rattle.tx_script.specs.declared.faults.Fault.TheVariants.{NotALine, NoLabel, TooLong, Reader, Writer, NoMemory}
 
 -- neither a failure nor an empty write came, and at most a thousand interruptions
 pub record IsCalm (counts counts' : Counts) : Type 0 where
@@ -20,6 +20,7 @@ ReadsWhole left counts (Err Reader) left' counts' = (counts.failed < counts'.fai
 ReadsWhole left counts (Err NoMemory) left' counts' = Unit {0}
 ReadsWhole left counts (Err Writer) left' counts' = ⊥
 ReadsWhole left counts (Err (NotALine line)) left' counts' = ⊥
+ReadsWhole left counts (Err (NoLabel line)) left' counts' = ⊥
 
 -- all of it is written; or a front of it, and the sink failed, took no byte, or was interrupted once too often
 abbrev pub WritesWhole : Option (List ℕ) → Counts → List ℕ → Result (Unit {0}) Fault → Option (List ℕ) → Counts → Type 0
@@ -28,6 +29,7 @@ WritesWhole written counts text (Err Writer) written' counts' =
     ((n : ℕ) × (n ≤ length text) × Appends written written' (take n text))
     × ((counts.failed < counts'.failed) ⊎ ((counts.empty < counts'.empty) ⊎ (counts'.again ≡ counts.again + 1001)))
 WritesWhole written counts text (Err (NotALine line)) written' counts' = ⊥
+WritesWhole written counts text (Err (NoLabel line)) written' counts' = ⊥
 WritesWhole written counts text (Err (TooLong line)) written' counts' = ⊥
 WritesWhole written counts text (Err Reader) written' counts' = ⊥
 WritesWhole written counts text (Err NoMemory) written' counts' = ⊥

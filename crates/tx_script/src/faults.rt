@@ -11,6 +11,9 @@ pub enum Fault {
     /// What stands at that line is none of the grammar's. Lines count from 1.
     #[error("F1 line {line}")]
     NotALine { line: u64 },
+    /// A label stands nowhere. That line is the first that uses it.
+    #[error("F2 line {line}")]
+    NoLabel { line: u64 },
     /// The line is too long, or one too many. Line 0 stands for the text as a whole.
     #[error("F3 line {line}")]
     TooLong { line: u64 },

@@ -1,10 +1,12 @@
-//! The texts of the program: what reads a schedule and writes the report of one, and what reads
-//! commands as well and writes what they answer.
+//! The texts of the program: what reads a schedule and writes the report of one, what reads commands
+//! as well and writes what they answer, and what reads programs.
 #![tactic(auto)]
 
 mod debugs;
 mod ends;
 mod faults;
+mod instructions;
+mod programs;
 mod read;
 mod replays;
 mod reports;
@@ -15,6 +17,8 @@ pub use ends::flow::{Flow, Sink, Source};
 pub use ends::over::{OverRead, OverWrite};
 pub use ends::whole::{read_whole, write_whole};
 pub use faults::Fault;
+pub use instructions::{Instruction, Name, Spelling};
+pub use programs::{Program, read_program};
 pub use read::command::Command;
 pub use read::header::{Header, Version};
 pub use read::schedule::Schedule;

@@ -32,6 +32,8 @@ mod pipe;
 #[cfg(test)]
 mod proc;
 #[cfg(test)]
+mod programs;
+#[cfg(test)]
 mod replays;
 #[cfg(test)]
 mod reserve;

@@ -11,7 +11,7 @@ ghost use Rattle.tx_script.specs.declared.read.header.Version.{Version};
 mod descriptors;
 mod ids;
 mod memory;
-mod place;
+pub mod place;
 mod processes;
 mod script;
 mod signals;

@@ -1,4 +1,4 @@
-//! The first line of a schedule.
+//! The first line of a text.
 
 /// Which grammar a text is of.
 #[derive(Clone, Copy, PartialEq, Eq, Debug)]
@@ -7,7 +7,14 @@ pub enum Version {
     Two,
 }
 
-/// What the first line of a schedule says.
+/// Which kind of text the first line begins.
+#[derive(Clone, Copy, PartialEq, Eq, Debug)]
+pub enum TextKind {
+    Schedule,
+    Program,
+}
+
+/// What the first line of a text says.
 #[derive(Clone, Copy, PartialEq, Eq, Debug)]
 pub struct Header {
     pub version: Version,

@@ -7,51 +7,53 @@ ghost use Rattle.tx_script.specs.Lines.{header_front, header_text, most_of, Fits
 ghost use Rattle.tx_script.specs.Schedule.{FaultsAtHeader, SpellsHeader};
 
 use crate::faults::Fault;
-use crate::read::header::{Header, Version};
+use crate::read::header::{Header, TextKind, Version};
 use crate::read::lines::line_of;
 use crate::read::small::read_pid;
 use crate::read::split::after_front;
 use tx_base::{PROCESSES, Pid, WIDE_PROCESSES};
 
-/// The header in the first line of a text, and the text after that line.
-pub fn first_header(text: &[u8]) -> Result<(Header, &[u8]), Fault>
-    ensures { MatchResult result (λ r. SpellsHeader text.now r.0 r.1.now) (FaultsAtHeader text.now) }
+/// The header in the first line of a text of that kind, and the text after that line.
+pub fn first_header(kind: TextKind, text: &[u8]) -> Result<(Header, &[u8]), Fault>
+    ensures { MatchResult result (λ r. SpellsHeader kind text.now r.0 r.1.now) (FaultsAtHeader kind text.now) }
 {
     let (line, rest) = line_of(1, text)?;
-    match read_header(line) {
+    match read_header(kind, line) {
         Some(header) => Ok((header, rest)),
         None => Err(Fault::NotALine { line: 1 }),
     }
 }
 
-/// The header that a line spells. Nothing where it is another line.
-pub fn read_header(line: &[u8]) -> Option<Header>
-    ensures found { IfSome result (λ h. line.now ≡ header_text h) }
+/// The header of that kind that a line spells. Nothing where it is another line.
+fn read_header(kind: TextKind, line: &[u8]) -> Option<Header>
+    ensures found { IfSome result (λ h. line.now ≡ header_text kind h) }
     ensures fits { IfSome result FitsHeader }
-    ensures only { (h : Header) → FitsHeader h → line.now ≡ header_text h → result ≡ Some h }
+    ensures only { (h : Header) → FitsHeader h → line.now ≡ header_text kind h → result ≡ Some h }
 {
-    read_of(Version::One, line).or_else(|| read_of(Version::Two, line))
+    read_of(kind, Version::One, line).or_else(|| read_of(kind, Version::Two, line))
 }
 
-/// The header of that version that a line spells.
-fn read_of(version: Version, line: &[u8]) -> Option<Header>
-    ensures found { IfSome result (λ h. line.now ≡ header_text h) }
+/// The header of that kind and version that a line spells.
+fn read_of(kind: TextKind, version: Version, line: &[u8]) -> Option<Header>
+    ensures found { IfSome result (λ h. line.now ≡ header_text kind h) }
     ensures fits { IfSome result FitsHeader }
     ensures same { IfSome result (λ h. h.version ≡ version) }
-    ensures only { (h : Header) → h.version ≡ version → FitsHeader h → line.now ≡ header_text h → result ≡ Some h }
+    ensures only { (h : Header) → h.version ≡ version → FitsHeader h → line.now ≡ header_text kind h → result ≡ Some h }
 {
-    let word = after_front(front(version), line)?;
+    let word = after_front(front(kind, version), line)?;
     let count = read_count(word, most(version))?;
     Some(Header { version, count })
 }
 
 /// What stands before the number in a header.
-fn front(version: Version) -> &'static [u8]
-    ensures { result.now ≡ header_front version }
+fn front(kind: TextKind, version: Version) -> &'static [u8]
+    ensures { result.now ≡ header_front kind version }
 {
-    match version {
-        Version::One => b"txos 1 schedule ",
-        Version::Two => b"txos 2 schedule ",
+    match (kind, version) {
+        (TextKind::Schedule, Version::One) => b"txos 1 schedule ",
+        (TextKind::Schedule, Version::Two) => b"txos 2 schedule ",
+        (TextKind::Program, Version::One) => b"txos 1 program ",
+        (TextKind::Program, Version::Two) => b"txos 2 program ",
     }
 }
 

@@ -5,7 +5,7 @@ ghost use Rattle.tx_script.specs.Schedule.{steps_text, Adds, AreSteps, FaultsAmo
 ghost use Rattle.tx_script.specs.declared.faults.Fault.TheVariants.{NoMemory, NotALine};
 
 use crate::faults::Fault;
-use crate::read::header::Version;
+use crate::read::header::{TextKind, Version};
 use crate::read::heads::first_header;
 use crate::read::lines::{LINES, next_line};
 use crate::read::schedule::Schedule;
@@ -25,7 +25,7 @@ const FIRST_STEP: u64 = 2;
 pub fn read_schedule(alloc: Global, text: &[u8]) -> Result<Schedule, Fault>
     ensures { ReadsSchedule text.now result }
 {
-    let (header, left) = first_header(text)?;
+    let (header, left) = first_header(TextKind::Schedule, text)?;
     let steps = read_steps(alloc, header.version, left)?;
     Ok(Schedule { header, steps })
 }

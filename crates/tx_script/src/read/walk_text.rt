@@ -6,7 +6,7 @@ ghost use Rattle.tx_script.specs.Walks.{before_commands, command_text, debug_lin
 
 use crate::faults::Fault;
 use crate::read::command::{Command, read_command};
-use crate::read::header::Version;
+use crate::read::header::{TextKind, Version};
 use crate::read::heads::first_header;
 use crate::read::lines::{LINES, line_of, next_line, take_line};
 use crate::read::schedule::Schedule;
@@ -22,7 +22,7 @@ use tx_base::Step;
 pub fn read_walk(alloc: Global, text: &[u8]) -> Result<Walk, Fault>
     ensures { ReadsWalk text.now result }
 {
-    let (header, left) = first_header(text)?;
+    let (header, left) = first_header(TextKind::Schedule, text)?;
     let (steps, left) = steps_before_commands(alloc, header.version, left)?;
     let commands = read_commands(alloc, steps.len() as u64 + 3, left)?;
     Ok(Walk {
