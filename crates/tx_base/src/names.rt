@@ -28,7 +28,7 @@ pub struct Regs {
 }
 
 /// A held send that could not be delivered at the commit.
-#[derive(Clone, Copy, Debug, Default)]
+#[derive(Clone, Copy, PartialEq, Eq, Debug, Default)]
 pub struct Missed {
     pub target: Pid,
     pub signo: Signo,

@@ -16,7 +16,7 @@ pub enum When {
 
 /// A call of a process. A number that a program computes is an `i64`; each value out of range
 /// has its stated error.
-#[derive(Debug, Drop)]
+#[derive(PartialEq, Eq, Debug, Drop)]
 pub enum Call {
     /// Maps a page of zeros that may be written. Own rule.
     Map(i64),
@@ -92,7 +92,7 @@ pub enum Call {
 }
 
 /// One event of the kernel.
-#[derive(Debug, Drop)]
+#[derive(PartialEq, Eq, Debug, Drop)]
 pub enum Step {
     /// A process makes a call.
     Call(Pid, Call),
@@ -149,7 +149,7 @@ impl From<NoMemory> for Refusal {
 }
 
 /// What a step is answered.
-#[derive(Debug, Drop)]
+#[derive(PartialEq, Eq, Debug, Drop)]
 pub enum Reply {
     /// The call's answer; a POSIX error is the negative error number.
     Done(i64),
@@ -166,7 +166,7 @@ pub enum Reply {
 }
 
 /// A step that was accepted, with its reply: what a history holds.
-#[derive(Debug, Drop)]
+#[derive(PartialEq, Eq, Debug, Drop)]
 pub struct Accepted {
     pub step: Step,
     pub reply: Reply,

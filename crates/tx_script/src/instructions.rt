@@ -26,7 +26,7 @@ pub enum Kind {
 }
 
 /// How an argument of an instruction is spelled.
-#[derive(Debug, Drop)]
+#[derive(PartialEq, Eq, Debug, Drop)]
 pub enum Spelling {
     /// As the argument itself.
     Plain,
@@ -37,7 +37,7 @@ pub enum Spelling {
 }
 
 /// A call, and how each of its arguments is spelled. An argument that is not yet known stands as 0.
-#[derive(Debug, Drop)]
+#[derive(PartialEq, Eq, Debug, Drop)]
 pub struct Instruction {
     pub call: Call,
     pub spellings: ArrayVec<Spelling, 4>,

@@ -1,20 +1,22 @@
 //! The replies to accepted steps.
 ghost use Rattle.std.specs.Option.{option_copied};
-ghost use Rattle.std.specs.Prelude.{◌≡◌, ◌≤◌, Some, length};
+ghost use Rattle.std.specs.Prelude.{◌≡◌, ◌≤◌, [], Some, length};
+ghost use Rattle.tx_base.specs.declared.steps.Reply.TheVariants.{Committed, Done, Out};
 ghost use Rattle.tx_base.specs.Slots.{slot_at};
 ghost use Rattle.tx_change.specs.Laws.{HasPlaces};
 ghost use Rattle.tx_kernel.specs.Plans.{memory_in};
-ghost use Rattle.tx_live.specs.Commits.{missed_of};
 ghost use Rattle.tx_model.specs.Memory.{byte_or_zero, bytes_from, loaded};
 ghost use Rattle.tx_proc.specs.Processes.{process_in};
 ghost use Rattle.tx_step.specs.Steps.{FitsReply, replied};
+ghost use Rattle.tx_txn.specs.Outboxes.{missed_in};
 
 use crate::answered::Answered;
 use arrayvec::ArrayVec;
-use tx_base::{ADDRESSES, Missed, Pid, Reply};
+use tx_base::{ADDRESSES, Pid, Reply};
 use tx_kernel::{Outcome, Shown};
 use tx_live::{Content, Inverse};
 use tx_proc::Proc;
+use tx_txn::Outbox;
 
 /// Puts the reply to an accepted step of a process where it is to stand, by what the step was answered
 /// and what takes it back. A reply is large, so it is made there and moved nowhere.
@@ -31,30 +33,58 @@ pub fn put_reply(
 {
     match answered {
         Answered::Acted(outcome) => match outcome {
-            Outcome::Done(ret) => *reply = Reply::Done(ret),
+            Outcome::Done(ret) => put_done(reply, ret),
             Outcome::Ended => *reply = Reply::Ended,
-            Outcome::Out(shown) => {
-                *reply = Reply::Out(shown_bytes(content.parts.proc(pid), shown));
-            }
+            Outcome::Out(shown) => put_shown(reply, content.parts.proc(pid), shown),
         },
-        Answered::Committed => {
-            *reply = Reply::Committed {
-                undelivered: undelivered(inverse),
-            };
-        }
+        Answered::Committed => match inverse {
+            Inverse::Committed { boxed, .. } => put_committed(reply, &boxed.txn.outbox),
+            _ => put_committed_alone(reply),
+        },
         Answered::Aborted(status) => *reply = Reply::Aborted(status),
     }
 }
 
-/// The signals that a commit held and could not deliver; none of another step.
-fn undelivered(inverse: &Inverse) -> ArrayVec<Missed, 33>
-    requires { length (missed_of inverse.now) ≤ 33 }
-    ensures { result ≡ record { items = missed_of inverse.now } }
+/// Puts the reply to a call that was done. Most replies are such: after another of them the answer
+/// alone is written.
+fn put_done(reply: &mut Reply, answer: i64)
+    ensures { reply.new ≡ Done answer }
 {
-    match inverse {
-        Inverse::Committed { boxed, .. } => boxed.txn.outbox.undelivered(),
-        _ => ArrayVec::new(),
+    match reply {
+        Reply::Done(before) => *before = answer,
+        _ => *reply = Reply::Done(answer),
     }
+}
+
+/// Puts the reply to a commit, with the signals that it held and could not deliver.
+#[inline(never)] // inlined, it would have room for its list made for every reply
+fn put_committed(reply: &mut Reply, outbox: &Outbox)
+    requires few { length (missed_in outbox.now.sendings outbox.now.posts) ≤ 33 }
+    ensures { reply.new ≡ Committed (record { items = missed_in outbox.now.sendings outbox.now.posts }) }
+{
+    *reply = Reply::Committed {
+        undelivered: outbox.undelivered(),
+    };
+}
+
+/// Puts the reply to a commit that held nothing.
+#[inline(never)] // as for `put_committed`
+fn put_committed_alone(reply: &mut Reply)
+    ensures { reply.new ≡ Committed (record { items = [] }) }
+{
+    *reply = Reply::Committed {
+        undelivered: ArrayVec::new(),
+    };
+}
+
+/// Puts the reply that shows bytes of a process's memory, 0 where no page is mapped.
+#[inline(never)] // as for `put_committed`
+fn put_shown(reply: &mut Reply, proc: Option<&Proc>, shown: Shown)
+    requires places { HasPlaces (option_copied proc) }
+    requires few { shown.count ≤ 64 }
+    ensures { reply.new ≡ Out (record { items = bytes_from (memory_in (process_in (option_copied proc.entry))) shown.address shown.count }) }
+{
+    *reply = Reply::Out(shown_bytes(proc, shown));
 }
 
 /// The bytes that are to be shown of a process's memory, 0 where no page is mapped.

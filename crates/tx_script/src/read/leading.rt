@@ -11,6 +11,7 @@ use tx_base::Pid;
 /// The number without a sign that stands before the first space, and the text after it: `0`, or
 /// up to 19 digits of which the first is not 0. Nothing where there is no space, or another word
 /// before it.
+#[inline(always)] // as `split_number`
 pub fn split_unsigned(line: &[u8]) -> Option<(u64, &[u8])>
     ensures found { IfSome result (λ r. line.now ≡ decimal r.0 ++ 32 ∷ r.1.now) }
     ensures fits { IfSome result (λ r. r.0 < 10 ^ 19) }
@@ -23,6 +24,7 @@ pub fn split_unsigned(line: &[u8]) -> Option<(u64, &[u8])>
 }
 
 /// As `split_unsigned`, where the number has more than one digit: two without a loop.
+#[inline(always)] // as `split_number`
 fn split_two(line: &[u8]) -> Option<(u64, &[u8])>
     ensures found { IfSome result (λ r. line.now ≡ decimal r.0 ++ 32 ∷ r.1.now) }
     ensures fits { IfSome result (λ r. r.0 < 10 ^ 19) }

@@ -33,6 +33,7 @@ pub fn after_front<'a>(front: &[u8], line: &'a [u8]) -> Option<&'a [u8]>
 
 /// The number that stands before the first space, and the text after it. Nothing where there is
 /// no space, or no number before it.
+#[inline(always)] // most lines have a number, of few digits
 pub fn split_number(line: &[u8]) -> Option<(i64, &[u8])>
     ensures found { IfSome result (λ r. line.now ≡ signed_decimal r.0 ++ 32 ∷ r.1.now) }
     ensures fits { IfSome result (λ r. FitsSigned w64 r.0) }
