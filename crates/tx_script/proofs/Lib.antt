@@ -7,6 +7,7 @@ pub mod Hexed
 pub mod Leading
 pub mod LineEnds
 pub mod LineWords
+pub mod NumberedLines
 pub mod PlainWords
 pub mod ProgramLines
 pub mod ProgramParts

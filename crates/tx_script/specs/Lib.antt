@@ -3,6 +3,7 @@ pub mod Arguments
 pub mod Calls
 pub mod Debug
 pub mod Ends
+pub mod Filled
 pub mod Grammars
 pub mod Groups
 pub mod Instructions
@@ -10,6 +11,7 @@ pub mod Lines
 pub mod Over
 pub mod Programs
 pub mod Report
+pub mod Run
 pub mod Schedule
 pub mod Sets
 pub mod Walks

@@ -1,15 +1,18 @@
 //! The texts of the program: what reads a schedule and writes the report of one, what reads commands
-//! as well and writes what they answer, and what reads programs.
+//! as well and writes what they answer, what reads programs, and what writes a run.
 #![tactic(auto)]
 
 mod debugs;
 mod ends;
 mod faults;
+mod filling;
 mod instructions;
+mod print;
 mod programs;
 mod read;
 mod replays;
 mod reports;
+mod runs;
 mod walks;
 
 pub use debugs::debug;
@@ -28,3 +31,4 @@ pub use read::walk::Walk;
 pub use read::walk_text::read_walk;
 pub use replays::replay;
 pub use reports::report;
+pub use runs::write_run;

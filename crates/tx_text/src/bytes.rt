@@ -16,8 +16,10 @@ pub fn put_bytes(text: &mut String, bytes: &[u8]) -> Result<(), AllocError>
     put_digits(text, bytes)
 }
 
-/// Appends two hex digits for each byte.
-fn put_digits(text: &mut String, bytes: &[u8]) -> Result<(), AllocError>
+/// Appends two hex digits for each byte, and nothing where there is none. The only error is that a
+/// growth of memory was refused: the text may then have the digits of the first bytes behind what it
+/// had.
+pub fn put_digits(text: &mut String, bytes: &[u8]) -> Result<(), AllocError>
     ensures { OnOk result (string_bytes text.new ≡ string_bytes text.old ++ encode_lower bytes.now) }
 {
     for i in 0..bytes.len() {

@@ -13,6 +13,8 @@ mod signals;
 mod state;
 mod txns;
 
-pub use print::{put, put_count};
+pub use bytes::put_digits;
+pub use lists::put_set;
+pub use print::{put, put_count, put_number};
 pub use replies::put_reply;
 pub use state::{print_state, put_state};

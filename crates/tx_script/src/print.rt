@@ -1,0 +1,5 @@
+//! Prints the lines of schedules: the counterpart of what reads them.
+
+pub mod calls;
+pub mod shapes;
+pub mod steps;
