@@ -1,10 +1,9 @@
 -- The call that an instruction makes: numbers that stand in slots of the process are put in.
-use Rattle.std.specs.Prelude.{ℕ, ℤ, List, Option, Some, None, slice_get, slice_index_or}
+use Rattle.std.specs.Prelude.{ℕ, ℤ, List, slice_index_or}
 use Rattle.tx_base.specs.declared.steps.Call.{Call}
 use Rattle.tx_base.specs.declared.steps.Call.TheVariants as call
 use Rattle.tx_base.specs.declared.steps.When.{When}
 use Rattle.tx_base.specs.declared.steps.When.TheVariants.{Always, IfRet}
-use Rattle.tx_base.specs.declared.signals.Action.{Action}
 use Rattle.tx_script.specs.declared.instructions.Instruction.{Instruction}
 use Rattle.tx_script.specs.declared.instructions.Spelling.{Spelling}
 use Rattle.tx_script.specs.declared.instructions.Spelling.TheVariants.{Plain, Slot, Label}

@@ -38,6 +38,8 @@ mod replays;
 #[cfg(test)]
 mod reserve;
 #[cfg(test)]
+mod runs;
+#[cfg(test)]
 mod schedules;
 #[cfg(test)]
 mod sessions;

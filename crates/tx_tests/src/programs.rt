@@ -28,6 +28,22 @@ fn reads(rt: HostRuntime) -> Result<(), Fail> {
     Ok(())
 }
 
+#[test]
+fn slots_are_put_in(rt: HostRuntime) -> Result<(), Fail> {
+    let text = b"txos 1 program 1\nsigqueue $0 33 $7\njump @end if $1\nlabel end\n";
+    let program = read(rt.alloc(), text.as_slice())?;
+    let slots = [5, 6, 0, 0, 0, 0, 0, 9];
+    assert_eq!(rt;
+        program.instructions[0].filled(&slots),
+        Call::Sigqueue(5, 33, 9)
+    );
+    assert_eq!(rt;
+        program.instructions[1].filled(&slots),
+        Call::Jump(2, When::IfRet(6))
+    );
+    Ok(())
+}
+
 /// Texts that are no programs, and why.
 const FAULTY: [(&str, Fault); 28] = [
     ("", Fault::NotALine { line: 1 }),

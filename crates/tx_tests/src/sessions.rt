@@ -14,7 +14,7 @@ use tx_script::{Header, Version, read_schedule};
 use tx_text::print_state;
 
 /// A session in which the steps are made.
-fn session_of(alloc: Global, header: Header, steps: &[Step]) -> Result<Session, NoMemory>
+pub(crate) fn session_of(alloc: Global, header: Header, steps: &[Step]) -> Result<Session, NoMemory>
     ensures { IfOk result IsAtEnd }
 {
     let mut session = match header.version {
