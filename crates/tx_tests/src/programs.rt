@@ -6,7 +6,7 @@ use tx_base::{Call, When};
 use tx_script::{Fault, OverRead, Program, Spelling, read_program};
 
 /// What is read of a text.
-fn read(alloc: Global, text: &[u8]) -> Result<Program, Fault> {
+pub(crate) fn read(alloc: Global, text: &[u8]) -> Result<Program, Fault> {
     let reader = Given {
         interruptions: 0,
         bytes: text,

@@ -1,8 +1,16 @@
-//! The text of a run.
+//! Runs of a program, and what is written of them.
+ghost use Rattle.std.specs.Prelude.{◌≤◌, OnOk};
+ghost use Rattle.tx_journal.specs.Sessions.{IsAtEnd};
+
 use crate::ends::Taking;
+use crate::programs::read;
 use crate::sessions::session_of;
+use std::alloc::Global;
 use std::test::Fail;
-use tx_script::{OverWrite, read_schedule, write_run};
+use tx_base::{NoMemory, Pid};
+use tx_journal::Session;
+use tx_script::{Fault, OverWrite, Program, read_schedule, write_run};
+use tx_workers::{Took, Worker, turn, turn_of};
 
 /// A transaction that a child takes back.
 const STEPS: &str = "txos 1 schedule 1
@@ -26,19 +34,65 @@ proc 1 parent 0 run point 5 ret -201
 slots -201 0 0 0 0 0 0 0
 ";
 
-#[test]
-fn a_run_is_written(rt: HostRuntime) -> Result<(), Fail> {
-    let schedule = read_schedule(rt.alloc(), STEPS.as_bytes())?;
-    let session = session_of(rt.alloc(), schedule.header, schedule.steps.as_slice())?;
-    let mut taken = Vec::new(rt.alloc());
+/// A program whose run it is, by one worker.
+const PROGRAM: &str = "txos 1 program 1
+sys_xbegin
+jump @back if -201
+fork
+sys_xabort
+label back
+keep 0
+";
+
+/// What is written of a session.
+fn written(alloc: Global, session: &Session) -> Result<Vec<u8>, Fault> {
+    let mut taken = Vec::new(alloc);
     let writer = Taking {
         interruptions: 0,
         step: 1000,
         room: 1000,
         taken: &mut taken,
     };
-    let written = write_run(rt.alloc(), &session, &mut OverWrite::new(writer));
-    assert_eq!(rt; written, Ok(()));
-    assert_eq!(rt; taken.as_slice(), RUN.as_bytes());
+    write_run(alloc, session, &mut OverWrite::new(writer))?;
+    Ok(taken)
+}
+
+#[test]
+fn a_run_is_written(rt: HostRuntime) -> Result<(), Fail> {
+    let schedule = read_schedule(rt.alloc(), STEPS.as_bytes())?;
+    let session = session_of(rt.alloc(), schedule.header, schedule.steps.as_slice())?;
+    assert_eq!(rt; written(rt.alloc(), &session)?.as_slice(), RUN.as_bytes());
+    Ok(())
+}
+
+/// Takes so many turns.
+fn take_turns(
+    alloc: Global,
+    session: &mut Session,
+    worker: &mut Worker,
+    program: &Program,
+    turns: u32,
+) -> Result<(), NoMemory>
+    requires at_end { IsAtEnd session.old }
+    requires low { 1 ≤ worker.old.number }
+    requires high { worker.old.number ≤ worker.old.total }
+    ensures { OnOk result (IsAtEnd session.new) }
+{
+    for _ in 0..turns {
+        turn(alloc, session, worker, program)?;
+    }
+    Ok(())
+}
+
+#[test]
+fn a_program_is_run_in_turns(rt: HostRuntime) -> Result<(), Fail> {
+    let program = read(rt.alloc(), PROGRAM.as_bytes())?;
+    let mut session = Session::boot(rt.alloc(), 1)?;
+    let mut worker = Worker::new(rt.alloc(), 1, 1);
+    take_turns(rt.alloc(), &mut session, &mut worker, &program, 7)?;
+    assert_eq!(rt; worker.notes.len(), 6);
+    assert_eq!(rt; written(rt.alloc(), &session)?.as_slice(), RUN.as_bytes());
+    let took = turn_of(rt.alloc(), &mut session, &mut worker, &program, Pid(2))?;
+    assert_eq!(rt; took, Took::Idle);
     Ok(())
 }

@@ -1,0 +1,5 @@
+pub mod Named
+pub mod Names
+pub mod Offers
+pub mod Passes
+pub mod Turns

@@ -1,0 +1,43 @@
+//! Whose turn is next.
+ghost use Rattle.std.specs.Prelude.{◌≡◌, ◌≤◌, option_map};
+ghost use Rattle.tx_live.specs.Content.{view_of};
+ghost use Rattle.tx_workers.specs.Names.{process_number};
+ghost use Rattle.tx_workers.specs.Turns.{belongs_to, is_next_of, next_process};
+
+use crate::named::running;
+use crate::workers::Worker;
+use tx_base::Pid;
+use tx_core::Machine;
+
+/// The worker's next running process after the one whose turn was last. The numbers go round.
+pub(crate) fn next_process(machine: &Machine, worker: &Worker) -> Option<Pid>
+    requires { 1 ≤ worker.now.total }
+    ensures { option_map process_number result ≡ next_process (view_of machine.now) worker.now.number worker.now.total worker.now.last }
+{
+    let width = u32::from(machine.processes());
+    for places in 0..width {
+        let pid = Pid(((u32::from(worker.last) + places) % width) as u16 + 1);
+        if is_next(machine, worker, pid) {
+            return Some(pid);
+        }
+    }
+    None
+}
+
+/// Whether a process is one of the worker's, and runs.
+fn is_next(machine: &Machine, worker: &Worker, pid: Pid) -> bool
+    requires low { 1 ≤ pid.0 }
+    requires total { 1 ≤ worker.now.total }
+    ensures { result ≡ is_next_of (view_of machine.now) worker.now.number worker.now.total pid.0 }
+{
+    belongs_to(worker, pid) && running(machine, pid).is_some()
+}
+
+/// Whether a process is one of the worker's.
+fn belongs_to(worker: &Worker, pid: Pid) -> bool
+    requires low { 1 ≤ pid.0 }
+    requires total { 1 ≤ worker.now.total }
+    ensures { result ≡ belongs_to worker.now.number worker.now.total pid.0 }
+{
+    (pid.0 - 1) % worker.total + 1 == worker.number
+}
