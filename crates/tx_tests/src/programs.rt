@@ -32,6 +32,7 @@ fn reads(rt: HostRuntime) -> Result<(), Fail> {
 fn slots_are_put_in(rt: HostRuntime) -> Result<(), Fail> {
     let text = b"txos 1 program 1\nsigqueue $0 33 $7\njump @end if $1\nlabel end\n";
     let program = read(rt.alloc(), text.as_slice())?;
+    assert_eq!(rt; program.instructions.len(), 2);
     let slots = [5, 6, 0, 0, 0, 0, 0, 9];
     assert_eq!(rt;
         program.instructions[0].filled(&slots),

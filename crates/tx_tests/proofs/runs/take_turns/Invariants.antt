@@ -2,5 +2,5 @@ use Rattle.std.proofs.Common.{◌≤◌}
 use Rattle.tx_journal.specs.Sessions.{IsAtEnd}
 use Rattle.tx_tests.proofs.runs.take_turns.Given as goal
 
-abbrev pub invariant-loop-_ : goal.invariant-loop-_
-invariant-loop-_ l = IsAtEnd l.session × (1 ≤ l.worker.number) × (l.worker.number ≤ l.worker.total)
+abbrev pub invariant-loop : goal.invariant-loop
+invariant-loop l = IsAtEnd l.session × (1 ≤ l.worker.number) × (l.worker.number ≤ l.worker.total)
