@@ -131,6 +131,13 @@ impl Session {
         self.journal.entries.get(number.checked_sub(1)?)
     }
 
+    /// All entries, the oldest first.
+    pub fn entries(&self) -> &[Entry]
+        ensures { result.now ≡ self.now.entries }
+    {
+        self.journal.entries.as_slice()
+    }
+
     /// The machine as it is at the position, to be read.
     pub fn machine(&self) -> &Machine
         ensures machine { result.now ≡ self.now.machine }

@@ -23,7 +23,7 @@ const STEPS: &str = "txos 1 schedule 1
 ";
 
 /// What is written of it.
-const RUN: &str = "1 w1 1 sys_xbegin : ok 0
+pub(crate) const RUN: &str = "1 w1 1 sys_xbegin : ok 0
 2 w1 1 jump 4 if -201 : ok 0
 3 w1 1 fork 2 : ok 2
 4 w1 2 sys_xabort : aborted 201
@@ -35,7 +35,7 @@ slots -201 0 0 0 0 0 0 0
 ";
 
 /// A program whose run it is, by one worker.
-const PROGRAM: &str = "txos 1 program 1
+pub(crate) const PROGRAM: &str = "txos 1 program 1
 sys_xbegin
 jump @back if -201
 fork
@@ -45,12 +45,12 @@ keep 0
 ";
 
 /// What is written of a session.
-fn written(alloc: Global, session: &Session) -> Result<Vec<u8>, Fault> {
+pub(crate) fn written(alloc: Global, session: &Session) -> Result<Vec<u8>, Fault> {
     let mut taken = Vec::new(alloc);
     let writer = Taking {
         interruptions: 0,
-        step: 1000,
-        room: 1000,
+        step: usize::MAX,
+        room: usize::MAX,
         taken: &mut taken,
     };
     write_run(alloc, session, &mut OverWrite::new(writer))?;

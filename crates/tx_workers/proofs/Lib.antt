@@ -1,1 +1,6 @@
+pub mod Crews
 pub mod Finding
+pub mod Grown
+pub mod Notes
+pub mod Turned
+pub mod Written

@@ -1,5 +1,11 @@
+pub mod Desks
+pub mod Histories
 pub mod Named
 pub mod Names
 pub mod Offers
 pub mod Passes
+pub mod Runs
+pub mod Services
+pub mod Teams
+pub mod Texts
 pub mod Turns

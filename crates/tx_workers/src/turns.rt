@@ -1,10 +1,11 @@
 //! Turns: one step for one process.
 ghost use Rattle.std.specs.Prelude.{◌≡◌, ◌≢◌, ◌≤◌, ◌<◌, ◌++◌, IfOk, OnErr, OnOk, length, map, vec_capacity};
 ghost use Rattle.tx_journal.specs.Entries.{accepted_of};
-ghost use Rattle.tx_journal.specs.Sessions.{IsAtEnd};
+ghost use Rattle.tx_journal.specs.Sessions.{IsAtEnd, start_of};
 ghost use Rattle.tx_live.specs.Content.{view_of};
 ghost use Rattle.tx_model.specs.Answer.{answer, is_running};
 ghost use Rattle.tx_model.specs.View.{present};
+ghost use Rattle.tx_workers.specs.Histories.{view_after};
 ghost use Rattle.tx_workers.specs.Passes.{Adds, SameWorker};
 ghost use Rattle.tx_workers.specs.Turns.{abort_of, adds_by, adds_by_next, entry_of, last_after, next_process, took_by, turn_adds};
 
@@ -42,6 +43,7 @@ pub fn turn(
         (adds_by_next program.now.instructions.items (view_of session.old.machine) worker.old.number (next_process (view_of session.old.machine) worker.old.number worker.old.total worker.old.last))
         (last_after worker.old.last (next_process (view_of session.old.machine) worker.old.number worker.old.total worker.old.last))
         session.old worker.old session.new worker.new) }
+    ensures view { view_of session.old.machine ≡ view_after (start_of session.old) session.old.entries }
     ensures session { OnErr result (session.new ≡ session.old) }
     ensures worker { OnErr result (SameWorker worker.new worker.old) }
 {
@@ -68,6 +70,7 @@ pub fn turn_of(
 ) -> Result<Took, NoMemory>
     requires at_end { IsAtEnd session.old }
     ensures adds { OnOk result (Adds (turn_adds program.now.instructions.items (view_of session.old.machine) worker.old.number pid.0) worker.old.last session.old worker.old session.new worker.new) }
+    ensures view { view_of session.old.machine ≡ view_after (start_of session.old) session.old.entries }
     ensures took { IfOk result (λ took. took ≡ took_by (is_running ((present (view_of session.old.machine)).procs pid.0))) }
     ensures session { OnErr result (session.new ≡ session.old) }
     ensures worker { OnErr result (SameWorker worker.new worker.old) }
@@ -107,7 +110,7 @@ fn take(
 }
 
 /// Aborts the transaction of which a process is a member as the kernel does, and notes it: there must be
-/// room. Where there is none, nothing is done.
+/// room. Where it is a member of none, nothing is done.
 fn abort(alloc: Global, session: &mut Session, worker: &mut Worker, pid: Pid)
     requires at_end { IsAtEnd session.old }
     requires room { length worker.old.notes.items < vec_capacity worker.old.notes }

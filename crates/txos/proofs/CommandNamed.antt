@@ -243,3 +243,7 @@ required start top a is requires =
 pub added : (old sub new : Command) (a s : App) → app_of old ≡ a → app_of sub ≡ s → (out-Command sub).has_globals ≡ false → AddsSubcommand old sub new
     → app_of new ≡ with_subcommand a s.top
 added old sub new a s is_old is_sub local adds = adds.shape local ∙ ap₂ with_subcommand is_old (ap (λ (x : App). x.top) is_sub)
+
+pub added_as : (old sub new : Command) (a : App) (s : Shape) → app_of old ≡ a → (app_of sub).top ≡ s → (out-Command sub).has_globals ≡ false → AddsSubcommand old sub new
+    → app_of new ≡ with_subcommand a s
+added_as old sub new a s is_old is_sub local adds = adds.shape local ∙ ap₂ with_subcommand is_old is_sub

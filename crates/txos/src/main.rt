@@ -3,14 +3,20 @@
 
 ghost use Rattle.std.specs.Prelude.{◌≡◌, OnErr, OnOk};
 ghost use Rattle.std.specs.Process.{exit_status};
+ghost use Rattle.tx_script.specs.Ends.{IsFresh};
 
 mod words;
 
 use clap::error::ErrorKind;
+use std::alloc::Global;
+use std::fmt::Display;
 use std::process::ExitCode;
+use std::sync::Wait;
+use std::thread::Threads;
 use std::{env, io};
-use tx_script::{Fault, OverRead, OverWrite, debug, replay};
-use words::{Asked, read_words};
+use tx_script::{Fault, OverRead, OverWrite, Sink, Source, debug, replay};
+use tx_workers::run_program;
+use words::{Asked, Crew, read_words};
 
 /// The status of a fault.
 const FAULTY: u8 = 1;
@@ -33,15 +39,10 @@ fn main(rt: HostRuntime) -> ExitCode {
         return out_of_memory(&rt);
     };
     match read_words(rt.alloc(), words.as_slice()) {
-        Ok(Asked::Replay) => {
+        Ok(asked) => {
             let mut source = OverRead::new(rt.reader());
             let mut sink = OverWrite::new(io::writer(&rt));
-            status_of(&rt, replay(rt.alloc(), &mut source, &mut sink))
-        }
-        Ok(Asked::Debug) => {
-            let mut source = OverRead::new(rt.reader());
-            let mut sink = OverWrite::new(io::writer(&rt));
-            status_of(&rt, debug(rt.alloc(), &mut source, &mut sink))
+            answer(&rt, rt.alloc(), asked, &mut source, &mut sink)
         }
         Err(error) => {
             if error.kind() == ErrorKind::OutOfMemory {
@@ -53,8 +54,26 @@ fn main(rt: HostRuntime) -> ExitCode {
     }
 }
 
+/// Answers the text of a source.
+fn answer<R, S, W>(rt: &R, alloc: Global, asked: Asked, source: &mut S, sink: &mut W) -> ExitCode
+where
+    R: Eprint + Threads + Wait + Sync,
+    S: Source,
+    W: Sink,
+    requires source { IsFresh (S.counts source.old) }
+    requires sink { IsFresh (W.counts sink.old) }
+{
+    match asked {
+        Asked::Replay => status_of(rt, replay(alloc, source, sink)),
+        Asked::Debug => status_of(rt, debug(alloc, source, sink)),
+        Asked::Run(Crew { workers, turns }) => {
+            status_of(rt, run_program(rt, alloc, source, sink, workers, turns))
+        }
+    }
+}
+
 /// The status of a command's answer. A fault is printed.
-fn status_of(rt: &impl Eprint, answer: Result<(), Fault>) -> ExitCode
+fn status_of<E: Display + Drop>(rt: &impl Eprint, answer: Result<(), E>) -> ExitCode
     ensures success { OnOk answer (exit_status result ≡ 0) }
     ensures fault { OnErr answer (exit_status result ≡ FAULTY) }
 {

@@ -1,4 +1,4 @@
-use super::{Asked, read_words};
+use super::{Asked, Crew, read_words};
 use clap::error::ErrorKind;
 use std::alloc::Global;
 use std::test::Fail;
@@ -20,7 +20,15 @@ fn read(alloc: Global, words: &[&str]) -> Result<Result<Asked, ErrorKind>, Fail>
 fn words(rt: HostRuntime) -> Result<(), Fail> {
     assert_eq!(rt; read(rt.alloc(), &["replay"])?, Ok(Asked::Replay));
     assert_eq!(rt; read(rt.alloc(), &["debug"])?, Ok(Asked::Debug));
-    let lists: [&[&str]; 8] = [
+    let most = Crew {
+        workers: 16,
+        turns: 10_000,
+    };
+    assert_eq!(rt;
+        read(rt.alloc(), &["run", "--turns", "10000", "--workers", "16"])?,
+        Ok(Asked::Run(most))
+    );
+    let lists: [&[&str]; 15] = [
         &[],
         &["--help"],
         &["help"],
@@ -29,6 +37,13 @@ fn words(rt: HostRuntime) -> Result<(), Fail> {
         &["replay", "--help"],
         &["debug", "more"],
         &["debug", "--help"],
+        &["run"],
+        &["run", "--workers", "1"],
+        &["run", "--turns", "1"],
+        &["run", "--workers", "0", "--turns", "1"],
+        &["run", "--workers", "17", "--turns", "1"],
+        &["run", "--workers", "1", "--turns", "0"],
+        &["run", "--workers", "1", "--turns", "10001"],
     ];
     for list in lists {
         let kind = read(rt.alloc(), list)?.err();

@@ -8,6 +8,9 @@ returns-in-Some-replay-clause-reads c = no_fault _ _ c.in_ok-command.ensures c.i
 pub returns-in-Some-debug-clause-reads : goal.returns-in-Some-debug-clause-reads
 returns-in-Some-debug-clause-reads c = no_fault _ _ c.in_ok-command.ensures c.in_ok-matches.ensures.kinds
 
+pub returns-in-Some-run-clause-reads : goal.returns-in-Some-run-clause-reads
+returns-in-Some-run-clause-reads c = no_fault _ _ c.in_ok-command.ensures c.in_ok-matches.ensures.kinds
+
 pub unreachable-requires : goal.unreachable-requires
 unreachable-requires c =
     let is = c.in_ok-command.ensures in
@@ -20,7 +23,10 @@ unreachable-requires c =
             | inl replay ↦ absurd (w.in_default.not-replay (search (rules, replay)))
             | inr other ↦ elim other [
               | inl debug ↦ absurd (w.in_default.not-debug (search (rules, debug)))
-              | inr none ↦ none
+              | inr last ↦ elim last [
+                | inl run ↦ absurd (w.in_default.not-run (search (rules, run)))
+                | inr none ↦ none
+              ]
             ]
           ]
           )

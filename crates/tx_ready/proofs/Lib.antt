@@ -1,0 +1,4 @@
+pub mod Counting
+pub mod Drains
+pub mod Each
+pub mod Moves

@@ -1,0 +1,100 @@
+//! Whole runs of workers who take processes from the ready queue.
+use crate::programs::read;
+use crate::runs::{PROGRAM, RUN, written};
+use crate::sessions::session_of;
+use crate::workers::{Meeting, WAITED_FOR, WAITED_FOR_RUN};
+use std::alloc::Global;
+use std::sync::Wait;
+use std::sync::atomic::AtomicBool;
+use std::sync::atomic::Ordering::SeqCst;
+use std::test::Fail;
+use std::thread;
+use std::thread::Threads;
+use tx_base::{Pid, Step};
+use tx_script::read_schedule;
+use tx_workers::{Gate, NoGate, Tally, Worked, run_queue};
+
+/// What so many workers give back of a program, from its start with so many processes.
+fn queue_over<R: Threads + Wait + Sync, G: Gate + Sync>(
+    rt: &R,
+    alloc: Global,
+    program: &str,
+    workers: u16,
+    turns: u32,
+    gate: &G,
+) -> Result<(Worked, Tally), Fail> {
+    let program = read(alloc, program.as_bytes())?;
+    let session = session_of(alloc, program.header, [].as_slice())?;
+    Ok(run_queue(rt, alloc, session, &program, workers, turns, gate)?)
+}
+
+#[test]
+fn one_worker_takes_processes_in_order(rt: HostRuntime) -> Result<(), Fail> {
+    for (program, turns, run) in [(WAITED_FOR, 6, WAITED_FOR_RUN), (PROGRAM, 7, RUN)] {
+        let (worked, _tally) = queue_over(&rt, rt.alloc(), program, 1, turns, &NoGate)?;
+        assert_eq!(rt;
+            written(rt.alloc(), &worked.session)?.as_slice(),
+            run.as_bytes()
+        );
+    }
+    Ok(())
+}
+
+#[test]
+fn two_workers_meet_at_the_queue(rt: HostRuntime) -> Result<(), Fail> {
+    let gate = Meeting::new();
+    let program = "txos 1 program 2\ngetpid\n";
+    let (worked, _tally) = queue_over(&rt, rt.alloc(), program, 2, 1, &gate)?;
+    assert!(rt; gate.is_met(), "each sees the other");
+    for worker in worked.workers.as_slice() {
+        assert_eq!(rt; worker.notes.len(), 1);
+    }
+    Ok(())
+}
+
+/// A gate at which worker 2 waits, before its first turn, until worker 1 has taken its twentieth.
+#[derive(Drop)]
+struct Late {
+    is_over: AtomicBool,
+    is_seen: AtomicBool,
+}
+
+impl Gate for Late {
+    fn enter(&self, worker: u16, turn: u32) {
+        if worker != 2 || turn != 1 {
+            return;
+        }
+        for _ in 0..1_000_000 {
+            if self.is_over.load(SeqCst) {
+                self.is_seen.store(true, SeqCst);
+                return;
+            }
+            thread::yield_now();
+        }
+    }
+
+    fn leave(&self, worker: u16, turn: u32) {
+        if worker == 1 && turn == 20 {
+            self.is_over.store(true, SeqCst);
+        }
+    }
+}
+
+#[test]
+fn any_worker_takes_any_process(rt: HostRuntime) -> Result<(), Fail> {
+    let gate = Late {
+        is_over: AtomicBool::new(false),
+        is_seen: AtomicBool::new(false),
+    };
+    let program = "txos 1 program 1\nfork\nlabel here\njump @here always\n";
+    let (worked, _tally) = queue_over(&rt, rt.alloc(), program, 2, 20, &gate)?;
+    assert!(rt;
+        gate.is_seen.load(SeqCst),
+        "worker 2 sees the end of worker 1"
+    );
+    let of_another = worked.session.entries().iter().any(|entry| {
+        entry.worker == 1 && matches!(entry.step, Step::Call(Pid(2), _))
+    });
+    assert!(rt; of_another, "worker 1 takes a turn of process 2");
+    Ok(())
+}

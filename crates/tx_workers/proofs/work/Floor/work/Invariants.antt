@@ -1,0 +1,6 @@
+use Rattle.std.proofs.Common.{◌≡◌, ◌≤◌, vec_len}
+use Rattle.tx_workers.proofs.work.Floor.work.Given as goal
+
+abbrev pub invariant-loop-before : goal.invariant-loop-before
+invariant-loop-before g l =
+    (l.worker.number ≡ l.post.number) × (1 ≤ l.worker.number) × (l.worker.number ≤ l.worker.total) × (vec_len l.worker.notes ≤ l.before) × (l.share.parts ≡ 1) × (l.share.amount ≡ vec_len l.worker.notes)

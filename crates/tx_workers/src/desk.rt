@@ -1,0 +1,123 @@
+//! What lies under the lock.
+ghost use Rattle.std.specs.Prelude.{◌≡◌, ◌+◌, ◌<◌, ◌≤◌, IfOk, Some, vec_len};
+ghost use Rattle.tx_journal.specs.Sessions.{IsAtEnd};
+ghost use Rattle.tx_workers.specs.Desks.{IsDesk};
+ghost use Rattle.tx_workers.specs.declared.turns.Took.TheVariants.{Idle};
+
+use crate::turns::{Took, turn, turn_of};
+use crate::workers::Worker;
+use std::alloc::Global;
+use std::marker::{Brand, Model};
+use std::sync::ledger::{Book, Ledger, Share};
+use tx_base::{NoMemory, Pid};
+use tx_journal::Session;
+use tx_script::Program;
+
+/// Which program is run, and on which session. Each run picks them; contracts alone see them.
+pub trait Work: Ledger {
+    ghost use Rattle.std.specs.Prelude.{Option};
+    ghost use Rattle.tx_journal.specs.Sessions.{Kept};
+    ghost use Rattle.tx_script.specs.declared.programs.Program.{Program};
+
+    ghost program: { Option Program };
+
+    ghost given: { Option Kept };
+}
+
+impl Work for Brand {
+    ghost use Rattle.std.specs.Prelude.{None};
+
+    ghost program = { None };
+
+    ghost given = { None };
+}
+
+/// The session, beside the book of what the workers added.
+#[derive(Drop)]
+pub struct Desk<J: Work> {
+    session: Session,
+    added: Book<J>,
+}
+
+impl<J: Work> Model for Desk<J> {
+    ghost use Rattle.std.specs.Prelude.{◌≡◌, ℕ};
+    ghost use Rattle.tx_journal.specs.Sessions.{Kept};
+    ghost use Rattle.tx_workers.specs.Desks.{IsDesk};
+
+    ghost Value = { Kept × ℕ };
+
+    ghost view = { λ desk. (desk.session, desk.added.total) };
+
+    ghost invariant = { λ desk. IsDesk J.program J.given desk.session desk.added.total };
+}
+
+impl<J: Work> Desk<J> {
+    /// The desk of the session that is handed in.
+    pub fn new(session: Session, added: Book<J>) -> Desk<J>
+        requires given { J.given ≡ Some session }
+        requires at_end { IsAtEnd session }
+        requires empty { added.total ≡ 0 }
+        ensures { result.0 ≡ session }
+    {
+        Desk { session, added }
+    }
+
+    /// A turn of a worker, whose share counts what it adds.
+    pub fn turn(
+        &mut self,
+        alloc: Global,
+        program: &Program,
+        worker: &mut Worker,
+        share: &mut Share<J>,
+    ) -> Result<(), NoMemory>
+        requires program { J.program ≡ Some program.now }
+        requires part { 0 < share.old.parts }
+        requires low { 1 ≤ worker.old.number }
+        requires high { worker.old.number ≤ worker.old.total }
+        ensures counted { share.new.amount + vec_len worker.old.notes ≡ share.old.amount + vec_len worker.new.notes }
+        ensures parts { share.new.parts ≡ share.old.parts }
+        ensures number { worker.new.number ≡ worker.old.number }
+        ensures total { worker.new.total ≡ worker.old.total }
+        ensures few { vec_len worker.new.notes ≤ vec_len worker.old.notes + 1 }
+    {
+        let before = self.session.len();
+        turn(alloc, &mut self.session, worker, program)?;
+        let after = self.session.len();
+        self.added.add(share, (after - before) as u64);
+        Ok(())
+    }
+
+    /// The turn of a process, made by a worker, whose share counts what it adds.
+    pub fn turn_of(
+        &mut self,
+        alloc: Global,
+        program: &Program,
+        pid: Pid,
+        worker: &mut Worker,
+        share: &mut Share<J>,
+    ) -> Result<Took, NoMemory>
+        requires program { J.program ≡ Some program.now }
+        requires part { 0 < share.old.parts }
+        ensures counted { share.new.amount + vec_len worker.old.notes ≡ share.old.amount + vec_len worker.new.notes }
+        ensures parts { share.new.parts ≡ share.old.parts }
+        ensures number { worker.new.number ≡ worker.old.number }
+        ensures few { vec_len worker.new.notes ≤ vec_len worker.old.notes + 1 }
+        ensures idle { IfOk result (λ took. took ≡ Idle → vec_len worker.new.notes ≡ vec_len worker.old.notes) }
+    {
+        let before = self.session.len();
+        let took = turn_of(alloc, &mut self.session, worker, program, pid)?;
+        let after = self.session.len();
+        self.added.add(share, (after - before) as u64);
+        Ok(took)
+    }
+
+    /// The session, which has grown by all that was counted.
+    pub fn close(self, all: &mut Share<J>) -> Session
+        requires { all.old.parts ≡ J.parts }
+        ensures { IsDesk J.program J.given result all.old.amount }
+    {
+        let Desk { session, mut added } = self;
+        added.audit(all);
+        session
+    }
+}

@@ -1,0 +1,93 @@
+//! From the text of a program to the text of its run.
+ghost use Rattle.std.specs.Prelude.{IfOk};
+ghost use Rattle.tx_script.specs.Ends.{IsFresh};
+ghost use Rattle.tx_script.specs.Lines.{FitsHeader};
+ghost use Rattle.tx_workers.specs.Texts.{IsBooted, RunsFrom, RunsText};
+
+use crate::faults::WorkFault;
+use crate::gate::NoGate;
+use crate::run::run_workers;
+use std::alloc::Global;
+use std::sync::Wait;
+use std::thread::Threads;
+use thiserror::Error;
+use tx_base::NoMemory;
+use tx_journal::Session;
+use tx_script::{Fault, Header, Sink, Source, Version, read_program, write_run};
+
+/// Why no run was written, or not the whole of it. It prints as the fault that it holds.
+#[derive(Clone, Copy, PartialEq, Eq, Debug, Error)]
+pub enum RunFault {
+    /// The program was not read, or its run not written.
+    #[error("{0}")]
+    Text(Fault),
+    /// The workers gave nothing back.
+    #[error("{0}")]
+    Work(WorkFault),
+}
+
+/// Reads the text of a program to its end, runs it from its start by so many workers, each of which
+/// takes so many turns, and writes the run. Nothing is written where the fault is another one than
+/// `Writer`. A text that is no program is told as by `read_program`, a run that gives nothing back as by
+/// `run_workers`.
+pub fn run_program<R, S, W>(
+    rt: &R,
+    alloc: Global,
+    source: &mut S,
+    sink: &mut W,
+    workers: u16,
+    turns: u32,
+) -> Result<(), RunFault>
+where
+    R: Threads + Wait + Sync,
+    S: Source,
+    W: Sink,
+    requires source { IsFresh (S.counts source.old) }
+    requires sink { IsFresh (W.counts sink.old) }
+    ensures { RunsText (S.left source.old) (S.counts source.old) (W.written sink.old) (W.counts sink.old) workers turns result (S.counts source.new) (W.written sink.new) (W.counts sink.new) }
+{
+    let session = run_from(rt, alloc, source, workers, turns)?;
+    match write_run(alloc, &session, sink) {
+        Ok(()) => Ok(()),
+        Err(fault) => Err(RunFault::Text(fault)),
+    }
+}
+
+/// The session after the run of a program whose text is read. The faults are those of `run_program`, but
+/// for `Writer`.
+fn run_from<R, S>(
+    rt: &R,
+    alloc: Global,
+    source: &mut S,
+    workers: u16,
+    turns: u32,
+) -> Result<Session, RunFault>
+where
+    R: Threads + Wait + Sync,
+    S: Source,
+    requires { IsFresh (S.counts source.old) }
+    ensures { RunsFrom (S.left source.old) (S.counts source.old) workers turns result (S.counts source.new) }
+{
+    let program = match read_program(alloc, source) {
+        Ok(program) => program,
+        Err(fault) => return Err(RunFault::Text(fault)),
+    };
+    let Ok(session) = boot(alloc, program.header) else {
+        return Err(RunFault::Work(WorkFault::NoMemory));
+    };
+    match run_workers(rt, alloc, session, &program, workers, turns, &NoGate) {
+        Ok(worked) => Ok(worked.session),
+        Err(fault) => Err(RunFault::Work(fault)),
+    }
+}
+
+/// A session before its first step, of the processes that a header names.
+fn boot(alloc: Global, header: Header) -> Result<Session, NoMemory>
+    requires { FitsHeader header }
+    ensures { IfOk result (λ session. IsBooted header session) }
+{
+    match header.version {
+        Version::One => Session::boot(alloc, header.count),
+        Version::Two => Session::boot_wide(alloc, header.count),
+    }
+}
