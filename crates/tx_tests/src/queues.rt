@@ -24,7 +24,8 @@ fn queue_over<R: Threads + Wait + Sync, G: Gate + Sync>(
     gate: &G,
 ) -> Result<(Worked, Tally), Fail> {
     let program = read(alloc, program.as_bytes())?;
-    let session = session_of(alloc, program.header, [].as_slice())?;
+    let none = Vec::new(alloc);
+    let session = session_of(alloc, program.header, none.as_slice())?;
     Ok(run_queue(rt, alloc, session, &program, workers, turns, gate)?)
 }
 
