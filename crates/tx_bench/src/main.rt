@@ -27,7 +27,7 @@ jump @top always
 ";
 
 /// How many turns a run has in all.
-const MEASURED: u32 = 64_000;
+const MEASURED: u32 = 480_000;
 
 const SHORT: u32 = 160;
 
