@@ -13,7 +13,7 @@ use Rattle.tx_laws.proofs.Agree.{agree_sym, agree_trans, written_part}
 use Rattle.tx_laws.proofs.Objects.{TargetsIn, same_true, has_head, has_tail, has_left, has_right}
 use Rattle.tx_laws.proofs.Local.{after_keeps, after_width, reply_same, effect_same, objects_same, actor_in}
 use Rattle.tx_laws.proofs.Elsewhere.{effect_fits, after_else}
-use Rattle.tx_laws.specs.Fits.{IsIn, ProgressFits, FitsWithin, Fits, Passes, ends_it}
+use Rattle.tx_laws.specs.Fits.{IsIn, IsQuiet, ProgressFits, FitsWithin, Fits, Passes, ends_it}
 use Rattle.tx_laws.proofs.KeptByPosts.{IsKept, event_keeps, Runs, runs_kept}
 use Rattle.tx_laws.proofs.Answered.{Known, answers_known, or_false_left, or_false_right}
 use Rattle.tx_laws.proofs.Tables.{eq_comm, of_unique, of_none, of_unmarked, Grows, joins_by, continues_grows, parks_grows, forks_grows, begins_grows}
@@ -87,10 +87,6 @@ clear_foot V ev sound clear o t h k = by (is_member_of V.table t (actor ev)) ref
     by : (b : Bool) → is_member_of V.table t (actor ev) ≡ b → b ≡ true
     by true e = refl
     by false e = absurd (meets_not (event_footprint V.table ev (present V)) (V.touched t) o h k (or_false_left _ _ (way_clear V ev t live e (clear t live))))
-
--- the set leaves out no transaction of the actor
-abbrev pub IsQuiet : View → Event → Starters → Type 0
-IsQuiet V ev X = (t : ℕ) → is_member_of V.table t (actor ev) ≡ true → X t ≡ false
 
 other_parts : (x y : Bool) → (if x then not y else false) ≡ true → (x ≡ true) × (y ≡ false)
 other_parts true true h = cc

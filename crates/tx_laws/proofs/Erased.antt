@@ -77,6 +77,12 @@ pub lawful_next : (S : State) (e : Accepted) (h : List Accepted) → Lawful S (e
 unfolding Lawful
 lawful_next S e h l = view_taken S e h (taken (view S h) e.step e.reply (lawful_sound S h l.0) l.1 l.2)
 
+-- what an entry of a lawful history is to the transactions goes with its event, and nobody is in its way
+pub entry_fits : (S : State) (e : Accepted) (h : List Accepted) → Lawful S (e ∷ h) →
+    Passes (role_in S e h) (event_of S e h) (view S h) × Fits (role_in S e h) (event_of S e h) (process_of e.step) (view S h)
+unfolding Lawful view
+entry_fits S e h l = let t : IsTaken (view S h) e.step e.reply = taken (view S h) e.step e.reply (lawful_sound S h l.0) l.1 l.2 in (t.passes, t.fits)
+
 -- the reply in the run without some transactions is the reply in the state, where the step survives there
 replies_by : (k : ℕ) (r : Role) (V : View) (ev : Event) (p : ℕ) → IsSound V → Passes r ev V → Fits r ev p V → (X : Starters) → stays r X ≡ true
     → plain_reply k r ev (present V) ≡ plain_reply k r ev (V.without (left_out_before r X))

@@ -19,11 +19,11 @@ use Rattle.tx_model.specs.History.{Starters, nobody, just, with_one, less_one, t
 use Rattle.tx_model.specs.View.{View, view, present, kernel_status, IsClear, after_if, role_on, event_on, next_by, next}
 use Rattle.tx_model.specs.Answer.{is_running, is_there, has_bad_number, has_number_in_use, refusal, accepted_reply, answer, IsAccepted, Lawful}
 use Rattle.tx_laws.specs.Sound.{IsSound}
-use Rattle.tx_laws.specs.Fits.{Fits, Passes}
+use Rattle.tx_laws.specs.Fits.{IsQuiet, Fits, Passes}
 use Rattle.tx_laws.specs.WellFormed.{IsWellFormed}
 use Rattle.tx_laws.specs.WellFormedTable.{IsWellFormedWith, IsWellFormedView}
 use Rattle.tx_laws.proofs.Local.{objects_same}
-use Rattle.tx_laws.proofs.Coherence.{IsQuiet, quiet_objects, outside_quiet, commits_quiet, sound_by}
+use Rattle.tx_laws.proofs.Coherence.{quiet_objects, outside_quiet, commits_quiet, sound_by}
 use Rattle.tx_laws.proofs.Tables.{of_unique, of_unmarked}
 use Rattle.tx_laws.proofs.Taken.{if_none, IsUnrefused, unrefused, unless_accepted}
 use Rattle.tx_laws.proofs.Erased.{lawful_sound, lawful_next}

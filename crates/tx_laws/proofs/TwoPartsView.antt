@@ -14,8 +14,8 @@ use Rattle.tx_laws.specs.TwoParts.{TwoParts, in_set, is_owner, pick, parts_witho
 use Rattle.tx_laws.proofs.Agree.{part_refl, part_sym, part_trans, applied_part, applied_width}
 use Rattle.tx_laws.proofs.Local.{after_width}
 use Rattle.tx_laws.proofs.Tables.{eq_comm}
-use Rattle.tx_laws.specs.Fits.{FitsWithin, Fits, Passes}
-use Rattle.tx_laws.proofs.Coherence.{IsQuiet, quiet_effect, quiet_sent, outside_quiet, commits_quiet, taken_foot, taken_mine, within_else}
+use Rattle.tx_laws.specs.Fits.{IsQuiet, FitsWithin, Fits, Passes}
+use Rattle.tx_laws.proofs.Coherence.{quiet_effect, quiet_sent, outside_quiet, commits_quiet, taken_foot, taken_mine, within_else}
 
 pub pick_true : (P : Object → Bool) (S R : State) (o : Object) → P o ≡ true → AgreePart (pick P S R) S o
 pick_true P S R (Proc n) h = rw h refl

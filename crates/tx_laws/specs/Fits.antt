@@ -4,7 +4,7 @@ use Rattle.tx_model.specs.State.{State, Sending, Proc, Held, has, is_between}
 use Rattle.tx_model.specs.Effects.{Inside}
 use Rattle.tx_model.specs.Events.{Event, Do, Note, Commit, actor, effect, objects}
 use Rattle.tx_model.specs.Membership.{is_member_of, is_live, Progress, Continues, Parks, Forks, Begins, Role, Outside, Within, Commits, Aborts}
-use Rattle.tx_model.specs.History.{is_other_starter}
+use Rattle.tx_model.specs.History.{Starters, is_other_starter}
 use Rattle.tx_model.specs.View.{View, present, IsClear}
 use Rattle.tx_model.specs.Answer.{is_running}
 
@@ -41,6 +41,10 @@ Passes Outside ev V = IsClear V ev
 Passes (Within s part) ev V = IsClear V ev
 Passes (Commits s) ev V = IsClear V ev
 Passes (Aborts s k) ev V = Unit {0}
+
+-- the transaction of who makes the event is none of those that are left out
+abbrev pub IsQuiet : View → Event → Starters → Type 0
+IsQuiet V ev X = (t : ℕ) → is_member_of V.table t (actor ev) ≡ true → X t ≡ false
 
 -- the step is made inside of the transaction of u
 abbrev pub IsInsideOf : ℕ → Option Inside → Type 0

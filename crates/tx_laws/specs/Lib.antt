@@ -10,6 +10,7 @@ pub mod Footprints
 pub mod Laws
 pub mod LawsOfEvents
 pub mod LawsOfParts
+pub mod LawsOfOthers
 pub mod LawsOfDoom
 pub mod Endings
 pub mod Shown

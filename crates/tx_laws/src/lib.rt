@@ -14,6 +14,7 @@ ghost use Rattle.tx_model.specs.History.{Starters, without, nobody, table_of};
 ghost use Rattle.tx_model.specs.State.{State, booted};
 ghost use Rattle.tx_model.specs.View.{view};
 ghost use Rattle.tx_laws.specs.Laws.{PrefixesAgree, SurvivorsAreByPlace, LawfulViewIsNext, LawfulViewIsSound, StartIsSound, NextIsSound, AcceptedStepsFit, RolesKeepSound, NextIsWellFormed, SchedulesAreLawful};
+ghost use Rattle.tx_laws.specs.LawsOfOthers.{HistoriesAgree, EntriesFit, ObjectsOfOthersApart, AnswersWithoutOthers, SameEventKeeps};
 ghost use Rattle.tx_laws.specs.LawsOfDoom.{DoomedCallsAreRefused, DoomedDeliveriesAreRefused, DoomedAbortAnswers203, OtherAbortAnswers202, MembersDoomNothing, KillDooms, SigqueueDooms, DoomStays};
 ghost use Rattle.tx_laws.specs.Endings.{ExitIsTold, ExitsSayEnd, OtherCallsSayNoEnd, DeliveriesSayEnd, EndingsAreAnswered, StepIsToldByEnd, OtherCallIsTold, DeliveryIsTold};
 ghost use Rattle.tx_laws.specs.Shown.{ShowsFew};
@@ -29,6 +30,22 @@ ghost use Rattle.tx_laws.specs.LawsOfTable.{EmptyViewIsWellFormed, NextViewIsWel
 /// each aborted starter standing at its sys_xbegin with the abort status.
 pub fn erasure()
     ensures { PrefixesAgree }
+{}
+
+/// The same of the whole history, whichever of its live transactions are left out.
+pub fn agreement()
+    ensures { HistoriesAgree }
+{}
+
+/// The event of an entry of a lawful history goes with what the entry is to the transactions, and nobody
+/// is in its way. Such an event finds its objects as they are, and its posts are answered alike, where
+/// transactions of others are left out. Two states that agree at an object agree there after an event
+/// that does the same in both, and whose posts both answer alike.
+pub fn entries()
+    ensures fit { EntriesFit }
+    ensures objects { ObjectsOfOthersApart }
+    ensures answers { AnswersWithoutOthers }
+    ensures keeps { SameEventKeeps }
 {}
 
 /// The survivors of a history are the events of the steps that no later abort takes back, and that
