@@ -8,11 +8,13 @@ ghost use Rattle.tx_model.specs.Answer.{Lawful, Agreement};
 ghost use Rattle.tx_model.specs.Schedules.{history_of};
 ghost use Rattle.tx_model.specs.State.{State, booted};
 ghost use Rattle.tx_model.specs.View.{view};
+ghost use Rattle.tx_moment.specs.Moments.{HasMoments};
 
 use crate::machine::Machine;
 use std::alloc::Global;
 use tx_base::{Accepted, NoMemory, Step};
 use tx_laws::erasure;
+use tx_moment::one_moment;
 
 /// A run: the machine as the schedule leaves it, and the accepted steps with their replies, the
 /// oldest first.
@@ -42,9 +44,11 @@ pub fn run(alloc: Global, count: u16, steps: &[Step]) -> Result<Ran, NoMemory>
     ensures lawful { IfOk result (λ ran. Lawful (booted 64 count) (reverse ran.history.items)) }
     ensures view { IfOk result (λ ran. view_of ran.machine ≡ view (booted 64 count) (reverse ran.history.items)) }
     ensures agreement { IfOk result (λ ran. (later earlier : List TheAccepted) → reverse ran.history.items ≡ later ++ earlier → Agreement (booted 64 count) earlier) }
+    ensures moments { IfOk result (λ ran. HasMoments (booted 64 count) (reverse ran.history.items)) }
 {
-    // The law that the agreement stands on.
+    // The laws that the agreement and the moments stand on.
     erasure();
+    one_moment();
     run_whole(alloc, Machine::boot(alloc, count)?, steps)
 }
 
@@ -56,9 +60,11 @@ pub fn run_wide(alloc: Global, count: u16, steps: &[Step]) -> Result<Ran, NoMemo
     ensures lawful { IfOk result (λ ran. Lawful (booted 256 count) (reverse ran.history.items)) }
     ensures view { IfOk result (λ ran. view_of ran.machine ≡ view (booted 256 count) (reverse ran.history.items)) }
     ensures agreement { IfOk result (λ ran. (later earlier : List TheAccepted) → reverse ran.history.items ≡ later ++ earlier → Agreement (booted 256 count) earlier) }
+    ensures moments { IfOk result (λ ran. HasMoments (booted 256 count) (reverse ran.history.items)) }
 {
-    // The law that the agreement stands on.
+    // The laws that the agreement and the moments stand on.
     erasure();
+    one_moment();
     run_whole(alloc, Machine::boot_wide(alloc, count)?, steps)
 }
 
@@ -76,10 +82,12 @@ pub fn run_kept(alloc: Global, count: u16, steps: &[Step]) -> Result<Kept, NoMem
     ensures lawful { IfOk result (λ kept. Lawful (booted 64 count) (reverse kept.ran.history.items)) }
     ensures view { IfOk result (λ kept. view_of kept.ran.machine ≡ view (booted 64 count) (reverse kept.ran.history.items)) }
     ensures agreement { IfOk result (λ kept. (later earlier : List TheAccepted) → reverse kept.ran.history.items ≡ later ++ earlier → Agreement (booted 64 count) earlier) }
+    ensures moments { IfOk result (λ kept. HasMoments (booted 64 count) (reverse kept.ran.history.items)) }
     ensures stopped { IfOk result (λ kept. IfSome kept.stopped (λ number. number < length steps.now)) }
 {
-    // The law that the agreement stands on.
+    // The laws that the agreement and the moments stand on.
     erasure();
+    one_moment();
     Ok(run_on(alloc, Machine::boot(alloc, count)?, steps))
 }
 

@@ -6,3 +6,7 @@ pub mod Kept
 pub mod Lives
 pub mod Made
 pub mod Walked
+pub mod Parting
+pub mod Noting
+pub mod Naming
+pub mod Telling

@@ -21,7 +21,7 @@ use Rattle.tx_model.specs.State.{State}
 use Rattle.tx_model.specs.View.{View, view}
 
 -- the history of the entries up to one of them
-history_to : (entries : List Entry) (n : ℕ) (d : Entry) → n < length entries → history_of (take (n + 1) entries) ≡ accepted_of (get_or entries n d) ∷ history_of (take n entries)
+pub history_to : (entries : List Entry) (n : ℕ) (d : Entry) → n < length entries → history_of (take (n + 1) entries) ≡ accepted_of (get_or entries n d) ∷ history_of (take n entries)
 history_to entries n d under = ap history_of (take_more entries n d under) ∙ history_more (take n entries) (get_or entries n d)
 
 -- what is lawful is so without its newest steps
@@ -30,11 +30,13 @@ unfolding Lawful
 lawful_before start [] earlier lawful = lawful
 lawful_before start (e ∷ later) earlier lawful = lawful_before start later earlier lawful.0
 
-lawful_to : (start : State) (entries : List Entry) (n : ℕ) → Lawful start (history_of entries) → Lawful start (history_of (take n entries))
-lawful_to start entries n lawful = lawful_before start (history_of (drop n entries)) (history_of (take n entries)) (subst (Lawful start) parts lawful)
-  where
-    parts : history_of entries ≡ history_of (drop n entries) ++ history_of (take n entries)
-    parts = ap history_of (sym (take-append-drop n entries)) ∙ ap reverse (map-append accepted_of (take n entries) (drop n entries)) ∙ reverse-append (map accepted_of (take n entries)) (map accepted_of (drop n entries))
+-- the history up to an entry, with what follows
+pub history_parts : (entries : List Entry) (n : ℕ) → history_of entries ≡ history_of (drop n entries) ++ history_of (take n entries)
+history_parts entries n =
+    ap history_of (sym (take-append-drop n entries)) ∙ ap reverse (map-append accepted_of (take n entries) (drop n entries)) ∙ reverse-append (map accepted_of (take n entries)) (map accepted_of (drop n entries))
+
+pub lawful_to : (start : State) (entries : List Entry) (n : ℕ) → Lawful start (history_of entries) → Lawful start (history_of (take n entries))
+lawful_to start entries n lawful = lawful_before start (history_of (drop n entries)) (history_of (take n entries)) (subst (Lawful start) (history_parts entries n) lawful)
 
 -- the session without its newest inverse
 module _ (k : Kept) (is : IsJournal k) (rest : List Inverse) (inverse : Inverse) (parts : k.inverses ≡ rest ++ inverse ∷ []) where

@@ -27,3 +27,14 @@ pub enum GotoFault {
     #[error("no memory")]
     NoMemory,
 }
+
+/// Why no history is told in which the steps of a transaction stand together.
+#[derive(Clone, Copy, PartialEq, Eq, Debug, Error)]
+pub enum MovedFault {
+    /// The entry commits no transaction, or is not there.
+    #[error("no commit")]
+    NotCommit,
+    /// A growth of memory was refused.
+    #[error("no memory")]
+    NoMemory,
+}

@@ -2,6 +2,7 @@
 ghost use Rattle.tx_journal.specs.Laws.{SessionLaws};
 
 use tx_laws::{erasure, next_view, step_by_step};
+use tx_moment::one_moment;
 
 /// The laws on which the proofs of a session stand. It does nothing.
 pub(crate) fn laws()
@@ -10,4 +11,5 @@ pub(crate) fn laws()
     next_view();
     step_by_step();
     erasure();
+    one_moment();
 }

@@ -6,6 +6,7 @@ ghost use Rattle.tx_journal.specs.Sessions.{made_of, position_of, start_of};
 ghost use Rattle.tx_live.specs.Content.{view_of};
 ghost use Rattle.tx_model.specs.Answer.{Agreement, Lawful};
 ghost use Rattle.tx_model.specs.View.{view};
+ghost use Rattle.tx_moment.specs.Moments.{HasMoments};
 ghost use Rattle.tx_text.specs.State.{state_text};
 
 use crate::entry::Entry;
@@ -156,10 +157,12 @@ impl Session {
     }
 
     /// The journal is a lawful history, in which each surviving step has the reply that the plain kernel
-    /// gives. It does nothing.
+    /// gives; and each transaction that it commits and that counts as one moment may be done at that
+    /// moment. It does nothing.
     pub fn is_lawful(&self)
         ensures lawful { Lawful (start_of self.now) (history_of self.now.entries) }
         ensures agreement { Agreement (start_of self.now) (history_of self.now.entries) }
+        ensures moments { HasMoments (start_of self.now) (history_of self.now.entries) }
     {
         laws();
         let _machine = &self.machine;

@@ -2,11 +2,13 @@
 ghost use Rattle.std.specs.Prelude.{◌≡◌, ◌≢◌, ◌⊎◌, ◌↔◌, ◌++◌, ◌∷◌, [], IsOk, OnErr, OnOk, true};
 ghost use Rattle.tx_base.specs.declared.steps.Reply.TheVariants.{Aborted, No};
 ghost use Rattle.tx_base.specs.declared.steps.Step.TheVariants.{KernelAbort};
-ghost use Rattle.tx_journal.specs.Sessions.{IsAtEnd, SameBoot};
+ghost use Rattle.tx_journal.specs.Entries.{history_of};
+ghost use Rattle.tx_journal.specs.Sessions.{IsAtEnd, SameBoot, start_of};
 ghost use Rattle.tx_live.specs.Content.{view_of};
 ghost use Rattle.tx_model.specs.Answer.{IsAccepted, answer};
 ghost use Rattle.tx_model.specs.Membership.{is_live};
 ghost use Rattle.tx_model.specs.View.{kernel_status};
+ghost use Rattle.tx_moment.specs.Moments.{HasMoments};
 ghost use Rattle.tx_step.specs.Steps.{IsKernelAbort, IsXabort};
 
 use crate::laws::laws;
@@ -31,6 +33,7 @@ impl Session {
         ensures at_end { IsAtEnd self.new }
         ensures xabort { IsXabort self.old.machine step.now → result ≢ No Refusal.NoMemory }
         ensures kernel { IsKernelAbort step.now → result ≢ No Refusal.NoMemory }
+        ensures moments { HasMoments (start_of self.new) (history_of self.new.entries) }
     {
         let mut reply = Reply::Ended;
         self.step_into(alloc, worker, step, &mut reply);
@@ -48,6 +51,7 @@ impl Session {
         ensures at_end { IsAtEnd self.new }
         ensures xabort { IsXabort self.old.machine step.now → reply.new ≢ No Refusal.NoMemory }
         ensures kernel { IsKernelAbort step.now → reply.new ≢ No Refusal.NoMemory }
+        ensures moments { HasMoments (start_of self.new) (history_of self.new.entries) }
     {
         laws();
         let _made = record(
@@ -58,6 +62,7 @@ impl Session {
             step,
             reply,
         );
+        self.is_lawful();
     }
 
     /// Aborts the live transaction of a starter as the kernel does, at the end of the journal, as

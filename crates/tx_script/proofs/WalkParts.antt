@@ -10,7 +10,7 @@ use Rattle.tx_script.specs.declared.read.header.TextKind.TheVariants as kinds
 
 -- a fault among the commands is one of the text
 pub commands_fault : (text : List ℕ) (header : Header) (left : List ℕ) (steps : List Step) (rest : List ℕ) (number : ℕ) (fault : Fault) → SpellsHeader kinds.Schedule text header left → AreSteps header.version steps
-    → left ≡ before_commands steps rest → number ≡ length steps + 3 → FaultsBy (FaultsAmong command_text AreCommands (FaultsAtCommand number) rest) fault → FaultsBy (IsWalkFault text) fault
+    → left ≡ before_commands steps rest → number ≡ length steps + 3 → FaultsBy (FaultsAmong command_text (AreCommands header.version) (FaultsAtCommand header.version number) rest) fault → FaultsBy (IsWalkFault text) fault
 commands_fault text header left steps rest number fault spells are parts same =
-    faults_by (FaultsAmong command_text AreCommands (FaultsAtCommand number) rest) (IsWalkFault text)
-    (λ f is. inr (header, left, spells, inr (steps, rest, are, parts, subst (λ (n : ℕ). FaultsAmong command_text AreCommands (FaultsAtCommand n) rest f) same is))) fault
+    faults_by (FaultsAmong command_text (AreCommands header.version) (FaultsAtCommand header.version number) rest) (IsWalkFault text)
+    (λ f is. inr (header, left, spells, inr (steps, rest, are, parts, subst (λ (n : ℕ). FaultsAmong command_text (AreCommands header.version) (FaultsAtCommand header.version n) rest f) same is))) fault

@@ -7,10 +7,11 @@ use Rattle.tx_script.specs.Schedule.{after_line, first_line, lines_of, steps_tex
 use Rattle.tx_script.specs.declared.faults.Fault.{Fault}
 use Rattle.tx_script.specs.declared.faults.Fault.TheVariants.{NotALine, TooLong}
 use Rattle.tx_script.specs.declared.read.command.Command.{Command}
-use Rattle.tx_script.specs.declared.read.command.Command.TheVariants.{Back, Forward, Goto, State}
+use Rattle.tx_script.specs.declared.read.command.Command.TheVariants.{Back, Forward, Goto, State, Moved}
 use Rattle.tx_script.specs.declared.read.header.Header.{Header}
 use Rattle.tx_script.specs.declared.read.header.TextKind.TheVariants as kinds
 use Rattle.tx_script.specs.declared.read.header.Version.{Version}
+use Rattle.tx_script.specs.declared.read.header.Version.TheVariants.{Two}
 use Rattle.tx_script.specs.declared.read.walk.Walk.{Walk}
 
 -- the spelling of a command, without the line's end
@@ -19,17 +20,19 @@ command_text Back = codes "back"
 command_text Forward = codes "forward"
 command_text (Goto position) = codes "goto " ++ decimal position
 command_text State = codes "state"
+command_text (Moved number) = codes "moved " ++ decimal number
 
--- the position is one that a text can hold
-abbrev pub FitsCommand : Command → Type 0
-FitsCommand Back = Unit {0}
-FitsCommand Forward = Unit {0}
-FitsCommand (Goto position) = position < 2 ^ 63
-FitsCommand State = Unit {0}
+-- the command is one of that version, and its number one that a text can hold
+abbrev pub FitsCommand : Version → Command → Type 0
+FitsCommand version Back = Unit {0}
+FitsCommand version Forward = Unit {0}
+FitsCommand version (Goto position) = position < 2 ^ 63
+FitsCommand version State = Unit {0}
+FitsCommand version (Moved number) = (version ≡ Two) × (number < 2 ^ 63)
 
--- a text can hold these commands
-pub record AreCommands (commands : List Command) : Type 0 where
-  pub fit : All FitsCommand commands
+-- a text of that version can hold these commands
+pub record AreCommands (version : Version) (commands : List Command) : Type 0 where
+  pub fit : All (FitsCommand version) commands
   pub few : length commands ≤ 4096
 
 -- the line between the steps and the commands, without its end
@@ -47,11 +50,11 @@ walk_text header steps commands = header_text kinds.Schedule header ++ 10 ∷ be
 -- a text can hold these steps and commands after that header
 pub record IsWalk (header : Header) (steps : List Step) (commands : List Command) : Type 0 where
   pub schedule_fits : IsSchedule header steps
-  pub commands_fit : AreCommands commands
+  pub commands_fit : AreCommands header.version commands
 
--- no command is spelled so
-abbrev pub IsNoCommand : List ℕ → Type 0
-IsNoCommand line = (command : Command) → FitsCommand command → line ≢ command_text command
+-- no command of that version is spelled so
+abbrev pub IsNoCommand : Version → List ℕ → Type 0
+IsNoCommand version line = (command : Command) → FitsCommand version command → line ≢ command_text command
 
 -- neither a step of that version nor the line before the commands is spelled so
 abbrev pub IsNoLineBefore : Version → List ℕ → Type 0
@@ -79,13 +82,13 @@ FaultsBeforeCommands version count rest (NotALine line) =
 FaultsBeforeCommands version count rest _ = ⊥
 
 -- after so many commands a line is there, and is at fault: commands begin at that line
-abbrev pub FaultsAtCommand : ℕ → ℕ → List ℕ → Fault → Type 0
-FaultsAtCommand number count rest fault = (rest ≢ []) × FaultsAtNext number IsNoCommand count rest fault
+abbrev pub FaultsAtCommand : Version → ℕ → ℕ → List ℕ → Fault → Type 0
+FaultsAtCommand version number count rest fault = (rest ≢ []) × FaultsAtNext number (IsNoCommand version) count rest fault
 
 -- the text after a header of that version is at fault, before its commands or among them
 abbrev pub FaultsAfterHeader : Version → List ℕ → Fault → Type 0
 FaultsAfterHeader version text fault = FaultsAmong step_text (AreSteps version) (FaultsBeforeCommands version) text fault
-    ⊎ ((steps : List Step) × (rest : List ℕ) × AreSteps version steps × (text ≡ before_commands steps rest) × FaultsAmong command_text AreCommands (FaultsAtCommand (length steps + 3)) rest fault)
+    ⊎ ((steps : List Step) × (rest : List ℕ) × AreSteps version steps × (text ≡ before_commands steps rest) × FaultsAmong command_text (AreCommands version) (FaultsAtCommand version (length steps + 3)) rest fault)
 
 -- the text is at fault: at its header, or else at the first line after it that is
 abbrev pub IsWalkFault : List ℕ → Fault → Type 0

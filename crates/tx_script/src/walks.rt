@@ -1,11 +1,12 @@
 //! Walks over the steps of a schedule as commands say, and prints what each command answers.
 ghost use Rattle.std.specs.Prelude.{◌≡◌, ◌≤◌, ◌++◌, [], IfErr, IfOk, OnOk, length, string_bytes};
 ghost use Rattle.tx_journal.specs.Entries.{history_of};
+ghost use Rattle.tx_journal.specs.Moved.{moved_at};
 ghost use Rattle.tx_journal.specs.Sessions.{position_of, start_of, IsAtEnd, SameBoot, SameJournal};
 ghost use Rattle.tx_model.specs.Answer.{answer};
 ghost use Rattle.tx_model.specs.Schedules.{recorded, history_of as history_after};
 ghost use Rattle.tx_model.specs.View.{view};
-ghost use Rattle.tx_script.specs.Debug.{answers_at, command_answer, position_after, position_text, view_at, walk_answers};
+ghost use Rattle.tx_script.specs.Debug.{answers_at, command_answer, moved_text, position_after, position_text, told_text, view_at, walk_answers};
 ghost use Rattle.tx_script.specs.Lines.{FitsHeader};
 ghost use Rattle.tx_script.specs.Report.{start_state};
 ghost use Rattle.tx_script.specs.declared.faults.Fault.TheVariants.{NoMemory};
@@ -13,12 +14,13 @@ ghost use Rattle.tx_script.specs.declared.read.command.Command.TheVariants as co
 ghost use Rattle.tx_text.specs.State.{state_text};
 
 use crate::faults::Fault;
+use crate::print::lists::put_numbers;
 use crate::read::command::Command;
 use crate::read::header::{Header, Version};
 use crate::read::walk::Walk;
 use std::alloc::{AllocError, Global};
 use tx_base::Step;
-use tx_journal::{AtStart, ForwardFault, GotoFault, Session};
+use tx_journal::{AtStart, ForwardFault, GotoFault, Moved, MovedFault, Session};
 use tx_text::{put, put_count, put_state};
 
 /// The worker that makes the steps of a schedule.
@@ -116,6 +118,7 @@ fn put_answer(
         Command::Forward => forward(alloc, text, session)?,
         Command::Goto(position) => goto(alloc, text, session, position)?,
         Command::State => put_state(text, session.machine())?,
+        Command::Moved(number) => moved(alloc, text, session, number)?,
     }
     Ok(())
 }
@@ -169,5 +172,33 @@ fn put_position(text: &mut String, session: &Session) -> Result<(), AllocError>
 {
     put(text, "at ")?;
     put_count(text, session.position() as u64)?;
+    put(text, "\n")
+}
+
+/// Appends the entries with the steps of a transaction put directly before the entry that commits it, or that
+/// the entry of that number commits none.
+fn moved(alloc: Global, text: &mut String, session: &Session, number: u64) -> Result<(), Fault>
+    ensures text { OnOk result (string_bytes text.new ≡ string_bytes text.old ++ moved_text (moved_at (start_of session.now) (history_of session.now.entries) number)) }
+    ensures fault { IfErr result (λ fault. fault ≡ NoMemory) }
+{
+    match session.moved(alloc, number as usize) {
+        Ok(moved) => put_moved(text, &moved)?,
+        Err(MovedFault::NotCommit) => put(text, "no commit\n")?,
+        Err(MovedFault::NoMemory) => return Err(Fault::NoMemory),
+    }
+    Ok(())
+}
+
+/// Appends the line of a history in which the steps of a transaction stand together.
+fn put_moved(text: &mut String, moved: &Moved) -> Result<(), AllocError>
+    ensures { OnOk result (string_bytes text.new ≡ string_bytes text.old ++ told_text (record { numbers = moved.now.entries.items; one_moment = moved.now.one_moment })) }
+{
+    let kind = if moved.one_moment {
+        "moved one "
+    } else {
+        "moved many "
+    };
+    put(text, kind)?;
+    put_numbers(text, moved.entries.as_slice())?;
     put(text, "\n")
 }

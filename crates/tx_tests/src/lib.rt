@@ -10,6 +10,8 @@ mod ends;
 #[cfg(test)]
 mod journal;
 #[cfg(test)]
+mod moments;
+#[cfg(test)]
 mod programs;
 #[cfg(test)]
 mod queues;

@@ -24,7 +24,7 @@ pub fn read_walk(alloc: Global, text: &[u8]) -> Result<Walk, Fault>
 {
     let (header, left) = first_header(TextKind::Schedule, text)?;
     let (steps, left) = steps_before_commands(alloc, header.version, left)?;
-    let commands = read_commands(alloc, steps.len() as u64 + 3, left)?;
+    let commands = read_commands(alloc, header.version, steps.len() as u64 + 3, left)?;
     Ok(Walk {
         schedule: Schedule { header, steps },
         commands,
@@ -81,16 +81,21 @@ fn is_debug(line: &[u8]) -> bool
     line == b"debug".as_slice()
 }
 
-/// The commands in the lines of a text, of which the first has that number.
-fn read_commands(alloc: Global, number: u64, text: &[u8]) -> Result<Vec<Command>, Fault>
+/// The commands in the lines of a text of that version, of which the first has that number.
+fn read_commands(
+    alloc: Global,
+    version: Version,
+    number: u64,
+    text: &[u8],
+) -> Result<Vec<Command>, Fault>
     requires { number ≤ 4099 }
-    ensures { MatchResult result (λ r. AreCommands r.items × (text.now ≡ lines_of command_text r.items)) (FaultsBy (FaultsAmong command_text AreCommands (FaultsAtCommand number) text.now)) }
+    ensures { MatchResult result (λ r. AreCommands version r.items × (text.now ≡ lines_of command_text r.items)) (FaultsBy (FaultsAmong command_text (AreCommands version) (FaultsAtCommand version number) text.now)) }
 {
     let mut commands = Vec::new(alloc);
     let mut left = text;
     while !left.is_empty() {
         let (line, rest) = next_line(number, commands.len(), left)?;
-        let Some(command) = read_command(line) else {
+        let Some(command) = read_command(version, line) else {
             return Err(Fault::NotALine {
                 line: commands.len() as u64 + number,
             });

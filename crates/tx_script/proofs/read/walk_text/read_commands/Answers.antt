@@ -17,7 +17,7 @@ loop-left-preserved c =
     let spelled = line_spelled c.loop-left.left.now c.in_ok-line.line.now (command_text command) c.in_ok-line.rest.now c.in_ok-line.ensures.line c.in-Some.ensures.found in
     record {
       good = record {
-        fit = all_more FitsCommand commands command more c.loop-left.invariant.good.fit c.in-Some.ensures.fits pushed;
+        fit = all_more (FitsCommand c.args.version) commands command more c.loop-left.invariant.good.fit c.in-Some.ensures.fits pushed;
         few = omega (arith, few, length_more commands command more pushed);
       };
       parts = text_more command_text commands command more c.args.text.now c.loop-left.left.now c.in_ok-line.rest.now c.loop-left.invariant.parts spelled pushed;

@@ -5,7 +5,7 @@ use Rattle.tx_script.proofs.read.walk_text.read_commands.Given as goal
 
 abbrev pub invariant-loop-left : goal.invariant-loop-left
 invariant-loop-left l = record {
-  good : AreCommands l.commands.items;
+  good : AreCommands l.version l.commands.items;
   parts : l.text ≡ lines_of command_text l.commands.items ++ l.left;
 }
 

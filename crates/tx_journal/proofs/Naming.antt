@@ -1,0 +1,163 @@
+-- The numbers of a moved history name its entries.
+use Rattle.std.proofs.Common.{◌≡◌, ℕ, zero, suc, ◌+◌, ◌-◌, ◌<◌, ◌≤◌, Bool, true, false, List, [], ◌∷◌, ◌++◌, ◌⊎◌, inl, inr, Option, Some, None, length, map, option_map, reverse, slice_get, take, drop, get_or, nat_lt, if◌then◌else◌, arith, refl, sym, ap, subst, ◌∙◌, length-append}
+use Rattle.std.proofs.lemmas.Bool.{ltb-false}
+use Rattle.std.proofs.lemmas.List.{append_assoc, append-nil, length-drop, length-take-le, map-append, reverse-append, take_all, take-append-drop}
+use Rattle.std.proofs.lemmas.Option.{slice_get_cases}
+use Rattle.tx_base.specs.declared.steps.Accepted.{Accepted}
+use Rattle.tx_journal.proofs.Noting.{history_length}
+use Rattle.tx_journal.proofs.Walked.{history_to}
+use Rattle.tx_journal.specs.Entries.{accepted_of, entry_at, history_of}
+use Rattle.tx_journal.specs.Moved.{IsMoved, Numbers, Told, entries_named, moved_at, moved_numbers, numbers_above, numbers_parted, told_by, told_in, told_of, with_other_number, with_own_number}
+use Rattle.tx_journal.specs.Sessions.{Kept, start_of}
+use Rattle.tx_journal.specs.declared.entry.Entry.{Entry}
+use Rattle.tx_journal.specs.declared.moved.Moved.{Moved}
+use Rattle.tx_laws.specs.OneMoment.{Parted, begins_it, is_step_of, is_one_moment, moved_history, moved_to, parted, with_other, with_own}
+use Rattle.tx_model.specs.History.{role_in}
+use Rattle.tx_model.specs.Membership.{Role, Outside, Within, Commits, Aborts}
+use Rattle.tx_model.specs.State.{State}
+use Rattle.tx_moment.specs.Moments.{HasMoments}
+
+-- each step of the history has the name of its number
+unfoldable Names : (ℕ → Option Accepted) → List Accepted → Type 0
+Names name [] = Unit {0}
+Names name (e ∷ h) = (name (suc (length h)) ≡ Some e) × Names name h
+
+names_earlier : (name : ℕ → Option Accepted) (later h : List Accepted) → Names name (later ++ h) → Names name h
+unfolding Names
+names_earlier name [] h are = are
+names_earlier name (e ∷ later) h are = names_earlier name later h are.1
+
+-- the numbers of the newest steps name them
+newest_named : (name : ℕ → Option Accepted) (later h : List Accepted) → Names name (later ++ h) → map name (numbers_above (length h) (length later)) ≡ map Some later
+unfolding Names numbers_above
+newest_named name [] h are = refl
+newest_named name (e ∷ later) h are =
+    let first : name (suc (length later + length h)) ≡ Some e = ap (λ (n : ℕ). name (suc n)) (sym (length-append later h)) ∙ are.0 in
+    λ j. first j ∷ newest_named name later h are.1 j
+
+all_named : (name : ℕ → Option Accepted) (h : List Accepted) → Names name h → map name (numbers_above 0 (length h)) ≡ map Some h
+all_named name h are = newest_named name h [] (subst (Names name) (sym (append-nil h)) are)
+
+-- the numbers of the steps of a transaction name them, and those of the others too
+record AreNamed (name : ℕ → Option Accepted) (n : Numbers) (p : Parted) : Type 0 where
+  own : map name n.own ≡ map Some p.own
+  others : map name n.others ≡ map Some p.others
+
+parts_named : (name : ℕ → Option Accepted) (S : State) (s : ℕ) (h : List Accepted) → Names name h → AreNamed name (numbers_parted S s h) (parted S s h)
+unfolding Names numbers_parted parted
+parts_named name S s [] are = record { own = refl; others = refl }
+parts_named name S s (e ∷ h) are = begins (parts_named name S s h are.1) (begins_it s (role_in S e h))
+  where
+    its : AreNamed name (numbers_parted S s h) (parted S s h) → (own : Bool) →
+        AreNamed name (if own then with_own_number (suc (length h)) (numbers_parted S s h) else with_other_number (suc (length h)) (numbers_parted S s h)) (if own then with_own e (parted S s h) else with_other e (parted S s h))
+    its before true = record { own = λ j. are.0 j ∷ before.own j; others = before.others }
+    its before false = record { own = before.own; others = λ j. are.0 j ∷ before.others j }
+
+    begins : AreNamed name (numbers_parted S s h) (parted S s h) → (first : Bool) → AreNamed name
+        (if first then record { own = suc (length h) ∷ []; others = numbers_above 0 (length h) }
+        else (if is_step_of s (role_in S e h) then with_own_number (suc (length h)) (numbers_parted S s h) else with_other_number (suc (length h)) (numbers_parted S s h)))
+        (if first then record { own = e ∷ []; others = h } else (if is_step_of s (role_in S e h) then with_own e (parted S s h) else with_other e (parted S s h)))
+    begins before true = record { own = λ j. are.0 j ∷ []; others = all_named name h are.1 }
+    begins before false = its before (is_step_of s (role_in S e h))
+
+moved_named : (name : ℕ → Option Accepted) (S : State) (s : ℕ) (later : List Accepted) (e : Accepted) (h : List Accepted) → Names name (later ++ e ∷ h) →
+    map name (moved_numbers S s later h) ≡ map Some (moved_history S s later e h)
+unfolding Names
+moved_named name S s later e h are =
+    map-append name (numbers_above (suc (length h)) (length later) ++ suc (length h) ∷ n.own) n.others
+    ∙ (λ j. map-append name (numbers_above (suc (length h)) (length later)) (suc (length h) ∷ n.own) j ++ named.others j)
+    ∙ (λ j. newest_named name later (e ∷ h) are j ++ own j ++ map Some p.others)
+    ∙ append_assoc (map Some later) (map Some (e ∷ p.own)) (map Some p.others)
+    ∙ ap (λ (xs : List (Option Accepted)). map Some later ++ xs) (sym (map-append Some (e ∷ p.own) p.others))
+    ∙ sym (map-append Some later (moved_to S s e h))
+  where
+    n : Numbers
+    n = numbers_parted S s h
+
+    p : Parted
+    p = parted S s h
+
+    here : Names name (e ∷ h)
+    here = names_earlier name later (e ∷ h) are
+
+    named : AreNamed name n p
+    named = parts_named name S s h here.1
+
+    own : map name (suc (length h) ∷ n.own) ≡ map Some (e ∷ p.own)
+    own = λ j. here.0 j ∷ named.own j
+
+-- the names of a history backward
+map_reverse : {A B : Type 0} (f : A → B) (xs : List A) → map f (reverse xs) ≡ reverse (map f xs)
+map_reverse f [] = refl
+map_reverse f (x ∷ xs) =
+    ap (map f) (reverse-append (x ∷ []) xs) ∙ map-append f (reverse xs) (x ∷ []) ∙ ap (λ ys. ys ++ f x ∷ []) (map_reverse f xs) ∙ sym (reverse-append (f x ∷ []) (map f xs))
+
+abbrev name_in : List Entry → ℕ → Option Accepted
+name_in entries n = option_map accepted_of (entry_at entries n)
+
+names_to : (entries : List Entry) (n : ℕ) → n ≤ length entries → Names (name_in entries) (history_of (take n entries))
+unfolding Names
+names_to entries zero few = tt
+names_to entries (suc n) few = by (names_to entries n (omega (arith, few))) (slice_get_cases entries n).1
+  where
+    more : Names (name_in entries) (history_of (take n entries)) → (x : Entry) → n < length entries → slice_get entries n ≡ Some x → get_or entries n x ≡ x → Names (name_in entries) (history_of (take (suc n) entries))
+    more before x under is same =
+        let next : n + 1 ≡ suc n = omega arith in
+        let parts : history_of (take (suc n) entries) ≡ accepted_of x ∷ history_of (take n entries)
+        = ap (λ (k : ℕ). history_of (take k entries)) (sym next) ∙ history_to entries n x under ∙ ap (λ (d : Entry). accepted_of d ∷ history_of (take n entries)) same in
+        let count : length (history_of (take n entries)) ≡ n = history_length (take n entries) ∙ length-take-le n entries (omega (arith, under)) in
+        subst (Names (name_in entries)) (sym parts) (ap (λ (k : ℕ). name_in entries (suc k)) count ∙ ap (option_map accepted_of) is, before)
+
+    by : Names (name_in entries) (history_of (take n entries)) →
+        ((x : Entry) × (n < length entries) × (slice_get entries n ≡ Some x) × (get_or entries n x ≡ x)) ⊎ ((length entries ≤ n) × (slice_get entries n ≡ None)) → Names (name_in entries) (history_of (take (suc n) entries))
+    by before (inl (x, under, is, same)) = more before x under is same
+    by before (inr (past, none)) = absurd (omega (arith, few, past))
+
+names_all : (entries : List Entry) → Names (name_in entries) (history_of entries)
+names_all entries = subst (λ (es : List Entry). Names (name_in entries) (history_of es)) (take_all (length entries) entries (omega arith)) (names_to entries (length entries) (omega arith))
+
+-- what is told of a commit holds of the moved history
+module _ (k : Kept) (number : ℕ) (m : Moved) (told : moved_at (start_of k) (history_of k.entries) number ≡ Some (told_in m))
+    (moments : HasMoments (start_of k) (history_of k.entries)) where
+  abbrev start : State
+  start = start_of k
+
+  by_role : (later : List Accepted) (e : Accepted) (earlier : List Accepted) → history_of k.entries ≡ later ++ e ∷ earlier → suc (length earlier) ≡ number → (r : Role) → role_in start e earlier ≡ r →
+      told_by r start later e earlier ≡ Some (told_in m) → IsMoved k number m
+  unfolding HasMoments
+  by_role later e earlier split place Outside is same = cc
+  by_role later e earlier split place (Within s part) is same = cc
+  by_role later e earlier split place (Commits s) is same =
+      let parts : record { numbers = reverse (moved_numbers start s later earlier); one_moment = is_one_moment start s e earlier } ≡ told_in m = cc in
+      record {
+        told = told;
+        starter = s;
+        later = later;
+        last = e;
+        earlier = earlier;
+        split = split;
+        place = place;
+        commits = is;
+        named = ap (entries_named k.entries) (sym (ap (λ (t : Told). t.numbers) parts)) ∙ map_reverse (name_in k.entries) (moved_numbers start s later earlier)
+            ∙ ap reverse (moved_named (name_in k.entries) start s later e earlier (subst (Names (name_in k.entries)) split (names_all k.entries)))
+            ∙ sym (map_reverse Some (moved_history start s later e earlier));
+        counts = sym (ap (λ (t : Told). t.one_moment) parts);
+        moment = λ one. moments later e earlier s split is (ap (λ (t : Told). t.one_moment) parts ∙ one);
+      }
+  by_role later e earlier split place (Aborts s status) is same = cc
+
+  by_parts : (later h : List Accepted) → history_of k.entries ≡ later ++ h → length h ≡ number → told_of start later h ≡ Some (told_in m) → IsMoved k number m
+  by_parts later [] split place same = cc
+  by_parts later (e ∷ earlier) split place same = by_role later e earlier split place (role_in start e earlier) refl same
+
+  pub is_moved : IsMoved k number m
+  is_moved = by (nat_lt (length h) number) refl told
+    where
+      h : List Accepted
+      h = history_of k.entries
+
+      by : (past : Bool) → nat_lt (length h) number ≡ past → (if past then None else told_of start (take (length h - number) h) (drop (length h - number) h)) ≡ Some (told_in m) → IsMoved k number m
+      by true is same = cc
+      by false is same =
+          let few : number ≤ length h = ltb-false (length h) number is in
+          by_parts (take (length h - number) h) (drop (length h - number) h) (sym (take-append-drop (length h - number) h)) (let place : length (drop (length h - number) h) ≡ length h - (length h - number) = length-drop (length h - number) h in omega (arith, few, place)) same

@@ -1,0 +1,14 @@
+pub mod Shuffled
+pub mod OwnEvents
+pub mod Alike
+pub mod Marks
+pub mod OtherMarks
+pub mod OwnTables
+pub mod StepsOfOthers
+pub mod StepsOfOwn
+pub mod PostsToOne
+pub mod SignalsAside
+pub mod Passing
+pub mod Putting
+pub mod Starting
+pub mod Following

@@ -1,0 +1,3 @@
+pub mod Shuffles
+pub mod Moments
+pub mod Laws

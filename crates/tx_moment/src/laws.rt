@@ -1,0 +1,17 @@
+//! The laws that a moment stands on.
+ghost use Rattle.tx_moment.specs.Laws.{MomentLaws};
+
+use tx_laws::{agreement, entries, locality, next_view, well_formed_table};
+use tx_unseen::unseen_signals;
+
+/// The laws on which the proof of a moment stands. It does nothing.
+pub(crate) fn laws()
+    ensures { MomentLaws }
+{
+    agreement();
+    entries();
+    locality();
+    next_view();
+    well_formed_table();
+    unseen_signals();
+}

@@ -1,0 +1,5 @@
+pub mod Boots
+pub mod PostedTo
+pub mod NotesTold
+pub mod RolesKept
+pub mod NotesKept

@@ -1,0 +1,4 @@
+pub mod Resigned
+pub mod UnseenParts
+pub mod UnseenCalls
+pub mod UnseenEvents
