@@ -38,6 +38,7 @@ pub enum StepRole {
 }
 
 /// What a call of a process that runs is to the transactions. It takes no memory.
+#[inline(always)] // it has few callers, and each step asks it
 pub fn role_of_call(content: &Content, pid: Pid, call: &Call) -> StepRole
     requires shaped { IsShaped content.now }
     requires kept { IsKept (content_of content.now) }
@@ -53,6 +54,7 @@ pub fn role_of_call(content: &Content, pid: Pid, call: &Call) -> StepRole
 }
 
 /// What a delivery to a process that runs is to the transactions. It takes no memory.
+#[inline(always)] // as `role_of_call`
 pub fn role_of_delivery(content: &Content, pid: Pid, signo: Signo) -> StepRole
     requires shaped { IsShaped content.now }
     requires kept { IsKept (content_of content.now) }

@@ -64,19 +64,6 @@ fn reader_fails(rt: HostRuntime) {
     }
 }
 
-#[test]
-fn longest_text(rt: HostRuntime) -> std::result::Result<(), Fail> {
-    let mut bytes = vec![in rt.alloc(); b'x'; 1_048_576]?;
-    assert_eq!(rt;
-        read_given(rt.alloc(), 0, bytes.as_slice(), false)?.len(),
-        bytes.len()
-    );
-    bytes.push(b'x')?;
-    let read = read_given(rt.alloc(), 0, bytes.as_slice(), false);
-    assert_eq!(rt; read.err(), Some(Fault::TooLong { line: 0 }));
-    Ok(())
-}
-
 /// A writer that is interrupted so often, then takes so many bytes at a time, and fails once it
 /// has taken so many in all.
 #[derive(Drop)]

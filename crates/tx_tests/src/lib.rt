@@ -20,16 +20,8 @@ mod replays;
 #[cfg(test)]
 mod runs;
 #[cfg(test)]
-mod schedules;
-#[cfg(test)]
 mod sessions;
 #[cfg(test)]
-mod steps;
-#[cfg(test)]
-mod texts;
-#[cfg(test)]
 mod turns;
-#[cfg(test)]
-mod walks;
 #[cfg(test)]
 mod workers;

@@ -4,25 +4,14 @@ ghost use Rattle.tx_journal.specs.Sessions.{IsAtEnd};
 
 use crate::ends::Taking;
 use crate::programs::read;
-use crate::sessions::session_of;
 use std::alloc::Global;
 use std::test::Fail;
 use tx_base::{NoMemory, Pid};
 use tx_journal::Session;
-use tx_script::{Fault, OverWrite, Program, read_schedule, write_run};
+use tx_script::{Fault, OverWrite, Program, write_run};
 use tx_workers::{Took, Worker, turn, turn_of};
 
-/// A transaction that a child takes back.
-const STEPS: &str = "txos 1 schedule 1
-1 sys_xbegin
-1 jump 4 if -201
-1 fork 2
-2 sys_xabort
-1 jump 4 if -201
-1 keep 0
-";
-
-/// What is written of it.
+/// What is written of a transaction that a child takes back.
 pub(crate) const RUN: &str = "1 w1 1 sys_xbegin : ok 0
 2 w1 1 jump 4 if -201 : ok 0
 3 w1 1 fork 2 : ok 2
@@ -55,14 +44,6 @@ pub(crate) fn written(alloc: Global, session: &Session) -> Result<Vec<u8>, Fault
     };
     write_run(alloc, session, &mut OverWrite::new(writer))?;
     Ok(taken)
-}
-
-#[test]
-fn a_run_is_written(rt: HostRuntime) -> Result<(), Fail> {
-    let schedule = read_schedule(rt.alloc(), STEPS.as_bytes())?;
-    let session = session_of(rt.alloc(), schedule.header, schedule.steps.as_slice())?;
-    assert_eq!(rt; written(rt.alloc(), &session)?.as_slice(), RUN.as_bytes());
-    Ok(())
 }
 
 /// Takes so many turns.

@@ -80,6 +80,3 @@ fn run_command<'a>(alloc: Global) -> Result<Command<'a>, AllocError>
         .value_parser(value_parser!(u32).range(1..=10_000));
     Command::new(alloc, "run").arg(workers)?.arg(turns)
 }
-
-#[cfg(test)]
-mod tests;
