@@ -1,6 +1,9 @@
 //! Tests of what stands above the machine (texts, sessions, programs and workers), in one crate
 //! over all of it: what no contract says, and each public call on its happy path. They stand here,
 //! and not in their crates, since a crate with tests is proved once more for them.
+//!
+//! The program itself does nothing. A library here would be reckoned by `rt ci` once for each way
+//! that leads down from it, which takes minutes; a program is not.
 #![tactic(auto)]
 
 #[cfg(test)]
@@ -25,3 +28,5 @@ mod sessions;
 mod turns;
 #[cfg(test)]
 mod workers;
+
+fn main() {}

@@ -1,6 +1,9 @@
 //! Tests of the machine and the layers below it, in one crate over all of them: what no contract
 //! says, and each public call on its happy path. They stand here, and not in their crates, since a
 //! crate with tests is proved once more for them.
+//!
+//! The program itself does nothing. A library here would be reckoned by `rt ci` once for each way
+//! that leads down from it, which takes minutes; a program is not.
 #![tactic(auto)]
 
 #[cfg(test)]
@@ -31,3 +34,5 @@ mod reserve;
 mod signal;
 #[cfg(test)]
 mod txn;
+
+fn main() {}
