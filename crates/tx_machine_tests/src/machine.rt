@@ -1,8 +1,9 @@
 //! Each public call on its happy path, and each step of a schedule there and back.
 use arrayvec::ArrayVec;
+use std::alloc::Global;
 use std::mem;
 use std::test::Fail;
-use tx_base::{Call, DescNo, Pid, PipeNo, Reply, Step};
+use tx_base::{Call, DescNo, NoMemory, Pid, PipeNo, Reply, Step};
 use tx_core::{Free, Machine, NoTransaction, run, run_kept, run_wide};
 use tx_live::Inverse;
 
@@ -54,18 +55,6 @@ fn shown(machine: &Machine, number: u16) -> (Option<(u32, i64, Option<u8>)>, Opt
         proc.space.load(1).ok(),
     ));
     (of_process, machine.txn_of(Pid(number)))
-}
-
-#[test]
-fn boots(rt: HostRuntime) -> Result<(), Fail> {
-    let narrow = Machine::boot(rt.alloc(), 2)?;
-    assert_eq!(rt; narrow.processes(), 64);
-    assert_eq!(rt; shown(&narrow, 2), (Some((0, 0, None)), None));
-    assert_eq!(rt; shown(&narrow, 3), (None, None));
-    let wide = Machine::boot_wide(rt.alloc(), 256)?;
-    assert_eq!(rt; wide.processes(), 256);
-    assert_eq!(rt; shown(&wide, 256), (Some((0, 0, None)), None));
-    Ok(())
 }
 
 #[test]
@@ -136,6 +125,12 @@ fn aborts_by_the_kernel_and_back(rt: HostRuntime) -> Result<(), Fail> {
     Ok(())
 }
 
+/// The numbers that are free for a process after a run of three.
+fn free_after(alloc: Global, steps: &[Step], number: u16) -> Result<Free, NoMemory> {
+    let ran = run(alloc, 3, steps)?;
+    Ok(ran.machine.free_numbers(Pid(number)))
+}
+
 #[test]
 fn picks_the_least_free_numbers(rt: HostRuntime) -> Result<(), Fail> {
     let least = Free {
@@ -148,20 +143,22 @@ fn picks_the_least_free_numbers(rt: HostRuntime) -> Result<(), Fail> {
         pipe: Some(PipeNo(1)),
         descs: Some((DescNo(2), DescNo(3))),
     };
-    let mut steps = [
+    let steps = [
         call(2, Call::SysXbegin),
         call(2, Call::Pipe(PipeNo(0), DescNo(0), DescNo(1))),
         call(2, Call::Close(0)),
         call(2, Call::Close(1)),
     ];
-    let open = run(rt.alloc(), 3, &steps[..2])?;
-    assert_eq!(rt; open.machine.free_numbers(Pid(2)), next);
-    assert_eq!(rt; open.machine.free_numbers(Pid(3)), next);
-    let given_up = run(rt.alloc(), 3, &steps)?;
-    assert_eq!(rt; given_up.machine.free_numbers(Pid(2)), least);
-    assert_eq!(rt; given_up.machine.free_numbers(Pid(3)), next);
-    steps[1] = call(2, Call::Pipe(PipeNo(4), DescNo(8), DescNo(9)));
-    let elsewhere = run(rt.alloc(), 3, &steps)?;
-    assert_eq!(rt; elsewhere.machine.free_numbers(Pid(3)), least);
+    for number in [2, 3] {
+        assert!(rt; free_after(rt.alloc(), &steps[..2], number)? == next);
+    }
+    assert!(rt;
+        free_after(rt.alloc(), &steps, 2)? == least,
+        "given up by its own"
+    );
+    assert!(rt;
+        free_after(rt.alloc(), &steps, 3)? == next,
+        "reserved from others"
+    );
     Ok(())
 }
