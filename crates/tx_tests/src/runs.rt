@@ -1,14 +1,11 @@
 //! Runs of a program, and what is written of them.
-ghost use Rattle.std.specs.Prelude.{◌≤◌, OnOk};
-ghost use Rattle.tx_journal.specs.Sessions.{IsAtEnd};
-
 use crate::ends::Taking;
 use crate::programs::read;
 use std::alloc::Global;
 use std::test::Fail;
-use tx_base::{NoMemory, Pid};
+use tx_base::Pid;
 use tx_journal::Session;
-use tx_script::{Fault, OverWrite, Program, write_run};
+use tx_script::{Fault, OverWrite, write_run};
 use tx_workers::{Took, Worker, turn, turn_of};
 
 /// What is written of a transaction that a child takes back.
@@ -46,33 +43,14 @@ pub(crate) fn written(alloc: Global, session: &Session) -> Result<Vec<u8>, Fault
     Ok(taken)
 }
 
-/// Takes so many turns.
-fn take_turns(
-    alloc: Global,
-    session: &mut Session,
-    worker: &mut Worker,
-    program: &Program,
-    turns: u32,
-) -> Result<(), NoMemory>
-    requires at_end { IsAtEnd session.old }
-    requires low { 1 ≤ worker.old.number }
-    requires high { worker.old.number ≤ worker.old.total }
-    ensures { OnOk result (IsAtEnd session.new) }
-{
-    for _ in 0..turns {
-        turn(alloc, session, worker, program)?;
-    }
-    Ok(())
-}
-
 #[test]
-fn a_program_is_run_in_turns(rt: HostRuntime) -> Result<(), Fail> {
+fn a_turn_is_taken(rt: HostRuntime) -> Result<(), Fail> {
     let program = read(rt.alloc(), PROGRAM.as_bytes())?;
     let mut session = Session::boot(rt.alloc(), 1)?;
     let mut worker = Worker::new(rt.alloc(), 1, 1);
-    take_turns(rt.alloc(), &mut session, &mut worker, &program, 7)?;
-    assert_eq!(rt; worker.notes.len(), 6);
-    assert_eq!(rt; written(rt.alloc(), &session)?.as_slice(), RUN.as_bytes());
+    turn(rt.alloc(), &mut session, &mut worker, &program)?;
+    assert_eq!(rt; worker.last, 1);
+    assert_eq!(rt; worker.notes.len(), 1);
     let took = turn_of(rt.alloc(), &mut session, &mut worker, &program, Pid(2))?;
     assert_eq!(rt; took, Took::Idle);
     Ok(())

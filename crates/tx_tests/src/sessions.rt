@@ -25,6 +25,14 @@ fn make_steps(alloc: Global, session: &mut Session, steps: &[Step])
     ensures { IsAtEnd session.new }
 {
     for step in steps {
-        let _reply = session.step(alloc, 1, step);
+        make_step(alloc, session, step);
     }
+}
+
+/// Makes a step, by worker 1.
+fn make_step(alloc: Global, session: &mut Session, step: &Step)
+    requires { IsAtEnd session.old }
+    ensures { IsAtEnd session.new }
+{
+    let _reply = session.step(alloc, 1, step);
 }
