@@ -4,6 +4,7 @@ use crate::programs::read;
 use crate::runs::{PROGRAM, RUN, written};
 use crate::sessions::session_of;
 use std::alloc::Global;
+use std::process::Abort;
 use std::sync::Wait;
 use std::sync::atomic::AtomicBool;
 use std::sync::atomic::Ordering::SeqCst;
@@ -13,7 +14,7 @@ use std::thread::Threads;
 use tx_base::{Call, Pid, Reply, Step};
 use tx_core::run;
 use tx_journal::{Entry, Session};
-use tx_script::{Version, read_schedule, read_step};
+use tx_script::read_schedule;
 use tx_text::print_state;
 use tx_workers::{Gate, NoGate, WorkFault, Worked, run_workers};
 
@@ -167,40 +168,35 @@ label back
 sys_xabort
 ";
 
-/// The step that a line of a run tells of.
-fn step_in(line: &str) -> Option<Step> {
-    let (told, _reply) = line.split_once(" : ")?;
-    let (_number, told) = told.split_once(' ')?;
-    let (_worker, step) = told.split_once(' ')?;
-    read_step(Version::One, step.as_bytes())
-}
-
-/// The steps that the text of a run tells of.
-fn steps_in(alloc: Global, run: &str) -> Result<Vec<Step>, Fail> {
+/// The steps of entries, in their order.
+fn steps_of(alloc: Global, entries: &[Entry]) -> Result<Vec<Step>, Fail> {
     let mut steps = Vec::new(alloc);
-    for line in run.lines() {
-        if let Some(step) = step_in(line) {
-            steps.push(step)?;
-        }
+    for entry in entries {
+        steps.push(entry.step.copy())?;
     }
     Ok(steps)
+}
+
+/// A run of the steps of these entries has to have the same replies, and to leave this state.
+fn is_replayed(rt: &impl Abort, alloc: Global, entries: &[Entry], state: &str) -> Result<(), Fail> {
+    let steps = steps_of(alloc, entries)?;
+    let ran = run(alloc, 16, steps.as_slice())?;
+    assert_eq!(rt; entries.len(), ran.history.len());
+    for (entry, accepted) in entries.iter().zip(ran.history.iter()) {
+        assert!(rt; entry.step == accepted.step);
+        assert!(rt; entry.reply == accepted.reply);
+    }
+    assert_eq!(rt; print_state(alloc, &ran.machine)?.as_str(), state);
+    Ok(())
 }
 
 #[test]
 fn what_many_workers_did_can_be_replayed(rt: HostRuntime) -> Result<(), Fail> {
     let alloc = rt.alloc();
     let worked = run_after(&rt, alloc, "txos 1 schedule 16\n", TREES, 16, 1000, &NoGate)?;
-    let text = String::from_utf8(written(alloc, &worked.session)?)?;
-    let steps = steps_in(alloc, text.as_str())?;
-    let ran = run(alloc, 16, steps.as_slice())?;
     let entries = worked.session.entries();
-    assert_eq!(rt; entries.len(), ran.history.len());
-    for (entry, accepted) in entries.iter().zip(ran.history.iter()) {
-        assert!(rt; entry.step == accepted.step);
-        assert!(rt; entry.reply == accepted.reply);
-    }
-    let state = print_state(alloc, &ran.machine)?;
-    assert_eq!(rt; worked.session.state_text(alloc)?, state);
+    let state = worked.session.state_text(alloc)?;
+    is_replayed(&rt, alloc, entries, state.as_str())?;
     let aborts = entries
         .iter()
         .filter(|entry| matches!(entry.reply, Reply::Aborted(_)));
