@@ -3,7 +3,7 @@ use Rattle.std.proofs.Common.{◌≡◌, ℕ, zero, suc, ◌≤◌, Bool, true, 
 use Rattle.std.specs.Option.{option_copied}
 use Rattle.tx_base.specs.Slots.{slot_at}
 use Rattle.tx_change.specs.Exchange.{pipe_at}
-use Rattle.tx_core.proofs.Boots.{state_read, width_read}
+use Rattle.tx_core.proofs.Reading.{state_read, width_read}
 use Rattle.tx_core.proofs.LeastNumbers.{least_alone, least_none}
 use Rattle.tx_core.specs.Laws.{MachineLaws}
 use Rattle.tx_desc.specs.Descriptions.{described}

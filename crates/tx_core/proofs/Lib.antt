@@ -1,4 +1,4 @@
-pub mod Boots
+pub mod Reading
 pub mod FreeNumbers
 pub mod LeastNumbers
 pub mod Steps

@@ -1,8 +1,8 @@
 //! The laws that the machine stands on.
 ghost use Rattle.tx_core.specs.Laws.{MachineLaws};
 
-use tx_judge::contents_are_whole;
-use tx_laws::{answers_of_parts, next_view, well_formed, well_formed_table};
+use tx_judge::{booted_is_content, contents_are_whole};
+use tx_laws::{answers_of_parts, next_view};
 
 /// The laws on which the proofs of the machine stand. It does nothing.
 pub(crate) fn laws()
@@ -11,6 +11,5 @@ pub(crate) fn laws()
     contents_are_whole();
     next_view();
     answers_of_parts();
-    well_formed();
-    well_formed_table();
+    booted_is_content();
 }

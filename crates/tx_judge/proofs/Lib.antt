@@ -1,4 +1,5 @@
 pub mod WholeContents
+pub mod BootedContents
 pub mod Refusals
 pub mod TwoFaces
 pub mod Leasts

@@ -1,10 +1,13 @@
 -- What is so of every content that steps lead to.
+use Rattle.std.specs.Prelude.{◌≡◌, ℕ, ◌≤◌, []}
 use Rattle.tx_kernel.specs.Actors.{IsWhole}
 use Rattle.tx_laws.specs.WellFormed.{IsWellFormed}
 use Rattle.tx_laws.specs.WellFormedTable.{IsWellFormedView}
 use Rattle.tx_live.specs.Content.{content_of, view_of, IsShaped}
 use Rattle.tx_live.specs.declared.content.Content.{Content}
 use Rattle.tx_model.specs.History.{Starters}
+use Rattle.tx_model.specs.State.{booted}
+use Rattle.tx_model.specs.View.{view}
 use Rattle.tx_txn.specs.Content.{IsKept}
 
 -- what is so of every content that steps lead to
@@ -17,3 +20,7 @@ pub record IsContent (k : Content) : Type 0 where
 -- such parts are whole
 abbrev pub ContentsAreWhole : Type 0
 ContentsAreWhole = (k : Content) → IsContent k → IsWhole k.parts
+
+-- what a kernel keeps as it is booted is such a content: its tables fit together, it is one of the laws, and it has the view of no step
+abbrev pub BootedIsContent : Type 0
+BootedIsContent = (k : Content) (width count : ℕ) → 1 ≤ count → count ≤ width → IsShaped k → IsKept (content_of k) → view_of k ≡ view (booted width count) [] → IsContent k

@@ -1,10 +1,10 @@
-//! The laws that early refusals stand on, and how they stand to all refusals; and that contents are whole.
-ghost use Rattle.tx_judge.specs.Contents.{ContentsAreWhole};
+//! The laws that early refusals stand on, and how they stand to all refusals; and what is so of contents.
+ghost use Rattle.tx_judge.specs.Contents.{BootedIsContent, ContentsAreWhole};
 ghost use Rattle.tx_judge.specs.Early.{RefusalIsEarly};
 ghost use Rattle.tx_judge.specs.Laws.{JudgeLaws, WayLaws};
 
 use tx_kernel::well_formed_are_orderly;
-use tx_laws::{answers_of_parts, footprints, inside};
+use tx_laws::{answers_of_parts, footprints, inside, well_formed, well_formed_table};
 use tx_reserve::footprints_are_within;
 use tx_txn::answers_of_faces;
 
@@ -38,4 +38,12 @@ pub fn contents_are_whole()
 {
     answers_of_parts();
     well_formed_are_orderly();
+}
+
+/// What a kernel keeps as it is booted is a content that steps lead to.
+pub fn booted_is_content()
+    ensures { BootedIsContent }
+{
+    well_formed();
+    well_formed_table();
 }

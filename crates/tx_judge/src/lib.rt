@@ -15,6 +15,6 @@ mod ways;
 pub use early::{early_refusal_of_call, early_refusal_of_delivery};
 pub use holder::find_holder;
 pub use late::late_refusal;
-pub use laws::{contents_are_whole, refusals_are_early};
+pub use laws::{booted_is_content, contents_are_whole, refusals_are_early};
 pub use roles::{StepRole, role_of_call, role_of_delivery};
-pub use ways::{way_of_call, way_of_delivery};
+pub use ways::{actor_of, way_of_call, way_of_delivery};

@@ -86,6 +86,7 @@ fn role_of_other(call: &Call) -> StepRole
 }
 
 /// What a call is to the transactions that a member of this mark makes.
+#[inline(always)] // as `role_of_call`
 fn role_of_member(content: &Content, pid: Pid, mark: Mark, call: &Call) -> StepRole
     requires shaped { IsShaped content.now }
     requires kept { IsKept (content_of content.now) }

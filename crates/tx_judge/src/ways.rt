@@ -131,8 +131,8 @@ fn way_of_process(
     content.owners.other_owner(Object::Proc(process), own)
 }
 
-/// The process of a number, which runs, with the transaction that it is a member of.
-pub(crate) fn actor_of<'a>(content: &'a Content, pid: Pid) -> Actor<'a>
+/// The process of a number, which runs, with the transaction that it is a member of. It takes no memory.
+pub fn actor_of<'a>(content: &'a Content, pid: Pid) -> Actor<'a>
     requires content { IsContent content.now }
     requires running { IsRunning (slot_at content.now.parts.procs pid.0) }
     ensures { IsOwnActor content.now pid result }

@@ -1,4 +1,3 @@
-pub mod Boots
 pub mod PostedTo
 pub mod NotesTold
 pub mod RolesKept

@@ -1,7 +1,8 @@
 //! The laws that a history made once more stands on.
 ghost use Rattle.tx_retrace.specs.Laws.{RetraceLaws};
 
-use tx_laws::{answers_of_parts, next_view, well_formed, well_formed_table};
+use tx_judge::booted_is_content;
+use tx_laws::{answers_of_parts, next_view};
 
 /// The laws on which the proofs stand. It does nothing.
 pub(crate) fn laws()
@@ -9,6 +10,5 @@ pub(crate) fn laws()
 {
     next_view();
     answers_of_parts();
-    well_formed();
-    well_formed_table();
+    booted_is_content();
 }

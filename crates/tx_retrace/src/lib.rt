@@ -1,7 +1,6 @@
 //! A kernel that makes the steps of a history once more, and notes what each is to its transaction.
 #![tactic(auto)]
 
-mod actors;
 mod laws;
 mod notes;
 mod posted;

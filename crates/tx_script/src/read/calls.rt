@@ -28,6 +28,7 @@ use tx_base::Call;
 
 /// Puts the call that a text of that version spells where it is to stand. Answers whether it spells one.
 /// The calls that schedules have most are told by their fronts, with no search for a first word.
+#[inline(always)] // it has few callers, and each line of a schedule asks it
 pub fn read_call(version: Version, text: &[u8], call: &mut Call) -> bool
     ensures found { IfSome (then_some result call.new) (λ c. text.now ≡ call_text c) }
     ensures fits { IfSome (then_some result call.new) FitsCall }

@@ -1,5 +1,5 @@
 use Rattle.std.proofs.Common.{ap, ◌∙◌}
-use Rattle.tx_core.proofs.Boots.{marks_read}
+use Rattle.tx_core.proofs.Reading.{marks_read}
 use Rattle.tx_model.specs.Membership.{is_of}
 use Rattle.tx_core.proofs.free.is_member_of.Goals as goal
 

@@ -1,5 +1,5 @@
 use Rattle.std.proofs.Common.{◌≡◌, arith, length, sym, ◌∙◌}
-use Rattle.tx_core.proofs.Boots.{width_read}
+use Rattle.tx_core.proofs.Reading.{width_read}
 use Rattle.tx_core.proofs.LeastNumbers.{least_none, least_some}
 use Rattle.tx_live.specs.Content.{view_of}
 use Rattle.tx_model.specs.FreeNumbers.{is_free_process}

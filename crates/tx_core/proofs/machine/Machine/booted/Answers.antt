@@ -1,6 +1,5 @@
-use Rattle.tx_core.proofs.Boots.{booted_content}
 use Rattle.tx_core.proofs.machine.Machine.booted.Goals as goal
 
 pub invariant_of-result : goal.invariant_of-result
 invariant_of-result c =
-    booted_content c.laws.ensures c.in_ok-content.content c.args.width c.args.count c.requires.low c.requires.high c.in_ok-content.ensures.shaped c.in_ok-content.ensures.kept c.in_ok-content.ensures.view
+    c.laws.ensures.content c.in_ok-content.content c.args.width c.args.count c.requires.low c.requires.high c.in_ok-content.ensures.shaped c.in_ok-content.ensures.kept c.in_ok-content.ensures.view

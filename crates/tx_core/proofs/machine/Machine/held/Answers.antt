@@ -1,5 +1,5 @@
 use Rattle.std.proofs.Common.{ap, map, ◌∙◌}
-use Rattle.tx_core.proofs.Boots.{state_read}
+use Rattle.tx_core.proofs.Reading.{state_read}
 use Rattle.tx_kernel.specs.Plans.{sending_of}
 use Rattle.tx_live.specs.Content.{held_in, view_of}
 use Rattle.tx_live.specs.declared.content.Content.{Content}

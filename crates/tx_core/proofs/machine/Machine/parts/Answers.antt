@@ -1,6 +1,6 @@
 use Rattle.std.proofs.Common.{ap, sym, ◌∙◌}
 use Rattle.tx_change.specs.States.{state_of}
-use Rattle.tx_core.proofs.Boots.{state_read}
+use Rattle.tx_core.proofs.Reading.{state_read}
 use Rattle.tx_live.specs.Content.{held_of, view_of}
 use Rattle.tx_live.specs.declared.content.Content.{Content}
 use Rattle.tx_model.specs.View.{present}
