@@ -66,6 +66,7 @@ fn access(word: &[u8]) -> Option<bool>
 }
 
 /// The call that stores bytes, by the text of its arguments.
+#[inline(always)] // `read_call` alone calls it, and stands in each of its callers
 pub fn store(arguments: &[u8], call: &mut Call) -> bool
     ensures found { IfSome (then_some result call.new) (λ c. codes "store " ++ arguments.now ≡ call_text c) }
     ensures fits { IfSome (then_some result call.new) FitsCall }

@@ -13,6 +13,7 @@ use tx_base::Call;
 
 /// Puts the call of transactions whose text goes on so after `sys_x` where it is to stand. Answers
 /// whether one does.
+#[inline(always)] // as `store`
 pub fn transaction_call(version: Version, word: &[u8], call: &mut Call) -> bool
     ensures found { IfSome (then_some result call.new) (λ c. codes "sys_x" ++ word.now ≡ call_text c) }
     ensures fits { IfSome (then_some result call.new) FitsCall }
