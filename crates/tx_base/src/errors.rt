@@ -3,9 +3,10 @@ ghost use Rattle.std.specs.Prelude.{◌≡◌};
 ghost use Rattle.tx_base.specs.Errors.{error_number};
 
 use std::alloc::{AllocError, AllocFailed};
+use thiserror::Error;
 
 /// An error of a call. Its number is the one that the call answers, as a negative number.
-#[derive(Clone, Copy, PartialEq, Eq, Debug, Default)]
+#[derive(Clone, Copy, PartialEq, Eq, Default)]
 pub enum Errno {
     /// EPERM
     #[default]
@@ -48,7 +49,8 @@ impl Errno {
 }
 
 /// A growth of memory was refused.
-#[derive(Clone, Copy, PartialEq, Eq, Debug)]
+#[derive(Clone, Copy, Debug, Error)]
+#[error("no memory")]
 pub struct NoMemory;
 
 impl From<AllocError> for NoMemory {

@@ -2,7 +2,7 @@
 use crate::names::Pid;
 
 /// The mark of a member of a live transaction.
-#[derive(Clone, Copy, PartialEq, Eq, Debug)]
+#[derive(Clone, Copy)]
 pub struct Mark {
     /// The process that began the transaction, whose number names it.
     pub starter: Pid,

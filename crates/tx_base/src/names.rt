@@ -2,23 +2,23 @@
 use crate::errors::Errno;
 
 /// A process number: 1 to 64, on a wide machine 1 to 256, where a process may have it.
-#[derive(Clone, Copy, PartialEq, Eq, Debug, Default)]
+#[derive(Clone, Copy, PartialEq, Eq, Default)]
 pub struct Pid(pub u16);
 
 /// A signal number.
-#[derive(Clone, Copy, PartialEq, Eq, Debug, Default)]
+#[derive(Clone, Copy, PartialEq, Eq, Default)]
 pub struct Signo(pub u8);
 
 /// The number of an open description: 0 to 63, where a description may have it.
-#[derive(Clone, Copy, PartialEq, Eq, Debug, Default)]
+#[derive(Clone, Copy, PartialEq, Eq, Default)]
 pub struct DescNo(pub u8);
 
 /// The number of a pipe: 0 to 31, where a pipe may have it.
-#[derive(Clone, Copy, PartialEq, Eq, Debug, Default)]
+#[derive(Clone, Copy, PartialEq, Eq, Default)]
 pub struct PipeNo(pub u8);
 
 /// Where a process stands in its script, the answer of its last call, and its eight slots.
-#[derive(Clone, Copy, Debug)]
+#[derive(Clone, Copy)]
 pub struct Regs {
     /// The next instruction: 0 to 65,535.
     pub point: u32,
@@ -28,7 +28,7 @@ pub struct Regs {
 }
 
 /// A held send that could not be delivered at the commit.
-#[derive(Clone, Copy, PartialEq, Eq, Debug, Default)]
+#[derive(Clone, Copy, PartialEq, Eq, Default)]
 pub struct Missed {
     pub target: Pid,
     pub signo: Signo,
@@ -36,7 +36,7 @@ pub struct Missed {
 }
 
 /// A signal on its way.
-#[derive(Clone, Copy, Debug, Default)]
+#[derive(Clone, Copy, Default)]
 pub struct Sending {
     pub target: Pid,
     pub signo: Signo,

@@ -15,7 +15,7 @@ pub const SIGCHLD: Signo = Signo(17);
 
 /// A set of signals: the bit of signal n is 2 to the power of n (POSIX.1-2017, XBD, signal.h,
 /// `sigset_t`).
-#[derive(Clone, Copy, PartialEq, Eq, Debug)]
+#[derive(Clone, Copy, PartialEq, Eq)]
 pub struct SigSet(u64);
 
 bitflag_items! {
@@ -71,7 +71,7 @@ impl Flags for SigSet {
 }
 
 /// What a process does about a signal (POSIX.1-2017, XSH, Signal Actions).
-#[derive(Clone, Copy, PartialEq, Eq, Debug)]
+#[derive(Clone, Copy, PartialEq, Eq)]
 pub enum Action {
     /// The usual: to ignore SIGCHLD, and to end at any other.
     Usual,
@@ -82,7 +82,7 @@ pub enum Action {
 }
 
 /// How a mask is changed (POSIX.1-2017, XSH, `sigprocmask()`).
-#[derive(Clone, Copy, PartialEq, Eq, Debug)]
+#[derive(Clone, Copy, PartialEq, Eq)]
 pub enum How {
     /// The signals are added.
     Block,

@@ -7,7 +7,7 @@ use crate::signals::{Action, How, SigSet};
 use arrayvec::ArrayVec;
 
 /// When a jump is made. Own rule.
-#[derive(Clone, Copy, PartialEq, Eq, Debug)]
+#[derive(Clone, Copy, PartialEq, Eq)]
 pub enum When {
     Always,
     /// Where the last answer is this number.
@@ -16,7 +16,7 @@ pub enum When {
 
 /// A call of a process. A number that a program computes is an `i64`; each value out of range
 /// has its stated error.
-#[derive(PartialEq, Eq, Debug, Drop)]
+#[derive(Drop)]
 pub enum Call {
     /// Maps a page of zeros that may be written. Own rule.
     Map(i64),
@@ -92,7 +92,7 @@ pub enum Call {
 }
 
 /// One event of the kernel.
-#[derive(PartialEq, Eq, Debug, Drop)]
+#[derive(Drop)]
 pub enum Step {
     /// A process makes a call.
     Call(Pid, Call),
@@ -103,7 +103,7 @@ pub enum Step {
 }
 
 /// Why a step was not accepted. A refused step changes nothing.
-#[derive(Clone, Copy, PartialEq, Eq, Debug)]
+#[derive(Clone, Copy, PartialEq, Eq)]
 pub enum Refusal {
     /// N1: there is no process of that number, or the number is none of the machine's.
     NoProcess,
@@ -149,7 +149,7 @@ impl From<NoMemory> for Refusal {
 }
 
 /// What a step is answered.
-#[derive(PartialEq, Eq, Debug, Drop)]
+#[derive(Drop)]
 pub enum Reply {
     /// The call's answer; a POSIX error is the negative error number.
     Done(i64),
@@ -166,7 +166,7 @@ pub enum Reply {
 }
 
 /// A step that was accepted, with its reply: what a history holds.
-#[derive(PartialEq, Eq, Debug, Drop)]
+#[derive(Drop)]
 pub struct Accepted {
     pub step: Step,
     pub reply: Reply,

@@ -8,7 +8,7 @@ use Rattle.tx_core.proofs.LeastNumbers.{least_alone, least_none}
 use Rattle.tx_core.specs.Laws.{MachineLaws}
 use Rattle.tx_desc.specs.Descriptions.{described}
 use Rattle.tx_desc.specs.declared.opened.Opened.{Opened}
-use Rattle.tx_judge.specs.Contents.{IsContent}
+use Rattle.tx_step.specs.Contents.{IsContent}
 use Rattle.tx_laws.specs.TwoParts.{is_owner, parts_view}
 use Rattle.tx_live.specs.Content.{owner_at, view_of}
 use Rattle.tx_live.specs.declared.content.Content.{Content}

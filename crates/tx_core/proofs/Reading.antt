@@ -2,7 +2,7 @@
 use Rattle.std.proofs.Common.{◌≡◌, ℕ, length, refl, sym}
 use Rattle.tx_base.specs.Slots.{slot_at}
 use Rattle.tx_core.specs.Laws.{MachineLaws}
-use Rattle.tx_judge.specs.Contents.{IsContent}
+use Rattle.tx_step.specs.Contents.{IsContent}
 use Rattle.tx_laws.specs.TwoParts.{parts_view}
 use Rattle.tx_live.specs.Content.{content_of, now_of, view_of}
 use Rattle.tx_live.specs.declared.content.Content.{Content}

@@ -1,5 +1,5 @@
 -- The laws that the machine stands on.
-use Rattle.tx_judge.specs.Contents.{BootedIsContent}
+use Rattle.tx_step.specs.Contents.{BootedIsContent}
 use Rattle.tx_laws.specs.Laws.{LawfulViewIsNext}
 use Rattle.tx_laws.specs.LawsOfParts.{PresentIsNow}
 

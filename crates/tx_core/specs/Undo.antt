@@ -1,5 +1,5 @@
 -- What an inverse is to be undone on.
-use Rattle.tx_judge.specs.Contents.{IsContent}
+use Rattle.tx_step.specs.Contents.{IsContent}
 use Rattle.tx_live.specs.Inverses.{GoesWith, Undoes}
 use Rattle.tx_live.specs.declared.content.Content.{Content}
 use Rattle.tx_live.specs.declared.inverse.Inverse.{Inverse}

@@ -2,7 +2,7 @@
 ghost use Rattle.std.specs.Prelude.{◌≡◌, ◌-◌, ◌≤◌, ◌&&◌, length, option_map};
 ghost use Rattle.tx_base.specs.declared.limits.TheConstants.{DESCRIPTIONS, PIPES};
 ghost use Rattle.tx_core.specs.Free.{desc_number, desc_numbers, free_as, pipe_number};
-ghost use Rattle.tx_judge.specs.Contents.{IsContent};
+ghost use Rattle.tx_step.specs.Contents.{IsContent};
 ghost use Rattle.tx_live.specs.Content.{view_of};
 ghost use Rattle.tx_model.specs.FreeNumbers.{free_numbers, is_free_description, is_free_pipe, is_free_process, is_other_than, is_reserved_from, least_two};
 ghost use Rattle.tx_model.specs.Membership.{is_member_of};
@@ -18,7 +18,7 @@ use tx_reserve::Object;
 
 /// The least numbers that a process may choose for what it makes: each has nothing, and no
 /// transaction of others reserved it.
-#[derive(Clone, Copy, PartialEq, Eq, Debug)]
+#[derive(Clone, Copy)]
 pub struct Free {
     /// For the child of a fork: 1 to 64, on a wide machine 1 to 256. Nothing where none is free.
     pub proc: Option<Pid>,

@@ -1,8 +1,8 @@
 //! The laws that the machine stands on.
 ghost use Rattle.tx_core.specs.Laws.{MachineLaws};
 
-use tx_judge::{booted_is_content, contents_are_whole};
 use tx_laws::{answers_of_parts, next_view};
+use tx_step::{booted_is_content, contents_are_whole};
 
 /// The laws on which the proofs of the machine stand. It does nothing.
 pub(crate) fn laws()

@@ -17,12 +17,14 @@ ghost use Rattle.tx_step.specs.Steps.{IsKernelAbort, IsStep, IsXabort, Takes};
 use crate::laws::laws;
 use std::alloc::Global;
 use std::marker::Model;
+use thiserror::Error;
 use tx_base::{NoMemory, PROCESSES, Pid, Refusal, Reply, Step, WIDE_PROCESSES};
 use tx_live::{Content, Inverse};
 use tx_step::{Answered, put_reply, take_call, take_delivery, take_kernel_abort};
 
 /// There is no live transaction of that starter.
-#[derive(Clone, Copy, PartialEq, Eq, Debug)]
+#[derive(Clone, Copy, Debug, Error)]
+#[error("no live transaction")]
 pub struct NoTransaction;
 
 /// A kernel that takes steps, one after another.
@@ -32,7 +34,7 @@ pub struct Machine {
 }
 
 impl Model for Machine {
-    ghost use Rattle.tx_judge.specs.Contents.{IsContent};
+    ghost use Rattle.tx_step.specs.Contents.{IsContent};
     ghost use Rattle.tx_live.specs.declared.content.Content.{Content as TheContent};
 
     ghost Value = { TheContent };

@@ -11,7 +11,7 @@ use tx_base::Errno;
 /// The ids of a process (POSIX.1-2017, XBD, Real User ID, Effective User ID, Saved Set-User-ID, and
 /// the same of the group). Each is 0 to 65,535. A process whose effective user is 0 is privileged,
 /// for users and for groups.
-#[derive(Clone, Copy, PartialEq, Eq, Debug)]
+#[derive(Clone, Copy)]
 pub struct Cred {
     pub real_user: u16,
     pub effective_user: u16,

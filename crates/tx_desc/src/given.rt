@@ -3,7 +3,7 @@ use crate::opened::Desc;
 use tx_base::DescNo;
 
 /// A name that was given up.
-#[derive(Clone, Copy, PartialEq, Eq, Debug)]
+#[derive(Clone, Copy)]
 pub struct Given {
     /// The description that it was a name of.
     pub number: DescNo,
@@ -12,7 +12,7 @@ pub struct Given {
 }
 
 /// What a dup2 did.
-#[derive(Clone, Copy, PartialEq, Eq, Debug)]
+#[derive(Clone, Copy)]
 pub struct Renamed {
     /// The descriptor that names the other one's description now.
     pub fd: usize,

@@ -5,14 +5,14 @@ ghost use Rattle.tx_desc.specs.Descriptions.{first_named, with_more, with_fewer}
 use tx_base::PipeNo;
 
 /// The side of a pipe that a description is.
-#[derive(Clone, Copy, PartialEq, Eq, Debug)]
+#[derive(Clone, Copy)]
 pub enum Side {
     Read,
     Write,
 }
 
 /// An open description of a pipe (POSIX.1-2017, XBD, Open File Description).
-#[derive(Clone, Copy, PartialEq, Eq, Debug)]
+#[derive(Clone, Copy)]
 pub struct Desc {
     pub pipe: PipeNo,
     pub side: Side,
@@ -34,7 +34,7 @@ impl Desc {
 }
 
 /// A description, with the count of the descriptors that name it.
-#[derive(Clone, Copy, PartialEq, Eq, Debug)]
+#[derive(Clone, Copy)]
 pub struct Opened {
     pub desc: Desc,
     /// How many descriptors of all processes name it: 1 to 4,096 where the counts are right.

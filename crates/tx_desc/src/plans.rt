@@ -4,7 +4,7 @@ use crate::opened::Opened;
 use tx_base::DescNo;
 
 /// What a descriptor is to name. A plan of a call makes it, and `FdTable::swap` puts it in place.
-#[derive(Clone, Copy, PartialEq, Eq, Debug)]
+#[derive(Clone, Copy)]
 pub struct NewName {
     /// The descriptor: 0 to 15.
     pub fd: usize,
@@ -14,7 +14,7 @@ pub struct NewName {
 
 /// What a description number is to have. A plan of a call makes it, and `Descs::swap` puts it in
 /// place.
-#[derive(Clone, Copy, PartialEq, Eq, Debug, Default)]
+#[derive(Clone, Copy, Default)]
 pub struct NewDesc {
     /// The number: 0 to 63.
     pub number: DescNo,
@@ -23,7 +23,7 @@ pub struct NewDesc {
 }
 
 /// What a `pipe_pair` changes.
-#[derive(Clone, Copy, PartialEq, Eq, Debug)]
+#[derive(Clone, Copy)]
 pub struct PipePlan {
     /// The descriptor that is to name the reading side.
     pub read_name: NewName,
@@ -34,7 +34,7 @@ pub struct PipePlan {
 }
 
 /// What a `dup` changes.
-#[derive(Clone, Copy, PartialEq, Eq, Debug)]
+#[derive(Clone, Copy)]
 pub struct DupPlan {
     pub name: NewName,
     /// The description, with one name more.
@@ -42,7 +42,7 @@ pub struct DupPlan {
 }
 
 /// What a `dup2` changes.
-#[derive(Clone, Copy, PartialEq, Eq, Debug)]
+#[derive(Clone, Copy)]
 pub struct Dup2Plan {
     /// The answer of the call.
     pub renamed: Renamed,
@@ -51,7 +51,7 @@ pub struct Dup2Plan {
 }
 
 /// A descriptor that is to name another description than it did.
-#[derive(Clone, Copy, PartialEq, Eq, Debug)]
+#[derive(Clone, Copy)]
 pub struct Rename {
     pub name: NewName,
     /// The description that it is to name, with one name more.
@@ -61,7 +61,7 @@ pub struct Rename {
 }
 
 /// What a `close` changes.
-#[derive(Clone, Copy, PartialEq, Eq, Debug)]
+#[derive(Clone, Copy)]
 pub struct ClosePlan {
     pub name: NewName,
     /// The description, with one name fewer.

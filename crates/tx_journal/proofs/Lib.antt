@@ -1,3 +1,7 @@
+pub mod PostedTo
+pub mod NotesTold
+pub mod RolesKept
+pub mod NotesKept
 pub mod Aborted
 pub mod After
 pub mod Booted

@@ -14,8 +14,8 @@ use Rattle.tx_model.specs.Answer.{Lawful}
 use Rattle.tx_model.specs.History.{role_in}
 use Rattle.tx_model.specs.Membership.{Begins, Continues, Forks, Parks, Role, Outside, Within, Commits, Aborts}
 use Rattle.tx_model.specs.State.{State}
-use Rattle.tx_retrace.specs.Notes.{IsNoteOf, Noted, begins_one, commits_one, note_of, starter_by, tells_of}
-use Rattle.tx_retrace.specs.declared.notes.Note.{Note}
+use Rattle.tx_journal.specs.Notes.{IsNoteOf, Noted, begins_one, commits_one, note_of, starter_by, tells_of}
+use Rattle.tx_journal.specs.declared.notes.Note.{Note}
 
 begins_same : (s : ℕ) (r : Role) → (begins_one r && is_starter s (starter_by r)) ≡ begins_it s r
 begins_same s Outside = refl

@@ -3,8 +3,8 @@ use Rattle.std.proofs.Common.{◌≡◌, ℕ, suc, ◌+◌, ◌-◌, ◌<◌, �
 use Rattle.std.proofs.lemmas.List.{append_assoc, append-nil, length-map, length-reverse, map-append, reverse-append}
 use Rattle.tx_journal.specs.Moved.{Numbers, numbers_above, with_other_number, with_own_number}
 use Rattle.tx_journal.specs.Noted.{begins_its, is_silent_by, is_starter, noted_back, parted_by}
-use Rattle.tx_retrace.specs.Notes.{noted}
-use Rattle.tx_retrace.specs.declared.notes.Note.{Note}
+use Rattle.tx_journal.specs.Notes.{noted}
+use Rattle.tx_journal.specs.declared.notes.Note.{Note}
 
 -- one number less to come
 pub above_more : (n from : ℕ) → n < from → numbers_above n (from - n) ≡ from ∷ numbers_above n (from - 1 - n)

@@ -10,8 +10,8 @@ use Rattle.tx_journal.specs.Sessions.{Kept, start_of}
 use Rattle.tx_journal.specs.declared.entry.Entry.{Entry}
 use Rattle.tx_journal.specs.declared.moved.Moved.{Moved}
 use Rattle.tx_model.specs.State.{booted}
-use Rattle.tx_retrace.specs.Notes.{Noted, noted}
-use Rattle.tx_retrace.specs.declared.notes.Note.{Note}
+use Rattle.tx_journal.specs.Notes.{Noted, noted}
+use Rattle.tx_journal.specs.declared.notes.Note.{Note}
 
 -- the first entries, as a slice names them
 pub front : (n : ℕ) (entries : List Entry) → take (n - 0) entries ≡ take n entries

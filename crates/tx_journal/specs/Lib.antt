@@ -1,3 +1,5 @@
+pub mod RetraceLaws
+pub mod Notes
 pub mod Entries
 pub mod Laws
 pub mod Lives

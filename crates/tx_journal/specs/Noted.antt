@@ -3,8 +3,8 @@ use Rattle.std.specs.Prelude.{ℕ, suc, Bool, true, false, not, ◌&&◌, ◌==�
 use Rattle.tx_base.specs.declared.steps.Accepted.{Accepted}
 use Rattle.tx_journal.specs.Moved.{Numbers, Told, numbers_above, with_other_number, with_own_number}
 use Rattle.tx_model.specs.State.{State}
-use Rattle.tx_retrace.specs.Notes.{Noted, note_of, noted}
-use Rattle.tx_retrace.specs.declared.notes.Note.{Note}
+use Rattle.tx_journal.specs.Notes.{Noted, note_of, noted}
+use Rattle.tx_journal.specs.declared.notes.Note.{Note}
 
 -- the notes of the steps of a history, the newest first
 unfoldable pub notes_in : State → List Accepted → List Noted

@@ -2,7 +2,7 @@
 use tx_base::{Reply, Step};
 
 /// A step that was accepted, with the worker that made it and its reply.
-#[derive(PartialEq, Eq, Debug, Drop)]
+#[derive(Drop)]
 pub struct Entry {
     pub step: Step,
     /// The worker's number, from 1; a schedule's steps are made by worker 1.

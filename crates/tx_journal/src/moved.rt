@@ -10,15 +10,16 @@ ghost use Rattle.tx_model.specs.State.{booted};
 
 use crate::entry::Entry;
 use crate::faults::MovedFault;
+use crate::notes::Note;
 use crate::parted::{commit_of, join, part};
+use crate::retrace::Retrace;
 use crate::session::Session;
 use std::alloc::Global;
 use tx_base::NoMemory;
-use tx_retrace::{Note, Retrace};
 
 /// A history in which the earlier steps of a transaction stand, in their order, directly before the step
 /// that commits it. All other steps stay in their order.
-#[derive(PartialEq, Eq, Debug, Drop)]
+#[derive(Drop)]
 pub struct Moved {
     /// The numbers of all entries, in the order of that history.
     pub entries: Vec<usize>,

@@ -3,11 +3,11 @@ ghost use Rattle.std.specs.Prelude.{◌≡◌, ◌++◌, ◌∷◌, ◌-◌, [],
 ghost use Rattle.tx_journal.specs.Moved.{numbers_above};
 ghost use Rattle.tx_journal.specs.Noted.{begins_its, commit_of, is_silent_by, is_starter, noted_back, parted_by};
 ghost use Rattle.tx_reserve.specs.Reservations.{number_of};
-ghost use Rattle.tx_retrace.specs.Notes.{noted};
+ghost use Rattle.tx_journal.specs.Notes.{noted};
 
+use crate::notes::Note;
 use std::alloc::{AllocError, Global};
 use tx_base::Pid;
-use tx_retrace::Note;
 
 /// The numbers of the entries before one that commits a transaction, each the newest first.
 #[derive(Drop)]

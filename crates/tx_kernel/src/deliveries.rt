@@ -19,7 +19,7 @@ use tx_proc::{Answer, BoxedFrame, Part};
 use tx_signal::{Frame, is_ignored, is_realtime, with, without};
 
 /// Where a caught signal goes on.
-#[derive(Clone, Copy, Debug)]
+#[derive(Clone, Copy)]
 struct Catch {
     point: u32,
     /// The signals that are blocked too.

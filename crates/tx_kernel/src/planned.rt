@@ -2,7 +2,7 @@
 use tx_base::Sending;
 
 /// Bytes of memory that are to be shown.
-#[derive(Clone, Copy, PartialEq, Eq, Debug)]
+#[derive(Clone, Copy)]
 pub struct Shown {
     /// The address of the first byte: 0 to 1,023.
     pub address: usize,
@@ -11,7 +11,7 @@ pub struct Shown {
 }
 
 /// What an accepted step is answered, in few bytes.
-#[derive(Clone, Copy, PartialEq, Eq, Debug)]
+#[derive(Clone, Copy)]
 pub enum Outcome {
     /// The call's answer; a POSIX error is the negative error number.
     Done(i64),
@@ -22,7 +22,7 @@ pub enum Outcome {
 }
 
 /// The signal that a step sends.
-#[derive(Clone, Copy, Debug)]
+#[derive(Clone, Copy)]
 pub enum Sends {
     Nothing,
     /// It is posted with the step.
@@ -32,7 +32,7 @@ pub enum Sends {
 }
 
 /// What a planned step comes to, beside its changes.
-#[derive(Clone, Copy, Debug)]
+#[derive(Clone, Copy)]
 pub struct Planned {
     /// Its answer.
     pub outcome: Outcome,

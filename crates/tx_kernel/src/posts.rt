@@ -23,7 +23,7 @@ use tx_proc::{Part, Proc};
 use tx_signal::{Queued, is_realtime, with};
 
 /// What of a process decides how a post to it is answered.
-#[derive(Clone, Copy, PartialEq, Eq, Debug)]
+#[derive(Clone, Copy)]
 pub struct Face {
     pub ids: Cred,
     /// Whether it has ended.

@@ -19,7 +19,7 @@ use tx_change::Log;
 use tx_signal::known;
 
 /// What a call that sends a signal comes to.
-#[derive(Clone, Copy, Debug)]
+#[derive(Clone, Copy)]
 pub(crate) enum Send {
     /// Nothing is sent, and this is the answer.
     Answers(i64),

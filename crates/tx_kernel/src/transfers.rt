@@ -30,7 +30,7 @@ use tx_pages::Access;
 use tx_pipe::Pipe;
 
 /// What a write comes to, where it is no error.
-#[derive(Clone, Copy, PartialEq, Eq, Debug)]
+#[derive(Clone, Copy)]
 pub(crate) enum Writing {
     /// No byte was asked for.
     Nothing,
@@ -43,7 +43,7 @@ pub(crate) enum Writing {
 }
 
 /// What a read comes to, where it is no error.
-#[derive(Clone, Copy, PartialEq, Eq, Debug)]
+#[derive(Clone, Copy)]
 pub(crate) enum Reading {
     /// No byte was asked for, or the pipe is empty and no writer is left.
     Nothing,

@@ -78,7 +78,7 @@ impl Content {
 }
 
 /// What the last step of a transaction came to.
-#[derive(Clone, Copy, Debug)]
+#[derive(Clone, Copy)]
 struct Last {
     planned: Planned,
     /// How many old parts of the log are its own.

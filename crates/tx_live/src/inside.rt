@@ -89,7 +89,7 @@ impl Content {
 }
 
 /// What a step inside of a transaction came to.
-#[derive(Clone, Copy, Debug)]
+#[derive(Clone, Copy)]
 struct Stepped {
     planned: Planned,
     /// How many old parts of the log are its own.

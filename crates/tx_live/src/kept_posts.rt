@@ -11,7 +11,7 @@ use tx_kernel::Sends;
 use tx_txn::Unpost;
 
 /// A post to what is kept of the starter of a live transaction.
-#[derive(Clone, Copy, Debug)]
+#[derive(Clone, Copy)]
 pub struct KeptPost {
     pub starter: Pid,
     pub unpost: Unpost,

@@ -8,7 +8,7 @@ ghost use Rattle.tx_model.specs.Membership.{defers_in, marks_after, new_mark, pa
 use tx_base::{Mark, Pid, Slots};
 
 /// What a step inside of a transaction does to who its members are.
-#[derive(Clone, Copy, PartialEq, Eq, Debug)]
+#[derive(Clone, Copy)]
 pub enum Progress {
     Continues,
     /// The member ends its part.
@@ -18,7 +18,7 @@ pub enum Progress {
 }
 
 /// A mark, or none, of a process number.
-#[derive(Clone, Copy, Debug)]
+#[derive(Clone, Copy)]
 pub struct Marked {
     pub pid: Pid,
     pub mark: Option<Mark>,

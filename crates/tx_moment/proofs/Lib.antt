@@ -1,3 +1,7 @@
+pub mod Resigned
+pub mod UnseenParts
+pub mod UnseenCalls
+pub mod UnseenEvents
 pub mod Shuffled
 pub mod OwnEvents
 pub mod Alike

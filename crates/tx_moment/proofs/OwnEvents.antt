@@ -6,7 +6,7 @@ use Rattle.tx_model.specs.Events.{Event, effect, objects, after, reply_of, run}
 use Rattle.tx_model.specs.Answer.{is_running}
 use Rattle.tx_laws.specs.Fits.{IsIn}
 use Rattle.tx_laws.specs.OneMoment.{is_sent_to}
-use Rattle.tx_unseen.specs.Unseen.{overlooks}
+use Rattle.tx_moment.specs.Unseen.{overlooks}
 
 -- an event of the transaction of s, made on a state: what it names is the transaction's, by a test; it sends to what is the transaction's, and nothing to s;
 -- and s is there and looks at none of its signals

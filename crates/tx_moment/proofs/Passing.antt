@@ -15,7 +15,7 @@ use Rattle.tx_laws.proofs.Objects.{same_true}
 use Rattle.tx_laws.proofs.Local.{after_width}
 use Rattle.tx_laws.proofs.Answered.{answers_known}
 use Rattle.tx_laws.proofs.Released.{lacks_both}
-use Rattle.tx_unseen.specs.Unseen.{Signals, resignalled_if, with_signals, LeavesSignals}
+use Rattle.tx_moment.specs.Unseen.{Signals, resignalled_if, with_signals, LeavesSignals}
 use Rattle.tx_moment.specs.Laws.{EventLaws}
 use Rattle.tx_moment.proofs.OwnEvents.{IsOwnEvent, AreOwnEvents, SameReplies, IsOfAnother, PassesOwn}
 use Rattle.tx_moment.proofs.PostsToOne.{signals_of, signalled, posts_alike, posts_still, posts_apart}

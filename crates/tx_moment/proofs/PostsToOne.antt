@@ -7,7 +7,7 @@ use Rattle.tx_model.specs.Posts.{may_signal, is_quiet, with_signal, room_answer,
 use Rattle.tx_model.specs.Answer.{is_running}
 use Rattle.tx_laws.specs.Fits.{IsIn}
 use Rattle.tx_laws.proofs.Agree.{part_refl, part_trans}
-use Rattle.tx_unseen.specs.Unseen.{Signals}
+use Rattle.tx_moment.specs.Unseen.{Signals}
 
 -- what is pending at the process
 abbrev pub signals_of : Process → Signals

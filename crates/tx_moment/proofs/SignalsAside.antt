@@ -8,7 +8,7 @@ use Rattle.tx_model.specs.Events.{Event, effect, objects, after}
 use Rattle.tx_model.specs.Answer.{is_running}
 use Rattle.tx_laws.proofs.Agree.{agree_refl, KeepsFamily, edited_at, received_keeps, noted_keeps}
 use Rattle.tx_laws.proofs.Elsewhere.{written_else, event_fits}
-use Rattle.tx_unseen.specs.Unseen.{Signals, resignalled, resignalled_if, with_signals}
+use Rattle.tx_moment.specs.Unseen.{Signals, resignalled, resignalled_if, with_signals}
 use Rattle.tx_moment.proofs.PostsToOne.{signalled}
 
 -- a function that sees no change in the edit of one process sees none in the processes

@@ -22,7 +22,7 @@ use Rattle.tx_laws.proofs.Objects.{has_right}
 use Rattle.tx_laws.proofs.Local.{actor_in}
 use Rattle.tx_moment.specs.Laws.{MomentLaws}
 use Rattle.tx_moment.proofs.OwnEvents.{IsOwnEvent}
-use Rattle.tx_unseen.specs.Unseen.{overlooks}
+use Rattle.tx_moment.specs.Unseen.{overlooks}
 
 neither : (x y : Bool) → (x || y) ≡ false → (x ≡ false) × (y ≡ false)
 neither true y h = cc

@@ -9,7 +9,7 @@ use Rattle.tx_laws.specs.Laws.{LawfulViewIsSound}
 use Rattle.tx_laws.specs.LawsOfOthers.{HistoriesAgree, EntriesFit, ObjectsOfOthersApart, AnswersWithoutOthers, SameEventKeeps}
 use Rattle.tx_laws.specs.WellFormed.{IsWellFormed}
 use Rattle.tx_laws.specs.WellFormedTable.{HoldsNothing, IsWellFormedWith}
-use Rattle.tx_unseen.specs.Unseen.{UnseenSignalsStay, UnseenObjectsStay, UnseenRepliesStay}
+use Rattle.tx_moment.specs.Unseen.{UnseenSignalsStay, UnseenObjectsStay, UnseenRepliesStay}
 
 -- the laws of single events that this stands on
 pub record EventLaws : Type 0 where

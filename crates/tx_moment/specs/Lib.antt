@@ -1,3 +1,4 @@
+pub mod Unseen
 pub mod Shuffles
 pub mod Moments
 pub mod Laws

@@ -1,8 +1,8 @@
 //! The laws that a moment stands on.
 ghost use Rattle.tx_moment.specs.Laws.{MomentLaws};
 
+use crate::unseen::unseen_signals;
 use tx_laws::{agreement, entries, locality, next_view, well_formed_table};
-use tx_unseen::unseen_signals;
 
 /// The laws on which the proof of a moment stands. It does nothing.
 pub(crate) fn laws()

@@ -2,11 +2,13 @@
 #![tactic(auto)]
 
 mod laws;
+mod unseen;
 
 ghost use Rattle.tx_moment.specs.Moments.{BootedHistoriesHaveMoments, CommitsAreMoments, PartsAreShuffled};
 
 use crate::laws::laws;
 use tx_laws::{well_formed, well_formed_table};
+pub use unseen::unseen_signals;
 
 /// A committed transaction whose starter looked at none of its signals, and was sent none by a member's
 /// step, may count as done at the moment of its commit: with its steps put directly before the step that

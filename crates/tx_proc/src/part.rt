@@ -11,7 +11,7 @@ use tx_pages::Page;
 use tx_signal::{Action, Pending, Queued, SigSet};
 
 /// What a call leaves in the registers: the point after it, and its answer.
-#[derive(Clone, Copy, PartialEq, Eq, Debug)]
+#[derive(Clone, Copy)]
 pub struct Answer {
     pub point: u32,
     pub ret: i64,
@@ -31,7 +31,7 @@ impl Answer {
 }
 
 /// What a slot of the registers keeps: slots 0 to 7.
-#[derive(Clone, Copy, PartialEq, Eq, Debug)]
+#[derive(Clone, Copy)]
 pub struct Register {
     pub number: usize,
     pub value: i64,

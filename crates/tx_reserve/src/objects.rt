@@ -15,7 +15,7 @@ const WORDS: usize = 11;
 const PROC_WORDS: usize = 8;
 
 /// What steps name and transactions reserve.
-#[derive(Clone, Copy, PartialEq, Eq, Debug)]
+#[derive(Clone, Copy)]
 pub enum Object {
     Proc(Pid),
     Desc(DescNo),
@@ -53,7 +53,7 @@ impl Object {
 }
 
 /// A set of processes 1 to 256, descriptions 0 to 63 and pipes 0 to 31.
-#[derive(Clone, Copy, Debug)]
+#[derive(Clone, Copy)]
 pub struct Objects {
     words: [u32; WORDS],
 }

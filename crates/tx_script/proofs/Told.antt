@@ -1,9 +1,9 @@
 -- The answer to a text that was read.
 use Rattle.std.proofs.Common.{◌≡◌, ℕ, List, Result, Ok, Err, IfOk, IfErr, String, string_bytes, sym, subst}
 use Rattle.tx_script.specs.Grammars.{Grammar, AnswersText}
-use Rattle.tx_script.specs.Schedule.{FaultsBy}
-use Rattle.tx_script.specs.declared.faults.Fault.{Fault}
-use Rattle.tx_script.specs.declared.faults.Fault.TheVariants.{NoMemory}
+use Rattle.tx_lines.specs.Schedule.{FaultsBy}
+use Rattle.tx_lines.specs.declared.faults.Fault.{Fault}
+use Rattle.tx_lines.specs.declared.faults.Fault.TheVariants.{NoMemory}
 
 -- where the only fault is want of memory
 pub answers_text : {A B : Type 0} (G : Grammar A) (text : List ℕ) (spelled : A) (result : Result (String B) Fault) → G.IsGood spelled → text ≡ G.text spelled

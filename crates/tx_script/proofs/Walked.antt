@@ -17,8 +17,8 @@ use Rattle.tx_model.specs.State.{State, booted}
 use Rattle.tx_model.specs.View.{View, view}
 use Rattle.tx_script.proofs.Reported.{replied_answer}
 use Rattle.tx_script.specs.Debug.{answers_at, command_answer, first_steps, position_after, position_text}
-use Rattle.tx_script.specs.declared.read.command.Command.{Command}
-use Rattle.tx_script.specs.declared.read.command.Command.TheVariants.{Forward}
+use Rattle.tx_lines.specs.declared.read.command.Command.{Command}
+use Rattle.tx_lines.specs.declared.read.command.Command.TheVariants.{Forward}
 
 history_length : (entries : List Entry) → length (history_of entries) ≡ length entries
 history_length entries = length-reverse (map accepted_of entries) ∙ length-map entries accepted_of

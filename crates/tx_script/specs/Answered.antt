@@ -1,11 +1,11 @@
 -- How a text is read from one end, and its answer written to another.
 use Rattle.std.specs.Prelude.{◌≡◌, ℕ, ◌+◌, ◌<◌, ◌≤◌, List, Option, length, take, ◌⊎◌, Result, Ok, Err, IfSome}
 use Rattle.std.specs.Io.KnownBytes.{Appends, Keeps}
-use Rattle.tx_script.specs.Ends.{Counts}
+use Rattle.tx_lines.specs.Ends.{Counts}
 use Rattle.tx_script.specs.Grammars.{Grammar}
-use Rattle.tx_script.specs.Whole.{IsCalm}
-use Rattle.tx_script.specs.declared.faults.Fault.{Fault}
-use Rattle.tx_script.specs.declared.faults.Fault.TheVariants.{NotALine, NoLabel, TooLong, Reader, Writer, NoMemory}
+use Rattle.tx_lines.specs.Whole.{IsCalm}
+use Rattle.tx_lines.specs.declared.faults.Fault.{Fault}
+use Rattle.tx_lines.specs.declared.faults.Fault.TheVariants.{NotALine, NoLabel, TooLong, Reader, Writer, NoMemory}
 
 -- what was left to read spells that
 pub record Spells {A : Type 0} (G : Grammar A) (left : Option (List ℕ)) (spelled : A) : Type 0 where

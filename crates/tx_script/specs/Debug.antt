@@ -8,10 +8,10 @@ use Rattle.tx_model.specs.Schedules.{history_of}
 use Rattle.tx_model.specs.State.{State as Start}
 use Rattle.tx_model.specs.View.{View, view}
 use Rattle.tx_script.specs.Report.{start_state}
-use Rattle.tx_script.specs.declared.read.command.Command.{Command}
-use Rattle.tx_script.specs.declared.read.command.Command.TheVariants.{Back, Forward, Goto, State, Moved}
-use Rattle.tx_script.specs.declared.read.header.Header.{Header}
-use Rattle.tx_text.specs.Lists.{list_text}
+use Rattle.tx_lines.specs.declared.read.command.Command.{Command}
+use Rattle.tx_lines.specs.declared.read.command.Command.TheVariants.{Back, Forward, Goto, State, Moved}
+use Rattle.tx_lines.specs.declared.read.header.Header.{Header}
+use Rattle.tx_lines.specs.Lists.{list_text}
 use Rattle.tx_text.specs.State.{state_text}
 
 -- the first so many steps of a history, the newest first

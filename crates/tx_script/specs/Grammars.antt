@@ -3,11 +3,11 @@ use Rattle.std.specs.Prelude.{◌≡◌, List, ℕ, Result, Ok, Err, String, str
 use Rattle.tx_base.specs.declared.steps.Step.{Step}
 use Rattle.tx_script.specs.Debug.{walk_answers}
 use Rattle.tx_script.specs.Report.{report_text}
-use Rattle.tx_script.specs.Schedule.{schedule_text, FaultsBy, IsFaultOf, IsSchedule}
-use Rattle.tx_script.specs.Walks.{walk_text, IsWalk, IsWalkFault}
-use Rattle.tx_script.specs.declared.faults.Fault.{Fault}
-use Rattle.tx_script.specs.declared.read.command.Command.{Command}
-use Rattle.tx_script.specs.declared.read.header.Header.{Header}
+use Rattle.tx_lines.specs.Schedule.{schedule_text, FaultsBy, IsFaultOf, IsSchedule}
+use Rattle.tx_lines.specs.Walks.{walk_text, IsWalk, IsWalkFault}
+use Rattle.tx_lines.specs.declared.faults.Fault.{Fault}
+use Rattle.tx_lines.specs.declared.read.command.Command.{Command}
+use Rattle.tx_lines.specs.declared.read.header.Header.{Header}
 
 -- what texts of a kind spell, and how; where a text that is none is at fault; and what answers a text
 pub record Grammar (A : Type 0) : Type 1 where

@@ -6,8 +6,8 @@ use Rattle.tx_base.specs.declared.steps.Step.{Step}
 use Rattle.tx_model.specs.Schedules.{answers_of, history_of}
 use Rattle.tx_model.specs.State.{State, booted}
 use Rattle.tx_model.specs.View.{View, view}
-use Rattle.tx_script.specs.declared.read.header.Header.{Header}
-use Rattle.tx_script.specs.Lines.{most_of}
+use Rattle.tx_lines.specs.declared.read.header.Header.{Header}
+use Rattle.tx_lines.specs.Lines.{most_of}
 use Rattle.tx_text.specs.Replies.{reply_text}
 use Rattle.tx_text.specs.State.{state_text}
 

@@ -8,11 +8,11 @@ use Rattle.tx_journal.specs.Entries.{history_of}
 use Rattle.tx_journal.specs.Sessions.{made_of, start_of, Kept}
 use Rattle.tx_journal.specs.declared.entry.Entry.{Entry}
 use Rattle.tx_model.specs.View.{view}
-use Rattle.tx_script.specs.Ends.{Counts}
-use Rattle.tx_script.specs.Lines.{step_text}
-use Rattle.tx_script.specs.Whole.{WritesWhole}
-use Rattle.tx_script.specs.declared.faults.Fault.{Fault}
-use Rattle.tx_script.specs.declared.faults.Fault.TheVariants.{NoMemory}
+use Rattle.tx_lines.specs.Ends.{Counts}
+use Rattle.tx_lines.specs.Lines.{step_text}
+use Rattle.tx_lines.specs.Whole.{WritesWhole}
+use Rattle.tx_lines.specs.declared.faults.Fault.{Fault}
+use Rattle.tx_lines.specs.declared.faults.Fault.TheVariants.{NoMemory}
 use Rattle.tx_text.specs.Replies.{reply_text}
 use Rattle.tx_text.specs.State.{state_text}
 

@@ -1,15 +1,12 @@
 //! Reads a schedule and commands, and writes what each command answers.
 ghost use Rattle.std.specs.Prelude.{◌≡◌};
 ghost use Rattle.tx_script.specs.Answered.{Answers};
-ghost use Rattle.tx_script.specs.Ends.{IsFresh};
+ghost use Rattle.tx_lines.specs.Ends.{IsFresh};
 ghost use Rattle.tx_script.specs.Grammars.{walks, AnswersText};
 
-use crate::ends::flow::{Sink, Source};
-use crate::ends::whole::{read_whole, write_whole};
-use crate::faults::Fault;
-use crate::read::walk_text::read_walk;
 use crate::walks::answer_walk;
 use std::alloc::Global;
+use tx_lines::{Fault, Sink, Source, read_walk, read_whole, write_whole};
 
 /// Reads the text of a schedule, the line `debug` and commands to its end, makes the steps, and
 /// writes what the commands answer: each is about the history of the schedule and the position

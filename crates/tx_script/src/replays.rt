@@ -1,15 +1,12 @@
 //! Reads a schedule, runs it, and writes the report.
 ghost use Rattle.std.specs.Prelude.{◌≡◌};
 ghost use Rattle.tx_script.specs.Answered.{Answers};
-ghost use Rattle.tx_script.specs.Ends.{IsFresh};
+ghost use Rattle.tx_lines.specs.Ends.{IsFresh};
 ghost use Rattle.tx_script.specs.Grammars.{schedules, AnswersText};
 
-use crate::ends::flow::{Sink, Source};
-use crate::ends::whole::{read_whole, write_whole};
-use crate::faults::Fault;
-use crate::read::text::read_schedule;
 use crate::reports::report;
 use std::alloc::Global;
+use tx_lines::{Fault, Sink, Source, read_schedule, read_whole, write_whole};
 
 /// Reads the text of a schedule to its end, runs it, and writes the report. Nothing is written
 /// where the fault is another one than `Writer`.

@@ -6,18 +6,16 @@ ghost use Rattle.tx_core.specs.Runs.{IsAfter};
 ghost use Rattle.tx_model.specs.Answer.{answer};
 ghost use Rattle.tx_model.specs.Schedules.{recorded, answers_of, history_of};
 ghost use Rattle.tx_model.specs.State.{State};
-ghost use Rattle.tx_script.specs.Lines.{FitsHeader};
+ghost use Rattle.tx_lines.specs.Lines.{FitsHeader};
 ghost use Rattle.tx_script.specs.Report.{line_text, lines_text, report_text, start_of};
-ghost use Rattle.tx_script.specs.declared.faults.Fault.TheVariants.{NoMemory};
+ghost use Rattle.tx_lines.specs.declared.faults.Fault.TheVariants.{NoMemory};
 
-use crate::faults::Fault;
-use crate::read::header::{Header, Version};
-use crate::read::schedule::Schedule;
 use std::alloc::{AllocError, Global};
 use tx_base::{ABORTED_BY_CALL, Reply, Step};
 use tx_core::Machine;
+use tx_lines::{Fault, Header, Schedule, Version, put, put_count};
 use tx_live::Inverse;
-use tx_text::{put, put_count, put_reply, put_state};
+use tx_text::{put_reply, put_state};
 
 /// The report of a schedule: a line for each step's reply, and the text of the state after the
 /// last one. The only fault is `NoMemory`.

@@ -1,18 +1,14 @@
 //! Writes a run: its entries, and the state.
 ghost use Rattle.std.specs.Prelude.{◌≡◌, ◌++◌, IfErr, IfOk, OnOk, string_bytes};
-ghost use Rattle.tx_script.specs.Ends.{IsFresh};
+ghost use Rattle.tx_lines.specs.Ends.{IsFresh};
 ghost use Rattle.tx_script.specs.Run.{WritesText, entry_line, numbered, run_line, run_text};
-ghost use Rattle.tx_script.specs.declared.faults.Fault.TheVariants.{NoMemory};
+ghost use Rattle.tx_lines.specs.declared.faults.Fault.TheVariants.{NoMemory};
 
-use crate::ends::flow::Sink;
-use crate::ends::whole::write_whole;
-use crate::faults::Fault;
-use crate::print::shapes::put_count_first;
-use crate::print::steps::put_step;
 use std::alloc::{AllocError, Global};
 use tx_base::{Reply, Step};
 use tx_journal::Session;
-use tx_text::{put, put_count, put_reply, put_state};
+use tx_lines::{Fault, Sink, put, put_count, put_count_first, put_step, write_whole};
+use tx_text::{put_reply, put_state};
 
 /// Writes the entries of a session, a line each with its worker, its step and its reply, and the state at
 /// the position. Nothing is written where the fault is `NoMemory`; the only other one is `Writer`.

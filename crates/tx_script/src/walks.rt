@@ -7,21 +7,17 @@ ghost use Rattle.tx_model.specs.Answer.{answer};
 ghost use Rattle.tx_model.specs.Schedules.{recorded, history_of as history_after};
 ghost use Rattle.tx_model.specs.View.{view};
 ghost use Rattle.tx_script.specs.Debug.{answers_at, command_answer, moved_text, position_after, position_text, told_text, view_at, walk_answers};
-ghost use Rattle.tx_script.specs.Lines.{FitsHeader};
+ghost use Rattle.tx_lines.specs.Lines.{FitsHeader};
 ghost use Rattle.tx_script.specs.Report.{start_state};
-ghost use Rattle.tx_script.specs.declared.faults.Fault.TheVariants.{NoMemory};
-ghost use Rattle.tx_script.specs.declared.read.command.Command.TheVariants as command;
+ghost use Rattle.tx_lines.specs.declared.faults.Fault.TheVariants.{NoMemory};
+ghost use Rattle.tx_lines.specs.declared.read.command.Command.TheVariants as command;
 ghost use Rattle.tx_text.specs.State.{state_text};
 
-use crate::faults::Fault;
-use crate::print::lists::put_numbers;
-use crate::read::command::Command;
-use crate::read::header::{Header, Version};
-use crate::read::walk::Walk;
 use std::alloc::{AllocError, Global};
 use tx_base::Step;
 use tx_journal::{AtStart, ForwardFault, GotoFault, Moved, MovedFault, Session};
-use tx_text::{put, put_count, put_state};
+use tx_lines::{Command, Fault, Header, Version, Walk, put, put_count, put_numbers};
+use tx_text::put_state;
 
 /// The worker that makes the steps of a schedule.
 const WORKER: u16 = 1;

@@ -14,7 +14,7 @@ use std::mem;
 use tx_base::{FRAMES, Regs, SigSet};
 
 /// What a caught signal saved: the registers and the mask, as they were before it.
-#[derive(Clone, Copy, Debug)]
+#[derive(Clone, Copy)]
 pub struct Frame {
     pub registers: Regs,
     pub mask: SigSet,

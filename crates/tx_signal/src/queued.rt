@@ -4,7 +4,7 @@ use tx_base::Signo;
 
 /// A realtime signal in the queue, with the value that it brings. Its number is 32 to 39.
 /// POSIX.1-2017, XSH, sigqueue().
-#[derive(Clone, Copy, PartialEq, Debug)]
+#[derive(Clone, Copy)]
 pub struct Queued {
     pub signo: Signo,
     pub value: i64,

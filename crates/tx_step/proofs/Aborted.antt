@@ -8,8 +8,8 @@ use Rattle.tx_base.specs.declared.steps.Reply.TheVariants.{Aborted, No}
 use Rattle.tx_base.specs.declared.steps.Refusal.TheVariants.{NoTransaction}
 use Rattle.tx_base.specs.declared.steps.Step.{Step}
 use Rattle.tx_base.specs.declared.steps.Step.TheVariants.{Call as Calls, Deliver, KernelAbort}
-use Rattle.tx_judge.specs.Contents.{IsContent}
-use Rattle.tx_judge.specs.declared.roles.StepRole.TheVariants as the
+use Rattle.tx_step.specs.Contents.{IsContent}
+use Rattle.tx_step.specs.declared.roles.StepRole.TheVariants as the
 use Rattle.tx_laws.specs.TwoParts.{parts_view}
 use Rattle.tx_live.specs.Content.{content_of, txn_of, view_of}
 use Rattle.tx_live.specs.Made.{IsMade}

@@ -9,8 +9,8 @@ use Rattle.tx_base.specs.declared.steps.Reply.{Reply}
 use Rattle.tx_base.specs.declared.steps.Reply.TheVariants.{Done}
 use Rattle.tx_base.specs.declared.steps.Step.{Step}
 use Rattle.tx_base.specs.declared.steps.Step.TheVariants.{Call as Calls, Deliver}
-use Rattle.tx_judge.specs.Contents.{IsContent}
-use Rattle.tx_judge.specs.declared.roles.StepRole.TheVariants as the
+use Rattle.tx_step.specs.Contents.{IsContent}
+use Rattle.tx_step.specs.declared.roles.StepRole.TheVariants as the
 use Rattle.tx_laws.specs.TwoParts.{is_owner, parts_view}
 use Rattle.tx_live.specs.Begins.{IsAlone}
 use Rattle.tx_live.specs.Content.{owner_at, view_of}

@@ -2,7 +2,7 @@
 use Rattle.std.proofs.Common.{◌≡◌, ℕ, Bool, true, false, List, [], ◌∷◌, ◌++◌, Option, Some, None, if◌then◌else◌, ◌==◌, refl, sym, ap, ◌∙◌, eq-eqb, eqb-true}
 use Rattle.tx_base.specs.Slots.{slot_at}
 use Rattle.tx_base.specs.declared.marks.Mark.{Mark}
-use Rattle.tx_judge.specs.Contents.{IsContent}
+use Rattle.tx_step.specs.Contents.{IsContent}
 use Rattle.tx_laws.specs.Footprints.{is_shared}
 use Rattle.tx_laws.specs.TwoParts.{is_owner, parts_view}
 use Rattle.tx_live.specs.Content.{content_of, now_of, owner_at, view_of}

@@ -7,8 +7,8 @@ use Rattle.tx_base.specs.declared.names.Pid.{Pid}
 use Rattle.tx_base.specs.declared.steps.Refusal.TheVariants.{NoMemory}
 use Rattle.tx_base.specs.declared.steps.Reply.TheVariants.{Ended}
 use Rattle.tx_base.specs.declared.steps.Step.{Step}
-use Rattle.tx_judge.specs.Contents.{IsContent}
-use Rattle.tx_judge.specs.declared.roles.StepRole.TheVariants as role
+use Rattle.tx_step.specs.Contents.{IsContent}
+use Rattle.tx_step.specs.declared.roles.StepRole.TheVariants as role
 use Rattle.tx_kernel.specs.Acts.{event_of}
 use Rattle.tx_kernel.specs.declared.events.Act.{Act}
 use Rattle.tx_laws.specs.Fits.{Fits}

@@ -4,9 +4,9 @@ use Rattle.tx_base.specs.Slots.{slot_at}
 use Rattle.tx_base.specs.declared.names.Pid.{Pid}
 use Rattle.tx_base.specs.declared.steps.Refusal.{Refusal}
 use Rattle.tx_base.specs.declared.steps.Reply.TheVariants.{Ended}
-use Rattle.tx_judge.specs.Contents.{IsContent}
-use Rattle.tx_judge.specs.Late.{IsWhyNot}
-use Rattle.tx_judge.specs.declared.roles.StepRole.TheVariants as role
+use Rattle.tx_step.specs.Contents.{IsContent}
+use Rattle.tx_step.specs.Late.{IsWhyNot}
+use Rattle.tx_step.specs.declared.roles.StepRole.TheVariants as role
 use Rattle.tx_kernel.specs.Acts.{event_of}
 use Rattle.tx_kernel.specs.declared.events.Act.{Act}
 use Rattle.tx_kernel.specs.declared.planned.Outcome.{Outcome}

@@ -5,9 +5,9 @@ use Rattle.tx_base.specs.declared.marks.Mark.{Mark}
 use Rattle.tx_base.specs.declared.names.Pid.{Pid}
 use Rattle.tx_base.specs.declared.steps.Refusal.{Refusal}
 use Rattle.tx_base.specs.declared.steps.Reply.TheVariants.{Ended}
-use Rattle.tx_judge.specs.Contents.{IsContent}
-use Rattle.tx_judge.specs.Late.{IsWhyNot}
-use Rattle.tx_judge.specs.declared.roles.StepRole.TheVariants as role
+use Rattle.tx_step.specs.Contents.{IsContent}
+use Rattle.tx_step.specs.Late.{IsWhyNot}
+use Rattle.tx_step.specs.declared.roles.StepRole.TheVariants as role
 use Rattle.tx_kernel.specs.Acts.{event_of}
 use Rattle.tx_kernel.specs.Plans.{reply_of as reply_with}
 use Rattle.tx_kernel.specs.declared.events.Act.{Act}

@@ -10,10 +10,10 @@ use Rattle.tx_base.specs.declared.steps.Refusal.TheVariants.{NoProcess, NotRunni
 use Rattle.tx_base.specs.declared.steps.Reply.TheVariants.{No}
 use Rattle.tx_base.specs.declared.steps.Step.{Step}
 use Rattle.tx_base.specs.declared.steps.Step.TheVariants.{Call as Calls}
-use Rattle.tx_judge.specs.Contents.{IsContent}
-use Rattle.tx_judge.specs.Early.{early_refusal}
-use Rattle.tx_judge.specs.Late.{IsWhyNot}
-use Rattle.tx_judge.specs.declared.roles.StepRole.{StepRole}
+use Rattle.tx_step.specs.Contents.{IsContent}
+use Rattle.tx_step.specs.Early.{early_refusal}
+use Rattle.tx_step.specs.Late.{IsWhyNot}
+use Rattle.tx_step.specs.declared.roles.StepRole.{StepRole}
 use Rattle.tx_laws.specs.Footprints.{is_abort}
 use Rattle.tx_laws.specs.TwoParts.{parts_view}
 use Rattle.tx_live.specs.Content.{now_of, view_of}

@@ -9,8 +9,8 @@ use Rattle.tx_base.specs.declared.steps.Reply.TheVariants.{Done, Ended, Committe
 use Rattle.tx_base.specs.declared.steps.Step.{Step}
 use Rattle.tx_change.specs.declared.change.Change.{Change}
 use Rattle.std.specs.Option.{option_or}
-use Rattle.tx_judge.specs.Contents.{IsContent}
-use Rattle.tx_judge.specs.declared.roles.StepRole.{StepRole}
+use Rattle.tx_step.specs.Contents.{IsContent}
+use Rattle.tx_step.specs.declared.roles.StepRole.{StepRole}
 use Rattle.tx_kernel.specs.Plans.{AreAmong}
 use Rattle.tx_laws.specs.Commuting.{named_by}
 use Rattle.tx_laws.specs.Fits.{ends_it, Fits, Passes}

@@ -1,6 +1,6 @@
 -- The laws that steps stand on.
-use Rattle.tx_judge.specs.Contents.{ContentsAreWhole}
-use Rattle.tx_judge.specs.Early.{RefusalIsEarly}
+use Rattle.tx_step.specs.Contents.{ContentsAreWhole}
+use Rattle.tx_step.specs.Early.{RefusalIsEarly}
 use Rattle.tx_laws.specs.Endings.{EndingsAreAnswered}
 use Rattle.tx_laws.specs.Footprints.{ClearIsOfMembers, FootprintIsOfEvent, NoHolderIsClear}
 use Rattle.tx_laws.specs.Laws.{AcceptedStepsFit, NextIsWellFormed}

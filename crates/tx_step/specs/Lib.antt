@@ -1,3 +1,11 @@
+pub mod Early
+pub mod RefusalLaws
+pub mod Contents
+pub mod Faces
+pub mod Holder
+pub mod Roles
+pub mod Ways
+pub mod Late
 pub mod Asks
 pub mod Laws
 pub mod Steps

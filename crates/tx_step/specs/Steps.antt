@@ -10,7 +10,7 @@ use Rattle.tx_base.specs.declared.steps.Reply.{Reply}
 use Rattle.tx_base.specs.declared.steps.Reply.TheVariants as reply
 use Rattle.tx_base.specs.declared.steps.Step.{Step}
 use Rattle.tx_base.specs.declared.steps.Step.TheVariants.{Call as Calls, KernelAbort}
-use Rattle.tx_judge.specs.Contents.{IsContent}
+use Rattle.tx_step.specs.Contents.{IsContent}
 use Rattle.tx_kernel.specs.Plans.{memory_in, reply_of}
 use Rattle.tx_laws.specs.Fits.{ends_it}
 use Rattle.tx_live.specs.Commits.{missed_of}

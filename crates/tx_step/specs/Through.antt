@@ -1,9 +1,9 @@
 -- A step that nothing refuses before it is made.
 use Rattle.std.specs.Prelude.{◌≡◌, None}
 use Rattle.tx_base.specs.declared.names.Pid.{Pid}
-use Rattle.tx_judge.specs.Early.{early_refusal}
-use Rattle.tx_judge.specs.Roles.{role_as}
-use Rattle.tx_judge.specs.declared.roles.StepRole.{StepRole}
+use Rattle.tx_step.specs.Early.{early_refusal}
+use Rattle.tx_step.specs.Roles.{role_as}
+use Rattle.tx_step.specs.declared.roles.StepRole.{StepRole}
 use Rattle.tx_live.specs.Content.{view_of}
 use Rattle.tx_live.specs.declared.content.Content.{Content}
 use Rattle.tx_model.specs.View.{event_on, holder, role_on}

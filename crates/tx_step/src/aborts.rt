@@ -2,8 +2,8 @@
 ghost use Rattle.std.specs.Prelude.{◌≡◌, ◌↔◌, true, Ok, IfSome, IsSome, IfNone};
 ghost use Rattle.tx_base.specs.declared.steps.Reply.TheVariants as reply;
 ghost use Rattle.tx_base.specs.declared.steps.Step.TheVariants.{KernelAbort};
-ghost use Rattle.tx_judge.specs.Contents.{IsContent};
-ghost use Rattle.tx_judge.specs.declared.roles.StepRole.TheVariants as role;
+ghost use Rattle.tx_step.specs.Contents.{IsContent};
+ghost use Rattle.tx_step.specs.declared.roles.StepRole.TheVariants as role;
 ghost use Rattle.tx_live.specs.Content.{view_of};
 ghost use Rattle.tx_model.specs.Membership.{is_live};
 ghost use Rattle.tx_model.specs.View.{kernel_status};

@@ -2,7 +2,7 @@
 use tx_kernel::Outcome;
 
 /// What an accepted step is answered, in few bytes.
-#[derive(Clone, Copy, PartialEq, Eq, Debug)]
+#[derive(Clone, Copy)]
 pub enum Answered {
     /// What its process did.
     Acted(Outcome),

@@ -4,9 +4,9 @@ ghost use Rattle.tx_base.specs.Slots.{slot_at};
 ghost use Rattle.tx_base.specs.declared.marks.Mark.{Mark as TheMark};
 ghost use Rattle.tx_base.specs.declared.names.Pid.{Pid as ThePid};
 ghost use Rattle.tx_base.specs.declared.steps.Step.TheVariants.{Call as Calls};
-ghost use Rattle.tx_judge.specs.Contents.{IsContent};
-ghost use Rattle.tx_judge.specs.Early.{early_refusal};
-ghost use Rattle.tx_judge.specs.Roles.{role_as};
+ghost use Rattle.tx_step.specs.Contents.{IsContent};
+ghost use Rattle.tx_step.specs.Early.{early_refusal};
+ghost use Rattle.tx_step.specs.Roles.{role_as};
 ghost use Rattle.tx_kernel.specs.Acts.{event_of};
 ghost use Rattle.tx_live.specs.Content.{view_of};
 ghost use Rattle.tx_live.specs.Insides.{IsFootprint};
@@ -19,11 +19,11 @@ ghost use Rattle.tx_reserve.specs.Objects.{is_in};
 ghost use Rattle.tx_reserve.specs.Reservations.{number_of};
 ghost use Rattle.tx_step.specs.Asks.{IsActOf, is_own, step_of};
 
+use crate::early::{early_refusal_of_call, early_refusal_of_delivery};
+use crate::refusal_laws::contents_are_whole;
+use crate::roles::{StepRole, role_of_call, role_of_delivery};
+use crate::ways::{way_of_call, way_of_delivery};
 use tx_base::{Call, Pid, Refusal, Signo};
-use tx_judge::{
-    StepRole, contents_are_whole, early_refusal_of_call, early_refusal_of_delivery, role_of_call,
-    role_of_delivery, way_of_call, way_of_delivery,
-};
 use tx_kernel::Act;
 use tx_live::Content;
 use tx_reserve::Objects;

@@ -1,6 +1,6 @@
 //! Steps that begin a transaction.
-ghost use Rattle.tx_judge.specs.Contents.{IsContent};
-ghost use Rattle.tx_judge.specs.declared.roles.StepRole.TheVariants as role;
+ghost use Rattle.tx_step.specs.Contents.{IsContent};
+ghost use Rattle.tx_step.specs.declared.roles.StepRole.TheVariants as role;
 ghost use Rattle.tx_step.specs.Asks.{step_of};
 ghost use Rattle.tx_step.specs.Steps.{Takes};
 ghost use Rattle.tx_step.specs.Through.{IsLetThrough};

@@ -1,6 +1,6 @@
 //! Steps of members, after which their transaction is live.
-ghost use Rattle.tx_judge.specs.Contents.{IsContent};
-ghost use Rattle.tx_judge.specs.declared.roles.StepRole.TheVariants as role;
+ghost use Rattle.tx_step.specs.Contents.{IsContent};
+ghost use Rattle.tx_step.specs.declared.roles.StepRole.TheVariants as role;
 ghost use Rattle.tx_live.specs.Content.{view_of};
 ghost use Rattle.tx_live.specs.Insides.{IsFootprint};
 ghost use Rattle.tx_model.specs.View.{event_on};
@@ -10,10 +10,10 @@ ghost use Rattle.tx_step.specs.Through.{IsLetThrough};
 
 use crate::answered::Answered;
 use crate::asked::Asked;
+use crate::late::late_refusal;
 use crate::laws::laws;
 use std::alloc::Global;
 use tx_base::{NoMemory, Pid, Refusal};
-use tx_judge::late_refusal;
 use tx_live::{Content, Inverse, Progress};
 use tx_reserve::Objects;
 

@@ -1,7 +1,7 @@
 //! The laws that steps stand on.
 ghost use Rattle.tx_step.specs.Laws.{StepLaws};
 
-use tx_judge::{contents_are_whole, refusals_are_early};
+use crate::refusal_laws::{contents_are_whole, refusals_are_early};
 use tx_laws::{
     answers_of_parts, endings, footprints, step_by_step, well_formed, well_formed_table,
 };

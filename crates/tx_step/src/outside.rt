@@ -1,16 +1,16 @@
 //! Steps of processes that are in no transaction.
-ghost use Rattle.tx_judge.specs.Contents.{IsContent};
-ghost use Rattle.tx_judge.specs.declared.roles.StepRole.TheVariants as role;
+ghost use Rattle.tx_step.specs.Contents.{IsContent};
+ghost use Rattle.tx_step.specs.declared.roles.StepRole.TheVariants as role;
 ghost use Rattle.tx_step.specs.Asks.{step_of};
 ghost use Rattle.tx_step.specs.Steps.{Takes};
 ghost use Rattle.tx_step.specs.Through.{IsLetThrough};
 
 use crate::answered::Answered;
 use crate::asked::Asked;
+use crate::late::late_refusal;
 use crate::laws::laws;
 use std::alloc::Global;
 use tx_base::{NoMemory, Pid, Refusal};
-use tx_judge::late_refusal;
 use tx_live::{Content, Inverse};
 
 /// Makes what a process is asked to do that is in no transaction.

@@ -1,6 +1,6 @@
 //! Steps of processes.
 ghost use Rattle.tx_base.specs.declared.steps.Step.TheVariants.{Call as Calls, Deliver};
-ghost use Rattle.tx_judge.specs.Contents.{IsContent};
+ghost use Rattle.tx_step.specs.Contents.{IsContent};
 ghost use Rattle.tx_live.specs.Content.{view_of};
 ghost use Rattle.tx_live.specs.Insides.{IsFootprint};
 ghost use Rattle.tx_model.specs.View.{event_on};
@@ -16,9 +16,9 @@ use crate::ends::take_end;
 use crate::inside::take_inside;
 use crate::laws::laws;
 use crate::outside::take_outside;
+use crate::roles::StepRole;
 use std::alloc::Global;
 use tx_base::{Call, Pid, Refusal, Signo};
-use tx_judge::StepRole;
 use tx_live::{Content, Inverse};
 use tx_reserve::Objects;
 

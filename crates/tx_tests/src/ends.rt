@@ -1,8 +1,13 @@
 //! Whole texts, from readers and to writers that are interrupted or fail.
+use crate::programs::{PROGRAM, RUN, RUN_STEPS};
+use crate::sessions::session_of;
 use std::alloc::Global;
 use std::io::{Error, ErrorKind, Read, Result, Write};
+use std::result;
 use std::test::Fail;
-use tx_script::{Fault, OverRead, OverWrite, read_whole, write_whole};
+use tx_journal::Session;
+use tx_lines::{Fault, OverRead, OverWrite, read_program, read_schedule};
+use tx_script::{debug, replay, write_run};
 
 /// A reader that is interrupted so often, then gives some bytes, and then ends or fails.
 #[derive(Drop)]
@@ -25,42 +30,6 @@ impl Read for Given<'_> {
         room[..count].copy_from_slice(&self.bytes[..count]);
         self.bytes = &self.bytes[count..];
         Ok(count)
-    }
-}
-
-/// What is read of a reader like that.
-fn read_given(
-    alloc: Global,
-    interruptions: u32,
-    bytes: &[u8],
-    fails: bool,
-) -> std::result::Result<Vec<u8>, Fault> {
-    let reader = Given {
-        interruptions,
-        bytes,
-        fails,
-    };
-    read_whole(alloc, &mut OverRead::new(reader))
-}
-
-const TEXT: &[u8] = b"txos 1 schedule 1\n1 map 0\n";
-
-#[test]
-fn reads_to_the_end(rt: HostRuntime) -> std::result::Result<(), Fail> {
-    let text = read_given(rt.alloc(), 1000, TEXT, false)?;
-    assert_eq!(rt; text.as_slice(), TEXT);
-    assert_eq!(rt;
-        read_given(rt.alloc(), 1001, TEXT, false).err(),
-        Some(Fault::Reader)
-    );
-    Ok(())
-}
-
-#[test]
-fn reader_fails(rt: HostRuntime) {
-    for count in 0..TEXT.len() {
-        let read = read_given(rt.alloc(), 0, &TEXT[..count], true);
-        assert_eq!(rt; read.err(), Some(Fault::Reader), "after {count}");
     }
 }
 
@@ -94,42 +63,142 @@ impl Write for Taking<'_> {
     }
 }
 
-/// What a writer like that answers, and the bytes that it takes.
-fn write_taking(
+/// A command that answers a text.
+#[derive(Clone, Copy)]
+enum Command {
+    Replay,
+    Debug,
+}
+
+/// How often a writer is interrupted, how many bytes it takes at a time, and how many in all.
+type Limits = (u32, usize, usize);
+
+/// The limits of a writer that takes all.
+const ALL: Limits = (0, 10_000, 10_000);
+
+/// What a command answers to a reader, and what it writes to a writer with these limits.
+fn answer(
     alloc: Global,
-    interruptions: u32,
-    step: usize,
-    room: usize,
-) -> (std::result::Result<(), Fault>, Vec<u8>) {
+    command: Command,
+    reader: Given<'_>,
+    limits: Limits,
+) -> (result::Result<(), Fault>, Vec<u8>) {
     let mut taken = Vec::new(alloc);
-    let writer = Taking {
+    let (interruptions, step, room) = limits;
+    let mut sink = OverWrite::new(Taking {
         interruptions,
         step,
         room,
         taken: &mut taken,
+    });
+    let mut source = OverRead::new(reader);
+    let answered = match command {
+        Command::Replay => replay(alloc, &mut source, &mut sink),
+        Command::Debug => debug(alloc, &mut source, &mut sink),
     };
-    let written = write_whole(&mut OverWrite::new(writer), TEXT);
+    (answered, taken)
+}
+
+/// A reader of so many first bytes of a text, which then ends or fails.
+fn reader_of(text: &str, count: usize, fails: bool) -> Given<'_> {
+    let bytes = text.as_bytes();
+    Given {
+        interruptions: 0,
+        bytes: &bytes[..count.min(bytes.len())],
+        fails,
+    }
+}
+
+/// A schedule and its report.
+const ROW: (&str, &str) = (
+    "txos 1 schedule 3\n2 sys_xbegin\n2 map 0\nkernel 2\n9 map 0\n",
+    "1 ok 0\n2 ok 0\n3 aborted 202\n4 no N1\nstate\nproc 1 parent 0 run point 0 ret 0\nproc 2 parent 1 run point 1 ret -202\nproc 3 parent 1 run point 0 ret 0\n",
+);
+
+/// A text with commands that walk over an abort, and what they answer.
+const WALK: (&str, &str) = (
+    "txos 1 schedule 2\n2 sys_xbegin\n2 map 0\n2 store 5 41\n2 sys_xabort\ndebug\nback\nstate\nforward\nforward\ngoto 0\nback\ngoto 5\n",
+    "at 3\nstate\nproc 1 parent 0 run point 0 ret 0\nproc 2 parent 1 run point 3 ret 0\npage 0 rw 5=41\ntxn 2 open 2 ended -\nat 4\nno end\nat 0\nno start\nno place\n",
+);
+
+#[test]
+fn readers_fail_after_each_byte(rt: HostRuntime) {
+    for (command, (text, _)) in [(Command::Replay, ROW), (Command::Debug, WALK)] {
+        for count in 0..text.len() {
+            let reader = reader_of(text, count, true);
+            let (answered, taken) = answer(rt.alloc(), command, reader, ALL);
+            assert!(rt;
+                answered == Err(Fault::Reader) && taken.is_empty(),
+                "after {count}"
+            );
+        }
+    }
+    for count in 0..PROGRAM.len() {
+        let mut source = OverRead::new(reader_of(PROGRAM, count, true));
+        let fault = read_program(rt.alloc(), &mut source).err();
+        assert!(rt; fault == Some(Fault::Reader), "after {count}");
+    }
+}
+
+/// What comes of a run that is written to a writer with so much room.
+fn write_into(
+    alloc: Global,
+    session: &Session,
+    room: usize,
+) -> (result::Result<(), Fault>, Vec<u8>) {
+    let mut taken = Vec::new(alloc);
+    let writer = Taking {
+        interruptions: 0,
+        step: room,
+        room,
+        taken: &mut taken,
+    };
+    let written = write_run(alloc, session, &mut OverWrite::new(writer));
     (written, taken)
 }
 
 #[test]
-fn writes_to_the_end(rt: HostRuntime) {
-    let (written, taken) = write_taking(rt.alloc(), 1000, 1, 1000);
-    assert_eq!(rt; written, Ok(()));
-    assert_eq!(rt; taken.as_slice(), TEXT, "a byte at a time");
-    let (interrupted, none) = write_taking(rt.alloc(), 1001, 100, 1000);
-    assert_eq!(rt; interrupted, Err(Fault::Writer));
-    assert!(rt; none.is_empty());
-    let (idle, none) = write_taking(rt.alloc(), 0, 0, 1000);
-    assert_eq!(rt; idle, Err(Fault::Writer), "a write that takes no byte");
-    assert!(rt; none.is_empty());
+fn writers_fail_after_each_byte(rt: HostRuntime) -> result::Result<(), Fail> {
+    for (command, (text, told)) in [(Command::Replay, ROW), (Command::Debug, WALK)] {
+        for room in 0..told.len() {
+            let reader = reader_of(text, text.len(), false);
+            let (answered, taken) = answer(rt.alloc(), command, reader, (0, room, room));
+            assert!(rt; answered == Err(Fault::Writer), "after {room}");
+            assert!(rt; taken.as_slice() == &told.as_bytes()[..room]);
+        }
+    }
+    let schedule = read_schedule(rt.alloc(), RUN_STEPS.as_bytes())?;
+    let session = session_of(rt.alloc(), schedule.header, schedule.steps.as_slice())?;
+    for room in 0..RUN.len() {
+        let (written, taken) = write_into(rt.alloc(), &session, room);
+        assert!(rt; written == Err(Fault::Writer), "after {room}");
+        assert!(rt; taken.as_slice() == &RUN.as_bytes()[..room]);
+    }
+    Ok(())
+}
+
+/// What the debugger answers to a reader that is interrupted so often, and what it writes.
+fn answer_interrupted(
+    alloc: Global,
+    interruptions: u32,
+    limits: Limits,
+) -> (result::Result<(), Fault>, Vec<u8>) {
+    let mut reader = reader_of(WALK.0, WALK.0.len(), false);
+    reader.interruptions = interruptions;
+    answer(alloc, Command::Debug, reader, limits)
 }
 
 #[test]
-fn writer_fails(rt: HostRuntime) {
-    for count in 0..TEXT.len() {
-        let (written, taken) = write_taking(rt.alloc(), 0, 100, count);
-        assert_eq!(rt; written, Err(Fault::Writer), "after {count}");
-        assert_eq!(rt; taken.as_slice(), &TEXT[..count]);
-    }
+fn ends_may_be_interrupted_a_thousand_times(rt: HostRuntime) {
+    let (answered, taken) = answer_interrupted(rt.alloc(), 1000, (1000, 1, 10_000));
+    assert!(rt; answered == Ok(()) && taken.as_slice() == WALK.1.as_bytes());
+    let (answered, taken) = answer_interrupted(rt.alloc(), 1001, ALL);
+    assert!(rt; answered == Err(Fault::Reader) && taken.is_empty());
+    let (answered, taken) = answer_interrupted(rt.alloc(), 0, (1001, 1, 10_000));
+    assert!(rt; answered == Err(Fault::Writer) && taken.is_empty());
+    let (answered, taken) = answer_interrupted(rt.alloc(), 0, (0, 0, 10_000));
+    assert!(rt;
+        answered == Err(Fault::Writer) && taken.is_empty(),
+        "no byte is taken"
+    );
 }

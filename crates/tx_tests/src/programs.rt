@@ -1,46 +1,71 @@
-//! Programs that are read.
-use crate::ends::Given;
+//! Programs and lines that are read.
 use std::alloc::Global;
 use std::test::Fail;
-use tx_base::{Call, When};
-use tx_script::{Fault, OverRead, Program, Spelling, read_program};
+use tx_base::{Call, Pid, Step, When};
+use tx_lines::{Fault, OverRead, Program, Version, read_program, read_step};
+
+/// A child takes back the transaction of process 1, which finds so.
+pub(crate) const PROGRAM: &str = "txos 1 program 1
+sys_xbegin
+jump @back if -201
+fork
+sys_xabort
+label back
+keep 0
+";
+
+/// What one worker writes of it.
+pub(crate) const RUN: &str = "1 w1 1 sys_xbegin : ok 0
+2 w1 1 jump 4 if -201 : ok 0
+3 w1 1 fork 2 : ok 2
+4 w1 2 sys_xabort : aborted 201
+5 w1 1 jump 4 if -201 : ok -201
+6 w1 1 keep 0 : ok -201
+state
+proc 1 parent 0 run point 5 ret -201
+slots -201 0 0 0 0 0 0 0
+";
+
+/// Its steps, as a schedule has them.
+pub(crate) const RUN_STEPS: &str = "txos 1 schedule 1
+1 sys_xbegin
+1 jump 4 if -201
+1 fork 2
+2 sys_xabort
+1 jump 4 if -201
+1 keep 0
+";
 
 /// What is read of a text.
-pub(crate) fn read(alloc: Global, text: &[u8]) -> Result<Program, Fault> {
-    let reader = Given {
-        interruptions: 0,
-        bytes: text,
-        fails: false,
-    };
-    read_program(alloc, &mut OverRead::new(reader))
+pub(crate) fn read(alloc: Global, text: &str) -> Result<Program, Fault> {
+    read_program(alloc, &mut OverRead::new(text.as_bytes()))
 }
 
-#[test]
-fn reads(rt: HostRuntime) -> Result<(), Fail> {
-    let text = b"txos 2 program 200\nfork\njump @kid if 0\nwaitpid $1 wait\nlabel kid\n";
-    let program = read(rt.alloc(), text.as_slice())?.copy(rt.alloc())?;
-    assert_eq!(rt; program.header.count, 200);
-    assert_eq!(rt; program.labels.len(), 1);
-    assert_eq!(rt; program.instructions.len(), 3);
-    assert!(rt; matches!(program.instructions[1].call, Call::Jump(3, When::IfRet(0))));
-    let spellings = program.instructions[2].spellings.as_slice();
-    assert!(rt; matches!(spellings.first(), Some(Spelling::Slot(1))));
-    Ok(())
-}
+/// A program with a label and with slots.
+const SLOTS: &str = "txos 2 program 200
+jump @end if $1
+sigqueue $0 33 $7
+label end
+";
 
 #[test]
-fn slots_are_put_in(rt: HostRuntime) -> Result<(), Fail> {
-    let text = b"txos 1 program 1\nsigqueue $0 33 $7\njump @end if $1\nlabel end\n";
-    let program = read(rt.alloc(), text.as_slice())?;
-    assert_eq!(rt; program.instructions.len(), 2);
+fn a_program_is_read_and_copied(rt: HostRuntime) -> Result<(), Fail> {
+    let program = read(rt.alloc(), SLOTS)?.copy(rt.alloc())?;
+    assert!(rt; program.header.count == 200 && program.labels.len() == 1);
+    assert!(rt; program.instructions.len() == 2);
     let slots = [5, 6, 0, 0, 0, 0, 0, 9];
-    assert_eq!(rt;
-        program.instructions[0].filled(&slots),
-        Call::Sigqueue(5, 33, 9)
-    );
-    assert_eq!(rt;
-        program.instructions[1].filled(&slots),
-        Call::Jump(2, When::IfRet(6))
-    );
+    let jump = program.instructions[0].filled(&slots);
+    assert!(rt; matches!(jump, Call::Jump(2, When::IfRet(6))));
+    let sent = program.instructions[1].filled(&slots);
+    assert!(rt; matches!(sent, Call::Sigqueue(5, 33, 9)));
     Ok(())
+}
+
+#[test]
+fn a_line_is_read(rt: HostRuntime) {
+    let step = read_step(Version::One, b"64 map -1");
+    assert!(rt; matches!(step, Some(Step::Call(Pid(64), Call::Map(-1)))));
+    let deferring = read_step(Version::Two, b"2 sys_xbegin defer");
+    assert!(rt; matches!(deferring, Some(Step::Call(Pid(2), Call::SysXbeginDefer))));
+    assert!(rt; read_step(Version::One, b"2 sys_xbegin defer").is_none());
 }

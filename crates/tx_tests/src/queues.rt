@@ -1,8 +1,7 @@
 //! Whole runs of workers who take processes from the ready queue.
-use crate::programs::read;
-use crate::runs::{PROGRAM, RUN, written};
+use crate::programs::{PROGRAM, RUN, read};
 use crate::sessions::session_of;
-use crate::workers::{Meeting, WAITED_FOR, WAITED_FOR_RUN};
+use crate::workers::{Meeting, each_took_one};
 use std::alloc::Global;
 use std::sync::Wait;
 use std::sync::atomic::AtomicBool;
@@ -11,7 +10,8 @@ use std::test::Fail;
 use std::thread;
 use std::thread::Threads;
 use tx_base::{Pid, Step};
-use tx_script::read_schedule;
+use tx_lines::OverWrite;
+use tx_script::write_run;
 use tx_workers::{Gate, NoGate, Tally, Worked, run_queue};
 
 /// What so many workers give back of a program, from its start with so many processes.
@@ -23,7 +23,7 @@ fn queue_over<R: Threads + Wait + Sync, G: Gate + Sync>(
     turns: u32,
     gate: &G,
 ) -> Result<(Worked, Tally), Fail> {
-    let program = read(alloc, program.as_bytes())?;
+    let program = read(alloc, program)?;
     let none = Vec::new(alloc);
     let session = session_of(alloc, program.header, none.as_slice())?;
     Ok(run_queue(rt, alloc, session, &program, workers, turns, gate)?)
@@ -31,13 +31,10 @@ fn queue_over<R: Threads + Wait + Sync, G: Gate + Sync>(
 
 #[test]
 fn one_worker_takes_processes_in_order(rt: HostRuntime) -> Result<(), Fail> {
-    for (program, turns, run) in [(WAITED_FOR, 6, WAITED_FOR_RUN), (PROGRAM, 7, RUN)] {
-        let (worked, _tally) = queue_over(&rt, rt.alloc(), program, 1, turns, &NoGate)?;
-        assert_eq!(rt;
-            written(rt.alloc(), &worked.session)?.as_slice(),
-            run.as_bytes()
-        );
-    }
+    let (worked, _tally) = queue_over(&rt, rt.alloc(), PROGRAM, 1, 7, &NoGate)?;
+    let mut taken = Vec::new(rt.alloc());
+    write_run(rt.alloc(), &worked.session, &mut OverWrite::new(&mut taken))?;
+    assert!(rt; taken.as_slice() == RUN.as_bytes());
     Ok(())
 }
 
@@ -47,9 +44,7 @@ fn two_workers_meet_at_the_queue(rt: HostRuntime) -> Result<(), Fail> {
     let program = "txos 1 program 2\ngetpid\n";
     let (worked, _tally) = queue_over(&rt, rt.alloc(), program, 2, 1, &gate)?;
     assert!(rt; gate.is_met(), "each sees the other");
-    for worker in worked.workers.as_slice() {
-        assert_eq!(rt; worker.notes.len(), 1);
-    }
+    assert!(rt; worked.workers.len() == 2 && each_took_one(&worked));
     Ok(())
 }
 
@@ -93,7 +88,8 @@ fn any_worker_takes_any_process(rt: HostRuntime) -> Result<(), Fail> {
         gate.is_seen.load(SeqCst),
         "worker 2 sees the end of worker 1"
     );
-    let of_another = worked.session.entries().iter().any(|entry| {
+    let mut entries = worked.session.entries().iter();
+    let of_another = entries.any(|entry| {
         entry.worker == 1 && matches!(entry.step, Step::Call(Pid(2), _))
     });
     assert!(rt; of_another, "worker 1 takes a turn of process 2");

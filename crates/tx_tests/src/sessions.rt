@@ -5,7 +5,7 @@ ghost use Rattle.tx_journal.specs.Sessions.{IsAtEnd};
 use std::alloc::Global;
 use tx_base::{NoMemory, Step};
 use tx_journal::Session;
-use tx_script::{Header, Version};
+use tx_lines::{Header, Version};
 
 /// A session in which the steps are made.
 pub(crate) fn session_of(alloc: Global, header: Header, steps: &[Step]) -> Result<Session, NoMemory>
@@ -15,24 +15,28 @@ pub(crate) fn session_of(alloc: Global, header: Header, steps: &[Step]) -> Resul
         Version::One => Session::boot(alloc, header.count.clamp(1, 64))?,
         Version::Two => Session::boot_wide(alloc, header.count.clamp(1, 256))?,
     };
-    make_steps(alloc, &mut session, steps);
+    let _refused = make_steps(alloc, &mut session, steps);
     Ok(session)
 }
 
-/// Makes the steps, each by worker 1.
-fn make_steps(alloc: Global, session: &mut Session, steps: &[Step])
+/// Makes the steps, each once. Answers the place of the last that wanted memory.
+pub(crate) fn make_steps(alloc: Global, session: &mut Session, steps: &[Step]) -> Option<usize>
     requires { IsAtEnd session.old }
     ensures { IsAtEnd session.new }
 {
-    for step in steps {
-        make_step(alloc, session, step);
+    let mut refused = None;
+    for (i, step) in steps.iter().enumerate() {
+        if wants_memory(alloc, session, step) {
+            refused = Some(i);
+        }
     }
+    refused
 }
 
-/// Makes a step, by worker 1.
-fn make_step(alloc: Global, session: &mut Session, step: &Step)
+/// Makes a step, by worker 1. Answers whether it wanted memory.
+pub(crate) fn wants_memory(alloc: Global, session: &mut Session, step: &Step) -> bool
     requires { IsAtEnd session.old }
     ensures { IsAtEnd session.new }
 {
-    let _reply = session.step(alloc, 1, step);
+    session.step(alloc, 1, step).wants_memory()
 }

@@ -1,10 +1,9 @@
 //! Whole runs of workers.
-
 use crate::programs::read;
-use crate::runs::{PROGRAM, RUN, written};
+use crate::runs::ran;
 use crate::sessions::session_of;
+use crate::texts::{told, told_by};
 use std::alloc::Global;
-use std::process::Abort;
 use std::sync::Wait;
 use std::sync::atomic::AtomicBool;
 use std::sync::atomic::Ordering::SeqCst;
@@ -12,11 +11,9 @@ use std::test::Fail;
 use std::thread;
 use std::thread::Threads;
 use tx_base::{Call, Pid, Reply, Step};
-use tx_core::run;
-use tx_journal::{Entry, Session};
-use tx_script::read_schedule;
-use tx_text::print_state;
-use tx_workers::{Gate, NoGate, WorkFault, Worked, run_workers};
+use tx_journal::Entry;
+use tx_lines::read_schedule;
+use tx_workers::{Gate, NoGate, RunFault, WorkFault, Worked, run_workers};
 
 /// What so many workers give back of a program and a session after some steps.
 fn run_after<R: Threads + Wait + Sync, G: Gate + Sync>(
@@ -30,49 +27,14 @@ fn run_after<R: Threads + Wait + Sync, G: Gate + Sync>(
 ) -> Result<Worked, Fail> {
     let schedule = read_schedule(alloc, schedule.as_bytes())?;
     let session = session_of(alloc, schedule.header, schedule.steps.as_slice())?;
-    let program = read(alloc, program.as_bytes())?;
+    let program = read(alloc, program)?;
     Ok(run_workers(rt, alloc, session, &program, workers, turns, gate)?)
 }
 
-/// A child tells its status to the process that waits for it.
-pub(crate) const WAITED_FOR: &str = "txos 1 program 1
-fork
-jump @kid if 0
-waitpid 2 wait
-exit 0
-label kid
-exit 7
-";
-
-/// What one worker writes of it.
-pub(crate) const WAITED_FOR_RUN: &str = "1 w1 1 fork 2 : ok 2
-2 w1 2 jump 4 if 0 : ok 0
-3 w1 1 jump 4 if 0 : ok 2
-4 w1 2 exit 7 : ended
-5 w1 1 waitpid 2 wait : ok 2
-6 w1 1 exit 0 : ok -1
-state
-proc 1 parent 0 run point 4 ret -1
-slots 7 0 0 0 0 0 0 0
-";
-
-#[test]
-fn one_worker_runs_a_program(rt: HostRuntime) -> Result<(), Fail> {
-    for (program, turns, run) in [(WAITED_FOR, 6, WAITED_FOR_RUN), (PROGRAM, 7, RUN)] {
-        let alloc = rt.alloc();
-        let worked = run_after(
-            &rt,
-            alloc,
-            "txos 1 schedule 1\n",
-            program,
-            1,
-            turns,
-            &NoGate,
-        )?;
-        assert_eq!(rt; worked.workers.len(), 1);
-        assert_eq!(rt; written(alloc, &worked.session)?.as_slice(), run.as_bytes());
-    }
-    Ok(())
+/// Whether each worker of a run took one step.
+pub(crate) fn each_took_one(worked: &Worked) -> bool {
+    let mut workers = worked.workers.iter();
+    workers.all(|worker| worker.notes.len() == 1)
 }
 
 #[test]
@@ -80,17 +42,10 @@ fn a_run_goes_on_from_what_was_handed_in(rt: HostRuntime) -> Result<(), Fail> {
     let schedule = "txos 1 schedule 2\n2 map 0\n";
     let program = "txos 1 program 2\ngetpid\ngetpid\n";
     let worked = run_after(&rt, rt.alloc(), schedule, program, 2, 1, &NoGate)?;
-    let entries = worked.session.entries();
-    assert_eq!(rt; entries.len(), 3);
-    let handed_in = Entry {
-        step: Step::Call(Pid(2), Call::Map(0)),
-        worker: 1,
-        reply: Reply::Done(0),
-    };
-    assert_eq!(rt; entries.first(), Some(&handed_in));
-    for worker in worked.workers.as_slice() {
-        assert_eq!(rt; worker.notes.len(), 1);
-    }
+    assert!(rt; worked.session.len() == 3 && worked.workers.len() == 2);
+    let first = worked.session.entry(1).map(|entry| &entry.step);
+    assert!(rt; matches!(first, Some(Step::Call(Pid(2), Call::Map(0)))));
+    assert!(rt; each_took_one(&worked));
     Ok(())
 }
 
@@ -138,10 +93,7 @@ fn two_workers_meet(rt: HostRuntime) -> Result<(), Fail> {
     let program = "txos 1 program 2\ngetpid\n";
     let worked = run_after(&rt, rt.alloc(), "txos 1 schedule 2\n", program, 2, 1, &gate)?;
     assert!(rt; gate.is_met(), "each sees the other");
-    assert_eq!(rt; worked.workers.len(), 2);
-    for worker in worked.workers.as_slice() {
-        assert_eq!(rt; worker.notes.len(), 1);
-    }
+    assert!(rt; worked.workers.len() == 2 && each_took_one(&worked));
     Ok(())
 }
 
@@ -177,42 +129,29 @@ fn steps_of(alloc: Global, entries: &[Entry]) -> Result<Vec<Step>, Fail> {
     Ok(steps)
 }
 
-/// A run of the steps of these entries has to have the same replies, and to leave this state.
-fn is_replayed(rt: &impl Abort, alloc: Global, entries: &[Entry], state: &str) -> Result<(), Fail> {
-    let steps = steps_of(alloc, entries)?;
-    let ran = run(alloc, 16, steps.as_slice())?;
-    assert_eq!(rt; entries.len(), ran.history.len());
-    for (entry, accepted) in entries.iter().zip(ran.history.iter()) {
-        assert!(rt; entry.step == accepted.step);
-        assert!(rt; entry.reply == accepted.reply);
-    }
-    assert_eq!(rt; print_state(alloc, &ran.machine)?.as_str(), state);
-    Ok(())
-}
-
 #[test]
 fn what_many_workers_did_can_be_replayed(rt: HostRuntime) -> Result<(), Fail> {
     let alloc = rt.alloc();
     let worked = run_after(&rt, alloc, "txos 1 schedule 16\n", TREES, 16, 1000, &NoGate)?;
     let entries = worked.session.entries();
-    let state = worked.session.state_text(alloc)?;
-    is_replayed(&rt, alloc, entries, state.as_str())?;
-    let aborts = entries
-        .iter()
-        .filter(|entry| matches!(entry.reply, Reply::Aborted(_)));
-    assert!(rt; aborts.count() > 0);
+    let steps = steps_of(alloc, entries)?;
+    let again = ran(alloc, 16, steps.as_slice())?;
+    assert!(rt; told(alloc, &again)?.as_str() == told_by(alloc, &worked.session)?.as_str());
+    let mut replies = entries.iter().map(|entry| &entry.reply);
+    assert!(rt; replies.any(|reply| matches!(reply, Reply::Aborted(_))));
     Ok(())
 }
 
 #[test]
 fn faults_of_runs_are_told_by_name(rt: HostRuntime) -> Result<(), Fail> {
-    let faults = [
+    for (fault, name) in [
         (WorkFault::NoMemory, "F6"),
         (WorkFault::Strayed, "F7"),
         (WorkFault::Spawn, "F8"),
-    ];
-    for (fault, name) in faults {
-        assert_eq!(rt; format!(in rt.alloc(); "{fault}")?.as_str(), name);
+    ] {
+        assert!(rt; format!(in rt.alloc(); "{fault}")?.as_str() == name);
+        let fault = RunFault::Work(fault);
+        assert!(rt; format!(in rt.alloc(); "{fault}")?.as_str() == name);
     }
     Ok(())
 }

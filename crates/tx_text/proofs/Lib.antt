@@ -1,5 +1,3 @@
-pub mod Hexed
-pub mod Known
 pub mod Listed
 pub mod OneMore
 pub mod StateSpelled

@@ -3,7 +3,7 @@ use Rattle.std.specs.Prelude.{ℕ, Bool, true, false, List, [], ◌∷◌, ◌++
 use Rattle.std.specs.Fmt.{decimal}
 use Rattle.tx_base.specs.declared.limits.TheConstants.{DESCRIPTIONS, DESCRIPTORS, PIPES}
 use Rattle.tx_model.specs.State.{Description, Side, ReadSide, WriteSide}
-use Rattle.tx_text.specs.Bytes.{bytes_text}
+use Rattle.tx_lines.specs.Bytes.{bytes_text}
 use Rattle.tx_text.specs.Each.{upto}
 
 -- the line of a descriptor, where it is open: the description that it names

@@ -1,12 +1,9 @@
-pub mod Bytes
 pub mod Descriptors
 pub mod Each
 pub mod Links
-pub mod Lists
 pub mod Processes
 pub mod Registers
 pub mod Replies
-pub mod Sets
 pub mod Signals
 pub mod State
 pub mod Txns

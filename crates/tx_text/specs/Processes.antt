@@ -4,7 +4,7 @@ use Rattle.std.specs.Fmt.{decimal}
 use Rattle.tx_base.specs.declared.names.Regs.{Regs}
 use Rattle.tx_model.specs.State.{Ids, Process}
 use Rattle.tx_model.specs.Memory.{Memory, PageView, page_at}
-use Rattle.tx_text.specs.Bytes.{two_digits}
+use Rattle.tx_lines.specs.Bytes.{two_digits}
 use Rattle.tx_text.specs.Descriptors.{fds_text}
 use Rattle.tx_text.specs.Each.{upto}
 use Rattle.tx_text.specs.Registers.{run_text, slots_line}

@@ -7,7 +7,7 @@ use Rattle.tx_base.specs.declared.steps.Refusal.{Refusal}
 use Rattle.tx_base.specs.declared.steps.Refusal.TheVariants.{NoProcess, NotRunning, BadNumber, NumberTaken, Doomed, Parked, KillPending, Busy, Wait, NotDeliverable, FramesFull, NoTransaction, NoMemory, Deferred}
 use Rattle.tx_base.specs.declared.steps.Reply.{Reply}
 use Rattle.tx_base.specs.declared.steps.Reply.TheVariants.{Done, Ended, Committed, Aborted, Out, No}
-use Rattle.tx_text.specs.Bytes.{bytes_text}
+use Rattle.tx_lines.specs.Bytes.{bytes_text}
 use Rattle.tx_text.specs.Each.{each_text}
 
 -- the number of a refusal

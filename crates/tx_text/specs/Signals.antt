@@ -7,7 +7,7 @@ use Rattle.tx_base.specs.declared.signals.Action.TheVariants.{Usual, Ignore, Cat
 use Rattle.tx_model.specs.State.{Frame, Process, Queued}
 use Rattle.tx_text.specs.Each.{each_text, upto}
 use Rattle.tx_text.specs.Registers.{slots_end}
-use Rattle.tx_text.specs.Sets.{bits_text, set_text}
+use Rattle.tx_lines.specs.Sets.{bits_text, set_text}
 
 -- a line of a set after a word, where the set is not empty
 abbrev pub set_line : List ℕ → ℕ → List ℕ

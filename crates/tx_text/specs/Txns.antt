@@ -4,7 +4,7 @@ use Rattle.std.specs.Fmt.{decimal, signed_decimal}
 use Rattle.tx_base.specs.declared.marks.Mark.{Mark}
 use Rattle.tx_model.specs.State.{Sending}
 use Rattle.tx_text.specs.Each.{each_text, upto}
-use Rattle.tx_text.specs.Lists.{member_text, some_after}
+use Rattle.tx_lines.specs.Lists.{member_text, some_after}
 
 -- whether two answers are the same
 abbrev pub same_answer : Bool → Bool → Bool

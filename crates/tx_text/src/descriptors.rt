@@ -6,12 +6,11 @@ ghost use Rattle.tx_desc.specs.Descriptions.{described, description_at, descript
 ghost use Rattle.tx_desc.specs.Places.{number_in};
 ghost use Rattle.tx_text.specs.Descriptors.{desc_line, desc_text, descs_text, fd_line, fds_text, pipe_line, pipes_text, side_text, wait_text};
 
-use crate::bytes::put_bytes;
-use crate::print::{put, put_count};
 use std::alloc::AllocError;
 use tx_base::{DESCRIPTIONS, DESCRIPTORS, DescNo, PIPES, PipeNo};
 use tx_change::PipeTable;
 use tx_desc::{Desc, Descs, FdTable, Opened, Side};
+use tx_lines::{put, put_bytes, put_count};
 use tx_pipe::Pipe;
 
 /// Appends the line of each open descriptor, by rising number.

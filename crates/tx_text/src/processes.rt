@@ -7,13 +7,13 @@ ghost use Rattle.tx_proc.specs.Processes.{process_in, process_of};
 ghost use Rattle.tx_text.specs.Processes.{are_root, byte_text, end_text, flag_text, head_text, ids_line, own_text, page_line, page_text, pages_text, process_lines, process_text, procs_text, status_text, three_ids};
 
 use crate::descriptors::put_fds;
-use crate::print::{put, put_byte, put_count};
 use crate::registers::{put_run, put_slots_line};
 use crate::signals::put_signals;
 use std::alloc::AllocError;
 use tx_base::{PAGE_BYTES, PAGES, Pid};
 use tx_change::Parts;
 use tx_cred::Cred;
+use tx_lines::{put, put_byte, put_count};
 use tx_pages::{Page, Space};
 use tx_proc::Proc;
 

@@ -2,9 +2,9 @@
 ghost use Rattle.std.specs.Prelude.{◌≡◌, ◌++◌, OnOk, string_bytes};
 ghost use Rattle.tx_text.specs.Registers.{is_blank_of, run_text, slot_text, slots_end, slots_line};
 
-use crate::print::{put, put_count, put_number};
 use std::alloc::AllocError;
 use tx_base::Regs;
+use tx_lines::{put, put_count, put_number};
 
 /// Appends the end of a running process's line.
 pub fn put_run(text: &mut String, regs: &Regs) -> Result<(), AllocError>

@@ -2,10 +2,9 @@
 ghost use Rattle.std.specs.Prelude.{◌≡◌, ◌++◌, ◌∷◌, ◌<◌, ◌^◌, [], OnOk, string_bytes};
 ghost use Rattle.tx_text.specs.Replies.{missed_text, number_of, refusal_text, reply_text, undelivered_text};
 
-use crate::bytes::put_bytes;
-use crate::print::{put, put_count, put_number};
 use std::alloc::AllocError;
 use tx_base::{Missed, Refusal, Reply};
+use tx_lines::{put, put_bytes, put_count, put_number};
 
 /// Appends a reply, without its step's number and without a line's end. The only error is that a
 /// growth of memory was refused: the text may then have some of the reply behind what it had.

@@ -4,12 +4,11 @@ ghost use Rattle.tx_base.specs.Signals.{bits_of};
 ghost use Rattle.tx_proc.specs.Processes.{process_of};
 ghost use Rattle.tx_text.specs.Signals.{action_line, actions_text, entry_text, frame_text, frames_text, queued_line, set_line, signals_text};
 
-use crate::lists::put_set;
-use crate::print::{put, put_count, put_number};
 use crate::registers::put_slots;
 use bitflags::Flags;
 use std::alloc::AllocError;
 use tx_base::{Action, SIGNALS, SigSet, Signo};
+use tx_lines::{put, put_count, put_number, put_set};
 use tx_proc::Proc;
 use tx_signal::{Actions, Frame, Queued};
 

@@ -4,12 +4,12 @@ ghost use Rattle.tx_live.specs.Content.{view_of};
 ghost use Rattle.tx_text.specs.State.{state_text};
 
 use crate::descriptors::{put_descs, put_pipes};
-use crate::print::put;
 use crate::processes::put_procs;
 use crate::txns::put_txns;
 use std::alloc::{AllocError, Global};
 use tx_base::NoMemory;
 use tx_core::Machine;
+use tx_lines::put;
 
 /// The text of a machine's state, from its line `state` on: its processes, descriptions, pipes and
 /// live transactions. The only error is that a growth of memory was refused; the machine is only

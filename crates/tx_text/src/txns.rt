@@ -9,11 +9,10 @@ ghost use Rattle.tx_text.specs.Links.{AreLinkedAbove};
 ghost use Rattle.tx_text.specs.Txns.{flag_of, held_text, helds_text, is_listed_in, mark_text, members_text, txn_text, txns_text};
 
 use crate::links::Links;
-use crate::lists::{dash, put_member};
-use crate::print::{put, put_count, put_number};
 use std::alloc::AllocError;
 use tx_base::{Mark, Pid, Sending, Slots};
 use tx_core::Machine;
+use tx_lines::{dash, put, put_count, put_member, put_number};
 
 /// Appends the lines of each live transaction, by its rising starter. It goes over the marks twice,
 /// and over the members of each transaction once for each of its two lists.

@@ -27,7 +27,7 @@ pub struct Kept {
 }
 
 /// What a post changed of what is kept, so that it can be taken back.
-#[derive(Clone, Copy, Debug)]
+#[derive(Clone, Copy)]
 pub enum Unpost {
     /// The standard signals that were pending before.
     Standard(SigSet),

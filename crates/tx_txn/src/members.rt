@@ -11,7 +11,7 @@ use tx_reserve::{Object, Objects};
 
 /// Who the members of a transaction were as it ended, and whose part had ended, so that their marks
 /// can be put back.
-#[derive(Clone, Copy, Debug)]
+#[derive(Clone, Copy)]
 pub struct Members {
     pub joined: Objects,
     pub ended: Objects,

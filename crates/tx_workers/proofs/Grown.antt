@@ -13,7 +13,7 @@ use Rattle.tx_journal.specs.declared.entry.Entry.{Entry}
 use Rattle.tx_model.specs.Answer.{answer}
 use Rattle.tx_model.specs.State.{State}
 use Rattle.tx_model.specs.View.{View}
-use Rattle.tx_script.specs.declared.instructions.Instruction.{Instruction}
+use Rattle.tx_lines.specs.declared.instructions.Instruction.{Instruction}
 use Rattle.tx_workers.specs.Desks.{HasGrown}
 use Rattle.tx_workers.specs.Histories.{view_after, AllNamed, EachNamed, IsNamed}
 use Rattle.tx_workers.specs.Named.{named}

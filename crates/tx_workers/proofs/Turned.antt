@@ -8,7 +8,7 @@ use Rattle.tx_journal.specs.declared.entry.Entry.{Entry}
 use Rattle.tx_live.specs.Content.{view_of}
 use Rattle.tx_model.specs.State.{booted}
 use Rattle.tx_model.specs.View.{view, View}
-use Rattle.tx_script.specs.declared.programs.Program.{Program}
+use Rattle.tx_lines.specs.declared.programs.Program.{Program}
 use Rattle.tx_workers.proofs.Grown.{grown_more, one_is_few, turn_is_named, turn_is_one}
 use Rattle.tx_workers.specs.Desks.{IsDesk}
 use Rattle.tx_workers.specs.Histories.{view_after}

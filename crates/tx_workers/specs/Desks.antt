@@ -2,8 +2,8 @@
 use Rattle.std.specs.Prelude.{◌≡◌, ℕ, List, ◌++◌, length, Option, Some}
 use Rattle.tx_journal.specs.Sessions.{start_of, IsAtEnd, Kept, SameBoot}
 use Rattle.tx_journal.specs.declared.entry.Entry.{Entry}
-use Rattle.tx_script.specs.declared.instructions.Instruction.{Instruction}
-use Rattle.tx_script.specs.declared.programs.Program.{Program}
+use Rattle.tx_lines.specs.declared.instructions.Instruction.{Instruction}
+use Rattle.tx_lines.specs.declared.programs.Program.{Program}
 use Rattle.tx_workers.specs.Histories.{AllNamed}
 
 -- the session is what was handed in and so many entries more, each named by the program

@@ -4,7 +4,7 @@ use Rattle.tx_journal.specs.Entries.{history_of}
 use Rattle.tx_journal.specs.declared.entry.Entry.{Entry}
 use Rattle.tx_model.specs.State.{State}
 use Rattle.tx_model.specs.View.{View, view}
-use Rattle.tx_script.specs.declared.instructions.Instruction.{Instruction}
+use Rattle.tx_lines.specs.declared.instructions.Instruction.{Instruction}
 use Rattle.tx_workers.specs.Turns.{turn_adds}
 
 -- the view of some entries

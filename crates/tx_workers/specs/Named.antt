@@ -9,8 +9,8 @@ use Rattle.tx_model.specs.FreeNumbers.{free_numbers, Free}
 use Rattle.tx_model.specs.Membership.{inside_by}
 use Rattle.tx_model.specs.State.{Process}
 use Rattle.tx_model.specs.View.{View, present}
-use Rattle.tx_script.specs.Filled.{filled}
-use Rattle.tx_script.specs.declared.instructions.Instruction.{Instruction}
+use Rattle.tx_lines.specs.Filled.{filled}
+use Rattle.tx_lines.specs.declared.instructions.Instruction.{Instruction}
 use Rattle.tx_workers.specs.Offers.{offered}
 
 -- the process, where it runs

@@ -2,7 +2,7 @@
 use Rattle.std.specs.Prelude.{◌≡◌, ℕ, List, ◌++◌, All, length}
 use Rattle.tx_journal.specs.Sessions.{start_of, IsAtEnd, Kept, SameBoot}
 use Rattle.tx_journal.specs.declared.entry.Entry.{Entry}
-use Rattle.tx_script.specs.declared.programs.Program.{Program}
+use Rattle.tx_lines.specs.declared.programs.Program.{Program}
 use Rattle.tx_workers.specs.Histories.{EachNamed}
 use Rattle.tx_workers.specs.Teams.{noted, notes_of, IsCrew}
 use Rattle.tx_workers.specs.declared.workers.Worker.{Worker}

@@ -2,14 +2,14 @@
 use Rattle.std.specs.Prelude.{◌≡◌, ℕ, List, [], Option, Result, Ok, Err}
 use Rattle.std.specs.Io.KnownBytes.{Appends, Keeps}
 use Rattle.tx_journal.specs.Sessions.{Kept}
-use Rattle.tx_script.specs.Ends.{Counts}
-use Rattle.tx_script.specs.Lines.{most_of}
-use Rattle.tx_script.specs.Programs.{ReadsProgramFrom, SpellsProgram}
+use Rattle.tx_lines.specs.Ends.{Counts}
+use Rattle.tx_lines.specs.Lines.{most_of}
+use Rattle.tx_lines.specs.Programs.{ReadsProgramFrom, SpellsProgram}
 use Rattle.tx_script.specs.Run.{run_text}
-use Rattle.tx_script.specs.Whole.{IsCalm, WritesWhole}
-use Rattle.tx_script.specs.declared.faults.Fault.TheVariants as fault
-use Rattle.tx_script.specs.declared.programs.Program.{Program}
-use Rattle.tx_script.specs.declared.read.header.Header.{Header}
+use Rattle.tx_lines.specs.Whole.{IsCalm, WritesWhole}
+use Rattle.tx_lines.specs.declared.faults.Fault.TheVariants as fault
+use Rattle.tx_lines.specs.declared.programs.Program.{Program}
+use Rattle.tx_lines.specs.declared.read.header.Header.{Header}
 use Rattle.tx_workers.specs.Runs.{IsWorked}
 use Rattle.tx_workers.specs.declared.whole.RunFault.{RunFault}
 use Rattle.tx_workers.specs.declared.whole.RunFault.TheVariants.{Text, Work}

@@ -10,7 +10,7 @@ use Rattle.tx_base.specs.declared.steps.Step.TheVariants.{KernelAbort}
 use Rattle.tx_journal.specs.declared.entry.Entry.{Entry}
 use Rattle.tx_model.specs.Answer.{answer, is_running}
 use Rattle.tx_model.specs.View.{View, present}
-use Rattle.tx_script.specs.declared.instructions.Instruction.{Instruction}
+use Rattle.tx_lines.specs.declared.instructions.Instruction.{Instruction}
 use Rattle.tx_workers.specs.Named.{named}
 use Rattle.tx_workers.specs.declared.turns.Took.{Took}
 use Rattle.tx_workers.specs.declared.turns.Took.TheVariants.{Idle, Ran}

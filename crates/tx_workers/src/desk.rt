@@ -11,13 +11,13 @@ use std::marker::{Brand, Model};
 use std::sync::ledger::{Book, Ledger, Share};
 use tx_base::{NoMemory, Pid};
 use tx_journal::Session;
-use tx_script::Program;
+use tx_lines::Program;
 
 /// Which program is run, and on which session. Each run picks them; contracts alone see them.
 pub trait Work: Ledger {
     ghost use Rattle.std.specs.Prelude.{Option};
     ghost use Rattle.tx_journal.specs.Sessions.{Kept};
-    ghost use Rattle.tx_script.specs.declared.programs.Program.{Program};
+    ghost use Rattle.tx_lines.specs.declared.programs.Program.{Program};
 
     ghost program: { Option Program };
 

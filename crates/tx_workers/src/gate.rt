@@ -11,7 +11,7 @@ pub trait Gate {
 }
 
 /// Lets all workers pass.
-#[derive(Clone, Copy, Debug)]
+#[derive(Clone, Copy)]
 pub struct NoGate;
 
 impl Gate for NoGate {

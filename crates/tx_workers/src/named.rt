@@ -11,8 +11,8 @@ ghost use Rattle.tx_workers.specs.Named.{chosen, instructed, named_for, running}
 use crate::offers::offered;
 use tx_base::{Call, Pid, Regs, Step};
 use tx_core::Machine;
+use tx_lines::{Instruction, Program};
 use tx_proc::Proc;
-use tx_script::{Instruction, Program};
 
 /// The process of a number, where there is one and it runs.
 pub(crate) fn running(machine: &Machine, pid: Pid) -> Option<&Proc>

@@ -19,8 +19,8 @@ use std::sync::{Mutex, Wait};
 use std::thread;
 use std::thread::Threads;
 use tx_journal::Session;
+use tx_lines::Program;
 use tx_ready::{ReadyQueue, Station, Tally};
-use tx_script::Program;
 
 /// Runs the program by workers as `run_workers` does, but that no worker has processes of its own: in a
 /// turn it takes process numbers from a queue that all share, gives each of these processes its turn and

@@ -17,7 +17,7 @@ use std::sync::{Mutex, Wait};
 use std::thread;
 use std::thread::Threads;
 use tx_journal::Session;
-use tx_script::Program;
+use tx_lines::Program;
 
 /// Runs the program by workers of the numbers from 1 on, each in a thread of its own, which all take their
 /// turns at one session under one lock. Each takes so many turns, unless a growth of memory is refused to

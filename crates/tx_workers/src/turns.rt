@@ -15,10 +15,10 @@ use crate::workers::Worker;
 use std::alloc::Global;
 use tx_base::{Accepted, NoMemory, Pid, Refusal, Reply, Step};
 use tx_journal::Session;
-use tx_script::Program;
+use tx_lines::Program;
 
 /// Whether a process took its turn.
-#[derive(Clone, Copy, PartialEq, Eq, Debug)]
+#[derive(Clone, Copy)]
 pub enum Took {
     /// It does not run, and nothing was done.
     Idle,

@@ -1,7 +1,7 @@
 //! From the text of a program to the text of its run.
 ghost use Rattle.std.specs.Prelude.{IfOk};
-ghost use Rattle.tx_script.specs.Ends.{IsFresh};
-ghost use Rattle.tx_script.specs.Lines.{FitsHeader};
+ghost use Rattle.tx_lines.specs.Ends.{IsFresh};
+ghost use Rattle.tx_lines.specs.Lines.{FitsHeader};
 ghost use Rattle.tx_workers.specs.Texts.{IsBooted, RunsFrom, RunsText};
 
 use crate::faults::WorkFault;
@@ -13,7 +13,8 @@ use std::thread::Threads;
 use thiserror::Error;
 use tx_base::NoMemory;
 use tx_journal::Session;
-use tx_script::{Fault, Header, Sink, Source, Version, read_program, write_run};
+use tx_lines::{Fault, Header, Sink, Source, Version, read_program};
+use tx_script::write_run;
 
 /// Why no run was written, or not the whole of it. It prints as the fault that it holds.
 #[derive(Clone, Copy, PartialEq, Eq, Debug, Error)]

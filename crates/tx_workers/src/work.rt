@@ -10,7 +10,7 @@ use std::sync::ledger::Share;
 use std::sync::{Mutex, Wait};
 use std::thread::Promise;
 use tx_base::NoMemory;
-use tx_script::Program;
+use tx_lines::Program;
 
 /// What a worker's thread gives back.
 #[derive(Drop)]

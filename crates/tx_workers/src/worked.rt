@@ -12,7 +12,7 @@ use crate::work::Post;
 use crate::workers::Worker;
 use std::sync::Mutex;
 use tx_journal::Session;
-use tx_script::Program;
+use tx_lines::Program;
 
 /// What workers give back: the session, and each of them, at the place before its number.
 #[derive(Drop)]

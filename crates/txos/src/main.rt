@@ -3,7 +3,7 @@
 
 ghost use Rattle.std.specs.Prelude.{◌≡◌, OnErr, OnOk};
 ghost use Rattle.std.specs.Process.{exit_status};
-ghost use Rattle.tx_script.specs.Ends.{IsFresh};
+ghost use Rattle.tx_lines.specs.Ends.{IsFresh};
 
 mod words;
 
@@ -14,7 +14,8 @@ use std::process::ExitCode;
 use std::sync::Wait;
 use std::thread::Threads;
 use std::{env, io};
-use tx_script::{Fault, OverRead, OverWrite, Sink, Source, debug, replay};
+use tx_lines::{Fault, OverRead, OverWrite, Sink, Source};
+use tx_script::{debug, replay};
 use tx_workers::run_program;
 use words::{Asked, Crew, read_words};
 

@@ -9,7 +9,7 @@ use clap::{Arg, ArgMatches, Command, value_parser};
 use std::alloc::{AllocError, Global};
 
 /// What the program is asked to do.
-#[derive(Clone, Copy, PartialEq, Eq, Debug)]
+#[derive(Clone, Copy)]
 pub enum Asked {
     /// To read a schedule, make its steps, and write the replies and the state.
     Replay,
@@ -20,7 +20,7 @@ pub enum Asked {
 }
 
 /// By how many workers a program is run, and how many turns each takes.
-#[derive(Clone, Copy, PartialEq, Eq, Debug)]
+#[derive(Clone, Copy)]
 pub struct Crew {
     /// 1 to 16.
     pub workers: u16,

@@ -5,8 +5,8 @@ use Rattle.tx_journal.specs.Sessions.{position_of, start_of}
 use Rattle.tx_model.specs.View.{View, view}
 use Rattle.tx_script.proofs.Walked.{history_to}
 use Rattle.tx_script.specs.Debug.{command_answer}
-use Rattle.tx_script.specs.declared.read.command.Command.{Command}
-use Rattle.tx_script.specs.declared.read.command.Command.TheVariants.{State}
+use Rattle.tx_lines.specs.declared.read.command.Command.{Command}
+use Rattle.tx_lines.specs.declared.read.command.Command.TheVariants.{State}
 use Rattle.tx_text.specs.State.{state_text}
 use Rattle.tx_script.proofs.walks.put_answer.Goals as goal
 

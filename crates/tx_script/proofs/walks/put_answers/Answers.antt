@@ -1,8 +1,8 @@
 use Rattle.std.proofs.Common.{◌≡◌, ◌+◌, ℕ, List, ◌∷◌, drop, get_or, string_bytes, sym, ap, ◌∙◌, subst, add-one, drop-cons}
 use Rattle.std.proofs.Math.ListN.{drop_of_length-le}
 use Rattle.tx_script.proofs.Walked.{CommandsSoFar, commands_whole, no_commands, one_command_more}
-use Rattle.tx_script.specs.declared.read.command.Command.{Command}
-use Rattle.tx_script.specs.declared.read.command.Command.TheVariants.{Back}
+use Rattle.tx_lines.specs.declared.read.command.Command.{Command}
+use Rattle.tx_lines.specs.declared.read.command.Command.TheVariants.{Back}
 use Rattle.tx_script.proofs.walks.put_answers.Goals as goal
 
 pub loop-command-init : goal.loop-command-init

@@ -1,6 +1,6 @@
 use Rattle.tx_step.proofs.Alone.{alone, begun_step, refused}
 use Rattle.tx_step.proofs.Taken.{runs}
-use Rattle.tx_judge.specs.declared.roles.StepRole.TheVariants as the
+use Rattle.tx_step.specs.declared.roles.StepRole.TheVariants as the
 use Rattle.tx_step.proofs.begins.take_begin.Goals as goal
 
 pub begin-requires-clause-running : goal.begin-requires-clause-running

@@ -1,4 +1,4 @@
-use Rattle.tx_judge.specs.declared.roles.StepRole.TheVariants as role
+use Rattle.tx_step.specs.declared.roles.StepRole.TheVariants as role
 use Rattle.tx_step.proofs.EndTaken.{end_is, live_is, refused, signals, taken, unowned}
 use Rattle.tx_step.proofs.RefusedSteps.{of_process}
 use Rattle.tx_step.proofs.Taken.{runs}

@@ -1,6 +1,6 @@
 use Rattle.std.proofs.Common.{sym, subst}
 use Rattle.tx_base.specs.Slots.{slot_at}
-use Rattle.tx_judge.specs.declared.roles.StepRole.TheVariants as role
+use Rattle.tx_step.specs.declared.roles.StepRole.TheVariants as role
 use Rattle.tx_step.proofs.InsideTaken.{child_is, footprint_is, free, live_is, refused, taken}
 use Rattle.tx_live.specs.Made.{IsRunning}
 use Rattle.tx_live.specs.declared.content.Content.{Content}

@@ -1,0 +1,14 @@
+//! The laws that a history made once more stands on.
+ghost use Rattle.tx_journal.specs.RetraceLaws.{RetraceLaws};
+
+use tx_laws::{answers_of_parts, next_view};
+use tx_step::booted_is_content;
+
+/// The laws on which the proofs stand. It does nothing.
+pub(crate) fn laws()
+    ensures { RetraceLaws }
+{
+    next_view();
+    answers_of_parts();
+    booted_is_content();
+}

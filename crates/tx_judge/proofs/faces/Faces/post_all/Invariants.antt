@@ -1,9 +1,0 @@
-use Rattle.std.proofs.Common.{◌≡◌, ◌++◌, List, drop, map}
-use Rattle.tx_judge.specs.Faces.{differ}
-use Rattle.tx_kernel.specs.Plans.{sending_of}
-use Rattle.tx_model.specs.State.{Sending}
-use Rattle.tx_judge.proofs.faces.Faces.post_all.Given as goal
-
-abbrev pub invariant-loop-place : goal.invariant-loop-place
-invariant-loop-place l =
-    (ms : List Sending) → differ l.pid.0 (map sending_of (drop l.place l.held) ++ ms) l.self ≡ differ l.pid.0 (map sending_of l.held ++ ms) l.initial.self

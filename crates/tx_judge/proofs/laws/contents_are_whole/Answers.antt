@@ -1,5 +1,0 @@
-use Rattle.tx_judge.proofs.WholeContents.{contents_whole}
-use Rattle.tx_judge.proofs.laws.contents_are_whole.Goals as goal
-
-pub returns : goal.returns
-returns c = contents_whole c.answers_of_parts.ensures.present c.well_formed_are_orderly.ensures

@@ -1,0 +1,17 @@
+pub mod Bytes
+pub mod Lists
+pub mod Sets
+pub mod Arguments
+pub mod Calls
+pub mod Ends
+pub mod Filled
+pub mod Groups
+pub mod Instructions
+pub mod Lines
+pub mod Over
+pub mod Programs
+pub mod Schedule
+pub mod Walks
+pub mod Whole
+pub mod Words
+pub mod ListedSets

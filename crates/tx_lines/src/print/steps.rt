@@ -1,0 +1,31 @@
+//! Prints steps.
+ghost use Rattle.std.specs.Prelude.{◌≡◌, ◌++◌, OnOk, string_bytes};
+ghost use Rattle.tx_lines.specs.Lines.{step_text};
+
+use crate::print::calls::put_call;
+use crate::print::shapes::put_count_first;
+use crate::print::words::{put, put_count};
+use std::alloc::AllocError;
+use tx_base::Step;
+
+/// Appends the line of a step, without the line's end. The only error is that a growth of memory was
+/// refused: the text may then have some of the step behind what it had.
+pub fn put_step(text: &mut String, step: &Step) -> Result<(), AllocError>
+    ensures { OnOk result (string_bytes text.new ≡ string_bytes text.old ++ step_text step.now) }
+{
+    match step {
+        Step::Call(pid, call) => {
+            put_count_first(text, u64::from(pid.0))?;
+            put_call(text, call)
+        }
+        Step::Deliver(pid, signo) => {
+            put_count_first(text, u64::from(pid.0))?;
+            put(text, "deliver ")?;
+            put_count(text, u64::from(signo.0))
+        }
+        Step::KernelAbort(starter) => {
+            put(text, "kernel ")?;
+            put_count(text, u64::from(starter.0))
+        }
+    }
+}

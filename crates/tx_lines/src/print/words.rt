@@ -1,0 +1,57 @@
+//! Writes words, numbers and bytes to a text in memory.
+ghost use Rattle.std.specs.Prelude.{◌≡◌, ◌++◌, ◌<◌, OnOk, slice_index, string_bytes};
+ghost use Rattle.std.specs.Fmt.{decimal, signed_decimal};
+ghost use Rattle.hex.specs.Hex.{lower_digits};
+ghost use Rattle.tx_lines.specs.Bytes.{two_digits};
+
+use itoa::Buffer;
+use std::alloc::AllocError;
+
+/// Appends a word, or several with what parts them. The only error is that a growth of memory was
+/// refused: the text is then as it was.
+pub fn put(text: &mut String, word: &str) -> Result<(), AllocError>
+    ensures { OnOk result (string_bytes text.new ≡ string_bytes text.old ++ word.now) }
+{
+    text.push_str(word)
+}
+
+/// Appends a number in decimal digits, with `-` before a negative one.
+pub fn put_number(text: &mut String, number: i64) -> Result<(), AllocError>
+    ensures { OnOk result (string_bytes text.new ≡ string_bytes text.old ++ signed_decimal number) }
+{
+    if number == 0 {
+        return put(text, "0"); // the answer of most calls
+    }
+    let mut buffer = Buffer::new();
+    text.push_str(buffer.format(number))
+}
+
+/// Appends a count or a process number in decimal digits. The only error is that a growth of memory
+/// was refused: the text is then as it was.
+pub fn put_count(text: &mut String, count: u64) -> Result<(), AllocError>
+    ensures { OnOk result (string_bytes text.new ≡ string_bytes text.old ++ decimal count) }
+{
+    let mut buffer = Buffer::new();
+    text.push_str(buffer.format(count))
+}
+
+/// Appends a byte, as two lower-case hex digits.
+pub fn put_byte(text: &mut String, byte: u8) -> Result<(), AllocError>
+    ensures { OnOk result (string_bytes text.new ≡ string_bytes text.old ++ two_digits byte) }
+{
+    text.push(digit(byte / 16))?;
+    text.push(digit(byte % 16))
+}
+
+/// The lower-case hex digit of a number.
+fn digit(number: u8) -> char
+    requires { number < 16 }
+    ensures digit { result ≡ slice_index lower_digits number }
+    ensures ascii { result < 128 }
+{
+    if number < 10 {
+        (b'0' + number) as char
+    } else {
+        (b'a' + (number - 10)) as char
+    }
+}

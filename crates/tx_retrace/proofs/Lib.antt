@@ -1,4 +1,0 @@
-pub mod PostedTo
-pub mod NotesTold
-pub mod RolesKept
-pub mod NotesKept

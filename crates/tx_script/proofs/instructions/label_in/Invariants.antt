@@ -1,6 +1,0 @@
-use Rattle.std.proofs.Common.{◌≡◌, drop}
-use Rattle.tx_script.specs.Programs.{label_in}
-use Rattle.tx_script.proofs.instructions.label_in.Given as goal
-
-abbrev pub invariant-loop-spelling : goal.invariant-loop-spelling
-invariant-loop-spelling l = label_in l.spellings ≡ label_in (drop l.spelling-index l.spellings)

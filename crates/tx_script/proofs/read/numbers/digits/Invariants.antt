@@ -1,5 +1,0 @@
-use Rattle.tx_script.proofs.Digits.{ReadsSoFar}
-use Rattle.tx_script.proofs.read.numbers.digits.Given as goal
-
-abbrev pub invariant-loop-byte : goal.invariant-loop-byte
-invariant-loop-byte l = ReadsSoFar l.word l.byte-index l.number

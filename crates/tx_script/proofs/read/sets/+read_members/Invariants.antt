@@ -1,5 +1,0 @@
-use Rattle.std.proofs.Common.{length}
-use Rattle.tx_script.proofs.read.sets.+read_members.Given as goal
-
-abbrev pub decreases-read_members : goal.decreases-read_members
-decreases-read_members l = length l.list.now

@@ -1,0 +1,123 @@
+-- The way of a step that names one process alone, and sends nothing.
+use Rattle.std.proofs.Common.{◌≡◌, ℕ, Bool, true, false, [], ◌∷◌, Option, Some, None, if◌then◌else◌, option_map, refl, sym, ap, subst, ◌∙◌, List, arith}
+use Rattle.std.specs.Prelude.{slice_index_or}
+use Rattle.tx_base.specs.Slots.{slot_at}
+use Rattle.tx_base.specs.declared.marks.Mark.{Mark}
+use Rattle.tx_base.specs.declared.names.Pid.{Pid}
+use Rattle.tx_base.specs.declared.steps.Call.{Call}
+use Rattle.tx_base.specs.declared.steps.Step.TheVariants.{Call as Calls}
+use Rattle.tx_step.proofs.InWay.{holder_is}
+use Rattle.tx_step.proofs.MetObjects.{same_is, same_self}
+use Rattle.tx_step.proofs.StepSends.{call_posts}
+use Rattle.tx_step.specs.Holder.{IsOfMember}
+use Rattle.tx_step.specs.Roles.{role_as}
+use Rattle.tx_step.specs.Ways.{ConcernsItself}
+use Rattle.tx_step.specs.declared.roles.StepRole.{StepRole}
+use Rattle.tx_step.specs.declared.roles.StepRole.TheVariants as step
+use Rattle.tx_laws.specs.TwoParts.{parts_view}
+use Rattle.tx_live.specs.Content.{content_of, now_of, view_of}
+use Rattle.tx_live.specs.Insides.{IsFootprint}
+use Rattle.tx_live.specs.Made.{IsRunning}
+use Rattle.tx_live.specs.declared.content.Content.{Content}
+use Rattle.tx_model.specs.Events.{Event, effect}
+use Rattle.tx_model.specs.Footprints.{call_row_at, footprint}
+use Rattle.tx_model.specs.Membership.{Table, event_in, inside_by, kind_event, kind_of}
+use Rattle.tx_model.specs.State.{Object, Proc, Process, has, same_object}
+use Rattle.tx_model.specs.View.{event_on, holder, role_on}
+use Rattle.tx_proc.specs.Processes.{process_in, process_of}
+use Rattle.tx_proc.specs.declared.proc.Proc.{Proc as TheProc}
+use Rattle.tx_reserve.proofs.Rows.{adds_one, set_of}
+use Rattle.tx_reserve.specs.Footprints.{IsSetOf, table_of}
+use Rattle.tx_reserve.specs.Objects.{is_in, is_small, place_of}
+use Rattle.tx_reserve.specs.Reservations.{IsLeast, lesser_of, number_of, owner_of, unless}
+use Rattle.tx_reserve.specs.declared.objects.Objects.{Objects}
+use Rattle.tx_txn.specs.Content.{IsKept}
+use Rattle.tx_txn.specs.Laws.{HolderIsOfFaces}
+use Rattle.tx_txn.specs.Marks.{table_at}
+
+-- one process was put into an empty set
+pub set_alone : (before set : Objects) (p : ℕ) → ((o : Object) → is_in before o ≡ false) →
+    ((o : Object) → is_in set o ≡ (if same_object o (Proc p) then is_small o else is_in before o)) → IsSetOf set (Proc p ∷ [])
+set_alone before set p empty put = set_of before (Proc p ∷ []) empty (adds_one before set (Proc p) put)
+
+-- what is in such a set is that process
+alone_is : (set : Objects) (p : ℕ) (o : Object) → IsSetOf set (Proc p ∷ []) → is_in set o ≡ true → o ≡ Proc p
+unfolding has
+alone_is set p o is there = by (is_small o) (same_object o (Proc p)) refl (sym (is.each o) ∙ there)
+  where
+    by : (small same : Bool) → same_object o (Proc p) ≡ same → (if small then (if same then true else false) else false) ≡ true → o ≡ Proc p
+    by true true e h = same_is o (Proc p) e
+    by true false e h = cc
+    by false same e h = cc
+
+-- a process that somebody owns may be in a set
+owned_small : (owners : List (Option Pid)) (o : Object) (own : Option ℕ) (s : ℕ) → unless own (owner_of owners o) ≡ Some s → is_small o ≡ true
+unfolding owner_of
+owned_small owners o own s h = by (is_small o) refl h
+  where
+    by : (b : Bool) → is_small o ≡ b → unless own (if b then option_map number_of (slice_index_or owners (place_of o) None) else None) ≡ Some s → b ≡ true
+    by true e h = refl
+    by false e h = cc
+
+alone_in : (set : Objects) (p : ℕ) → IsSetOf set (Proc p ∷ []) → is_small (Proc p) ≡ true → is_in set (Proc p) ≡ true
+unfolding has
+alone_in set p is small = is.each (Proc p) ∙ rw (small, same_self (Proc p)) refl
+
+-- its owner is the least one
+alone_least : (owners : List (Option Pid)) (own : Option ℕ) (set : Objects) (p : ℕ) → IsSetOf set (Proc p ∷ []) → (x : Option ℕ) → x ≡ unless own (owner_of owners (Proc p)) →
+    IsLeast (is_in set) (λ o. unless own (owner_of owners o)) x
+alone_least owners own set p is None none = λ o there. ap (λ (q : Object). unless own (owner_of owners q)) (alone_is set p o is there) ∙ sym none
+alone_least owners own set p is (Some s) some = record {
+  at = Proc p;
+  among = alone_in set p is (owned_small owners (Proc p) own s (sym some));
+  has = sym some;
+  least = λ o t there owned.
+      let same : Some s ≡ Some t = some ∙ ap (λ (q : Object). unless own (owner_of owners q)) (sym (alone_is set p o is there)) ∙ owned in
+      let e : s ≡ t = cc in omega (arith, e);
+}
+
+lesser_alone : (x : Option ℕ) → x ≡ lesser_of x None
+lesser_alone None = refl
+lesser_alone (Some s) = refl
+
+-- the owner of the process is the holder
+pub holder_alone : (k : Content) (kept : IsKept (content_of k)) (own : Option ℕ) (set : Objects) (p : ℕ) → IsSetOf set (Proc p ∷ []) → (event : Event) → IsFootprint k event set →
+    (effect event (now_of k)).sends ≡ [] → IsOfMember k own event → HolderIsOfFaces → (x : Option ℕ) → x ≡ unless own (owner_of k.owners (Proc p)) → x ≡ holder (view_of k) event
+holder_alone k kept own set p is event is_footprint quiet mine law x owner =
+    lesser_alone x ∙ holder_is k kept own set [] event is_footprint quiet mine law x None (alone_least k.owners own set p is x owner) refl
+
+-- a call that concerns its process alone names that one
+pub own_set : (k : Content) (pid : Pid) (called : Call) (set : Objects) → ConcernsItself called → IsSetOf set (Proc pid.0 ∷ []) → IsSetOf set (footprint (table_of k.parts k.marks) (Calls pid called) (now_of k))
+unfolding footprint
+own_set k pid called set itself is = by ((now_of k).procs pid.0)
+  where
+    by : (x : Option Process) → IsSetOf set (Proc pid.0 ∷ call_row_at (table_of k.parts k.marks) pid.0 called x (now_of k))
+    by None = is
+    by (Some me) = subst (λ (os : List Object). IsSetOf set (Proc pid.0 ∷ os)) (sym (itself.names (table_of k.parts k.marks) pid.0 me (now_of k))) is
+
+-- and, where it commits nothing, sends nothing
+pub own_quiet : (k : Content) (pid : Pid) (called : Call) (role : StepRole) → ConcernsItself called → IsRunning (slot_at k.parts.procs pid.0) →
+    ((starter : Pid) → role ≡ step.Commits starter → ⊥) → role_as pid.0 role ≡ role_on (view_of k) (Calls pid called) →
+    (effect (event_on (view_of k) (Calls pid called)) (now_of k)).sends ≡ []
+unfolding view_of parts_view
+own_quiet k pid called role itself running other is =
+    let t : Table = table_at k.marks in
+    let mark : Option Mark = slot_at k.marks pid.0 in
+    ap (λ r. (effect (event_in r (kind_event t pid.0 (Calls pid called) (kind_of called) mark)) (now_of k)).sends) (sym is)
+    ∙ by role other ∙ at (slot_at k.parts.procs pid.0) refl running
+  where
+    at : (slot : Option TheProc) → slot_at k.parts.procs pid.0 ≡ slot → IsRunning slot →
+        (effect (kind_event (table_at k.marks) pid.0 (Calls pid called) (kind_of called) (slot_at k.marks pid.0)) (now_of k)).sends ≡ []
+    at None e runs = absurd runs
+    at (Some proc) e runs =
+        let posts = call_posts (table_at k.marks) pid called (slot_at k.marks pid.0) (now_of k) (process_of proc) (ap process_in e) runs in
+        posts.sends ∙ itself.sends (inside_by (table_at k.marks) (slot_at k.marks pid.0)) pid.0 (process_of proc) (now_of k)
+
+    by : (role : StepRole) → ((starter : Pid) → role ≡ step.Commits starter → ⊥) →
+        (effect (event_in (role_as pid.0 role) (kind_event (table_at k.marks) pid.0 (Calls pid called) (kind_of called) (slot_at k.marks pid.0))) (now_of k)).sends
+        ≡ (effect (kind_event (table_at k.marks) pid.0 (Calls pid called) (kind_of called) (slot_at k.marks pid.0)) (now_of k)).sends
+    by step.Outside other = refl
+    by (step.Begins defers) other = refl
+    by (step.Inside starter progress) other = refl
+    by (step.Commits starter) other = absurd (other starter refl)
+    by (step.Aborts starter) other = refl

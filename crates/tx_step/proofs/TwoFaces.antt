@@ -1,0 +1,157 @@
+-- How sends to a live starter are answered, by its faces.
+use Rattle.std.proofs.Common.{◌≡◌, ℕ, ◌+◌, ◌≤◌, Bool, true, false, not, ◌&&◌, List, [], ◌∷◌, length, replicate, Option, Some, None, is_some, if◌then◌else◌, nat_lt, refl, sym, ap, ◌∙◌, Result, ℤ, pos, zero, suc, map, drop, ◌==◌, option_map, arith}
+use Rattle.std.proofs.lemmas.Bool.{false≢true}
+use Rattle.std.proofs.lemmas.Bool.Decides.{Decides-eqb, Decides-int_eq, same_from_decides}
+use Rattle.std.proofs.lemmas.List.{length-replicate}
+use Rattle.tx_base.specs.declared.errors.Errno.{Errno}
+use Rattle.tx_base.specs.declared.limits.TheConstants.{QUEUED}
+use Rattle.tx_cred.specs.Cred.{ids_of}
+use Rattle.std.specs.Ordering.{int_eq}
+use Rattle.tx_base.specs.declared.names.Sending.{Sending as TheSending}
+use Rattle.tx_step.specs.Faces.{differ, face_as, is_target, posted_to, queued_at, starter_differs}
+use Rattle.tx_step.specs.declared.faces.Faces.{Faces}
+use Rattle.tx_kernel.specs.Plans.{sending_of}
+use Rattle.tx_model.specs.Numbers.{negative}
+use Rattle.tx_kernel.specs.Posts.{HasFace}
+use Rattle.tx_kernel.specs.declared.posts.Face.{Face}
+use Rattle.tx_model.specs.Posts.{may_signal, is_quiet, post_answer}
+use Rattle.tx_model.specs.SignalSets.{is_realtime}
+use Rattle.tx_model.specs.State.{Process, Sending, booted_process}
+use Rattle.tx_signal.specs.Parts.{answer_of}
+use Rattle.tx_txn.specs.KeptParts.{kept_as}
+use Rattle.tx_txn.specs.declared.kept.Kept.{Kept}
+use Rattle.tx_txn.specs.Faces.{Face as TheFace, answer_at, face_of, pending_in, running, faces_differ, is_quiet_at, queued_after}
+
+-- a process that ended, or runs
+abbrev status_of : Bool → Option ℕ
+status_of true = Some 0
+status_of false = None
+
+-- a process with this face
+abbrev process_with : Face → Process
+process_with face = record (booted_process 1) { ids = ids_of face.ids; status = status_of face.ended; queued = replicate face.queued (record { signo = 0; value = pos 0 }) }
+
+status_ended : (b : Bool) → b ≡ is_some (status_of b)
+status_ended true = refl
+status_ended false = refl
+
+process_has : (face : Face) → HasFace face (process_with face)
+process_has face = record { ids = refl; ended = status_ended face.ended; queued = sym (length-replicate face.queued (record { signo = 0; value = pos 0 })) }
+
+-- what a post sees of a process with the face
+face_same : (face : Face) (q : Process) → HasFace face q → record { ids = q.ids; ended = is_some q.status } ≡ face_as face
+face_same face q h = λ j. record { ids = sym h.ids j; ended = sym h.ended j }
+
+-- an answer that is that of each process with the face, the face tells
+pub answer_told : (face : Face) (m : Sending) (r : Result (Unit {0}) Errno) → ((q : Process) → HasFace face q → answer_of r ≡ post_answer m (Some q)) →
+    answer_of r ≡ answer_at m (Some (face_as face)) face.queued
+answer_told face m r f =
+    f (process_with face) (process_has face)
+    ∙ (λ j. answer_at m (Some (face_same face (process_with face) (process_has face) j)) (sym (process_has face).queued j))
+
+-- whether a post gets to what is pending
+abbrev pub reaches_at : Sending → Face → Bool
+reaches_at m face = may_signal m.from (ids_of face.ids) && not (is_quiet_at m (face_as face))
+
+pub reach_told : (face : Face) (m : Sending) (b : Bool) → ((q : Process) → HasFace face q → b ≡ (may_signal m.from q.ids && not (is_quiet m q))) → b ≡ reaches_at m face
+reach_told face m b f =
+    f (process_with face) (process_has face)
+    ∙ (λ j. may_signal m.from (face_same face (process_with face) (process_has face) j).ids && not (is_quiet_at m (face_same face (process_with face) (process_has face) j)))
+
+-- how many are queued after a post, by whether it reaches what is pending
+queued_told : (m : Sending) (face : Face) → queued_after m (Some (face_as face)) face.queued
+    ≡ (if reaches_at m face then (if is_realtime m.signo then (if nat_lt face.queued QUEUED then face.queued + 1 else face.queued) else face.queued) else face.queued)
+queued_told m face = by (may_signal m.from (ids_of face.ids)) (is_quiet_at m (face_as face))
+  where
+    more : ℕ
+    more = if is_realtime m.signo then (if nat_lt face.queued QUEUED then face.queued + 1 else face.queued) else face.queued
+
+    by : (a q : Bool) → (if a then (if q then face.queued else more) else face.queued) ≡ (if a && not q then more else face.queued)
+    by true true = refl
+    by true false = refl
+    by false true = refl
+    by false false = refl
+
+-- the face after a post, where it is known how the tests come out
+pub face_after : (m : Sending) (face : Face) (b r l : Bool) → reaches_at m face ≡ b → is_realtime m.signo ≡ r → nat_lt face.queued QUEUED ≡ l →
+    record face { queued = if b then (if r then (if l then face.queued + 1 else face.queued) else face.queued) else face.queued } ≡ posted_to m face
+face_after m face b r l hb hr hl =
+    ap (λ (n : ℕ). record face { queued = n }) (sym (queued_told m face ∙ (λ j. if hb j then (if hr j then (if hl j then face.queued + 1 else face.queued) else face.queued) else face.queued)))
+
+negative_apart : (a b : ℕ) → negative a ≡ negative b → a ≡ b
+negative_apart zero zero e = refl
+negative_apart zero (suc b) e = cc
+negative_apart (suc a) zero e = cc
+negative_apart (suc a) (suc b) e = let same : a ≡ b = cc in ap suc same
+
+same_negative : (a b : ℕ) → int_eq (negative a) (negative b) ≡ (a == b)
+same_negative a b =
+    let same = Decides-int_eq (negative a) (negative b) in
+    same_from_decides (int_eq (negative a) (negative b)) (a == b) (λ e. negative_apart a b (same.0 e), λ e. same.1 (ap negative e)) (Decides-eqb a b)
+
+-- answers are the same where their numbers are
+numbers_told : (a b : ℕ) (x y : ℤ) → negative a ≡ x → negative b ≡ y → int_eq x y ≡ not (not (a == b))
+numbers_told a b x y hx hy = (λ j. int_eq (sym hx j) (sym hy j)) ∙ same_negative a b ∙ sym (twice (a == b))
+  where
+    twice : (t : Bool) → not (not t) ≡ t
+    twice true = refl
+    twice false = refl
+
+-- both faces after a post
+abbrev pub posted_both : Sending → Faces → Faces
+posted_both m faces = record { present = option_map (posted_to m) faces.present; kept = posted_to m faces.kept }
+
+-- a send to another
+pub post_elsewhere : (s : ℕ) (m : Sending) (ms : List Sending) (faces : Faces) → (m.target == s) ≡ false → differ s (m ∷ ms) faces ≡ differ s ms faces
+unfolding faces_differ
+post_elsewhere s m ms faces h = rw h refl
+
+-- a send to it, whose answers have these numbers
+pub post_here : (s : ℕ) (m : Sending) (ms : List Sending) (faces : Faces) (a b : ℕ) → (m.target == s) ≡ true →
+    negative a ≡ answer_at m (option_map face_as faces.present) (queued_at faces.present) → negative b ≡ answer_at m (Some (face_as faces.kept)) faces.kept.queued →
+    differ s (m ∷ ms) faces ≡ (if not (a == b) then true else differ s ms (posted_both m faces))
+unfolding faces_differ
+post_here s m ms faces a b here now kept = rw here (by faces.present (not (a == b)) (numbers_told a b _ _ now kept))
+  where
+    by : (present : Option Face) (d : Bool) → int_eq (answer_at m (option_map face_as present) (queued_at present)) (answer_at m (Some (face_as faces.kept)) faces.kept.queued) ≡ not d →
+        (if int_eq (answer_at m (option_map face_as present) (queued_at present)) (answer_at m (Some (face_as faces.kept)) faces.kept.queued)
+        then faces_differ s ms (option_map face_as present) (queued_after m (option_map face_as present) (queued_at present)) (Some (face_as faces.kept)) (queued_after m (Some (face_as faces.kept)) faces.kept.queued)
+        else true)
+        ≡ (if d then true else differ s ms (posted_both m (record faces { present = present })))
+    by None true h = rw h refl
+    by None false h = rw h refl
+    by (Some face) true h = rw h refl
+    by (Some face) false h = rw h refl
+
+pub sends_end : (ms : List TheSending) (i : ℕ) → length ms ≤ i → map sending_of (drop i ms) ≡ []
+sends_end [] zero few = refl
+sends_end [] (suc i) few = refl
+sends_end (m ∷ ms) zero few = let never : ⊥ = omega (arith, few) in absurd never
+sends_end (m ∷ ms) (suc i) few = sends_end ms i (omega (arith, few))
+
+pub none_differ : (s : ℕ) (faces : Faces) → differ s [] faces ≡ false
+unfolding faces_differ
+none_differ s faces = refl
+
+-- what is kept of a starter has the face with which it would run
+kept_same : (face : Face) (kept : Kept) → ((me : Process) → HasFace face (kept_as kept me)) → face_as face ≡ running (ids_of kept.ids)
+kept_same face kept f = sym (face_same face (kept_as kept (booted_process 1)) (f (booted_process 1)))
+
+-- the faces of a starter tell whether sends to it are answered otherwise
+pub faces_told : (s : ℕ) (faces : Faces) (x : Option Process) (kept : Kept) → option_map face_as faces.present ≡ face_of x → queued_at faces.present ≡ length (pending_in x).queued →
+    ((me : Process) → HasFace faces.kept (kept_as kept me)) → (ms : List Sending) → differ s ms faces ≡ starter_differs s ms x kept
+faces_told s faces x kept face queued f ms =
+    λ j. faces_differ s ms (face j) (queued j) (Some (kept_same faces.kept kept f j)) ((f (booted_process 1)).queued j)
+
+-- sends that are answered otherwise have one to that process
+pub differ_target : (s : ℕ) (ms : List Sending) (one other : Option TheFace) (first second : ℕ) → faces_differ s ms one first other second ≡ true → is_target s ms ≡ true
+unfolding faces_differ is_target
+differ_target s [] one other first second h = absurd (false≢true h)
+differ_target s (m ∷ ms) one other first second h = by (m.target == s) h (differ_target s ms one other first second)
+  where
+    by : (b : Bool) → (if b
+        then (if int_eq (answer_at m one first) (answer_at m other second) then faces_differ s ms one (queued_after m one first) other (queued_after m other second) else true)
+        else faces_differ s ms one first other second) ≡ true →
+        (faces_differ s ms one first other second ≡ true → is_target s ms ≡ true) → (if b then true else is_target s ms) ≡ true
+    by true k rest = refl
+    by false k rest = rest k

@@ -1,0 +1,21 @@
+-- What a step is to the transactions, as the machine has it.
+use Rattle.std.specs.Prelude.{ℕ, Bool, false, not, ◌==◌}
+use Rattle.tx_base.specs.declared.steps.Call.{Call}
+use Rattle.tx_base.specs.declared.steps.Call.TheVariants as call
+use Rattle.tx_step.specs.declared.roles.StepRole.{StepRole}
+use Rattle.tx_step.specs.declared.roles.StepRole.TheVariants as step
+use Rattle.tx_live.specs.Progresses.{part_of}
+use Rattle.tx_model.specs.Membership.{Role, Outside, Within, Begins, Commits, Aborts, called_by_status}
+
+-- the same, as the definitions have it, of a step of process p
+abbrev pub role_as : ℕ → StepRole → Role
+role_as p step.Outside = Outside
+role_as p (step.Begins defers) = Within p (Begins defers)
+role_as p (step.Inside starter progress) = Within starter.0 (part_of progress)
+role_as p (step.Commits starter) = Commits starter.0
+role_as p (step.Aborts starter) = Aborts starter.0 called_by_status
+
+-- whether the call of process p, which runs, ends it
+abbrev pub ends_process : ℕ → Call → Bool
+ends_process p (call.Exit status) = not (p == 1)
+ends_process p call = false

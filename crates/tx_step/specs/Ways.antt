@@ -1,0 +1,41 @@
+-- Who makes a step, and what is posted with it, by what the step is to the transactions.
+use Rattle.std.specs.Prelude.{◌≡◌, ◌++◌, ℕ, List, [], Option}
+use Rattle.tx_base.specs.Slots.{slot_at}
+use Rattle.tx_base.specs.declared.names.Pid.{Pid}
+use Rattle.tx_base.specs.declared.steps.Call.{Call}
+use Rattle.tx_step.specs.Faces.{sent_at_commit}
+use Rattle.tx_step.specs.declared.roles.StepRole.{StepRole}
+use Rattle.tx_step.specs.declared.roles.StepRole.TheVariants.{Outside, Begins, Inside, Commits, Aborts}
+use Rattle.tx_kernel.specs.Actors.{CountsHeld, IsActor, inside_of}
+use Rattle.tx_kernel.specs.Plans.{sent_at_once}
+use Rattle.tx_kernel.specs.declared.planned.Sends.{Sends}
+use Rattle.tx_kernel.specs.declared.actor.Actor.{Actor}
+use Rattle.tx_live.specs.Content.{held_of}
+use Rattle.tx_live.specs.declared.content.Content.{Content}
+use Rattle.tx_model.specs.Calls.{call_effect}
+use Rattle.tx_model.specs.Effects.{Inside as TheInside}
+use Rattle.tx_model.specs.Footprints.{call_row}
+use Rattle.tx_model.specs.Membership.{Table, inside_by}
+use Rattle.tx_model.specs.State.{Process, Sending, State}
+use Rattle.tx_txn.specs.Marks.{table_at}
+
+-- what the step sends at once; and where it commits, what is held then
+abbrev pub posted_with : Content → StepRole → Sends → List Sending
+posted_with k Outside first = sent_at_once first
+posted_with k (Begins defers) first = sent_at_once first
+posted_with k (Inside starter progress) first = sent_at_once first
+posted_with k (Commits starter) first = sent_at_once first ++ (held_of k starter.0 ++ sent_at_commit first)
+posted_with k (Aborts starter) first = sent_at_once first
+
+-- the process of a number, with the transaction that it is a member of
+pub record IsOwnActor (k : Content) (pid : Pid) (actor : Actor) : Type 0 where
+  pub parts : actor.parts.now ≡ k.parts
+  pub pid_is : actor.pid ≡ pid
+  pub is : IsActor actor
+  pub inside : inside_of actor.inside ≡ inside_by (table_at k.marks) (slot_at k.marks pid.0)
+  pub counts : CountsHeld actor.inside (held_of k)
+
+-- the call names nothing beside its process, and sends nothing, whoever makes it
+pub record ConcernsItself (call : Call) : Type 0 where
+  pub names : (t : Table) (p : ℕ) (me : Process) (S : State) → call_row t p call me S ≡ []
+  pub sends : (inside : Option TheInside) (p : ℕ) (me : Process) (S : State) → (call_effect inside p call me S).sends ≡ []

@@ -1,0 +1,131 @@
+//! How sends to the starter of a live transaction are answered, now and after its abort.
+ghost use Rattle.std.specs.Prelude.{◌≡◌, ◌∷◌, ◌++◌, List, Some, true, if◌then◌else◌, length, map, option_map};
+ghost use Rattle.tx_base.specs.Slots.{slot_at};
+ghost use Rattle.tx_step.specs.Faces.{differ, face_as, posted_to, queued_at, sent, starter_differs};
+ghost use Rattle.tx_kernel.specs.Plans.{sending_of};
+ghost use Rattle.tx_model.specs.Numbers.{negative};
+ghost use Rattle.tx_model.specs.State.{Sending as TheSending};
+ghost use Rattle.tx_proc.specs.Processes.{process_in};
+ghost use Rattle.tx_signal.specs.Parts.{answer_of};
+ghost use Rattle.tx_txn.specs.Faces.{answer_at, face_of, pending_in};
+
+use tx_base::{Errno, Pid, QUEUED, Sending};
+use tx_change::Parts;
+use tx_kernel::{Face, Sends};
+use tx_signal::is_realtime;
+use tx_txn::Kept;
+
+/// What of the starter of a live transaction decides how posts to it are answered.
+#[derive(Clone, Copy)]
+pub(crate) struct Faces {
+    /// As it is now; nothing where there is no such process.
+    pub present: Option<Face>,
+    /// As it would be after an abort.
+    pub kept: Face,
+}
+
+impl Faces {
+    /// The faces of the process of a number, by what is kept of it.
+    pub fn of(parts: &Parts, pid: Pid, kept: &Kept) -> Faces
+        ensures { (ms : List TheSending) → differ pid.0 ms result ≡ starter_differs pid.0 ms (process_in (slot_at parts.now.procs pid.0)) kept.now }
+    {
+        Faces {
+            present: face_of(parts, pid),
+            kept: kept.face(),
+        }
+    }
+
+    /// Whether one of these sends to the process is answered otherwise now than after an abort, where
+    /// each is posted in turn: what is sent at once first, then what is held, and last what is handed out.
+    pub fn differ(self, pid: Pid, first: &Sends, held: &[Sending]) -> bool
+        ensures { result ≡ differ pid.0 (sent first.now held.now) self }
+    {
+        let mut faces = self;
+        match first {
+            Sends::Nothing => faces.post_all(pid, held),
+            Sends::AtOnce(sending) => faces.post(pid, sending) || faces.post_all(pid, held),
+            Sends::AtCommit(sending) => faces.post_all(pid, held) || faces.post(pid, sending),
+        }
+    }
+
+    /// Posts these that are held to both. Whether one is answered otherwise at the one than at the other.
+    fn post_all(&mut self, pid: Pid, held: &[Sending]) -> bool
+        ensures { (ms : List TheSending) → differ pid.0 (map sending_of held.now ++ ms) self.old ≡ (if result then true else differ pid.0 ms self.new) }
+    {
+        for place in 0..held.len() {
+            if self.post(pid, &held[place]) {
+                return true;
+            }
+        }
+        false
+    }
+
+    /// Posts a signal to both, if it is for the process. Whether it is answered otherwise at the one
+    /// than at the other.
+    fn post(&mut self, pid: Pid, sending: &Sending) -> bool
+        ensures { (ms : List TheSending) → differ pid.0 (sending_of sending.now ∷ ms) self.old ≡ (if result then true else differ pid.0 ms self.new) }
+    {
+        if sending.target != pid {
+            return false;
+        }
+        let present = number(answer(self.present, sending));
+        let kept = number(self.kept.answer(sending));
+        *self = Faces {
+            present: after_if(self.present, sending),
+            kept: after(self.kept, sending),
+        };
+        present != kept
+    }
+}
+
+/// The face of the process of a number, if there is one.
+fn face_of(parts: &Parts, pid: Pid) -> Option<Face>
+    ensures face { option_map face_as result ≡ face_of (process_in (slot_at parts.now.procs pid.0)) }
+    ensures queued { queued_at result ≡ length (pending_in (process_in (slot_at parts.now.procs pid.0))).queued }
+{
+    match parts.proc(pid) {
+        Some(proc) => Some(Face::of(proc)),
+        None => None,
+    }
+}
+
+/// How a post to a process is answered, by its face if there is such a process.
+fn answer(face: Option<Face>, sending: &Sending) -> Result<(), Errno>
+    ensures { answer_of result ≡ answer_at (sending_of sending.now) (option_map face_as face) (queued_at face) }
+{
+    match face {
+        Some(face) => face.answer(sending),
+        None => Err(Errno::NoSuchProcess),
+    }
+}
+
+/// The number of the error that a post is answered with, and 0 where there is none.
+fn number(answer: Result<(), Errno>) -> u8
+    ensures { negative result ≡ answer_of answer }
+{
+    match answer {
+        Ok(()) => 0,
+        Err(errno) => errno.number(),
+    }
+}
+
+/// The face after a post, if there is such a process.
+fn after_if(face: Option<Face>, sending: &Sending) -> Option<Face>
+    ensures { result ≡ option_map (posted_to (sending_of sending.now)) face }
+{
+    match face {
+        Some(face) => Some(after(face, sending)),
+        None => None,
+    }
+}
+
+/// The face after a post.
+fn after(face: Face, sending: &Sending) -> Face
+    ensures { result ≡ posted_to (sending_of sending.now) face }
+{
+    let mut face = face;
+    if face.reaches(sending) && is_realtime(sending.signo) && face.queued < QUEUED {
+        face.queued += 1;
+    }
+    face
+}

@@ -1,0 +1,96 @@
+//! Who is in the way of a step.
+ghost use Rattle.std.specs.Prelude.{◌≡◌, option_map};
+ghost use Rattle.tx_step.specs.Faces.{sent};
+ghost use Rattle.tx_step.specs.Holder.{IsOfMember, gives_two_answers, least_target, passing};
+ghost use Rattle.tx_live.specs.Content.{content_of, now_of, view_of};
+ghost use Rattle.tx_live.specs.Insides.{IsFootprint};
+ghost use Rattle.tx_model.specs.Events.{Event, effect};
+ghost use Rattle.tx_model.specs.View.{holder};
+ghost use Rattle.tx_reserve.specs.Reservations.{lesser_of, number_of};
+ghost use Rattle.tx_txn.specs.Content.{IsKept};
+
+use crate::faces::Faces;
+use tx_base::{Pid, Sending};
+use tx_kernel::Sends;
+use tx_live::Content;
+use tx_reserve::Objects;
+use tx_txn::answers_of_faces;
+
+/// The least starter whose live transaction is in the way of a step: it owns an object of the step's
+/// footprint, or one of the sends to the starter is answered otherwise now than after its abort. The own
+/// transaction, of which the process of the step is a member, is never in the way. Nothing where none
+/// is. It takes no memory.
+///
+/// The step sends the first signal at once, and then what is held, where it commits; what it hands out
+/// itself comes last.
+pub fn find_holder(
+    content: &Content,
+    own: Option<Pid>,
+    footprint: &Objects,
+    first: &Sends,
+    held: &[Sending],
+) -> Option<Pid>
+    requires { IsKept (content_of content.now) }
+    ensures { (event : Event) → IsFootprint content.now event footprint.now → (effect event (now_of content.now)).sends ≡ sent first.now held.now →
+        IsOfMember content.now (option_map number_of own) event → option_map number_of result ≡ holder (view_of content.now) event }
+{
+    answers_of_faces();
+    let owner = content.owners.conflict(footprint, own);
+    let target = least_target(content, own, first, held);
+    lesser(owner, target)
+}
+
+/// The least starter of a live transaction but the own one at which one of the sends has two answers:
+/// it is answered otherwise now than after the abort.
+fn least_target(content: &Content, own: Option<Pid>, first: &Sends, held: &[Sending]) -> Option<Pid>
+    ensures { option_map number_of result ≡ least_target (gives_two_answers content.now (option_map number_of own) (sent first.now held.now)) (sent first.now held.now) }
+{
+    let mut least = match first {
+        Sends::Nothing => None,
+        Sends::AtOnce(sending) => target(content, own, sending.target, first, held),
+        Sends::AtCommit(_) => None,
+    };
+    for place in 0..held.len() {
+        least = lesser(least, target(content, own, held[place].target, first, held));
+    }
+    match first {
+        Sends::AtCommit(sending) => lesser(
+            least,
+            target(content, own, sending.target, first, held),
+        ),
+        _ => least,
+    }
+}
+
+/// The target of a send, if it is such a starter.
+fn target(
+    content: &Content,
+    own: Option<Pid>,
+    pid: Pid,
+    first: &Sends,
+    held: &[Sending],
+) -> Option<Pid>
+    ensures { option_map number_of result ≡ passing (gives_two_answers content.now (option_map number_of own) (sent first.now held.now)) pid.0 }
+{
+    if own == Some(pid) {
+        return None;
+    }
+    let boxed = content.txns.get(pid)?;
+    let faces = Faces::of(&content.parts, pid, &boxed.txn.kept);
+    if faces.differ(pid, first, held) {
+        Some(pid)
+    } else {
+        None
+    }
+}
+
+/// The lesser of two numbers, of which either may be missing.
+fn lesser(a: Option<Pid>, b: Option<Pid>) -> Option<Pid>
+    ensures { option_map number_of result ≡ lesser_of (option_map number_of a) (option_map number_of b) }
+{
+    match (a, b) {
+        (None, b) => b,
+        (Some(a), Some(b)) if b.0 < a.0 => Some(b),
+        (a, _) => a,
+    }
+}

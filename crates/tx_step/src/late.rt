@@ -1,0 +1,42 @@
+//! Why what a process is asked to do was refused as it was planned.
+ghost use Rattle.std.specs.Prelude.{◌≡◌};
+ghost use Rattle.tx_base.specs.Slots.{slot_at};
+ghost use Rattle.tx_step.specs.Contents.{IsContent};
+ghost use Rattle.tx_step.specs.Late.{IsWhyNot, TellsRule};
+ghost use Rattle.tx_kernel.specs.Acts.{event_of};
+ghost use Rattle.tx_live.specs.Content.{now_of};
+ghost use Rattle.tx_live.specs.Made.{IsRunning};
+ghost use Rattle.tx_model.specs.Membership.{inside_by};
+ghost use Rattle.tx_txn.specs.Marks.{table_at};
+
+use crate::ways::actor_of;
+use tx_base::{Pid, Refusal};
+use tx_kernel::Act;
+use tx_live::Content;
+
+/// Why what a process that runs is asked to do was refused as it was planned: the reason of its rule,
+/// and NoMemory where the rule lets it be made. It takes no memory.
+pub fn late_refusal(content: &Content, pid: Pid, act: &Act) -> Refusal
+    requires content { IsContent content.now }
+    requires running { IsRunning (slot_at content.now.parts.procs pid.0) }
+    ensures { IsWhyNot (event_of (inside_by (table_at content.now.marks) (slot_at content.now.marks pid.0)) pid act.now) (now_of content.now) result }
+{
+    match refusal_of_rule(content, pid, act) {
+        Some(why) => why,
+        None => Refusal::NoMemory,
+    }
+}
+
+/// Why the rule of what a process that runs is asked to do refuses it, if it does.
+fn refusal_of_rule(content: &Content, pid: Pid, act: &Act) -> Option<Refusal>
+    requires content { IsContent content.now }
+    requires running { IsRunning (slot_at content.now.parts.procs pid.0) }
+    ensures { TellsRule (event_of (inside_by (table_at content.now.marks) (slot_at content.now.marks pid.0)) pid act.now) (now_of content.now) result }
+{
+    let actor = actor_of(content, pid);
+    match act {
+        Act::Call(call) => actor.refusal_of_call(call),
+        Act::Delivery(signo) => actor.refusal_of_delivery(*signo),
+        Act::Answer(_) => None,
+    }
+}

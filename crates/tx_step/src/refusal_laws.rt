@@ -1,0 +1,49 @@
+//! The laws that early refusals stand on, and how they stand to all refusals; and what is so of contents.
+ghost use Rattle.tx_step.specs.Contents.{BootedIsContent, ContentsAreWhole};
+ghost use Rattle.tx_step.specs.Early.{RefusalIsEarly};
+ghost use Rattle.tx_step.specs.RefusalLaws.{JudgeLaws, WayLaws};
+
+use tx_kernel::well_formed_are_orderly;
+use tx_laws::{answers_of_parts, footprints, inside, well_formed, well_formed_table};
+use tx_reserve::footprints_are_within;
+use tx_txn::answers_of_faces;
+
+/// The laws on which the proofs of early refusals stand. It does nothing.
+pub(crate) fn laws()
+    ensures { JudgeLaws }
+{
+    answers_of_parts();
+    answers_of_faces();
+}
+
+/// The laws on which the proofs of ways stand. It does nothing.
+pub(crate) fn way_laws()
+    ensures { WayLaws }
+{
+    answers_of_parts();
+    footprints();
+    inside();
+    footprints_are_within();
+}
+
+/// The definitions refuse a step for its first early reason; and where it has none, because somebody is
+/// in its way, or not at all.
+pub fn refusals_are_early()
+    ensures { RefusalIsEarly }
+{}
+
+/// The parts of a content that steps lead to are whole.
+pub fn contents_are_whole()
+    ensures { ContentsAreWhole }
+{
+    answers_of_parts();
+    well_formed_are_orderly();
+}
+
+/// What a kernel keeps as it is booted is a content that steps lead to.
+pub fn booted_is_content()
+    ensures { BootedIsContent }
+{
+    well_formed();
+    well_formed_table();
+}

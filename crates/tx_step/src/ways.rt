@@ -1,0 +1,225 @@
+//! What a step names, and who is in its way.
+ghost use Rattle.std.specs.Option.{option_copied};
+ghost use Rattle.std.specs.Prelude.{◌≡◌, true, false, map, length, [], ◌∷◌, option_map};
+ghost use Rattle.tx_base.specs.Slots.{slot_at};
+ghost use Rattle.tx_base.specs.declared.steps.Step.TheVariants.{Call as Calls, Deliver};
+ghost use Rattle.tx_step.specs.Contents.{IsContent};
+ghost use Rattle.tx_step.specs.Faces.{sent};
+ghost use Rattle.tx_step.specs.Holder.{IsOfMember, starter_in};
+ghost use Rattle.tx_step.specs.Roles.{role_as};
+ghost use Rattle.tx_step.specs.Ways.{IsOwnActor, posted_with};
+ghost use Rattle.tx_kernel.specs.Actors.{CountsHeld, inside_of};
+ghost use Rattle.tx_kernel.specs.Plans.{sending_of, sent_at_once};
+ghost use Rattle.tx_laws.specs.Footprints.{is_abort};
+ghost use Rattle.tx_live.specs.Content.{content_of, held_of, now_of, view_of, IsShaped};
+ghost use Rattle.tx_live.specs.Insides.{IsFootprint};
+ghost use Rattle.tx_live.specs.Made.{IsRunning};
+ghost use Rattle.tx_model.specs.Answer.{has_bad_number};
+ghost use Rattle.tx_model.specs.Events.{Event, effect};
+ghost use Rattle.tx_model.specs.Membership.{inside_by};
+ghost use Rattle.tx_model.specs.State.{Object as TheObject, Proc};
+ghost use Rattle.tx_model.specs.View.{event_on, holder, role_on};
+ghost use Rattle.tx_reserve.specs.Footprints.{GoesBy, IsSetOf, table_of};
+ghost use Rattle.tx_reserve.specs.Objects.{is_in};
+ghost use Rattle.tx_reserve.specs.Reservations.{number_of};
+ghost use Rattle.tx_txn.specs.Content.{IsKept};
+ghost use Rattle.tx_txn.specs.Marks.{table_at};
+
+use crate::holder::find_holder;
+use crate::own::concerns_itself;
+use crate::refusal_laws::{contents_are_whole, way_laws};
+use crate::roles::{StepRole, is_last_part};
+use tx_base::{Call, Pid, Sending, Signo};
+use tx_kernel::{Actor, Inside, Sends};
+use tx_live::Content;
+use tx_reserve::{Object, Objects, footprint_of_call, footprint_of_delivery};
+use tx_txn::answers_of_faces;
+
+/// Puts what a call of a process that runs names into an empty set, and tells who is in its way, where the
+/// call chooses no bad number and is this to the transactions. It takes no memory.
+pub fn way_of_call(
+    content: &Content,
+    pid: Pid,
+    call: &Call,
+    role: StepRole,
+    footprint: &mut Objects,
+) -> Option<Pid>
+    requires content { IsContent content.now }
+    requires running { IsRunning (slot_at content.now.parts.procs pid.0) }
+    requires numbers { has_bad_number (length content.now.parts.procs) (Calls pid call.now) ≡ false }
+    requires role { role_as pid.0 role ≡ role_on (view_of content.now) (Calls pid call.now) }
+    requires empty { (o : TheObject) → is_in footprint.old o ≡ false }
+    ensures footprint { IsFootprint content.now (event_on (view_of content.now) (Calls pid call.now)) footprint.new }
+    ensures holder { option_map number_of result ≡ holder (view_of content.now) (event_on (view_of content.now) (Calls pid call.now)) }
+{
+    way_laws();
+    match role {
+        StepRole::Aborts(starter) => way_of_process(content, Some(starter), starter, footprint),
+        StepRole::Commits(_) => way_of_others_call(content, pid, call, role, footprint),
+        _ if concerns_itself(call) => {
+            way_of_process(content, starter_of(content, pid), pid, footprint)
+        }
+        _ => way_of_others_call(content, pid, call, role, footprint),
+    }
+}
+
+/// Puts what the delivery of a signal to a process that runs names into an empty set, and tells who is in
+/// its way, where it is this to the transactions. It takes no memory.
+pub fn way_of_delivery(
+    content: &Content,
+    pid: Pid,
+    signo: Signo,
+    role: StepRole,
+    footprint: &mut Objects,
+) -> Option<Pid>
+    requires content { IsContent content.now }
+    requires running { IsRunning (slot_at content.now.parts.procs pid.0) }
+    requires role { role_as pid.0 role ≡ role_on (view_of content.now) (Deliver pid signo) }
+    requires empty { (o : TheObject) → is_in footprint.old o ≡ false }
+    ensures footprint { IsFootprint content.now (event_on (view_of content.now) (Deliver pid signo)) footprint.new }
+    ensures holder { option_map number_of result ≡ holder (view_of content.now) (event_on (view_of content.now) (Deliver pid signo)) }
+{
+    way_laws();
+    let actor = actor_of(content, pid);
+    let last = last_held(content, pid);
+    footprint_of_delivery(&actor, &content.marks, last, signo, footprint);
+    let first = actor.sends_of_delivery(signo);
+    holder_of(content, pid, role, footprint, &first)
+}
+
+/// The same as `way_of_call` of a call that aborts nothing, and may concern others than its process.
+fn way_of_others_call(
+    content: &Content,
+    pid: Pid,
+    call: &Call,
+    role: StepRole,
+    footprint: &mut Objects,
+) -> Option<Pid>
+    requires content { IsContent content.now }
+    requires running { IsRunning (slot_at content.now.parts.procs pid.0) }
+    requires numbers { has_bad_number (length content.now.parts.procs) (Calls pid call.now) ≡ false }
+    requires role { role_as pid.0 role ≡ role_on (view_of content.now) (Calls pid call.now) }
+    requires no_abort { is_abort (role_on (view_of content.now) (Calls pid call.now)) ≡ false }
+    requires empty { (o : TheObject) → is_in footprint.old o ≡ false }
+    ensures footprint { IsFootprint content.now (event_on (view_of content.now) (Calls pid call.now)) footprint.new }
+    ensures holder { option_map number_of result ≡ holder (view_of content.now) (event_on (view_of content.now) (Calls pid call.now)) }
+{
+    way_laws();
+    let actor = actor_of(content, pid);
+    let last = last_held(content, pid);
+    footprint_of_call(&actor, &content.marks, last, call, footprint);
+    let first = actor.sends_of_call(call);
+    holder_of(content, pid, role, footprint, &first)
+}
+
+/// Puts one process into an empty set, and tells who is in the way of a step that names it alone and sends
+/// nothing: the owner of the process, unless it is the own transaction.
+fn way_of_process(
+    content: &Content,
+    own: Option<Pid>,
+    process: Pid,
+    footprint: &mut Objects,
+) -> Option<Pid>
+    requires kept { IsKept (content_of content.now) }
+    requires empty { (o : TheObject) → is_in footprint.old o ≡ false }
+    ensures set { IsSetOf footprint.new (Proc process.0 ∷ []) }
+    ensures holder { (event : Event) → IsFootprint content.now event footprint.new → (effect event (now_of content.now)).sends ≡ [] →
+        IsOfMember content.now (option_map number_of own) event → option_map number_of result ≡ holder (view_of content.now) event }
+{
+    answers_of_faces();
+    footprint.insert(Object::Proc(process));
+    content.owners.other_owner(Object::Proc(process), own)
+}
+
+/// The process of a number, which runs, with the transaction that it is a member of. It takes no memory.
+pub fn actor_of<'a>(content: &'a Content, pid: Pid) -> Actor<'a>
+    requires content { IsContent content.now }
+    requires running { IsRunning (slot_at content.now.parts.procs pid.0) }
+    ensures { IsOwnActor content.now pid result }
+{
+    contents_are_whole();
+    let proc = content.parts.proc(pid).unwrap();
+    let inside = inside_of(content, pid);
+    Actor {
+        parts: &content.parts,
+        pid,
+        proc,
+        inside,
+    }
+}
+
+/// The transaction that a process is a member of, if it is one.
+fn inside_of<'a>(content: &'a Content, pid: Pid) -> Option<Inside<'a>>
+    requires shaped { IsShaped content.now }
+    requires kept { IsKept (content_of content.now) }
+    ensures inside { inside_of result ≡ inside_by (table_at content.now.marks) (slot_at content.now.marks pid.0) }
+    ensures held { CountsHeld result (held_of content.now) }
+{
+    let mark = content.marks.get(pid)?;
+    let boxed = content.txns.get(mark.starter).unwrap();
+    Some(boxed.txn.inside(&content.marks))
+}
+
+/// What the transaction of a process holds, where the process is a member and no other member's part is
+/// open.
+fn last_held<'a>(content: &'a Content, pid: Pid) -> Option<&'a [Sending]>
+    requires shaped { IsShaped content.now }
+    requires kept { IsKept (content_of content.now) }
+    ensures { GoesBy (table_of content.now.parts content.now.marks) pid.0 (slot_at content.now.marks pid.0) (option_copied result) (held_of content.now) }
+{
+    let mark = content.marks.get(pid)?;
+    if is_last_part(content, mark.starter, pid) {
+        Some(held_by(content, mark.starter))
+    } else {
+        None
+    }
+}
+
+/// What the transaction of a starter holds; nothing where none is live.
+fn held_by<'a>(content: &'a Content, starter: Pid) -> &'a [Sending]
+    ensures { map sending_of result.now ≡ held_of content.now starter.0 }
+{
+    match content.txns.get(starter) {
+        Some(boxed) => boxed.txn.outbox.held(),
+        None => &[],
+    }
+}
+
+/// The starter of the transaction that a process is a member of, if it is one.
+fn starter_of(content: &Content, pid: Pid) -> Option<Pid>
+    ensures { option_map number_of result ≡ starter_in (slot_at content.now.marks pid.0) }
+{
+    let mark = content.marks.get(pid)?;
+    Some(mark.starter)
+}
+
+/// Who is in the way of a step of a process, which sends this first.
+fn holder_of(
+    content: &Content,
+    pid: Pid,
+    role: StepRole,
+    footprint: &Objects,
+    first: &Sends,
+) -> Option<Pid>
+    requires { IsKept (content_of content.now) }
+    ensures { (event : Event) → IsFootprint content.now event footprint.now → (effect event (now_of content.now)).sends ≡ posted_with content.now role first.now →
+        IsOfMember content.now (starter_in (slot_at content.now.marks pid.0)) event → option_map number_of result ≡ holder (view_of content.now) event }
+{
+    let own = starter_of(content, pid);
+    match role {
+        StepRole::Commits(starter) => {
+            find_holder(content, own, footprint, first, held_by(content, starter))
+        }
+        _ => find_holder(content, own, footprint, &at_once(first), &[]),
+    }
+}
+
+/// What is sent at once of this.
+fn at_once(first: &Sends) -> Sends
+    ensures { sent result [] ≡ sent_at_once first.now }
+{
+    match first {
+        Sends::AtOnce(sending) => Sends::AtOnce(*sending),
+        _ => Sends::Nothing,
+    }
+}

@@ -1,0 +1,66 @@
+//! Each public call on pages, and each plan of one.
+use std::alloc::Global;
+use std::test::Fail;
+use tx_pages::{Access, PageError, Space};
+
+/// The byte at an address, where its page is mapped.
+fn byte(space: &Space, address: i64) -> Option<u8> {
+    space.load(address).ok()
+}
+
+#[test]
+fn pages_are_mapped_and_written(rt: HostRuntime) -> Result<(), Fail> {
+    let mut space = Space::new();
+    space.map(rt.alloc(), 0)?;
+    space.map(rt.alloc(), 1)?;
+    space.store(rt.alloc(), 62, &[1, 2, 3])?;
+    let mut bytes = [9; 4];
+    space.take(61, &mut bytes)?;
+    assert!(rt; bytes == [0, 1, 2, 3]);
+    space.protect(0, false)?;
+    assert!(rt; space.is_good(Access::Read, 0, 128) && !space.is_good(Access::Write, 63, 2));
+    space.unmap(1)?;
+    assert!(rt; byte(&space, 63) == Some(2) && byte(&space, 64).is_none());
+    Ok(())
+}
+
+#[test]
+fn copies_of_pages_stay_apart(rt: HostRuntime) -> Result<(), Fail> {
+    let mut parent = Space::new();
+    parent.map(rt.alloc(), 0)?;
+    let mut kept = parent.copy_page(0)?;
+    let mut child = parent.copy()?;
+    child.store(rt.alloc(), 3, &[6])?;
+    assert!(rt; byte(&parent, 3) == Some(0) && byte(&child, 3) == Some(6));
+    child.swap_page(0, &mut kept);
+    assert!(rt; byte(&child, 3) == Some(0) && kept.is_some());
+    Ok(())
+}
+
+/// Whether the plans of a map of page 1, of a protect and of an unmap of page 0 are what they are to be.
+fn are_planned(alloc: Global, space: &Space) -> Result<bool, PageError> {
+    let mapped = space.plan_map(alloc, 1)?;
+    let closed = space.plan_protect(0, false)?;
+    let gone = space.plan_unmap(0)?;
+    let is_closed = closed.page.is_some_and(|page| !page.is_writable());
+    Ok(mapped.number == 1 && is_closed && gone.page.is_none())
+}
+
+/// Stores a byte in page 0 by a plan. Answers what was there when it was planned.
+fn store_by_plan(alloc: Global, space: &mut Space) -> Result<Option<u8>, PageError> {
+    let stored = space.plan_store(alloc, 5, &[2])?;
+    let before = byte(space, 5);
+    space.put_pages(stored);
+    Ok(before)
+}
+
+#[test]
+fn plans_of_pages_change_nothing(rt: HostRuntime) -> Result<(), Fail> {
+    let mut space = Space::new();
+    space.map(rt.alloc(), 0)?;
+    assert!(rt; are_planned(rt.alloc(), &space)?);
+    assert!(rt; space.is_good(Access::Write, 0, 64) && space.page(1).is_none());
+    assert!(rt; store_by_plan(rt.alloc(), &mut space)? == Some(0));
+    assert!(rt; byte(&space, 5) == Some(2));
+    Ok(())
+}

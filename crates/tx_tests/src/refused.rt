@@ -1,0 +1,205 @@
+//! Growths that are refused. Each test passes also where one growth of memory is refused to it, whichever
+//! it is: it looks at what holds after the refusal, and goes on. Where the growth is one of its own texts,
+//! it ends.
+ghost use Rattle.std.specs.Prelude.{IfSome};
+ghost use Rattle.tx_journal.specs.Sessions.{IsAtEnd};
+
+use crate::runs::{go, kept, ran};
+use crate::schedules::{NUMBERS_AGAIN, SIDE_BY_SIDE, numbers_again, side_by_side};
+use crate::sessions::make_steps;
+use crate::texts::{told, told_by};
+use std::alloc::Global;
+use std::process::Abort;
+use tx_base::{Accepted, NoMemory, Step};
+use tx_core::{Kept, Ran};
+use tx_journal::{GotoFault, Session};
+use tx_pages::{PageError, Space};
+use tx_text::print_state;
+
+/// Whether the text is what is wanted. One that was refused memory is.
+fn is_text(text: Result<String, NoMemory>, wanted: &str) -> bool {
+    match text {
+        Ok(text) => text.as_str() == wanted,
+        Err(NoMemory) => true,
+    }
+}
+
+/// Whether two texts are the same. One that was refused memory is the same as any.
+fn are_same(one: Result<String, NoMemory>, other: Result<String, NoMemory>) -> bool {
+    match (one, other) {
+        (Ok(one), Ok(other)) => one.as_str() == other.as_str(),
+        _ => true,
+    }
+}
+
+#[test]
+fn a_run_is_made_whole_the_second_time(rt: HostRuntime) {
+    let steps = side_by_side();
+    let made = match ran(rt.alloc(), 3, &steps) {
+        Ok(made) => made,
+        Err(NoMemory) => match ran(rt.alloc(), 3, &steps) {
+            Ok(made) => made,
+            Err(NoMemory) => panic!(rt; "one growth alone is refused"),
+        },
+    };
+    assert!(rt; is_text(told(rt.alloc(), &made), SIDE_BY_SIDE));
+}
+
+/// The run, kept up to where it stopped.
+fn kept_run(rt: &impl Abort, alloc: Global, steps: &[Step]) -> Kept {
+    match kept(alloc, steps) {
+        Ok(first) => first,
+        Err(NoMemory) => match kept(alloc, steps) {
+            Ok(second) => second,
+            Err(NoMemory) => panic!(rt; "one growth alone is refused"),
+        },
+    }
+}
+
+/// Whether a run tells what that of these steps from two processes tells. It does where memory is
+/// refused.
+fn is_run_of(alloc: Global, run: &Ran, steps: &[Step]) -> bool {
+    match ran(alloc, 2, steps) {
+        Ok(whole) => are_same(told(alloc, &whole), told(alloc, run)),
+        Err(NoMemory) => true,
+    }
+}
+
+/// Makes the steps that are left of a run. Whether all were made.
+fn go_on(alloc: Global, ran: &mut Ran, left: &[Step]) -> bool {
+    for step in left {
+        let (reply, _inverse) = ran.machine.step(alloc, step);
+        let step = step.copy();
+        if reply.wants_memory() || ran.history.push(Accepted { step, reply }).is_err() {
+            return false;
+        }
+    }
+    true
+}
+
+#[test]
+fn a_kept_run_goes_on_where_it_stopped(rt: HostRuntime) {
+    let steps = numbers_again();
+    let first = kept_run(&rt, rt.alloc(), &steps);
+    let stopped = first.stopped.unwrap_or(steps.len()).min(steps.len());
+    let (made, left) = steps.split_at(stopped);
+    let mut run = first.ran;
+    assert!(rt; is_run_of(rt.alloc(), &run, made), "stopped at {stopped}");
+    assert!(rt; go_on(rt.alloc(), &mut run, left));
+    assert!(rt;
+        is_text(told(rt.alloc(), &run), NUMBERS_AGAIN),
+        "stopped at {stopped}"
+    );
+}
+
+/// A session before its first step.
+fn booted(rt: &impl Abort, alloc: Global) -> Session
+    ensures { IsAtEnd result }
+{
+    match Session::boot(alloc, 3) {
+        Ok(session) => session,
+        Err(NoMemory) => match Session::boot(alloc, 3) {
+            Ok(session) => session,
+            Err(NoMemory) => panic!(rt; "one growth alone is refused"),
+        },
+    }
+}
+
+/// The steps but for that of a place. Nothing where they were refused memory.
+fn without(alloc: Global, steps: &[Step], place: Option<usize>) -> Option<Vec<Step>> {
+    let mut others = Vec::new(alloc);
+    for (i, step) in steps.iter().enumerate() {
+        if place != Some(i) {
+            others.push(step.copy()).ok()?;
+        }
+    }
+    Some(others)
+}
+
+/// Whether a session tells what the run of these steps tells. It does where memory is refused.
+fn tells_of(alloc: Global, session: &Session, steps: &[Step]) -> bool {
+    match ran(alloc, 3, steps) {
+        Ok(whole) => are_same(told(alloc, &whole), told_by(alloc, session)),
+        Err(NoMemory) => true,
+    }
+}
+
+#[test]
+fn a_refused_step_has_not_come(rt: HostRuntime) {
+    let steps = side_by_side();
+    let mut session = booted(&rt, rt.alloc());
+    let refused = make_steps(rt.alloc(), &mut session, &steps);
+    let Some(others) = without(rt.alloc(), &steps, refused) else {
+        return;
+    };
+    let same = tells_of(rt.alloc(), &session, others.as_slice());
+    assert!(rt; same, "without {refused:?}");
+    let whole = is_text(told_by(rt.alloc(), &session), SIDE_BY_SIDE);
+    assert!(rt; whole || refused.is_some());
+}
+
+/// Whether a session stands where so many of the steps are made. It does where memory is refused.
+fn stands_after(alloc: Global, session: &Session, steps: &[Step]) -> bool {
+    match ran(alloc, 3, steps) {
+        Ok(whole) => are_same(
+            print_state(alloc, &whole.machine),
+            session.state_text(alloc),
+        ),
+        Err(NoMemory) => true,
+    }
+}
+
+#[test]
+fn a_walk_stops_between(rt: HostRuntime) {
+    let steps = side_by_side();
+    let mut session = booted(&rt, rt.alloc());
+    if make_steps(rt.alloc(), &mut session, &steps).is_some() {
+        return;
+    }
+    let end = session.len();
+    assert!(rt; end == 12 && go(rt.alloc(), &mut session, 1) == Ok(()));
+    let moved = go(rt.alloc(), &mut session, end);
+    let position = session.position();
+    match moved {
+        Ok(()) => assert!(rt; position == end),
+        Err(fault) => assert!(rt; fault == GotoFault::NoMemory && position < end),
+    }
+    assert!(rt; position >= 1);
+    let (made, _left) = steps.split_at(position.min(steps.len()));
+    assert!(rt; stands_after(rt.alloc(), &session, made), "at {position}");
+    assert!(rt; go(rt.alloc(), &mut session, end) == Ok(()) || position == end);
+    assert!(rt; is_text(told_by(rt.alloc(), &session), SIDE_BY_SIDE));
+}
+
+/// A space of two pages, of which each holds a byte, and its copy.
+fn two_spaces(alloc: Global) -> Result<(Space, Space), PageError> {
+    let mut space = Space::new();
+    space.map(alloc, 0)?;
+    space.map(alloc, 1)?;
+    space.store(alloc, 63, &[7, 8])?;
+    let copy = space.copy()?;
+    Ok((space, copy))
+}
+
+/// The first two pages of a space.
+fn bytes_of(space: &Space) -> [u8; 128] {
+    let mut bytes = [0; 128];
+    let _taken = space.take(0, &mut bytes);
+    bytes
+}
+
+#[test]
+fn a_first_store_after_a_copy_is_made_or_not(rt: HostRuntime) {
+    let Ok((mut space, mut copy)) = two_spaces(rt.alloc()) else {
+        return;
+    };
+    let before = bytes_of(&space);
+    match copy.store(rt.alloc(), 63, &[9]) {
+        Ok(()) => assert!(rt; matches!(copy.load(63), Ok(9))),
+        Err(PageError::NoMemory) => assert!(rt; bytes_of(&copy) == before),
+        Err(_) => panic!(rt; "the page may be written"),
+    }
+    assert!(rt; bytes_of(&space) == before);
+    assert!(rt; space.store(rt.alloc(), 64, &[6]).is_ok() || bytes_of(&space) == before);
+    assert!(rt; matches!(copy.load(64), Ok(8)));
+}

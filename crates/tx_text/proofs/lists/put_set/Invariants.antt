@@ -1,7 +1,0 @@
-use Rattle.std.proofs.Common.{string_bytes}
-use Rattle.tx_base.specs.Signals.{bits_of}
-use Rattle.tx_text.proofs.Known.{SetSoFar}
-use Rattle.tx_text.proofs.lists.put_set.Given as goal
-
-abbrev pub invariant-loop-i : goal.invariant-loop-i
-invariant-loop-i l = SetSoFar (bits_of l.set) (string_bytes l.initial.text) (string_bytes l.text) l.some l.i

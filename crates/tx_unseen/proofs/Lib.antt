@@ -1,4 +1,0 @@
-pub mod Resigned
-pub mod UnseenParts
-pub mod UnseenCalls
-pub mod UnseenEvents

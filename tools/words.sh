@@ -1,0 +1,79 @@
+# Answers words that need no program: those that ask for help, and those that
+# the program does not understand. For scripts that set `top` and read this.
+
+# Prints the help that is kept under a name, as the program does.
+tell() {
+    printf '%s\n' "$(<"$top/tools/help/$1")" >&2
+    exit 2
+}
+
+# Says that words are not understood, and how those of a command are used.
+refuse() {
+    local command=$1 why=$2 usage
+    usage=$(grep -m 1 '^Usage:' "$top/tools/help/$command")
+    printf "error: %s\n\n%s\n\nFor more information, try '--help'.\n" "${why//[^ -~]/?}" "$usage" >&2
+    exit 2
+}
+
+# Whether a word is a number from 1 to a greatest one, as the program reads it.
+is_number() {
+    local digits=${1#+}
+    [[ $digits =~ ^0*([1-9][0-9]{0,4})$ ]] && [ "${BASH_REMATCH[1]}" -le "$2" ]
+}
+
+# The words after `help`.
+help_words() {
+    case $#:${1-} in
+        0:) tell txos ;;
+        1:replay | 1:debug | 1:run | 1:help) tell "$1" ;;
+        *) refuse txos "'$*' is no command that there is help for" ;;
+    esac
+}
+
+# The words after `replay` or `debug`, which take none.
+lone_words() {
+    local command=$1
+    shift
+    case $#:${1-} in
+        0: | 1:--) ;;
+        *:-h | *:--help) tell "$command" ;;
+        *) refuse "$command" "'$1' is not understood after $command" ;;
+    esac
+}
+
+# The words after `run`: its two numbers, each once.
+run_words() {
+    local workers='' turns='' name value
+    while [ $# -gt 0 ]; do
+        case $1 in
+            -h | --help) tell run ;;
+            --workers=* | --turns=*) name=${1%%=*} value=${1#*=} ;;
+            --workers | --turns)
+                name=$1 value=${2-}
+                [[ $value == [!-]* ]] || refuse run "$name wants a number"
+                shift
+                ;;
+            --) [ $# -eq 1 ] || refuse run "'$2' is not understood after run"; break ;;
+            *) refuse run "'$1' is not understood after run" ;;
+        esac
+        shift
+        case $name in
+            --workers) [ -z "$workers" ] && is_number "$value" 16 && workers=$value ;;
+            --turns) [ -z "$turns" ] && is_number "$value" 10000 && turns=$value ;;
+        esac || refuse run "$name is a number from 1 on, given once: 16 workers and 10000 turns at most"
+    done
+    [ -n "$workers" ] && [ -n "$turns" ] || refuse run "run wants --workers and --turns"
+}
+
+# Answers the words and ends the script, or returns where they ask for a run.
+answer_words() {
+    local LC_ALL=C
+    [ $# -gt 0 ] || tell none
+    case $1 in
+        -h | --help) tell txos ;;
+        help) help_words "${@:2}" ;;
+        replay | debug) lone_words "$@" ;;
+        run) run_words "${@:2}" ;;
+        *) refuse txos "'$1' is no command" ;;
+    esac
+}
