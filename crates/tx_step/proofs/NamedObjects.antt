@@ -1,30 +1,13 @@
 -- What changes name, which are among some objects.
-use Rattle.std.proofs.Common.{◌≡◌, Bool, true, false, List, [], ◌∷◌, ◌++◌, if◌then◌else◌, ◌⊎◌, refl, ap, ◌∙◌, inl, inr, eqb-true}
+use Rattle.std.proofs.Common.{◌≡◌, Bool, true, false, List, [], ◌∷◌, ◌++◌, if◌then◌else◌, ◌⊎◌, refl, ap, ◌∙◌, inl, inr}
 use Rattle.tx_change.specs.Exchange.{object_of}
 use Rattle.tx_change.specs.declared.change.Change.{Change}
 use Rattle.tx_change.specs.declared.change.Change.TheVariants as the
 use Rattle.tx_kernel.specs.Plans.{AreAmong}
 use Rattle.tx_laws.specs.Footprints.{is_shared}
-use Rattle.tx_model.specs.State.{Object, Proc, Desc, Pipe, Held, has, same_object}
+use Rattle.tx_model.specs.State.{Object, Desc, Pipe, has, same_object}
+use Rattle.tx_step.proofs.MetObjects.{same_is}
 use Rattle.tx_txn.specs.Content.{is_named}
-
-same_is : (o x : Object) → same_object o x ≡ true → o ≡ x
-same_is (Proc n) (Proc m) h = ap Proc (eqb-true n m h)
-same_is (Proc n) (Desc m) h = cc
-same_is (Proc n) (Pipe m) h = cc
-same_is (Proc n) (Held m) h = cc
-same_is (Desc n) (Proc m) h = cc
-same_is (Desc n) (Desc m) h = ap Desc (eqb-true n m h)
-same_is (Desc n) (Pipe m) h = cc
-same_is (Desc n) (Held m) h = cc
-same_is (Pipe n) (Proc m) h = cc
-same_is (Pipe n) (Desc m) h = cc
-same_is (Pipe n) (Pipe m) h = ap Pipe (eqb-true n m h)
-same_is (Pipe n) (Held m) h = cc
-same_is (Held n) (Proc m) h = cc
-same_is (Held n) (Desc m) h = cc
-same_is (Held n) (Pipe m) h = cc
-same_is (Held n) (Held m) h = ap Held (eqb-true n m h)
 
 -- an object of two lists together is one of the first, or of the second
 pub has_either : (o : Object) (xs ys : List Object) → has o (xs ++ ys) ≡ true → (has o xs ≡ true) ⊎ (has o ys ≡ true)
