@@ -8,9 +8,10 @@ use Rattle.tx_base.specs.declared.steps.Reply.{Reply}
 use Rattle.tx_base.specs.declared.steps.Reply.TheVariants.{Aborted, No}
 use Rattle.tx_base.specs.declared.steps.Step.{Step}
 use Rattle.tx_base.specs.declared.steps.Step.TheVariants.{KernelAbort}
+use Rattle.tx_core.proofs.Reading.{width_read}
 use Rattle.tx_core.specs.Laws.{MachineLaws}
 use Rattle.tx_core.specs.Undo.{LeadsBack}
-use Rattle.tx_step.specs.Contents.{IsContent}
+use Rattle.tx_core.specs.Machines.{IsMachine, IsWidth}
 use Rattle.tx_live.specs.Content.{view_of}
 use Rattle.tx_live.specs.declared.content.Content.{Content}
 use Rattle.tx_live.specs.declared.inverse.Inverse.{Inverse}
@@ -30,9 +31,17 @@ along laws old new step reply inverse made start earlier lawful same =
     let law : Lawful start (record { step = step; reply = reply } ∷ earlier) = (lawful, ap (λ (V : View). answer V step) (sym same) ∙ made.answered, made.accepted) in
     (law, made.next ∙ ap (λ (V : View). next V step) same ∙ sym (laws.history start (record { step = step; reply = reply }) earlier law))
 
+-- a step leaves as many process numbers as there were, so what it leaves is what a machine may keep
+pub still_machine : (old new : Content) (step : Step) (reply : Reply) (inverse : Inverse) → IsMachine old → IsStep old step reply inverse new → IsMachine new
+unfolding next
+still_machine old new step reply inverse machine made = record {
+  content = made.content;
+  width = subst IsWidth (width_read old machine.content ∙ sym (width_read new made.content ∙ ap (λ (V : View). V.table.width) made.next)) machine.width;
+}
+
 -- the inverse leads back to where the step began
-pub back_of : (old new : Content) (step : Step) (reply : Reply) (inverse : Inverse) → IsContent old → IsStep old step reply inverse new → LeadsBack new inverse
-back_of old new step reply inverse content made = record { before = old; content = content; goes = made.goes; back = made.back }
+pub back_of : (old new : Content) (step : Step) (reply : Reply) (inverse : Inverse) → IsMachine old → IsStep old step reply inverse new → LeadsBack new inverse
+back_of old new step reply inverse machine made = record { before = old; machine = machine; goes = made.goes; back = made.back }
 
 -- the kernel's abort, where there is no such transaction and where there is one
 pub dead_answer : (k : Content) (s : Pid) → (is_live (view_of k).table s.0 ≡ true → ⊥) → answer (view_of k) (KernelAbort s) ≡ No NoTransaction

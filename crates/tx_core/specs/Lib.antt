@@ -1,4 +1,5 @@
 pub mod Free
+pub mod Machines
 pub mod Laws
 pub mod Runs
 pub mod Undo

@@ -3,6 +3,7 @@ ghost use Rattle.std.specs.Prelude.{◌≡◌, ◌≢◌, ◌≤◌, ◌↔◌, 
 ghost use Rattle.tx_base.specs.declared.steps.Accepted.{Accepted};
 ghost use Rattle.tx_base.specs.declared.steps.Reply.TheVariants.{Aborted, No};
 ghost use Rattle.tx_base.specs.declared.steps.Step.TheVariants.{KernelAbort};
+ghost use Rattle.tx_core.specs.Machines.{IsWidth};
 ghost use Rattle.tx_core.specs.Undo.{LeadsBack};
 ghost use Rattle.tx_live.specs.Content.{view_of};
 ghost use Rattle.tx_live.specs.Inverses.{Undoes};
@@ -34,14 +35,14 @@ pub struct Machine {
 }
 
 impl Model for Machine {
-    ghost use Rattle.tx_step.specs.Contents.{IsContent};
+    ghost use Rattle.tx_core.specs.Machines.{IsMachine};
     ghost use Rattle.tx_live.specs.declared.content.Content.{Content as TheContent};
 
     ghost Value = { TheContent };
 
     ghost view = { λ machine. machine.content };
 
-    ghost invariant = { λ machine. IsContent machine.content };
+    ghost invariant = { λ machine. IsMachine machine.content };
 }
 
 impl Machine {
@@ -153,7 +154,7 @@ impl Machine {
     fn booted(alloc: Global, width: u16, count: u16) -> Result<Machine, NoMemory>
         requires low { 1 ≤ count }
         requires high { count ≤ width }
-        requires width { width ≤ 256 }
+        requires width { IsWidth width }
         ensures view { IfOk result (λ machine. view_of machine ≡ view (booted width count) []) }
         ensures processes { IfOk result (λ machine. length machine.parts.procs ≡ width) }
     {

@@ -2,6 +2,7 @@
 ghost use Rattle.std.specs.Prelude.{◌≡◌, ◌↔◌, ℕ, true, length, map, option_map, IfSome, IsSome};
 ghost use Rattle.tx_base.specs.Slots.{slot_at};
 ghost use Rattle.tx_change.specs.States.{state_of};
+ghost use Rattle.tx_core.specs.Machines.{IsWidth};
 ghost use Rattle.tx_kernel.specs.Plans.{sending_of};
 ghost use Rattle.tx_live.specs.Content.{held_of, view_of};
 ghost use Rattle.tx_model.specs.Membership.{is_live};
@@ -16,6 +17,7 @@ use tx_step::kernel_status;
 impl Machine {
     /// How many process numbers there are: 64, or 256 of a wide machine.
     pub fn processes(&self) -> u16
+        ensures width { IsWidth result }
         ensures procs { result ≡ length self.now.parts.procs }
         ensures table { result ≡ (view_of self.now).table.width }
     {

@@ -1,5 +1,6 @@
 -- A session as it boots, and what its readers say.
 use Rattle.std.proofs.Common.{◌≡◌, ℕ, zero, suc, ◌≤◌, [], ◌∷◌, List, length, arith, refl, ap}
+use Rattle.tx_core.specs.Machines.{IsWidth}
 use Rattle.tx_journal.specs.Entries.{history_of}
 use Rattle.tx_journal.specs.Lives.{lives, lives_to}
 use Rattle.tx_journal.specs.Sessions.{HasRoom, IsJournal, kept_of}
@@ -21,7 +22,7 @@ none_live width zero = refl
 none_live width (suc n) = let rest : lives_to (empty_table width) n ≡ 0 = none_live width n in omega (arith, rest)
 
 module _ (machine : Content) (width count : ℕ) where
-  starts : (es : List Entry) → es ≡ [] → (is : List Inverse) → is ≡ [] → 1 ≤ count → count ≤ width → width ≤ 256 → view_of machine ≡ view (booted width count) [] →
+  starts : (es : List Entry) → es ≡ [] → (is : List Inverse) → is ≡ [] → 1 ≤ count → count ≤ width → IsWidth width → view_of machine ≡ view (booted width count) [] →
       IsJournal (record { machine = machine; entries = es; inverses = is; width = width; count = count })
   unfolding Lawful WalksBack
   starts [] none [] nothing low high wide seen = record { low = low; high = high; wide = wide; few = omega arith; lawful = tt; walks = seen }
@@ -33,7 +34,7 @@ module _ (machine : Content) (width count : ℕ) where
   starts_counted [] none = let zero_live : lives_to (empty_table width) width ≡ 0 = none_live width width in omega (arith, zero_live)
   starts_counted (e ∷ es) none = cc
 
-  pub journal_starts : (j : Journal) → j.entries.items ≡ [] → j.inverses.items ≡ [] → 1 ≤ count → count ≤ width → width ≤ 256 → view_of machine ≡ view (booted width count) [] →
+  pub journal_starts : (j : Journal) → j.entries.items ≡ [] → j.inverses.items ≡ [] → 1 ≤ count → count ≤ width → IsWidth width → view_of machine ≡ view (booted width count) [] →
       IsJournal (kept_of machine j width count)
   journal_starts j entries inverses low high wide seen = starts j.entries.items entries j.inverses.items inverses low high wide seen
 

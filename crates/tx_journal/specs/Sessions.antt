@@ -1,5 +1,6 @@
 -- What a session keeps, and what is so of it.
 use Rattle.std.specs.Prelude.{◌≡◌, ◌⊎◌, ℕ, ◌+◌, ◌≤◌, List, length, reverse, take}
+use Rattle.tx_core.specs.Machines.{IsWidth}
 use Rattle.tx_journal.specs.Entries.{history_of}
 use Rattle.tx_journal.specs.Lives.{lives}
 use Rattle.tx_journal.specs.Walks.{WalksBack}
@@ -40,7 +41,7 @@ made_of k = take (position_of k) k.entries
 pub record IsJournal (k : Kept) : Type 0 where
   pub low : 1 ≤ k.count
   pub high : k.count ≤ k.width
-  pub wide : k.width ≤ 256
+  pub wide : IsWidth k.width
   pub few : position_of k ≤ length k.entries
   pub lawful : Lawful (start_of k) (history_of k.entries)
   pub walks : WalksBack (start_of k) k.machine (reverse k.inverses) (history_of (made_of k))

@@ -1,6 +1,7 @@
 //! A machine with the journal of its steps.
 ghost use Rattle.std.specs.Option.{option_copied};
 ghost use Rattle.std.specs.Prelude.{◌≡◌, ◌≤◌, [], IfOk, length, string_bytes};
+ghost use Rattle.tx_core.specs.Machines.{IsWidth};
 ghost use Rattle.tx_journal.specs.Entries.{entry_at, history_of};
 ghost use Rattle.tx_journal.specs.Sessions.{made_of, position_of, start_of};
 ghost use Rattle.tx_live.specs.Content.{view_of};
@@ -105,7 +106,8 @@ impl Session {
 
     /// How many process numbers there are: 64, or 256 of a wide machine.
     pub fn processes(&self) -> u16
-        ensures { result ≡ self.now.width }
+        ensures same { result ≡ self.now.width }
+        ensures width { IsWidth result }
     {
         self.width
     }

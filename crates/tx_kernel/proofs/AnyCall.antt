@@ -1,11 +1,12 @@
 -- The rules of calls, by their kinds.
-use Rattle.std.proofs.Common.{◌≡◌, ℕ, ℤ, Bool, [], Option, refl}
+use Rattle.std.proofs.Common.{◌≡◌, ℕ, ℤ, Bool, [], Option, Result, Ok, Err, IfOk, refl}
 use Rattle.tx_base.specs.declared.names.DescNo.{DescNo}
 use Rattle.tx_base.specs.declared.names.Pid.{Pid}
 use Rattle.tx_base.specs.declared.names.PipeNo.{PipeNo}
 use Rattle.tx_base.specs.declared.steps.Call.{Call}
 use Rattle.tx_base.specs.declared.steps.Call.TheVariants as call
 use Rattle.tx_kernel.specs.Calls.{any_effect, any_objects, common_effect, common_objects, own_rule}
+use Rattle.tx_model.specs.Answer.{ChoosesNothing, chosen_in}
 use Rattle.tx_model.specs.Calls.{call_effect, call_objects}
 use Rattle.tx_model.specs.Effects.{Inside, own_effect}
 use Rattle.tx_model.specs.State.{Process, State}
@@ -94,3 +95,14 @@ any_names inside (call.SetNonblock x y) p me S = refl
 any_names inside (call.Read x y z) p me S = refl
 any_names inside (call.Write x y z) p me S = refl
 any_names inside c p me S = refl
+
+-- what is so anyway is so of each result
+pub so_anyway : {A E P : Type 0} (result : Result A E) → P → IfOk result (λ made. P)
+so_anyway (Ok made) is = is
+so_anyway (Err why) is = tt
+
+-- a call that concerns its process alone chooses nothing
+pub own_chooses_nothing : (c : Call) → IsOwnCall c → chosen_in c ≡ ChoosesNothing
+own_chooses_nothing (call.Fork x) is = absurd (is.fork x refl)
+own_chooses_nothing (call.Pipe x y z) is = absurd (is.pipe x y z refl)
+own_chooses_nothing c is = refl

@@ -11,6 +11,7 @@ use Rattle.tx_desc.specs.Descriptions.{HasDescs}
 use Rattle.tx_desc.specs.Plans.{put_descs}
 use Rattle.tx_desc.specs.declared.opened.Opened.{Opened}
 use Rattle.tx_desc.specs.declared.plans.NewDesc.{NewDesc}
+use Rattle.tx_kernel.proofs.Whole.{orderly_parts}
 use Rattle.tx_kernel.proofs.Beside.{descs_state}
 use Rattle.tx_kernel.proofs.EndStates.{written-append, unnamed_orphans, unnamed_state, children_apart, children_same, orphans_state, pipes_same, gone_state, told_same}
 use Rattle.tx_kernel.specs.Actors.{me_of, inside_of, IsActor}
@@ -98,7 +99,7 @@ ending_state laws actor status descs new sends held is other copy first named ha
     let P : Parts = applied parts (ended_plan actor descs new) in
     let children : written O X ≡ changed_by (orphan_changes qs) X
     = ap (λ (xs : List ℕ). written (orphaned xs S) X) (children_are actor held other)
-    ∙ sym (orphans_state p qs S X (children_apart p (length parts.procs + 1) (plain parts) (is.whole.orderly.parents p)) (λ q apart. ap (with_parent 1) (put_there S.procs p (Some (ended status me)) q apart))) in
+    ∙ sym (orphans_state p qs S X (children_apart p (length parts.procs + 1) (plain parts) ((orderly_parts parts is.whole).parents p)) (λ q apart. ap (with_parent 1) (put_there S.procs p (Some (ended status me)) q apart))) in
     let pipes : (Y : State) → written E Y ≡ changed_by (gone_changes ks R) Y
     = λ Y. ap (λ (xs : List ℕ). written (endless_go xs T) Y) (pipes_same ds S1 (plain parts) (λ d. refl))
     ∙ sym (gone_state ks R T Y (λ d. sym (has d))) in

@@ -1,16 +1,59 @@
--- Well-formed states are orderly.
+-- What the plans of calls use of a well-formed state.
 use Rattle.std.proofs.Common.{◌≡◌, ◌<◌, ◌≤◌, ◌^◌, ◌-◌, ℕ, Bool, true, false, ◌==◌, ◌||◌, nat_lt, List, [], ◌∷◌, length, Option, Some, None, IsSome, is_some, bit_and, refl, sym, subst, arith, eqb-true}
 use Rattle.std.proofs.lemmas.Bool.{ltb-false, ltb-true, ne_eqb}
 use Rattle.std.proofs.lemmas.Nat.{and_le_r}
 use Rattle.std.proofs.lemmas.Nat.Bits.{bit_at-lt, bit_at_and, bit_at_ones, bit_at_ones_above, same_from_bits}
 use Rattle.std.specs.Int.{bit_at}
+use Rattle.std.specs.List.{All}
+use Rattle.tx_base.specs.Signals.{bits_of}
 use Rattle.tx_base.specs.declared.signals.Action.{Action}
 use Rattle.tx_base.specs.declared.signals.Action.TheVariants.{Usual, Ignore, Catch}
-use Rattle.tx_kernel.specs.Laws.{WellFormedAreOrderly}
-use Rattle.tx_kernel.specs.Orderly.{BlocksLow, HasCalm, HasItsPipe, HasMasks}
-use Rattle.tx_laws.specs.WellFormed.{HasActionLimits, IsMask}
+use Rattle.tx_laws.specs.WellFormed.{HasActionLimits, IsMask, IsWellFormed}
 use Rattle.tx_model.specs.SignalSets.{is_known, is_one_of, is_realtime, realtime_signals, standard_signals}
-use Rattle.tx_model.specs.State.{has_parent, Description, Process, Queued}
+use Rattle.tx_model.specs.State.{has_parent, Description, Process, Queued, State}
+
+-- process 1 runs, has no parent, and nothing is ever pending at it
+pub record IsCalm (q : Process) : Type 0 where
+  pub parent : q.parent ≡ 0
+  pub runs : q.status ≡ None
+  pub pending : q.pending ≡ 0
+  pub queued : q.queued ≡ []
+
+abbrev pub HasCalm : Option Process → Type 0
+HasCalm None = ⊥
+HasCalm (Some q) = IsCalm q
+
+-- a set of signals of numbers 0 to 39
+abbrev pub IsLow : ℕ → Type 0
+IsLow set = set < 2 ^ 40
+
+-- an action blocks such signals
+abbrev pub BlocksLow : Action → Type 0
+BlocksLow Usual = Unit {0}
+BlocksLow Ignore = Unit {0}
+BlocksLow (Catch point mask) = IsLow (bits_of mask)
+
+-- what the process blocks, now or after a caught signal or the return from one, are such signals
+pub record HasLowMasks (q : Process) : Type 0 where
+  pub mask : IsLow q.mask
+  pub actions : All BlocksLow q.actions
+  pub frames : All (λ frame. IsLow frame.mask) q.frames
+
+abbrev pub HasMasks : Option Process → Type 0
+HasMasks None = Unit {0}
+HasMasks (Some q) = HasLowMasks q
+
+-- the pipe of the description is there, if this is one
+abbrev pub HasItsPipe : State → Option Description → Type 0
+HasItsPipe S None = Unit {0}
+HasItsPipe S (Some d) = IsSome (S.pipes d.pipe)
+
+-- process 1 is there, no process is its own parent or blocks what is no signal, and each description has its pipe
+pub record IsOrderly (S : State) : Type 0 where
+  pub first : HasCalm (S.procs 1)
+  pub parents : (n : ℕ) → has_parent n (S.procs n) ≡ false
+  pub masks : (n : ℕ) → HasMasks (S.procs n)
+  pub piped : (d : ℕ) → HasItsPipe S (S.descs d)
 
 abbrev AreLow : List ℕ → Type 0
 AreLow [] = Unit {0}
@@ -69,8 +112,8 @@ there_is : (pipe : Option (List ℕ)) → is_some pipe ≡ true → IsSome pipe
 there_is None e = cc
 there_is (Some bytes) e = refl
 
-pub well_formed_orderly : WellFormedAreOrderly
-well_formed_orderly S formed =
+pub formed_orderly : (S : State) → IsWellFormed S → IsOrderly S
+formed_orderly S formed =
     let first = formed.first in
     record {
       first = subst HasCalm (sym first.1) (record { parent = first.2.parent; runs = first.2.runs; pending = first.2.pending; queued = no_entries first.0.queued first.2.queued });

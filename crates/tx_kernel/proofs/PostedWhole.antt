@@ -1,64 +1,77 @@
--- What posts leave of every state.
-use Rattle.std.proofs.Common.{◌≡◌, ◌≤◌, ℕ, Bool, true, false, inl, inr, ◌||◌, ◌==◌, if◌then◌else◌, List, [], option_map, Option, Some, None, is_some, refl, ap, sym, subst, ◌∙◌, eq-eqb}
+-- Posts and steps leave whole parts so.
+use Rattle.std.proofs.Common.{◌≡◌, ◌≤◌, ℕ, zero, suc, All, List, [], length, pos, Option, Some, None, refl, arith, ap, sym, subst, ◌∙◌}
+use Rattle.std.proofs.lemmas.List.Elements.{All-nil, All-replicate}
+use Rattle.std.specs.Prelude.{true, replicate}
+use Rattle.tx_base.specs.declared.names.Pid.{Pid}
 use Rattle.tx_change.specs.Counts.{CountsAgree}
-use Rattle.tx_change.specs.Laws.{HaveAllPlaces}
+use Rattle.tx_change.specs.Exchange.{Sizes}
+use Rattle.tx_change.specs.Laws.{HaveAllPlaces, SizesStayBack}
 use Rattle.tx_change.specs.States.{state_of}
+use Rattle.tx_change.specs.declared.change.Change.{Change}
 use Rattle.tx_change.specs.declared.parts.Parts.{Parts}
-use Rattle.tx_kernel.proofs.StepPlans.{calmed, posted_calm}
-use Rattle.tx_kernel.specs.Actors.{IsWhole}
-use Rattle.tx_kernel.specs.Orderly.{HasCalm, HasMasks, IsOrderly}
-use Rattle.tx_model.specs.Posts.{may_signal, post, received, with_signal}
-use Rattle.tx_model.specs.State.{has_parent, Process, Sending, State}
-use Rattle.tx_model.specs.StateLaws.{put_cases}
+use Rattle.tx_kernel.specs.Actors.{CountsHeld, IsWhole, inside_of}
+use Rattle.tx_kernel.specs.Acts.{Makes}
+use Rattle.tx_kernel.specs.Plans.{held_after}
+use Rattle.tx_kernel.specs.declared.inside.Inside.{Inside}
+use Rattle.tx_kernel.specs.declared.planned.Planned.{Planned}
+use Rattle.tx_laws.specs.Laws.{EventKeepsForm, HeldKeepsForm, PostKeepsForm}
+use Rattle.tx_laws.specs.WellFormed.{HasGoodNumbers, IsHeldSending, IsSendable, IsWellFormed}
+use Rattle.tx_model.specs.Events.{Event, after}
+use Rattle.tx_model.specs.Posts.{kill_signo, post}
+use Rattle.tx_model.specs.Sends.{sent_by_members}
+use Rattle.tx_model.specs.State.{Sending, State, is_between}
 
--- a post to process 1 changes nothing
-first_received : (m : Sending) (q : Option Process) → m.target ≡ 1 → received m q ≡ q
-first_received m None first = refl
-first_received m (Some q) first =
-    ap (λ (b : Bool). Some (if may_signal m.from q.ids then (if m.signo == 0 || (b || is_some q.status) then q else with_signal m q) else q)) (eq-eqb m.target 1 first)
-    ∙ by (may_signal m.from q.ids) (m.signo == 0)
-  where
-    by : (permitted asks : Bool) → Some (if permitted then (if asks || true then q else with_signal m q) else q) ≡ Some q
-    by false asks = refl
-    by true true = refl
-    by true false = refl
-
-post_first : (m : Sending) (S : State) → (post m S).procs 1 ≡ S.procs 1
-post_first m S = elim (put_cases S.procs m.target (received m (S.procs m.target)) 1) [
-  | inl e ↦ e.1 ∙ first_received m (S.procs m.target) (sym e.0) ∙ ap S.procs (sym e.0)
-  | inr e ↦ e.1
-]
-
-calm_parent : (n : ℕ) (q : Option Process) → has_parent n (option_map calmed q) ≡ has_parent n q
-calm_parent n None = refl
-calm_parent n (Some q) = refl
-
-calm_masks : (q r : Option Process) → option_map calmed q ≡ option_map calmed r → HasMasks r → HasMasks q
-calm_masks q r same masks = back q (subst HasMasks (sym same) (forth r masks))
-  where
-    forth : (q : Option Process) → HasMasks q → HasMasks (option_map calmed q)
-    forth None has = tt
-    forth (Some q) has = record { mask = has.mask; actions = has.actions; frames = has.frames }
-
-    back : (q : Option Process) → HasMasks (option_map calmed q) → HasMasks q
-    back None has = tt
-    back (Some q) has = record { mask = has.mask; actions = has.actions; frames = has.frames }
-
-pub post_orderly : (m : Sending) (S : State) → IsOrderly S → IsOrderly (post m S)
-post_orderly m S orderly = record {
-  first = subst HasCalm (sym (post_first m S)) orderly.first;
-  parents = λ n. sym (calm_parent n ((post m S).procs n)) ∙ ap (has_parent n) (posted_calm m S n) ∙ calm_parent n (S.procs n) ∙ orderly.parents n;
-  masks = λ n. calm_masks ((post m S).procs n) (S.procs n) (posted_calm m S n) (orderly.masks n);
-  piped = orderly.piped;
-}
-
-pub posted_whole : (parts new : Parts) (m : Sending) → ((held : ℕ → List Sending) → state_of held new ≡ post m (state_of held parts)) → (CountsAgree parts → CountsAgree new) →
-    (HaveAllPlaces parts → HaveAllPlaces new) → IsWhole parts → IsWhole new
-posted_whole parts new m state counts places whole =
+pub posted_whole : PostKeepsForm → (parts new : Parts) (m : Sending) → ((held : ℕ → List Sending) → state_of held new ≡ post m (state_of held parts)) → (CountsAgree parts → CountsAgree new) →
+    (HaveAllPlaces parts → HaveAllPlaces new) → IsSendable m → IsWhole parts → IsWhole new
+posted_whole posted parts new m state counts places may whole =
     let nothing : ℕ → List Sending = λ starter. [] in
     record {
       counts = counts whole.counts;
       places = places whole.places;
       few = subst (λ (n : ℕ). n ≤ 256) (sym (ap (λ (S : State). S.width) (state nothing))) whole.few;
-      orderly = subst IsOrderly (sym (state nothing)) (post_orderly m (state_of nothing parts) whole.orderly);
+      formed = subst IsWellFormed (sym (state nothing)) (posted m (state_of nothing parts) may whole.formed);
+    }
+
+-- a signal that a member may have handed out
+abbrev handed_out : Sending
+handed_out = record { target = 1; signo = kill_signo; value = pos 0; from = Some (record { real = 0; effective = 0 }) }
+
+-- so many signals are handed out, whatever the transaction
+abbrev some_held : Option Inside → ℕ → List Sending
+some_held None starter = []
+some_held (Some inside) starter = replicate inside.held handed_out
+
+some_sent : (count : ℕ) → sent_by_members (replicate count handed_out) ≡ count
+unfolding sent_by_members
+some_sent zero = refl
+some_sent (suc count) = let rest = some_sent count in omega (arith, rest)
+
+some_counted : (inside : Option Inside) → CountsHeld inside (some_held inside)
+some_counted None = tt
+some_counted (Some inside) = some_sent inside.held
+
+some_known : (width : ℕ) (inside : Option Inside) → is_between width 1 ≡ true → (starter : ℕ) → All (IsHeldSending width) (some_held inside starter)
+some_known width None first starter = All-nil (IsHeldSending width)
+some_known width (Some inside) first starter = All-replicate (IsHeldSending width) inside.held handed_out (record { known = refl; target = first })
+
+-- process 1 has a number that there is
+one_between : (S : State) → IsWellFormed S → is_between S.width 1 ≡ true
+one_between S formed = (formed.placed 1 formed.first.0 formed.first.1).number
+
+-- a step of an event that chooses numbers in range, made, leaves whole parts so
+pub made_whole : SizesStayBack → EventKeepsForm → HeldKeepsForm → (before : Parts) (pid : Pid) (inside : Option Inside) (event : Event) (log now : List Change) (new : Parts) (planned : Planned) →
+    IsWhole before → HasGoodNumbers (length before.procs) event → Makes before pid inside event log now new planned → IsWhole new
+unfolding after
+made_whole sizes kept holding before pid inside event log now new planned whole good makes =
+    let nothing : ℕ → List Sending = λ starter. [] in
+    let held : ℕ → List Sending = some_held inside in
+    let width : length before.procs ≡ length new.procs = ap (λ (p : Parts). length p.procs) (sym makes.back) ∙ ap (λ (s : Sizes). s.procs) (sizes new makes.kept) in
+    let start : IsWellFormed (state_of held before) = holding held (state_of nothing before) (some_known (length before.procs) inside (one_between (state_of nothing before) whole.formed)) whole.formed in
+    let then : IsWellFormed (state_of (held_after (inside_of inside) planned.sends held) new)
+    = subst IsWellFormed (makes.gives held (some_counted inside)).state (kept event (state_of held before) start good) in
+    record {
+      counts = makes.counts;
+      places = makes.places;
+      few = subst (λ (n : ℕ). n ≤ 256) width whole.few;
+      formed = holding nothing (state_of (held_after (inside_of inside) planned.sends held) new) (λ starter. All-nil (IsHeldSending (length new.procs))) then;
     }

@@ -6,7 +6,7 @@ use Rattle.tx_change.specs.Exchange.{IsPid, sizes_of}
 use Rattle.tx_change.specs.Laws.{HaveAllPlaces}
 use Rattle.tx_change.specs.States.{state_of}
 use Rattle.tx_change.specs.declared.parts.Parts.{Parts}
-use Rattle.tx_kernel.specs.Orderly.{IsOrderly}
+use Rattle.tx_laws.specs.WellFormed.{IsWellFormed}
 use Rattle.tx_kernel.specs.declared.actor.Actor.{Actor}
 use Rattle.tx_kernel.specs.declared.inside.Inside.{Inside}
 use Rattle.tx_model.specs.Effects.{Inside as TheInside}
@@ -32,12 +32,12 @@ abbrev pub CountsHeld : Option Inside → (ℕ → List Sending) → Type 0
 CountsHeld None held = Unit {0}
 CountsHeld (Some inside) held = sent_by_members (held inside.starter.0) ≡ inside.held
 
--- the counts of names are right, each process has its places, and the state is orderly
+-- the counts of names are right, each process has its places, and the state is well formed, as every state is that a history leads to
 pub record IsWhole (parts : Parts) : Type 0 where
   pub counts : CountsAgree parts
   pub places : HaveAllPlaces parts
   pub few : length parts.procs ≤ 256
-  pub orderly : IsOrderly (state_of (λ starter. []) parts)
+  pub formed : IsWellFormed (state_of (λ starter. []) parts)
 
 -- the process is the one of its number, and runs
 pub record IsActor (actor : Actor) : Type 0 where

@@ -1,4 +1,3 @@
-pub mod Orderly
 pub mod Actors
 pub mod Posts
 pub mod Plans

@@ -1,5 +1,5 @@
 -- What a plan is to be: changes that make of the state what the rule's effect makes of it before its posts.
-use Rattle.std.specs.Prelude.{◌≡◌, ◌⊎◌, ◌<◌, ℕ, true, List, [], ◌∷◌, ◌++◌, length, Option, Some, None}
+use Rattle.std.specs.Prelude.{◌≡◌, ◌⊎◌, ◌<◌, ℕ, true, false, List, [], ◌∷◌, ◌++◌, length, Option, Some, None}
 use Rattle.tx_base.specs.declared.names.Sending.{Sending}
 use Rattle.tx_base.specs.declared.steps.Refusal.{Refusal}
 use Rattle.tx_base.specs.declared.steps.Refusal.TheVariants.{NoMemory, BadNumber}
@@ -126,3 +126,7 @@ ChoosesBadly parts why choice = (why ≡ BadNumber) × (is_bad_choice (length pa
 
 abbrev pub IsBadChoice : Actor → Refusal → Choice → Type 0
 IsBadChoice actor why choice = ChoosesBadly actor.parts.now why choice
+
+-- the numbers that a call chooses are in range, and no number is chosen twice
+abbrev pub IsGoodChoice : Actor → Choice → Type 0
+IsGoodChoice actor choice = is_bad_choice (length actor.parts.now.procs) choice ≡ false

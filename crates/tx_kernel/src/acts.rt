@@ -14,7 +14,8 @@ use crate::laws::laws;
 use crate::planned::Planned;
 use std::alloc::Global;
 use tx_base::{Call, NoMemory, Pid, Refusal, Signo};
-use tx_change::{Log, Parts};
+use tx_change::{Log, Parts, appended};
+use tx_laws::well_formed;
 
 /// Makes a call of a process, its post with it, and appends to the log what leads back. A call of
 /// transactions answers EINVAL, as it does where it means nothing.
@@ -31,11 +32,14 @@ pub fn act(
 ) -> Result<Planned, Refusal>
     requires { IsWhole parts.old }
     ensures ok { IfOk result (λ planned. Makes parts.old pid inside.entry (Do (Calls pid call.now) (inside_of inside.entry)) log.old log.new parts.new planned) }
+    ensures whole { IfOk result (λ planned. IsWhole parts.new) }
     ensures refused { IfErr result (λ why. RefusesAct parts.old pid inside.entry (MakesCall call.now) why ⊎ ChoosesBadly parts.old why (chosen_in call.now)) }
     ensures parts { OnErr result (parts.new ≡ parts.old) }
     ensures log { OnErr result (log.new ≡ log.old) }
 {
     laws();
+    appended();
+    well_formed();
     let from = log.len();
     let planned = Actor::at(parts, pid, inside)?.plan_call(alloc, call, log)?;
     log.make_from(parts, from);
@@ -56,11 +60,14 @@ pub fn deliver(
 ) -> Result<Planned, Refusal>
     requires { IsWhole parts.old }
     ensures ok { IfOk result (λ planned. Makes parts.old pid inside.entry (Do (Deliver pid signo) (inside_of inside.entry)) log.old log.new parts.new planned) }
+    ensures whole { IfOk result (λ planned. IsWhole parts.new) }
     ensures refused { IfErr result (λ why. RefusesAct parts.old pid inside.entry (TakesSignal signo.0) why) }
     ensures parts { OnErr result (parts.new ≡ parts.old) }
     ensures log { OnErr result (log.new ≡ log.old) }
 {
     laws();
+    appended();
+    well_formed();
     let from = log.len();
     let planned = Actor::at(parts, pid, inside)?.plan_delivery(alloc, signo, log)?;
     log.make_from(parts, from);

@@ -3,7 +3,7 @@ ghost use Rattle.std.specs.Prelude.{◌≡◌, ◌⊎◌, IfOk, IfErr, OnErr};
 ghost use Rattle.tx_kernel.specs.Actors.{IsActor, inside_of, me_of};
 ghost use Rattle.tx_kernel.specs.Calls.{any_effect, any_objects, common_effect, common_objects, own_rule};
 ghost use Rattle.tx_kernel.specs.Own.{PlansOwn};
-ghost use Rattle.tx_kernel.specs.Plans.{Extends, IsBadChoice, Plans, RefusedBy};
+ghost use Rattle.tx_kernel.specs.Plans.{Extends, IsBadChoice, IsGoodChoice, Plans, RefusedBy};
 ghost use Rattle.tx_kernel.specs.Steps.{PlansStep};
 ghost use Rattle.tx_model.specs.Answer.{chosen_in};
 ghost use Rattle.tx_model.specs.Calls.{call_effect, call_objects};
@@ -54,6 +54,7 @@ impl Actor<'_> {
         ensures ok { IfOk result (λ planned. Plans self.now log.old log.new planned
             (λ S. common_effect (inside_of self.now.inside) self.now.pid.0 call.now (me_of self.now) S) (λ S. common_objects (inside_of self.now.inside) call.now self.now.pid.0 (me_of self.now) S)) }
         ensures refused { IfErr result (λ why. RefusedBy self.now why (λ S. common_effect (inside_of self.now.inside) self.now.pid.0 call.now (me_of self.now) S) ⊎ IsBadChoice self.now why (chosen_in call.now)) }
+        ensures numbers { IfOk result (λ planned. IsGoodChoice self.now (chosen_in call.now)) }
         ensures log { OnErr result (Extends log.old log.new) }
     {
         laws();
@@ -82,6 +83,7 @@ impl Actor<'_> {
         ensures ok { IfOk result (λ planned. PlansStep self.now log.old log.new planned.outcome planned.sends
             (λ S. any_effect (inside_of self.now.inside) self.now.pid.0 call.now (me_of self.now) S) (λ S. any_objects (inside_of self.now.inside) call.now self.now.pid.0 (me_of self.now) S)) }
         ensures refused { IfErr result (λ why. RefusedBy self.now why (λ S. any_effect (inside_of self.now.inside) self.now.pid.0 call.now (me_of self.now) S) ⊎ IsBadChoice self.now why (chosen_in call.now)) }
+        ensures numbers { IfOk result (λ planned. IsGoodChoice self.now (chosen_in call.now)) }
         ensures log { OnErr result (Extends log.old log.new) }
     {
         match call {
@@ -109,6 +111,7 @@ impl Actor<'_> {
         ensures ok { IfOk result (λ planned. PlansStep self.now log.old log.new planned.outcome planned.sends
             (λ S. call_effect (inside_of self.now.inside) self.now.pid.0 call.now (me_of self.now) S) (λ S. call_objects (inside_of self.now.inside) call.now self.now.pid.0 (me_of self.now) S)) }
         ensures refused { IfErr result (λ why. RefusedBy self.now why (λ S. call_effect (inside_of self.now.inside) self.now.pid.0 call.now (me_of self.now) S) ⊎ IsBadChoice self.now why (chosen_in call.now)) }
+        ensures numbers { IfOk result (λ planned. IsGoodChoice self.now (chosen_in call.now)) }
         ensures err { OnErr result (log.new ≡ log.old) }
     {
         log.reserve(most_changes(call))?;

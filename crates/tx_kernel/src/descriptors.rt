@@ -5,7 +5,7 @@ ghost use Rattle.tx_change.specs.States.{state_of};
 ghost use Rattle.tx_desc.specs.Plans.{AreFds, AreNumbers, put_descs, rename_puts};
 ghost use Rattle.tx_kernel.specs.Actors.{IsActor, me_of};
 ghost use Rattle.tx_kernel.specs.Named.{described_by, endless_changes, gone_of, pipe_changes, rename_changes, slot_change};
-ghost use Rattle.tx_kernel.specs.Plans.{Plans, RefusedBy, IsBadChoice, Extends};
+ghost use Rattle.tx_kernel.specs.Plans.{Plans, RefusedBy, IsBadChoice, IsGoodChoice, Extends};
 ghost use Rattle.tx_model.specs.Answer.{ChoosesPipe, is_bad_choice};
 ghost use Rattle.tx_model.specs.Descriptors.{close_effect, descriptor, desc_objects, desc_pipe_objects, dup_effect, dup2_effect, dup2_objects, is_pipe_in_use, listed, named, nonblock_effect, pipe_effect, pipe_objects};
 ghost use Rattle.tx_model.specs.State.{Sending};
@@ -42,6 +42,7 @@ impl Actor<'_> {
             (λ S. pipe_objects pipe.0 read.0 write.0)) }
         ensures refused { IfErr result (λ why. RefusedBy self.now why (λ S. pipe_effect self.now.pid.0 pipe.0 read.0 write.0 (me_of self.now) S)
             ⊎ IsBadChoice self.now why (ChoosesPipe pipe.0 read.0 write.0)) }
+        ensures numbers { IfOk result (λ planned. IsGoodChoice self.now (ChoosesPipe pipe.0 read.0 write.0)) }
         ensures log { OnErr result (Extends log.old log.new) }
     {
         laws();

@@ -1,12 +1,13 @@
 //! The laws that the plans stand on, and those of the states that they are for.
 ghost use Rattle.tx_kernel.specs.Acts.{PlansAreMade};
-ghost use Rattle.tx_kernel.specs.Laws.{BootedAreWhole, PlanLaws, WellFormedAreOrderly};
+ghost use Rattle.tx_kernel.specs.Laws.{BootedAreWhole, PlanLaws};
 
 use tx_change::{
     appended, apply_then_revert, bytes_are_read_and_written, changes_state, counts_agree,
     counts_in_turn, counts_with_others, exchanges_back, lists_change_state, places_kept,
     room_for_names, stays_named,
 };
+use tx_laws::well_formed;
 
 /// The laws on which the proofs of the plans stand. It does nothing.
 pub(crate) fn laws()
@@ -29,12 +30,9 @@ pub(crate) fn laws()
 /// Parts that stand as `Parts::boot` makes them, of 1 to 256 processes, are whole.
 pub fn booted_are_whole()
     ensures { BootedAreWhole }
-{}
-
-/// A state that is well formed, as every state is that a history leads to, is orderly.
-pub fn well_formed_are_orderly()
-    ensures { WellFormedAreOrderly }
-{}
+{
+    well_formed();
+}
 
 /// The plan of what a process is asked to do, once its exchanges are made, is what that comes to: the
 /// log then has at its end what leads back.

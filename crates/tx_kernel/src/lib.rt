@@ -30,7 +30,7 @@ pub use actor::Actor;
 pub use acts::{act, deliver};
 pub use events::Act;
 pub use inside::Inside;
-pub use laws::{booted_are_whole, plans_are_made, well_formed_are_orderly};
+pub use laws::{booted_are_whole, plans_are_made};
 pub use planned::{Outcome, Planned, Sends, Shown};
 pub use posts::{Face, Posted, plan_post, post};
 pub use sends::sendable;

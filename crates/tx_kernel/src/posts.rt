@@ -8,6 +8,7 @@ ghost use Rattle.tx_change.specs.Counts.{CountsAgree};
 ghost use Rattle.tx_change.specs.Exchange.{AreNamed, undone};
 ghost use Rattle.tx_change.specs.Laws.{HaveAllPlaces};
 ghost use Rattle.tx_change.specs.States.{state_of};
+ghost use Rattle.tx_laws.specs.WellFormed.{IsSendable};
 ghost use Rattle.tx_model.specs.Posts.{is_quiet, is_realtime, may_signal, post, post_answer, received, with_signal};
 ghost use Rattle.tx_base.specs.declared.limits.TheConstants.{QUEUED};
 ghost use Rattle.tx_model.specs.State.{Proc as TheProc, Process, Sending as TheSending};
@@ -19,6 +20,7 @@ use crate::laws::laws;
 use tx_base::{Errno, QUEUED, Sending};
 use tx_change::{Change, Parts};
 use tx_cred::{Cred, may_signal};
+use tx_laws::well_formed;
 use tx_proc::{Part, Proc};
 use tx_signal::{Queued, is_realtime, with};
 
@@ -109,9 +111,10 @@ pub fn post(parts: &mut Parts, sending: &Sending) -> Posted
     ensures among { AreAmong (TheProc sending.now.target.0 ∷ []) (listed_change result.change) }
     ensures counts { CountsAgree parts.old → CountsAgree parts.new }
     ensures places { HaveAllPlaces parts.old → HaveAllPlaces parts.new }
-    ensures whole { IsWhole parts.old → IsWhole parts.new }
+    ensures whole { IsSendable (sending_of sending.now) → IsWhole parts.old → IsWhole parts.new }
 {
     laws();
+    well_formed();
     match plan_at(parts, sending) {
         Ok(Some(part)) => {
             let mut change = Change::Part(sending.target, part);

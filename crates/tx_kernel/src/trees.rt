@@ -5,7 +5,7 @@ ghost use Rattle.tx_kernel.specs.Actors.{IsActor, inside_of, me_of};
 ghost use Rattle.tx_base.specs.Slots.{slot_at};
 ghost use Rattle.tx_change.specs.Counts.{desc_changes};
 ghost use Rattle.tx_change.specs.Exchange.{IsPid, sizes_of};
-ghost use Rattle.tx_kernel.specs.Plans.{Plans, Extends, IsBadChoice, RefusedBy};
+ghost use Rattle.tx_kernel.specs.Plans.{Plans, Extends, IsBadChoice, IsGoodChoice, RefusedBy};
 ghost use Rattle.tx_kernel.specs.Trees.{child_at, IsEndedChild};
 ghost use Rattle.tx_model.specs.Answer.{ChoosesProcess, is_bad_choice};
 ghost use Rattle.tx_model.specs.Processes.{exit_effect, exit_objects, exit_status, fork_effect, fork_objects, forks, numbered, waits_by, waitpid_effect, waitpid_objects};
@@ -43,6 +43,7 @@ impl Actor<'_> {
         requires { IsActor self.now }
         ensures ok { IfOk result (λ planned. Plans self.now log.old log.new planned (λ S. fork_effect self.now.pid.0 child.0 (me_of self.now) S) (λ S. fork_objects child.0 (me_of self.now))) }
         ensures refused { IfErr result (λ why. RefusedBy self.now why (λ S. fork_effect self.now.pid.0 child.0 (me_of self.now) S) ⊎ IsBadChoice self.now why (ChoosesProcess child.0)) }
+        ensures numbers { IfOk result (λ planned. IsGoodChoice self.now (ChoosesProcess child.0)) }
         ensures log { OnErr result (Extends log.old log.new) }
     {
         if self.is_bad_child(child) {

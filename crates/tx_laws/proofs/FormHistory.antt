@@ -1,18 +1,21 @@
 -- Every state that a lawful history leads to is well formed.
 use Rattle.std.proofs.Common.{◌≡◌, ℕ, ◌≤◌, Bool, true, false, List, [], ◌∷◌, refl, sym, ◌∙◌, subst}
 use Rattle.tx_base.specs.declared.steps.Accepted.{Accepted}
+use Rattle.tx_model.specs.Posts.{post}
 use Rattle.tx_model.specs.State.{State, booted}
 use Rattle.tx_model.specs.Events.{Event, after, run}
 use Rattle.tx_model.specs.Membership.{Table, Role, step_event, table_after}
 use Rattle.tx_model.specs.History.{Starters, table_of, left_out_before, stays, placed, role_in, event_of, survivors, without}
 use Rattle.tx_model.specs.View.{view}
 use Rattle.tx_model.specs.Answer.{has_bad_number, answer, IsAccepted, Lawful}
-use Rattle.tx_laws.specs.WellFormed.{IsWellFormed, HasGoodNumbers}
+use Rattle.tx_laws.specs.Laws.{HeldKeepsForm, PostKeepsForm}
+use Rattle.tx_laws.specs.WellFormed.{HasGoodNumbers, IsWellFormed}
 use Rattle.tx_laws.proofs.Local.{after_width}
 use Rattle.tx_laws.proofs.GoodNumbers.{step_numbers, role_numbers, accepted_numbers}
 use Rattle.tx_laws.proofs.KeepsFormParts.{IsArranged}
+use Rattle.tx_laws.proofs.KeepsFormEnding.{held_arranged}
 use Rattle.tx_laws.proofs.KeepsFormEvents as arranged
-use Rattle.tx_laws.proofs.WithinEvents.{IsWithin, after_within, booted_within}
+use Rattle.tx_laws.proofs.WithinEvents.{IsWithin, after_within, booted_within, post_within}
 
 -- a well-formed state by what is arranged in it, and by its limits
 pub arranged_of : (S : State) → IsWellFormed S → IsArranged S
@@ -30,6 +33,14 @@ booted_form width count some fits = formed_from (booted width count) (arranged.b
 
 pub after_form : (ev : Event) (S : State) → IsWellFormed S → HasGoodNumbers S.width ev → IsWellFormed (after ev S)
 after_form ev S w h = formed_from (after ev S) (arranged.after_form ev S (arranged_of S w) h) (after_within ev S (arranged_of S w) (within_of S w))
+
+-- a post keeps it, and so do other sends that are held
+pub post_formed : PostKeepsForm
+post_formed m S may w =
+    formed_from (post m S) (arranged.post_form m S (S.procs m.target) refl (arranged_of S w)) (post_within m S may (within_of S w))
+
+pub held_formed : HeldKeepsForm
+held_formed held S may w = formed_from (record S { held = held }) (held_arranged S held (arranged_of S w)) (record { limits = w.limits; held = may })
 
 table_width : (r : Role) (p : ℕ) (t : Table) → (table_after r p t).width ≡ t.width
 table_width r p t = refl

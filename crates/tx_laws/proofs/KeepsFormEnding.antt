@@ -16,10 +16,13 @@ use Rattle.tx_laws.proofs.KeepsFormReleased.{IsAmong, IsLoose, written_append, t
 use Rattle.tx_laws.proofs.KeepsFormNames.{KeepsForm, done_form, number_of}
 
 -- what is held is no concern
+pub held_arranged : (S : State) (held : ℕ → List Sending) → IsArranged S → IsArranged (record S { held = held })
+held_arranged S held w =
+    let T : State = record S { held = held } in
+    form_from T (tabled_same S T refl refl (tabled_of S w)) (linked_same S T refl refl (λ n f d. refl) (linked_of S w))
+
 pub held_form : (S : State) (s : ℕ) (ms : List Sending) → IsArranged S → IsArranged (write_one (SetHeld s ms) S)
-held_form S s ms w =
-    form_from (write_one (SetHeld s ms) S) (tabled_same S (write_one (SetHeld s ms) S) refl refl (tabled_of S w))
-    (linked_same S (write_one (SetHeld s ms) S) refl refl (λ n f d. refl) (linked_of S w))
+held_form S s ms w = held_arranged S (put_at S.held s ms) w
 
 -- what an open descriptor names is among those that are closed
 among_open : (d f : ℕ) (xs : List (Option ℕ)) → is_number d (slice_index_or xs f None) ≡ true → IsAmong d (open_in xs)

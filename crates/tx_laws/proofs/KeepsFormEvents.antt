@@ -121,7 +121,7 @@ module _ (S : State) (m : Sending) (q : Process) (e : S.procs m.target ≡ Some 
       by true false h true false k = same
       by true false h false d k = pending_form (other h)
 
-post_form : (m : Sending) (S : State) (x : Option Process) → S.procs m.target ≡ x → IsArranged S → IsArranged (write_one (SetProc m.target (received m x)) S)
+pub post_form : (m : Sending) (S : State) (x : Option Process) → S.procs m.target ≡ x → IsArranged S → IsArranged (write_one (SetProc m.target (received m x)) S)
 post_form m S None e w = same_form S m.target None e w
 post_form m S (Some q) e w = received_form S m q e w
 

@@ -1,5 +1,5 @@
 -- What calls write that change nothing but what their own process has, and descriptions and pipes.
-use Rattle.std.proofs.Common.{◌≡◌, ◌⊎◌, ℕ, zero, suc, ◌+◌, Bool, true, false, List, [], ◌∷◌, ◌++◌, length, min, take, drop, ℤ, pos, Option, Some, None, if◌then◌else◌, nat_lt, ◌==◌, slice_set, refl, inr}
+use Rattle.std.proofs.Common.{◌≡◌, ℕ, zero, suc, ◌+◌, Bool, true, false, List, [], ◌∷◌, ◌++◌, length, min, take, drop, ℤ, pos, Option, Some, None, if◌then◌else◌, nat_lt, ◌==◌, slice_set, refl, inr}
 use Rattle.std.specs.Prelude.{All}
 use Rattle.std.proofs.lemmas.List.Elements.{All-nil, All-cons}
 use Rattle.tx_base.specs.declared.limits.TheConstants.{PIPE_BYTES}
@@ -8,12 +8,12 @@ use Rattle.tx_base.specs.declared.steps.Refusal.{Refusal}
 use Rattle.tx_base.specs.declared.steps.Refusal.TheVariants.{NumberTaken, Wait}
 use Rattle.tx_model.specs.Numbers.{below, failing}
 use Rattle.tx_model.specs.Memory.{is_good, is_mapped, is_writable, stored, address_of}
-use Rattle.tx_model.specs.SignalSets.{is_known}
-use Rattle.tx_model.specs.State.{Process, Side, ReadSide, WriteSide, Description, State, Sending, Write, SetProc, SetDesc, SetPipe, SetHeld, write_one, written}
+use Rattle.tx_model.specs.State.{Process, Side, ReadSide, WriteSide, Description, State, Write, SetProc, SetDesc, SetPipe, SetHeld, write_one, written}
 use Rattle.tx_model.specs.Effects.{Effect, Conclusion, Replies, AnswersPost, ListsFailed, Own, idle, noted, own_effect, done, done_with}
 use Rattle.tx_model.specs.Descriptors.{named, with_descriptor, lowest_free, is_named, has_description, pipes_of, unnamed_go, endless_go, released, gives_up, listed, is_pipe_in_use, with_two_slots, new_side, opens_at, opens_from, pipe_effect, dups_to, dup_effect, renames, dup2_named, dup2_effect, closes, close_effect, flags, nonblock_effect}
 use Rattle.tx_model.specs.Transfers.{has_writer, has_reader, bytes_in, waits, drains, reads, read_by_side, read_described, read_effect, breaks, puts, writes, write_by_side, write_described, write_effect}
 use Rattle.tx_model.specs.Membership.{says_ended}
+use Rattle.tx_laws.specs.WellFormed.{IsSendable}
 use Rattle.tx_laws.proofs.WithinOwn.{KeepsLimits, noted_limits, slotted, paged_limits, stored_whole}
 
 -- the same process later on: it has the same parent and runs or has ended as before, and is within its limits if it was
@@ -37,10 +37,6 @@ IsPlainWrite p me (SetHeld n ms) = ⊥
 unfoldable pub ArePlain : ℕ → Process → List Write → Type 0
 ArePlain p me [] = Unit {0}
 ArePlain p me (w ∷ ws) = IsPlainWrite p me w × ArePlain p me ws
-
--- a signal that may be on its way: a known one, or 0, which only asks
-abbrev pub IsSendable : Sending → Type 0
-IsSendable m = (m.signo ≡ 0) ⊎ (is_known m.signo ≡ true)
 
 -- whether the reply says that the process ended
 abbrev pub concludes_ended : Conclusion → Bool

@@ -31,7 +31,7 @@ use Rattle.tx_model.specs.Sends.{sent_by_members, sendable, sent_by, posts_now, 
 use Rattle.tx_model.specs.Deliveries.{first_value, less_first, is_blocked, delivered_value, relieved, action_at, caught, is_full, killed_status, acts_on, is_deferred, delivers, delivery_effect}
 use Rattle.tx_model.specs.Calls.{call_effect, MakesCall, TakesSignal, running_effect, effect_at}
 use Rattle.tx_model.specs.Events.{Event, Do, Note, Commit, step_effect, effect, after}
-use Rattle.tx_laws.specs.WellFormed.{IsWholePage, IsMask, HasFrameLimits, HasActionLimits, HasCatchLimits, IsRealtimeEntry, IsHeldSending, HasIdLimits, HasLimits}
+use Rattle.tx_laws.specs.WellFormed.{IsWholePage, IsMask, HasFrameLimits, HasActionLimits, HasCatchLimits, IsRealtimeEntry, IsHeldSending, IsSendable, HasIdLimits, HasLimits}
 use Rattle.tx_model.specs.StateLaws.{put_cases}
 use Rattle.tx_model.specs.Answer.{is_running}
 use Rattle.tx_laws.proofs.Agree.{write_width}
@@ -39,7 +39,7 @@ use Rattle.tx_laws.proofs.KeepsFormParts.{IsArranged}
 use Rattle.tx_laws.proofs.KeepsFormDeliveries.{other_than_first}
 use Rattle.tx_laws.proofs.WithinSets.{either_true, in_one_more, in_less, empty_set, empty_mask, caught_mask}
 use Rattle.tx_laws.proofs.WithinOwn.{KeepsLimits, next_within, noted_limits, slotted}
-use Rattle.tx_laws.proofs.PlainWrites.{IsPlainWrite, ArePlain, IsSendable, IsPlain, idle_plain, own_plain, same_plain, released_plain}
+use Rattle.tx_laws.proofs.PlainWrites.{IsPlainWrite, ArePlain, IsPlain, idle_plain, own_plain, same_plain, released_plain}
 use Rattle.tx_laws.proofs.PlainCalls.{IsSpecial, call_plain}
 
 -- the limits of a state: those of its processes, and those of what is held
@@ -549,7 +549,7 @@ received_limits m (Some q) k h = by (may_signal m.from q.ids) (is_quiet m q) ref
     by true false e true f false = h
     by true false e false f d = with_one (loud e) f
 
-post_within : (m : Sending) (S : State) → IsSendable m → IsWithin S → IsWithin (post m S)
+pub post_within : (m : Sending) (S : State) → IsSendable m → IsWithin S → IsWithin (post m S)
 post_within m S k w =
     write_within (SetProc m.target (received m (S.procs m.target))) S
     (received_limits m (S.procs m.target) k (limits_if S w m.target (S.procs m.target) refl)) w

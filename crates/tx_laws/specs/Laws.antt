@@ -1,9 +1,10 @@
 -- The laws of histories and of the views of histories, one statement a name. Own rules.
-use Rattle.std.specs.Prelude.{◌≡◌, ℕ, List, [], ◌∷◌, ◌++◌}
+use Rattle.std.specs.Prelude.{◌≡◌, ◌≤◌, ℕ, All, List, [], ◌∷◌, ◌++◌}
 use Rattle.tx_base.specs.declared.steps.Accepted.{Accepted}
 use Rattle.tx_base.specs.declared.steps.Step.{Step}
-use Rattle.tx_model.specs.State.{State}
-use Rattle.tx_model.specs.Events.{Event, process_of}
+use Rattle.tx_model.specs.Posts.{post}
+use Rattle.tx_model.specs.State.{Sending, State, booted}
+use Rattle.tx_model.specs.Events.{Event, after, process_of}
 use Rattle.tx_model.specs.History.{Starters, survivors}
 use Rattle.tx_model.specs.Membership.{Role}
 use Rattle.tx_model.specs.Schedules.{history_of}
@@ -12,7 +13,7 @@ use Rattle.tx_model.specs.Answer.{answer, IsAccepted, Lawful, Agreement}
 use Rattle.tx_laws.specs.Fits.{Fits, Passes}
 use Rattle.tx_laws.specs.Places.{survivors_by_place}
 use Rattle.tx_laws.specs.Sound.{IsSound}
-use Rattle.tx_laws.specs.WellFormed.{IsWellFormed}
+use Rattle.tx_laws.specs.WellFormed.{HasGoodNumbers, IsHeldSending, IsSendable, IsWellFormed}
 
 -- each surviving step of a prefix of a lawful history has the reply of its event in the plain run of the survivors
 abbrev pub PrefixesAgree : Type 0
@@ -44,6 +45,23 @@ NextIsSound = (view : View) (step : Step) → IsSound view → IsAccepted (answe
 abbrev pub AcceptedStepsFit : Type 0
 AcceptedStepsFit = (view : View) (step : Step) → IsSound view → IsAccepted (answer view step) →
     Passes (role_on view step) (event_on view step) view × Fits (role_on view step) (event_on view step) (process_of step) view
+
+-- a booted state is well formed
+abbrev pub BootedIsWellFormed : Type 0
+BootedIsWellFormed = (width count : ℕ) → 1 ≤ count → count ≤ width → IsWellFormed (booted width count)
+
+-- an event with numbers in range leaves a well-formed state so
+abbrev pub EventKeepsForm : Type 0
+EventKeepsForm = (event : Event) (state : State) → IsWellFormed state → HasGoodNumbers state.width event → IsWellFormed (after event state)
+
+-- a post of a signal that may be on its way leaves a well-formed state so
+abbrev pub PostKeepsForm : Type 0
+PostKeepsForm = (sending : Sending) (state : State) → IsSendable sending → IsWellFormed state → IsWellFormed (post sending state)
+
+-- a well-formed state is so too where other known signals are held
+abbrev pub HeldKeepsForm : Type 0
+HeldKeepsForm = (held : ℕ → List Sending) (state : State) →
+    ((starter : ℕ) → All (IsHeldSending state.width) (held starter)) → IsWellFormed state → IsWellFormed (record state { held = held })
 
 -- in each role that goes with the event, the next view of a sound one is sound
 abbrev pub RolesKeepSound : Type 0

@@ -1,5 +1,5 @@
 -- What every state is that a history leads to. Own rules.
-use Rattle.std.specs.Prelude.{◌≡◌, ◌≢◌, ℕ, ◌<◌, ◌≤◌, true, false, List, [], ◌∷◌, length, All, Option, Some, None, is_some}
+use Rattle.std.specs.Prelude.{◌≡◌, ◌≢◌, ◌⊎◌, ℕ, ◌<◌, ◌≤◌, true, false, List, [], ◌∷◌, length, All, Option, Some, None, is_some}
 use Rattle.tx_base.specs.Signals.{bits_of}
 use Rattle.tx_base.specs.declared.limits.TheConstants.{PAGE_BYTES, PIPE_BYTES, FRAMES, QUEUED, LAST_ID, LAST_POINT, DESCRIPTIONS, DESCRIPTORS, PAGES, PIPES, SIGNALS, SLOTS}
 use Rattle.tx_base.specs.declared.signals.Action.{Action}
@@ -65,6 +65,10 @@ HasActionLimits (Catch point mask) = HasCatchLimits point mask
 -- a realtime signal
 abbrev pub IsRealtimeEntry : Queued → Type 0
 IsRealtimeEntry entry = is_realtime entry.signo ≡ true
+
+-- a signal that may be on its way: a known one, or 0, which only asks
+abbrev pub IsSendable : Sending → Type 0
+IsSendable m = (m.signo ≡ 0) ⊎ (is_known m.signo ≡ true)
 
 -- a known signal on its way, to a process number that there is
 pub record IsHeldSending (width : ℕ) (m : Sending) : Type 0 where

@@ -9,18 +9,17 @@ ghost use Rattle.tx_base.specs.declared.limits.TheConstants.{UNDELIVERED};
 ghost use Rattle.tx_base.specs.declared.names.Missed.{Missed};
 ghost use Rattle.tx_base.specs.declared.steps.Step.{Step};
 ghost use Rattle.tx_model.specs.Answer.{Lawful, answer};
-ghost use Rattle.tx_model.specs.Events.{Event, after};
 ghost use Rattle.tx_model.specs.History.{Starters, without, nobody, table_of};
 ghost use Rattle.tx_model.specs.State.{State, booted};
 ghost use Rattle.tx_model.specs.View.{view};
-ghost use Rattle.tx_laws.specs.Laws.{PrefixesAgree, SurvivorsAreByPlace, LawfulViewIsNext, LawfulViewIsSound, StartIsSound, NextIsSound, AcceptedStepsFit, RolesKeepSound, NextIsWellFormed, SchedulesAreLawful};
+ghost use Rattle.tx_laws.specs.Laws.{PrefixesAgree, SurvivorsAreByPlace, LawfulViewIsNext, LawfulViewIsSound, StartIsSound, NextIsSound, AcceptedStepsFit, RolesKeepSound, NextIsWellFormed, BootedIsWellFormed, EventKeepsForm, PostKeepsForm, HeldKeepsForm, SchedulesAreLawful};
 ghost use Rattle.tx_laws.specs.LawsOfOthers.{HistoriesAgree, EntriesFit, ObjectsOfOthersApart, AnswersWithoutOthers, SameEventKeeps};
 ghost use Rattle.tx_laws.specs.LawsOfDoom.{DoomedCallsAreRefused, DoomedDeliveriesAreRefused, DoomedAbortAnswers203, OtherAbortAnswers202, MembersDoomNothing, KillDooms, SigqueueDooms, DoomStays};
 ghost use Rattle.tx_laws.specs.Endings.{ExitIsTold, ExitsSayEnd, OtherCallsSayNoEnd, DeliveriesSayEnd, EndingsAreAnswered, StepIsToldByEnd, OtherCallIsTold, DeliveryIsTold};
 ghost use Rattle.tx_laws.specs.Shown.{ShowsFew};
 ghost use Rattle.tx_laws.specs.LawsOfEvents.{ActorIsObject, EffectIsLocal, ObjectsAreLocal, ReplyIsLocal, ElsewhereIsSame, OtherPartsStay, WritesStayInObjects, OthersGetSendsAlone, HoldsForItsOwn, MembersSendToMembers, StatesCommute, RepliesCommute};
 ghost use Rattle.tx_laws.specs.LawsOfParts.{StartHasItsView, SamePartsSameView, PartsFollowRole, PartsFollowStep, PresentIsNow, DoomIsKept, TwoAnswersAreOfStarter, InWayIsOfParts, HolderIsOfParts};
-ghost use Rattle.tx_laws.specs.WellFormed.{IsWellFormed, HasGoodNumbers};
+ghost use Rattle.tx_laws.specs.WellFormed.{IsWellFormed};
 ghost use Rattle.tx_laws.specs.Footprints.{ClearIsOfMembers, FootprintIsOfEvent, FootprintIsShared, HolderIsOfStep, NoHolderIsClear};
 ghost use Rattle.tx_laws.specs.WellFormedTable.{HoldsNothing, IsWellFormedWith};
 ghost use Rattle.tx_laws.specs.LawsOfTable.{EmptyViewIsWellFormed, NextViewIsWellFormed, ViewsListEnough};
@@ -183,10 +182,13 @@ pub fn endings()
 /// ids, points, masks and actions, and the signals that are pending or held, and what is held goes to
 /// process numbers that there are. The booted state is well formed, every event with numbers in range
 /// leaves a well-formed state so, and so each state of a lawful history is well formed, whichever
-/// transactions are left out.
+/// transactions are left out. A signal that may be on its way leaves it so where it is posted, and so
+/// do others in place of those that are held.
 pub fn well_formed()
-    ensures booted { (width count : ℕ) → 1 ≤ count → count ≤ width → IsWellFormed (booted width count) }
-    ensures kept { (event : Event) (state : State) → IsWellFormed state → HasGoodNumbers state.width event → IsWellFormed (after event state) }
+    ensures booted { BootedIsWellFormed }
+    ensures kept { EventKeepsForm }
+    ensures posted { PostKeepsForm }
+    ensures held { HeldKeepsForm }
     ensures history { (start : State) (history : List Accepted) (left_out : Starters) →
         IsWellFormed start → Lawful start history → IsWellFormed (without start left_out history) }
 {}

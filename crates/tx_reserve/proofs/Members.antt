@@ -1,5 +1,5 @@
 -- Objects, their places, and the sets that have their bits.
-use Rattle.std.proofs.Common.{◌≡◌, ℕ, zero, suc, ◌+◌, ◌-◌, ◌*◌, ◌/◌, ◌%◌, ◌^◌, ◌<◌, ◌≤◌, Bool, true, false, not, ◌&&◌, ◌||◌, List, length, if◌then◌else◌, ◌==◌, min, max, bit_and, bit_or, w32, arith, refl, ap, ap₂, sym, ◌∙◌, subst, inl, inr, get_or, eqb-true, eq-eqb, add-one, replicate, slice_set, nat_lt, Option, Some, None, is_some, IfNone, IfSome, IsTrue, ◌↔◌}
+use Rattle.std.proofs.Common.{◌≡◌, ℕ, zero, suc, ◌+◌, ◌-◌, ◌*◌, ◌/◌, ◌%◌, ◌^◌, ◌<◌, ◌≤◌, Bool, true, false, not, ◌&&◌, ◌||◌, List, length, if◌then◌else◌, ◌==◌, min, max, bit_and, bit_or, w32, arith, refl, ap, ap₂, sym, ◌∙◌, subst, inl, inr, get_or, eqb-true, eq-eqb, add-one, replicate, slice_set, nat_lt, Option, Some, None, IfNone, IsTrue, ◌↔◌}
 use Rattle.std.specs.List.{sum}
 use Rattle.std.proofs.lemmas.Bool.{cases_Bool, cases_lt, both_ways, ltb-true, lt-ltb}
 use Rattle.std.proofs.lemmas.List.{get_or-replicate, get_or-set_same, get_or-set_other, get_or_past, length-replicate}

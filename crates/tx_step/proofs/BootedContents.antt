@@ -1,10 +1,9 @@
 -- The content of a kernel as it is booted.
-use Rattle.std.proofs.Common.{◌≡◌, ℕ, ◌≤◌, [], sym, subst}
+use Rattle.std.proofs.Common.{ℕ, ◌≤◌, sym, subst}
 use Rattle.tx_step.specs.Contents.{BootedIsContent}
 use Rattle.tx_laws.specs.LawsOfTable.{EmptyViewIsWellFormed}
 use Rattle.tx_laws.specs.WellFormed.{IsWellFormed}
 use Rattle.tx_laws.specs.WellFormedTable.{HoldsNothing, IsWellFormedView}
-use Rattle.tx_live.specs.Content.{view_of}
 use Rattle.tx_model.specs.Events.{run}
 use Rattle.tx_model.specs.History.{survivors, without}
 use Rattle.tx_model.specs.State.{booted}

@@ -5,7 +5,7 @@ use Rattle.tx_change.specs.declared.change.Change.{Change}
 use Rattle.tx_change.specs.declared.change.Change.TheVariants as the
 use Rattle.tx_kernel.specs.Plans.{AreAmong}
 use Rattle.tx_laws.specs.Footprints.{is_shared}
-use Rattle.tx_model.specs.State.{Object, Desc, Pipe, has, same_object}
+use Rattle.tx_model.specs.State.{Object, has, same_object}
 use Rattle.tx_step.proofs.MetObjects.{same_is}
 use Rattle.tx_txn.specs.Content.{is_named}
 

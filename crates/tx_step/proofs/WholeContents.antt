@@ -1,11 +1,10 @@
 -- Contents that steps lead to have whole parts.
 use Rattle.std.proofs.Common.{◌≡◌, [], subst}
-use Rattle.tx_change.specs.States.{state_of}
+use Rattle.std.proofs.lemmas.List.Elements.{All-nil}
 use Rattle.tx_step.specs.Contents.{ContentsAreWhole, IsContent}
-use Rattle.tx_kernel.specs.Laws.{WellFormedAreOrderly}
-use Rattle.tx_kernel.specs.Orderly.{IsOrderly}
+use Rattle.tx_laws.specs.Laws.{HeldKeepsForm}
 use Rattle.tx_laws.specs.LawsOfParts.{PresentIsNow}
-use Rattle.tx_laws.specs.WellFormed.{IsWellFormed}
+use Rattle.tx_laws.specs.WellFormed.{IsHeldSending, IsWellFormed}
 use Rattle.tx_live.specs.Content.{content_of, now_of, view_of}
 use Rattle.tx_live.specs.declared.content.Content.{Content}
 use Rattle.tx_model.specs.History.{nobody}
@@ -20,14 +19,10 @@ now_seen seen k = seen (two_parts_of (content_of k))
 pub now_formed : PresentIsNow → (k : Content) → IsContent k → IsWellFormed (now_of k)
 now_formed seen k is = subst IsWellFormed (now_seen seen k) (is.formed nobody)
 
--- whether a state is orderly has nothing to do with what is held
-orderly_parts : WellFormedAreOrderly → (k : Content) → IsWellFormed (now_of k) → IsOrderly (state_of (λ starter. []) k.parts)
-orderly_parts orderly k formed = let was : IsOrderly (now_of k) = orderly (now_of k) formed in record { first = was.first; parents = was.parents; masks = was.masks; piped = was.piped }
-
-pub contents_whole : PresentIsNow → WellFormedAreOrderly → ContentsAreWhole
-contents_whole seen orderly k is = record {
+pub contents_whole : PresentIsNow → HeldKeepsForm → ContentsAreWhole
+contents_whole seen held k is = record {
   counts = is.shaped.counts;
   places = is.shaped.places;
   few = is.shaped.few;
-  orderly = orderly_parts orderly k (now_formed seen k is);
+  formed = held (λ starter. []) (now_of k) (λ starter. All-nil (IsHeldSending (now_of k).width)) (now_formed seen k is);
 }

@@ -3,7 +3,6 @@ ghost use Rattle.tx_step.specs.Contents.{BootedIsContent, ContentsAreWhole};
 ghost use Rattle.tx_step.specs.Early.{RefusalIsEarly};
 ghost use Rattle.tx_step.specs.RefusalLaws.{JudgeLaws, WayLaws};
 
-use tx_kernel::well_formed_are_orderly;
 use tx_laws::{answers_of_parts, footprints, inside, well_formed, well_formed_table};
 use tx_reserve::footprints_are_within;
 use tx_txn::answers_of_faces;
@@ -37,7 +36,7 @@ pub fn contents_are_whole()
     ensures { ContentsAreWhole }
 {
     answers_of_parts();
-    well_formed_are_orderly();
+    well_formed();
 }
 
 /// What a kernel keeps as it is booted is a content that steps lead to.

@@ -39,7 +39,7 @@ fn shown(parts: &Parts, number: u16) -> Option<(u32, i64, Option<u16>)> {
 }
 
 #[test]
-fn a_call_is_made_and_led_back(rt: HostRuntime) -> Result<(), Fail> {
+fn calls_are_made_and_led_back(rt: HostRuntime) -> Result<(), Fail> {
     let mut parts = booted(rt.alloc())?;
     let mut log = Log::with_room(rt.alloc(), 0)?;
     let call = Call::Setuid(7);
@@ -48,6 +48,15 @@ fn a_call_is_made_and_led_back(rt: HostRuntime) -> Result<(), Fail> {
     };
     assert!(rt; matches!(planned.outcome, Outcome::Done(0)));
     assert!(rt; shown(&parts, 2) == Some((1, 0, None)));
+    let next = act(
+        rt.alloc(),
+        &mut parts,
+        Pid(2),
+        &Call::Getpid,
+        None,
+        &mut log,
+    );
+    assert!(rt; next.is_ok() && shown(&parts, 2) == Some((2, 2, None)));
     log.lead_back(&mut parts);
     assert!(rt; shown(&parts, 2) == Some((0, 0, None)));
     Ok(())

@@ -38,7 +38,7 @@ pub returns-in-Ok-Some-clause-whole : goal.returns-in-Ok-Some-clause-whole
 returns-in-Ok-Some-clause-whole c =
     let made = part_posted c.laws.ensures c.args.parts.now c.swap.new.parts (sending_of c.args.sending.now) c.args.sending.now.target c.in-Ok-Some.field-0 c.in-Ok-Some.part refl c.in-Ok-Some.field-0-is
     c.in-Ok-Some.ensures c.swap.ensures.parts in
-    posted_whole c.args.parts.now c.swap.new.parts (sending_of c.args.sending.now) made.0 made.1 made.2
+    posted_whole c.well_formed-2.ensures.posted c.args.parts.now c.swap.new.parts (sending_of c.args.sending.now) made.0 made.1 made.2
 
 pub returns-in-Ok-Some-clause-among : goal.returns-in-Ok-Some-clause-among
 unfolding has

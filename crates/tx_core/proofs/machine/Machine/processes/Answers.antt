@@ -5,4 +5,4 @@ use Rattle.tx_live.specs.declared.content.Content.{Content}
 use Rattle.tx_core.proofs.machine.Machine.processes.Goals as goal
 
 pub returns-clause-table : goal.returns-clause-table
-returns-clause-table c = c.width.ensures ∙ width_read c.self.inside.content c.self.invariant ∙ ap (λ (k : Content). (view_of k).table.width) c.self.view_is
+returns-clause-table c = c.width.ensures ∙ width_read c.self.inside.content c.self.invariant.content ∙ ap (λ (k : Content). (view_of k).table.width) c.self.view_is

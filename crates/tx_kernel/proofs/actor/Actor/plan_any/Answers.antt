@@ -46,5 +46,6 @@ returns-in_ok-push_sends-in_default c =
           (λ held. common_names_any (inside_of actor.inside) call actor.pid.0 (me_of actor) (state_of held actor.parts.now) other)
           c.in_ok-planned-in_default.ensures.ok);
       refused = tt;
+      numbers = c.in_ok-planned-in_default.ensures.numbers;
       log = tt;
     }

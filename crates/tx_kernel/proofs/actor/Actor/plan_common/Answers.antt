@@ -1,11 +1,11 @@
-use Rattle.std.proofs.Common.{IfOk, List, [], Result, sym, subst, rules}
+use Rattle.std.proofs.Common.{IfOk, List, [], Result, ap, length, sym, subst, rules}
 use Rattle.std.proofs.lemmas.Int.{to_z-of_z}
 use Rattle.std.specs.Int.{w64}
 use Rattle.std.specs.Prelude.{FitsSigned}
 use Rattle.tx_base.specs.declared.steps.Call.{Call}
 use Rattle.tx_base.specs.declared.steps.Refusal.{Refusal}
 use Rattle.tx_change.specs.declared.change.Change.{Change}
-use Rattle.tx_kernel.proofs.AnyCall.{IsOwnCall, own_is_common, own_names_nothing}
+use Rattle.tx_kernel.proofs.AnyCall.{IsOwnCall, own_chooses_nothing, own_is_common, own_names_nothing}
 use Rattle.tx_kernel.proofs.Beside.{plans_same}
 use Rattle.tx_kernel.proofs.OwnPlans.{own_plans}
 use Rattle.tx_change.specs.States.{state_of}
@@ -14,6 +14,7 @@ use Rattle.tx_kernel.specs.Calls.{common_effect, common_objects, own_rule}
 use Rattle.tx_kernel.specs.Plans.{Plans, quiet}
 use Rattle.tx_kernel.specs.declared.actor.Actor.{Actor}
 use Rattle.tx_kernel.specs.declared.planned.Planned.{Planned}
+use Rattle.tx_model.specs.Answer.{is_bad_choice}
 use Rattle.tx_model.specs.State.{Object, State}
 use Rattle.tx_kernel.proofs.actor.Actor.plan_common.Goals as goal
 
@@ -123,5 +124,6 @@ returns-in_ok-outcome-in_default c =
           (own_plans c.laws.ensures actor c.args.log.now c.plan_own.new.log c.in_ok-outcome-in_default.outcome (own_rule (inside_of actor.inside) actor.pid.0 call) none c.sized.ensures c.requires
           c.in_ok-outcome-in_default.ensures.ok));
       refused = tt;
+      numbers = ap (is_bad_choice (length actor.parts.now.procs)) (own_chooses_nothing call own);
       log = tt;
     }

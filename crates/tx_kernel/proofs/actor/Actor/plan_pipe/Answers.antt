@@ -1,6 +1,7 @@
-use Rattle.std.proofs.Common.{Bool, [], refl, ap, sym, inl, inr, if◌then◌else◌}
+use Rattle.std.proofs.Common.{Bool, length, [], refl, ap, sym, inl, inr, if◌then◌else◌}
 use Rattle.tx_base.specs.declared.steps.Refusal.TheVariants.{NumberTaken}
 use Rattle.tx_change.specs.States.{state_of}
+use Rattle.tx_kernel.proofs.AnyCall.{so_anyway}
 use Rattle.tx_kernel.proofs.NamedCalls.{pipe_plan, done_plan, good_choice, free_numbers}
 use Rattle.tx_kernel.specs.Actors.{me_of}
 use Rattle.tx_model.specs.Descriptors.{pipe_effect, pipe_objects, opens_from, lowest_free}
@@ -40,3 +41,9 @@ returns-in-Err-clause-ok c =
     done_plan c.plan_failure.result me c.args.log.now c.plan_failure.new.log (failing c.in-Err.errno) (λ S. pipe_effect me.pid.0 c.args.pipe.0 c.args.read.0 c.args.write.0 (me_of me) S)
     (λ S. pipe_objects c.args.pipe.0 c.args.read.0 c.args.write.0)
     (λ held. c.in-Err.ensures.answer me.pid.0 (me_of me) (state_of held me.parts.now) me.parts.now.descs refl free.0 (λ d. refl) free.1) c.plan_failure.ensures.ok
+
+pub returns-in_ok-push_pipe-in-Ok-clause-numbers : goal.returns-in_ok-push_pipe-in-Ok-clause-numbers
+returns-in_ok-push_pipe-in-Ok-clause-numbers c = sym (c.if-is_bad_pipe.ensures (length c.args.self.now.parts.now.procs))
+
+pub returns-in-Err-clause-numbers : goal.returns-in-Err-clause-numbers
+returns-in-Err-clause-numbers c = so_anyway c.plan_failure.result (sym (c.if-is_bad_pipe.ensures (length c.args.self.now.parts.now.procs)))

@@ -1,4 +1,4 @@
-use Rattle.std.proofs.Common.{◌≡◌, ◌<◌, ◌^◌, ℕ, ℤ, pos, ◌∙◌, ap, sym, subst, bit_and, arith}
+use Rattle.std.proofs.Common.{◌≡◌, ◌<◌, ◌^◌, ℕ, ℤ, pos, ◌∙◌, ap, sym, subst, bit_and, arith, rules}
 use Rattle.std.proofs.lemmas.Int.{to_z_pos}
 use Rattle.std.proofs.lemmas.Nat.{and_le_r}
 use Rattle.std.specs.Int.{w64}
@@ -17,3 +17,10 @@ returns-clause-ok c =
     let below : c.bits.result < 2 ^ 63 = subst (λ (n : ℕ). n < 2 ^ 63) (sym number) (omega (arith, and_le_r (pending_signals (me_of c.args.self.now)) mask, masked_few c.args.self.now c.requires)) in
     own_same c.args.self.now c.args.log.now c.plan_answer.new.log c.in_ok-outcome.outcome _ tells_pending c.in_ok-outcome.ensures.ok
     (ap (λ (r : ℤ). answers_with r (me_of c.args.self.now)) (to_z_pos w64 c.bits.result below ∙ ap pos number))
+
+pub overflow_cast-bits : goal.overflow_cast-bits
+overflow_cast-bits c =
+    let few : c.bits.result < 2 ^ 63
+    = subst (λ (n : ℕ). n < 2 ^ 63) (sym (c.bits.ensures tt ∙ c.intersection-blocked.ensures tt))
+    (omega (arith, and_le_r c.signals.result.0 c.args.self.now.proc.now.mask.0, masked_few c.args.self.now c.requires)) in
+    search rules

@@ -12,7 +12,7 @@ returns-clause-shaped c =
 
 pub returns-clause-whole : goal.returns-clause-whole
 returns-clause-whole c =
-    c.booted_are_whole.ensures c.args.width c.args.count c.in_ok-parts.parts c.requires.low c.requires.width c.in_ok-parts.ensures.state c.in_ok-parts.ensures.places c.in_ok-parts.ensures.counts
+    c.booted_are_whole.ensures c.args.width c.args.count c.in_ok-parts.parts c.requires.low c.requires.high c.requires.width c.in_ok-parts.ensures.state c.in_ok-parts.ensures.places c.in_ok-parts.ensures.counts
 
 pub returns-clause-kept : goal.returns-clause-kept
 returns-clause-kept c =
