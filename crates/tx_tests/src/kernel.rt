@@ -39,7 +39,7 @@ fn shown(parts: &Parts, number: u16) -> Option<(u32, i64, Option<u16>)> {
 }
 
 #[test]
-fn calls_are_made_and_led_back(rt: HostRuntime) -> Result<(), Fail> {
+fn a_call_is_made_and_led_back(rt: HostRuntime) -> Result<(), Fail> {
     let mut parts = booted(rt.alloc())?;
     let mut log = Log::with_room(rt.alloc(), 0)?;
     let call = Call::Setuid(7);
@@ -48,17 +48,30 @@ fn calls_are_made_and_led_back(rt: HostRuntime) -> Result<(), Fail> {
     };
     assert!(rt; matches!(planned.outcome, Outcome::Done(0)));
     assert!(rt; shown(&parts, 2) == Some((1, 0, None)));
-    let next = act(
-        rt.alloc(),
-        &mut parts,
-        Pid(2),
-        &Call::Getpid,
-        None,
-        &mut log,
-    );
-    assert!(rt; next.is_ok() && shown(&parts, 2) == Some((2, 2, None)));
     log.lead_back(&mut parts);
     assert!(rt; shown(&parts, 2) == Some((0, 0, None)));
+    Ok(())
+}
+
+/// Makes a call of process 2.
+fn make(rt: &impl Abort, alloc: Global, parts: &mut Parts, call: &Call)
+    requires { IsWhole parts.old }
+    ensures { IsWhole parts.new }
+{
+    let Ok(mut log) = Log::with_room(alloc, 0) else {
+        panic!(rt; "there is memory");
+    };
+    let Ok(_planned) = act(alloc, parts, Pid(2), call, None, &mut log) else {
+        panic!(rt; "a call of a process that runs is made");
+    };
+}
+
+#[test]
+fn a_call_follows_another(rt: HostRuntime) -> Result<(), Fail> {
+    let mut parts = booted(rt.alloc())?;
+    make(&rt, rt.alloc(), &mut parts, &Call::Setuid(7));
+    make(&rt, rt.alloc(), &mut parts, &Call::Getpid);
+    assert!(rt; shown(&parts, 2) == Some((2, 2, None)));
     Ok(())
 }
 
