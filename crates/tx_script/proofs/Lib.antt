@@ -1,4 +1,3 @@
-pub mod NumberedLines
 pub mod Reported
 pub mod Told
 pub mod Walked

@@ -2,4 +2,3 @@ pub mod Answered
 pub mod Debug
 pub mod Grammars
 pub mod Report
-pub mod Run

@@ -7,7 +7,8 @@ use std::result;
 use std::test::Fail;
 use tx_journal::Session;
 use tx_lines::{Fault, OverRead, OverWrite, read_program, read_schedule};
-use tx_script::{debug, replay, write_run};
+use tx_script::{debug, replay};
+use tx_workers::write_run;
 
 /// A reader that is interrupted so often, then gives some bytes, and then ends or fails.
 #[derive(Drop)]

@@ -11,8 +11,7 @@ use std::thread;
 use std::thread::Threads;
 use tx_base::{Pid, Step};
 use tx_lines::OverWrite;
-use tx_script::write_run;
-use tx_workers::{Gate, NoGate, Tally, Worked, run_queue};
+use tx_workers::{Gate, NoGate, Tally, Worked, run_queue, write_run};
 
 /// What so many workers give back of a program, from its start with so many processes.
 fn queue_over<R: Threads + Wait + Sync, G: Gate + Sync>(

@@ -2,5 +2,6 @@ pub mod Crews
 pub mod Finding
 pub mod Grown
 pub mod Notes
+pub mod NumberedLines
 pub mod Turned
 pub mod Written

@@ -2,7 +2,7 @@
 use Rattle.std.proofs.Common.{ℕ, List, Option, Ok, Err}
 use Rattle.tx_journal.specs.Sessions.{Kept}
 use Rattle.tx_lines.specs.Ends.{Counts}
-use Rattle.tx_script.specs.Run.{run_text, WritesText}
+use Rattle.tx_workers.specs.RunText.{run_text, WritesText}
 use Rattle.tx_lines.specs.Whole.{IsCalm}
 use Rattle.tx_lines.specs.declared.faults.Fault.{Fault}
 use Rattle.tx_lines.specs.declared.faults.Fault.TheVariants.{NotALine, NoLabel, TooLong, Reader, Writer, NoMemory}

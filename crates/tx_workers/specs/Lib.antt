@@ -4,6 +4,7 @@ pub mod Named
 pub mod Names
 pub mod Offers
 pub mod Passes
+pub mod RunText
 pub mod Runs
 pub mod Services
 pub mod Teams

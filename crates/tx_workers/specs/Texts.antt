@@ -5,7 +5,7 @@ use Rattle.tx_journal.specs.Sessions.{Kept}
 use Rattle.tx_lines.specs.Ends.{Counts}
 use Rattle.tx_lines.specs.Lines.{most_of}
 use Rattle.tx_lines.specs.Programs.{ReadsProgramFrom, SpellsProgram}
-use Rattle.tx_script.specs.Run.{run_text}
+use Rattle.tx_workers.specs.RunText.{run_text}
 use Rattle.tx_lines.specs.Whole.{IsCalm, WritesWhole}
 use Rattle.tx_lines.specs.declared.faults.Fault.TheVariants as fault
 use Rattle.tx_lines.specs.declared.programs.Program.{Program}

@@ -1,4 +1,4 @@
-//! Workers that run a program in turns.
+//! Workers that run a program in turns, and what writes a run.
 #![tactic(auto)]
 
 mod compare;
@@ -14,6 +14,7 @@ mod run;
 mod same;
 mod service;
 mod team;
+mod text;
 mod turns;
 mod whole;
 mod work;
@@ -24,6 +25,7 @@ pub use faults::WorkFault;
 pub use gate::{Gate, NoGate};
 pub use ready::run_queue;
 pub use run::run_workers;
+pub use text::write_run;
 pub use turns::{Took, turn, turn_of};
 pub use tx_ready::Tally;
 pub use whole::{RunFault, run_program};

@@ -7,6 +7,7 @@ ghost use Rattle.tx_workers.specs.Texts.{IsBooted, RunsFrom, RunsText};
 use crate::faults::WorkFault;
 use crate::gate::NoGate;
 use crate::run::run_workers;
+use crate::text::write_run;
 use std::alloc::Global;
 use std::sync::Wait;
 use std::thread::Threads;
@@ -14,7 +15,6 @@ use thiserror::Error;
 use tx_base::NoMemory;
 use tx_journal::Session;
 use tx_lines::{Fault, Header, Sink, Source, Version, read_program};
-use tx_script::write_run;
 
 /// Why no run was written, or not the whole of it. It prints as the fault that it holds.
 #[derive(Clone, Copy, PartialEq, Eq, Debug, Error)]

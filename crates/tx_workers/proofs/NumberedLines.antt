@@ -4,7 +4,7 @@ use Rattle.std.proofs.lemmas.List.{append-nil}
 use Rattle.std.proofs.lemmas.Option.{get_or_from_slice_get, slice_get_within}
 use Rattle.std.proofs.Math.ListN.{drop_of_length-le}
 use Rattle.std.specs.Prelude.{slice_get}
-use Rattle.tx_script.specs.Run.{numbered}
+use Rattle.tx_workers.specs.RunText.{numbered}
 
 -- the lines of the first i things stand behind what there was before
 abbrev pub NumberedSoFar : {A : Type 0} → (ℕ → A → List ℕ) → List A → List ℕ → List ℕ → ℕ → Type 0

@@ -4,10 +4,10 @@ use Rattle.std.specs.Option.{option_copied}
 use Rattle.std.specs.Prelude.{slice_get}
 use Rattle.tx_journal.specs.Entries.{entry_at}
 use Rattle.tx_journal.specs.declared.entry.Entry.{Entry}
-use Rattle.tx_script.proofs.NumberedLines.{all_numbered, one_numbered_more}
-use Rattle.tx_script.specs.Run.{entry_line}
-use Rattle.tx_script.proofs.runs.put_entries.Goals.{in-Some+in_ok-put_run_line, in_default}
-use Rattle.tx_script.proofs.runs.put_entries.Goals as goal
+use Rattle.tx_workers.proofs.NumberedLines.{all_numbered, one_numbered_more}
+use Rattle.tx_workers.specs.RunText.{entry_line}
+use Rattle.tx_workers.proofs.text.put_entries.Goals.{in-Some+in_ok-put_run_line, in_default}
+use Rattle.tx_workers.proofs.text.put_entries.Goals as goal
 
 -- a place within a list has something
 some_is_there : (entries : List Entry) (i : ℕ) → i < length entries → slice_get entries i ≡ None → ⊥

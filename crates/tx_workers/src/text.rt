@@ -1,7 +1,7 @@
 //! Writes a run: its entries, and the state.
 ghost use Rattle.std.specs.Prelude.{◌≡◌, ◌++◌, IfErr, IfOk, OnOk, string_bytes};
 ghost use Rattle.tx_lines.specs.Ends.{IsFresh};
-ghost use Rattle.tx_script.specs.Run.{WritesText, entry_line, numbered, run_line, run_text};
+ghost use Rattle.tx_workers.specs.RunText.{WritesText, entry_line, numbered, run_line, run_text};
 ghost use Rattle.tx_lines.specs.declared.faults.Fault.TheVariants.{NoMemory};
 
 use std::alloc::{AllocError, Global};
