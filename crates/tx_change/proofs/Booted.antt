@@ -11,8 +11,8 @@ use Rattle.tx_change.specs.declared.parts.Parts.{Parts}
 use Rattle.tx_base.proofs.SlotFacts.{slot_at-with_slot}
 use Rattle.tx_desc.specs.Descriptions.{described}
 use Rattle.tx_desc.specs.declared.opened.Opened.{Opened}
-use Rattle.tx_model.specs.State.{Process, Object, Proc as TheProc, Desc, Pipe as ThePipe, Held, AgreePart, booted, booted_process, is_between}
-use Rattle.tx_model.specs.StateLaws.{state_ext}
+use Rattle.tx_model.specs.State.{Process, Object, Proc as TheProc, Desc, Pipe as ThePipe, Held, booted, booted_process, is_between}
+use Rattle.tx_model.specs.StateLaws.{state_ext, AgreePart}
 use Rattle.tx_proc.specs.Processes.{process_of, process_in}
 use Rattle.tx_proc.specs.declared.proc.Proc.{Proc}
 

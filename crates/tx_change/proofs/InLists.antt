@@ -13,8 +13,8 @@ use Rattle.tx_change.specs.declared.change.Change.TheVariants.{Slot, Part, Descr
 use Rattle.tx_change.specs.declared.parts.Parts.{Parts}
 use Rattle.tx_change.specs.declared.pipes.PipePart.TheVariants.{Front, Back}
 use Rattle.tx_change.proofs.Stated.{other_object}
-use Rattle.tx_model.specs.State.{State, Process, Object, Proc, Desc, Pipe as ThePipe, Held, AgreePart, SetProc, write_one}
-use Rattle.tx_model.specs.StateLaws.{put_cases, put_here, state_ext}
+use Rattle.tx_model.specs.State.{State, Process, Object, Proc, Desc, Pipe as ThePipe, Held, SetProc, write_one}
+use Rattle.tx_model.specs.StateLaws.{put_cases, put_here, state_ext, AgreePart}
 
 pub exchanged-append : (parts : Parts) (front behind : List Change) → exchanged parts (front ++ behind) ≡ exchanged parts front ++ exchanged (applied parts front) behind
 exchanged-append parts [] behind = refl

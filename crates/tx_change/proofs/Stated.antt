@@ -13,8 +13,8 @@ use Rattle.tx_change.specs.declared.change.Change.TheVariants.{Slot, Part, Descr
 use Rattle.tx_change.specs.declared.parts.Parts.{Parts}
 use Rattle.tx_desc.specs.Descriptions.{described, description_at}
 use Rattle.tx_desc.specs.declared.opened.Opened.{Opened}
-use Rattle.tx_model.specs.State.{Process, State, Sending, Object, Proc as TheProc, Desc, Pipe as ThePipe, Held, AgreePart, same_object}
-use Rattle.tx_model.specs.StateLaws.{state_ext}
+use Rattle.tx_model.specs.State.{Process, State, Sending, Object, Proc as TheProc, Desc, Pipe as ThePipe, Held, same_object}
+use Rattle.tx_model.specs.StateLaws.{state_ext, AgreePart}
 use Rattle.tx_proc.proofs.Revised.{revised_in}
 use Rattle.tx_proc.specs.Processes.{process_in}
 use Rattle.tx_proc.specs.declared.proc.Proc.{Proc}

@@ -10,7 +10,8 @@ use Rattle.tx_change.specs.declared.parts.Parts.{Parts}
 use Rattle.tx_change.specs.Own.{AreOf}
 use Rattle.tx_change.specs.Pipes.{piped_in}
 use Rattle.tx_change.specs.declared.pipes.PipePart.TheVariants.{Front, Back}
-use Rattle.tx_model.specs.State.{Object, Process, State, Sending, AgreePart, same_object, SetProc, write_one}
+use Rattle.tx_model.specs.State.{Object, Process, State, Sending, same_object, SetProc, write_one}
+use Rattle.tx_model.specs.StateLaws.{AgreePart}
 use Rattle.tx_proc.specs.Laws.{is_same_part, IsSized}
 use Rattle.tx_proc.specs.Processes.{revised}
 use Rattle.tx_proc.specs.declared.proc.Proc.{Proc}

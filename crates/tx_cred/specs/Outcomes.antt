@@ -1,9 +1,11 @@
--- What a call on ids answers.
-use Rattle.std.specs.Prelude.{◌≡◌, ℤ, pos, Result, Ok, Err}
+-- What a call on ids comes to.
+use Rattle.std.specs.Prelude.{Result, Ok, Err}
 use Rattle.tx_base.specs.declared.errors.Errno.{Errno}
-use Rattle.tx_model.specs.Numbers.{failing}
+use Rattle.tx_model.specs.Book.{with_ids}
+use Rattle.tx_model.specs.Forms.{Caller, Outcome, fails}
+use Rattle.tx_model.specs.State.{Ids}
 
--- the result is the rule's answer: `Ok` is 0, and an error its number, negative
-abbrev pub Answers : {A : Type 0} → Result A Errno → ℤ → Type 0
-Answers (Ok _) answer = answer ≡ pos 0
-Answers (Err errno) answer = answer ≡ failing errno
+-- the process has these ids and answers 0, or the error is the answer
+abbrev pub ids_outcome : Result (Unit {0}) Errno → Ids → Caller → Outcome
+ids_outcome (Ok _) ids c = with_ids ids c
+ids_outcome (Err errno) ids c = fails errno

@@ -1,10 +1,11 @@
 //! The ids of a process: of its user and of its group, each real, effective and saved.
 ghost use Rattle.std.specs.Prelude.{◌≡◌, OnErr, Some};
-ghost use Rattle.tx_model.specs.Identities.{id_of, is_privileged, is_own_user, is_own_group, set_user, set_effective_user, set_group, set_effective_group};
+ghost use Rattle.tx_model.specs.Book.{setuid, seteuid, setgid, setegid, id_of, is_privileged, is_own_user, is_own_group};
+ghost use Rattle.tx_model.specs.Forms.{Caller};
 ghost use Rattle.tx_model.specs.Posts.{may_signal};
 ghost use Rattle.tx_model.specs.State.{root_ids};
 ghost use Rattle.tx_cred.specs.Cred.{ids_of};
-ghost use Rattle.tx_cred.specs.Outcomes.{Answers};
+ghost use Rattle.tx_cred.specs.Outcomes.{ids_outcome};
 
 use tx_base::Errno;
 
@@ -42,8 +43,8 @@ impl Cred {
     /// InvalidArgument where the number is not 0 to 65,535. NotPermitted where the process is not
     /// privileged and the id is neither its real nor its saved user. The ids are then as they were.
     pub fn setuid(&mut self, user: i64) -> Result<(), Errno>
-        ensures ids { ids_of self.new ≡ (set_user (id_of user) (ids_of self.old)).ids }
-        ensures answer { Answers result (set_user (id_of user) (ids_of self.old)).ret }
+        ensures answer { (c : Caller) → c.process.ids ≡ ids_of self.old →
+            setuid user c ≡ ids_outcome result (ids_of self.new) c }
         ensures err { OnErr result (self.new ≡ self.old) }
     {
         let Some(user) = computed_id(user) else {
@@ -64,8 +65,8 @@ impl Cred {
     /// InvalidArgument where the number is not 0 to 65,535. NotPermitted where the process is not
     /// privileged and the id is neither its real nor its saved user. The ids are then as they were.
     pub fn seteuid(&mut self, user: i64) -> Result<(), Errno>
-        ensures ids { ids_of self.new ≡ (set_effective_user (id_of user) (ids_of self.old)).ids }
-        ensures answer { Answers result (set_effective_user (id_of user) (ids_of self.old)).ret }
+        ensures answer { (c : Caller) → c.process.ids ≡ ids_of self.old →
+            seteuid user c ≡ ids_outcome result (ids_of self.new) c }
         ensures err { OnErr result (self.new ≡ self.old) }
     {
         let Some(user) = computed_id(user) else {
@@ -85,8 +86,8 @@ impl Cred {
     /// privileged and the id is neither its real nor its saved group. The ids are then as they
     /// were.
     pub fn setgid(&mut self, group: i64) -> Result<(), Errno>
-        ensures ids { ids_of self.new ≡ (set_group (id_of group) (ids_of self.old)).ids }
-        ensures answer { Answers result (set_group (id_of group) (ids_of self.old)).ret }
+        ensures answer { (c : Caller) → c.process.ids ≡ ids_of self.old →
+            setgid group c ≡ ids_outcome result (ids_of self.new) c }
         ensures err { OnErr result (self.new ≡ self.old) }
     {
         let Some(group) = computed_id(group) else {
@@ -108,8 +109,8 @@ impl Cred {
     /// privileged and the id is neither its real nor its saved group. The ids are then as they
     /// were.
     pub fn setegid(&mut self, group: i64) -> Result<(), Errno>
-        ensures ids { ids_of self.new ≡ (set_effective_group (id_of group) (ids_of self.old)).ids }
-        ensures answer { Answers result (set_effective_group (id_of group) (ids_of self.old)).ret }
+        ensures answer { (c : Caller) → c.process.ids ≡ ids_of self.old →
+            setegid group c ≡ ids_outcome result (ids_of self.new) c }
         ensures err { OnErr result (self.new ≡ self.old) }
     {
         let Some(group) = computed_id(group) else {

@@ -1,20 +1,21 @@
--- The effects of the calls, by what the code found.
-use Rattle.std.proofs.Common.{◌≡◌, ◌≢◌, ℕ, Bool, false, List, [], ◌∷◌, length, ℤ, pos, Option, Some, None, Result, Ok, Err, IsErr, if◌then◌else◌, ◌==◌, get_or, refl, sym, ap, ◌∙◌, subst, eq-eqb, eqb-true}
+-- What the calls come to, by what the code found.
+use Rattle.std.proofs.Common.{◌≡◌, ◌≢◌, ℕ, Bool, false, List, [], ◌∷◌, length, ℤ, pos, Option, Some, None, Result, Ok, Err, IsErr, ◌==◌, get_or, refl, sym, ap, ◌∙◌, subst, eq-eqb, eqb-true}
 use Rattle.std.proofs.lemmas.Bool.{false_from_ne_true}
 use Rattle.std.proofs.Math.ListN.{set}
 use Rattle.tx_base.specs.declared.errors.Errno.{Errno}
 use Rattle.tx_base.specs.declared.errors.Errno.TheVariants.{BadDescriptor, TooManyDescriptors}
-use Rattle.tx_model.specs.Numbers.{failing}
-use Rattle.tx_model.specs.State.{Process, Description, State, SetDesc, written}
-use Rattle.tx_model.specs.Effects.{Effect, done, done_with, before_sends}
-use Rattle.tx_model.specs.Descriptors.{named, first_free, lowest_free, listed, gives_up, pipes_of, unnamed_go, endless_go, dup_effect, dups_to, dup2_effect, dup2_named, renames, close_effect, closes, nonblock_effect, flags}
+use Rattle.tx_model.specs.Book.{description_at, gives_up, dup, dup2, close, set_nonblock}
+use Rattle.tx_model.specs.State.{Process, SetDesc, written}
+use Rattle.tx_model.specs.Effects.{Effect, done, before_sends}
+use Rattle.tx_model.specs.Forms.{Caller, Outcome, Rule, answers, changes, fails, effect_of, ◌or◌}
+use Rattle.tx_model.specs.Descriptors.{named, descriptor, first_free, lowest_free, listed, pipes_of, unnamed_go, endless_go}
 use Rattle.tx_desc.specs.declared.opened.Opened.{Opened}
 use Rattle.tx_desc.specs.declared.plans.NewDesc.{NewDesc}
 use Rattle.tx_desc.specs.Places.{Descriptors, named_in}
 use Rattle.tx_desc.specs.Plans.{put_descs}
 use Rattle.tx_desc.specs.Descriptions.{HasDescs, described, with_flag}
 use Rattle.tx_desc.specs.Counts.{Agrees, HasRoom, others_of}
-use Rattle.tx_desc.specs.Outcomes.{RunsWith, with_table, described_again}
+use Rattle.tx_desc.specs.Outcomes.{RunsWith, effect_in, state_after, with_table, described_again}
 use Rattle.tx_desc.proofs.Counting.{room_there}
 use Rattle.tx_desc.proofs.Gone.{Sheds}
 use Rattle.tx_desc.proofs.Running.{running_gives}
@@ -35,108 +36,116 @@ pub found_room : (room : ℕ) (table : Descriptors) (D : List (Option Opened)) (
     HasRoom room (named_in table x) D → HasRoom room (Some d) D
 found_room room table D x f d h is r = subst (λ (y : Option ℕ). HasRoom room y D) (ap (named_in table) h ∙ is) r
 
--- what an effect keeps
+-- what a rule keeps
 
-pub done_keeps : (E : Effect) (p : ℕ) (r : ℤ) (me : Process) (S : State) (D : List (Option Opened)) → E ≡ done p r me → HasDescs S D → HasDescs (before_sends E S) D
+pub done_keeps : (rule : Rule) (c : Caller) (r : ℤ) (q : Process) (D : List (Option Opened)) → effect_in rule c ≡ done c.number r q →
+    HasDescs c.state D → HasDescs (state_after rule c) D
 unfolding written
-done_keeps E p r me S D e has d = ap (λ (F : Effect). (before_sends F S).descs d) e ∙ has d
+done_keeps rule c r q D e has d = ap (λ (F : Effect). (before_sends F c.state).descs d) e ∙ has d
 
 -- an error puts nothing in place
 pub error_keeps : {A : Type 0} (r : Result A Errno) (news : Result A Errno → List NewDesc) → IsErr r → ((e : Errno) → news (Err e) ≡ []) →
-    (E : Effect) (p : ℕ) (n : ℤ) (me : Process) (S : State) (D : List (Option Opened)) → E ≡ done p n me → HasDescs S D → HasDescs (before_sends E S) (put_descs (news r) D)
-error_keeps (Ok x) news err none E p n me S D e has = let never : ⊥ = cc in absurd never
-error_keeps (Err e) news err none E p n me S D is has =
-    subst (λ (l : List NewDesc). HasDescs (before_sends E S) (put_descs l D)) (sym (none e)) (done_keeps E p n me S D is has)
+    (rule : Rule) (c : Caller) (errno : Errno) (D : List (Option Opened)) → rule c ≡ fails errno → HasDescs c.state D →
+    HasDescs (state_after rule c) (put_descs (news r) D)
+error_keeps (Ok x) news err none rule c errno D is has = let never : ⊥ = cc in absurd never
+error_keeps (Err e) news err none rule c errno D is has =
+    subst (λ (l : List NewDesc). HasDescs (state_after rule c) (put_descs l D)) (sym (none e))
+    (done_keeps rule c _ c.process D (ap (effect_of c.number c.process) is) has)
 
-pub gives_keeps : (E : Effect) (ds : List ℕ) (p : ℕ) (r : ℤ) (me : Process) (S : State) (table new : Descriptors) (before after : List (Option Opened)) →
-    E ≡ gives_up ds p r (with_table new me) S → RunsWith p me S table → length new ≡ 16 → HasDescs S before → Agrees (new ∷ others_of p S) after →
-    Sheds ds before after → HasDescs (before_sends E S) after
-gives_keeps E ds p r me S table new before after e w full has a sheds =
-    subst (λ (F : Effect). HasDescs (before_sends F S) after) (sym e) (running_gives ds p r me S table new before after w full has a sheds)
+pub gives_keeps : (rule : Rule) (c : Caller) (ds : List ℕ) (r : ℤ) (table new : Descriptors) (before after : List (Option Opened)) →
+    effect_in rule c ≡ effect_in (gives_up ds r (with_table new c.process)) c → RunsWith c.number c.process c.state table → length new ≡ 16 →
+    HasDescs c.state before → Agrees (new ∷ others_of c.number c.state) after → Sheds ds before after → HasDescs (state_after rule c) after
+gives_keeps rule c ds r table new before after e w full has a sheds =
+    subst (λ (F : Effect). HasDescs (before_sends F c.state) after) (sym e) (running_gives ds r c table new before after w full has a sheds)
 
-module _ (p : ℕ) (me : Process) (table : Descriptors) (same : me.descriptors ≡ table) where
-  as_table : with_table table me ≡ me
-  as_table = sym (ap (λ (t : Descriptors). with_table t me) same)
+module _ (c : Caller) (table : Descriptors) (same : c.process.descriptors ≡ table) where
+  as_table : with_table table c.process ≡ c.process
+  as_table = sym (ap (λ (t : Descriptors). with_table t c.process) same)
 
-  at_table : (f : ℕ) (x : Option ℕ) → get_or table f None ≡ x → named me (Some f) ≡ x
+  at_table : (f : ℕ) (x : Option ℕ) → get_or table f None ≡ x → named c.process (Some f) ≡ x
   at_table f x h = ap (λ (t : Descriptors). get_or t f None) same ∙ h
+
+  -- a descriptor that is not open
+  unnamed : (x : Option ℕ) (rest : ℕ → ℕ → Outcome) → named_in table x ≡ None →
+      (x or fails BadDescriptor) (λ f. (named c.process (Some f) or fails BadDescriptor) (rest f)) ≡ fails BadDescriptor
+  unnamed None rest none = refl
+  unnamed (Some f) rest none = ap (λ (y : Option ℕ). (y or fails BadDescriptor) (rest f)) (at_table f None none)
+
+  -- and one that is
+  opened : (x : Option ℕ) (f d : ℕ) (rest : ℕ → ℕ → Outcome) → x ≡ Some f → get_or table f None ≡ Some d →
+      (x or fails BadDescriptor) (λ f. (named c.process (Some f) or fails BadDescriptor) (rest f)) ≡ rest f d
+  opened x f d rest h is =
+      ap (λ (y : Option ℕ). (y or fails BadDescriptor) (λ f. (named c.process (Some f) or fails BadDescriptor) (rest f))) h
+      ∙ ap (λ (y : Option ℕ). (y or fails BadDescriptor) (rest f)) (at_table f (Some d) is)
 
   -- dup
 
-  pub dup_bad : (x : Option ℕ) → x ≡ None → dup_effect p me x ≡ done p (failing BadDescriptor) me
-  dup_bad x h = ap (dup_effect p me) h
+  pub dup_bad : (fd : ℤ) → description_at fd c ≡ None → dup fd c ≡ fails BadDescriptor
+  dup_bad fd h = rw h refl
 
-  free_of : lowest_free me ≡ first_free 0 table
+  free_of : lowest_free c.process ≡ first_free 0 table
   free_of = ap (first_free 0) same
 
-  pub dup_full : (x : Option ℕ) (d : ℕ) → x ≡ Some d → None ≡ first_free 0 table → dup_effect p me x ≡ done p (failing TooManyDescriptors) me
-  dup_full x d h full = ap (dup_effect p me) h ∙ ap (dups_to p me d) (free_of ∙ sym full)
+  pub dup_full : (fd : ℤ) (d : ℕ) → description_at fd c ≡ Some d → None ≡ first_free 0 table → dup fd c ≡ fails TooManyDescriptors
+  dup_full fd d h full = rw (h, free_of ∙ sym full) refl
 
-  pub dup_done : (x : Option ℕ) (d f : ℕ) (new : Descriptors) → x ≡ Some d → Some f ≡ first_free 0 table → new ≡ set table f (Some d) →
-      dup_effect p me x ≡ done p (pos f) (with_table new me)
-  dup_done x d f new h free changed =
-      ap (dup_effect p me) h ∙ ap (dups_to p me d) (free_of ∙ sym free)
-      ∙ ap (λ (t : Descriptors). done p (pos f) (with_table t me)) (ap (λ (t : Descriptors). set t f (Some d)) same ∙ sym changed)
+  pub dup_done : (fd : ℤ) (d f : ℕ) (new : Descriptors) → description_at fd c ≡ Some d → Some f ≡ first_free 0 table → new ≡ set table f (Some d) →
+      dup fd c ≡ changes (pos f) (with_table new c.process) []
+  dup_done fd d f new h free changed =
+      rw (h, free_of ∙ sym free) (ap (λ (t : Descriptors). changes (pos f) (with_table t c.process) []) (ap (λ (t : Descriptors). set t f (Some d)) same ∙ sym changed))
 
   -- close
 
-  pub close_bad : (x : Option ℕ) (S : State) → named_in table x ≡ None → close_effect p x me S ≡ done p (failing BadDescriptor) me
-  close_bad None S h = refl
-  close_bad (Some f) S h = ap (closes p me S f) (none_named me table (Some f) same h)
+  pub close_bad : (fd : ℤ) → named_in table (descriptor fd) ≡ None → close fd c ≡ fails BadDescriptor
+  close_bad fd none = unnamed (descriptor fd) _ none
 
-  pub close_done : (x : Option ℕ) (f d : ℕ) (S : State) (new : Descriptors) → x ≡ Some f → get_or table f None ≡ Some d → new ≡ set table f None →
-      close_effect p x me S ≡ gives_up (d ∷ []) p (pos 0) (with_table new me) S
-  close_done x f d S new h is changed =
-      ap (λ (y : Option ℕ). close_effect p y me S) h ∙ ap (closes p me S f) (at_table f (Some d) is)
-      ∙ ap (λ (t : Descriptors). gives_up (d ∷ []) p (pos 0) (with_table t me) S) (ap (λ (t : Descriptors). set t f None) same ∙ sym changed)
+  pub close_done : (fd : ℤ) (f d : ℕ) (new : Descriptors) → descriptor fd ≡ Some f → get_or table f None ≡ Some d → new ≡ set table f None →
+      close fd c ≡ gives_up (d ∷ []) (pos 0) (with_table new c.process) c
+  close_done fd f d new h is changed =
+      opened (descriptor fd) f d _ h is
+      ∙ ap (λ (t : Descriptors). gives_up (d ∷ []) (pos 0) (with_table t c.process) c) (ap (λ (t : Descriptors). set t f None) same ∙ sym changed)
 
   -- dup2
 
-  pub dup2_bad : (x y : Option ℕ) (S : State) → named_in table x ≡ None → dup2_effect p x y me S ≡ done p (failing BadDescriptor) me
-  dup2_bad None y S h = refl
-  dup2_bad (Some f) y S h = ap (dup2_named p me S f y) (none_named me table (Some f) same h)
+  pub dup2_bad : (fd other : ℤ) → named_in table (descriptor fd) ≡ None → dup2 fd other c ≡ fails BadDescriptor
+  dup2_bad fd other none = unnamed (descriptor fd) _ none
 
-  dup2_from : (x y : Option ℕ) (f d : ℕ) (S : State) → x ≡ Some f → get_or table f None ≡ Some d → dup2_effect p x y me S ≡ renames p me S f d y
-  dup2_from x y f d S h is = ap (λ (z : Option ℕ). dup2_effect p z y me S) h ∙ ap (dup2_named p me S f y) (at_table f (Some d) is)
+  pub dup2_other : (fd other : ℤ) (f d : ℕ) → descriptor fd ≡ Some f → get_or table f None ≡ Some d → None ≡ descriptor other →
+      dup2 fd other c ≡ fails BadDescriptor
+  dup2_other fd other f d h is none = opened (descriptor fd) f d _ h is ∙ rw (← none) refl
 
-  pub dup2_other : (x y : Option ℕ) (f d : ℕ) (S : State) → x ≡ Some f → get_or table f None ≡ Some d → None ≡ y →
-      dup2_effect p x y me S ≡ done p (failing BadDescriptor) me
-  dup2_other x y f d S h is other = dup2_from x y f d S h is ∙ ap (renames p me S f d) (sym other)
-
-  gives_none : (r : ℤ) (S : State) → done p r me ≡ gives_up [] p r me S
+  gives_none : (r : ℤ) → done c.number r c.process ≡ effect_in (gives_up [] r c.process) c
   unfolding unnamed_go endless_go pipes_of
-  gives_none r S = refl
+  gives_none r = refl
 
-  pub dup2_same : (x y : Option ℕ) (f d g : ℕ) (S : State) → x ≡ Some f → get_or table f None ≡ Some d → Some g ≡ y → f ≡ g →
-      dup2_effect p x y me S ≡ gives_up [] p (pos g) (with_table table me) S
-  dup2_same x y f d g S h is other z =
-      dup2_from x y f d S h is ∙ ap (renames p me S f d) (sym other)
-      ∙ ap (λ (b : Bool). if b then done p (pos g) me else gives_up (listed (named me (Some g))) p (pos g) (with_table (set me.descriptors g (Some d)) me) S) (eq-eqb f g z)
-      ∙ gives_none (pos g) S ∙ ap (λ (q : Process). gives_up [] p (pos g) q S) (sym as_table)
+  pub dup2_same : (fd other : ℤ) (f d g : ℕ) → descriptor fd ≡ Some f → get_or table f None ≡ Some d → Some g ≡ descriptor other → f ≡ g →
+      effect_in (dup2 fd other) c ≡ effect_in (gives_up [] (pos g) (with_table table c.process)) c
+  dup2_same fd other f d g h is there z =
+      let whole : dup2 fd other c ≡ answers (pos g) = opened (descriptor fd) f d _ h is ∙ rw (← there, eq-eqb f g z) refl in
+      ap (effect_of c.number c.process) whole ∙ gives_none (pos g) ∙ ap (λ (q : Process). effect_in (gives_up [] (pos g) q) c) (sym as_table)
 
-  pub dup2_done : (x y : Option ℕ) (f d g : ℕ) (S : State) (new : Descriptors) (ds : List ℕ) → x ≡ Some f → get_or table f None ≡ Some d → Some g ≡ y → f ≢ g →
-      new ≡ set table g (Some d) → ds ≡ listed (get_or table g None) → dup2_effect p x y me S ≡ gives_up ds p (pos g) (with_table new me) S
-  dup2_done x y f d g S new ds h is other apart changed names =
+  pub dup2_done : (fd other : ℤ) (f d g : ℕ) (new : Descriptors) (ds : List ℕ) → descriptor fd ≡ Some f → get_or table f None ≡ Some d →
+      Some g ≡ descriptor other → f ≢ g → new ≡ set table g (Some d) → ds ≡ listed (get_or table g None) →
+      dup2 fd other c ≡ gives_up ds (pos g) (with_table new c.process) c
+  dup2_done fd other f d g new ds h is there apart changed names =
       let differ : (f == g) ≡ false = false_from_ne_true (f == g) (λ k. apart (eqb-true f g k)) in
-      dup2_from x y f d S h is ∙ ap (renames p me S f d) (sym other)
-      ∙ ap (λ (b : Bool). if b then done p (pos g) me else gives_up (listed (named me (Some g))) p (pos g) (with_table (set me.descriptors g (Some d)) me) S) differ
-      ∙ ap (λ (t : Descriptors). gives_up (listed (get_or t g None)) p (pos g) (with_table (set t g (Some d)) me) S) same
-      ∙ (λ i. gives_up (sym names i) p (pos g) (with_table (sym changed i) me) S)
+      opened (descriptor fd) f d _ h is ∙ rw (← there, differ) refl
+      ∙ ap (λ (t : Descriptors). gives_up (listed (get_or t g None)) (pos g) (with_table (set t g (Some d)) c.process) c) same
+      ∙ (λ i. gives_up (sym names i) (pos g) (with_table (sym changed i) c.process) c)
 
 -- set_nonblock
 
-pub nonblock_bad : (p : ℕ) (on : Bool) (me : Process) (x : Option ℕ) (S : State) → x ≡ None → nonblock_effect p on me x S ≡ done p (failing BadDescriptor) me
-nonblock_bad p on me x S h = ap (λ (y : Option ℕ). nonblock_effect p on me y S) h
+pub nonblock_bad : (fd : ℤ) (on : Bool) (c : Caller) → description_at fd c ≡ None → set_nonblock fd on c ≡ fails BadDescriptor
+nonblock_bad fd on c h = rw h refl
 
-flag_effect : (p : ℕ) (on : Bool) (me : Process) (d : ℕ) (o : Option Opened) → o ≢ None →
-    flags p me d on (described o) ≡ done_with (SetDesc d (described (with_flag on o)) ∷ []) p (pos 0) me
-flag_effect p on me d None there = absurd (there refl)
-flag_effect p on me d (Some o) there = refl
+flags : (on : Bool) (c : Caller) (d : ℕ) (o : Option Opened) → o ≢ None →
+    (described o or fails BadDescriptor) (λ x. changes (pos 0) c.process (SetDesc d (Some (record x { nonblock = on })) ∷ []))
+    ≡ changes (pos 0) c.process (SetDesc d (described (with_flag on o)) ∷ [])
+flags on c d None there = absurd (there refl)
+flags on c d (Some o) there = refl
 
-pub nonblock_done : (p : ℕ) (on : Bool) (me : Process) (x : Option ℕ) (d : ℕ) (S : State) (D new : List (Option Opened)) → x ≡ Some d →
-    HasRoom 0 (Some d) D → get_or new d None ≡ with_flag on (get_or D d None) → HasDescs S D →
-    nonblock_effect p on me x S ≡ done_with (described_again x new) p (pos 0) me
-nonblock_done p on me x d S D new h b now has =
-    ap (λ (y : Option ℕ). nonblock_effect p on me y S) h ∙ ap (flags p me d on) (has d) ∙ flag_effect p on me d (get_or D d None) (room_there d 0 D b)
-    ∙ ap (λ (y : Option Description). done_with (SetDesc d y ∷ []) p (pos 0) me) (ap described (sym now))
-    ∙ ap (λ (y : Option ℕ). done_with (described_again y new) p (pos 0) me) (sym h)
+pub nonblock_done : (fd : ℤ) (on : Bool) (c : Caller) (d : ℕ) (D new : List (Option Opened)) → description_at fd c ≡ Some d →
+    HasRoom 0 (Some d) D → get_or new d None ≡ with_flag on (get_or D d None) → HasDescs c.state D →
+    set_nonblock fd on c ≡ changes (pos 0) c.process (described_again (description_at fd c) new)
+nonblock_done fd on c d D new h b now has =
+    rw (h, has d, now) (flags on c d (get_or D d None) (room_there d 0 D b))

@@ -2,7 +2,7 @@
 use Rattle.std.proofs.Common.{◌≡◌, ℕ, zero, suc, ◌+◌, Bool, true, false, List, Option, Some, None, if◌then◌else◌, get_or, refl, sym, ap, ◌∙◌, arith}
 use Rattle.tx_model.specs.State.{Side as End, ReadSide, WriteSide, Description, State, side_in}
 use Rattle.tx_model.specs.Descriptors.{is_side, has_side_below, has_description}
-use Rattle.tx_model.specs.Transfers.{is_read_side, is_write_side}
+use Rattle.tx_model.specs.Book.{is_read_side, is_write_side}
 use Rattle.tx_desc.specs.declared.opened.Side.{Side}
 use Rattle.tx_desc.specs.declared.opened.Side.TheVariants.{Read, Write}
 use Rattle.tx_desc.specs.declared.opened.Opened.{Opened}

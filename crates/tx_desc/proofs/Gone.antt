@@ -1,13 +1,16 @@
 -- The descriptions that go with their last names.
 use Rattle.std.proofs.Common.{◌≡◌, ◌≢◌, ℕ, ◌-◌, ◌<◌, ◌⊎◌, Bool, true, false, List, [], ◌∷◌, ◌++◌, ℤ, Option, Some, None, if◌then◌else◌, nat_lt, get_or, refl, sym, ap, ◌∙◌, subst, inl, inr, arith}
 use Rattle.std.proofs.lemmas.Bool.{both_ways, ltb-true, ltb-false}
+use Rattle.tx_model.specs.Book.{gives_up}
+use Rattle.tx_model.specs.Forms.{Caller}
 use Rattle.tx_model.specs.State.{Process, State, Write, SetProc, SetDesc, SetPipe, put_at, write_one, written}
-use Rattle.tx_model.specs.Effects.{noted, before_sends}
-use Rattle.tx_model.specs.Descriptors.{is_named, has_description, pipes_of, unnamed_go, endless_go, released, gives_up}
+use Rattle.tx_model.specs.Effects.{noted}
+use Rattle.tx_model.specs.Descriptors.{is_named, has_description, pipes_of, unnamed_go, endless_go, released}
 use Rattle.tx_model.specs.StateLaws.{put_here, put_cases, put_there}
 use Rattle.tx_desc.specs.declared.opened.Opened.{Opened}
 use Rattle.tx_desc.specs.Places.{Descriptors}
 use Rattle.tx_desc.specs.Descriptions.{HasDescs, described, description_at, changed_at, with_more, with_fewer}
+use Rattle.tx_desc.specs.Outcomes.{state_after}
 use Rattle.tx_desc.specs.Counts.{names_in, HasNames, Agrees, HasNamed}
 use Rattle.tx_desc.proofs.Counting.{changed_each}
 
@@ -139,8 +142,11 @@ released_descs ds S new has k =
     ap (λ (R : State). R.descs k) (append_written (unnamed_go ds S) (endless_go (pipes_of ds S) (written (unnamed_go ds S) S)) S)
     ∙ endless_descs (pipes_of ds S) (written (unnamed_go ds S) S) (written (unnamed_go ds S) S) k ∙ has k
 
-pub gives_descs : (ds : List ℕ) (p : ℕ) (r : ℤ) (me : Process) (S : State) (new : List (Option Opened)) →
-    HasDescs (written (unnamed_go ds (write_one (SetProc p (Some (noted r me))) S)) (write_one (SetProc p (Some (noted r me))) S)) new →
-    HasDescs (before_sends (gives_up ds p r me S) S) new
+-- the state in which a process stands so, with its answer
+abbrev pub answered_in : ℤ → Process → Caller → State
+answered_in r q c = write_one (SetProc c.number (Some (noted r q))) c.state
+
+pub gives_descs : (ds : List ℕ) (r : ℤ) (q : Process) (c : Caller) (new : List (Option Opened)) →
+    HasDescs (written (unnamed_go ds (answered_in r q c)) (answered_in r q c)) new → HasDescs (state_after (gives_up ds r q) c) new
 unfolding written
-gives_descs ds p r me S new has = released_descs ds (write_one (SetProc p (Some (noted r me))) S) new has
+gives_descs ds r q c new has = released_descs ds (answered_in r q c) new has

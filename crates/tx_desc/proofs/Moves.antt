@@ -3,8 +3,9 @@ use Rattle.std.proofs.Common.{◌≡◌, ◌≢◌, ℕ, ◌+◌, ◌-◌, ◌<�
 use Rattle.std.proofs.lemmas.Bool.{lt-ltb}
 use Rattle.std.proofs.lemmas.List.{set-set, set-get_or}
 use Rattle.std.proofs.Math.ListN.{set}
-use Rattle.tx_model.specs.State.{Process, State, written}
-use Rattle.tx_model.specs.Effects.{Effect, done_with, before_sends}
+use Rattle.tx_model.specs.State.{written}
+use Rattle.tx_model.specs.Effects.{Effect, before_sends}
+use Rattle.tx_model.specs.Forms.{Caller, Rule, changes, effect_of}
 use Rattle.tx_model.specs.Descriptors.{listed}
 use Rattle.tx_model.specs.StateLaws.{put_cases}
 use Rattle.std.specs.Prelude.{option_map}
@@ -14,7 +15,7 @@ use Rattle.tx_desc.specs.Places.{Descriptors, number_in}
 use Rattle.tx_desc.specs.Plans.{desc_fewer, given_fewer, listed_desc, put_descs}
 use Rattle.tx_desc.specs.Descriptions.{HasDescs, IsGone, gone_between, description_at, described, changed_at, with_more, with_fewer, with_flag}
 use Rattle.tx_desc.specs.Counts.{HasRoom, IsEnough, KeepsCounts}
-use Rattle.tx_desc.specs.Outcomes.{described_again}
+use Rattle.tx_desc.specs.Outcomes.{described_again, state_after}
 use Rattle.tx_desc.proofs.Counting.{hit_cases, moves_keeps, changed_other, room_inside}
 use Rattle.tx_desc.proofs.Gone.{IsIn, Sheds, SameDescs, raise_same, lower_sheds}
 
@@ -66,12 +67,14 @@ pub raised_same : (y : Option ℕ) (D mid : List (Option Opened)) → mid ≡ ch
 raised_same y D mid raised = subst (SameDescs D) (sym raised) (raise_same y D)
 
 -- a description has another flag, and the rest is as it was
-pub flag_descs : (E : Effect) (p : ℕ) (on : Bool) (me : Process) (x : Option ℕ) (d : ℕ) (S : State) (D new : List (Option Opened)) →
-    E ≡ done_with (described_again x new) p (pos 0) me → x ≡ Some d → new ≡ changed_at (with_flag on) (Some d) D → HasDescs S D → HasDescs (before_sends E S) new
+pub flag_descs : (rule : Rule) (c : Caller) (on : Bool) (x : Option ℕ) (d : ℕ) (D new : List (Option Opened)) →
+    rule c ≡ changes (pos 0) c.process (described_again x new) → x ≡ Some d → new ≡ changed_at (with_flag on) (Some d) D → HasDescs c.state D →
+    HasDescs (state_after rule c) new
 unfolding written
-flag_descs E p on me x d S D new e is changed has k =
-    ap (λ (F : Effect). (before_sends F S).descs k) (e ∙ ap (λ (y : Option ℕ). done_with (described_again y new) p (pos 0) me) is)
-    ∙ elim (put_cases S.descs d (description_at new d) k) [
+flag_descs rule c on x d D new e is changed has k =
+    ap (λ (F : Effect). (before_sends F c.state).descs k)
+    (ap (effect_of c.number c.process) (e ∙ ap (λ (y : Option ℕ). changes (pos 0) c.process (described_again y new)) is))
+    ∙ elim (put_cases c.state.descs d (description_at new d) k) [
       | inl z ↦ z.1 ∙ ap (description_at new) (sym z.0)
       | inr z ↦ z.1 ∙ has k ∙ sym (ap described (ap (λ (l : List (Option Opened)). get_or l k None) changed ∙ away z.0))
     ]

@@ -3,7 +3,7 @@ use Rattle.std.specs.Prelude.{◌≡◌, ℕ, ◌+◌, ◌-◌, Bool, List, Opti
 use Rattle.tx_base.specs.declared.names.PipeNo.{PipeNo}
 use Rattle.tx_model.specs.State.{Side as End, ReadSide, WriteSide, Description, State, side_in}
 use Rattle.tx_model.specs.Descriptors.{is_side}
-use Rattle.tx_model.specs.Transfers.{is_read_side, is_write_side, has_reader, has_writer}
+use Rattle.tx_model.specs.Book.{is_read_side, is_write_side, has_reader, has_writer}
 use Rattle.tx_desc.specs.declared.opened.Side.{Side}
 use Rattle.tx_desc.specs.declared.opened.Side.TheVariants.{Read, Write}
 use Rattle.tx_desc.specs.declared.opened.Desc.{Desc}

@@ -1,11 +1,12 @@
--- What a call on descriptors does, in the words of the definitions, where it answers so and leaves these descriptors and descriptions.
+-- What a call on descriptors comes to where it answers so and leaves these descriptors and descriptions.
 use Rattle.std.specs.Prelude.{◌≡◌, ℕ, List, [], ◌∷◌, pos, Option, Some, None, Result, Ok, Err, length, true}
 use Rattle.tx_base.specs.declared.errors.Errno.{Errno}
 use Rattle.tx_base.specs.declared.limits.TheConstants.{DESCRIPTORS}
-use Rattle.tx_model.specs.Numbers.{failing}
+use Rattle.tx_model.specs.Book.{gives_up}
+use Rattle.tx_model.specs.Effects.{Effect, before_sends}
+use Rattle.tx_model.specs.Descriptors.{with_two_slots}
+use Rattle.tx_model.specs.Forms.{Caller, Rule, changes, fails, effect_of}
 use Rattle.tx_model.specs.State.{Process, State, Write, SetDesc, SetPipe, is_between}
-use Rattle.tx_model.specs.Effects.{Effect, done, done_with}
-use Rattle.tx_model.specs.Descriptors.{gives_up, with_two_slots}
 use Rattle.tx_desc.specs.declared.opened.Opened.{Opened}
 use Rattle.tx_desc.specs.declared.given.Given.{Given}
 use Rattle.tx_desc.specs.declared.given.Renamed.{Renamed}
@@ -23,33 +24,40 @@ pub record RunsWith (p : ℕ) (me : Process) (S : State) (table : Descriptors) :
 abbrev pub with_table : Descriptors → Process → Process
 with_table table me = record me { descriptors = table }
 
-abbrev pub pipe_outcome : ℕ → ℕ → ℕ → ℕ → Process → Result (ℕ × ℕ) Errno → Descriptors → List (Option Opened) → Effect
-pipe_outcome p q r w me (Ok fds) table descs =
-    done_with (SetPipe q (Some []) ∷ SetDesc r (description_at descs r) ∷ SetDesc w (description_at descs w) ∷ []) p (pos 0)
-    (with_two_slots fds.0 fds.1 (with_table table me))
-pipe_outcome p q r w me (Err errno) table descs = done p (failing errno) me
+-- what a rule does of its caller, and the state that it leaves
+abbrev pub effect_in : Rule → Caller → Effect
+effect_in rule c = effect_of c.number c.process (rule c)
 
-abbrev pub dup_outcome : ℕ → Process → Result ℕ Errno → Descriptors → Effect
-dup_outcome p me (Ok f) table = done p (pos f) (with_table table me)
-dup_outcome p me (Err errno) table = done p (failing errno) me
+abbrev pub state_after : Rule → Caller → State
+state_after rule c = before_sends (effect_in rule c) c.state
+
+abbrev pub pipe_outcome : ℕ → ℕ → ℕ → Result (ℕ × ℕ) Errno → Descriptors → List (Option Opened) → Rule
+pipe_outcome q r w (Ok fds) table descs c =
+    changes (pos 0) (with_two_slots fds.0 fds.1 (with_table table c.process))
+    (SetPipe q (Some []) ∷ SetDesc r (description_at descs r) ∷ SetDesc w (description_at descs w) ∷ [])
+pipe_outcome q r w (Err errno) table descs c = fails errno
+
+abbrev pub dup_outcome : Result ℕ Errno → Descriptors → Rule
+dup_outcome (Ok f) table c = changes (pos f) (with_table table c.process) []
+dup_outcome (Err errno) table c = fails errno
 
 -- the description that a name was given up of
 abbrev pub given_up : Option Given → List ℕ
 given_up None = []
 given_up (Some given) = given.number.0 ∷ []
 
-abbrev pub dup2_outcome : ℕ → Process → State → Result Renamed Errno → Descriptors → Effect
-dup2_outcome p me S (Ok renamed) table = gives_up (given_up renamed.given) p (pos renamed.fd) (with_table table me) S
-dup2_outcome p me S (Err errno) table = done p (failing errno) me
+abbrev pub dup2_outcome : Result Renamed Errno → Descriptors → Rule
+dup2_outcome (Ok renamed) table c = gives_up (given_up renamed.given) (pos renamed.fd) (with_table table c.process) c
+dup2_outcome (Err errno) table c = fails errno
 
-abbrev pub close_outcome : ℕ → Process → State → Result Given Errno → Descriptors → Effect
-close_outcome p me S (Ok given) table = gives_up (given_up (Some given)) p (pos 0) (with_table table me) S
-close_outcome p me S (Err errno) table = done p (failing errno) me
+abbrev pub close_outcome : Result Given Errno → Descriptors → Rule
+close_outcome (Ok given) table c = gives_up (given.number.0 ∷ []) (pos 0) (with_table table c.process) c
+close_outcome (Err errno) table c = fails errno
 
 abbrev pub described_again : Option ℕ → List (Option Opened) → List Write
 described_again None descs = []
 described_again (Some d) descs = SetDesc d (description_at descs d) ∷ []
 
-abbrev pub nonblock_outcome : {A : Type 0} → ℕ → Process → Option ℕ → Result A Errno → List (Option Opened) → Effect
-nonblock_outcome p me d (Ok _) descs = done_with (described_again d descs) p (pos 0) me
-nonblock_outcome p me d (Err errno) descs = done p (failing errno) me
+abbrev pub nonblock_outcome : {A : Type 0} → Result A Errno → Option ℕ → List (Option Opened) → Rule
+nonblock_outcome (Ok _) d descs c = changes (pos 0) c.process (described_again d descs)
+nonblock_outcome (Err errno) d descs c = fails errno

@@ -1,12 +1,12 @@
 //! The calls that change what descriptors name, and the counts of names with them. Each is its plan,
 //! put in place.
-ghost use Rattle.std.specs.Prelude.{◌≡◌, ◌≢◌, ◌<◌, ℕ, List, [], ◌∷◌, None, Some, IfOk, OnErr, slice_index_or};
-ghost use Rattle.tx_model.specs.Descriptors.{named, descriptor, pipe_effect, dup_effect, dup2_effect, close_effect, nonblock_effect};
-ghost use Rattle.tx_model.specs.Effects.{before_sends};
-ghost use Rattle.tx_model.specs.State.{Process, State};
+ghost use Rattle.std.specs.Prelude.{◌≡◌, ◌≢◌, ◌<◌, List, [], ◌∷◌, None, Some, IfOk, OnErr, slice_index_or};
+ghost use Rattle.tx_model.specs.Book.{pipe as pipe_rule, dup, dup2, close, set_nonblock, description_at};
+ghost use Rattle.tx_model.specs.Descriptors.{descriptor};
+ghost use Rattle.tx_model.specs.Forms.{Caller};
 ghost use Rattle.tx_desc.specs.Counts.{Agrees, HasRoom, others_of};
 ghost use Rattle.tx_desc.specs.Descriptions.{HasDescs, IsGone};
-ghost use Rattle.tx_desc.specs.Outcomes.{RunsWith, pipe_outcome, dup_outcome, dup2_outcome, close_outcome, nonblock_outcome};
+ghost use Rattle.tx_desc.specs.Outcomes.{RunsWith, effect_in, state_after, pipe_outcome, dup_outcome, dup2_outcome, close_outcome, nonblock_outcome};
 ghost use Rattle.tx_desc.specs.Places.{Descriptors, named_in};
 
 use crate::descs::Descs;
@@ -32,12 +32,13 @@ impl FdTable {
         requires read_free { (read.0 < 64) × (slice_index_or descs.old read.0 None ≡ None) }
         requires write_free { (write.0 < 64) × (slice_index_or descs.old write.0 None ≡ None) }
 
-        ensures answer { (p : ℕ) (me : Process) (S : State) →
-            me.descriptors ≡ self.old → HasDescs S descs.old → S.pipes pipe.0 ≡ None →
-            pipe_effect p pipe.0 read.0 write.0 me S ≡ pipe_outcome p pipe.0 read.0 write.0 me result self.new descs.new }
-        ensures descriptions { (p : ℕ) (me : Process) (S : State) →
-            me.descriptors ≡ self.old → HasDescs S descs.old → S.pipes pipe.0 ≡ None →
-            HasDescs (before_sends (pipe_effect p pipe.0 read.0 write.0 me S) S) descs.new }
+        ensures answer { (c : Caller) →
+            c.process.descriptors ≡ self.old → HasDescs c.state descs.old → c.state.pipes pipe.0 ≡ None →
+            pipe_rule pipe.0 read.0 write.0 c
+            ≡ pipe_outcome pipe.0 read.0 write.0 result self.new descs.new c }
+        ensures descriptions { (c : Caller) →
+            c.process.descriptors ≡ self.old → HasDescs c.state descs.old → c.state.pipes pipe.0 ≡ None →
+            HasDescs (state_after (pipe_rule pipe.0 read.0 write.0) c) descs.new }
         ensures counts { (others : List Descriptors) →
             Agrees (self.old ∷ others) descs.old → Agrees (self.new ∷ others) descs.new }
         ensures err_table { OnErr result (self.new ≡ self.old) }
@@ -61,10 +62,11 @@ impl FdTable {
     pub fn dup(&mut self, descs: &mut Descs, fd: i64) -> Result<usize, Errno>
         requires { HasRoom 1 (named_in self.old (descriptor fd)) descs.old }
 
-        ensures answer { (p : ℕ) (me : Process) → me.descriptors ≡ self.old →
-            dup_effect p me (named me (descriptor fd)) ≡ dup_outcome p me result self.new }
-        ensures descriptions { (p : ℕ) (me : Process) (S : State) → me.descriptors ≡ self.old → HasDescs S descs.old →
-            HasDescs (before_sends (dup_effect p me (named me (descriptor fd))) S) descs.new }
+        ensures answer { (c : Caller) → c.process.descriptors ≡ self.old →
+            dup fd c ≡ dup_outcome result self.new c }
+        ensures descriptions { (c : Caller) →
+            c.process.descriptors ≡ self.old → HasDescs c.state descs.old →
+            HasDescs (state_after (dup fd) c) descs.new }
         ensures counts { (others : List Descriptors) →
             Agrees (self.old ∷ others) descs.old → Agrees (self.new ∷ others) descs.new }
         ensures err_table { OnErr result (self.new ≡ self.old) }
@@ -86,11 +88,12 @@ impl FdTable {
         requires named { HasRoom 1 (named_in self.old (descriptor fd)) descs.old }
         requires left { HasRoom 0 (named_in self.old (descriptor other)) descs.old }
 
-        ensures answer { (p : ℕ) (me : Process) (S : State) → me.descriptors ≡ self.old →
-            dup2_effect p (descriptor fd) (descriptor other) me S ≡ dup2_outcome p me S result self.new }
-        ensures descriptions { (p : ℕ) (me : Process) (S : State) →
-            RunsWith p me S self.old → HasDescs S descs.old → Agrees (self.old ∷ others_of p S) descs.old →
-            HasDescs (before_sends (dup2_effect p (descriptor fd) (descriptor other) me S) S) descs.new }
+        ensures answer { (c : Caller) → c.process.descriptors ≡ self.old →
+            effect_in (dup2 fd other) c ≡ effect_in (dup2_outcome result self.new) c }
+        ensures descriptions { (c : Caller) →
+            RunsWith c.number c.process c.state self.old → HasDescs c.state descs.old →
+            Agrees (self.old ∷ others_of c.number c.state) descs.old →
+            HasDescs (state_after (dup2 fd other) c) descs.new }
         ensures counts { (others : List Descriptors) →
             Agrees (self.old ∷ others) descs.old → Agrees (self.new ∷ others) descs.new }
         ensures gone { IfOk result (λ renamed. IsGone renamed.given descs.old descs.new) }
@@ -116,11 +119,12 @@ impl FdTable {
     pub fn close(&mut self, descs: &mut Descs, fd: i64) -> Result<Given, Errno>
         requires { HasRoom 0 (named_in self.old (descriptor fd)) descs.old }
 
-        ensures answer { (p : ℕ) (me : Process) (S : State) → me.descriptors ≡ self.old →
-            close_effect p (descriptor fd) me S ≡ close_outcome p me S result self.new }
-        ensures descriptions { (p : ℕ) (me : Process) (S : State) →
-            RunsWith p me S self.old → HasDescs S descs.old → Agrees (self.old ∷ others_of p S) descs.old →
-            HasDescs (before_sends (close_effect p (descriptor fd) me S) S) descs.new }
+        ensures answer { (c : Caller) → c.process.descriptors ≡ self.old →
+            close fd c ≡ close_outcome result self.new c }
+        ensures descriptions { (c : Caller) →
+            RunsWith c.number c.process c.state self.old → HasDescs c.state descs.old →
+            Agrees (self.old ∷ others_of c.number c.state) descs.old →
+            HasDescs (state_after (close fd) c) descs.new }
         ensures counts { (others : List Descriptors) →
             Agrees (self.old ∷ others) descs.old → Agrees (self.new ∷ others) descs.new }
         ensures gone { IfOk result (λ given. IsGone (Some given) descs.old descs.new) }
@@ -141,10 +145,11 @@ impl FdTable {
     pub fn set_nonblock(&self, descs: &mut Descs, fd: i64, on: bool) -> Result<(), Errno>
         requires { HasRoom 0 (named_in self.now (descriptor fd)) descs.old }
 
-        ensures answer { (p : ℕ) (me : Process) (S : State) → me.descriptors ≡ self.now → HasDescs S descs.old →
-            nonblock_effect p on me (named me (descriptor fd)) S ≡ nonblock_outcome p me (named me (descriptor fd)) result descs.new }
-        ensures descriptions { (p : ℕ) (me : Process) (S : State) → me.descriptors ≡ self.now → HasDescs S descs.old →
-            HasDescs (before_sends (nonblock_effect p on me (named me (descriptor fd)) S) S) descs.new }
+        ensures answer { (c : Caller) → c.process.descriptors ≡ self.now → HasDescs c.state descs.old →
+            set_nonblock fd on c ≡ nonblock_outcome result (description_at fd c) descs.new c }
+        ensures descriptions { (c : Caller) →
+            c.process.descriptors ≡ self.now → HasDescs c.state descs.old →
+            HasDescs (state_after (set_nonblock fd on) c) descs.new }
         ensures counts { (tables : List Descriptors) → Agrees tables descs.old → Agrees tables descs.new }
         ensures err_descs { OnErr result (descs.new ≡ descs.old) }
     {

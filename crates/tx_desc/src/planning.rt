@@ -1,12 +1,12 @@
 //! The plans of the calls: what each is to put in place. Nothing is changed.
-ghost use Rattle.std.specs.Prelude.{◌≡◌, ◌≢◌, ◌<◌, ℕ, List, Option, IfOk, [], ◌∷◌, Some, None, slice_index_or, slice_set};
+ghost use Rattle.std.specs.Prelude.{◌≡◌, ◌≢◌, ◌<◌, List, Option, IfOk, [], ◌∷◌, Some, None, slice_index_or, slice_set};
 ghost use Rattle.tx_desc.specs.declared.opened.Opened.{Opened};
-ghost use Rattle.tx_model.specs.Descriptors.{named, descriptor, listed, pipe_effect, dup_effect, dup2_effect, close_effect, nonblock_effect};
-ghost use Rattle.tx_model.specs.Effects.{before_sends};
-ghost use Rattle.tx_model.specs.State.{Process, State};
+ghost use Rattle.tx_model.specs.Book.{pipe as pipe_rule, dup, dup2, close, set_nonblock, description_at};
+ghost use Rattle.tx_model.specs.Descriptors.{descriptor, listed};
+ghost use Rattle.tx_model.specs.Forms.{Caller};
 ghost use Rattle.tx_desc.specs.Counts.{Agrees, HasRoom, KeepsCounts, others_of};
 ghost use Rattle.tx_desc.specs.Descriptions.{HasDescs, IsGone, changed_at, with_more, with_fewer};
-ghost use Rattle.tx_desc.specs.Outcomes.{RunsWith, given_up, pipe_outcome, dup_outcome, dup2_outcome, close_outcome, nonblock_outcome};
+ghost use Rattle.tx_desc.specs.Outcomes.{RunsWith, effect_in, state_after, given_up, pipe_outcome, dup_outcome, dup2_outcome, close_outcome, nonblock_outcome};
 ghost use Rattle.tx_desc.specs.Places.{named_in};
 ghost use Rattle.tx_desc.specs.Plans.{AreFree, AreInRange, GivesLeft, IsOfTwo, RenamesOf, answer_of, put_names, put_descs, pipe_puts, dup_puts, dup2_puts, rename_puts, close_puts, nonblock_puts};
 
@@ -27,14 +27,17 @@ impl FdTable {
         requires read_in { read.0 < 64 }
         requires write_in { write.0 < 64 }
 
-        ensures answer { (p : ℕ) (me : Process) (S : State) (descs : List (Option Opened)) →
-            me.descriptors ≡ self.now → AreFree read.0 write.0 descs → HasDescs S descs → S.pipes pipe.0 ≡ None →
-            pipe_effect p pipe.0 read.0 write.0 me S
-            ≡ pipe_outcome p pipe.0 read.0 write.0 me (answer_of (λ plan. (plan.read_name.fd, plan.write_name.fd)) result)
-            (put_names (pipe_puts result).names self.now) (put_descs (pipe_puts result).descs descs) }
-        ensures descriptions { (p : ℕ) (me : Process) (S : State) (descs : List (Option Opened)) →
-            me.descriptors ≡ self.now → AreFree read.0 write.0 descs → HasDescs S descs → S.pipes pipe.0 ≡ None →
-            HasDescs (before_sends (pipe_effect p pipe.0 read.0 write.0 me S) S) (put_descs (pipe_puts result).descs descs) }
+        ensures answer { (c : Caller) (descs : List (Option Opened)) →
+            c.process.descriptors ≡ self.now → AreFree read.0 write.0 descs → HasDescs c.state descs →
+            c.state.pipes pipe.0 ≡ None →
+            pipe_rule pipe.0 read.0 write.0 c
+            ≡ pipe_outcome pipe.0 read.0 write.0 (answer_of (λ plan. (plan.read_name.fd, plan.write_name.fd)) result)
+            (put_names (pipe_puts result).names self.now) (put_descs (pipe_puts result).descs descs) c }
+        ensures descriptions { (c : Caller) (descs : List (Option Opened)) →
+            c.process.descriptors ≡ self.now → AreFree read.0 write.0 descs → HasDescs c.state descs →
+            c.state.pipes pipe.0 ≡ None →
+            HasDescs (state_after (pipe_rule pipe.0 read.0 write.0) c)
+            (put_descs (pipe_puts result).descs descs) }
         ensures counts { (descs : List (Option Opened)) → AreFree read.0 write.0 descs →
             KeepsCounts self.now (put_names (pipe_puts result).names self.now) descs (put_descs (pipe_puts result).descs descs) }
         ensures named { IfOk result (λ plan. (plan.read.number ≡ read) × (plan.write.number ≡ write)) }
@@ -71,10 +74,12 @@ impl FdTable {
     pub fn plan_dup(&self, descs: &Descs, fd: i64) -> Result<DupPlan, Errno>
         requires { HasRoom 1 (named_in self.now (descriptor fd)) descs.now }
 
-        ensures answer { (p : ℕ) (me : Process) → me.descriptors ≡ self.now →
-            dup_effect p me (named me (descriptor fd)) ≡ dup_outcome p me (answer_of (λ plan. plan.name.fd) result) (put_names (dup_puts result).names self.now) }
-        ensures descriptions { (p : ℕ) (me : Process) (S : State) → me.descriptors ≡ self.now → HasDescs S descs.now →
-            HasDescs (before_sends (dup_effect p me (named me (descriptor fd))) S) (put_descs (dup_puts result).descs descs.now) }
+        ensures answer { (c : Caller) → c.process.descriptors ≡ self.now →
+            dup fd c ≡ dup_outcome (answer_of (λ plan. plan.name.fd) result)
+            (put_names (dup_puts result).names self.now) c }
+        ensures descriptions { (c : Caller) →
+            c.process.descriptors ≡ self.now → HasDescs c.state descs.now →
+            HasDescs (state_after (dup fd) c) (put_descs (dup_puts result).descs descs.now) }
         ensures counts { KeepsCounts self.now (put_names (dup_puts result).names self.now) descs.now (put_descs (dup_puts result).descs descs.now) }
         ensures named { IfOk result (λ plan. named_in self.now (descriptor fd) ≡ Some plan.desc.number.0) }
         ensures numbers { AreInRange (dup_puts result) }
@@ -102,12 +107,14 @@ impl FdTable {
         requires named { HasRoom 1 (named_in self.now (descriptor fd)) descs.now }
         requires left { HasRoom 0 (named_in self.now (descriptor other)) descs.now }
 
-        ensures answer { (p : ℕ) (me : Process) (S : State) → me.descriptors ≡ self.now →
-            dup2_effect p (descriptor fd) (descriptor other) me S
-            ≡ dup2_outcome p me S (answer_of (λ plan. plan.renamed) result) (put_names (dup2_puts result).names self.now) }
-        ensures descriptions { (p : ℕ) (me : Process) (S : State) →
-            RunsWith p me S self.now → HasDescs S descs.now → Agrees (self.now ∷ others_of p S) descs.now →
-            HasDescs (before_sends (dup2_effect p (descriptor fd) (descriptor other) me S) S) (put_descs (dup2_puts result).descs descs.now) }
+        ensures answer { (c : Caller) → c.process.descriptors ≡ self.now →
+            effect_in (dup2 fd other) c
+            ≡ effect_in (dup2_outcome (answer_of (λ plan. plan.renamed) result)
+            (put_names (dup2_puts result).names self.now)) c }
+        ensures descriptions { (c : Caller) →
+            RunsWith c.number c.process c.state self.now → HasDescs c.state descs.now →
+            Agrees (self.now ∷ others_of c.number c.state) descs.now →
+            HasDescs (state_after (dup2 fd other) c) (put_descs (dup2_puts result).descs descs.now) }
         ensures counts { KeepsCounts self.now (put_names (dup2_puts result).names self.now) descs.now (put_descs (dup2_puts result).descs descs.now) }
         ensures gone { IfOk result (λ plan. IsGone plan.renamed.given descs.now (put_descs (dup2_puts result).descs descs.now)) }
         ensures changed { IfOk result (λ plan. RenamesOf (named_in self.now (descriptor fd)) (named_in self.now (descriptor other)) plan.rename) }
@@ -141,12 +148,13 @@ impl FdTable {
     pub fn plan_close(&self, descs: &Descs, fd: i64) -> Result<ClosePlan, Errno>
         requires { HasRoom 0 (named_in self.now (descriptor fd)) descs.now }
 
-        ensures answer { (p : ℕ) (me : Process) (S : State) → me.descriptors ≡ self.now →
-            close_effect p (descriptor fd) me S
-            ≡ close_outcome p me S (answer_of (λ plan. plan.given) result) (put_names (close_puts result).names self.now) }
-        ensures descriptions { (p : ℕ) (me : Process) (S : State) →
-            RunsWith p me S self.now → HasDescs S descs.now → Agrees (self.now ∷ others_of p S) descs.now →
-            HasDescs (before_sends (close_effect p (descriptor fd) me S) S) (put_descs (close_puts result).descs descs.now) }
+        ensures answer { (c : Caller) → c.process.descriptors ≡ self.now →
+            close fd c ≡ close_outcome (answer_of (λ plan. plan.given) result)
+            (put_names (close_puts result).names self.now) c }
+        ensures descriptions { (c : Caller) →
+            RunsWith c.number c.process c.state self.now → HasDescs c.state descs.now →
+            Agrees (self.now ∷ others_of c.number c.state) descs.now →
+            HasDescs (state_after (close fd) c) (put_descs (close_puts result).descs descs.now) }
         ensures counts { KeepsCounts self.now (put_names (close_puts result).names self.now) descs.now (put_descs (close_puts result).descs descs.now) }
         ensures gone { IfOk result (λ plan. IsGone (Some plan.given) descs.now (put_descs (close_puts result).descs descs.now)) }
         ensures given { IfOk result (λ plan. plan.given.number ≡ plan.desc.number) }
@@ -173,11 +181,12 @@ impl FdTable {
     pub fn plan_nonblock(&self, descs: &Descs, fd: i64, on: bool) -> Result<NewDesc, Errno>
         requires { HasRoom 0 (named_in self.now (descriptor fd)) descs.now }
 
-        ensures answer { (p : ℕ) (me : Process) (S : State) → me.descriptors ≡ self.now → HasDescs S descs.now →
-            nonblock_effect p on me (named me (descriptor fd)) S
-            ≡ nonblock_outcome p me (named me (descriptor fd)) result (put_descs (nonblock_puts result).descs descs.now) }
-        ensures descriptions { (p : ℕ) (me : Process) (S : State) → me.descriptors ≡ self.now → HasDescs S descs.now →
-            HasDescs (before_sends (nonblock_effect p on me (named me (descriptor fd)) S) S) (put_descs (nonblock_puts result).descs descs.now) }
+        ensures answer { (c : Caller) → c.process.descriptors ≡ self.now → HasDescs c.state descs.now →
+            set_nonblock fd on c ≡ nonblock_outcome result (description_at fd c)
+            (put_descs (nonblock_puts result).descs descs.now) c }
+        ensures descriptions { (c : Caller) →
+            c.process.descriptors ≡ self.now → HasDescs c.state descs.now →
+            HasDescs (state_after (set_nonblock fd on) c) (put_descs (nonblock_puts result).descs descs.now) }
         ensures counts { KeepsCounts [] [] descs.now (put_descs (nonblock_puts result).descs descs.now) }
         ensures named { IfOk result (λ plan. named_in self.now (descriptor fd) ≡ Some plan.number.0) }
         ensures numbers { AreInRange (nonblock_puts result) }

@@ -12,5 +12,6 @@ pub mod Made
 pub mod Walked
 pub mod Parting
 pub mod Noting
+pub mod StateSpelled
 pub mod Naming
 pub mod Telling

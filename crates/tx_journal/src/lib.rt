@@ -13,6 +13,7 @@ mod posted;
 mod retrace;
 mod retrace_laws;
 mod session;
+mod state;
 mod steps;
 mod walks;
 
@@ -20,3 +21,4 @@ pub use entry::Entry;
 pub use faults::{AtStart, ForwardFault, GotoFault, MovedFault};
 pub use moved::Moved;
 pub use session::Session;
+pub use state::{print_state, put_state};

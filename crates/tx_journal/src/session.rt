@@ -13,11 +13,11 @@ ghost use Rattle.tx_text.specs.State.{state_text};
 use crate::entry::Entry;
 use crate::journal::Journal;
 use crate::laws::laws;
+use crate::state::print_state;
 use std::alloc::Global;
 use std::marker::Model;
 use tx_base::{NoMemory, PROCESSES, WIDE_PROCESSES};
 use tx_core::Machine;
-use tx_text::print_state;
 
 /// A machine with the journal of all steps that it accepted, which can be walked both ways. Contracts
 /// see what it keeps: its machine's content, all entries, and what takes those back that are made.

@@ -1,108 +1,84 @@
--- The rules of calls, by their kinds.
-use Rattle.std.proofs.Common.{◌≡◌, ℕ, ℤ, Bool, [], Option, Result, Ok, Err, IfOk, refl}
+-- The pages of calls, by the kinds that are planned alike.
+use Rattle.std.proofs.Common.{◌≡◌, ℤ, Bool, [], true, false, Result, Ok, Err, IfOk, refl}
+use Rattle.tx_base.specs.declared.errors.Errno.{Errno}
+use Rattle.tx_base.specs.declared.errors.Errno.TheVariants.{InvalidArgument}
 use Rattle.tx_base.specs.declared.names.DescNo.{DescNo}
 use Rattle.tx_base.specs.declared.names.Pid.{Pid}
 use Rattle.tx_base.specs.declared.names.PipeNo.{PipeNo}
 use Rattle.tx_base.specs.declared.steps.Call.{Call}
 use Rattle.tx_base.specs.declared.steps.Call.TheVariants as call
-use Rattle.tx_kernel.specs.Calls.{any_effect, any_objects, common_effect, common_objects, own_rule}
-use Rattle.tx_model.specs.Answer.{ChoosesNothing, chosen_in}
-use Rattle.tx_model.specs.Calls.{call_effect, call_objects}
-use Rattle.tx_model.specs.Effects.{Inside, own_effect}
-use Rattle.tx_model.specs.State.{Process, State}
+use Rattle.tx_base.specs.declared.steps.Reply.{Reply}
+use Rattle.tx_kernel.specs.Calls.{concerns_itself_alone}
+use Rattle.tx_model.specs.BookLaws.{map_lines, unmap_lines, protect_lines, store_lines, load_lines, setuid_lines, seteuid_lines, setgid_lines, setegid_lines, sigaction_lines, sigreturn_lines, console_write_lines, jump_lines, keep_lines}
+use Rattle.tx_model.specs.Answer.{ChoosesNothing, IsAccepted, chosen_in}
+use Rattle.tx_model.specs.Book.{page_of_call}
+use Rattle.tx_model.specs.Forms.{Caller, Outcome, answers, changes, fails, stands}
+use Rattle.tx_model.specs.State.{Process}
 
--- the call is none of those that concern more than their process
-pub record IsOwnCall (c : Call) : Type 0 where
-  pub fork : (x : Pid) → c ≡ call.Fork x → ⊥
-  pub exit : (x : ℤ) → c ≡ call.Exit x → ⊥
-  pub waitpid : (x : ℤ) (y : Bool) → c ≡ call.Waitpid x y → ⊥
-  pub pipe : (x : PipeNo) (y z : DescNo) → c ≡ call.Pipe x y z → ⊥
-  pub dup : (x : ℤ) → c ≡ call.Dup x → ⊥
-  pub dup2 : (x y : ℤ) → c ≡ call.Dup2 x y → ⊥
-  pub close : (x : ℤ) → c ≡ call.Close x → ⊥
-  pub nonblock : (x : ℤ) (y : Bool) → c ≡ call.SetNonblock x y → ⊥
-  pub read : (x y z : ℤ) → c ≡ call.Read x y z → ⊥
-  pub write : (x y z : ℤ) → c ≡ call.Write x y z → ⊥
+-- what holds of the outcomes that concern the process alone holds of what such a call comes to
+pub own_lines : (P : Outcome → Type 0) (c : Caller) → ((errno : Errno) → P (fails errno)) → ((r : ℤ) → P (answers r)) → ((r : ℤ) (q : Process) → P (changes r q [])) →
+    ((q : Process) (reply : Reply) → IsAccepted reply → P (stands q reply)) → (call : Call) → concerns_itself_alone call ≡ true → P ((page_of_call call).outcome c)
+own_lines P c error answer change stand (call.Map n) alone = map_lines P c error n (λ k e z. change _ _)
+own_lines P c error answer change stand (call.Unmap n) alone = unmap_lines P c error n (λ k e z. change _ _)
+own_lines P c error answer change stand (call.Protect n writable) alone = protect_lines P c error n writable (λ k page e z. change _ _)
+own_lines P c error answer change stand (call.Store address bytes) alone = store_lines P c error address bytes.items (λ z. change _ _)
+own_lines P c error answer change stand (call.Load address) alone = load_lines P c error address (λ byte z. answer _)
+own_lines P c error answer change stand call.Getpid alone = answer _
+own_lines P c error answer change stand call.Getppid alone = answer _
+own_lines P c error answer change stand (call.Setuid u) alone = setuid_lines P c error u (λ n e z. change _ _) (λ n e z. change _ _)
+own_lines P c error answer change stand (call.Seteuid u) alone = seteuid_lines P c error u (λ n e. change _ _)
+own_lines P c error answer change stand (call.Setgid g) alone = setgid_lines P c error g (λ n e z. change _ _) (λ n e z. change _ _)
+own_lines P c error answer change stand (call.Setegid g) alone = setegid_lines P c error g (λ n e. change _ _)
+own_lines P c error answer change stand (call.Sigaction s action) alone = sigaction_lines P c error s action (λ signo e z. change _ _)
+own_lines P c error answer change stand (call.Sigprocmask how set) alone = change _ _
+own_lines P c error answer change stand call.Sigpending alone = answer _
+own_lines P c error answer change stand call.Sigreturn alone = sigreturn_lines P c error (λ frame e. stand _ _ tt)
+own_lines P c error answer change stand (call.ConsoleWrite address n) alone = console_write_lines P c error address n (answer _) (λ k e z. stand _ _ tt)
+own_lines P c error answer change stand (call.Jump point if_so) alone = jump_lines P c error point if_so (answer _) (λ z. stand _ _ tt)
+own_lines P c error answer change stand (call.Keep slot) alone = keep_lines P c error slot (λ k e. change _ _)
+own_lines P c error answer change stand call.SysXbegin alone = error _
+own_lines P c error answer change stand call.SysXbeginDefer alone = error _
+own_lines P c error answer change stand call.SysXend alone = error _
+own_lines P c error answer change stand call.SysXabort alone = error _
+own_lines P c error answer change stand call alone = cc
 
-pub own_is_common : (inside : Option Inside) (p : ℕ) (c : Call) (me : Process) (S : State) → IsOwnCall c → own_effect p (own_rule inside p c me) ≡ common_effect inside p c me S
-own_is_common inside p (call.Fork x) me S is = absurd (is.fork x refl)
-own_is_common inside p (call.Exit x) me S is = absurd (is.exit x refl)
-own_is_common inside p (call.Waitpid x y) me S is = absurd (is.waitpid x y refl)
-own_is_common inside p (call.Pipe x y z) me S is = absurd (is.pipe x y z refl)
-own_is_common inside p (call.Dup x) me S is = absurd (is.dup x refl)
-own_is_common inside p (call.Dup2 x y) me S is = absurd (is.dup2 x y refl)
-own_is_common inside p (call.Close x) me S is = absurd (is.close x refl)
-own_is_common inside p (call.SetNonblock x y) me S is = absurd (is.nonblock x y refl)
-own_is_common inside p (call.Read x y z) me S is = absurd (is.read x y z refl)
-own_is_common inside p (call.Write x y z) me S is = absurd (is.write x y z refl)
-own_is_common inside p c me S is = refl
+-- it has a plan of its own, and concerns its process alone
+abbrev pub has_own_plan : Call → Bool
+has_own_plan (call.Map n) = true
+has_own_plan (call.Unmap n) = true
+has_own_plan (call.Protect n writable) = true
+has_own_plan (call.Store address bytes) = true
+has_own_plan (call.Load address) = true
+has_own_plan call.Getpid = true
+has_own_plan call.Getppid = true
+has_own_plan (call.Setuid u) = true
+has_own_plan (call.Seteuid u) = true
+has_own_plan (call.Setgid g) = true
+has_own_plan (call.Setegid g) = true
+has_own_plan (call.Sigaction s action) = true
+has_own_plan (call.Sigprocmask how set) = true
+has_own_plan call.Sigpending = true
+has_own_plan call.Sigreturn = true
+has_own_plan (call.ConsoleWrite address n) = true
+has_own_plan (call.Jump point if_so) = true
+has_own_plan (call.Keep slot) = true
+has_own_plan c = false
 
-pub own_names_nothing : (inside : Option Inside) (c : Call) (p : ℕ) (me : Process) (S : State) → IsOwnCall c → [] ≡ common_objects inside c p me S
-own_names_nothing inside (call.Fork x) p me S is = absurd (is.fork x refl)
-own_names_nothing inside (call.Exit x) p me S is = absurd (is.exit x refl)
-own_names_nothing inside (call.Waitpid x y) p me S is = absurd (is.waitpid x y refl)
-own_names_nothing inside (call.Pipe x y z) p me S is = absurd (is.pipe x y z refl)
-own_names_nothing inside (call.Dup x) p me S is = absurd (is.dup x refl)
-own_names_nothing inside (call.Dup2 x y) p me S is = absurd (is.dup2 x y refl)
-own_names_nothing inside (call.Close x) p me S is = absurd (is.close x refl)
-own_names_nothing inside (call.SetNonblock x y) p me S is = absurd (is.nonblock x y refl)
-own_names_nothing inside (call.Read x y z) p me S is = absurd (is.read x y z refl)
-own_names_nothing inside (call.Write x y z) p me S is = absurd (is.write x y z refl)
-own_names_nothing inside c p me S is = refl
+-- the calls of transactions are left, which answer EINVAL
+pub answers_error : (c : Call) → concerns_itself_alone c ≡ true → has_own_plan c ≡ false → (d : Caller) → (page_of_call c).outcome d ≡ fails InvalidArgument
+answers_error call.SysXbegin alone other d = refl
+answers_error call.SysXbeginDefer alone other d = refl
+answers_error call.SysXend alone other d = refl
+answers_error call.SysXabort alone other d = refl
+answers_error c alone other d = cc
 
--- the call sends no signal on demand
-pub record IsNoSend (c : Call) : Type 0 where
-  pub kill : (x y : ℤ) → c ≡ call.Kill x y → ⊥
-  pub sigqueue : (x y z : ℤ) → c ≡ call.Sigqueue x y z → ⊥
-
-pub common_is_any : (inside : Option Inside) (p : ℕ) (c : Call) (me : Process) (S : State) → IsNoSend c → common_effect inside p c me S ≡ any_effect inside p c me S
-common_is_any inside p (call.Kill x y) me S is = absurd (is.kill x y refl)
-common_is_any inside p (call.Sigqueue x y z) me S is = absurd (is.sigqueue x y z refl)
-common_is_any inside p c me S is = refl
-
-pub common_names_any : (inside : Option Inside) (c : Call) (p : ℕ) (me : Process) (S : State) → IsNoSend c → common_objects inside c p me S ≡ any_objects inside c p me S
-common_names_any inside (call.Kill x y) p me S is = absurd (is.kill x y refl)
-common_names_any inside (call.Sigqueue x y z) p me S is = absurd (is.sigqueue x y z refl)
-common_names_any inside c p me S is = refl
-
--- the rule of any call is that of the definitions, and so is what it names
-pub any_is_call : (inside : Option Inside) (p : ℕ) (c : Call) (me : Process) (S : State) → any_effect inside p c me S ≡ call_effect inside p c me S
-any_is_call inside p (call.Kill t signo) me S = refl
-any_is_call inside p (call.Sigqueue t signo value) me S = refl
-any_is_call inside p (call.Fork x) me S = refl
-any_is_call inside p (call.Exit x) me S = refl
-any_is_call inside p (call.Waitpid x y) me S = refl
-any_is_call inside p (call.Pipe x y z) me S = refl
-any_is_call inside p (call.Dup x) me S = refl
-any_is_call inside p (call.Dup2 x y) me S = refl
-any_is_call inside p (call.Close x) me S = refl
-any_is_call inside p (call.SetNonblock x y) me S = refl
-any_is_call inside p (call.Read x y z) me S = refl
-any_is_call inside p (call.Write x y z) me S = refl
-any_is_call inside p c me S = refl
-
-pub any_names : (inside : Option Inside) (c : Call) (p : ℕ) (me : Process) (S : State) → any_objects inside c p me S ≡ call_objects inside c p me S
-any_names inside (call.Kill t signo) p me S = refl
-any_names inside (call.Sigqueue t signo value) p me S = refl
-any_names inside (call.Fork x) p me S = refl
-any_names inside (call.Exit x) p me S = refl
-any_names inside (call.Waitpid x y) p me S = refl
-any_names inside (call.Pipe x y z) p me S = refl
-any_names inside (call.Dup x) p me S = refl
-any_names inside (call.Dup2 x y) p me S = refl
-any_names inside (call.Close x) p me S = refl
-any_names inside (call.SetNonblock x y) p me S = refl
-any_names inside (call.Read x y z) p me S = refl
-any_names inside (call.Write x y z) p me S = refl
-any_names inside c p me S = refl
+-- only a fork and a pipe choose a number
+pub chooses_nothing : (c : Call) → ((x : Pid) → c ≡ call.Fork x → ⊥) → ((x : PipeNo) (y z : DescNo) → c ≡ call.Pipe x y z → ⊥) → chosen_in c ≡ ChoosesNothing
+chooses_nothing (call.Fork x) fork pipe = absurd (fork x refl)
+chooses_nothing (call.Pipe x y z) fork pipe = absurd (pipe x y z refl)
+chooses_nothing c fork pipe = refl
 
 -- what is so anyway is so of each result
 pub so_anyway : {A E P : Type 0} (result : Result A E) → P → IfOk result (λ made. P)
 so_anyway (Ok made) is = is
 so_anyway (Err why) is = tt
-
--- a call that concerns its process alone chooses nothing
-pub own_chooses_nothing : (c : Call) → IsOwnCall c → chosen_in c ≡ ChoosesNothing
-own_chooses_nothing (call.Fork x) is = absurd (is.fork x refl)
-own_chooses_nothing (call.Pipe x y z) is = absurd (is.pipe x y z refl)
-own_chooses_nothing c is = refl

@@ -15,9 +15,10 @@ use Rattle.tx_change.specs.declared.change.Change.{Change}
 use Rattle.tx_change.specs.declared.change.Change.TheVariants.{Part as SetPart}
 use Rattle.tx_kernel.proofs.Beside.{plans_same}
 use Rattle.tx_kernel.proofs.OwnPlans.{own_plans}
-use Rattle.tx_kernel.proofs.PartsOwned.{part_none, part_more, part_same}
+use Rattle.tx_kernel.proofs.Owned.{own_reply}
+use Rattle.tx_kernel.proofs.PartsOwned.{own_same, part_none, part_more, part_same, part_whole}
 use Rattle.tx_kernel.proofs.Whole.{first_calm}
-use Rattle.tx_kernel.specs.Actors.{me_of, inside_of, IsActor}
+use Rattle.tx_kernel.specs.Actors.{effect_by, me_of, inside_of, IsActor}
 use Rattle.tx_kernel.specs.Discards.{queue_of}
 use Rattle.tx_kernel.specs.Laws.{PlanLaws}
 use Rattle.tx_kernel.specs.Own.{PlansOwn, PlansPart}
@@ -26,8 +27,9 @@ use Rattle.tx_kernel.specs.declared.actor.Actor.{Actor}
 use Rattle.tx_kernel.specs.declared.planned.Outcome.{Outcome}
 use Rattle.tx_kernel.specs.declared.planned.Outcome.TheVariants.{Done}
 use Rattle.tx_kernel.specs.declared.planned.Planned.{Planned}
-use Rattle.tx_model.specs.Deliveries.{action_at, acts_on, caught, delivered_value, delivers, delivery_effect, delivery_objects, ends_by, first_value, is_blocked, is_deferred, is_fatal, is_full, kills, less_first, relieved}
-use Rattle.tx_model.specs.Effects.{Effect, Own, idle, own_effect}
+use Rattle.tx_model.specs.Deliveries.{action_at, caught, delivered_value, ends_by, first_value, is_blocked, is_deferred, kills, less_first, relieved, delivery_effect, delivery_objects, is_fatal, is_full, acts_on, delivers}
+use Rattle.tx_model.specs.Effects.{Effect, idle, own_effect}
+use Rattle.tx_model.specs.Forms.{Rule, stands}
 use Rattle.tx_model.specs.Processes.{ending_objects}
 use Rattle.tx_model.specs.SignalSets.{child_signo, is_in_set, is_realtime, with_one_more}
 use Rattle.tx_model.specs.Signals.{Disposition, Ignored, Fatal, Caught, disposition, ignores, is_ignored}
@@ -57,13 +59,17 @@ framed frames frame room = by (nat_lt (length frames) FRAMES) room
     by true e = refl
     by false e = cc
 
+-- a signal that is caught
+abbrev pub catching : ℕ → ℤ → ℕ → SigSet → Rule
+catching signo value point mask c = stands (caught signo value point mask (relieved signo c.process)) (TheDone value)
+
 -- the mask, the frame, and the catch point with the signal's value
 pub caught_plans : (actor : Actor) (before gone masked saved now : List Change) (signo : ℕ) (value ret : ℤ) (point : ℕ) (mask blocked : SigSet) (frame : Option Frame) →
     ret ≡ value → is_full (me_of actor) ≡ false → PlansPart actor before gone (relieved signo) → masked ≡ gone ++ SetPart actor.pid (SetMask blocked) ∷ [] →
     saved ≡ masked ++ SetPart actor.pid (SetFrame frame) ∷ [] → now ≡ saved ++ SetPart actor.pid (SetAnswer (record { point = point; ret = ret })) ∷ [] →
     bits_of blocked ≡ with_one_more (bit_or (me_of actor).mask (bits_of mask)) signo →
     frame ≡ Some (record { registers = actor.proc.now.regs; mask = bits_of actor.proc.now.mask }) →
-    PlansOwn actor before now (Done ret) (λ me. record { process = caught signo value point mask (relieved signo me); reply = TheDone value })
+    PlansOwn actor before now (Done ret) (effect_by actor (catching signo value point mask))
 caught_plans actor before gone masked saved now signo value ret point mask blocked frame same room taken first second last bits here =
     let me : Process = me_of actor in
     let kept : Frame = record { registers = me.registers; mask = me.mask } in
@@ -72,17 +78,12 @@ caught_plans actor before gone masked saved now signo value ret point mask block
     let two = part_more actor before masked saved (λ me. revised (SetMask blocked) (relieved signo me)) (SetFrame frame) one tt tt second in
     let three = part_more actor before saved now (λ me. revised (SetFrame frame) (revised (SetMask blocked) (relieved signo me))) (SetAnswer answer) two tt tt last in
     let frames : frames_swapped frame me.frames ≡ me.frames ++ kept ∷ [] = ap (λ (x : Option Frame). frames_swapped x me.frames) here ∙ framed me.frames kept room in
-    record {
-      plan = three.plan;
-      added = three.added;
-      gives = record {
-        own = three.own;
-        nameless = three.nameless;
-        process = three.process ∙ (λ j. record (relieved signo me) { registers = record { point = point; ret = same j; slots = me.registers.slots }; mask = bits j; frames = frames j });
-        reply = ap TheDone same;
-        shown = tt;
-      };
-    }
+    let after : ℤ → Process = λ r. record (relieved signo me) { registers = record { point = point; ret = r; slots = me.registers.slots }; mask = with_one_more (bit_or me.mask (bits_of mask)) signo; frames = me.frames ++ kept ∷ [] } in
+    own_same actor before now (Done ret) (λ S. own_reply actor (Done ret) (after ret)) (effect_by actor (catching signo value point mask))
+    (part_whole actor before now (Done ret) (λ me. after ret)
+    (part_same actor before now _ (λ me. after ret) three
+    (λ j. record (relieved signo me) { registers = record { point = point; ret = ret; slots = me.registers.slots }; mask = bits j; frames = frames j })) tt)
+    (λ S. ap (λ (r : ℤ). own_effect actor.pid.0 (record { process = after r; reply = TheDone r })) same)
 
 -- what the action comes to
 
@@ -140,14 +141,13 @@ full_refuses actor signo value point mask is same full =
 -- there is room for a frame
 pub caught_acted : (laws : PlanLaws) (actor : Actor) (before now : List Change) (outcome : Outcome) (signo : ℕ) (value : ℤ) (point : ℕ) (mask : SigSet) →
     length actor.parts.now.descs ≡ 64 → IsActor actor → is_full (me_of actor) ≡ false →
-    PlansOwn actor before now outcome (λ me. record { process = caught signo value point mask (relieved signo me); reply = TheDone value }) →
+    PlansOwn actor before now outcome (effect_by actor (catching signo value point mask)) →
     Plans actor before now (quiet outcome) (acting actor signo value (Caught point mask)) (acting_objects actor (Caught point mask))
 caught_acted laws actor before now outcome signo value point mask sized is room own =
-    let rule : Process → Own = λ me. record { process = caught signo value point mask (relieved signo me); reply = TheDone value } in
-    plans_same actor before now (quiet outcome) (λ S. own_effect actor.pid.0 (rule (me_of actor))) (acting actor signo value (Caught point mask)) (acting_objects actor (Caught point mask))
+    plans_same actor before now (quiet outcome) (effect_by actor (catching signo value point mask)) (acting actor signo value (Caught point mask)) (acting_objects actor (Caught point mask))
     (acting_objects actor (Caught point mask))
-    (λ held counted. sym (ap (λ (b : Bool). if b then idle FramesFull else own_effect actor.pid.0 (rule (me_of actor))) room)) (λ held. refl)
-    (own_plans laws actor before now outcome rule (acting_objects actor (Caught point mask)) sized is own)
+    (λ held counted. sym (ap (λ (b : Bool). if b then idle FramesFull else effect_by actor (catching signo value point mask) (state_of held actor.parts.now)) room)) (λ held. refl)
+    (own_plans laws actor before now outcome (effect_by actor (catching signo value point mask)) (acting_objects actor (Caught point mask)) sized is own)
 
 -- the delivery
 

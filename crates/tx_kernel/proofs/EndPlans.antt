@@ -38,7 +38,7 @@ use Rattle.tx_kernel.specs.declared.planned.Sends.{Sends}
 use Rattle.tx_kernel.specs.declared.planned.Sends.TheVariants.{Nothing, AtOnce, AtCommit}
 use Rattle.tx_model.specs.Descriptors.{desc_objects, has_description, open_in, pipe_list, pipe_of, pipes_of, unnamed_go}
 use Rattle.tx_model.specs.Processes as rules
-use Rattle.tx_model.specs.Processes.{children_below, children_of, ended, ending, ending_objects, held_objects, procs_of, Telling, NotTold, telling, told_at_commit, told_at_once}
+use Rattle.tx_model.specs.Processes.{children_below, children_of, ended, ending, ending_objects, held_objects, procs_of, NotTold, telling, Telling, told_at_once, told_at_commit}
 use Rattle.tx_model.specs.State.{Object, Proc as TheProc, Desc, Pipe as ThePipe, Process, Sending, State, SetProc, has, has_parent, is_between, same_object, write_one, written}
 use Rattle.tx_proc.specs.Laws.{IsSized}
 use Rattle.tx_proc.specs.Processes.{process_of, process_in}

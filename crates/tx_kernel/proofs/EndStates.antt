@@ -7,7 +7,7 @@ use Rattle.tx_desc.specs.Descriptions.{HasDescs, description_at}
 use Rattle.tx_desc.specs.declared.opened.Opened.{Opened}
 use Rattle.tx_kernel.specs.Endings.{gone_changes, orphan_changes}
 use Rattle.tx_model.specs.Descriptors.{endless_go, has_description, has_side_below, is_named, is_side, pipe_of, pipes_of, unnamed_go}
-use Rattle.tx_model.specs.Processes.{Telling, AtCommit, AtOnce, NotTold, children_below, orphaned, told_at_commit, told_to, with_parent}
+use Rattle.tx_model.specs.Processes.{AtCommit, AtOnce, NotTold, children_below, orphaned, with_parent, told_to, Telling, told_at_commit}
 use Rattle.tx_model.specs.State.{Description, Process, Side, Sending, State, SetDesc, SetHeld, SetPipe, SetProc, Write, has_parent, put_at, side_in, write_one, written}
 use Rattle.tx_model.specs.StateLaws.{put_cases}
 use Rattle.tx_proc.specs.Processes.{revised}

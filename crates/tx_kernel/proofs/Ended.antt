@@ -22,7 +22,7 @@ use Rattle.tx_kernel.specs.declared.actor.Actor.{Actor}
 use Rattle.tx_kernel.specs.declared.planned.Sends.{Sends}
 use Rattle.tx_model.specs.Descriptors.{endless_go, open_in, pipes_of, unnamed_go}
 use Rattle.tx_model.specs.Effects.{before_sends}
-use Rattle.tx_model.specs.Processes.{Telling, children_below, children_of, ended, ending, orphaned, telling, told_at_commit, with_parent}
+use Rattle.tx_model.specs.Processes.{children_below, children_of, ended, ending, orphaned, telling, with_parent, Telling, told_at_commit}
 use Rattle.tx_model.specs.State.{Process, Sending, State, SetProc, Write, write_one, written}
 use Rattle.tx_model.specs.StateLaws.{put_there}
 use Rattle.tx_proc.specs.Processes.{process_of}

@@ -15,7 +15,7 @@ use Rattle.tx_desc.specs.Places.{Descriptors}
 use Rattle.tx_desc.specs.Plans.{AreNumbers, IsOnceEach, entries_of, put_descs}
 use Rattle.tx_desc.specs.declared.plans.NewDesc.{NewDesc}
 use Rattle.tx_kernel.proofs.Beside.{AreDescsAmong, StaySame, beside_plans, plans_same, second-first}
-use Rattle.tx_kernel.specs.Actors.{me_of, IsActor}
+use Rattle.tx_kernel.specs.Actors.{effect_by, me_of, names_by, IsActor}
 use Rattle.tx_kernel.specs.Laws.{PlanLaws}
 use Rattle.tx_kernel.specs.Own.{answer_after}
 use Rattle.tx_kernel.specs.Plans.{Plans, quiet}
@@ -23,7 +23,8 @@ use Rattle.tx_kernel.specs.declared.actor.Actor.{Actor}
 use Rattle.tx_kernel.specs.declared.planned.Outcome.TheVariants.{Done}
 use Rattle.tx_model.specs.Descriptors.{open_in, desc_objects}
 use Rattle.tx_model.specs.Effects.{done_with}
-use Rattle.tx_model.specs.Processes.{child_of, fork_objects, forks}
+use Rattle.tx_model.specs.Forms.{Rule, changes}
+use Rattle.tx_model.specs.Processes.{child_of, fork_objects}
 use Rattle.tx_model.specs.State.{Object, Proc as TheProc, Desc, Process, SetProc, has, is_number}
 use Rattle.tx_proc.specs.Laws.{IsSized}
 use Rattle.tx_proc.specs.Processes.{process_of, process_in}
@@ -94,13 +95,17 @@ child-counted proc child p is runs =
     ap (λ (q : Process). if is_some q.status then [] else q.descriptors) is
     ∙ ap (λ (x : Option ℕ). if is_some x then [] else proc.descriptors) runs
 
+-- the child is made
+abbrev pub makes_child : ℕ → Rule
+makes_child child c = changes (pos child) c.process (SetProc child (Some (child_of c.number c.process)) ∷ [])
+
 pub fork_plans : (laws : PlanLaws) (actor : Actor) (child : Pid) (new : Proc) (descs : List NewDesc) (before first second now : List Change) → length actor.parts.now.descs ≡ 64 →
     IsActor actor → IsPid (sizes_of actor.parts.now) child.0 → slot_at actor.parts.now.procs child.0 ≡ None → process_of new ≡ child_of actor.pid.0 (me_of actor) →
     KeepsCounts [] actor.proc.now.descriptors actor.parts.now.descs (put_descs descs actor.parts.now.descs) → StaySame actor.parts.now descs →
     IsOnceEach actor.proc.now.descriptors descs → AreNumbers descs →
     first ≡ before ++ desc_changes descs → second ≡ first ++ Slot child (Some new) ∷ [] →
     now ≡ second ++ Part actor.pid (SetAnswer (answer_after (pos child.0) actor)) ∷ [] →
-    Plans actor before now (quiet (Done (pos child.0))) (λ S. forks actor.pid.0 child.0 (me_of actor) None) (λ S. fork_objects child.0 (me_of actor))
+    Plans actor before now (quiet (Done (pos child.0))) (effect_by actor (makes_child child.0)) (names_by actor (λ c. fork_objects child.0 c.process))
 fork_plans laws actor child new descs before first second now sized is number free copy keeps same once numbers one two three =
     let parts : Parts = actor.parts.now in
     let proc : Proc = actor.proc.now in
@@ -108,7 +113,7 @@ fork_plans laws actor child new descs before first second now sized is number fr
     let slot : Change = Slot child (Some new) in
     let places : IsSized proc = subst HasPlaces is.there (is.whole.places actor.pid.0) in
     plans_same actor before now (quiet (Done (pos child.0)))
-    (λ S. done_with (SetProc child.0 (process_in (Some new)) ∷ []) actor.pid.0 (pos child.0) (me_of actor)) (λ S. forks actor.pid.0 child.0 (me_of actor) None)
+    (λ S. done_with (SetProc child.0 (process_in (Some new)) ∷ []) actor.pid.0 (pos child.0) (me_of actor)) (effect_by actor (makes_child child.0))
     (λ S. fork_objects child.0 (me_of actor)) (λ S. fork_objects child.0 (me_of actor))
     (λ held counted. ap (λ (q : Process). done_with (SetProc child.0 (Some q) ∷ []) actor.pid.0 (pos child.0) (me_of actor)) copy) (λ held. refl)
     (beside_plans laws actor before now descs child (Some new) (answer ∷ []) (pos child.0) (me_of actor) (λ S. fork_objects child.0 (me_of actor)) is

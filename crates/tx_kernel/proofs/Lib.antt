@@ -6,6 +6,7 @@ pub mod Beside
 pub mod Waited
 pub mod Forked
 pub mod PartsOwned
+pub mod PageCalls
 pub mod Discarded
 pub mod Returned
 pub mod PostAnswers
@@ -23,6 +24,7 @@ pub mod EndPlans
 pub mod SentBy
 pub mod Exited
 pub mod AnyCall
+pub mod PageLines
 pub mod Made
 pub mod Named
 pub mod Released
@@ -30,7 +32,4 @@ pub mod NamedCalls
 pub mod Piped
 pub mod Delivered
 pub mod PipedCalls
-pub mod MadeNamed
-pub mod MadeOwn
-pub mod MadeSent
 pub mod Refused

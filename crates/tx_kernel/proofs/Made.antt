@@ -24,9 +24,9 @@ use Rattle.tx_kernel.specs.declared.planned.Planned.{Planned}
 use Rattle.tx_kernel.specs.declared.inside.Inside.{Inside}
 use Rattle.tx_base.specs.declared.steps.Step.{Step}
 use Rattle.tx_base.specs.declared.steps.Step.TheVariants.{Call as Calls, Deliver}
-use Rattle.tx_model.specs.Calls.{act_effect, act_footprint, act_objects, effect_at, objects_at, running_effect, Act, MakesCall, TakesSignal}
 use Rattle.tx_model.specs.Events.{Event, Do, Note, effect, note_effect, objects}
-use Rattle.tx_model.specs.Effects.{Inside as TheInside, answers_with, own_effect}
+use Rattle.tx_model.specs.Calls.{effect_at, objects_at, Act, act_effect, act_objects, running_effect, act_footprint, MakesCall, TakesSignal}
+use Rattle.tx_model.specs.Effects.{Inside as TheInside, done}
 use Rattle.tx_model.specs.State.{has, Object, Proc, Process, Sending, State}
 use Rattle.tx_proc.specs.Processes.{process_in}
 
@@ -117,13 +117,13 @@ plans_event actor act log now planned is plans =
 
 -- an answer is planned as the note of it
 pub plans_note : (laws : PlanLaws) (actor : Actor) (log now : List Change) (outcome : Outcome) (ret : ℤ) → length actor.parts.now.descs ≡ 64 → IsActor actor →
-    PlansOwn actor log now outcome (answers_with ret) → PlansEvent actor log now (quiet outcome) (Note actor.pid.0 ret)
+    PlansOwn actor log now outcome (λ S. done actor.pid.0 ret (me_of actor)) → PlansEvent actor log now (quiet outcome) (Note actor.pid.0 ret)
 unfolding effect objects
 plans_note laws actor log now outcome ret sized is plans =
     let parts : Parts = actor.parts.now in
-    let step : PlansStep actor log now outcome Nothing (λ S. own_effect actor.pid.0 (answers_with ret (me_of actor))) (λ S. []) =
-    quiet_step actor log now outcome Nothing (λ S. own_effect actor.pid.0 (answers_with ret (me_of actor))) (λ S. []) refl
-    (own_plans laws actor log now outcome (answers_with ret) (λ S. []) sized is plans) in
+    let step : PlansStep actor log now outcome Nothing (λ S. done actor.pid.0 ret (me_of actor)) (λ S. []) =
+    quiet_step actor log now outcome Nothing (λ S. done actor.pid.0 ret (me_of actor)) (λ S. []) refl
+    (own_plans laws actor log now outcome (λ S. done actor.pid.0 ret (me_of actor)) (λ S. []) sized is plans) in
     record {
       plan = step.plan;
       added = step.added;

@@ -1,8 +1,13 @@
 -- The plans of the calls on descriptors.
 use Rattle.std.proofs.Common.{nat_lt, ◌==◌, not, ◌&&◌, ◌||◌, is_some, ◌<◌, ◌≡◌, ◌≢◌, option_map, ℕ, zero, suc, ◌≤◌, false, if◌then◌else◌, length-set, ◌+◌, Bool, arith, List, [], ◌∷◌, ◌++◌, length, ℤ, pos, Option, Some, None, Result, Ok, Err, IfOk, refl, ap, sym, subst, ◌∙◌, append_assoc, eq-eqb, true, get_or}
+use Rattle.tx_model.specs.Book.{description_at as described_at, desc_of, desc_and_pipe_of, dup, dup2, close, gives_up, set_nonblock}
+use Rattle.tx_model.specs.Book as the
+use Rattle.tx_model.specs.Forms.{Caller, Rule, fails, effect_of}
 use Rattle.tx_model.specs.Answer.{ChoosesPipe, is_bad_choice}
 use Rattle.tx_desc.specs.declared.plans.PipePlan.{PipePlan}
 use Rattle.tx_base.specs.declared.names.PipeNo.{PipeNo}
+use Rattle.tx_base.specs.declared.errors.Errno.{Errno}
+use Rattle.tx_model.specs.Numbers.{failing}
 use Rattle.tx_change.specs.declared.pipes.PipePart.TheVariants.{Whole}
 use Rattle.tx_change.specs.Counts.{name_changes, desc_changes}
 use Rattle.tx_change.specs.Exchange.{pipe_at, AreNamed}
@@ -11,7 +16,7 @@ use Rattle.tx_change.specs.declared.change.Change.{Change}
 use Rattle.tx_change.specs.declared.change.Change.TheVariants.{Pipe, Part}
 use Rattle.tx_desc.specs.Counts.{Agrees, others_of, KeepsCounts, HasNames, count_in}
 use Rattle.tx_desc.specs.Descriptions.{description_at, described, HasDescs, IsGone, gone_between}
-use Rattle.tx_desc.specs.Outcomes.{pipe_outcome, given_up, RunsWith, with_table, described_again}
+use Rattle.tx_desc.specs.Outcomes.{RunsWith, close_outcome, described_again, dup_outcome, dup2_outcome, effect_in, given_up, nonblock_outcome, pipe_outcome, state_after, with_table}
 use Rattle.tx_desc.specs.Places.{Descriptors, named_in}
 use Rattle.tx_desc.specs.Plans.{AreFree, GivesLeft, IsOfTwo, RenamesOf, listed_desc, rename_puts, AreFds, AreNumbers, put_names, put_descs}
 use Rattle.tx_desc.specs.declared.opened.Opened.{Opened}
@@ -37,7 +42,7 @@ use Rattle.tx_kernel.proofs.Whole.{whole_piped}
 use Rattle.tx_kernel.specs.Named.{pipe_changes, slot_change, gone_of, left_changes, rename_changes, described_by, endless_changes}
 use Rattle.tx_kernel.proofs.Released.{released_files, one_released, endless_pipes, endless_named, endless_among}
 use Rattle.tx_kernel.proofs.Named.{has_more, ArePipes, AreOfFiles, Files, Writes, files_plan, pipes_alone}
-use Rattle.tx_kernel.specs.Actors.{me_of, CountsHeld, IsActor}
+use Rattle.tx_kernel.specs.Actors.{me_of, CountsHeld, IsActor, caller_of, effect_by, names_by}
 use Rattle.tx_kernel.specs.Laws.{PlanLaws}
 use Rattle.tx_kernel.specs.Own.{answer_after}
 use Rattle.tx_kernel.specs.Plans.{Plans, AreAmong, quiet}
@@ -45,7 +50,7 @@ use Rattle.tx_kernel.specs.declared.actor.Actor.{Actor}
 use Rattle.tx_kernel.specs.declared.planned.Outcome.TheVariants.{Done}
 use Rattle.tx_kernel.specs.declared.planned.Planned.{Planned}
 use Rattle.tx_kernel.proofs.OwnPlans.{held_quiet}
-use Rattle.tx_model.specs.Descriptors.{is_pipe_in_use, pipe_effect, pipe_objects, with_two_slots, unnamed_go, endless_go, other_than, dup2_effect, dup2_objects, close_effect, desc_pipe_objects, gives_up, pipe_list, pipes_of, released, named, desc_objects, listed, dup_effect, nonblock_effect}
+use Rattle.tx_model.specs.Descriptors.{is_pipe_in_use, unnamed_go, endless_go, other_than, desc_pipe_objects, pipes_of, released, named, descriptor, desc_objects, listed, pipe_objects, with_two_slots, dup2_objects, pipe_list}
 use Rattle.tx_model.specs.Effects.{Effect, done_with, done, noted, before_sends}
 use Rattle.tx_model.specs.State.{SetPipe, SetDesc, Pipe as ThePipe, Object, Desc, Process, Sending, State, Write, SetProc, has, is_between, same_object, write_one, written}
 use Rattle.tx_proc.specs.declared.part.Part.TheVariants.{Answer}
@@ -74,6 +79,14 @@ pub done_plan : {E : Type 0} (result : Result Planned E) (actor : Actor) (before
 done_plan {E} (Ok planned) actor before now r rule objects same plans =
     same_rule actor before now planned (λ S. done actor.pid.0 r (me_of actor)) rule objects (λ held counted. sym (same held)) (plans objects)
 done_plan {E} (Err why) actor before now r rule objects same plans = tt
+
+-- an error alone, where it is the rule's
+pub failed_plan : {E : Type 0} (result : Result Planned E) (actor : Actor) (before now : List Change) (errno : Errno) (rule : Rule) (names : Caller → List Object) →
+    ((held : ℕ → List Sending) → rule (caller_of actor (state_of held actor.parts.now)) ≡ fails errno) →
+    IfOk result (λ planned. (os : State → List Object) → Plans actor before now planned (λ S. done actor.pid.0 (failing errno) (me_of actor)) os) →
+    IfOk result (λ planned. Plans actor before now planned (effect_by actor rule) (names_by actor names))
+failed_plan result actor before now errno rule names same plans =
+    done_plan result actor before now (failing errno) (effect_by actor rule) (names_by actor names) (λ held. ap (effect_of actor.pid.0 (me_of actor)) (same held)) plans
 
 -- an answer alone, as the last change
 abbrev pub last_answer : ℤ → Actor → List Change
@@ -129,31 +142,31 @@ named_me : (actor : Actor) (x : Option ℕ) → named (me_of actor) x ≡ named_
 named_me actor None = refl
 named_me actor (Some f) = refl
 
-pub dup_plan : (laws : PlanLaws) (actor : Actor) (before first second now : List Change) (x : Option ℕ) (plan : DupPlan) →
+pub dup_plan : (laws : PlanLaws) (actor : Actor) (before first second now : List Change) (fd : ℤ) (plan : DupPlan) →
     length actor.parts.now.descs ≡ 64 → IsActor actor →
-    ((p : ℕ) (me : Process) → me.descriptors ≡ actor.proc.now.descriptors →
-    dup_effect p me (named me x) ≡ done p (pos plan.name.fd) (with_table (put_names (plan.name ∷ []) actor.proc.now.descriptors) me)) →
-    ((p : ℕ) (me : Process) (S : State) → me.descriptors ≡ actor.proc.now.descriptors → HasDescs S actor.parts.now.descs →
-    HasDescs (before_sends (dup_effect p me (named me x)) S) (put_descs (plan.desc ∷ []) actor.parts.now.descs)) →
+    ((c : Caller) → c.process.descriptors ≡ actor.proc.now.descriptors →
+    dup fd c ≡ dup_outcome (Ok plan.name.fd) (put_names (plan.name ∷ []) actor.proc.now.descriptors) c) →
+    ((c : Caller) → c.process.descriptors ≡ actor.proc.now.descriptors → HasDescs c.state actor.parts.now.descs →
+    HasDescs (state_after (dup fd) c) (put_descs (plan.desc ∷ []) actor.parts.now.descs)) →
     KeepsCounts actor.proc.now.descriptors (put_names (plan.name ∷ []) actor.proc.now.descriptors) actor.parts.now.descs (put_descs (plan.desc ∷ []) actor.parts.now.descs) →
-    named_in actor.proc.now.descriptors x ≡ Some plan.desc.number.0 →
+    named_in actor.proc.now.descriptors (descriptor fd) ≡ Some plan.desc.number.0 →
     AreFds (plan.name ∷ []) × AreNumbers (plan.desc ∷ []) →
     first ≡ before ++ name_changes actor.pid (plan.name ∷ []) → second ≡ first ++ desc_changes (plan.desc ∷ []) →
     now ≡ second ++ last_answer (pos plan.name.fd) actor →
-    Plans actor before now (quiet (Done (pos plan.name.fd))) (λ S. dup_effect actor.pid.0 (me_of actor) (named (me_of actor) x)) (λ S. desc_objects (listed (named (me_of actor) x)))
+    Plans actor before now (quiet (Done (pos plan.name.fd))) (effect_by actor (dup fd)) (names_by actor (desc_of fd))
 unfolding written
-dup_plan laws actor before first second now x plan sized is answer descriptions counts found numbers one two three =
+dup_plan laws actor before first second now fd plan sized is answer descriptions counts found numbers one two three =
     let p : ℕ = actor.pid.0 in
     let me : Process = me_of actor in
     let r : ℤ = pos plan.name.fd in
     let new : Process = with_table (put_names (plan.name ∷ []) actor.proc.now.descriptors) me in
-    files_plan laws actor before now (quiet (Done r)) (λ S. dup_effect p me (named me x)) (λ S. desc_objects (listed (named me x))) (noted r new)
+    files_plan laws actor before now (quiet (Done r)) (effect_by actor (dup fd)) (names_by actor (desc_of fd)) (noted r new)
     (answered_files actor (plan.name ∷ []) (plan.desc ∷ []) [] r numbers.0 numbers.1 tt tt counts) sized is
     (appended3 before (name_changes actor.pid (plan.name ∷ [])) (desc_changes (plan.desc ∷ [])) (last_answer r actor) first second now one two three)
     (λ after. tt) (held_quiet actor.inside (Done r))
-    (λ held counted. let S : State = state_of held actor.parts.now in
-    done_writes actor (plan.desc ∷ []) [] S (dup_effect p me (named me x)) [] r new (answer p me refl) tt (descriptions p me S refl (λ d. refl)) refl)
-    (λ held. (has_desc plan.desc.number.0 (named me x) (named_me actor x ∙ found), tt))
+    (λ held counted. let S : State = state_of held actor.parts.now in let c : Caller = caller_of actor S in
+    done_writes actor (plan.desc ∷ []) [] S (effect_in (dup fd) c) [] r new (ap (effect_of p me) (answer c refl)) tt (descriptions c refl (λ d. refl)) refl)
+    (λ held. (has_desc plan.desc.number.0 (named me (descriptor fd)) (named_me actor (descriptor fd) ∙ found), tt))
     tt
 
 pub appended2 : (before a b l1 l2 : List Change) → l1 ≡ before ++ a → l2 ≡ l1 ++ b → l2 ≡ before ++ (a ++ b)
@@ -178,29 +191,31 @@ keeps_beside table descs after keeps = record {
       (keeps.each d (count_in d table + others) (subst (λ (n : ℕ). HasNames n (get_or descs d None)) (sym same) names));
 }
 
-pub nonblock_plan : (laws : PlanLaws) (actor : Actor) (before first now : List Change) (on : Bool) (x : Option ℕ) (new : NewDesc) →
+pub nonblock_plan : (laws : PlanLaws) (actor : Actor) (before first now : List Change) (fd : ℤ) (on : Bool) (new : NewDesc) →
     length actor.parts.now.descs ≡ 64 → IsActor actor →
-    ((p : ℕ) (me : Process) (S : State) → me.descriptors ≡ actor.proc.now.descriptors → HasDescs S actor.parts.now.descs →
-    nonblock_effect p on me (named me x) S ≡ done_with (described_again (named me x) (put_descs (new ∷ []) actor.parts.now.descs)) p (pos 0) me) →
-    ((p : ℕ) (me : Process) (S : State) → me.descriptors ≡ actor.proc.now.descriptors → HasDescs S actor.parts.now.descs →
-    HasDescs (before_sends (nonblock_effect p on me (named me x) S) S) (put_descs (new ∷ []) actor.parts.now.descs)) →
+    ((c : Caller) → c.process.descriptors ≡ actor.proc.now.descriptors → HasDescs c.state actor.parts.now.descs →
+    set_nonblock fd on c ≡ nonblock_outcome (Ok new) (described_at fd c) (put_descs (new ∷ []) actor.parts.now.descs) c) →
+    ((c : Caller) → c.process.descriptors ≡ actor.proc.now.descriptors → HasDescs c.state actor.parts.now.descs →
+    HasDescs (state_after (set_nonblock fd on) c) (put_descs (new ∷ []) actor.parts.now.descs)) →
     KeepsCounts [] [] actor.parts.now.descs (put_descs (new ∷ []) actor.parts.now.descs) →
-    named_in actor.proc.now.descriptors x ≡ Some new.number.0 →
+    named_in actor.proc.now.descriptors (descriptor fd) ≡ Some new.number.0 →
     AreFds [] × AreNumbers (new ∷ []) →
     first ≡ before ++ desc_changes (new ∷ []) → now ≡ first ++ last_answer (pos 0) actor →
-    Plans actor before now (quiet (Done (pos 0))) (λ S. nonblock_effect actor.pid.0 on (me_of actor) (named (me_of actor) x) S) (λ S. desc_objects (listed (named (me_of actor) x)))
-nonblock_plan laws actor before first now on x new sized is answer descriptions counts found numbers one two =
+    Plans actor before now (quiet (Done (pos 0))) (effect_by actor (set_nonblock fd on)) (names_by actor (desc_of fd))
+nonblock_plan laws actor before first now fd on new sized is answer descriptions counts found numbers one two =
     let p : ℕ = actor.pid.0 in
     let me : Process = me_of actor in
-    let is_named : named me x ≡ Some new.number.0 = named_me actor x ∙ found in
-    files_plan laws actor before now (quiet (Done (pos 0))) (λ S. nonblock_effect p on me (named me x) S) (λ S. desc_objects (listed (named me x))) (noted (pos 0) me)
-    (answered_files actor [] (new ∷ []) [] (pos 0) numbers.0 numbers.1 tt tt (keeps_beside actor.proc.now.descriptors actor.parts.now.descs (put_descs (new ∷ []) actor.parts.now.descs) counts)) sized is
+    let x : Option ℕ = descriptor fd in
+    let after : List (Option Opened) = put_descs (new ∷ []) actor.parts.now.descs in
+    files_plan laws actor before now (quiet (Done (pos 0))) (effect_by actor (set_nonblock fd on)) (names_by actor (desc_of fd)) (noted (pos 0) me)
+    (answered_files actor [] (new ∷ []) [] (pos 0) numbers.0 numbers.1 tt tt (keeps_beside actor.proc.now.descriptors actor.parts.now.descs after counts)) sized is
     (appended2 before (desc_changes (new ∷ [])) (last_answer (pos 0) actor) first now one two)
     (λ after. tt) (held_quiet actor.inside (Done (pos 0)))
-    (λ held counted. let S : State = state_of held actor.parts.now in
-    done_writes actor (new ∷ []) [] S (nonblock_effect p on me (named me x) S) (described_again (named me x) (put_descs (new ∷ []) actor.parts.now.descs)) (pos 0) me
-    (answer p me S refl (λ d. refl)) (files_again (named me x) (put_descs (new ∷ []) actor.parts.now.descs)) (descriptions p me S refl (λ d. refl)) (pipes_again (named me x) (put_descs (new ∷ []) actor.parts.now.descs) (write_one (SetProc p (Some (noted (pos 0) me))) S)))
-    (λ held. (has_desc new.number.0 (named me x) is_named, tt))
+    (λ held counted. let S : State = state_of held actor.parts.now in let c : Caller = caller_of actor S in
+    done_writes actor (new ∷ []) [] S (effect_in (set_nonblock fd on) c) (described_again (named me x) after) (pos 0) me
+    (ap (effect_of p me) (answer c refl (λ d. refl))) (files_again (named me x) after) (descriptions c refl (λ d. refl))
+    (pipes_again (named me x) after (write_one (SetProc p (Some (noted (pos 0) me))) S)))
+    (λ held. (has_desc new.number.0 (named me x) (named_me actor x ∙ found), tt))
     tt
 
 -- the process runs with its descriptors
@@ -233,7 +248,7 @@ length_put (new ∷ news) D = length_put news (set D new.number.0 new.opened) �
 
 -- what a rule writes that gives up names of one description
 gives_writes : (actor : Actor) (news : List NewDesc) (held : ℕ → List Sending) (effect : Effect) (d : ℕ) (r : ℤ) (me : Process) (lost : Option OpenDesc) →
-    length actor.parts.now.descs ≡ 64 → effect ≡ gives_up (d ∷ []) actor.pid.0 r me (state_of held actor.parts.now) →
+    length actor.parts.now.descs ≡ 64 → effect ≡ effect_by actor (gives_up (d ∷ []) r me) (state_of held actor.parts.now) →
     HasDescs (before_sends effect (state_of held actor.parts.now)) (put_descs news actor.parts.now.descs) →
     lost ≡ gone_between (get_or actor.parts.now.descs d None) (get_or (put_descs news actor.parts.now.descs) d None) →
     Writes actor (noted r me) news (endless_changes lost (described_by actor.parts.now (put_descs news actor.parts.now.descs))) (quiet (Done r)) (state_of held actor.parts.now) effect
@@ -285,25 +300,26 @@ pipe_first : (k : ℕ) (os : List Object) → has (ThePipe k) (ThePipe k ∷ os)
 unfolding has
 pipe_first k os = rw (eq-eqb k k refl) refl
 
-pub close_plan : (laws : PlanLaws) (actor : Actor) (before first second third now : List Change) (x : Option ℕ) (plan : ClosePlan) →
+pub close_plan : (laws : PlanLaws) (actor : Actor) (before first second third now : List Change) (fd : ℤ) (plan : ClosePlan) →
     length actor.parts.now.descs ≡ 64 → IsActor actor →
-    ((p : ℕ) (me : Process) (S : State) → me.descriptors ≡ actor.proc.now.descriptors →
-    close_effect p x me S ≡ gives_up (plan.given.number.0 ∷ []) p (pos 0) (with_table (put_names (plan.name ∷ []) actor.proc.now.descriptors) me) S) →
-    ((p : ℕ) (me : Process) (S : State) → RunsWith p me S actor.proc.now.descriptors → HasDescs S actor.parts.now.descs →
-    Agrees (actor.proc.now.descriptors ∷ others_of p S) actor.parts.now.descs →
-    HasDescs (before_sends (close_effect p x me S) S) (put_descs (plan.desc ∷ []) actor.parts.now.descs)) →
+    ((c : Caller) → c.process.descriptors ≡ actor.proc.now.descriptors →
+    close fd c ≡ close_outcome (Ok plan.given) (put_names (plan.name ∷ []) actor.proc.now.descriptors) c) →
+    ((c : Caller) → RunsWith c.number c.process c.state actor.proc.now.descriptors → HasDescs c.state actor.parts.now.descs →
+    Agrees (actor.proc.now.descriptors ∷ others_of c.number c.state) actor.parts.now.descs →
+    HasDescs (state_after (close fd) c) (put_descs (plan.desc ∷ []) actor.parts.now.descs)) →
     KeepsCounts actor.proc.now.descriptors (put_names (plan.name ∷ []) actor.proc.now.descriptors) actor.parts.now.descs (put_descs (plan.desc ∷ []) actor.parts.now.descs) →
     IsGone (Some plan.given) actor.parts.now.descs (put_descs (plan.desc ∷ []) actor.parts.now.descs) →
     plan.given.number ≡ plan.desc.number →
-    named_in actor.proc.now.descriptors x ≡ Some plan.desc.number.0 →
+    named_in actor.proc.now.descriptors (descriptor fd) ≡ Some plan.desc.number.0 →
     AreFds (plan.name ∷ []) × AreNumbers (plan.desc ∷ []) →
     first ≡ before ++ name_changes actor.pid (plan.name ∷ []) → second ≡ first ++ desc_changes (plan.desc ∷ []) →
     third ≡ second ++ endless_changes plan.given.gone (described_by actor.parts.now (put_descs (plan.desc ∷ []) actor.parts.now.descs)) →
     now ≡ third ++ last_answer (pos 0) actor →
-    Plans actor before now (quiet (Done (pos 0))) (λ S. close_effect actor.pid.0 x (me_of actor) S) (λ S. desc_pipe_objects (listed (named (me_of actor) x)) S)
-close_plan laws actor before first second third now x plan sized is answer descriptions counts gone same found numbers one two three four =
+    Plans actor before now (quiet (Done (pos 0))) (effect_by actor (close fd)) (names_by actor (desc_and_pipe_of fd))
+close_plan laws actor before first second third now fd plan sized is answer descriptions counts gone same found numbers one two three four =
     let p : ℕ = actor.pid.0 in
     let me : Process = me_of actor in
+    let x : Option ℕ = descriptor fd in
     let D : List (Option Opened) = actor.parts.now.descs in
     let after : List (Option Opened) = put_descs (plan.desc ∷ []) D in
     let R : State = described_by actor.parts.now after in
@@ -314,13 +330,13 @@ close_plan laws actor before first second third now x plan sized is answer descr
     let among_pipes : (held : ℕ → List Sending) → AreAmong (pipe_list (pipes_of (d ∷ []) (state_of held actor.parts.now))) pipes =
     λ held. rw gone (endless_among d (state_of held actor.parts.now) R (get_or D d None) (get_or after d None) refl) in
     let is_named : named me x ≡ Some d = named_me actor x ∙ found ∙ ap (λ (n : DescNo). Some n.0) (sym same) in
-    files_plan laws actor before now (quiet (Done (pos 0))) (λ S. close_effect p x me S) (λ S. desc_pipe_objects (listed (named me x)) S) (noted (pos 0) new)
+    files_plan laws actor before now (quiet (Done (pos 0))) (effect_by actor (close fd)) (names_by actor (desc_and_pipe_of fd)) (noted (pos 0) new)
     (answered_files actor (plan.name ∷ []) (plan.desc ∷ []) pipes (pos 0) numbers.0 numbers.1 (endless_pipes plan.given.gone R) named_pipes counts) sized is
     (appended4 before (name_changes actor.pid (plan.name ∷ [])) (desc_changes (plan.desc ∷ [])) pipes (last_answer (pos 0) actor) first second third now one two three four)
     (λ after. tt) (held_quiet actor.inside (Done (pos 0)))
-    (λ held counted. let S : State = state_of held actor.parts.now in
-    gives_writes actor (plan.desc ∷ []) held (close_effect p x me S) d (pos 0) new plan.given.gone sized (answer p me S refl)
-    (descriptions p me S (runs_with actor held is) (λ e. refl) (agrees_beside laws actor held is)) gone)
+    (λ held counted. let c : Caller = caller_of actor (state_of held actor.parts.now) in
+    gives_writes actor (plan.desc ∷ []) held (effect_in (close fd) c) d (pos 0) new plan.given.gone sized (ap (effect_of p me) (answer c refl))
+    (descriptions c (runs_with actor held is) (λ e. refl) (agrees_beside laws actor held is)) gone)
     (λ held. subst (λ (y : Option ℕ). AreAmong (desc_pipe_objects (listed y) (state_of held actor.parts.now)) (desc_changes (plan.desc ∷ []) ++ pipes)) (sym is_named) (
       desc_here d plan.desc.number.0 (pipe_list (pipes_of (d ∷ []) (state_of held actor.parts.now))) (ap (λ (n : DescNo). n.0) same),
       among_behind (Desc d ∷ []) (pipe_list (pipes_of (d ∷ []) (state_of held actor.parts.now))) pipes (among_pipes held),
@@ -361,7 +377,7 @@ rename_listed pid parts given (Some rename) = refl
 
 -- what a rule writes that gives up a name, or none
 given_writes : (actor : Actor) (news : List NewDesc) (held : ℕ → List Sending) (effect : Effect) (given : Option Given) (r : ℤ) (me : Process) →
-    length actor.parts.now.descs ≡ 64 → effect ≡ gives_up (given_up given) actor.pid.0 r me (state_of held actor.parts.now) →
+    length actor.parts.now.descs ≡ 64 → effect ≡ effect_by actor (gives_up (given_up given) r me) (state_of held actor.parts.now) →
     HasDescs (before_sends effect (state_of held actor.parts.now)) (put_descs news actor.parts.now.descs) →
     IsGone given actor.parts.now.descs (put_descs news actor.parts.now.descs) →
     Writes actor (noted r me) news (endless_changes (gone_of given) (described_by actor.parts.now (put_descs news actor.parts.now.descs))) (quiet (Done r)) (state_of held actor.parts.now) effect
@@ -424,22 +440,26 @@ given_named actor None news R is lost = tt
 given_named actor (Some given) news R is lost =
     rw lost (endless_named actor.parts.now (get_or actor.parts.now.descs given.number.0 None) (get_or (put_descs news actor.parts.now.descs) given.number.0 None) R (whole_piped actor.parts.now is.whole given.number.0))
 
-pub dup2_plan : (laws : PlanLaws) (actor : Actor) (before first now : List Change) (x y : Option ℕ) (renamed : Renamed) (rename : Option Rename) →
+pub dup2_plan : (laws : PlanLaws) (actor : Actor) (before first now : List Change) (fd other : ℤ) (renamed : Renamed) (rename : Option Rename) →
     length actor.parts.now.descs ≡ 64 → IsActor actor →
-    ((p : ℕ) (me : Process) (S : State) → me.descriptors ≡ actor.proc.now.descriptors →
-    dup2_effect p x y me S ≡ gives_up (given_up renamed.given) p (pos renamed.fd) (with_table (put_names (rename_puts rename).names actor.proc.now.descriptors) me) S) →
-    ((p : ℕ) (me : Process) (S : State) → RunsWith p me S actor.proc.now.descriptors → HasDescs S actor.parts.now.descs →
-    Agrees (actor.proc.now.descriptors ∷ others_of p S) actor.parts.now.descs →
-    HasDescs (before_sends (dup2_effect p x y me S) S) (put_descs (rename_puts rename).descs actor.parts.now.descs)) →
+    ((c : Caller) → c.process.descriptors ≡ actor.proc.now.descriptors →
+    effect_in (dup2 fd other) c ≡ effect_in (dup2_outcome (Ok renamed) (put_names (rename_puts rename).names actor.proc.now.descriptors)) c) →
+    ((c : Caller) → RunsWith c.number c.process c.state actor.proc.now.descriptors → HasDescs c.state actor.parts.now.descs →
+    Agrees (actor.proc.now.descriptors ∷ others_of c.number c.state) actor.parts.now.descs →
+    HasDescs (state_after (dup2 fd other) c) (put_descs (rename_puts rename).descs actor.parts.now.descs)) →
     KeepsCounts actor.proc.now.descriptors (put_names (rename_puts rename).names actor.proc.now.descriptors) actor.parts.now.descs (put_descs (rename_puts rename).descs actor.parts.now.descs) →
     IsGone renamed.given actor.parts.now.descs (put_descs (rename_puts rename).descs actor.parts.now.descs) →
-    RenamesOf (named_in actor.proc.now.descriptors x) (named_in actor.proc.now.descriptors y) rename → IsOfTwo x y rename → GivesLeft renamed.given rename →
+    RenamesOf (named_in actor.proc.now.descriptors (descriptor fd)) (named_in actor.proc.now.descriptors (descriptor other)) rename →
+    IsOfTwo (descriptor fd) (descriptor other) rename → GivesLeft renamed.given rename →
     AreFds (rename_puts rename).names × AreNumbers (rename_puts rename).descs →
     first ≡ before ++ rename_changes actor.pid actor.parts.now renamed.given rename → now ≡ first ++ last_answer (pos renamed.fd) actor →
-    Plans actor before now (quiet (Done (pos renamed.fd))) (λ S. dup2_effect actor.pid.0 x y (me_of actor) S) (λ S. dup2_objects x y (me_of actor) S)
-dup2_plan laws actor before first now x y renamed rename sized is answer descriptions counts lost of apart left numbers one two =
+    Plans actor before now (quiet (Done (pos renamed.fd))) (effect_by actor (dup2 fd other))
+    (names_by actor (λ c. dup2_objects (descriptor fd) (descriptor other) c.process c.state))
+dup2_plan laws actor before first now fd other renamed rename sized is answer descriptions counts lost of apart left numbers one two =
     let p : ℕ = actor.pid.0 in
     let me : Process = me_of actor in
+    let x : Option ℕ = descriptor fd in
+    let y : Option ℕ = descriptor other in
     let r : ℤ = pos renamed.fd in
     let names : List NewName = (rename_puts rename).names in
     let descs : List NewDesc = (rename_puts rename).descs in
@@ -448,15 +468,15 @@ dup2_plan laws actor before first now x y renamed rename sized is answer descrip
     let new : Process = with_table (put_names names actor.proc.now.descriptors) me in
     let pipes : List Change = endless_changes (gone_of renamed.given) R in
     let same : left_pipes actor.parts.now renamed.given rename ≡ pipes = left_endless actor.parts.now renamed.given rename lost left in
-    files_plan laws actor before now (quiet (Done r)) (λ S. dup2_effect p x y me S) (λ S. dup2_objects x y me S) (noted r new)
+    files_plan laws actor before now (quiet (Done r)) (effect_by actor (dup2 fd other)) (names_by actor (λ c. dup2_objects x y c.process c.state)) (noted r new)
     (answered_files actor names descs pipes r numbers.0 numbers.1 (endless_pipes (gone_of renamed.given) R) (given_named actor renamed.given descs R is lost) counts) sized is
     (appended2 before (name_changes actor.pid names ++ desc_changes descs ++ pipes) (last_answer r actor) first now
     (one ∙ ap (λ (l : List Change). before ++ l) (rename_listed actor.pid actor.parts.now renamed.given rename ∙ ap (λ (l : List Change). name_changes actor.pid names ++ desc_changes descs ++ l) same)) two
     ∙ ap (λ (l : List Change). before ++ l) (append_assoc (name_changes actor.pid names ++ desc_changes descs) pipes (last_answer r actor)))
     (λ after. tt) (held_quiet actor.inside (Done r))
-    (λ held counted. let S : State = state_of held actor.parts.now in
-    given_writes actor descs held (dup2_effect p x y me S) renamed.given r new sized (answer p me S refl)
-    (descriptions p me S (runs_with actor held is) (λ e. refl) (agrees_beside laws actor held is)) lost)
+    (λ held counted. let c : Caller = caller_of actor (state_of held actor.parts.now) in
+    given_writes actor descs held (effect_in (dup2 fd other) c) renamed.given r new sized (answer c refl)
+    (descriptions c (runs_with actor held is) (λ e. refl) (agrees_beside laws actor held is)) lost)
     (λ held. subst (λ (l : List Change). AreAmong (dup2_objects x y me (state_of held actor.parts.now)) (desc_changes descs ++ l)) same (rename_among actor held x y renamed.given rename lost of apart left))
     tt
 
@@ -496,17 +516,17 @@ free_numbers actor q r w held sized unused =
 pub pipe_plan : (laws : PlanLaws) (actor : Actor) (before now : List Change) (pipe : PipeNo) (read write : DescNo) (plan : PipePlan) →
     length actor.parts.now.descs ≡ 64 → length actor.parts.now.pipes ≡ 32 → IsActor actor → pipe.0 < 32 →
     AreFree read.0 write.0 actor.parts.now.descs × (pipe_at actor.parts.now.pipes pipe.0 ≡ None) →
-    ((p : ℕ) (me : Process) (S : State) (descs : List (Option Opened)) → me.descriptors ≡ actor.proc.now.descriptors → AreFree read.0 write.0 descs → HasDescs S descs → S.pipes pipe.0 ≡ None →
-    pipe_effect p pipe.0 read.0 write.0 me S
-    ≡ pipe_outcome p pipe.0 read.0 write.0 me (Ok (plan.read_name.fd, plan.write_name.fd)) (put_names (plan.read_name ∷ plan.write_name ∷ []) actor.proc.now.descriptors) (put_descs (plan.read ∷ plan.write ∷ []) descs)) →
-    ((p : ℕ) (me : Process) (S : State) (descs : List (Option Opened)) → me.descriptors ≡ actor.proc.now.descriptors → AreFree read.0 write.0 descs → HasDescs S descs → S.pipes pipe.0 ≡ None →
-    HasDescs (before_sends (pipe_effect p pipe.0 read.0 write.0 me S) S) (put_descs (plan.read ∷ plan.write ∷ []) descs)) →
+    ((c : Caller) (descs : List (Option Opened)) → c.process.descriptors ≡ actor.proc.now.descriptors → AreFree read.0 write.0 descs → HasDescs c.state descs →
+    c.state.pipes pipe.0 ≡ None → the.pipe pipe.0 read.0 write.0 c ≡ pipe_outcome pipe.0 read.0 write.0 (Ok (plan.read_name.fd, plan.write_name.fd))
+    (put_names (plan.read_name ∷ plan.write_name ∷ []) actor.proc.now.descriptors) (put_descs (plan.read ∷ plan.write ∷ []) descs) c) →
+    ((c : Caller) (descs : List (Option Opened)) → c.process.descriptors ≡ actor.proc.now.descriptors → AreFree read.0 write.0 descs → HasDescs c.state descs →
+    c.state.pipes pipe.0 ≡ None → HasDescs (state_after (the.pipe pipe.0 read.0 write.0) c) (put_descs (plan.read ∷ plan.write ∷ []) descs)) →
     ((descs : List (Option Opened)) → AreFree read.0 write.0 descs →
     KeepsCounts actor.proc.now.descriptors (put_names (plan.read_name ∷ plan.write_name ∷ []) actor.proc.now.descriptors) descs (put_descs (plan.read ∷ plan.write ∷ []) descs)) →
     (plan.read.number ≡ read) × (plan.write.number ≡ write) →
     AreFds (plan.read_name ∷ plan.write_name ∷ []) × AreNumbers (plan.read ∷ plan.write ∷ []) →
     now ≡ before ++ pipe_changes actor pipe plan →
-    Plans actor before now (quiet (Done (pos 0))) (λ S. pipe_effect actor.pid.0 pipe.0 read.0 write.0 (me_of actor) S) (λ S. pipe_objects pipe.0 read.0 write.0)
+    Plans actor before now (quiet (Done (pos 0))) (effect_by actor (the.pipe pipe.0 read.0 write.0)) (names_by actor (λ c. pipe_objects pipe.0 read.0 write.0))
 unfolding written
 pipe_plan laws actor before now pipe read write plan sized rooms is inside free answer descriptions counts same numbers added =
     let p : ℕ = actor.pid.0 in
@@ -529,12 +549,12 @@ pipe_plan laws actor before now pipe read write plan sized rooms is inside free 
       keeps = counts D free.0;
       process = refl;
     } in
-    files_plan laws actor before now (quiet (Done (pos 0))) (λ S. pipe_effect p pipe.0 read.0 write.0 me S) (λ S. pipe_objects pipe.0 read.0 write.0) (noted (pos 0) new) files sized is added
+    files_plan laws actor before now (quiet (Done (pos 0))) (effect_by actor (the.pipe pipe.0 read.0 write.0)) (names_by actor (λ c. pipe_objects pipe.0 read.0 write.0)) (noted (pos 0) new) files sized is added
     (λ after. tt) (held_quiet actor.inside (Done (pos 0)))
-    (λ held counted. let S : State = state_of held actor.parts.now in
-    done_writes actor (plan.read ∷ plan.write ∷ []) (Pipe pipe (Whole (Some [])) ∷ []) S (pipe_effect p pipe.0 read.0 write.0 me S)
+    (λ held counted. let S : State = state_of held actor.parts.now in let c : Caller = caller_of actor S in
+    done_writes actor (plan.read ∷ plan.write ∷ []) (Pipe pipe (Whole (Some [])) ∷ []) S (effect_in (the.pipe pipe.0 read.0 write.0) c)
     (SetPipe pipe.0 (Some []) ∷ SetDesc read.0 (description_at after read.0) ∷ SetDesc write.0 (description_at after write.0) ∷ []) (pos 0) new
-    (answer p me S D refl free.0 (λ d. refl) free.1) (tt, (tt, (tt, tt))) (descriptions p me S D refl free.0 (λ d. refl) free.1) refl)
+    (ap (effect_of p me) (answer c D refl free.0 (λ d. refl) free.1)) (tt, (tt, (tt, tt))) (descriptions c D refl free.0 (λ d. refl) free.1) refl)
     (λ held. (
       has_more (Desc plan.read.number.0) (ThePipe pipe.0) (Desc read.0 ∷ Desc write.0 ∷ []) (desc_here read.0 plan.read.number.0 (Desc write.0 ∷ []) (sym (ap (λ (d : DescNo). d.0) same.0))),
       (

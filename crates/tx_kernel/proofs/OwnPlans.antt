@@ -10,14 +10,13 @@ use Rattle.tx_change.specs.declared.change.Change.TheVariants.{Slot, Part, Descr
 use Rattle.tx_change.specs.declared.parts.Parts.{Parts}
 use Rattle.tx_kernel.specs.Actors.{me_of, inside_of, IsActor}
 use Rattle.tx_kernel.specs.Laws.{PlanLaws}
-use Rattle.tx_kernel.specs.Own.{GivesOwn, PlansOwn}
-use Rattle.tx_kernel.specs.Plans.{Plans, AreAmong, KeepsShown, held_after, memory_in, quiet}
+use Rattle.tx_kernel.specs.Own.{PlansOwn}
+use Rattle.tx_kernel.specs.Plans.{Plans, Gives, AreAmong, KeepsShown, held_after, memory_in, quiet}
 use Rattle.tx_kernel.specs.declared.actor.Actor.{Actor}
 use Rattle.tx_kernel.specs.declared.inside.Inside.{Inside}
 use Rattle.tx_kernel.specs.declared.planned.Outcome.{Outcome}
 use Rattle.tx_kernel.specs.declared.planned.Sends.TheVariants.{Nothing}
-use Rattle.tx_model.specs.Effects.{Own, own_effect, Replies}
-use Rattle.tx_model.specs.Memory.{Memory}
+use Rattle.tx_model.specs.Effects.{Effect}
 use Rattle.tx_model.specs.StateLaws.{put_here}
 use Rattle.tx_model.specs.State.{Object, Proc, Process, Sending, State, SetProc, has, write_one, written}
 use Rattle.tx_proc.specs.Processes.{process_in}
@@ -61,44 +60,40 @@ own_state laws actor plan held is own =
     ∙ laws.process actor.pid.0 plan S own
     ∙ ap (λ (x : Option Process). write_one (SetProc actor.pid.0 (option_map (revised_by plan) x)) S) here
 
--- what is to be shown stays, where the rule leaves it
-pub own_shown : (laws : PlanLaws) (actor : Actor) (plan : List Change) (outcome : Outcome) (memory : Memory) → IsActor actor → AreOf actor.pid.0 plan →
-    KeepsShown outcome (me_of actor).memory memory → (revised_by plan (me_of actor)).memory ≡ memory →
+-- what is to be shown stays, where they leave it
+pub own_shown : (laws : PlanLaws) (actor : Actor) (plan : List Change) (outcome : Outcome) → IsActor actor → AreOf actor.pid.0 plan →
+    KeepsShown outcome (me_of actor).memory (revised_by plan (me_of actor)).memory →
     KeepsShown outcome (me_of actor).memory (memory_in (process_in (slot_at (applied actor.parts.now plan).procs actor.pid.0)))
-own_shown laws actor plan outcome memory is own keeps same =
+own_shown laws actor plan outcome is own keeps =
     let nothing : ℕ → List Sending = λ starter. [] in
-    let there : memory_in (process_in (slot_at (applied actor.parts.now plan).procs actor.pid.0)) ≡ (revised_by plan (me_of actor)).memory
-    = ap (λ (S : State). memory_in (S.procs actor.pid.0)) (own_state laws actor plan nothing is own)
-    ∙ ap memory_in (put_here (state_of nothing actor.parts.now).procs actor.pid.0 (Some (revised_by plan (me_of actor)))) in
-    subst (KeepsShown outcome (me_of actor).memory) (sym (there ∙ same)) keeps
+    subst (KeepsShown outcome (me_of actor).memory)
+    (sym (ap (λ (S : State). memory_in (S.procs actor.pid.0)) (own_state laws actor plan nothing is own)
+    ∙ ap memory_in (put_here (state_of nothing actor.parts.now).procs actor.pid.0 (Some (revised_by plan (me_of actor)))))) keeps
 
 pub held_quiet : (inside : Option Inside) (outcome : Outcome) (held : ℕ → List Sending) → held_after (inside_of inside) Nothing held ≡ held
 held_quiet None outcome held = refl
 held_quiet (Some inside) outcome held = refl
 
-pub own_plans : (laws : PlanLaws) (actor : Actor) (before now : List Change) (outcome : Outcome) (rule : Process → Own) (objects : State → List Object) →
-    length actor.parts.now.descs ≡ 64 → IsActor actor → PlansOwn actor before now outcome rule →
-    Plans actor before now (quiet outcome) (λ S. own_effect actor.pid.0 (rule (me_of actor))) objects
+pub own_plans : (laws : PlanLaws) (actor : Actor) (before now : List Change) (outcome : Outcome) (rule : State → Effect) (objects : State → List Object) →
+    length actor.parts.now.descs ≡ 64 → IsActor actor → PlansOwn actor before now outcome rule → Plans actor before now (quiet outcome) rule objects
 unfolding written
 own_plans laws actor before now outcome rule objects sized is own =
     let parts : Parts = actor.parts.now in
     let n : ℕ = actor.pid.0 in
     let plan : List Change = own.plan in
-    let gives : GivesOwn actor plan outcome (rule (me_of actor)) = own.gives in
-    let named : AreNamed parts plan = own_named parts n plan is.number gives.own in
+    let named : AreNamed parts plan = own_named parts n plan is.number own.own in
     record {
       plan = plan;
       added = own.added;
       named = named;
-      counts = laws.call parts actor.pid actor.proc.now [] [] plan is.number sized tt tt named gives.nameless is.whole.counts is.there is.runs (record { each = λ d others z. z });
-      brings = own_brings n plan gives.own;
-      gives = λ held counted. record {
-        state = sym (ap (λ (h : ℕ → List Sending). state_of h (applied parts plan)) (held_quiet actor.inside outcome held) ∙ own_state laws actor plan held is gives.own
-            ∙ ap (λ (q : Process). write_one (SetProc n (Some q)) (state_of held parts)) gives.process);
+      counts = laws.call parts actor.pid actor.proc.now [] [] plan is.number sized tt tt named own.nameless is.whole.counts is.there is.runs (record { each = λ d others z. z });
+      brings = own_brings n plan own.own;
+      gives = λ held counted. subst (Gives actor (applied parts plan) (quiet outcome) held) (sym (own.effect (state_of held parts))) (record {
+        state = sym (ap (λ (h : ℕ → List Sending). state_of h (applied parts plan)) (held_quiet actor.inside outcome held) ∙ own_state laws actor plan held is own.own);
         sends = refl;
-        conclusion = ap Replies (sym gives.reply);
-      };
-      shown = own_shown laws actor plan outcome (rule (me_of actor)).process.memory is gives.own gives.shown (ap (λ (q : Process). q.memory) gives.process);
+        conclusion = refl;
+      });
+      shown = own_shown laws actor plan outcome is own.own own.shown;
       seen = tt;
-      among = λ held. own_among n (objects (state_of held parts)) plan gives.own;
+      among = λ held. own_among n (objects (state_of held parts)) plan own.own;
     }

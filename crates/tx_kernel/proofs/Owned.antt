@@ -1,16 +1,19 @@
 -- Plans of parts of one process.
-use Rattle.std.proofs.Common.{◌≡◌, ℕ, pos, List, [], ◌∷◌, ◌++◌, map, slice_set, refl, ap, ◌∙◌, append_assoc}
+use Rattle.std.proofs.Common.{◌≡◌, ℕ, pos, List, [], ◌∷◌, ◌++◌, map, slice_set, refl, ap, sym, ◌∙◌, append_assoc}
 use Rattle.tx_base.specs.declared.names.Pid.{Pid}
 use Rattle.tx_change.specs.Counts.{AreNameless}
 use Rattle.tx_change.specs.Laws.{revised_once, revised_by}
 use Rattle.tx_change.specs.Own.{AreOf}
 use Rattle.tx_change.specs.declared.change.Change.{Change}
 use Rattle.tx_change.specs.declared.change.Change.TheVariants.{Part as SetPart}
-use Rattle.tx_kernel.specs.Actors.{me_of}
+use Rattle.tx_kernel.specs.Actors.{effect_by, me_of}
 use Rattle.tx_kernel.specs.Own.{PlansOwn, answer_after, page_change}
 use Rattle.tx_kernel.specs.declared.actor.Actor.{Actor}
+use Rattle.tx_kernel.specs.Plans.{reply_of}
+use Rattle.tx_kernel.specs.declared.planned.Outcome.{Outcome}
 use Rattle.tx_kernel.specs.declared.planned.Outcome.TheVariants.{Done}
-use Rattle.tx_model.specs.Effects.{answers_with}
+use Rattle.tx_model.specs.Book.{with_memory}
+use Rattle.tx_model.specs.Effects.{Effect, own_effect}
 use Rattle.tx_model.specs.State.{Process}
 use Rattle.tx_pages.specs.Outcomes.{with_pages, AreNumbered}
 use Rattle.tx_pages.specs.declared.plans.NewPage.{NewPage}
@@ -41,21 +44,22 @@ pub pages_nameless : (pid : Pid) (pages : List NewPage) → AreNameless (map (pa
 pages_nameless pid [] = tt
 pages_nameless pid (new ∷ pages) = (tt, pages_nameless pid pages)
 
+-- the process becomes so, and the reply is that of the outcome
+abbrev pub own_reply : Actor → Outcome → Process → Effect
+own_reply actor outcome q = own_effect actor.pid.0 (record { process = q; reply = reply_of (me_of actor).memory outcome })
+
 -- new pages, and then an answer
 pub pages_plan : (actor : Actor) (pages : List NewPage) (before between now : List Change) → AreNumbered pages → between ≡ before ++ map (page_change actor.pid) pages →
     now ≡ between ++ SetPart actor.pid (SetAnswer (answer_after (pos 0) actor)) ∷ [] →
-    PlansOwn actor before now (Done (pos 0)) (λ me. answers_with (pos 0) (record me { memory = with_pages me.memory pages }))
+    PlansOwn actor before now (Done (pos 0)) (effect_by actor (λ c. with_memory (with_pages c.process.memory pages) c))
 pages_plan actor pages before between now numbered first last =
     let put : List Change = map (page_change actor.pid) pages in
     let answer : List Change = SetPart actor.pid (SetAnswer (answer_after (pos 0) actor)) ∷ [] in
     record {
       plan = put ++ answer;
       added = last ∙ ap (λ (xs : List Change). xs ++ answer) first ∙ append_assoc before put answer;
-      gives = record {
-        own = AreOf-append actor.pid.0 put answer (pages_own actor.pid pages numbered) ((refl, tt), tt);
-        nameless = nameless-append put answer (pages_nameless actor.pid pages) (tt, tt);
-        process = revised-append put answer (me_of actor) ∙ ap (revised_by answer) (pages_revised actor.pid pages (me_of actor));
-        reply = refl;
-        shown = tt;
-      };
+      own = AreOf-append actor.pid.0 put answer (pages_own actor.pid pages numbered) ((refl, tt), tt);
+      nameless = nameless-append put answer (pages_nameless actor.pid pages) (tt, tt);
+      effect = λ S. ap (own_reply actor (Done (pos 0))) (sym (revised-append put answer (me_of actor) ∙ ap (revised_by answer) (pages_revised actor.pid pages (me_of actor))));
+      shown = tt;
     }

@@ -1,17 +1,19 @@
 -- Plans of parts of one process, made one after another.
-use Rattle.std.proofs.Common.{◌≡◌, ℕ, ℤ, List, [], ◌∷◌, ◌++◌, refl, ap, sym, subst, ◌∙◌, append_assoc, append-nil}
+use Rattle.std.proofs.Common.{◌≡◌, ℕ, ℤ, List, [], ◌∷◌, ◌++◌, Option, Some, None, is_some, Result, Ok, Err, IfOk, refl, ap, sym, subst, ◌∙◌, append_assoc, append-nil}
 use Rattle.tx_change.specs.Counts.{IsNameless}
 use Rattle.tx_change.specs.declared.change.Change.{Change}
 use Rattle.tx_change.specs.declared.change.Change.TheVariants.{Part as SetPart}
-use Rattle.tx_kernel.proofs.Owned.{AreOf-append, nameless-append, revised-append}
-use Rattle.tx_kernel.specs.Actors.{me_of}
-use Rattle.tx_kernel.specs.Own.{GivesOwn, PlansOwn, PlansPart, answer_after}
-use Rattle.tx_kernel.specs.Plans.{Extends}
+use Rattle.tx_kernel.proofs.Owned.{AreOf-append, nameless-append, own_reply, revised-append}
+use Rattle.tx_kernel.specs.Actors.{caller_of, effect_by, inside_of, me_of}
+use Rattle.tx_kernel.specs.Own.{PlansOwn, PlansPart, answer_after}
+use Rattle.tx_kernel.specs.Plans.{Extends, KeepsShown}
 use Rattle.tx_kernel.specs.declared.actor.Actor.{Actor}
+use Rattle.tx_kernel.specs.declared.inside.Inside.{Inside}
 use Rattle.tx_kernel.specs.declared.planned.Outcome.{Outcome}
 use Rattle.tx_kernel.specs.declared.planned.Outcome.TheVariants.{Done}
-use Rattle.tx_model.specs.Effects.{Own, answers_with, next_point}
-use Rattle.tx_model.specs.State.{Process}
+use Rattle.tx_model.specs.Effects.{Effect, next_point, noted, done}
+use Rattle.tx_model.specs.Forms.{Rule, effect_of}
+use Rattle.tx_model.specs.State.{Process, State}
 use Rattle.tx_proc.specs.Parts.{HasPlace}
 use Rattle.tx_proc.specs.Processes.{revised}
 use Rattle.tx_proc.specs.declared.part.Part.{Part}
@@ -34,38 +36,61 @@ part_more actor before between now rule part first place nameless last =
       process = revised-append first.plan one (me_of actor) ∙ ap (revised part) first.process;
     }
 
+-- the same by another rule
+pub part_same : (actor : Actor) (before now : List Change) (rule other : Process → Process) → PlansPart actor before now rule → rule (me_of actor) ≡ other (me_of actor) →
+    PlansPart actor before now other
+part_same actor before now rule other plan same = record { plan = plan.plan; added = plan.added; own = plan.own; nameless = plan.nameless; process = plan.process ∙ same }
+
+-- they are all that a step does
+pub part_whole : (actor : Actor) (before now : List Change) (outcome : Outcome) (rule : Process → Process) → PlansPart actor before now rule →
+    KeepsShown outcome (me_of actor).memory (rule (me_of actor)).memory → PlansOwn actor before now outcome (λ S. own_reply actor outcome (rule (me_of actor)))
+part_whole actor before now outcome rule plan keeps = record {
+  plan = plan.plan;
+  added = plan.added;
+  own = plan.own;
+  nameless = plan.nameless;
+  effect = λ S. ap (own_reply actor outcome) (sym plan.process);
+  shown = subst (λ (q : Process). KeepsShown outcome (me_of actor).memory q.memory) (sym plan.process) keeps;
+}
+
 -- and then an answer, at the point that the process has
 pub part_answered : (actor : Actor) (before between now : List Change) (rule : Process → Process) (ret : ℤ) → PlansPart actor before between rule →
     (rule (me_of actor)).registers.point ≡ actor.proc.now.regs.point → now ≡ between ++ SetPart actor.pid (SetAnswer (answer_after ret actor)) ∷ [] →
-    PlansOwn actor before now (Done ret) (λ me. answers_with ret (rule me))
+    PlansOwn actor before now (Done ret) (λ S. done actor.pid.0 ret (rule (me_of actor)))
 part_answered actor before between now rule ret first stays last =
-    let more = part_more actor before between now rule (SetAnswer (answer_after ret actor)) first tt tt last in
-    record {
-      plan = more.plan;
-      added = more.added;
-      gives = record {
-        own = more.own;
-        nameless = more.nameless;
-        process = more.process ∙ ap (λ (point : ℕ). record (rule (me_of actor)) { registers = record { point = next_point point; ret = ret; slots = (rule (me_of actor)).registers.slots } }) (sym stays);
-        reply = refl;
-        shown = tt;
-      };
-    }
+    part_whole actor before now (Done ret) (λ me. noted ret (rule me))
+    (part_same actor before now (λ me. revised (SetAnswer (answer_after ret actor)) (rule me)) (λ me. noted ret (rule me))
+    (part_more actor before between now rule (SetAnswer (answer_after ret actor)) first tt tt last)
+    (ap (λ (point : ℕ). record (rule (me_of actor)) { registers = record { point = next_point point; ret = ret; slots = (rule (me_of actor)).registers.slots } }) (sym stays))) tt
 
 -- a log that has more, and then one more
 pub extends_more : (before between now : List Change) (change : Change) → Extends before between → now ≡ between ++ change ∷ [] → Extends before now
 extends_more before between now change first last =
     record { more = first.more ++ change ∷ []; added = last ∙ ap (λ (xs : List Change). xs ++ change ∷ []) first.added ∙ append_assoc before first.more (change ∷ []) }
 
--- the same by another rule
-pub part_same : (actor : Actor) (before now : List Change) (rule other : Process → Process) → PlansPart actor before now rule → rule (me_of actor) ≡ other (me_of actor) →
-    PlansPart actor before now other
-part_same actor before now rule other plan same = record { plan = plan.plan; added = plan.added; own = plan.own; nameless = plan.nameless; process = plan.process ∙ same }
-
 -- no part, where the rule leaves the process
 pub part_nothing : (actor : Actor) (log : List Change) (rule : Process → Process) → me_of actor ≡ rule (me_of actor) → PlansPart actor log log rule
 part_nothing actor log rule same = part_same actor log log (λ me. me) rule (part_none actor log) same
 
-pub own_same : (actor : Actor) (before now : List Change) (outcome : Outcome) (rule other : Process → Own) → PlansOwn actor before now outcome rule →
-    rule (me_of actor) ≡ other (me_of actor) → PlansOwn actor before now outcome other
-own_same actor before now outcome rule other plan same = record { plan = plan.plan; added = plan.added; gives = subst (GivesOwn actor plan.plan outcome) same plan.gives }
+-- the same by another rule of the whole step
+pub own_same : (actor : Actor) (before now : List Change) (outcome : Outcome) (rule other : State → Effect) → PlansOwn actor before now outcome rule →
+    ((S : State) → rule S ≡ other S) → PlansOwn actor before now outcome other
+own_same actor before now outcome rule other plan same =
+    record { plan = plan.plan; added = plan.added; own = plan.own; nameless = plan.nameless; effect = λ S. sym (same S) ∙ plan.effect S; shown = plan.shown }
+
+-- what was planned by one rule is planned by another that does the same
+pub owned : {E : Type 0} (result : Result Outcome E) (actor : Actor) (before now : List Change) (rule other : State → Effect) → ((S : State) → other S ≡ rule S) →
+    IfOk result (λ outcome. PlansOwn actor before now outcome rule) → IfOk result (λ outcome. PlansOwn actor before now outcome other)
+owned {E} (Ok outcome) actor before now rule other same plan = own_same actor before now outcome rule other plan (λ S. sym (same S))
+owned {E} (Err why) actor before now rule other same plan = tt
+
+-- and so by a page that comes to the same
+pub owned_page : {E : Type 0} (result : Result Outcome E) (actor : Actor) (before now : List Change) (rule page : Rule) → ((S : State) → page (caller_of actor S) ≡ rule (caller_of actor S)) →
+    IfOk result (λ outcome. PlansOwn actor before now outcome (effect_by actor rule)) → IfOk result (λ outcome. PlansOwn actor before now outcome (effect_by actor page))
+owned_page {E} result actor before now rule page same plan =
+    owned result actor before now (effect_by actor rule) (effect_by actor page) (λ S. ap (effect_of actor.pid.0 (me_of actor)) (same S)) plan
+
+-- a transaction that it is in
+pub inside_is : (inside : Option Inside) → is_some (inside_of inside) ≡ is_some inside
+inside_is None = refl
+inside_is (Some inside) = refl

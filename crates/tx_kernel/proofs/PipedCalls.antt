@@ -1,5 +1,5 @@
 -- The plans of reads and writes.
-use Rattle.std.proofs.Common.{map, take, drop, ◌≡◌, ℕ, zero, suc, ◌+◌, ◌<◌, ◌≤◌, true, List, [], ◌∷◌, ◌++◌, length, ℤ, pos, Option, Some, None, IsSome, refl, ap, sym, subst, ◌∙◌, inl, inr, arith}
+use Rattle.std.proofs.Common.{map, take, drop, ◌≡◌, ℕ, zero, suc, ◌+◌, ◌<◌, ◌≤◌, true, List, [], ◌∷◌, ◌++◌, length, ℤ, pos, Option, Some, None, Ok, IsSome, refl, ap, sym, subst, ◌∙◌, inl, inr, arith}
 use Rattle.tx_kernel.specs.Own.{page_change}
 use Rattle.tx_kernel.proofs.Owned.{AreOf-append, nameless-append, revised-append, pages_own, pages_nameless, pages_revised}
 use Rattle.tx_change.specs.Laws.{revised_by}
@@ -20,27 +20,30 @@ use Rattle.tx_kernel.proofs.NamedCalls.{answered_files, appended2, done_writes, 
 use Rattle.tx_kernel.proofs.OwnPlans.{held_quiet, own_state}
 use Rattle.tx_kernel.proofs.Released.{pipe_there}
 use Rattle.tx_kernel.proofs.Whole.{HasPipe, whole_piped}
-use Rattle.tx_kernel.specs.Actors.{me_of, inside_of, IsActor}
+use Rattle.tx_kernel.specs.Actors.{effect_by, me_of, inside_of, names_by, IsActor}
 use Rattle.tx_kernel.specs.Laws.{PlanLaws}
-use Rattle.tx_kernel.specs.Piped.{broken_sending, CanTake, TakesBytes, held_in, put_bytes, broken, CanPut, NamesPipe}
+use Rattle.tx_kernel.specs.Piped.{CanPut, CanTake, NamesPipe, TakesBytes, broken, broken_sending, calling, held_in, put_bytes, reading_outcome, writing_outcome}
+use Rattle.tx_kernel.specs.declared.transfers.Reading.TheVariants as reading
+use Rattle.tx_kernel.specs.declared.transfers.Writing.TheVariants as writing
 use Rattle.tx_kernel.specs.Plans.{LeavesTarget, Plans, held_after, quiet}
 use Rattle.tx_kernel.specs.Posts.{IsSeen}
 use Rattle.tx_kernel.specs.declared.planned.Sends.TheVariants.{AtOnce}
 use Rattle.tx_base.specs.Slots.{slot_at}
 use Rattle.tx_change.specs.declared.parts.Parts.{Parts}
+use Rattle.tx_model.specs.Book.{desc_and_pipe_of, read, write, breaks, bytes_in}
+use Rattle.tx_model.specs.Forms.{does, effect_of}
 use Rattle.tx_model.specs.StateLaws.{put_here}
 use Rattle.tx_proc.specs.Processes.{process_in}
 use Rattle.tx_proc.specs.declared.proc.Proc.{Proc}
 use Rattle.tx_kernel.specs.declared.actor.Actor.{Actor}
 use Rattle.tx_kernel.specs.declared.inside.Inside.{Inside}
 use Rattle.tx_kernel.specs.declared.planned.Outcome.TheVariants.{Done}
-use Rattle.tx_model.specs.Descriptors.{desc_objects, desc_pipe_objects, listed, pipe_list, pipes_of}
-use Rattle.tx_model.specs.Effects.{Effect, before_sends, done_with, noted}
+use Rattle.tx_model.specs.Descriptors.{desc_objects, desc_pipe_objects, descriptor, listed, named, pipes_of, pipe_list}
+use Rattle.tx_model.specs.Effects.{Effect, noted, before_sends}
 use Rattle.tx_model.specs.Memory.{stored, Memory, address_of, bytes_at, bytes_from}
 use Rattle.tx_model.specs.Numbers.{failing}
 use Rattle.tx_model.specs.State.{Process, Sending, State, SetPipe, has, put_at, written}
 use Rattle.tx_model.specs.State as model
-use Rattle.tx_model.specs.Transfers.{read_effect, breaks, bytes_in, write_effect}
 
 -- the pipe that a descriptor names
 
@@ -85,15 +88,13 @@ few_bytes memory (Some address) n = by address n
     by a zero = omega arith
     by a (suc k) = let rest = by (a + 1) k in omega (arith, rest)
 
-pub put_plan : (laws : PlanLaws) (actor : Actor) (before first now : List Change) (x : Option ℕ) (address count : ℤ) (pipe : PipeNo) (n : ℕ) →
-    length actor.parts.now.descs ≡ 64 → IsActor actor →
-    ((held : ℕ → List Sending) → write_effect actor.pid.0 x address count (me_of actor) (state_of held actor.parts.now)
-    ≡ done_with (SetPipe pipe.0 (Some (held_in actor pipe ++ put_bytes actor address n)) ∷ []) actor.pid.0 (pos n) (me_of actor)) →
-    NamesPipe actor x pipe → CanPut actor address pipe n →
+pub put_plan : (laws : PlanLaws) (actor : Actor) (before first now : List Change) (fd address count : ℤ) (pipe : PipeNo) (n : ℕ) → length actor.parts.now.descs ≡ 64 → IsActor actor →
+    ((held : ℕ → List Sending) → write fd address count (calling actor held) ≡ writing_outcome address (Ok (writing.Puts pipe n)) (calling actor held)) →
+    NamesPipe actor (named (me_of actor) (descriptor fd)) pipe → CanPut actor address pipe n →
     first ≡ before ++ Pipe pipe (Back 0 (put_bytes actor address n)) ∷ [] → now ≡ first ++ last_answer (pos n) actor →
-    Plans actor before now (quiet (Done (pos n))) (λ S. write_effect actor.pid.0 x address count (me_of actor) S) (λ S. desc_pipe_objects (listed x) S)
+    Plans actor before now (quiet (Done (pos n))) (effect_by actor (write fd address count)) (names_by actor (desc_and_pipe_of fd))
 unfolding written
-put_plan laws actor before first now x address count pipe n sized is effect names can one two =
+put_plan laws actor before first now fd address count pipe n sized is page names can one two =
     let p : ℕ = actor.pid.0 in
     let me : Process = me_of actor in
     let bytes : List ℕ = put_bytes actor address n in
@@ -101,15 +102,16 @@ put_plan laws actor before first now x address count pipe n sized is effect name
     let changes : List Change = Pipe pipe (Back 0 bytes) ∷ [] in
     let few = few_bytes me.memory (address_of address) n in
     let put : piped_in (pipe_at actor.parts.now.pipes pipe.0) (Back 0 bytes) ≡ Some (held_bytes ++ bytes) =
-    ap (λ (o : Option (List ℕ)). piped_in o (Back 0 bytes)) (pipe_held actor x pipe is names) ∙ laws.back held_bytes bytes (let room = can.room in omega (arith, room, few)) in
-    files_plan laws actor before now (quiet (Done (pos n))) (λ S. write_effect p x address count me S) (λ S. desc_pipe_objects (listed x) S) (noted (pos n) me)
-    (answered_files actor [] [] changes (pos n) tt tt tt (pipe_inside actor x pipe is names, tt) (keeps_same actor)) sized is
+    ap (λ (o : Option (List ℕ)). piped_in o (Back 0 bytes)) (pipe_held actor (named me (descriptor fd)) pipe is names) ∙ laws.back held_bytes bytes (let room = can.room in omega (arith, room, few)) in
+    files_plan laws actor before now (quiet (Done (pos n))) (effect_by actor (write fd address count)) (names_by actor (desc_and_pipe_of fd)) (noted (pos n) me)
+    (answered_files actor [] [] changes (pos n) tt tt tt (pipe_inside actor (named me (descriptor fd)) pipe is names, tt) (keeps_same actor)) sized is
     (appended2 before changes (last_answer (pos n) actor) first now one two)
     (λ after. tt) (held_quiet actor.inside (Done (pos n)))
     (λ held counted. let S : State = state_of held actor.parts.now in
-    done_writes actor [] changes S (write_effect p x address count me S) (SetPipe pipe.0 (Some (held_bytes ++ bytes)) ∷ []) (pos n) me (effect held) (tt, tt)
-    (λ d. ap (λ (e : Effect). (before_sends e S).descs d) (effect held)) (ap (λ (o : Option (List ℕ)). put_at S.pipes pipe.0 o) (sym put)))
-    (λ held. (pipe_among actor x pipe held names, tt))
+    let so = ap (effect_of p me) (page held) in
+    done_writes actor [] changes S (effect_by actor (write fd address count) S) (SetPipe pipe.0 (Some (held_bytes ++ bytes)) ∷ []) (pos n) me so (tt, tt)
+    (λ d. ap (λ (e : Effect). (before_sends e S).descs d) so) (ap (λ (o : Option (List ℕ)). put_at S.pipes pipe.0 o) (sym put)))
+    (λ held. (pipe_among actor (named me (descriptor fd)) pipe held names, tt))
     tt
 
 -- the process is seen as before where it is given an answer
@@ -129,27 +131,28 @@ broken_seen laws actor is =
     )
 
 -- a write without a reader
-pub broken_plan : (laws : PlanLaws) (actor : Actor) (before now : List Change) (x : Option ℕ) (address count : ℤ) → length actor.parts.now.descs ≡ 64 → IsActor actor →
-    ((held : ℕ → List Sending) → write_effect actor.pid.0 x address count (me_of actor) (state_of held actor.parts.now) ≡ breaks actor.pid.0 (me_of actor)) →
+pub broken_plan : (laws : PlanLaws) (actor : Actor) (before now : List Change) (fd address count : ℤ) → length actor.parts.now.descs ≡ 64 → IsActor actor →
+    ((held : ℕ → List Sending) → write fd address count (calling actor held) ≡ does (breaks actor.pid.0 (me_of actor))) →
     now ≡ before ++ last_answer (failing BrokenPipe) actor →
-    Plans actor before now (broken actor) (λ S. write_effect actor.pid.0 x address count (me_of actor) S) (λ S. desc_pipe_objects (listed x) S)
+    Plans actor before now (broken actor) (effect_by actor (write fd address count)) (names_by actor (desc_and_pipe_of fd))
 unfolding written
-broken_plan laws actor before now x address count sized is effect added =
+broken_plan laws actor before now fd address count sized is page added =
     let p : ℕ = actor.pid.0 in
     let me : Process = me_of actor in
     let r : ℤ = failing BrokenPipe in
-    files_plan laws actor before now (broken actor) (λ S. write_effect p x address count me S) (λ S. desc_pipe_objects (listed x) S) (noted r me)
+    files_plan laws actor before now (broken actor) (effect_by actor (write fd address count)) (names_by actor (desc_and_pipe_of fd)) (noted r me)
     (answered_files actor [] [] [] r tt tt tt tt (keeps_same actor)) sized is added
     (λ after. tt) (kept actor.inside)
     (λ held counted. let S : State = state_of held actor.parts.now in
+    let so = ap (effect_of p me) (page held) in
     record {
       more = [];
       files = tt;
-      writes = ap (λ (e : Effect). e.writes) (effect held);
-      descs = λ d. ap (λ (e : Effect). (before_sends e S).descs d) (effect held);
-      pipes = ap (λ (e : Effect). (before_sends e S).pipes) (effect held);
-      sends = ap (λ (e : Effect). e.sends) (effect held);
-      conclusion = ap (λ (e : Effect). e.conclusion) (effect held);
+      writes = ap (λ (e : Effect). e.writes) so;
+      descs = λ d. ap (λ (e : Effect). (before_sends e S).descs d) so;
+      pipes = ap (λ (e : Effect). (before_sends e S).pipes) so;
+      sends = ap (λ (e : Effect). e.sends) so;
+      conclusion = ap (λ (e : Effect). e.conclusion) so;
     })
     (λ held. tt)
     (broken_seen laws actor is)
@@ -160,15 +163,12 @@ broken_plan laws actor before now x address count sized is effect added =
 
 -- read
 
-pub take_plan : (laws : PlanLaws) (actor : Actor) (before first now : List Change) (x : Option ℕ) (address count : ℤ) (pipe : PipeNo) (n : ℕ) →
-    length actor.parts.now.descs ≡ 64 → IsActor actor →
-    ((held : ℕ → List Sending) → read_effect actor.pid.0 x address count (me_of actor) (state_of held actor.parts.now)
-    ≡ done_with (SetPipe pipe.0 (Some (drop n (held_in actor pipe))) ∷ []) actor.pid.0 (pos n)
-    (record (me_of actor) { memory = stored (me_of actor).memory (address_of address) (take n (held_in actor pipe)) })) →
-    NamesPipe actor x pipe → CanTake actor pipe n → TakesBytes actor before first pipe address n → now ≡ first ++ last_answer (pos n) actor →
-    Plans actor before now (quiet (Done (pos n))) (λ S. read_effect actor.pid.0 x address count (me_of actor) S) (λ S. desc_pipe_objects (listed x) S)
+pub take_plan : (laws : PlanLaws) (actor : Actor) (before first now : List Change) (fd address count : ℤ) (pipe : PipeNo) (n : ℕ) → length actor.parts.now.descs ≡ 64 → IsActor actor →
+    ((held : ℕ → List Sending) → read fd address count (calling actor held) ≡ reading_outcome address (Ok (reading.Takes pipe n)) (calling actor held)) →
+    NamesPipe actor (named (me_of actor) (descriptor fd)) pipe → CanTake actor pipe n → TakesBytes actor before first pipe address n → now ≡ first ++ last_answer (pos n) actor →
+    Plans actor before now (quiet (Done (pos n))) (effect_by actor (read fd address count)) (names_by actor (desc_and_pipe_of fd))
 unfolding written
-take_plan laws actor before first now x address count pipe n sized is effect names can takes two =
+take_plan laws actor before first now fd address count pipe n sized is page names can takes two =
     let p : ℕ = actor.pid.0 in
     let me : Process = me_of actor in
     let held_bytes : List ℕ = held_in actor pipe in
@@ -176,7 +176,7 @@ take_plan laws actor before first now x address count pipe n sized is effect nam
     let new : Process = record me { memory = stored me.memory (address_of address) (take n held_bytes) } in
     let changes : List Change = Pipe pipe (Front n []) ∷ [] in
     let taken : piped_in (pipe_at actor.parts.now.pipes pipe.0) (Front n []) ≡ Some (drop n held_bytes) =
-    ap (λ (o : Option (List ℕ)). piped_in o (Front n [])) (pipe_held actor x pipe is names) ∙ laws.front held_bytes n can.held can.fits in
+    ap (λ (o : Option (List ℕ)). piped_in o (Front n [])) (pipe_held actor (named me (descriptor fd)) pipe is names) ∙ laws.front held_bytes n can.held can.fits in
     let files : Files actor (noted (pos n) new) = record {
       names = [];
       descs = [];
@@ -185,18 +185,19 @@ take_plan laws actor before first now x address count pipe n sized is effect nam
       fds = tt;
       numbers = tt;
       are_pipes = tt;
-      pipes_named = (pipe_inside actor x pipe is names, tt);
+      pipes_named = (pipe_inside actor (named me (descriptor fd)) pipe is names, tt);
       are_own = AreOf-append p pages (last_answer (pos n) actor) (pages_own actor.pid takes.pages takes.numbered) ((refl, tt), tt);
       nameless = nameless-append pages (last_answer (pos n) actor) (pages_nameless actor.pid takes.pages) (tt, tt);
       keeps = keeps_same actor;
       process = revised-append pages (last_answer (pos n) actor) me
           ∙ ap (revised_by (last_answer (pos n) actor)) (pages_revised actor.pid takes.pages me ∙ ap (λ (m : Memory). record me { memory = m }) takes.memory);
     } in
-    files_plan laws actor before now (quiet (Done (pos n))) (λ S. read_effect p x address count me S) (λ S. desc_pipe_objects (listed x) S) (noted (pos n) new) files sized is
+    files_plan laws actor before now (quiet (Done (pos n))) (effect_by actor (read fd address count)) (names_by actor (desc_and_pipe_of fd)) (noted (pos n) new) files sized is
     (appended2 before (changes ++ pages) (last_answer (pos n) actor) first now takes.added two)
     (λ after. tt) (held_quiet actor.inside (Done (pos n)))
     (λ held counted. let S : State = state_of held actor.parts.now in
-    done_writes actor [] changes S (read_effect p x address count me S) (SetPipe pipe.0 (Some (drop n held_bytes)) ∷ []) (pos n) new (effect held) (tt, tt)
-    (λ d. ap (λ (e : Effect). (before_sends e S).descs d) (effect held)) (ap (λ (o : Option (List ℕ)). put_at S.pipes pipe.0 o) (sym taken)))
-    (λ held. (pipe_among actor x pipe held names, tt))
+    let so = ap (effect_of p me) (page held) in
+    done_writes actor [] changes S (effect_by actor (read fd address count) S) (SetPipe pipe.0 (Some (drop n held_bytes)) ∷ []) (pos n) new so (tt, tt)
+    (λ d. ap (λ (e : Effect). (before_sends e S).descs d) so) (ap (λ (o : Option (List ℕ)). put_at S.pipes pipe.0 o) (sym taken)))
+    (λ held. (pipe_among actor (named me (descriptor fd)) pipe held names, tt))
     tt

@@ -15,7 +15,8 @@ use Rattle.tx_change.specs.declared.parts.Parts.{Parts}
 use Rattle.tx_kernel.specs.Posts.{IsOfPending, IsSeen, PlansAt, PlansPost, posted, seen_as, without_part}
 use Rattle.tx_kernel.specs.Laws.{PlanLaws}
 use Rattle.tx_model.specs.Posts.{post, post_answer, received}
-use Rattle.tx_model.specs.State.{Object, Proc as TheProc, Desc, Pipe as ThePipe, Held, Process, Sending, State, SetProc, AgreePart, write_one}
+use Rattle.tx_model.specs.State.{Object, Proc as TheProc, Desc, Pipe as ThePipe, Held, Process, Sending, State, SetProc, write_one}
+use Rattle.tx_model.specs.StateLaws.{AgreePart}
 use Rattle.tx_model.specs.StateLaws.{put_cases, state_ext}
 use Rattle.tx_proc.specs.Parts.{HasPlace}
 use Rattle.tx_proc.specs.Processes.{process_in, process_of}

@@ -18,7 +18,7 @@ use Rattle.tx_laws.specs.Laws.{EventKeepsForm, HeldKeepsForm, PostKeepsForm}
 use Rattle.tx_laws.specs.WellFormed.{HasGoodNumbers, IsHeldSending, IsSendable, IsWellFormed}
 use Rattle.tx_model.specs.Events.{Event, after}
 use Rattle.tx_model.specs.Posts.{kill_signo, post}
-use Rattle.tx_model.specs.Sends.{sent_by_members}
+use Rattle.tx_model.specs.Book.{sent_by_members}
 use Rattle.tx_model.specs.State.{Sending, State, is_between}
 
 pub posted_whole : PostKeepsForm → (parts new : Parts) (m : Sending) → ((held : ℕ → List Sending) → state_of held new ≡ post m (state_of held parts)) → (CountsAgree parts → CountsAgree new) →

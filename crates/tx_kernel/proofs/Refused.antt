@@ -1,7 +1,5 @@
 -- Which steps are refused by their rules, and which are made.
-use Rattle.std.proofs.Common.{◌≡◌, ℕ, ℤ, Bool, true, false, not, if◌then◌else◌, pos, List, Option, Some, None, is_some, length, ◌==◌, refl, ap, sym, subst, ◌∙◌}
-use Rattle.tx_base.specs.declared.errors.Errno.TheVariants.{NoChild}
-use Rattle.tx_base.specs.declared.limits.TheConstants.{SLOTS}
+use Rattle.std.proofs.Common.{◌≡◌, ℕ, ℤ, Bool, true, false, not, if◌then◌else◌, pos, List, Option, Some, is_some, ◌==◌, refl, ap, sym, subst, ◌∙◌}
 use Rattle.tx_base.specs.declared.signals.Action.TheVariants.{Usual}
 use Rattle.tx_base.specs.declared.steps.Call.{Call}
 use Rattle.tx_base.specs.declared.steps.Call.TheVariants as call
@@ -9,39 +7,27 @@ use Rattle.tx_base.specs.declared.steps.Refusal.TheVariants.{FramesFull, NumberT
 use Rattle.tx_base.specs.declared.steps.Reply.TheVariants.{Done}
 use Rattle.tx_change.specs.States.{state_of}
 use Rattle.tx_kernel.proofs.Delivered.{acting, delivers_is}
-use Rattle.tx_kernel.proofs.MadeNamed.{close_made, dup_made, dup2_made, fork_made, nonblock_made, pipe_made}
-use Rattle.tx_kernel.proofs.MadeOwn.{acts_made, console_made, jumps_made, keeps_made, returns_made}
-use Rattle.tx_kernel.proofs.MadeSent.{exit_made, send_made}
-use Rattle.tx_kernel.proofs.Waited.{IsChild, no_child, waits_is}
-use Rattle.tx_kernel.specs.Actors.{CountsHeld, inside_of, me_of}
+use Rattle.tx_kernel.proofs.AnyCall.{own_lines}
+use Rattle.tx_kernel.proofs.PageLines.{decides}
+use Rattle.tx_kernel.specs.Actors.{CountsHeld, caller_of, effect_by, inside_of, me_of}
 use Rattle.tx_kernel.specs.Refusals.{IsMade, TellsWait, lacks_frame}
-use Rattle.tx_kernel.specs.Trees.{child_at}
 use Rattle.tx_kernel.specs.declared.actor.Actor.{Actor}
-use Rattle.tx_kernel.specs.declared.trees.Child.{Child}
+use Rattle.tx_model.specs.BookLaws.{through_or, through_when, fork_lines, exit_lines, dup_lines, dup2_lines, close_lines, set_nonblock_lines, sigqueue_lines}
 use Rattle.tx_model.specs.Answer.{chosen_in, is_choice_in_use}
 use Rattle.tx_model.specs.Calls.{call_effect}
-use Rattle.tx_model.specs.Deliveries.{action_at, acts_on, caught, delivered_value, delivery_effect, is_deferred, relieved}
-use Rattle.tx_model.specs.Descriptors.{descriptor, is_pipe_in_use, lowest_free, named, opens_from}
-use Rattle.tx_model.specs.Effects.{Effect, Inside, done, idle, own_effect}
-use Rattle.tx_model.specs.Numbers.{below, failing}
-use Rattle.tx_model.specs.Processes.{forks, numbered, waits_by, waitpid_effect}
+use Rattle.tx_model.specs.Book.{page_of_call, waitpid}
+use Rattle.tx_model.specs.Forms.{Caller, Outcome, answers, effect_of, refuses}
+use Rattle.tx_model.specs.Deliveries.{action_at, caught, delivered_value, is_deferred, relieved, delivery_effect, acts_on}
+use Rattle.tx_model.specs.Descriptors.{is_pipe_in_use, lowest_free, with_descriptor}
+use Rattle.tx_model.specs.Effects.{Effect, Inside, idle, own_effect}
 use Rattle.tx_model.specs.SignalSets.{child_signo}
-use Rattle.tx_model.specs.Signals.{Caught, Disposition, Fatal, Ignored, disposition, known, newest}
+use Rattle.tx_model.specs.Signals.{Caught, Disposition, Fatal, Ignored, disposition}
 use Rattle.tx_model.specs.State.{Process, Sending, State}
 
 -- a call that chooses a number in use is refused
-
-taken_fork : (p c : ℕ) (me : Process) (q : Option Process) → is_some q ≡ true → forks p c me q ≡ idle NumberTaken
-taken_fork p c me None taken = cc
-taken_fork p c me (Some q) taken = refl
-
-taken_pipe : (b : Bool) (other : Effect) → b ≡ true → (if b then idle NumberTaken else other) ≡ idle NumberTaken
-taken_pipe true other taken = refl
-taken_pipe false other taken = cc
-
 pub taken_refuses : (inside : Option Inside) (p : ℕ) (c : Call) (me : Process) (S : State) → is_choice_in_use S (chosen_in c) ≡ true → call_effect inside p c me S ≡ idle NumberTaken
-taken_refuses inside p (call.Fork child) me S taken = taken_fork p child.0 me (S.procs child.0) taken
-taken_refuses inside p (call.Pipe q r w) me S taken = taken_pipe (is_pipe_in_use q.0 r.0 w.0 S) (opens_from p q.0 r.0 w.0 me (lowest_free me)) taken
+taken_refuses inside p (call.Fork child) me S taken = ap (effect_of p me) (decides (is_some (S.procs child.0)) _ _ taken)
+taken_refuses inside p (call.Pipe q r w) me S taken = ap (effect_of p me) (decides (is_pipe_in_use q.0 r.0 w.0 S) _ _ taken)
 taken_refuses inside p c me S taken = cc
 
 -- the call never waits
@@ -50,25 +36,30 @@ pub record NeverWaits (c : Call) : Type 0 where
   pub read : (x y z : ℤ) → c ≡ call.Read x y z → ⊥
   pub write : (x y z : ℤ) → c ≡ call.Write x y z → ⊥
 
+-- what comes to this is made
+abbrev IsMadeBy : Caller → Outcome → Type 0
+IsMadeBy c outcome = IsMade (effect_of c.number c.process outcome)
+
+page_made : (d : Caller) (c : Call) → NeverWaits c → is_choice_in_use d.state (chosen_in c) ≡ false → IsMadeBy d ((page_of_call c).outcome d)
+page_made d (call.Waitpid x y) is free = absurd (is.waitpid x y refl)
+page_made d (call.Read x y z) is free = absurd (is.read x y z refl)
+page_made d (call.Write x y z) is free = absurd (is.write x y z refl)
+page_made d (call.Fork child) is free = fork_lines (IsMadeBy d) d (λ e rs. tt) child.0 (λ taken. let never : true ≡ false = sym taken ∙ free in cc) (λ z rs. tt)
+page_made d (call.Exit status) is free = exit_lines (IsMadeBy d) d (λ e rs. tt) status (λ z rs. tt)
+page_made d (call.Pipe q r w) is free =
+    through_when (IsMadeBy d) (is_pipe_in_use q.0 r.0 w.0 d.state) _ _ (λ taken. let never : true ≡ false = sym taken ∙ free in cc)
+    λ z. through_or (IsMadeBy d) (lowest_free d.process) _ _ (λ rs. tt)
+    λ f one. through_or (IsMadeBy d) (lowest_free (with_descriptor f (Some r.0) d.process)) _ _ (λ rs. tt) λ g two rs. tt
+page_made d (call.Dup f) is free = dup_lines (IsMadeBy d) d (λ e rs. tt) f (λ x g e z rs. tt)
+page_made d (call.Dup2 f g) is free = dup2_lines (IsMadeBy d) d (λ e rs. tt) f g (λ k rs. tt) (λ k x l e h i z rs. tt)
+page_made d (call.Close f) is free = close_lines (IsMadeBy d) d (λ e rs. tt) f (λ k x e z rs. tt)
+page_made d (call.SetNonblock f on) is free = set_nonblock_lines (IsMadeBy d) d (λ e rs. tt) f on (λ k x e z rs. tt)
+page_made d (call.Kill t s) is free = sigqueue_lines (IsMadeBy d) d (λ e rs. tt) t s (pos 0) (λ rs. tt) (λ signo target e h z rs. tt) (λ signo target i e h j z k rs. tt)
+page_made d (call.Sigqueue t s value) is free = sigqueue_lines (IsMadeBy d) d (λ e rs. tt) t s value (λ rs. tt) (λ signo target e h z rs. tt) (λ signo target i e h j z k rs. tt)
+page_made d c is free = own_lines (IsMadeBy d) d (λ e rs. tt) (λ r rs. tt) (λ r q rs. tt) (λ q reply accepted rs. accepted) c refl
+
 pub call_made : (inside : Option Inside) (p : ℕ) (c : Call) (me : Process) (S : State) → NeverWaits c → is_choice_in_use S (chosen_in c) ≡ false → IsMade (call_effect inside p c me S)
-call_made inside p (call.Waitpid x y) me S is free = absurd (is.waitpid x y refl)
-call_made inside p (call.Read x y z) me S is free = absurd (is.read x y z refl)
-call_made inside p (call.Write x y z) me S is free = absurd (is.write x y z refl)
-call_made inside p (call.Fork child) me S is free = fork_made p child.0 me (S.procs child.0) free
-call_made inside p (call.Exit status) me S is free = exit_made inside p status me S
-call_made inside p (call.Pipe q r w) me S is free = pipe_made p q.0 r.0 w.0 me S free
-call_made inside p (call.Dup f) me S is free = dup_made p me (named me (descriptor f))
-call_made inside p (call.Dup2 f g) me S is free = dup2_made p (descriptor f) (descriptor g) me S
-call_made inside p (call.Close f) me S is free = close_made p (descriptor f) me S
-call_made inside p (call.SetNonblock f on) me S is free = nonblock_made p on me (named me (descriptor f)) S
-call_made inside p (call.Kill t signo) me S is free = send_made p inside me t signo (pos 0) S
-call_made inside p (call.Sigqueue t signo value) me S is free = send_made p inside me t signo value S
-call_made inside p (call.Sigaction signo action) me S is free = λ rs. acts_made (known signo) action me
-call_made inside p call.Sigreturn me S is free = λ rs. returns_made (newest me.frames) me
-call_made inside p (call.ConsoleWrite address n) me S is free = λ rs. console_made inside address n me
-call_made inside p (call.Jump point when) me S is free = λ rs. jumps_made point when me
-call_made inside p (call.Keep slot) me S is free = λ rs. keeps_made (below SLOTS slot) me
-call_made inside p c me S is free = λ rs. tt
+call_made inside p c me S is free = page_made (record { number = p; process = me; inside = inside; state = S }) c is free
 
 -- a step that waits, and one that is made
 
@@ -78,35 +69,18 @@ tells_wait actor rule waits = record { refused = λ e. waits; made = λ e held c
 pub tells_made : (actor : Actor) (rule : State → Effect) → ((held : ℕ → List Sending) → CountsHeld actor.inside held → IsMade (rule (state_of held actor.parts.now))) → TellsWait actor false rule
 tells_made actor rule made = record { refused = λ e held counted. cc; made = λ e. made }
 
--- a rule that is equal to another waits where that does
-pub tells_same : (actor : Actor) (waits : Bool) (rule other : State → Effect) →
-    ((held : ℕ → List Sending) → CountsHeld actor.inside held → other (state_of held actor.parts.now) ≡ rule (state_of held actor.parts.now)) →
-    TellsWait actor waits rule → TellsWait actor waits other
-tells_same actor waits rule other same told = record {
-  refused = λ e held counted. same held counted ∙ told.refused e held counted;
-  made = λ e held counted. subst IsMade (sym (same held counted)) (told.made e held counted);
-}
+-- a page that comes to what is made, and one that comes to a wait
+pub made_of : (actor : Actor) {page : Outcome} (outcome : Outcome) → page ≡ outcome → IsMade (effect_of actor.pid.0 (me_of actor) outcome) → IsMade (effect_of actor.pid.0 (me_of actor) page)
+made_of actor outcome is made = subst (λ (o : Outcome). IsMade (effect_of actor.pid.0 (me_of actor) o)) (sym is) made
 
-pub running_told : (actor : Actor) (t : ℕ) (nohang : Bool) (me : Process) → TellsWait actor (not nohang) (λ S. waits_by actor.pid.0 t nohang me None)
-running_told actor t true me = tells_made actor (λ S. waits_by actor.pid.0 t true me None) (λ held counted rs. tt)
-running_told actor t false me = tells_wait actor (λ S. waits_by actor.pid.0 t false me None) (λ held counted. refl)
+pub wait_of : (actor : Actor) {page : Outcome} → page ≡ refuses Wait → effect_of actor.pid.0 (me_of actor) page ≡ idle Wait
+wait_of actor is = ap (effect_of actor.pid.0 (me_of actor)) is
 
-pub ended_told : (actor : Actor) (t status : ℕ) (nohang : Bool) (me : Process) → TellsWait actor false (λ S. waits_by actor.pid.0 t nohang me (Some status))
-ended_told actor t status nohang me = tells_made actor (λ S. waits_by actor.pid.0 t nohang me (Some status)) (λ held counted rs. tt)
-
-pub child_told : (actor : Actor) (number : ℤ) (nohang waits : Bool) (child : Child) → IsChild actor.pid.0 actor.parts.now.procs (numbered (length actor.parts.now.procs) number) child →
-    TellsWait actor waits (λ S. waits_by actor.pid.0 child.pid.0 nohang (me_of actor) child.status) →
-    TellsWait actor waits (λ S. waitpid_effect actor.pid.0 number nohang (me_of actor) S)
-child_told actor number nohang waits child is told =
-    tells_same actor waits (λ S. waits_by actor.pid.0 child.pid.0 nohang (me_of actor) child.status) (λ S. waitpid_effect actor.pid.0 number nohang (me_of actor) S)
-    (λ held counted. waits_is actor.pid.0 (numbered (length actor.parts.now.procs) number) nohang (me_of actor) held actor.parts.now child is) told
-
-pub childless_told : (actor : Actor) (number : ℤ) (nohang : Bool) → None ≡ child_at actor.pid.0 actor.parts.now.procs (numbered (length actor.parts.now.procs) number) →
-    TellsWait actor false (λ S. waitpid_effect actor.pid.0 number nohang (me_of actor) S)
-childless_told actor number nohang none =
-    tells_same actor false (λ S. done actor.pid.0 (failing NoChild) (me_of actor)) (λ S. waitpid_effect actor.pid.0 number nohang (me_of actor) S)
-    (λ held counted. no_child actor.pid.0 (numbered (length actor.parts.now.procs) number) nohang (me_of actor) held actor.parts.now (sym none))
-    (tells_made actor (λ S. done actor.pid.0 (failing NoChild) (me_of actor)) (λ held counted rs. tt))
+pub running_told : (actor : Actor) (number : ℤ) (nohang : Bool) →
+    ((held : ℕ → List Sending) → waitpid number nohang (caller_of actor (state_of held actor.parts.now)) ≡ (if nohang then answers (pos 0) else refuses Wait)) →
+    TellsWait actor (not nohang) (effect_by actor (waitpid number nohang))
+running_told actor number true is = tells_made actor (effect_by actor (waitpid number true)) (λ held counted. made_of actor (answers (pos 0)) (is held) (λ rs. tt))
+running_told actor number false is = tells_wait actor (effect_by actor (waitpid number false)) (λ held counted. wait_of actor (is held))
 
 -- a signal that is not caught needs no frame
 pub usual_has_frame : (signo : ℕ) (me : Process) → false ≡ lacks_frame (disposition signo Usual) me

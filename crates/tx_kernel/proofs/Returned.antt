@@ -5,20 +5,23 @@ use Rattle.std.proofs.Math.ListN.{drop_of_length-le}
 use Rattle.std.proofs.lemmas.Bool.{le-ltb}
 use Rattle.std.proofs.lemmas.List.{length-take-le, append-nil}
 use Rattle.tx_base.specs.Signals.{bits_of}
+use Rattle.tx_base.specs.declared.errors.Errno.TheVariants.{InvalidArgument}
 use Rattle.tx_base.specs.declared.limits.TheConstants.{FRAMES}
 use Rattle.tx_base.specs.declared.signals.SigSet.{SigSet}
 use Rattle.tx_base.specs.declared.steps.Reply.TheVariants.{Done as TheDone}
 use Rattle.tx_change.specs.Laws.{HasPlaces}
 use Rattle.tx_change.specs.declared.change.Change.{Change}
 use Rattle.tx_change.specs.declared.change.Change.TheVariants.{Part as SetPart}
-use Rattle.tx_kernel.proofs.PartsOwned.{part_none, part_more}
-use Rattle.tx_kernel.specs.Actors.{me_of, IsActor}
+use Rattle.tx_kernel.proofs.PartsOwned.{own_same, part_none, part_more, part_same, part_whole}
+use Rattle.tx_kernel.proofs.Owned.{own_reply}
+use Rattle.tx_kernel.specs.Actors.{effect_by, me_of, IsActor}
 use Rattle.tx_kernel.specs.Own.{PlansOwn, PlansPart}
 use Rattle.tx_kernel.specs.Returns.{SlotsPut, with_slots}
 use Rattle.tx_kernel.specs.declared.actor.Actor.{Actor}
 use Rattle.tx_kernel.specs.declared.planned.Outcome.TheVariants.{Done}
-use Rattle.tx_model.specs.Effects.{Own}
-use Rattle.tx_model.specs.Signals.{newest, returns}
+use Rattle.tx_model.specs.Book.{sigreturn}
+use Rattle.tx_model.specs.Forms.{effect_of, fails, stands, ◌or◌}
+use Rattle.tx_model.specs.Signals.{newest, restored}
 use Rattle.tx_model.specs.State.{Frame, Process}
 use Rattle.tx_proc.specs.Parts.{frames_swapped}
 use Rattle.tx_proc.specs.Processes.{revised}
@@ -89,7 +92,7 @@ pub returned : (actor : Actor) (before put masked taken now : List Change) (fram
     PlansPart actor before put (with_slots frame.registers.slots) → masked ≡ put ++ SetPart actor.pid (SetMask mask) ∷ [] → taken ≡ masked ++ SetPart actor.pid (SetFrame none) ∷ [] →
     now ≡ taken ++ SetPart actor.pid (SetAnswer (record { point = frame.registers.point; ret = ret })) ∷ [] → bits_of mask ≡ frame.mask →
     newest actor.proc.now.frames ≡ Some frame → none ≡ None → length actor.proc.now.frames ≤ FRAMES →
-    PlansOwn actor before now (Done ret) (λ me. returns (newest me.frames) me)
+    PlansOwn actor before now (Done ret) (effect_by actor sigreturn)
 returned actor before put masked taken now frame mask none ret same slots first second last bits here out few =
     let me : Process = me_of actor in
     let slotted : Process → Process = with_slots frame.registers.slots in
@@ -98,15 +101,9 @@ returned actor before put masked taken now frame mask none ret same slots first 
     let two = part_more actor before masked taken (λ me. revised (SetMask mask) (slotted me)) (SetFrame none) one tt tt second in
     let three = part_more actor before taken now (λ me. revised (SetFrame none) (revised (SetMask mask) (slotted me))) (SetAnswer answer) two tt tt last in
     let rest : frames_swapped none me.frames ≡ take (length me.frames - 1) me.frames = ap (λ (x : Option Frame). frames_swapped x me.frames) out ∙ whole_frames me.frames few in
-    let rule : returns (newest me.frames) me ≡ returns (Some frame) me = ap (λ (x : Option Frame). returns x me) here in
-    record {
-      plan = three.plan;
-      added = three.added;
-      gives = record {
-        own = three.own;
-        nameless = three.nameless;
-        process = three.process ∙ (λ j. record me { registers = record { point = frame.registers.point; ret = same j; slots = frame.registers.slots }; mask = bits j; frames = rest j }) ∙ sym (ap (λ (own : Own). own.process) rule);
-        reply = ap TheDone same ∙ sym (ap (λ (own : Own). own.reply) rule);
-        shown = tt;
-      };
-    }
+    own_same actor before now (Done ret) (λ S. own_reply actor (Done ret) (record (restored frame me) { registers = record frame.registers { ret = ret } })) (effect_by actor sigreturn)
+    (part_whole actor before now (Done ret) (λ me. record (restored frame me) { registers = record frame.registers { ret = ret } })
+    (part_same actor before now _ (λ me. record (restored frame me) { registers = record frame.registers { ret = ret } }) three
+    (λ j. record me { registers = record { point = frame.registers.point; ret = ret; slots = frame.registers.slots }; mask = bits j; frames = rest j })) tt)
+    (λ S. (λ j. effect_of actor.pid.0 me (stands (record (restored frame me) { registers = record frame.registers { ret = same j } }) (TheDone (same j))))
+    ∙ sym (ap (λ (x : Option Frame). effect_of actor.pid.0 me ((x or fails InvalidArgument) (λ f. stands (restored f me) (TheDone f.registers.ret)))) here))

@@ -13,7 +13,7 @@ use Rattle.tx_change.specs.declared.change.Change.{Change}
 use Rattle.tx_change.specs.declared.change.Change.TheVariants.{Slot, Part, Description, Pipe}
 use Rattle.tx_change.specs.declared.parts.Parts.{Parts}
 use Rattle.tx_kernel.proofs.OwnPlans.{brings_append, own_named, own_brings, own_among}
-use Rattle.tx_kernel.specs.Actors.{me_of, inside_of, CountsHeld, IsActor}
+use Rattle.tx_kernel.specs.Actors.{effect_by, me_of, inside_of, CountsHeld, IsActor}
 use Rattle.tx_kernel.specs.Laws.{PlanLaws}
 use Rattle.tx_kernel.specs.Plans.{Plans, Gives, AreAmong, HasSignal, KeepsShown, conclusion_of, held_after, memory_in, reply_of, sending_of, sent_at_once}
 use Rattle.tx_kernel.specs.Posts.{IsSeen, PlansPost}
@@ -22,9 +22,11 @@ use Rattle.tx_kernel.specs.declared.actor.Actor.{Actor}
 use Rattle.tx_kernel.specs.declared.planned.Outcome.{Outcome}
 use Rattle.tx_kernel.specs.declared.planned.Sends.{Sends}
 use Rattle.tx_kernel.specs.declared.planned.Sends.TheVariants.{Nothing, AtOnce, AtCommit}
+use Rattle.tx_kernel.specs.Sends.{sent}
+use Rattle.tx_kernel.specs.declared.sends.Send.TheVariants.{Posts}
 use Rattle.tx_model.specs.Effects.{Conclusion, Effect, applied, before_sends, concluded, concluding_reply, send_answers}
 use Rattle.tx_model.specs.Effects as effects
-use Rattle.tx_model.specs.Posts.{answers, post, post_answer, posts, received}
+use Rattle.tx_model.specs.Posts.{answers, post, post_answer, posts, received, with_pending, with_queued}
 use Rattle.tx_base.specs.declared.names.Regs.{Regs}
 use Rattle.tx_change.specs.declared.change.Change.TheVariants.{Part as SetPart}
 use Rattle.tx_kernel.proofs.PostPlans.{seen_now}
@@ -33,8 +35,7 @@ use Rattle.tx_kernel.specs.Own.{answer_after}
 use Rattle.tx_kernel.specs.declared.planned.Outcome.TheVariants.{Done, Ended, Out}
 use Rattle.tx_model.specs.Effects.{next_point, noted_if}
 use Rattle.tx_model.specs.Memory.{Memory}
-use Rattle.tx_model.specs.Posts.{has_room, is_quiet, is_realtime, may_signal, with_pending, with_queued}
-use Rattle.tx_model.specs.Sends.{posts_now}
+use Rattle.tx_model.specs.Posts.{has_room, is_quiet, is_realtime, may_signal}
 use Rattle.tx_model.specs.StateLaws.{put_cases}
 use Rattle.tx_proc.specs.Processes.{process_in, revised}
 use Rattle.tx_proc.specs.declared.part.Part.TheVariants.{Answer as SetAnswer}
@@ -243,7 +244,7 @@ answered_at point ret (Some q) registers there stands =
 -- a signal that is posted, and then the answer of its post
 pub answered_step : (laws : PlanLaws) (actor : Actor) (before between now : List Change) (m : TheSending) (answer : Result (Unit {0}) Errno) (ret : ℤ)
     (rule : State → Effect) (objects : State → List Object) → IsActor actor → m.signo.0 < 64 →
-    ((held : ℕ → List Sending) → CountsHeld actor.inside held → rule (state_of held actor.parts.now) ≡ posts_now actor.pid.0 (sending_of m)) →
+    ((held : ℕ → List Sending) → CountsHeld actor.inside held → rule (state_of held actor.parts.now) ≡ effect_by actor (sent (Posts m)) (state_of held actor.parts.now)) →
     PlansPost actor.parts.now before between (sending_of m) answer → ret ≡ answer_of answer → now ≡ between ++ SetPart actor.pid (SetAnswer (answer_after ret actor)) ∷ [] →
     PlansStep actor before now (Done ret) (AtOnce m) rule objects
 unfolding posts written answers

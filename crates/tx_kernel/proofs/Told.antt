@@ -5,7 +5,7 @@ use Rattle.tx_kernel.specs.Plans.{held_after}
 use Rattle.tx_kernel.specs.declared.inside.Inside.{Inside}
 use Rattle.tx_kernel.specs.declared.planned.Sends.TheVariants as sends
 use Rattle.tx_base.specs.declared.names.Sending.{Sending}
-use Rattle.tx_model.specs.Processes.{telling, telling_by, told_at_commit, NotTold, AtOnce, AtCommit}
+use Rattle.tx_model.specs.Processes.{telling, NotTold, AtOnce, AtCommit, telling_by, told_at_commit}
 use Rattle.tx_model.specs.State.{State, written}
 
 -- process 1 is not told

@@ -1,5 +1,5 @@
 -- The wait for a child.
-use Rattle.std.proofs.Common.{◌≡◌, ◌≤◌, ℕ, zero, suc, Bool, true, false, List, [], ◌∷◌, ◌++◌, length, Option, Some, None, is_some, if◌then◌else◌, ◌==◌, ℤ, pos, negsuc, refl, ap, sym, subst, ◌∙◌, arith, append_assoc, FitsSigned, w64, to_z, of_z}
+use Rattle.std.proofs.Common.{◌≡◌, ◌≤◌, ℕ, zero, suc, Bool, true, false, not, List, [], ◌∷◌, ◌++◌, length, Option, Some, None, is_some, if◌then◌else◌, ◌==◌, ℤ, pos, negsuc, refl, ap, sym, subst, ◌∙◌, arith, append_assoc, FitsSigned, w64, to_z, of_z}
 use Rattle.std.proofs.lemmas.Int.{to_z-of_z}
 use Rattle.std.proofs.lemmas.Bool.{ltb-true}
 use Rattle.tx_base.specs.Slots.{slot_at}
@@ -12,8 +12,10 @@ use Rattle.tx_change.specs.declared.change.Change.TheVariants.{Slot, Part}
 use Rattle.tx_change.specs.declared.parts.Parts.{Parts}
 use Rattle.tx_desc.specs.Counts.{KeepsCounts}
 use Rattle.tx_desc.specs.Places.{Descriptors}
+use Rattle.tx_base.specs.declared.steps.Refusal.TheVariants.{Wait}
 use Rattle.tx_kernel.proofs.Beside.{beside_plans, plans_same, second-first}
-use Rattle.tx_kernel.specs.Actors.{me_of, IsActor}
+use Rattle.tx_kernel.proofs.PageLines.{finds, misses, passes}
+use Rattle.tx_kernel.specs.Actors.{caller_of, effect_by, me_of, names_by, IsActor}
 use Rattle.tx_kernel.specs.Laws.{PlanLaws}
 use Rattle.tx_kernel.specs.Own.{answer_after}
 use Rattle.tx_kernel.specs.Plans.{Plans, quiet}
@@ -22,11 +24,12 @@ use Rattle.tx_kernel.specs.declared.actor.Actor.{Actor}
 use Rattle.tx_kernel.specs.declared.planned.Outcome.TheVariants.{Done}
 use Rattle.tx_kernel.specs.declared.planned.Planned.{Planned}
 use Rattle.tx_kernel.specs.declared.trees.Child.{Child}
-use Rattle.tx_model.specs.Effects.{done}
-use Rattle.tx_model.specs.Numbers.{failing}
-use Rattle.tx_model.specs.Processes.{numbered, with_status, waits_by, waits_for, waits_at, waitpid_effect, waitpid_objects, numbered_objects}
-use Rattle.tx_model.specs.State.{Proc as TheProc, Process, Sending, is_between}
-use Rattle.tx_proc.specs.Processes.{process_in}
+use Rattle.tx_model.specs.BookLaws.{through_or, through_unless}
+use Rattle.tx_model.specs.Book.{waitpid}
+use Rattle.tx_model.specs.Forms.{Outcome, Rule, answers, changes, effect_of, fails, refuses}
+use Rattle.tx_model.specs.Processes.{numbered, with_status, waitpid_objects, numbered_objects}
+use Rattle.tx_model.specs.State.{Object, Proc as TheProc, Process, Sending, SetProc, State, is_between}
+use Rattle.tx_proc.specs.Processes.{process_in, process_of}
 use Rattle.tx_proc.specs.declared.part.Part.TheVariants.{Answer as SetAnswer, Register as SetRegister}
 use Rattle.tx_proc.specs.declared.proc.Proc.{Proc}
 
@@ -45,19 +48,24 @@ numbered-pid w t (pos n) e = by (is_between w n) refl e
 numbered-pid w t (negsuc n) e = cc
 
 -- no child has the number
-pub no_child : (p : ℕ) (t : Option ℕ) (nohang : Bool) (me : Process) (held : ℕ → List Sending) (parts : Parts) → child_at p parts.procs t ≡ None →
-    waits_at p t nohang me (state_of held parts) ≡ done p (failing NoChild) me
-no_child p None nohang me held parts none = refl
-no_child p (Some t) nohang me held parts none = by (slot_at parts.procs t) none
-  where
-    other : (b : Bool) (child : Child) (status : Option ℕ) → (if b then Some child else None) ≡ None →
-        (if b then waits_by p t nohang me status else done p (failing NoChild) me) ≡ done p (failing NoChild) me
-    other true child status e = cc
-    other false child status e = refl
+is_child : (p t : ℕ) (slot : Option Proc) (q : Process) → process_in slot ≡ Some q → (q.parent == p) ≡ true → None ≡ child_by p t slot → ⊥
+is_child p t None q there mine none = cc
+is_child p t (Some proc) q there mine none =
+    let one : Child = record { pid = record { 0 = t }; status = proc.status } in
+    let same : process_of proc ≡ q = cc in
+    let found : None ≡ Some one = none ∙ ap (λ (b : Bool). if b then Some one else None) (ap (λ (x : Process). x.parent == p) same ∙ mine) in
+    cc
 
-    by : (slot : Option Proc) → child_by p t slot ≡ None → waits_for p t nohang me (process_in slot) ≡ done p (failing NoChild) me
-    by None e = refl
-    by (Some proc) e = other (proc.parent.0 == p) (record { pid = record { 0 = t }; status = proc.status }) proc.status e
+pub no_child : (actor : Actor) (number : ℤ) (nohang : Bool) (held : ℕ → List Sending) → None ≡ child_at actor.pid.0 actor.parts.now.procs (numbered (length actor.parts.now.procs) number) →
+    waitpid number nohang (caller_of actor (state_of held actor.parts.now)) ≡ fails NoChild
+no_child actor number nohang held none =
+    let Fails : Outcome → Type 0 = λ o. o ≡ fails NoChild in
+    let procs : List (Option Proc) = actor.parts.now.procs in
+    let p : ℕ = actor.pid.0 in
+    through_or Fails (numbered (length procs) number) _ _ refl
+    λ t e. through_or Fails (process_in (slot_at procs t)) _ _ refl
+    λ q there. through_unless Fails (q.parent == p) _ _ (λ other. refl)
+    λ mine. absurd (is_child p t (slot_at procs t) q there mine (none ∙ ap (child_at p procs) e))
 
 -- a child has the number
 pub record IsChild (p : ℕ) (procs : List (Option Proc)) (t : Option ℕ) (child : Child) : Type 0 where
@@ -89,13 +97,24 @@ pub found_child : (p : ℕ) (procs : List (Option Proc)) (w : ℕ) (number : ℤ
 found_child p procs w number child fits found =
     a_child p procs (numbered w number) child (sym (subst (λ (z : ℤ). Some child ≡ child_at p procs (numbered w z)) (to_z-of_z w64 number fits) found))
 
-pub waits_is : (p : ℕ) (t : Option ℕ) (nohang : Bool) (me : Process) (held : ℕ → List Sending) (parts : Parts) (child : Child) → IsChild p parts.procs t child →
-    waits_at p t nohang me (state_of held parts) ≡ waits_by p child.pid.0 nohang me child.status
-waits_is p t nohang me held parts child is =
-    ap (λ (x : Option ℕ). waits_at p x nohang me (state_of held parts)) is.number
-    ∙ ap (λ (x : Option Proc). waits_for p child.pid.0 nohang me (process_in x)) is.there
-    ∙ ap (λ (b : Bool). if b then waits_by p child.pid.0 nohang me is.proc.status else done p (failing NoChild) me) is.parent
-    ∙ ap (λ (x : Option ℕ). waits_by p child.pid.0 nohang me x) is.status
+-- it ended, or it runs
+pub ended_is : (actor : Actor) (number : ℤ) (nohang : Bool) (held : ℕ → List Sending) (child : Child) (status : ℕ) →
+    IsChild actor.pid.0 actor.parts.now.procs (numbered (length actor.parts.now.procs) number) child → child.status ≡ Some status →
+    waitpid number nohang (caller_of actor (state_of held actor.parts.now)) ≡ changes (pos child.pid.0) (with_status status (me_of actor)) (SetProc child.pid.0 None ∷ [])
+ended_is actor number nohang held child status is ended =
+    finds (numbered (length actor.parts.now.procs) number) child.pid.0 _ _ is.number
+    ∙ finds (process_in (slot_at actor.parts.now.procs child.pid.0)) (process_of is.proc) _ _ (ap process_in is.there)
+    ∙ passes (not (is.proc.parent.0 == actor.pid.0)) _ _ (ap not is.parent)
+    ∙ finds is.proc.status status _ _ (is.status ∙ ended)
+
+pub running_is : (actor : Actor) (number : ℤ) (nohang : Bool) (held : ℕ → List Sending) (child : Child) →
+    IsChild actor.pid.0 actor.parts.now.procs (numbered (length actor.parts.now.procs) number) child → child.status ≡ None →
+    waitpid number nohang (caller_of actor (state_of held actor.parts.now)) ≡ (if nohang then answers (pos 0) else refuses Wait)
+running_is actor number nohang held child is runs =
+    finds (numbered (length actor.parts.now.procs) number) child.pid.0 _ _ is.number
+    ∙ finds (process_in (slot_at actor.parts.now.procs child.pid.0)) (process_of is.proc) _ _ (ap process_in is.there)
+    ∙ passes (not (is.proc.parent.0 == actor.pid.0)) _ _ (ap not is.parent)
+    ∙ misses is.proc.status _ _ (is.status ∙ runs)
 
 pub child_ended : (actor : Actor) (number : ℤ) (child : Child) (status : ℕ) → IsChild actor.pid.0 actor.parts.now.procs (numbered (length actor.parts.now.procs) number) child →
     child.status ≡ Some status → IsEndedChild actor child.pid.0 status
@@ -103,37 +122,37 @@ child_ended actor number child status is ended =
     let pid = numbered-pid (length actor.parts.now.procs) child.pid.0 number is.number in
     record { number = record { low = pid.0; high = pid.1 }; proc = is.proc; there = is.there; ended = is.status ∙ ended }
 
-pub failure_plans : (actor : Actor) (before now : List Change) (planned : Planned) (number : ℤ) (nohang : Bool) →
-    None ≡ child_at actor.pid.0 actor.parts.now.procs (numbered (length actor.parts.now.procs) number) →
-    Plans actor before now planned (λ S. done actor.pid.0 (failing NoChild) (me_of actor)) (λ S. waitpid_objects number S) →
-    Plans actor before now planned (λ S. waitpid_effect actor.pid.0 number nohang (me_of actor) S) (λ S. waitpid_objects number S)
-failure_plans actor before now planned number nohang none plans =
-    plans_same actor before now planned (λ S. done actor.pid.0 (failing NoChild) (me_of actor)) (λ S. waitpid_effect actor.pid.0 number nohang (me_of actor) S)
-    (λ S. waitpid_objects number S) (λ S. waitpid_objects number S)
-    (λ held counted. sym (no_child actor.pid.0 (numbered (length actor.parts.now.procs) number) nohang (me_of actor) held actor.parts.now (sym none)))
-    (λ held. refl) plans
+abbrev pub wait_names : Actor → ℤ → State → List Object
+wait_names actor number = names_by actor (λ c. waitpid_objects number c.state)
 
-pub wait_plans : (actor : Actor) (before now : List Change) (planned : Planned) (number : ℤ) (nohang : Bool) (child : Child) →
-    IsChild actor.pid.0 actor.parts.now.procs (numbered (length actor.parts.now.procs) number) child →
-    Plans actor before now planned (λ S. waits_by actor.pid.0 child.pid.0 nohang (me_of actor) child.status) (λ S. TheProc child.pid.0 ∷ []) →
-    Plans actor before now planned (λ S. waitpid_effect actor.pid.0 number nohang (me_of actor) S) (λ S. waitpid_objects number S)
-wait_plans actor before now planned number nohang child is plans =
-    plans_same actor before now planned (λ S. waits_by actor.pid.0 child.pid.0 nohang (me_of actor) child.status) (λ S. waitpid_effect actor.pid.0 number nohang (me_of actor) S)
-    (λ S. TheProc child.pid.0 ∷ []) (λ S. waitpid_objects number S)
-    (λ held counted. sym (waits_is actor.pid.0 (numbered (length actor.parts.now.procs) number) nohang (me_of actor) held actor.parts.now child is))
-    (λ held. ap numbered_objects (sym is.number)) plans
+-- what the page comes to is planned
+pub page_plans : (actor : Actor) (before now : List Change) (planned : Planned) (number : ℤ) (nohang : Bool) (outcome : Outcome) (objects : State → List Object) →
+    ((held : ℕ → List Sending) → waitpid number nohang (caller_of actor (state_of held actor.parts.now)) ≡ outcome) →
+    ((held : ℕ → List Sending) → objects (state_of held actor.parts.now) ≡ wait_names actor number (state_of held actor.parts.now)) →
+    Plans actor before now planned (λ S. effect_of actor.pid.0 (me_of actor) outcome) objects → Plans actor before now planned (effect_by actor (waitpid number nohang)) (wait_names actor number)
+page_plans actor before now planned number nohang outcome objects is names plans =
+    plans_same actor before now planned (λ S. effect_of actor.pid.0 (me_of actor) outcome) (effect_by actor (waitpid number nohang)) objects (wait_names actor number)
+    (λ held counted. sym (ap (effect_of actor.pid.0 (me_of actor)) (is held))) names plans
+
+pub child_names : (actor : Actor) (number : ℤ) (child : Child) (held : ℕ → List Sending) → IsChild actor.pid.0 actor.parts.now.procs (numbered (length actor.parts.now.procs) number) child →
+    TheProc child.pid.0 ∷ [] ≡ wait_names actor number (state_of held actor.parts.now)
+child_names actor number child held is = ap numbered_objects (sym is.number)
 
 -- the removal
 
 none_counted : (slot : Option Proc) (status : ℕ) (proc : Proc) → slot ≡ Some proc → proc.status ≡ Some status → counted_in slot ≡ []
 none_counted slot status proc there ended = ap counted_in there ∙ ap (λ (x : Option ℕ). if is_some x then [] else proc.descriptors) ended
 
-pub removal_plans : (laws : PlanLaws) (actor : Actor) (child : Pid) (status : ℕ) (nohang : Bool) (before first second now : List Change) → length actor.parts.now.descs ≡ 64 →
+-- the child is removed, and its status kept
+abbrev pub removes : ℕ → ℕ → Rule
+removes child status c = changes (pos child) (with_status status c.process) (SetProc child None ∷ [])
+
+pub removal_plans : (laws : PlanLaws) (actor : Actor) (child : Pid) (status : ℕ) (before first second now : List Change) → length actor.parts.now.descs ≡ 64 →
     IsActor actor → IsEndedChild actor child.0 status → first ≡ before ++ Slot child None ∷ [] →
     second ≡ first ++ Part actor.pid (SetRegister (record { number = 0; value = pos status })) ∷ [] →
     now ≡ second ++ Part actor.pid (SetAnswer (answer_after (pos child.0) actor)) ∷ [] →
-    Plans actor before now (quiet (Done (pos child.0))) (λ S. waits_by actor.pid.0 child.0 nohang (me_of actor) (Some status)) (λ S. TheProc child.0 ∷ [])
-removal_plans laws actor child status nohang before first second now sized is ended one two three =
+    Plans actor before now (quiet (Done (pos child.0))) (effect_by actor (removes child.0 status)) (λ S. TheProc child.0 ∷ [])
+removal_plans laws actor child status before first second now sized is ended one two three =
     let parts : Parts = actor.parts.now in
     let kept : Change = Part actor.pid (SetRegister (record { number = 0; value = pos status })) in
     let answer : Change = Part actor.pid (SetAnswer (answer_after (pos child.0) actor)) in

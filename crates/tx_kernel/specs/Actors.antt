@@ -9,10 +9,11 @@ use Rattle.tx_change.specs.declared.parts.Parts.{Parts}
 use Rattle.tx_laws.specs.WellFormed.{IsWellFormed}
 use Rattle.tx_kernel.specs.declared.actor.Actor.{Actor}
 use Rattle.tx_kernel.specs.declared.inside.Inside.{Inside}
-use Rattle.tx_model.specs.Effects.{Inside as TheInside}
+use Rattle.tx_model.specs.Effects.{Effect, Inside as TheInside}
+use Rattle.tx_model.specs.Forms.{Caller, Rule, effect_of}
 use Rattle.tx_model.specs.Membership.{is_of}
-use Rattle.tx_model.specs.Sends.{sent_by_members}
-use Rattle.tx_model.specs.State.{Process, Sending}
+use Rattle.tx_model.specs.Book.{sent_by_members}
+use Rattle.tx_model.specs.State.{Object, Process, Sending, State}
 use Rattle.tx_proc.specs.Processes.{process_of}
 
 -- the transaction, as the definitions have it
@@ -49,3 +50,14 @@ pub record IsActor (actor : Actor) : Type 0 where
 -- the process, as the definitions have it
 abbrev pub me_of : Actor → Process
 me_of actor = process_of actor.proc.now
+
+-- the process as the caller of the rules, in a state
+abbrev pub caller_of : Actor → State → Caller
+caller_of actor S = record { number = actor.pid.0; process = me_of actor; inside = inside_of actor.inside; state = S }
+
+-- what a rule does of it, and what a call of it names beside its process
+abbrev pub effect_by : Actor → Rule → State → Effect
+effect_by actor rule S = effect_of actor.pid.0 (me_of actor) (rule (caller_of actor S))
+
+abbrev pub names_by : Actor → (Caller → List Object) → State → List Object
+names_by actor names S = names (caller_of actor S)

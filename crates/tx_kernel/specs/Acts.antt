@@ -17,9 +17,9 @@ use Rattle.tx_kernel.specs.declared.events.Act.TheVariants.{Call, Delivery, Answ
 use Rattle.tx_kernel.specs.declared.actor.Actor.{Actor}
 use Rattle.tx_kernel.specs.declared.inside.Inside.{Inside}
 use Rattle.tx_kernel.specs.declared.planned.Planned.{Planned}
-use Rattle.tx_model.specs.Calls.{Act, effect_at}
 use Rattle.tx_model.specs.Effects.{Effect, Inside as TheInside}
 use Rattle.tx_model.specs.Events.{Event, Do, Note, effect, objects}
+use Rattle.tx_model.specs.Calls.{effect_at, Act}
 use Rattle.tx_model.specs.State.{Sending, State}
 
 -- the rule of what the process of a number does, and what it reads and writes

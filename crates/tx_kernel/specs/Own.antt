@@ -10,8 +10,8 @@ use Rattle.tx_kernel.specs.Actors.{me_of}
 use Rattle.tx_kernel.specs.Plans.{KeepsShown, reply_of}
 use Rattle.tx_kernel.specs.declared.actor.Actor.{Actor}
 use Rattle.tx_kernel.specs.declared.planned.Outcome.{Outcome}
-use Rattle.tx_model.specs.Effects.{Own, next_point}
-use Rattle.tx_model.specs.State.{Process}
+use Rattle.tx_model.specs.Effects.{Effect, next_point, own_effect}
+use Rattle.tx_model.specs.State.{Process, State}
 use Rattle.tx_pages.specs.declared.plans.NewPage.{NewPage}
 use Rattle.tx_proc.specs.declared.part.Answer.{Answer}
 use Rattle.tx_proc.specs.declared.part.Part.TheVariants.{Page}
@@ -19,14 +19,6 @@ use Rattle.tx_proc.specs.declared.part.Part.TheVariants.{Page}
 -- the answer at the next point
 abbrev pub answer_after : ℤ → Actor → Answer
 answer_after ret actor = record { point = next_point actor.proc.now.regs.point; ret = ret }
-
--- changes of parts of the process that make of it what the rule makes of it, and an answer that is the rule's
-pub record GivesOwn (actor : Actor) (plan : List Change) (outcome : Outcome) (rule : Own) : Type 0 where
-  pub own : AreOf actor.pid.0 plan
-  pub nameless : AreNameless plan
-  pub process : revised_by plan (me_of actor) ≡ rule.process
-  pub reply : reply_of (me_of actor).memory outcome ≡ rule.reply
-  pub shown : KeepsShown outcome (me_of actor).memory rule.process.memory
 
 -- a log that has changes of parts of the process at its end now that make this of it
 pub record PlansPart (actor : Actor) (before now : List Change) (rule : Process → Process) : Type 0 where
@@ -36,11 +28,15 @@ pub record PlansPart (actor : Actor) (before now : List Change) (rule : Process 
   pub nameless : AreNameless plan
   pub process : revised_by plan (me_of actor) ≡ rule (me_of actor)
 
--- a log that has such a plan at its end now
-pub record PlansOwn (actor : Actor) (before now : List Change) (outcome : Outcome) (rule : Process → Own) : Type 0 where
+-- a log that has at its end now changes of parts of the process alone: in every state the rule makes of it what they make of
+-- it, and answers so
+pub record PlansOwn (actor : Actor) (before now : List Change) (outcome : Outcome) (rule : State → Effect) : Type 0 where
   pub plan : List Change
   pub added : now ≡ before ++ plan
-  pub gives : GivesOwn actor plan outcome (rule (me_of actor))
+  pub own : AreOf actor.pid.0 plan
+  pub nameless : AreNameless plan
+  pub effect : (S : State) → rule S ≡ own_effect actor.pid.0 (record { process = revised_by plan (me_of actor); reply = reply_of (me_of actor).memory outcome })
+  pub shown : KeepsShown outcome (me_of actor).memory (revised_by plan (me_of actor)).memory
 
 -- the change that puts a new page in place
 abbrev pub page_change : Pid → NewPage → Change

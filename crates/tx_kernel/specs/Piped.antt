@@ -1,5 +1,5 @@
 -- What reads and writes come to.
-use Rattle.std.specs.Prelude.{take, drop, map, ◌≡◌, ◌≤◌, ◌+◌, ◌++◌, ℕ, ℤ, pos, true, List, [], ◌∷◌, Option, Some, None, Result, Ok, Err, if◌then◌else◌, length, nat_lt, false, slice_index_or}
+use Rattle.std.specs.Prelude.{take, drop, map, ◌≡◌, ◌≢◌, ◌≤◌, ◌+◌, ◌++◌, ℕ, ℤ, pos, true, List, [], ◌∷◌, Option, Some, None, Result, Ok, Err, if◌then◌else◌, length, nat_lt, false, slice_index_or}
 use Rattle.tx_pages.specs.declared.plans.NewPage.{NewPage}
 use Rattle.tx_pages.specs.Outcomes.{with_pages, AreNumbered}
 use Rattle.tx_kernel.specs.Own.{page_change}
@@ -15,11 +15,12 @@ use Rattle.tx_base.specs.declared.names.Sending.{Sending}
 use Rattle.tx_base.specs.declared.signals.TheConstants.{SIGPIPE}
 use Rattle.tx_base.specs.declared.steps.Refusal.TheVariants.{Wait}
 use Rattle.tx_change.specs.Exchange.{pipe_at}
-use Rattle.tx_desc.specs.Descriptions.{end_for, side_test}
+use Rattle.tx_change.specs.States.{state_of}
+use Rattle.tx_desc.specs.Descriptions.{description_of, end_for, side_test}
 use Rattle.tx_desc.specs.declared.opened.Desc.{Desc}
 use Rattle.tx_desc.specs.declared.opened.Opened.{Opened}
 use Rattle.tx_desc.specs.declared.opened.Side.{Side}
-use Rattle.tx_kernel.specs.Actors.{me_of}
+use Rattle.tx_kernel.specs.Actors.{caller_of, me_of}
 use Rattle.tx_kernel.specs.declared.actor.Actor.{Actor}
 use Rattle.tx_kernel.specs.declared.planned.Outcome.TheVariants.{Done}
 use Rattle.tx_kernel.specs.declared.planned.Planned.{Planned}
@@ -27,11 +28,11 @@ use Rattle.tx_kernel.specs.declared.planned.Sends.TheVariants.{AtOnce}
 use Rattle.tx_kernel.specs.declared.transfers.Reading.TheVariants as reading
 use Rattle.tx_kernel.specs.declared.transfers.Writing.{Writing}
 use Rattle.tx_kernel.specs.declared.transfers.Writing.TheVariants as writing
-use Rattle.tx_model.specs.Effects.{Effect, done, done_with, idle}
-use Rattle.tx_model.specs.Memory.{stored, address_of, bytes_at, is_good, is_mapped}
-use Rattle.tx_model.specs.Numbers.{failing}
-use Rattle.tx_model.specs.State.{State, SetPipe}
-use Rattle.tx_model.specs.Transfers.{breaks, bytes_in}
+use Rattle.tx_model.specs.Book.{end_at as end_in, breaks, bytes_in, is_read_side}
+use Rattle.tx_model.specs.Forms.{Caller, Rule, answers, changes, does, fails, refuses}
+use Rattle.tx_model.specs.Memory.{stored, address_of, bytes_at, is_good, is_mapped, is_writable}
+use Rattle.tx_model.specs.Numbers.{below, failing}
+use Rattle.tx_model.specs.State.{Sending as TheSending, SetPipe}
 
 -- what the description has that a descriptor names, if it names one
 abbrev pub opened_at : List (Option Opened) → Option ℕ → Option Opened
@@ -47,14 +48,18 @@ end_at side (Some opened) = if side_test side (end_for opened.desc.side) then Ok
 abbrev pub held_in : Actor → PipeNo → List ℕ
 held_in actor pipe = bytes_in (pipe_at actor.parts.now.pipes pipe.0)
 
--- what is done by a write that comes to this
-abbrev pub writing_effect : Actor → ℤ → Result Writing Errno → State → Effect
-writing_effect actor address (Err errno) S = done actor.pid.0 (failing errno) (me_of actor)
-writing_effect actor address (Ok writing.Nothing) S = done actor.pid.0 (pos 0) (me_of actor)
-writing_effect actor address (Ok writing.Breaks) S = breaks actor.pid.0 (me_of actor)
-writing_effect actor address (Ok writing.Waits) S = idle Wait
-writing_effect actor address (Ok (writing.Puts pipe n)) S =
-    done_with (SetPipe pipe.0 (Some (bytes_in (S.pipes pipe.0) ++ bytes_at (me_of actor).memory (address_of address) n)) ∷ []) actor.pid.0 (pos n) (me_of actor)
+-- the process as the caller, in the state that its parts mean
+abbrev pub calling : Actor → (ℕ → List TheSending) → Caller
+calling actor held = caller_of actor (state_of held actor.parts.now)
+
+-- what a write comes to
+abbrev pub writing_outcome : ℤ → Result Writing Errno → Rule
+writing_outcome address (Err errno) c = fails errno
+writing_outcome address (Ok writing.Nothing) c = answers (pos 0)
+writing_outcome address (Ok writing.Breaks) c = does (breaks c.number c.process)
+writing_outcome address (Ok writing.Waits) c = refuses Wait
+writing_outcome address (Ok (writing.Puts pipe n)) c =
+    changes (pos n) c.process (SetPipe pipe.0 (Some (bytes_in (c.state.pipes pipe.0) ++ bytes_at c.process.memory (address_of address) n)) ∷ [])
 
 -- the bytes that a write puts are there, and there is room for them in the pipe
 pub record CanPut (actor : Actor) (address : ℤ) (pipe : PipeNo) (n : ℕ) : Type 0 where
@@ -103,14 +108,21 @@ broken_sending actor = record { target = actor.pid; signo = SIGPIPE; value = pos
 abbrev pub broken : Actor → Planned
 broken actor = record { outcome = Done (failing BrokenPipe); sends = AtOnce (broken_sending actor) }
 
--- what is done by a read that comes to this
-abbrev pub reading_effect : Actor → ℤ → Result Reading Errno → State → Effect
-reading_effect actor address (Err errno) S = done actor.pid.0 (failing errno) (me_of actor)
-reading_effect actor address (Ok reading.Nothing) S = done actor.pid.0 (pos 0) (me_of actor)
-reading_effect actor address (Ok reading.Waits) S = idle Wait
-reading_effect actor address (Ok (reading.Takes pipe n)) S =
-    done_with (SetPipe pipe.0 (Some (drop n (bytes_in (S.pipes pipe.0)))) ∷ []) actor.pid.0 (pos n)
-    (record (me_of actor) { memory = stored (me_of actor).memory (address_of address) (take n (bytes_in (S.pipes pipe.0))) })
+-- what a read comes to
+abbrev pub reading_outcome : ℤ → Result Reading Errno → Rule
+reading_outcome address (Err errno) c = fails errno
+reading_outcome address (Ok reading.Nothing) c = answers (pos 0)
+reading_outcome address (Ok reading.Waits) c = refuses Wait
+reading_outcome address (Ok (reading.Takes pipe n)) c =
+    let held = bytes_in (c.state.pipes pipe.0) in
+    changes (pos n) (record c.process { memory = stored c.process.memory (address_of address) (take n held) }) (SetPipe pipe.0 (Some (drop n held)) ∷ [])
+
+-- a read from such a descriptor is one from the description, of so many bytes that may be put at the address
+pub record AsksFor (actor : Actor) (desc : Desc) (n : ℕ) (fd address count : ℤ) (held : ℕ → List TheSending) : Type 0 where
+  pub end : end_in is_read_side fd (calling actor held) ≡ Some (description_of desc)
+  pub number : below 513 count ≡ Some n
+  pub some : n ≢ 0
+  pub good : is_good is_writable (me_of actor).memory address n ≡ true
 
 -- the pipe holds the bytes that a read takes
 pub record CanTake (actor : Actor) (pipe : PipeNo) (n : ℕ) : Type 0 where

@@ -1,9 +1,9 @@
 -- What a call that sends a signal comes to.
-use Rattle.std.specs.Prelude.{◌≡◌, ℕ, List, [], ◌∷◌, ◌++◌, pos, Option, Some, None}
+use Rattle.std.specs.Prelude.{◌≡◌, ℕ, ℤ, List, length, [], ◌∷◌, ◌++◌, pos, Option, Some, None}
 use Rattle.tx_base.specs.declared.names.Sending.{Sending}
 use Rattle.tx_change.specs.States.{state_of}
 use Rattle.tx_change.specs.declared.change.Change.{Change}
-use Rattle.tx_kernel.specs.Actors.{CountsHeld, inside_of}
+use Rattle.tx_kernel.specs.Actors.{CountsHeld, effect_by, inside_of, me_of}
 use Rattle.tx_kernel.specs.Plans.{held_after, sending_of, sent_at_once}
 use Rattle.tx_kernel.specs.Steps.{PlansStep}
 use Rattle.tx_kernel.specs.declared.actor.Actor.{Actor}
@@ -12,19 +12,28 @@ use Rattle.tx_kernel.specs.declared.sends.Send.{Send}
 use Rattle.tx_kernel.specs.declared.sends.Send.TheVariants.{Answers, Posts, Holds}
 use Rattle.tx_kernel.specs.declared.planned.Sends.{Sends}
 use Rattle.tx_kernel.specs.declared.planned.Sends.TheVariants.{Nothing, AtOnce, AtCommit}
-use Rattle.tx_model.specs.Effects.{Effect, Inside, before_sends, done, done_with}
-use Rattle.tx_model.specs.Sends.{posts_now}
-use Rattle.tx_model.specs.State.{Object, Process, Sending as TheSending, State, Write, SetHeld}
+use Rattle.tx_model.specs.Effects.{Effect, Inside, before_sends}
+use Rattle.tx_model.specs.Forms.{Rule, answers, changes, posts}
+use Rattle.tx_model.specs.Processes.{numbered}
+use Rattle.tx_model.specs.Book.{sendable, sent_by}
+use Rattle.tx_model.specs.State.{Object, Sending as TheSending, State, Write, SetHeld}
 
 -- what is handed out is held
 abbrev pub holds_more : Option Inside → TheSending → State → List Write
 holds_more None m S = []
 holds_more (Some inside) m S = SetHeld inside.starter (S.held inside.starter ++ m ∷ []) ∷ []
 
-abbrev pub sent_effect : ℕ → Option Inside → Process → Send → State → Effect
-sent_effect p inside me (Answers ret) S = done p ret me
-sent_effect p inside me (Posts m) S = posts_now p (sending_of m)
-sent_effect p inside me (Holds m) S = done_with (holds_more inside (sending_of m) S) p (pos 0) me
+-- what a call comes to that sends so
+abbrev pub sent : Send → Rule
+sent (Answers ret) c = answers ret
+sent (Posts m) c = posts (sending_of m)
+sent (Holds m) c = changes (pos 0) c.process (holds_more c.inside (sending_of m) c.state)
+
+-- the signal is what a sigqueue hands out, at its line
+pub record IsHandedOut (actor : Actor) (m : Sending) (target signo value : ℤ) : Type 0 where
+  pub signal : sendable signo ≡ Some m.signo.0
+  pub number : numbered (length actor.parts.now.procs) target ≡ Some m.target.0
+  pub sending : sending_of m ≡ sent_by (me_of actor) m.target.0 m.signo.0 value
 
 -- the signal that it sends
 abbrev pub sends_by : Send → Sends
@@ -41,5 +50,5 @@ pub record IsSentBy (actor : Actor) (sends : Sends) (rule : State → Effect) : 
 -- a log that has a post at its end now, and the answer of it as that of the process: whatever the rule, if it posts this
 pub record PlansPosted (actor : Actor) (before now : List Change) (m : Sending) (outcome : Outcome) : Type 0 where
   pub plans : (rule : State → Effect) (objects : State → List Object) →
-      ((held : ℕ → List TheSending) → CountsHeld actor.inside held → rule (state_of held actor.parts.now) ≡ posts_now actor.pid.0 (sending_of m)) →
+      ((held : ℕ → List TheSending) → CountsHeld actor.inside held → rule (state_of held actor.parts.now) ≡ effect_by actor (sent (Posts m)) (state_of held actor.parts.now)) →
       PlansStep actor before now outcome (AtOnce m) rule objects

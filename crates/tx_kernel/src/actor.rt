@@ -3,9 +3,9 @@ ghost use Rattle.std.specs.Prelude.{◌≡◌, ℕ, List, IfOk, IfErr};
 ghost use Rattle.tx_change.specs.States.{state_of};
 ghost use Rattle.tx_kernel.specs.Actors.{IsActor, IsWhole, inside_of};
 ghost use Rattle.tx_kernel.specs.Acts.{act_rule};
-ghost use Rattle.tx_model.specs.Calls.{Act};
 ghost use Rattle.tx_model.specs.Effects.{idle};
 ghost use Rattle.tx_model.specs.State.{Sending};
+ghost use Rattle.tx_model.specs.Calls.{Act};
 
 use crate::inside::Inside;
 use tx_base::{Pid, Refusal};

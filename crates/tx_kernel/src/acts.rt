@@ -5,8 +5,8 @@ ghost use Rattle.tx_kernel.specs.Actors.{IsWhole, inside_of};
 ghost use Rattle.tx_kernel.specs.Acts.{Makes, RefusesAct};
 ghost use Rattle.tx_kernel.specs.Plans.{ChoosesBadly};
 ghost use Rattle.tx_model.specs.Answer.{chosen_in};
-ghost use Rattle.tx_model.specs.Calls.{MakesCall, TakesSignal};
 ghost use Rattle.tx_model.specs.Events.{Do};
+ghost use Rattle.tx_model.specs.Calls.{MakesCall, TakesSignal};
 
 use crate::actor::Actor;
 use crate::inside::Inside;

@@ -3,10 +3,10 @@ ghost use Rattle.std.specs.Prelude.{◌≡◌, ◌++◌, ◌∷◌, [], List, If
 ghost use Rattle.tx_base.specs.Errors.{error_number};
 ghost use Rattle.tx_base.specs.declared.steps.Refusal.TheVariants as refusal;
 ghost use Rattle.tx_change.specs.declared.change.Change.TheVariants.{Part as SetPart};
-ghost use Rattle.tx_kernel.specs.Actors.{IsActor, me_of};
+ghost use Rattle.tx_kernel.specs.Actors.{IsActor, effect_by};
 ghost use Rattle.tx_kernel.specs.Own.{PlansOwn, answer_after};
 ghost use Rattle.tx_kernel.specs.Plans.{Plans};
-ghost use Rattle.tx_model.specs.Effects.{answers_with, done};
+ghost use Rattle.tx_model.specs.Forms.{answers, fails};
 ghost use Rattle.tx_model.specs.Numbers.{failing};
 ghost use Rattle.tx_signal.specs.Parts.{answer_of};
 ghost use Rattle.tx_model.specs.State.{Object, State};
@@ -55,7 +55,8 @@ impl Actor<'_> {
 
     /// Plans an answer, and nothing else. After want of memory the log is as it was.
     pub(crate) fn plan_answer(&self, ret: i64, log: &mut Log) -> Result<Outcome, NoMemory>
-        ensures ok { IfOk result (λ outcome. PlansOwn self.now log.old log.new outcome (answers_with ret)) }
+        ensures ok { IfOk result (λ outcome. PlansOwn self.now log.old log.new outcome
+            (effect_by self.now (λ c. answers ret))) }
         ensures err { OnErr result (log.new ≡ log.old) }
     {
         self.push_answer(ret, log)?;
@@ -64,7 +65,8 @@ impl Actor<'_> {
 
     /// Plans an error as the answer, and nothing else. After want of memory the log is as it was.
     pub(crate) fn plan_error(&self, errno: Errno, log: &mut Log) -> Result<Outcome, NoMemory>
-        ensures ok { IfOk result (λ outcome. PlansOwn self.now log.old log.new outcome (answers_with (failing errno))) }
+        ensures ok { IfOk result (λ outcome. PlansOwn self.now log.old log.new outcome
+            (effect_by self.now (λ c. fails errno))) }
         ensures err { OnErr result (log.new ≡ log.old) }
     {
         self.plan_answer(failing(errno), log)
@@ -74,7 +76,8 @@ impl Actor<'_> {
     /// as it was.
     pub(crate) fn plan_done(&self, ret: i64, log: &mut Log) -> Result<Planned, Refusal>
         requires { IsActor self.now }
-        ensures ok { IfOk result (λ planned. (objects : State → List Object) → Plans self.now log.old log.new planned (λ S. done self.now.pid.0 ret (me_of self.now)) objects) }
+        ensures ok { IfOk result (λ planned. (objects : State → List Object) → Plans self.now log.old log.new planned
+            (effect_by self.now (λ c. answers ret)) objects) }
         ensures refused { IfErr result (λ why. why ≡ refusal.NoMemory) }
         ensures log { OnErr result (log.new ≡ log.old) }
     {
@@ -88,7 +91,8 @@ impl Actor<'_> {
     /// the log is as it was.
     pub(crate) fn plan_failure(&self, errno: Errno, log: &mut Log) -> Result<Planned, Refusal>
         requires { IsActor self.now }
-        ensures ok { IfOk result (λ planned. (objects : State → List Object) → Plans self.now log.old log.new planned (λ S. done self.now.pid.0 (failing errno) (me_of self.now)) objects) }
+        ensures ok { IfOk result (λ planned. (objects : State → List Object) → Plans self.now log.old log.new planned
+            (effect_by self.now (λ c. fails errno)) objects) }
         ensures refused { IfErr result (λ why. why ≡ refusal.NoMemory) }
         ensures log { OnErr result (log.new ≡ log.old) }
     {

@@ -1,13 +1,14 @@
 //! The plan of any call, by its kind.
-ghost use Rattle.std.specs.Prelude.{◌≡◌, ◌⊎◌, IfOk, IfErr, OnErr};
-ghost use Rattle.tx_kernel.specs.Actors.{IsActor, inside_of, me_of};
-ghost use Rattle.tx_kernel.specs.Calls.{any_effect, any_objects, common_effect, common_objects, own_rule};
+ghost use Rattle.std.specs.Prelude.{◌≡◌, ◌⊎◌, true, false, IfOk, IfErr, OnErr};
+ghost use Rattle.tx_kernel.specs.Actors.{IsActor, effect_by, inside_of, me_of, names_by};
+ghost use Rattle.tx_kernel.specs.Calls.{concerns_itself_alone, sends_on_demand};
 ghost use Rattle.tx_kernel.specs.Own.{PlansOwn};
 ghost use Rattle.tx_kernel.specs.Plans.{Extends, IsBadChoice, IsGoodChoice, Plans, RefusedBy};
 ghost use Rattle.tx_kernel.specs.Steps.{PlansStep};
 ghost use Rattle.tx_model.specs.Answer.{chosen_in};
 ghost use Rattle.tx_model.specs.Calls.{call_effect, call_objects};
 ghost use Rattle.tx_model.specs.Deliveries.{delivery_effect, delivery_objects};
+ghost use Rattle.tx_model.specs.Book.{page_of_call};
 
 use crate::actor::Actor;
 use crate::laws::laws;
@@ -20,7 +21,9 @@ impl Actor<'_> {
     /// Plans a call that concerns its own process alone. A call of transactions answers EINVAL.
     fn plan_own(&self, alloc: Global, call: &Call, log: &mut Log) -> Result<Outcome, NoMemory>
         requires { IsActor self.now }
-        ensures ok { IfOk result (λ outcome. PlansOwn self.now log.old log.new outcome (own_rule (inside_of self.now.inside) self.now.pid.0 call.now)) }
+        ensures ok { concerns_itself_alone call.now ≡ true →
+            IfOk result (λ outcome. PlansOwn self.now log.old log.new outcome
+            (effect_by self.now (page_of_call call.now).outcome)) }
         ensures log { OnErr result (Extends log.old log.new) }
     {
         match call {
@@ -51,9 +54,13 @@ impl Actor<'_> {
     /// Refuses as the call's own plan does. A refusal may leave more in the log.
     fn plan_common(&self, alloc: Global, call: &Call, log: &mut Log) -> Result<Planned, Refusal>
         requires { IsActor self.now }
-        ensures ok { IfOk result (λ planned. Plans self.now log.old log.new planned
-            (λ S. common_effect (inside_of self.now.inside) self.now.pid.0 call.now (me_of self.now) S) (λ S. common_objects (inside_of self.now.inside) call.now self.now.pid.0 (me_of self.now) S)) }
-        ensures refused { IfErr result (λ why. RefusedBy self.now why (λ S. common_effect (inside_of self.now.inside) self.now.pid.0 call.now (me_of self.now) S) ⊎ IsBadChoice self.now why (chosen_in call.now)) }
+        ensures ok { sends_on_demand call.now ≡ false →
+            IfOk result (λ planned. Plans self.now log.old log.new planned
+            (effect_by self.now (page_of_call call.now).outcome)
+            (names_by self.now (page_of_call call.now).names)) }
+        ensures refused { IfErr result (λ why.
+            RefusedBy self.now why (effect_by self.now (page_of_call call.now).outcome)
+            ⊎ IsBadChoice self.now why (chosen_in call.now)) }
         ensures numbers { IfOk result (λ planned. IsGoodChoice self.now (chosen_in call.now)) }
         ensures log { OnErr result (Extends log.old log.new) }
     {
@@ -81,8 +88,11 @@ impl Actor<'_> {
     fn plan_any(&self, alloc: Global, call: &Call, log: &mut Log) -> Result<Planned, Refusal>
         requires { IsActor self.now }
         ensures ok { IfOk result (λ planned. PlansStep self.now log.old log.new planned.outcome planned.sends
-            (λ S. any_effect (inside_of self.now.inside) self.now.pid.0 call.now (me_of self.now) S) (λ S. any_objects (inside_of self.now.inside) call.now self.now.pid.0 (me_of self.now) S)) }
-        ensures refused { IfErr result (λ why. RefusedBy self.now why (λ S. any_effect (inside_of self.now.inside) self.now.pid.0 call.now (me_of self.now) S) ⊎ IsBadChoice self.now why (chosen_in call.now)) }
+            (effect_by self.now (page_of_call call.now).outcome)
+            (names_by self.now (page_of_call call.now).names)) }
+        ensures refused { IfErr result (λ why.
+            RefusedBy self.now why (effect_by self.now (page_of_call call.now).outcome)
+            ⊎ IsBadChoice self.now why (chosen_in call.now)) }
         ensures numbers { IfOk result (λ planned. IsGoodChoice self.now (chosen_in call.now)) }
         ensures log { OnErr result (Extends log.old log.new) }
     {

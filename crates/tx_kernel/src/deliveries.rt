@@ -1,10 +1,11 @@
 //! The delivery of a pending signal (POSIX.1-2017, XSH, Signal Generation and Delivery).
 ghost use Rattle.std.specs.Prelude.{◌≡◌, ◌≢◌, ◌<◌, false, [], if◌then◌else◌, IfOk, IfErr, OnOk, OnErr};
 ghost use Rattle.tx_base.specs.declared.steps.Reply.TheVariants as reply;
-ghost use Rattle.tx_kernel.specs.Actors.{IsActor, inside_of, me_of};
+ghost use Rattle.tx_kernel.specs.Actors.{IsActor, effect_by, inside_of, me_of};
 ghost use Rattle.tx_kernel.specs.Own.{PlansOwn, PlansPart};
 ghost use Rattle.tx_kernel.specs.Plans.{Extends, Plans, RefusedBy};
-ghost use Rattle.tx_model.specs.Deliveries.{action_at, acts_on, caught, delivery_effect, delivery_objects, is_deferred, is_fatal, is_full, relieved};
+ghost use Rattle.tx_model.specs.Deliveries.{action_at, caught, is_deferred, relieved, delivery_effect, delivery_objects, is_fatal, is_full, acts_on};
+ghost use Rattle.tx_model.specs.Forms.{stands};
 ghost use Rattle.tx_model.specs.Processes.{ending_objects};
 ghost use Rattle.tx_model.specs.Signals.{disposition};
 
@@ -102,7 +103,9 @@ impl Actor<'_> {
 
     /// Plans the delivery of a signal that is ignored: it is pending no more, and that is all.
     fn plan_ignored(&self, signo: Signo, log: &mut Log) -> Result<Outcome, NoMemory>
-        ensures ok { IfOk result (λ outcome. PlansOwn self.now log.old log.new outcome (λ me. record { process = relieved signo.0 me; reply = reply.Done me.registers.ret })) }
+        ensures ok { IfOk result (λ outcome. PlansOwn self.now log.old log.new outcome
+            (effect_by self.now (λ c. stands
+            (relieved signo.0 c.process) (reply.Done c.process.registers.ret)))) }
         ensures err { OnErr result (log.new ≡ log.old) }
     {
         self.push_relieved(signo, log)?;
@@ -120,7 +123,9 @@ impl Actor<'_> {
     ) -> Result<Outcome, NoMemory>
         requires number { signo.0 < 64 }
         requires room { is_full (me_of self.now) ≡ false }
-        ensures ok { IfOk result (λ outcome. PlansOwn self.now log.old log.new outcome (λ me. record { process = caught signo.0 catch.value catch.point catch.mask (relieved signo.0 me); reply = reply.Done catch.value })) }
+        ensures ok { IfOk result (λ outcome. PlansOwn self.now log.old log.new outcome
+            (effect_by self.now (λ c. stands
+            (caught signo.0 catch.value catch.point catch.mask (relieved signo.0 c.process)) (reply.Done catch.value)))) }
         ensures err { OnErr result (Extends log.old log.new) }
     {
         let Catch { point, mask, value } = catch;

@@ -3,11 +3,12 @@ ghost use Rattle.std.specs.Prelude.{◌≡◌, ◌<◌, ◌⊎◌, ◌++◌, ◌
 ghost use Rattle.tx_change.specs.Counts.{name_changes, desc_changes};
 ghost use Rattle.tx_change.specs.States.{state_of};
 ghost use Rattle.tx_desc.specs.Plans.{AreFds, AreNumbers, put_descs, rename_puts};
-ghost use Rattle.tx_kernel.specs.Actors.{IsActor, me_of};
+ghost use Rattle.tx_kernel.specs.Actors.{IsActor, effect_by, names_by};
 ghost use Rattle.tx_kernel.specs.Named.{described_by, endless_changes, gone_of, pipe_changes, rename_changes, slot_change};
 ghost use Rattle.tx_kernel.specs.Plans.{Plans, RefusedBy, IsBadChoice, IsGoodChoice, Extends};
 ghost use Rattle.tx_model.specs.Answer.{ChoosesPipe, is_bad_choice};
-ghost use Rattle.tx_model.specs.Descriptors.{close_effect, descriptor, desc_objects, desc_pipe_objects, dup_effect, dup2_effect, dup2_objects, is_pipe_in_use, listed, named, nonblock_effect, pipe_effect, pipe_objects};
+ghost use Rattle.tx_model.specs.Book.{pipe as pipe_rule, dup, dup2, close, set_nonblock, desc_of, desc_and_pipe_of};
+ghost use Rattle.tx_model.specs.Descriptors.{descriptor, is_pipe_in_use, dup2_objects, pipe_objects};
 ghost use Rattle.tx_model.specs.State.{Sending};
 
 use crate::actor::Actor;
@@ -38,9 +39,10 @@ impl Actor<'_> {
     ) -> Result<Planned, Refusal>
         requires { IsActor self.now }
         ensures ok { IfOk result (λ planned. Plans self.now log.old log.new planned
-            (λ S. pipe_effect self.now.pid.0 pipe.0 read.0 write.0 (me_of self.now) S)
-            (λ S. pipe_objects pipe.0 read.0 write.0)) }
-        ensures refused { IfErr result (λ why. RefusedBy self.now why (λ S. pipe_effect self.now.pid.0 pipe.0 read.0 write.0 (me_of self.now) S)
+            (effect_by self.now (pipe_rule pipe.0 read.0 write.0))
+            (names_by self.now (λ c. pipe_objects pipe.0 read.0 write.0))) }
+        ensures refused { IfErr result (λ why.
+            RefusedBy self.now why (effect_by self.now (pipe_rule pipe.0 read.0 write.0))
             ⊎ IsBadChoice self.now why (ChoosesPipe pipe.0 read.0 write.0)) }
         ensures numbers { IfOk result (λ planned. IsGoodChoice self.now (ChoosesPipe pipe.0 read.0 write.0)) }
         ensures log { OnErr result (Extends log.old log.new) }
@@ -72,9 +74,8 @@ impl Actor<'_> {
     pub(crate) fn plan_dup(&self, fd: i64, log: &mut Log) -> Result<Planned, Refusal>
         requires { IsActor self.now }
         ensures ok { IfOk result (λ planned. Plans self.now log.old log.new planned
-            (λ S. dup_effect self.now.pid.0 (me_of self.now) (named (me_of self.now) (descriptor fd)))
-            (λ S. desc_objects (listed (named (me_of self.now) (descriptor fd))))) }
-        ensures refused { IfErr result (λ why. RefusedBy self.now why (λ S. dup_effect self.now.pid.0 (me_of self.now) (named (me_of self.now) (descriptor fd)))) }
+            (effect_by self.now (dup fd)) (names_by self.now (desc_of fd))) }
+        ensures refused { IfErr result (λ why. RefusedBy self.now why (effect_by self.now (dup fd))) }
         ensures log { OnErr result (Extends log.old log.new) }
     {
         laws();
@@ -99,9 +100,9 @@ impl Actor<'_> {
     pub(crate) fn plan_dup2(&self, fd: i64, other: i64, log: &mut Log) -> Result<Planned, Refusal>
         requires { IsActor self.now }
         ensures ok { IfOk result (λ planned. Plans self.now log.old log.new planned
-            (λ S. dup2_effect self.now.pid.0 (descriptor fd) (descriptor other) (me_of self.now) S)
-            (λ S. dup2_objects (descriptor fd) (descriptor other) (me_of self.now) S)) }
-        ensures refused { IfErr result (λ why. RefusedBy self.now why (λ S. dup2_effect self.now.pid.0 (descriptor fd) (descriptor other) (me_of self.now) S)) }
+            (effect_by self.now (dup2 fd other))
+            (names_by self.now (λ c. dup2_objects (descriptor fd) (descriptor other) c.process c.state))) }
+        ensures refused { IfErr result (λ why. RefusedBy self.now why (effect_by self.now (dup2 fd other))) }
         ensures log { OnErr result (Extends log.old log.new) }
     {
         laws();
@@ -129,9 +130,8 @@ impl Actor<'_> {
     pub(crate) fn plan_close(&self, fd: i64, log: &mut Log) -> Result<Planned, Refusal>
         requires { IsActor self.now }
         ensures ok { IfOk result (λ planned. Plans self.now log.old log.new planned
-            (λ S. close_effect self.now.pid.0 (descriptor fd) (me_of self.now) S)
-            (λ S. desc_pipe_objects (listed (named (me_of self.now) (descriptor fd))) S)) }
-        ensures refused { IfErr result (λ why. RefusedBy self.now why (λ S. close_effect self.now.pid.0 (descriptor fd) (me_of self.now) S)) }
+            (effect_by self.now (close fd)) (names_by self.now (desc_and_pipe_of fd))) }
+        ensures refused { IfErr result (λ why. RefusedBy self.now why (effect_by self.now (close fd))) }
         ensures log { OnErr result (Extends log.old log.new) }
     {
         laws();
@@ -156,9 +156,8 @@ impl Actor<'_> {
     pub(crate) fn plan_nonblock(&self, fd: i64, on: bool, log: &mut Log) -> Result<Planned, Refusal>
         requires { IsActor self.now }
         ensures ok { IfOk result (λ planned. Plans self.now log.old log.new planned
-            (λ S. nonblock_effect self.now.pid.0 on (me_of self.now) (named (me_of self.now) (descriptor fd)) S)
-            (λ S. desc_objects (listed (named (me_of self.now) (descriptor fd))))) }
-        ensures refused { IfErr result (λ why. RefusedBy self.now why (λ S. nonblock_effect self.now.pid.0 on (me_of self.now) (named (me_of self.now) (descriptor fd)) S)) }
+            (effect_by self.now (set_nonblock fd on)) (names_by self.now (desc_of fd))) }
+        ensures refused { IfErr result (λ why. RefusedBy self.now why (effect_by self.now (set_nonblock fd on))) }
         ensures log { OnErr result (Extends log.old log.new) }
     {
         laws();

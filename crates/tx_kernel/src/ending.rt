@@ -6,7 +6,7 @@ ghost use Rattle.tx_kernel.specs.Actors.{IsActor, inside_of, me_of};
 ghost use Rattle.tx_kernel.specs.Endings.{child_at, gone_changes, gone_at, orphan_changes, pipe_through, plain, plain_with};
 ghost use Rattle.tx_kernel.specs.Plans.{Extends, Plans, held_after, sent_at_once};
 ghost use Rattle.tx_model.specs.Descriptors.{open_in, pipes_of};
-ghost use Rattle.tx_model.specs.Processes.{children_below, ending, ending_objects, telling, told_at_commit, told_at_once};
+ghost use Rattle.tx_model.specs.Processes.{children_below, ending, ending_objects, telling, told_at_once, told_at_commit};
 ghost use Rattle.tx_model.specs.State.{State, written};
 
 use crate::actor::Actor;

@@ -1,11 +1,11 @@
 //! The calls on the numbers and the ids of their process.
 ghost use Rattle.std.specs.Prelude.{◌≡◌, pos, IfOk, OnErr};
 ghost use Rattle.tx_cred.specs.Cred.{ids_of};
+ghost use Rattle.tx_kernel.specs.Actors.{effect_by};
 ghost use Rattle.tx_kernel.specs.Own.{PlansOwn};
 ghost use Rattle.tx_kernel.specs.Plans.{Extends};
-ghost use Rattle.tx_model.specs.Effects.{answers_with};
-ghost use Rattle.tx_model.specs.Identities.{id_of, set_user, set_effective_user, set_group, set_effective_group};
-ghost use Rattle.tx_model.specs.Scripts.{identifies};
+ghost use Rattle.tx_model.specs.Book.{setegid, seteuid, setgid, setuid, with_ids};
+ghost use Rattle.tx_model.specs.Forms.{answers};
 
 use crate::actor::Actor;
 use crate::planned::Outcome;
@@ -17,7 +17,8 @@ use tx_proc::Part;
 impl Actor<'_> {
     /// Answers the number of the process (POSIX.1-2017, XSH, getpid()).
     pub(crate) fn plan_getpid(&self, log: &mut Log) -> Result<Outcome, NoMemory>
-        ensures ok { IfOk result (λ outcome. PlansOwn self.now log.old log.new outcome (answers_with (pos self.now.pid.0))) }
+        ensures ok { IfOk result (λ outcome. PlansOwn self.now log.old log.new outcome
+            (effect_by self.now (λ c. answers (pos c.number)))) }
         ensures err { OnErr result (log.new ≡ log.old) }
     {
         self.plan_answer(self.pid.0 as i64, log)
@@ -25,7 +26,8 @@ impl Actor<'_> {
 
     /// Answers the number of the parent, 0 for process 1 (POSIX.1-2017, XSH, getppid()).
     pub(crate) fn plan_getppid(&self, log: &mut Log) -> Result<Outcome, NoMemory>
-        ensures ok { IfOk result (λ outcome. PlansOwn self.now log.old log.new outcome (λ me. answers_with (pos me.parent) me)) }
+        ensures ok { IfOk result (λ outcome. PlansOwn self.now log.old log.new outcome
+            (effect_by self.now (λ c. answers (pos c.process.parent)))) }
         ensures err { OnErr result (log.new ≡ log.old) }
     {
         self.plan_answer(self.proc.parent.0 as i64, log)
@@ -33,7 +35,8 @@ impl Actor<'_> {
 
     /// Sets the user's ids (POSIX.1-2017, XSH, setuid()).
     pub(crate) fn plan_setuid(&self, user: i64, log: &mut Log) -> Result<Outcome, NoMemory>
-        ensures ok { IfOk result (λ outcome. PlansOwn self.now log.old log.new outcome (λ me. identifies (set_user (id_of user) me.ids) me)) }
+        ensures ok { IfOk result (λ outcome. PlansOwn self.now log.old log.new outcome
+            (effect_by self.now (setuid user))) }
         ensures err { OnErr result (Extends log.old log.new) }
     {
         let mut cred = self.proc.cred;
@@ -45,7 +48,8 @@ impl Actor<'_> {
 
     /// Sets the effective user (POSIX.1-2017, XSH, seteuid()).
     pub(crate) fn plan_seteuid(&self, user: i64, log: &mut Log) -> Result<Outcome, NoMemory>
-        ensures ok { IfOk result (λ outcome. PlansOwn self.now log.old log.new outcome (λ me. identifies (set_effective_user (id_of user) me.ids) me)) }
+        ensures ok { IfOk result (λ outcome. PlansOwn self.now log.old log.new outcome
+            (effect_by self.now (seteuid user))) }
         ensures err { OnErr result (Extends log.old log.new) }
     {
         let mut cred = self.proc.cred;
@@ -57,7 +61,8 @@ impl Actor<'_> {
 
     /// Sets the group's ids (POSIX.1-2017, XSH, setgid()).
     pub(crate) fn plan_setgid(&self, group: i64, log: &mut Log) -> Result<Outcome, NoMemory>
-        ensures ok { IfOk result (λ outcome. PlansOwn self.now log.old log.new outcome (λ me. identifies (set_group (id_of group) me.ids) me)) }
+        ensures ok { IfOk result (λ outcome. PlansOwn self.now log.old log.new outcome
+            (effect_by self.now (setgid group))) }
         ensures err { OnErr result (Extends log.old log.new) }
     {
         let mut cred = self.proc.cred;
@@ -69,7 +74,8 @@ impl Actor<'_> {
 
     /// Sets the effective group (POSIX.1-2017, XSH, setegid()).
     pub(crate) fn plan_setegid(&self, group: i64, log: &mut Log) -> Result<Outcome, NoMemory>
-        ensures ok { IfOk result (λ outcome. PlansOwn self.now log.old log.new outcome (λ me. identifies (set_effective_group (id_of group) me.ids) me)) }
+        ensures ok { IfOk result (λ outcome. PlansOwn self.now log.old log.new outcome
+            (effect_by self.now (setegid group))) }
         ensures err { OnErr result (Extends log.old log.new) }
     {
         let mut cred = self.proc.cred;
@@ -81,7 +87,8 @@ impl Actor<'_> {
 
     /// Plans these ids, and to answer 0.
     fn plan_ids(&self, cred: Cred, log: &mut Log) -> Result<Outcome, NoMemory>
-        ensures ok { IfOk result (λ outcome. PlansOwn self.now log.old log.new outcome (λ me. answers_with (pos 0) (record me { ids = ids_of cred }))) }
+        ensures ok { IfOk result (λ outcome. PlansOwn self.now log.old log.new outcome
+            (effect_by self.now (with_ids (ids_of cred)))) }
         ensures err { OnErr result (Extends log.old log.new) }
     {
         self.push(Part::Cred(cred), log)?;

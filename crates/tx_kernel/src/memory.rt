@@ -1,9 +1,9 @@
 //! The calls on the memory of their process.
-ghost use Rattle.std.specs.Prelude.{◌≡◌, ◌<◌, ◌++◌, map, pos, IfOk, OnOk, OnErr, slice_set};
+ghost use Rattle.std.specs.Prelude.{◌≡◌, ◌<◌, ◌++◌, map as list_map, IfOk, OnOk, OnErr, slice_set};
+ghost use Rattle.tx_kernel.specs.Actors.{effect_by};
 ghost use Rattle.tx_kernel.specs.Own.{PlansOwn, page_change};
 ghost use Rattle.tx_kernel.specs.Plans.{Extends};
-ghost use Rattle.tx_model.specs.Effects.{answers_with};
-ghost use Rattle.tx_model.specs.Pages.{remembers, page_of, map_page, unmap_page, protect_page, store_bytes, load_byte};
+ghost use Rattle.tx_model.specs.Book.{load, map, protect, store, unmap, with_memory};
 ghost use Rattle.tx_pages.specs.Outcomes.{with_pages, AreNumbered};
 
 use crate::actor::Actor;
@@ -23,7 +23,8 @@ impl Actor<'_> {
         page: i64,
         log: &mut Log,
     ) -> Result<Outcome, NoMemory>
-        ensures ok { IfOk result (λ outcome. PlansOwn self.now log.old log.new outcome (λ me. remembers (map_page (page_of page) me.memory) me)) }
+        ensures ok { IfOk result (λ outcome. PlansOwn self.now log.old log.new outcome
+            (effect_by self.now (map page))) }
         ensures err { OnErr result (Extends log.old log.new) }
     {
         match self.proc.space.plan_map(alloc, page) {
@@ -35,7 +36,8 @@ impl Actor<'_> {
 
     /// Takes a page out. Own rule.
     pub(crate) fn plan_unmap(&self, page: i64, log: &mut Log) -> Result<Outcome, NoMemory>
-        ensures ok { IfOk result (λ outcome. PlansOwn self.now log.old log.new outcome (λ me. remembers (unmap_page (page_of page) me.memory) me)) }
+        ensures ok { IfOk result (λ outcome. PlansOwn self.now log.old log.new outcome
+            (effect_by self.now (unmap page))) }
         ensures err { OnErr result (Extends log.old log.new) }
     {
         match self.proc.space.plan_unmap(page) {
@@ -51,7 +53,8 @@ impl Actor<'_> {
         writable: bool,
         log: &mut Log,
     ) -> Result<Outcome, NoMemory>
-        ensures ok { IfOk result (λ outcome. PlansOwn self.now log.old log.new outcome (λ me. remembers (protect_page (page_of page) writable me.memory) me)) }
+        ensures ok { IfOk result (λ outcome. PlansOwn self.now log.old log.new outcome
+            (effect_by self.now (protect page writable))) }
         ensures err { OnErr result (Extends log.old log.new) }
     {
         match self.proc.space.plan_protect(page, writable) {
@@ -69,7 +72,8 @@ impl Actor<'_> {
         bytes: &ArrayVec<u8, 64>,
         log: &mut Log,
     ) -> Result<Outcome, NoMemory>
-        ensures ok { IfOk result (λ outcome. PlansOwn self.now log.old log.new outcome (λ me. remembers (store_bytes address bytes.now.items me.memory) me)) }
+        ensures ok { IfOk result (λ outcome. PlansOwn self.now log.old log.new outcome
+            (effect_by self.now (store address bytes.now.items))) }
         ensures err { OnErr result (Extends log.old log.new) }
     {
         match self.proc.space.plan_store(alloc, address, bytes.as_slice()) {
@@ -81,7 +85,8 @@ impl Actor<'_> {
 
     /// Reads the byte at an address. Own rule.
     pub(crate) fn plan_load(&self, address: i64, log: &mut Log) -> Result<Outcome, NoMemory>
-        ensures ok { IfOk result (λ outcome. PlansOwn self.now log.old log.new outcome (λ me. remembers (load_byte address me.memory) me)) }
+        ensures ok { IfOk result (λ outcome. PlansOwn self.now log.old log.new outcome
+            (effect_by self.now (load address))) }
         ensures err { OnErr result (log.new ≡ log.old) }
     {
         match self.proc.space.load(address) {
@@ -93,7 +98,9 @@ impl Actor<'_> {
     /// Plans to put one page number in place, and to answer 0.
     fn plan_page(&self, new: NewPage, log: &mut Log) -> Result<Outcome, NoMemory>
         requires { new.number < 16 }
-        ensures ok { IfOk result (λ outcome. PlansOwn self.now log.old log.new outcome (λ me. answers_with (pos 0) (record me { memory = slice_set me.memory new.number new.page }))) }
+        ensures ok { IfOk result (λ outcome. PlansOwn self.now log.old log.new outcome
+            (effect_by self.now
+            (λ c. with_memory (slice_set c.process.memory new.number new.page) c))) }
         ensures err { OnErr result (Extends log.old log.new) }
     {
         self.push(Part::Page(new.number, new.page), log)?;
@@ -104,7 +111,9 @@ impl Actor<'_> {
     /// Plans to put these pages in place, and to answer 0.
     fn plan_pages(&self, new: NewPages, log: &mut Log) -> Result<Outcome, NoMemory>
         requires { AreNumbered new.pages.items }
-        ensures ok { IfOk result (λ outcome. PlansOwn self.now log.old log.new outcome (λ me. answers_with (pos 0) (record me { memory = with_pages me.memory new.pages.items }))) }
+        ensures ok { IfOk result (λ outcome. PlansOwn self.now log.old log.new outcome
+            (effect_by self.now
+            (λ c. with_memory (with_pages c.process.memory new.pages.items) c))) }
         ensures err { OnErr result (Extends log.old log.new) }
     {
         self.push_pages(new, log)?;
@@ -114,7 +123,7 @@ impl Actor<'_> {
 
     /// Appends the exchanges that put these pages in place.
     pub(crate) fn push_pages(&self, new: NewPages, log: &mut Log) -> Result<(), NoMemory>
-        ensures ok { OnOk result (log.new ≡ log.old ++ map (page_change self.now.pid) new.pages.items) }
+        ensures ok { OnOk result (log.new ≡ log.old ++ list_map (page_change self.now.pid) new.pages.items) }
         ensures err { OnErr result (Extends log.old log.new) }
     {
         for page in new.pages {

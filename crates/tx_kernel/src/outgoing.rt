@@ -1,10 +1,10 @@
 //! What a step sends, before it is planned and without memory.
 ghost use Rattle.std.specs.Prelude.{◌≡◌, ℤ};
-ghost use Rattle.tx_kernel.specs.Actors.{IsActor, inside_of, me_of};
+ghost use Rattle.tx_kernel.specs.Actors.{IsActor, effect_by, inside_of, me_of};
 ghost use Rattle.tx_kernel.specs.Sends.{IsSentBy};
+ghost use Rattle.tx_model.specs.Book.{exit};
 ghost use Rattle.tx_model.specs.Calls.{call_effect};
 ghost use Rattle.tx_model.specs.Deliveries.{delivered_value, delivery_effect, ends_by, is_fatal};
-ghost use Rattle.tx_model.specs.Processes.{exit_effect};
 
 use crate::actor::Actor;
 use crate::planned::Sends;
@@ -31,7 +31,7 @@ impl Actor<'_> {
 
     /// The signal that an exit sends.
     fn sends_of_exit(&self) -> Sends
-        ensures { (status : ℤ) → IsSentBy self.now result (λ S. exit_effect (inside_of self.now.inside) self.now.pid.0 status (me_of self.now) S) }
+        ensures { (status : ℤ) → IsSentBy self.now result (effect_by self.now (exit status)) }
     {
         if self.pid.0 == 1 {
             return Sends::Nothing;

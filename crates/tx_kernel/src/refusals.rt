@@ -1,17 +1,15 @@
 //! Why a step is refused, told before it is planned and without memory.
 ghost use Rattle.std.specs.Prelude.{◌≡◌, ◌≢◌, ℕ, List, false, length, IfNone, IfSome};
 ghost use Rattle.tx_change.specs.States.{state_of};
-ghost use Rattle.tx_kernel.specs.Actors.{CountsHeld, IsActor, inside_of, me_of};
+ghost use Rattle.tx_kernel.specs.Actors.{CountsHeld, IsActor, effect_by, inside_of, me_of};
 ghost use Rattle.tx_kernel.specs.Refusals.{IsMade, TellsWait, lacks_frame, number_refusal};
 ghost use Rattle.tx_model.specs.Answer.{chosen_in, is_bad_choice, is_choice_in_use};
 ghost use Rattle.tx_model.specs.Calls.{call_effect};
+ghost use Rattle.tx_model.specs.Book.{read, waitpid, write};
 ghost use Rattle.tx_model.specs.Deliveries.{action_at, delivery_effect};
-ghost use Rattle.tx_model.specs.Descriptors.{descriptor, named};
 ghost use Rattle.tx_model.specs.Effects.{idle};
-ghost use Rattle.tx_model.specs.Processes.{waitpid_effect};
 ghost use Rattle.tx_model.specs.Signals.{disposition};
 ghost use Rattle.tx_model.specs.State.{Sending as TheSending};
-ghost use Rattle.tx_model.specs.Transfers.{read_effect, write_effect};
 
 use crate::actor::Actor;
 use crate::descriptors::is_bad_pipe;
@@ -121,7 +119,7 @@ impl Actor<'_> {
     /// Whether a waitpid waits: without `nohang`, for a child that runs.
     fn waits_for_child(&self, number: i64, nohang: bool) -> bool
         requires { IsActor self.now }
-        ensures { TellsWait self.now result (λ S. waitpid_effect self.now.pid.0 number nohang (me_of self.now) S) }
+        ensures { TellsWait self.now result (effect_by self.now (waitpid number nohang)) }
     {
         let Some(child) = self.child(number) else {
             return false;
@@ -135,7 +133,7 @@ impl Actor<'_> {
     /// Whether a read waits.
     fn waits_to_read(&self, fd: i64, address: i64, count: i64) -> bool
         requires { IsActor self.now }
-        ensures { TellsWait self.now result (λ S. read_effect self.now.pid.0 (named (me_of self.now) (descriptor fd)) address count (me_of self.now) S) }
+        ensures { TellsWait self.now result (effect_by self.now (read fd address count)) }
     {
         match self.reading(fd, address, count) {
             Ok(Reading::Waits) => true,
@@ -148,7 +146,7 @@ impl Actor<'_> {
     /// Whether a write waits.
     fn waits_to_write(&self, fd: i64, address: i64, count: i64) -> bool
         requires { IsActor self.now }
-        ensures { TellsWait self.now result (λ S. write_effect self.now.pid.0 (named (me_of self.now) (descriptor fd)) address count (me_of self.now) S) }
+        ensures { TellsWait self.now result (effect_by self.now (write fd address count)) }
     {
         match self.writing(fd, address, count) {
             Ok(Writing::Waits) => true,

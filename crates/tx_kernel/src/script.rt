@@ -1,12 +1,13 @@
 //! The calls on the script of their process, and the console.
-ghost use Rattle.std.specs.Prelude.{◌≡◌, ◌≤◌, true, Some, IfOk, OnErr};
-ghost use Rattle.tx_base.specs.declared.limits.TheConstants.{SLOTS};
-ghost use Rattle.tx_kernel.specs.Actors.{inside_of};
+ghost use Rattle.std.specs.Prelude.{◌≡◌, ◌≤◌, true, pos, IfOk, OnErr};
+ghost use Rattle.tx_base.specs.declared.steps.Reply.TheVariants as reply;
+ghost use Rattle.tx_kernel.specs.Actors.{effect_by};
 ghost use Rattle.tx_kernel.specs.Own.{PlansOwn};
 ghost use Rattle.tx_kernel.specs.Plans.{Extends};
-ghost use Rattle.tx_model.specs.Memory.{is_good, is_mapped};
-ghost use Rattle.tx_model.specs.Numbers.{below};
-ghost use Rattle.tx_model.specs.Scripts.{does_jump, jumps, keeps_at, shows, writes_console};
+ghost use Rattle.tx_model.specs.Book.{console_write, jump, keep, does_jump};
+ghost use Rattle.tx_model.specs.Effects.{noted};
+ghost use Rattle.tx_model.specs.Forms.{stands};
+ghost use Rattle.tx_model.specs.Memory.{address_of, bytes_at, is_good, is_mapped};
 
 use crate::actor::Actor;
 use crate::planned::{Outcome, Shown};
@@ -27,7 +28,8 @@ impl Actor<'_> {
         when: When,
         log: &mut Log,
     ) -> Result<Outcome, NoMemory>
-        ensures ok { IfOk result (λ outcome. PlansOwn self.now log.old log.new outcome (jumps point when)) }
+        ensures ok { IfOk result (λ outcome. PlansOwn self.now log.old log.new outcome
+            (effect_by self.now (jump point when))) }
         ensures err { OnErr result (Extends log.old log.new) }
     {
         let ret = self.proc.regs.ret;
@@ -45,7 +47,8 @@ impl Actor<'_> {
     ///
     /// EINVAL where the slot is not 0 to 7.
     pub(crate) fn plan_keep(&self, slot: i64, log: &mut Log) -> Result<Outcome, NoMemory>
-        ensures ok { IfOk result (λ outcome. PlansOwn self.now log.old log.new outcome (keeps_at (below SLOTS slot))) }
+        ensures ok { IfOk result (λ outcome. PlansOwn self.now log.old log.new outcome
+            (effect_by self.now (keep slot))) }
         ensures err { OnErr result (Extends log.old log.new) }
     {
         let ret = self.proc.regs.ret;
@@ -67,7 +70,8 @@ impl Actor<'_> {
         count: i64,
         log: &mut Log,
     ) -> Result<Outcome, NoMemory>
-        ensures ok { IfOk result (λ outcome. PlansOwn self.now log.old log.new outcome (writes_console (inside_of self.now.inside) address count)) }
+        ensures ok { IfOk result (λ outcome. PlansOwn self.now log.old log.new outcome
+            (effect_by self.now (console_write address count))) }
         ensures err { OnErr result (Extends log.old log.new) }
     {
         if self.inside.is_some() {
@@ -86,7 +90,9 @@ impl Actor<'_> {
     fn plan_shown(&self, address: i64, count: usize, log: &mut Log) -> Result<Outcome, NoMemory>
         requires few { count ≤ 64 }
         requires good { is_good is_mapped self.now.proc.now.space address count ≡ true }
-        ensures ok { IfOk result (λ outcome. PlansOwn self.now log.old log.new outcome (shows address (Some count))) }
+        ensures ok { IfOk result (λ outcome. PlansOwn self.now log.old log.new outcome
+            (effect_by self.now (λ c. stands
+            (noted (pos count) c.process) (reply.Out (record { items = bytes_at c.process.memory (address_of address) count }))))) }
         ensures err { OnErr result (Extends log.old log.new) }
     {
         let address = number_below(ADDRESSES, address).unwrap_or(0);

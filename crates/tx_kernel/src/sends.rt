@@ -1,12 +1,12 @@
 //! Signals that a process sends (POSIX.1-2017, XSH, kill() and sigqueue()).
-ghost use Rattle.std.specs.Prelude.{◌≡◌, ◌<◌, ◌≤◌, ℕ, List, length, option_map, IfOk, IfSome, OnErr};
-ghost use Rattle.tx_kernel.specs.Actors.{CountsHeld, IsActor, inside_of, me_of};
-ghost use Rattle.tx_kernel.specs.Plans.{Extends, HasSignal, sending_of};
-ghost use Rattle.tx_kernel.specs.Sends.{PlansPosted, sends_by, sent_effect};
+ghost use Rattle.std.specs.Prelude.{◌≡◌, ◌<◌, ◌≤◌, ℕ, ℤ, List, length, option_map, IfOk, IfSome, OnErr};
+ghost use Rattle.tx_kernel.specs.Actors.{CountsHeld, IsActor, effect_by, names_by};
+ghost use Rattle.tx_kernel.specs.Plans.{Extends, HasSignal};
+ghost use Rattle.tx_kernel.specs.Sends.{IsHandedOut, PlansPosted, sends_by, sent};
 ghost use Rattle.tx_kernel.specs.Steps.{PlansStep};
 ghost use Rattle.tx_change.specs.States.{state_of};
+ghost use Rattle.tx_model.specs.Book.{sigqueue, sendable};
 ghost use Rattle.tx_model.specs.Processes.{held_objects};
-ghost use Rattle.tx_model.specs.Sends.{hands_out, send_effect, sendable};
 ghost use Rattle.tx_model.specs.State.{Sending as TheSending};
 ghost use Rattle.tx_signal.specs.Numbers.{number_of};
 
@@ -59,8 +59,8 @@ impl Actor<'_> {
         requires { IsActor self.now }
         ensures signal { HasSignal (sends_by result) }
         ensures effect { (held : ℕ → List TheSending) → CountsHeld self.now.inside held →
-            send_effect self.now.pid.0 (inside_of self.now.inside) (me_of self.now) target signo value (state_of held self.now.parts.now)
-            ≡ sent_effect self.now.pid.0 (inside_of self.now.inside) (me_of self.now) result (state_of held self.now.parts.now) }
+            effect_by self.now (sigqueue target signo value) (state_of held self.now.parts.now)
+            ≡ effect_by self.now (sent result) (state_of held self.now.parts.now) }
     {
         let Some(signo) = sendable(signo) else {
             return Send::Answers(failing(Errno::InvalidArgument));
@@ -81,9 +81,10 @@ impl Actor<'_> {
     fn hand_out(&self, sending: Sending) -> Send
         requires { sending.signo.0 < 64 }
         ensures signal { HasSignal (sends_by result) }
-        ensures effect { (held : ℕ → List TheSending) → CountsHeld self.now.inside held →
-            hands_out self.now.pid.0 (inside_of self.now.inside) (me_of self.now) (sending_of sending) (state_of held self.now.parts.now)
-            ≡ sent_effect self.now.pid.0 (inside_of self.now.inside) (me_of self.now) result (state_of held self.now.parts.now) }
+        ensures effect { (target signo value : ℤ) (held : ℕ → List TheSending) →
+            IsHandedOut self.now sending target signo value → CountsHeld self.now.inside held →
+            effect_by self.now (sigqueue target signo value) (state_of held self.now.parts.now)
+            ≡ effect_by self.now (sent result) (state_of held self.now.parts.now) }
     {
         let Some(inside) = self.inside else {
             return Send::Posts(sending);
@@ -117,7 +118,8 @@ impl Actor<'_> {
     ) -> Result<Planned, NoMemory>
         requires { IsActor self.now }
         ensures ok { IfOk result (λ planned. PlansStep self.now log.old log.new planned.outcome planned.sends
-            (λ S. send_effect self.now.pid.0 (inside_of self.now.inside) (me_of self.now) target signo value S) (λ S. held_objects (inside_of self.now.inside))) }
+            (effect_by self.now (sigqueue target signo value))
+            (names_by self.now (λ c. held_objects c.inside))) }
         ensures log { OnErr result (Extends log.old log.new) }
     {
         laws();

@@ -1,12 +1,13 @@
 //! The calls on the signals of their process: actions, the mask, what is pending, and the return from
 //! a caught signal.
-ghost use Rattle.std.specs.Prelude.{◌≡◌, pos, IfOk, OnOk, OnErr, if◌then◌else◌};
-ghost use Rattle.tx_kernel.specs.Actors.{IsActor};
+ghost use Rattle.std.specs.Prelude.{◌≡◌, [], pos, IfOk, OnOk, OnErr, if◌then◌else◌};
+ghost use Rattle.tx_kernel.specs.Actors.{IsActor, effect_by};
 ghost use Rattle.tx_kernel.specs.Own.{PlansOwn, PlansPart};
 ghost use Rattle.tx_kernel.specs.Plans.{Extends};
 ghost use Rattle.tx_kernel.specs.Returns.{with_slots};
-ghost use Rattle.tx_model.specs.Effects.{answers_with};
-ghost use Rattle.tx_model.specs.Signals.{acts, discarded, is_ignored, known, masks, newest, queued_others, returns, tells_pending, with_action};
+ghost use Rattle.tx_model.specs.Book.{sigaction, sigpending, sigprocmask, sigreturn};
+ghost use Rattle.tx_model.specs.Forms.{changes};
+ghost use Rattle.tx_model.specs.Signals.{discarded, queued_others, with_action, is_ignored};
 
 use crate::actor::Actor;
 use crate::planned::Outcome;
@@ -29,7 +30,8 @@ impl Actor<'_> {
         action: Action,
         log: &mut Log,
     ) -> Result<Outcome, NoMemory>
-        ensures ok { IfOk result (λ outcome. PlansOwn self.now log.old log.new outcome (acts (known signo) action)) }
+        ensures ok { IfOk result (λ outcome. PlansOwn self.now log.old log.new outcome
+            (effect_by self.now (sigaction signo action))) }
         ensures err { OnErr result (Extends log.old log.new) }
     {
         let Some(signo) = known(signo) else {
@@ -43,7 +45,9 @@ impl Actor<'_> {
 
     /// Plans an action that may be, and to answer 0.
     fn plan_action(&self, signo: Signo, action: Action, log: &mut Log) -> Result<Outcome, NoMemory>
-        ensures ok { IfOk result (λ outcome. PlansOwn self.now log.old log.new outcome (λ me. answers_with (pos 0) (with_action signo.0 action (if is_ignored signo.0 action then discarded signo.0 me else me)))) }
+        ensures ok { IfOk result (λ outcome. PlansOwn self.now log.old log.new outcome
+            (effect_by self.now (λ c. changes (pos 0)
+            (with_action signo.0 action (if is_ignored signo.0 action then discarded signo.0 c.process else c.process)) []))) }
         ensures err { OnErr result (Extends log.old log.new) }
     {
         self.push_ignored(signo, action, log)?;
@@ -97,7 +101,8 @@ impl Actor<'_> {
         set: SigSet,
         log: &mut Log,
     ) -> Result<Outcome, NoMemory>
-        ensures ok { IfOk result (λ outcome. PlansOwn self.now log.old log.new outcome (masks how set)) }
+        ensures ok { IfOk result (λ outcome. PlansOwn self.now log.old log.new outcome
+            (effect_by self.now (sigprocmask how set))) }
         ensures err { OnErr result (Extends log.old log.new) }
     {
         self.push(Part::Mask(masked(how, set, self.proc.mask)), log)?;
@@ -109,7 +114,8 @@ impl Actor<'_> {
     /// sigpending()).
     pub(crate) fn plan_sigpending(&self, log: &mut Log) -> Result<Outcome, NoMemory>
         requires { IsActor self.now }
-        ensures ok { IfOk result (λ outcome. PlansOwn self.now log.old log.new outcome tells_pending) }
+        ensures ok { IfOk result (λ outcome. PlansOwn self.now log.old log.new outcome
+            (effect_by self.now sigpending)) }
         ensures err { OnErr result (log.new ≡ log.old) }
     {
         let blocked = self.proc.pending.signals().intersection(self.proc.mask);
@@ -123,7 +129,8 @@ impl Actor<'_> {
     /// EINVAL where no caught signal is unfinished.
     pub(crate) fn plan_sigreturn(&self, alloc: Global, log: &mut Log) -> Result<Outcome, NoMemory>
         requires { IsActor self.now }
-        ensures ok { IfOk result (λ outcome. PlansOwn self.now log.old log.new outcome (λ me. returns (newest me.frames) me)) }
+        ensures ok { IfOk result (λ outcome. PlansOwn self.now log.old log.new outcome
+            (effect_by self.now sigreturn)) }
         ensures err { OnErr result (Extends log.old log.new) }
     {
         let Some(frame) = self.proc.frames.newest() else {

@@ -1,22 +1,21 @@
 //! The calls that read from a pipe and write to it.
-ghost use Rattle.std.specs.Prelude.{◌≡◌, ◌≤◌, ◌+◌, ◌++◌, ◌∷◌, [], ℕ, ℤ, List, Ok, true, length, IfOk, IfErr, IsSome, OnOk, OnErr};
+ghost use Rattle.std.specs.Prelude.{◌≡◌, ◌≤◌, ◌+◌, ◌++◌, ◌∷◌, [], ℕ, ℤ, List, Ok, Some, true, length, IfOk, IfErr, IsSome, OnOk, OnErr};
 ghost use Rattle.tx_change.specs.Exchange.{pipe_at};
-ghost use Rattle.tx_change.specs.States.{state_of};
 ghost use Rattle.tx_base.specs.declared.errors.Errno.TheVariants.{BrokenPipe};
 ghost use Rattle.tx_change.specs.declared.change.Change.TheVariants.{Part as SetPart, Pipe as SetPipe};
 ghost use Rattle.tx_change.specs.declared.pipes.PipePart.TheVariants.{Back};
 ghost use Rattle.tx_desc.specs.Descriptions.{description_of};
-ghost use Rattle.tx_kernel.specs.Actors.{IsActor, me_of};
+ghost use Rattle.tx_kernel.specs.Actors.{IsActor, effect_by, me_of, names_by};
 ghost use Rattle.tx_kernel.specs.Own.{answer_after};
-ghost use Rattle.tx_kernel.specs.Piped.{CanPut, CanTake, IsReadyToTake, TakesBytes, TakesFrom, reading_effect, broken, broken_sending, put_bytes, opened_at, end_at, held_in, writing_effect, IsPutting, IsReadyToPut, PutsTo};
+ghost use Rattle.tx_kernel.specs.Piped.{AsksFor, CanPut, CanTake, IsPutting, IsReadyToPut, IsReadyToTake, PutsTo, TakesBytes, TakesFrom, broken, broken_sending, calling, end_at, held_in, opened_at, put_bytes, reading_outcome, writing_outcome};
 ghost use Rattle.tx_kernel.specs.Plans.{Plans, RefusedBy, Extends};
 ghost use Rattle.tx_kernel.specs.Sends.{IsSentBy};
-ghost use Rattle.tx_model.specs.Descriptors.{descriptor, desc_pipe_objects, listed, named};
+ghost use Rattle.tx_model.specs.Book.{desc_and_pipe_of, end_at as end_in, read, write, is_read_side, is_write_side};
+ghost use Rattle.tx_model.specs.Descriptors.{descriptor, named};
 ghost use Rattle.tx_model.specs.Memory.{address_of, bytes_at, is_good, is_mapped};
-ghost use Rattle.tx_model.specs.Numbers.{below, failing};
-ghost use Rattle.tx_model.specs.State.{Sending as TheSending, State};
+ghost use Rattle.tx_model.specs.Numbers.{failing};
+ghost use Rattle.tx_model.specs.State.{Sending as TheSending};
 ghost use Rattle.tx_proc.specs.declared.part.Part.TheVariants.{Answer as SetAnswer};
-ghost use Rattle.tx_model.specs.Transfers.{drains, has_writer, read_effect, reads, write_effect, writes};
 
 use crate::actor::Actor;
 use crate::answers::failing;
@@ -71,10 +70,10 @@ impl Actor<'_> {
     ) -> Result<Planned, Refusal>
         requires { IsActor self.now }
         ensures ok { IfOk result (λ planned. Plans self.now log.old log.new planned
-            (λ S. read_effect self.now.pid.0 (named (me_of self.now) (descriptor fd)) address count (me_of self.now) S)
-            (λ S. desc_pipe_objects (listed (named (me_of self.now) (descriptor fd))) S)) }
-        ensures refused { IfErr result (λ why. RefusedBy self.now why
-            (λ S. read_effect self.now.pid.0 (named (me_of self.now) (descriptor fd)) address count (me_of self.now) S)) }
+            (effect_by self.now (read fd address count))
+            (names_by self.now (desc_and_pipe_of fd))) }
+        ensures refused { IfErr result (λ why.
+            RefusedBy self.now why (effect_by self.now (read fd address count))) }
         ensures log { OnErr result (Extends log.old log.new) }
     {
         laws();
@@ -124,8 +123,7 @@ impl Actor<'_> {
     pub(crate) fn reading(&self, fd: i64, address: i64, count: i64) -> Result<Reading, Errno>
         requires { IsActor self.now }
         ensures effect { (held : ℕ → List TheSending) →
-            read_effect self.now.pid.0 (named (me_of self.now) (descriptor fd)) address count (me_of self.now) (state_of held self.now.parts.now)
-            ≡ reading_effect self.now address result (state_of held self.now.parts.now) }
+            read fd address count (calling self.now held) ≡ reading_outcome address result (calling self.now held) }
         ensures ready { IfOk result (λ reading. TakesFrom self.now (named (me_of self.now) (descriptor fd)) reading) }
     {
         let desc = self.open_end(fd, Side::Read)?;
@@ -134,9 +132,9 @@ impl Actor<'_> {
 
     /// What a read from the description comes to.
     fn reading_from(&self, desc: Desc, address: i64, count: i64) -> Result<Reading, Errno>
-        ensures effect { (held : ℕ → List TheSending) →
-            reads self.now.pid.0 (description_of desc) address (below 513 count) (me_of self.now) (state_of held self.now.parts.now)
-            ≡ reading_effect self.now address result (state_of held self.now.parts.now) }
+        ensures effect { (fd : ℤ) (held : ℕ → List TheSending) →
+            end_in is_read_side fd (calling self.now held) ≡ Some (description_of desc) →
+            read fd address count (calling self.now held) ≡ reading_outcome address result (calling self.now held) }
         ensures ready { IfOk result (λ reading. IsReadyToTake self.now desc.pipe reading) }
     {
         let Some(n) = number_below(PIPE_BYTES + 1, count) else {
@@ -153,9 +151,9 @@ impl Actor<'_> {
 
     /// What a read of up to so many bytes from the description comes to.
     fn taking(&self, desc: Desc, n: usize) -> Result<Reading, Errno>
-        ensures effect { (address : ℤ) (held : ℕ → List TheSending) →
-            drains self.now.pid.0 (description_of desc) address n (me_of self.now) (has_writer desc.pipe.0 (state_of held self.now.parts.now)) (held_in self.now desc.pipe)
-            ≡ reading_effect self.now address result (state_of held self.now.parts.now) }
+        ensures effect { (fd address count : ℤ) (held : ℕ → List TheSending) →
+            AsksFor self.now desc n fd address count held →
+            read fd address count (calling self.now held) ≡ reading_outcome address result (calling self.now held) }
         ensures ready { IfOk result (λ reading. IsReadyToTake self.now desc.pipe reading) }
     {
         let held = self.held(desc.pipe);
@@ -189,10 +187,10 @@ impl Actor<'_> {
     ) -> Result<Planned, Refusal>
         requires { IsActor self.now }
         ensures ok { IfOk result (λ planned. Plans self.now log.old log.new planned
-            (λ S. write_effect self.now.pid.0 (named (me_of self.now) (descriptor fd)) address count (me_of self.now) S)
-            (λ S. desc_pipe_objects (listed (named (me_of self.now) (descriptor fd))) S)) }
-        ensures refused { IfErr result (λ why. RefusedBy self.now why
-            (λ S. write_effect self.now.pid.0 (named (me_of self.now) (descriptor fd)) address count (me_of self.now) S)) }
+            (effect_by self.now (write fd address count))
+            (names_by self.now (desc_and_pipe_of fd))) }
+        ensures refused { IfErr result (λ why.
+            RefusedBy self.now why (effect_by self.now (write fd address count))) }
         ensures log { OnErr result (Extends log.old log.new) }
     {
         laws();
@@ -214,7 +212,7 @@ impl Actor<'_> {
     /// The signal that a write sends.
     pub(crate) fn sends_of_write(&self, fd: i64, address: i64, count: i64) -> Sends
         requires { IsActor self.now }
-        ensures { IsSentBy self.now result (λ S. write_effect self.now.pid.0 (named (me_of self.now) (descriptor fd)) address count (me_of self.now) S) }
+        ensures { IsSentBy self.now result (effect_by self.now (write fd address count)) }
     {
         match self.writing(fd, address, count) {
             Ok(writing) => self.sends_of(writing),
@@ -224,7 +222,8 @@ impl Actor<'_> {
 
     /// The signal that a write sends which comes to this.
     fn sends_of(&self, writing: Writing) -> Sends
-        ensures { (address : ℤ) → IsSentBy self.now result (λ S. writing_effect self.now address (Ok writing) S) }
+        ensures { (address : ℤ) →
+            IsSentBy self.now result (effect_by self.now (writing_outcome address (Ok writing))) }
     {
         match writing {
             Writing::Breaks => Sends::AtOnce(self.broken_pipe()),
@@ -295,8 +294,7 @@ impl Actor<'_> {
     pub(crate) fn writing(&self, fd: i64, address: i64, count: i64) -> Result<Writing, Errno>
         requires { IsActor self.now }
         ensures effect { (held : ℕ → List TheSending) →
-            write_effect self.now.pid.0 (named (me_of self.now) (descriptor fd)) address count (me_of self.now) (state_of held self.now.parts.now)
-            ≡ writing_effect self.now address result (state_of held self.now.parts.now) }
+            write fd address count (calling self.now held) ≡ writing_outcome address result (calling self.now held) }
         ensures ready { IfOk result (λ writing. PutsTo self.now (named (me_of self.now) (descriptor fd)) address writing) }
     {
         let desc = self.open_end(fd, Side::Write)?;
@@ -305,9 +303,9 @@ impl Actor<'_> {
 
     /// What a write to the description comes to.
     fn writing_to(&self, desc: Desc, address: i64, count: i64) -> Result<Writing, Errno>
-        ensures effect { (held : ℕ → List TheSending) →
-            writes self.now.pid.0 (description_of desc) address (below 513 count) (me_of self.now) (state_of held self.now.parts.now)
-            ≡ writing_effect self.now address result (state_of held self.now.parts.now) }
+        ensures effect { (fd : ℤ) (held : ℕ → List TheSending) →
+            end_in is_write_side fd (calling self.now held) ≡ Some (description_of desc) →
+            write fd address count (calling self.now held) ≡ writing_outcome address result (calling self.now held) }
         ensures ready { IfOk result (λ writing. IsReadyToPut self.now address desc.pipe writing) }
     {
         let Some(n) = number_below(PIPE_BYTES + 1, count) else {

@@ -1,15 +1,17 @@
 //! The calls on children: fork, and the wait for a child that has ended.
-ghost use Rattle.std.specs.Prelude.{◌≡◌, ◌≤◌, ◌⊎◌, ℕ, Bool, ◌∷◌, ◌++◌, [], List, length, option_map, IfOk, IfErr, OnOk, OnErr};
+ghost use Rattle.std.specs.Prelude.{◌≡◌, ◌≤◌, ◌⊎◌, ℕ, pos, ◌∷◌, ◌++◌, [], List, length, option_map, IfOk, IfErr, OnOk, OnErr};
 ghost use Rattle.tx_base.specs.declared.steps.Refusal.TheVariants.{NoMemory};
-ghost use Rattle.tx_kernel.specs.Actors.{IsActor, inside_of, me_of};
+ghost use Rattle.tx_kernel.specs.Actors.{IsActor, effect_by, names_by};
 ghost use Rattle.tx_base.specs.Slots.{slot_at};
 ghost use Rattle.tx_change.specs.Counts.{desc_changes};
 ghost use Rattle.tx_change.specs.Exchange.{IsPid, sizes_of};
 ghost use Rattle.tx_kernel.specs.Plans.{Plans, Extends, IsBadChoice, IsGoodChoice, RefusedBy};
 ghost use Rattle.tx_kernel.specs.Trees.{child_at, IsEndedChild};
 ghost use Rattle.tx_model.specs.Answer.{ChoosesProcess, is_bad_choice};
-ghost use Rattle.tx_model.specs.Processes.{exit_effect, exit_objects, exit_status, fork_effect, fork_objects, forks, numbered, waits_by, waitpid_effect, waitpid_objects};
-ghost use Rattle.tx_model.specs.State.{Proc as TheProc};
+ghost use Rattle.tx_model.specs.Book.{exit, fork, waitpid};
+ghost use Rattle.tx_model.specs.Forms.{changes};
+ghost use Rattle.tx_model.specs.Processes.{child_of, exit_status, numbered, exit_objects, fork_objects, waitpid_objects, with_status};
+ghost use Rattle.tx_model.specs.State.{Proc as TheProc, SetProc};
 
 use crate::actor::Actor;
 use crate::laws::laws;
@@ -41,8 +43,12 @@ impl Actor<'_> {
         log: &mut Log,
     ) -> Result<Planned, Refusal>
         requires { IsActor self.now }
-        ensures ok { IfOk result (λ planned. Plans self.now log.old log.new planned (λ S. fork_effect self.now.pid.0 child.0 (me_of self.now) S) (λ S. fork_objects child.0 (me_of self.now))) }
-        ensures refused { IfErr result (λ why. RefusedBy self.now why (λ S. fork_effect self.now.pid.0 child.0 (me_of self.now) S) ⊎ IsBadChoice self.now why (ChoosesProcess child.0)) }
+        ensures ok { IfOk result (λ planned. Plans self.now log.old log.new planned
+            (effect_by self.now (fork child.0))
+            (names_by self.now (λ c. fork_objects child.0 c.process))) }
+        ensures refused { IfErr result (λ why.
+            RefusedBy self.now why (effect_by self.now (fork child.0))
+            ⊎ IsBadChoice self.now why (ChoosesProcess child.0)) }
         ensures numbers { IfOk result (λ planned. IsGoodChoice self.now (ChoosesProcess child.0)) }
         ensures log { OnErr result (Extends log.old log.new) }
     {
@@ -67,7 +73,10 @@ impl Actor<'_> {
         requires actor { IsActor self.now }
         requires number { IsPid (sizes_of self.now.parts.now) child.0 }
         requires free { slot_at self.now.parts.now.procs child.0 ≡ None }
-        ensures ok { IfOk result (λ planned. Plans self.now log.old log.new planned (λ S. forks self.now.pid.0 child.0 (me_of self.now) None) (λ S. fork_objects child.0 (me_of self.now))) }
+        ensures ok { IfOk result (λ planned. Plans self.now log.old log.new planned
+            (effect_by self.now (λ c. changes
+            (pos child.0) c.process (SetProc child.0 (Some (child_of c.number c.process)) ∷ [])))
+            (names_by self.now (λ c. fork_objects child.0 c.process))) }
         ensures err { OnErr result (Extends log.old log.new) }
     {
         laws();
@@ -91,8 +100,11 @@ impl Actor<'_> {
         log: &mut Log,
     ) -> Result<Planned, Refusal>
         requires { IsActor self.now }
-        ensures ok { IfOk result (λ planned. Plans self.now log.old log.new planned (λ S. exit_effect (inside_of self.now.inside) self.now.pid.0 status (me_of self.now) S) (λ S. exit_objects (inside_of self.now.inside) self.now.pid.0 (me_of self.now) S)) }
-        ensures refused { IfErr result (λ why. RefusedBy self.now why (λ S. exit_effect (inside_of self.now.inside) self.now.pid.0 status (me_of self.now) S)) }
+        ensures ok { IfOk result (λ planned. Plans self.now log.old log.new planned
+            (effect_by self.now (exit status))
+            (names_by self.now (λ c. exit_objects c.inside c.number c.process c.state))) }
+        ensures refused { IfErr result (λ why.
+            RefusedBy self.now why (effect_by self.now (exit status))) }
         ensures log { OnErr result (Extends log.old log.new) }
     {
         if self.pid.0 == 1 {
@@ -113,8 +125,11 @@ impl Actor<'_> {
         log: &mut Log,
     ) -> Result<Planned, Refusal>
         requires { IsActor self.now }
-        ensures ok { IfOk result (λ planned. Plans self.now log.old log.new planned (λ S. waitpid_effect self.now.pid.0 number nohang (me_of self.now) S) (λ S. waitpid_objects number S)) }
-        ensures refused { IfErr result (λ why. RefusedBy self.now why (λ S. waitpid_effect self.now.pid.0 number nohang (me_of self.now) S)) }
+        ensures ok { IfOk result (λ planned. Plans self.now log.old log.new planned
+            (effect_by self.now (waitpid number nohang))
+            (names_by self.now (λ c. waitpid_objects number c.state))) }
+        ensures refused { IfErr result (λ why.
+            RefusedBy self.now why (effect_by self.now (waitpid number nohang))) }
         ensures log { OnErr result (Extends log.old log.new) }
     {
         let Some(child) = self.child(number) else {
@@ -160,7 +175,9 @@ impl Actor<'_> {
     fn plan_removal(&self, child: Pid, status: u16, log: &mut Log) -> Result<Planned, NoMemory>
         requires actor { IsActor self.now }
         requires ended { IsEndedChild self.now child.0 status }
-        ensures ok { IfOk result (λ planned. (nohang : Bool) → Plans self.now log.old log.new planned (λ S. waits_by self.now.pid.0 child.0 nohang (me_of self.now) (Some status)) (λ S. TheProc child.0 ∷ [])) }
+        ensures ok { IfOk result (λ planned. Plans self.now log.old log.new planned
+            (effect_by self.now (λ c. changes
+            (pos child.0) (with_status status c.process) (SetProc child.0 None ∷ []))) (λ S. TheProc child.0 ∷ [])) }
         ensures err { OnErr result (Extends log.old log.new) }
     {
         laws();

@@ -1,6 +1,7 @@
 -- States that agree at an object agree there after the same writes, posts and conclusion.
 use Rattle.std.proofs.Common.{◌≡◌, ℕ, Bool, true, false, List, [], ◌∷◌, ℤ, Option, Some, None, if◌then◌else◌, ◌==◌, refl, sym, ap, ◌∙◌, subst, eqb-true}
-use Rattle.tx_model.specs.State.{Process, State, Sending, Object, Proc, Desc, Pipe, Held, Write, SetProc, SetDesc, SetPipe, SetHeld, put_at, write_one, written, has_parent, names_at, side_in, AgreePart, AgreeFamily, AgreeAt}
+use Rattle.tx_model.specs.State.{Process, State, Sending, Object, Proc, Desc, Pipe, Held, Write, SetProc, SetDesc, SetPipe, SetHeld, put_at, write_one, written, has_parent, names_at, side_in}
+use Rattle.tx_model.specs.StateLaws.{AgreePart, AgreeFamily, AgreeAt}
 use Rattle.tx_model.specs.Posts.{is_realtime, has_room, may_signal, is_quiet, with_queued, with_pending, with_signal, received, post, posts}
 use Rattle.tx_model.specs.Effects.{Conclusion, Replies, AnswersPost, ListsFailed, Effect, noted_if, first_answer, concluded, applied}
 

@@ -2,7 +2,8 @@
 use Rattle.std.proofs.Common.{◌≡◌, Bool, true, false, List, [], ◌∷◌, ℤ, ◌==◌, if◌then◌else◌, refl, ap, ap₂, ◌∙◌, inl, inr, ◌⊎◌, eq-eqb}
 use Rattle.std.specs.Ordering.{int_eq}
 use Rattle.std.proofs.lemmas.Bool.Decides.{Decides-int_eq}
-use Rattle.tx_model.specs.State.{State, Sending, Proc, AgreePart}
+use Rattle.tx_model.specs.State.{State, Sending, Proc}
+use Rattle.tx_model.specs.StateLaws.{AgreePart}
 use Rattle.tx_model.specs.Posts.{post_answer, post, answers}
 use Rattle.tx_model.specs.View.{differs_at}
 use Rattle.tx_laws.specs.Fits.{IsIn}

@@ -1,7 +1,8 @@
 -- What stands at an object in the states without some transactions depends on who touched it.
 use Rattle.std.proofs.Common.{◌≡◌, ℕ, Bool, true, false, not, List, [], ◌∷◌, ◌++◌, ℤ, Option, if◌then◌else◌, ◌==◌, refl, sym, ap, ap₂, ◌∙◌, subst, inl, inr, ◌⊎◌, eq-eqb, eqb-true}
 use Rattle.std.proofs.lemmas.Bool.{both_ways, cases_Bool}
-use Rattle.tx_model.specs.State.{Process, State, Sending, Object, Proc, Held, AgreeAt, AgreeOn, same_object, has, is_between}
+use Rattle.tx_model.specs.State.{Process, State, Sending, Object, Proc, Held, same_object, has, is_between}
+use Rattle.tx_model.specs.StateLaws.{AgreeAt, AgreeOn}
 use Rattle.tx_model.specs.Effects.{Effect, before_sends, send_answers}
 use Rattle.tx_model.specs.Posts.{answers}
 use Rattle.tx_model.specs.Events.{Event, Note, actor, effect, objects, after, reply_of}

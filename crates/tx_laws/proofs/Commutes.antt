@@ -1,11 +1,11 @@
 -- Two events that name different objects do the same in either order.
 use Rattle.std.proofs.Common.{◌≡◌, true, false, List, [], ◌∷◌, ◌++◌, sym, ap, ap₂, ◌∙◌, subst, inl, inr}
 use Rattle.std.proofs.lemmas.Bool.{both_ways, cases_Bool}
-use Rattle.tx_model.specs.State.{State, Sending, Object, Proc, AgreePart, AgreeAt, AgreeOn, has}
+use Rattle.tx_model.specs.State.{State, Sending, Object, Proc, has}
 use Rattle.tx_model.specs.Effects.{Effect, before_sends, send_answers}
 use Rattle.tx_model.specs.Events.{Event, effect, objects, after, reply_of}
 use Rattle.tx_model.specs.History.{processes_of}
-use Rattle.tx_model.specs.StateLaws.{state_ext}
+use Rattle.tx_model.specs.StateLaws.{state_ext, AgreePart, AgreeAt, AgreeOn}
 use Rattle.tx_laws.specs.Fits.{IsIn}
 use Rattle.tx_laws.specs.Commuting.{named_by, AreApart}
 use Rattle.tx_laws.proofs.Agree.{agree_sym, part_sym, part_trans, written_part}

@@ -7,11 +7,13 @@ use Rattle.tx_base.specs.declared.steps.Call.{Call}
 use Rattle.tx_base.specs.declared.steps.Reply.TheVariants.{Done}
 use Rattle.tx_base.specs.declared.steps.Step.{Step}
 use Rattle.tx_base.specs.declared.steps.Step.TheVariants.{Call as Calls}
+use Rattle.tx_model.specs.Forms.{fails, posts as posts_of, effect_of, ◌or◌}
+use Rattle.tx_model.specs.Book.{sigqueue, sent_by}
+use Rattle.tx_base.specs.declared.errors.Errno.TheVariants.{NoSuchProcess}
 use Rattle.tx_model.specs.SignalSets.{kill_signo, is_realtime, with_one_more}
 use Rattle.tx_model.specs.State.{Process, State, Sending, written, is_between}
 use Rattle.tx_model.specs.Posts.{may_signal, is_quiet, has_room, with_queued, with_pending, received, post_answer, post, posts, answers}
 use Rattle.tx_model.specs.Effects.{Effect, AnswersPost, noted_if, send_answers, applied, concluding_reply}
-use Rattle.tx_model.specs.Sends.{sent_by, posts_now, sends_signal, send_effect}
 use Rattle.tx_model.specs.Calls.{MakesCall, call_effect, running_effect, effect_at}
 use Rattle.tx_model.specs.Events.{Event, Do, process_of, effect, after, reply_of}
 use Rattle.tx_model.specs.Membership.{is_live, Role, Outside, Ordinary, kind_of, role, event}
@@ -21,6 +23,7 @@ use Rattle.tx_model.specs.Answer.{is_running, refusal, plain_reply, accepted_rep
 use Rattle.tx_laws.specs.Fits.{Fits, Passes, ends_it}
 use Rattle.tx_laws.specs.Sound.{IsSound}
 use Rattle.tx_laws.proofs.Coherence.{starter_keeps, quiet_effect, quiet_sent, outside_quiet}
+use Rattle.tx_laws.proofs.OfPages.{caller}
 use Rattle.tx_laws.proofs.KeptByPosts.{IsKept, concluded_keeps}
 use Rattle.tx_laws.proofs.StepView.{IsFitting, fitting}
 use Rattle.tx_laws.proofs.Taken.{IsTaken, taken, unless_accepted, unrefused}
@@ -84,13 +87,17 @@ killed_by me s value (Some q) run other h = by (may_signal (sent_by me s 9 value
     by true k b e c f = rw (e, f) (eq-eqb (bit_at (bit_or q.pending (2 ^ 9)) 9) 1 (omega (arith, bit_at_or q.pending (2 ^ 9) 9, bit_at-lt q.pending 9, bit_at-pow_same 9)))
     by false k b e c f = cc
 
+-- one post, whose answer is the answer
+abbrev posts_now : ℕ → Sending → Effect
+posts_now p m = record { writes = []; sends = m ∷ []; conclusion = AnswersPost p }
+
 -- the effect of an outsider's SIGKILL
 kill_effect : (call : Call) (pid : Pid) (s : ℕ) (value : ℤ) (S : State) (me : Process) → S.procs pid.0 ≡ Some me → me.status ≡ None → is_between S.width s ≡ true
-    → call_effect None pid.0 call me S ≡ send_effect pid.0 None me (pos s) (pos 9) value S → effect (Do (Calls pid call) None) S ≡ posts_now pid.0 (sent_by me s 9 value)
+    → call_effect None pid.0 call me S ≡ effect_of pid.0 me (sigqueue (pos s) (pos 9) value (caller None pid.0 me S)) → effect (Do (Calls pid call) None) S ≡ posts_now pid.0 (sent_by me s 9 value)
 unfolding effect
 kill_effect call pid s value S me e run there same =
     ap (effect_at None pid.0 (MakesCall call) S) e ∙ ap (running_effect None pid.0 (MakesCall call) S me) run ∙ same
-    ∙ ap (λ (b : Bool). sends_signal pid.0 None me (if b then Some s else None) (Some 9) value S) there
+    ∙ ap (λ (b : Bool). effect_of pid.0 me (((if b then Some s else None) or fails NoSuchProcess) λ target. posts_of (sent_by me target 9 value))) there
 
 -- the reply to a post, and what it makes of its target
 posts_reply : (ev : Event) (p : ℕ) (m : Sending) (S : State) → effect ev S ≡ posts_now p m → reply_of ev S ≡ Done (post_answer m (S.procs m.target))
@@ -109,7 +116,7 @@ posts_killed ev p m S e h =
 
 -- an outsider's call that sends SIGKILL to the starter of a live transaction, and is answered 0
 module _ (V : View) (pid : Pid) (s : ℕ) (call : Call) (value : ℤ) (kind : kind_of call ≡ Ordinary)
-    (sends : (me : Process) (S : State) → call_effect None pid.0 call me S ≡ send_effect pid.0 None me (pos s) (pos 9) value S)
+    (sends : (me : Process) (S : State) → call_effect None pid.0 call me S ≡ effect_of pid.0 me (sigqueue (pos s) (pos 9) value (caller None pid.0 me S)))
     (sound : IsSound V) (outside : V.table.marks pid.0 ≡ None) (live : is_live V.table s ≡ true) (other : s ≢ 1) (answered : answer V (Calls pid call) ≡ Done (pos 0)) where
   abbrev ev : Event
   ev = Do (Calls pid call) None

@@ -2,7 +2,8 @@
 use Rattle.std.proofs.Common.{◌≡◌, ℕ, Bool, true, false, List, [], ◌∷◌, ◌++◌, ℤ, Option, if◌then◌else◌, ◌==◌, refl, sym, ap, ◌∙◌, eqb-true}
 use Rattle.tx_base.specs.declared.steps.Step.{Step}
 use Rattle.tx_base.specs.declared.steps.Step.TheVariants.{Call as Calls, Deliver, KernelAbort}
-use Rattle.tx_model.specs.State.{Process, State, Sending, Object, Proc, Desc, Pipe, Held, Write, SetProc, SetDesc, SetPipe, SetHeld, write_one, written, has_parent, names_at, side_in, AgreeAt, same_object, has}
+use Rattle.tx_model.specs.State.{Process, State, Sending, Object, Proc, Desc, Pipe, Held, Write, SetProc, SetDesc, SetPipe, SetHeld, write_one, written, has_parent, names_at, side_in, same_object, has}
+use Rattle.tx_model.specs.StateLaws.{AgreeAt}
 use Rattle.tx_model.specs.Posts.{received, post, posts}
 use Rattle.tx_model.specs.Effects.{Inside, Conclusion, Replies, AnswersPost, ListsFailed, Effect, noted_if, first_answer, concluded, send_answers}
 use Rattle.tx_model.specs.Calls.{MakesCall, TakesSignal}

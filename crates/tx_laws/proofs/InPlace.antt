@@ -1,5 +1,6 @@
 -- Rules that change their own process in place.
 use Rattle.std.proofs.Common.{◌≡◌, ℕ, Bool, true, false, List, [], ℤ, Option, Some, None, is_some, if◌then◌else◌, ◌==◌, slice_index_or, refl, ap, ap₂}
+use Rattle.std.proofs.lemmas.Bool.{both_ways}
 use Rattle.tx_base.specs.declared.steps.Refusal.{Refusal}
 use Rattle.tx_model.specs.State.{Process, State, Object, Proc, Desc, Held, SetProc, is_number, names_at, has}
 use Rattle.tx_model.specs.Effects.{Inside, Effect, Own, idle, answers_with, own_effect, noted, done}
@@ -40,9 +41,9 @@ module _ (p : ℕ) (me : Process) (S : State) (all : List Object) (e : S.procs p
   pub done_fits : (r : ℤ) → StaysIn S all (done p r me)
   done_fits r = ((noted_fits r, tt), tt)
 
-pub held_nowhere : (u : ℕ) → has (Held u) [] ≡ true → ⊥
+pub held_nowhere : (u : ℕ) → has (Held u) [] ≡ false
 unfolding has
-held_nowhere u h = cc
+held_nowhere u = refl
 
 -- a rule that does nothing
 pub idle_local : (inside : Option Inside) (p : ℕ) (me : Process) (why : Refusal) → IsLocal inside p me (λ S. idle why) (λ S. [])
@@ -51,7 +52,7 @@ idle_local inside p me why = record {
   foot = λ S R a. refl;
   fits = λ S all e c. (tt, tt);
   sends = λ S i e k m h. absurd h;
-  holds = λ S i e u h. absurd (held_nowhere u h);
+  holds = λ S i e u h. absurd (both_ways (has (Held u) []) (held_nowhere u) h);
 }
 
 -- a rule that concerns its own process alone, and keeps its place
@@ -61,7 +62,7 @@ own_local inside p me own k = record {
   foot = λ S R a. refl;
   fits = λ S all e c. ((kept_fits p me S all e (c (Proc p) (has_head (Proc p) [])) own.process k, tt), tt);
   sends = λ S i e member m h. absurd h;
-  holds = λ S i e u h. absurd (held_nowhere u h);
+  holds = λ S i e u h. absurd (both_ways (has (Held u) []) (held_nowhere u) h);
 }
 
 -- a rule that answers, and does nothing else

@@ -2,18 +2,16 @@
 use Rattle.std.proofs.Common.{◌≡◌, ◌≢◌, ℕ, suc, ◌+◌, ◌<◌, ◌≤◌, Bool, true, false, not, ◌^◌, List, [], ◌∷◌, ◌++◌, length, ℤ, pos, Option, Some, None, if◌then◌else◌, nat_lt, ◌==◌, bit_and, refl, sym, ap, ◌∙◌, subst, arith, length-append}
 use Rattle.std.proofs.lemmas.Bool.{ltb-true}
 use Rattle.std.proofs.lemmas.Nat.Bits.{bit_at-zero}
-use Rattle.tx_base.specs.declared.errors.Errno.TheVariants.{NoSuchProcess, TryAgain, InvalidArgument}
 use Rattle.tx_base.specs.declared.signals.SigSet.{SigSet}
 use Rattle.tx_base.specs.declared.steps.Refusal.TheVariants.{NotDeliverable, Deferred, FramesFull}
 use Rattle.tx_base.specs.declared.steps.Reply.TheVariants.{Done}
-use Rattle.tx_base.specs.declared.limits.TheConstants.{HELD_SENDS, FRAMES}
+use Rattle.tx_base.specs.declared.limits.TheConstants.{FRAMES}
 use Rattle.tx_model.specs.Numbers.{failing}
 use Rattle.tx_model.specs.SignalSets.{is_realtime, is_in_set, without_one}
-use Rattle.tx_model.specs.State.{Process, State, Queued, Frame, Sending, SetHeld, written}
-use Rattle.tx_model.specs.Effects.{Inside, idle, own_effect, done, done_with}
-use Rattle.tx_model.specs.Processes.{numbered}
-use Rattle.tx_model.specs.Scripts.{closed_inside}
-use Rattle.tx_model.specs.Sends.{sent_by_members, sendable, sent_by, posts_now, holds, hands_out, sends_signal, send_effect}
+use Rattle.tx_model.specs.State.{Process, State, Queued, Frame, written}
+use Rattle.tx_model.specs.Effects.{Inside, idle, own_effect}
+use Rattle.tx_model.specs.Forms.{effect_of}
+use Rattle.tx_model.specs.Book.{sigqueue, closed_inside}
 use Rattle.tx_model.specs.Deliveries.{first_value, less_first, is_blocked, delivered_value, relieved, action_at, caught, killed_status, acts_on, is_deferred, delivers, delivery_effect}
 use Rattle.tx_model.specs.Signals.{disposition, Disposition, Ignored, Fatal, Caught}
 use Rattle.tx_laws.specs.WellFormed.{AllSaved, IsFirst}
@@ -21,6 +19,7 @@ use Rattle.tx_laws.proofs.KeepsFormParts.{IsArranged}
 use Rattle.tx_laws.proofs.KeepsFormOwn.{KeepsSizes, sizes_trans, less_of_none}
 use Rattle.tx_laws.proofs.KeepsFormNames.{KeepsForm, idle_form, noted_form, done_form, own_form}
 use Rattle.tx_laws.proofs.KeepsFormEnding.{held_form, ending_form}
+use Rattle.tx_model.specs.BookLaws.{sigqueue_lines}
 
 -- a queue without an entry is shorter
 first_fewer : (signo : ℕ) (entries : List Queued) → length (less_first signo entries) ≤ length entries
@@ -140,32 +139,10 @@ module _ (S : State) (p : ℕ) (me : Process) (e : S.procs p ≡ Some me) (runs 
   delivery_form inside signo = delivers_form inside signo (delivered_value signo me) refl
 
   -- sends
-  now_form : (m : Sending) → KeepsForm S (posts_now p m)
+  pub sigqueue_form : (inside : Option Inside) (t signo value : ℤ)
+      → KeepsForm S (effect_of p me (sigqueue t signo value (record { number = p; process = me; inside = inside; state = S })))
   unfolding written
-  now_form m = w
-
-  holds_form : (inside : Inside) (m : Sending) → KeepsForm S (holds p inside me m S)
-  unfolding written
-  holds_form inside m = by (m.signo == 0) (nat_lt (sent_by_members (S.held inside.starter)) HELD_SENDS)
-    where
-      by : (b c : Bool) → KeepsForm S (if b then done p closed_inside me
-          else (if c then done_with (SetHeld inside.starter (S.held inside.starter ++ m ∷ []) ∷ []) p (pos 0) me else done p (failing TryAgain) me))
-      by true c = noted_form S p me e w closed_inside
-      by false true = held_form _ inside.starter (S.held inside.starter ++ m ∷ []) (noted_form S p me e w (pos 0))
-      by false false = noted_form S p me e w (failing TryAgain)
-
-  hands_form : (inside : Option Inside) (m : Sending) → KeepsForm S (hands_out p inside me m S)
-  hands_form None m = now_form m
-  hands_form (Some inside) m = by (inside.members m.target)
-    where
-      by : (b : Bool) → KeepsForm S (if b then posts_now p m else holds p inside me m S)
-      by true = now_form m
-      by false = holds_form inside m
-
-  signal_form : (inside : Option Inside) (t signo : Option ℕ) (value : ℤ) → KeepsForm S (sends_signal p inside me t signo value S)
-  signal_form inside t None value = done_form S p me e w (failing InvalidArgument)
-  signal_form inside None (Some signo) value = done_form S p me e w (failing NoSuchProcess)
-  signal_form inside (Some t) (Some signo) value = hands_form inside (sent_by me t signo value)
-
-  pub send_form : (inside : Option Inside) (t signo value : ℤ) → KeepsForm S (send_effect p inside me t signo value S)
-  send_form inside t signo value = signal_form inside (numbered S.width t) (sendable signo) value
+  sigqueue_form inside t signo value =
+      sigqueue_lines (λ outcome. KeepsForm S (effect_of p me outcome)) (record { number = p; process = me; inside = inside; state = S }) (λ errno. done_form S p me e w (failing errno)) t signo value (done_form S p me e w closed_inside)
+      (λ signo target known there outside. w)
+      λ signo target i known there held some room. held_form _ i.starter _ (noted_form S p me e w (pos 0))

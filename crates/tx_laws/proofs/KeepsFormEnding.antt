@@ -1,14 +1,16 @@
 -- The end of a process leaves a state well formed.
 use Rattle.std.proofs.Common.{◌≡◌, ◌≢◌, ℕ, zero, suc, ◌+◌, ◌<◌, ◌⊎◌, Bool, true, false, List, [], ◌∷◌, ◌++◌, ℤ, Option, Some, None, is_some, is_none, if◌then◌else◌, ◌==◌, slice_index_or, refl, sym, ap, ◌∙◌, subst, inl, inr, eq-eqb, eqb-true, arith}
 use Rattle.std.proofs.lemmas.Bool.{both_ways, cases_Bool, ne_eqb}
-use Rattle.tx_base.specs.declared.errors.Errno.TheVariants.{NotPermitted}
 use Rattle.tx_model.specs.Numbers.{failing}
-use Rattle.tx_model.specs.State.{Process, Description, State, Sending, Object, Proc, Desc, Pipe, Held, Write, SetProc, SetHeld, put_at, write_one, written, has_parent, is_number, names_at, side_in, is_between, AgreeAt, has}
-use Rattle.tx_model.specs.Effects.{Inside, done}
+use Rattle.tx_model.specs.State.{Process, Description, State, Sending, Object, Proc, Desc, Pipe, Held, Write, SetProc, SetHeld, put_at, write_one, written, has_parent, is_number, names_at, side_in, is_between, has}
+use Rattle.tx_model.specs.Effects.{Inside}
+use Rattle.tx_model.specs.Forms.{effect_of}
+use Rattle.tx_model.specs.Book.{exit}
+use Rattle.tx_model.specs.BookLaws.{exit_lines}
 use Rattle.tx_model.specs.Descriptors.{open_in, pipes_of, released, desc_objects, pipe_list, desc_pipe_objects}
-use Rattle.tx_model.specs.Processes.{ended, children_below, children_of, with_parent, orphaned, told_to, ending, exit_status, exit_effect, telling, told_at_commit, NotTold, AtOnce, AtCommit}
+use Rattle.tx_model.specs.Processes.{ended, children_below, children_of, with_parent, orphaned, told_to, ending, exit_status, telling, told_at_commit, NotTold, AtOnce, AtCommit}
 use Rattle.tx_model.specs.Answer.{is_running}
-use Rattle.tx_model.specs.StateLaws.{put_here, put_cases, put_there}
+use Rattle.tx_model.specs.StateLaws.{put_here, put_cases, put_there, AgreeAt}
 use Rattle.tx_laws.specs.WellFormed.{HasSizes, IsPlaced}
 use Rattle.tx_laws.proofs.Released.{lacks_both, ends_held, released_same}
 use Rattle.tx_laws.proofs.KeepsFormParts.{IsArranged, same_or_other, less_of, number_in, IsTabled, IsNamed, form_from, tabled_of, linked_of, linked_same}
@@ -306,10 +308,8 @@ module _ (S : State) (p status : ℕ) (me now : Process) (e : S.procs p ≡ Some
       subst (λ (R : State). IsArranged R) (sym same) form
 
 -- exit
-pub exit_form : (S : State) (p : ℕ) (me : Process) → S.procs p ≡ Some me → me.status ≡ None → IsArranged S → (inside : Option Inside) (v : ℤ)
-    → KeepsForm S (exit_effect inside p v me S)
-exit_form S p me e runs w inside v = by (p == 1) refl
-  where
-    by : (b : Bool) → (p == 1) ≡ b → KeepsForm S (if b then done p (failing NotPermitted) me else ending inside p (exit_status v) me S)
-    by true z = done_form S p me e w (failing NotPermitted)
-    by false z = ending_form S p (exit_status v) me me e runs w (λ a. both_ways (p == 1) z (eq-eqb p 1 a)) refl refl inside
+pub exit_form : (S : State) (p : ℕ) (me : Process) (inside : Option Inside) → S.procs p ≡ Some me → me.status ≡ None → IsArranged S → (v : ℤ)
+    → KeepsForm S (effect_of p me (exit v (record { number = p; process = me; inside = inside; state = S })))
+exit_form S p me inside e runs w v =
+    exit_lines (λ outcome. KeepsForm S (effect_of p me outcome)) (record { number = p; process = me; inside = inside; state = S }) (λ errno. done_form S p me e w (failing errno)) v
+    λ other. ending_form S p (exit_status v) me me e runs w (λ a. both_ways (p == 1) other (eq-eqb p 1 a)) refl refl inside

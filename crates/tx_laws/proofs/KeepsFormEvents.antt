@@ -7,34 +7,27 @@ use Rattle.tx_base.specs.declared.steps.Call.TheVariants as call
 use Rattle.tx_base.specs.declared.steps.Step.{Step}
 use Rattle.tx_base.specs.declared.steps.Step.TheVariants.{Call as Calls, Deliver, KernelAbort}
 use Rattle.tx_base.specs.declared.steps.Refusal.TheVariants.{NoProcess, NotRunning, NoTransaction}
-use Rattle.tx_base.specs.declared.limits.TheConstants.{SLOTS}
-use Rattle.tx_model.specs.State.{Process, State, Sending, Object, Proc, Desc, Pipe, Held, SetProc, SetHeld, write_one, written, names_at, is_number, AgreePart, is_between, booted_process, booted}
+use Rattle.tx_model.specs.State.{Process, State, Sending, Object, Proc, Desc, Pipe, Held, SetProc, SetHeld, write_one, written, names_at, is_number, is_between, booted_process, booted}
 use Rattle.tx_model.specs.Posts.{has_room, may_signal, is_quiet, with_queued, with_pending, received, post, posts}
 use Rattle.tx_model.specs.Effects.{Inside, Effect, Conclusion, Replies, AnswersPost, ListsFailed, noted_if, first_answer, concluded, send_answers}
-use Rattle.tx_model.specs.Descriptors.{descriptor, named}
+use Rattle.tx_model.specs.Forms.{Outcome, effect_of}
+use Rattle.tx_model.specs.Book.{page_of_call}
 use Rattle.tx_model.specs.Calls.{call_effect, MakesCall, TakesSignal, running_effect, effect_at}
 use Rattle.tx_model.specs.Events.{Event, Do, Note, Commit, note_effect, step_effect, effect, after}
 use Rattle.tx_model.specs.Answer.{has_bad_number, is_running}
-use Rattle.tx_model.specs.Numbers.{below, failing}
 use Rattle.tx_model.specs.SignalSets.{is_realtime}
-use Rattle.tx_model.specs.Pages.{page_of, remembers, map_page, unmap_page, protect_page, store_bytes, load_byte}
-use Rattle.tx_model.specs.Signals.{known, tells_pending, newest, acts, masks, returns}
-use Rattle.tx_model.specs.Identities.{id_of, set_user, set_effective_user, set_group, set_effective_group}
-use Rattle.tx_model.specs.Scripts.{identifies, jumps, keeps_at, writes_console}
-use Rattle.tx_model.specs.StateLaws.{put_cases, state_ext}
+use Rattle.tx_model.specs.StateLaws.{put_cases, state_ext, AgreePart}
 use Rattle.tx_laws.specs.WellFormed.{HasSizes, IsPlaced, HasGoodNumbers}
 use Rattle.tx_laws.proofs.KeepsFormParts.{IsArranged, StaysPlaced, form_edit}
 use Rattle.tx_laws.proofs.KeepsFormReleased.{written_append}
-use Rattle.tx_laws.proofs.KeepsFormNames.{KeepsForm, idle_form, noted_form, dup_form, dup2_form, close_form, done_form, own_form}
-use Rattle.tx_laws.proofs.KeepsFormTransfers.{nonblock_form, read_form, write_form}
+use Rattle.tx_laws.proofs.KeepsFormNames.{KeepsForm, idle_form, noted_form, dup_form, dup2_form, close_form, own_form}
+use Rattle.tx_laws.proofs.KeepsFormTransfers.{set_nonblock_form, read_form, write_form}
 use Rattle.tx_laws.proofs.KeepsFormPipe.{AreGood, pipe_form}
 use Rattle.tx_laws.proofs.KeepsFormProcesses.{fork_form, waitpid_form}
 use Rattle.tx_laws.proofs.KeepsFormEnding.{held_form, exit_form}
-use Rattle.tx_laws.proofs.KeepsFormDeliveries.{delivery_form, send_form}
-use Rattle.tx_laws.proofs.InPlace.{in_place}
-use Rattle.tx_laws.proofs.KeepsFormOwn.{plain, console_sizes, jumps_sizes, keep_sizes, acts_sizes, returns_sizes, map_sizes, unmap_sizes, protect_sizes, store_sizes, load_sizes, ids_sizes, mask_sizes}
-use Rattle.tx_laws.proofs.OfCalls.{console_keeps, jumps_keeps, keeps_keeps, acts_keeps, returns_keeps}
-use Rattle.tx_base.specs.declared.errors.Errno.TheVariants.{InvalidArgument}
+use Rattle.tx_laws.proofs.KeepsFormDeliveries.{delivery_form, sigqueue_form}
+use Rattle.tx_laws.proofs.OwnPages.{StaysOwn, own_page, own_of}
+use Rattle.tx_laws.proofs.OfPages.{caller}
 
 -- what is put in where it is changes nothing
 same_written : (S : State) (t : ℕ) (x : Option Process) → S.procs t ≡ x → S ≡ write_one (SetProc t x) S
@@ -158,41 +151,24 @@ good_numbers q r w h =
 
 -- calls and deliveries of a running process
 module _ (S : State) (inside : Option Inside) (p : Pid) (me : Process) (e : S.procs p.0 ≡ Some me) (runs : me.status ≡ None) (w : IsArranged S) where
+  -- a call that concerns its process alone
+  alone_form : (outcome : Outcome) → StaysOwn me outcome → KeepsForm S (effect_of p.0 me outcome)
+  alone_form outcome h = let own = own_of p.0 me outcome h in subst (KeepsForm S) (sym own.1) (own_form S p.0 me e w own.0 own.2.place own.2.sizes)
+
   call_form : (c : Call) → has_bad_number S.width (Calls p c) ≡ false → KeepsForm S (call_effect inside p.0 c me S)
-  call_form (call.Map page) h = own_form S p.0 me e w (remembers (map_page (page_of page) me.memory) me) (in_place me _ refl refl refl) (map_sizes me (page_of page))
-  call_form (call.Unmap page) h = own_form S p.0 me e w (remembers (unmap_page (page_of page) me.memory) me) (in_place me _ refl refl refl) (unmap_sizes me (page_of page))
-  call_form (call.Protect page writable) h = own_form S p.0 me e w (remembers (protect_page (page_of page) writable me.memory) me) (in_place me _ refl refl refl) (protect_sizes me (page_of page) writable)
-  call_form (call.Store address bytes) h = own_form S p.0 me e w (remembers (store_bytes address bytes.items me.memory) me) (in_place me _ refl refl refl) (store_sizes me address bytes.items)
-  call_form (call.Load address) h = own_form S p.0 me e w (remembers (load_byte address me.memory) me) (in_place me _ refl refl refl) (load_sizes me address)
-  call_form (call.Fork child) h = fork_form S p.0 me e runs w child.0 (in_range (is_between S.width child.0) h)
-  call_form (call.Exit status) h = exit_form S p.0 me e runs w inside status
-  call_form (call.Waitpid t nohang) h = waitpid_form S p.0 me e runs w t nohang
-  call_form call.Getpid h = done_form S p.0 me e w (pos p.0)
-  call_form call.Getppid h = done_form S p.0 me e w (pos me.parent)
-  call_form (call.Setuid u) h = own_form S p.0 me e w (identifies (set_user (id_of u) me.ids) me) (in_place me _ refl refl refl) (ids_sizes me (set_user (id_of u) me.ids))
-  call_form (call.Seteuid u) h = own_form S p.0 me e w (identifies (set_effective_user (id_of u) me.ids) me) (in_place me _ refl refl refl) (ids_sizes me (set_effective_user (id_of u) me.ids))
-  call_form (call.Setgid g) h = own_form S p.0 me e w (identifies (set_group (id_of g) me.ids) me) (in_place me _ refl refl refl) (ids_sizes me (set_group (id_of g) me.ids))
-  call_form (call.Setegid g) h = own_form S p.0 me e w (identifies (set_effective_group (id_of g) me.ids) me) (in_place me _ refl refl refl) (ids_sizes me (set_effective_group (id_of g) me.ids))
-  call_form (call.Pipe q r v) h = pipe_form S p.0 q.0 r.0 v.0 me e runs w (good_numbers q.0 r.0 v.0 h)
-  call_form (call.Dup f) h = dup_form S p.0 me e runs w (descriptor f)
-  call_form (call.Dup2 f g) h = dup2_form S p.0 me e runs w (descriptor f) (descriptor g)
-  call_form (call.Close f) h = close_form S p.0 me e runs w (descriptor f)
-  call_form (call.SetNonblock f on) h = nonblock_form S p.0 me e w on (named me (descriptor f))
-  call_form (call.Read f address n) h = read_form S p.0 me e w (named me (descriptor f)) address n
-  call_form (call.Write f address n) h = write_form S p.0 me e w (named me (descriptor f)) address n
-  call_form (call.Kill t signo) h = send_form S p.0 me e runs w inside t signo (pos 0)
-  call_form (call.Sigqueue t signo value) h = send_form S p.0 me e runs w inside t signo value
-  call_form (call.Sigaction signo action) h = own_form S p.0 me e w (acts (known signo) action me) (acts_keeps (known signo) action me) (acts_sizes (known signo) action me)
-  call_form (call.Sigprocmask how set) h = own_form S p.0 me e w (masks how set me) (in_place me _ refl refl refl) (mask_sizes me how set)
-  call_form call.Sigpending h = own_form S p.0 me e w (tells_pending me) (in_place me _ refl refl refl) (plain me _ refl refl refl refl refl refl refl)
-  call_form call.Sigreturn h = own_form S p.0 me e w (returns (newest me.frames) me) (returns_keeps (newest me.frames) me) (returns_sizes (newest me.frames) me refl)
-  call_form (call.ConsoleWrite address n) h = own_form S p.0 me e w (writes_console inside address n me) (console_keeps inside address n me) (console_sizes inside address n me)
-  call_form (call.Jump point when) h = own_form S p.0 me e w (jumps point when me) (jumps_keeps point when me) (jumps_sizes point when me)
-  call_form (call.Keep slot) h = own_form S p.0 me e w (keeps_at (below SLOTS slot) me) (keeps_keeps (below SLOTS slot) me) (keep_sizes (below SLOTS slot) me)
-  call_form call.SysXbegin h = done_form S p.0 me e w (failing InvalidArgument)
-  call_form call.SysXbeginDefer h = done_form S p.0 me e w (failing InvalidArgument)
-  call_form call.SysXend h = done_form S p.0 me e w (failing InvalidArgument)
-  call_form call.SysXabort h = done_form S p.0 me e w (failing InvalidArgument)
+  call_form (call.Fork child) h = fork_form S p.0 me inside e runs w child.0 (in_range (is_between S.width child.0) h)
+  call_form (call.Exit status) h = exit_form S p.0 me inside e runs w status
+  call_form (call.Waitpid t nohang) h = waitpid_form S p.0 me inside e runs w t nohang
+  call_form (call.Pipe q r v) h = pipe_form S p.0 q.0 r.0 v.0 me inside e runs w (good_numbers q.0 r.0 v.0 h)
+  call_form (call.Dup f) h = dup_form S p.0 me inside e runs w f
+  call_form (call.Dup2 f g) h = dup2_form S p.0 me inside e runs w f g
+  call_form (call.Close f) h = close_form S p.0 me inside e runs w f
+  call_form (call.SetNonblock f on) h = set_nonblock_form S p.0 me inside e w f on
+  call_form (call.Read f address n) h = read_form S p.0 me inside e w f address n
+  call_form (call.Write f address n) h = write_form S p.0 me inside e w f address n
+  call_form (call.Kill t signo) h = sigqueue_form S p.0 me e runs w inside t signo (pos 0)
+  call_form (call.Sigqueue t signo value) h = sigqueue_form S p.0 me e runs w inside t signo value
+  call_form c h = alone_form ((page_of_call c).outcome (caller inside p.0 me S)) (own_page (caller inside p.0 me S) c tt)
 
 -- a step: a process that is not there or has ended does nothing
 module _ (S : State) (inside : Option Inside) (w : IsArranged S) where

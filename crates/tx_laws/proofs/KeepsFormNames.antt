@@ -1,14 +1,17 @@
 -- The calls that concern their own process alone, and dup, dup2 and close, leave a state well formed.
 use Rattle.std.proofs.Common.{◌≡◌, ℕ, zero, suc, ◌+◌, ◌<◌, ◌⊎◌, Bool, true, false, List, [], ◌∷◌, length, ℤ, pos, Option, Some, None, is_some, if◌then◌else◌, ◌==◌, slice_index_or, slice_set, refl, sym, ap, ◌∙◌, subst, inl, inr, eq-eqb, eqb-true, arith}
 use Rattle.std.proofs.lemmas.List.{length-set}
-use Rattle.tx_base.specs.declared.errors.Errno.TheVariants.{BadDescriptor, TooManyDescriptors}
+use Rattle.tx_base.specs.declared.errors.Errno.{Errno}
 use Rattle.tx_base.specs.declared.steps.Refusal.{Refusal}
 use Rattle.tx_model.specs.Numbers.{failing}
 use Rattle.tx_model.specs.State.{Process, State, SetProc, write_one, written, is_number, names_at}
-use Rattle.tx_model.specs.Effects.{Effect, Own, idle, noted, own_effect, done}
-use Rattle.tx_model.specs.Descriptors.{named, with_descriptor, first_free, lowest_free, listed, pipes_of, unnamed_go, endless_go, gives_up, bad_descriptor, dups_to, dup_effect, renames, dup2_named, dup2_effect, closes, close_effect}
+use Rattle.tx_model.specs.Effects.{Effect, Inside, Own, idle, noted, own_effect, done}
+use Rattle.tx_model.specs.Forms.{Caller, Outcome, fails, effect_of}
+use Rattle.tx_model.specs.Book.{gives_up, dup, dup2, close}
+use Rattle.tx_model.specs.Descriptors.{named, descriptor, with_descriptor, first_free, listed, pipes_of, unnamed_go, endless_go}
 use Rattle.tx_model.specs.StateLaws.{put_cases}
 use Rattle.tx_laws.proofs.InPlace.{KeepsPlace}
+use Rattle.tx_model.specs.BookLaws.{dup_lines, dup2_lines, close_lines}
 use Rattle.tx_laws.proofs.KeepsFormParts.{IsArranged, IsTabled, IsNamed, IsLinked, names_at_of, tabled_of, linked_of, tabled_edit, form_edit}
 use Rattle.tx_laws.proofs.KeepsFormOwn.{KeepsSizes, stays_from, plain}
 use Rattle.tx_laws.proofs.KeepsFormReleased.{IsAmong, IsLoose, loosened, released_form}
@@ -142,10 +145,11 @@ module _ (S : State) (p : ℕ) (me : Process) (e : S.procs p ≡ Some me) (runs 
       old : (f d : ℕ) → is_number d (slice_index_or me.descriptors f None) ≡ true → ((i : ℕ) × (is_number d (slice_index_or new.descriptors i None) ≡ true)) ⊎ IsAmong d ds
       old f d h = elim (old_slot me.descriptors g v f d h) [ inl z ↦ inl (f, z) | inr z ↦ inr (given d z) ]
 
-  renamed_form : (ds : List ℕ) → ((d : ℕ) → is_number d v ≡ true → is_some (S.descs d) ≡ true) → ((d : ℕ) → is_number d (slice_index_or me.descriptors g None) ≡ true → IsAmong d ds)
-      → KeepsForm S (gives_up ds p r (with_descriptor g v me) S)
+  renamed_form : (ds : List ℕ) (inside : Option Inside) → ((d : ℕ) → is_number d v ≡ true → is_some (S.descs d) ≡ true)
+      → ((d : ℕ) → is_number d (slice_index_or me.descriptors g None) ≡ true → IsAmong d ds)
+      → KeepsForm S (effect_of p me (gives_up ds r (with_descriptor g v me) (record { number = p; process = me; inside = inside; state = S })))
   unfolding written
-  renamed_form ds now given = released_form ds after renamed_tabled (renamed_loose ds now given)
+  renamed_form ds inside now given = released_form ds after renamed_tabled (renamed_loose ds now given)
 
   -- the descriptor was free
   free_form : slice_index_or me.descriptors g None ≡ None → ((d : ℕ) → is_number d v ≡ true → is_some (S.descs d) ≡ true) → KeepsForm S (done p r (with_descriptor g v me))
@@ -155,55 +159,37 @@ module _ (S : State) (p : ℕ) (me : Process) (e : S.procs p ≡ Some me) (runs 
       never : (d : ℕ) → is_number d (slice_index_or me.descriptors g None) ≡ true → ⊥
       never d h = let no : false ≡ true = sym (ap (is_number d) free) ∙ h in cc
 
-module _ (S : State) (p : ℕ) (me : Process) (e : S.procs p ≡ Some me) (runs : me.status ≡ None) (w : IsArranged S) where
-  bad_form : KeepsForm S (bad_descriptor p me)
-  bad_form = done_form S p me e w (failing BadDescriptor)
+module _ (S : State) (p : ℕ) (me : Process) (inside : Option Inside) (e : S.procs p ≡ Some me) (runs : me.status ≡ None) (w : IsArranged S) where
+  abbrev c : Caller
+  c = record { number = p; process = me; inside = inside; state = S }
+
+  -- what holds of an outcome whose effect leaves the state well formed
+  abbrev pub FormKept : Outcome → Type 0
+  FormKept outcome = KeepsForm S (effect_of p me outcome)
+
+  pub error_form : (errno : Errno) → FormKept (fails errno)
+  error_form errno = done_form S p me e w (failing errno)
 
   -- what a descriptor names is there
-  pub named_there : (v : Option ℕ) (d : ℕ) → named me v ≡ Some d → is_some (S.descs d) ≡ true
+  named_there : (v : Option ℕ) (d : ℕ) → named me v ≡ Some d → is_some (S.descs d) ≡ true
   named_there None d h = cc
   named_there (Some f) d h = own_name S p me me e runs (linked_of S w) f d (ap (is_number d) h ∙ eq-eqb d d refl)
 
-  same_there : (d : ℕ) → is_some (S.descs d) ≡ true → (x : ℕ) → (d == x) ≡ true → is_some (S.descs x) ≡ true
-  same_there d h x k = subst (λ (i : ℕ). is_some (S.descs i) ≡ true) (eqb-true d x k) h
+  same_there : (v : Option ℕ) (d : ℕ) → named me v ≡ Some d → (x : ℕ) → (d == x) ≡ true → is_some (S.descs x) ≡ true
+  same_there v d h x k = subst (λ (i : ℕ). is_some (S.descs i) ≡ true) (eqb-true d x k) (named_there v d h)
 
-  -- dup
-  dups_form : (d : ℕ) → is_some (S.descs d) ≡ true → (f : Option ℕ) → lowest_free me ≡ f → KeepsForm S (dups_to p me d f)
-  dups_form d h None k = done_form S p me e w (failing TooManyDescriptors)
-  dups_form d h (Some f) k = free_form S p me e runs w f (Some d) (pos f) (free_place me.descriptors f k).0 (same_there d h)
+  pub dup_form : (f : ℤ) → FormKept (dup f c)
+  dup_form f =
+      dup_lines FormKept c error_form f
+      λ d g h free. free_form S p me e runs w g (Some d) (pos g) (free_place me.descriptors g free).0 (same_there (descriptor f) d h)
 
-  dup_named_form : (v : Option ℕ) → ((d : ℕ) → v ≡ Some d → is_some (S.descs d) ≡ true) → KeepsForm S (dup_effect p me v)
-  dup_named_form None h = bad_form
-  dup_named_form (Some d) h = dups_form d (h d refl) (lowest_free me) refl
+  pub dup2_form : (a b : ℤ) → FormKept (dup2 a b c)
+  dup2_form a b =
+      dup2_lines FormKept c error_form a b (λ g. done_form S p me e w (pos g))
+      λ f d g first h second other.
+      renamed_form S p me e runs w g (Some d) (pos g) (listed (named me (Some g))) inside (same_there (Some f) d h) (λ x k. among_listed x (named me (Some g)) k)
 
-  pub dup_form : (f : Option ℕ) → KeepsForm S (dup_effect p me (named me f))
-  dup_form f = dup_named_form (named me f) (named_there f)
-
-  -- dup2
-  renames_form : (f d : ℕ) (g : Option ℕ) → is_some (S.descs d) ≡ true → KeepsForm S (renames p me S f d g)
-  renames_form f d None h = bad_form
-  renames_form f d (Some g) h = by (f == g)
-    where
-      by : (b : Bool) → KeepsForm S (if b then done p (pos g) me else gives_up (listed (named me (Some g))) p (pos g) (with_descriptor g (Some d) me) S)
-      by true = done_form S p me e w (pos g)
-      by false =
-          renamed_form S p me e runs w g (Some d) (pos g) (listed (named me (Some g))) (same_there d h)
-          (λ x k. among_listed x (named me (Some g)) k)
-
-  dup2_named_form : (f : ℕ) (g v : Option ℕ) → ((d : ℕ) → v ≡ Some d → is_some (S.descs d) ≡ true) → KeepsForm S (dup2_named p me S f g v)
-  dup2_named_form f g None h = bad_form
-  dup2_named_form f g (Some d) h = renames_form f d g (h d refl)
-
-  pub dup2_form : (f g : Option ℕ) → KeepsForm S (dup2_effect p f g me S)
-  dup2_form None g = bad_form
-  dup2_form (Some f) g = dup2_named_form f g (named me (Some f)) (named_there (Some f))
-
-  -- close
-  closes_form : (f : ℕ) (v : Option ℕ) → named me (Some f) ≡ v → KeepsForm S (closes p me S f v)
-  closes_form f None k = bad_form
-  closes_form f (Some d) k =
-      renamed_form S p me e runs w f None (pos 0) (d ∷ []) (λ x h. cc) (λ x h. among_listed x (Some d) (sym (ap (is_number x) k) ∙ h))
-
-  pub close_form : (f : Option ℕ) → KeepsForm S (close_effect p f me S)
-  close_form None = bad_form
-  close_form (Some f) = closes_form f (named me (Some f)) refl
+  pub close_form : (a : ℤ) → FormKept (close a c)
+  close_form a =
+      close_lines FormKept c error_form a
+      λ f d first h. renamed_form S p me e runs w f None (pos 0) (d ∷ []) inside (λ x h. cc) (λ x k. among_listed x (Some d) (sym (ap (is_number x) h) ∙ k))

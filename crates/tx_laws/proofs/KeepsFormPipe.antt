@@ -1,19 +1,21 @@
 -- pipe leaves a state well formed.
-use Rattle.std.proofs.Common.{◌≡◌, ◌≢◌, ℕ, ◌<◌, ◌≤◌, Bool, true, false, List, [], length, pos, Option, Some, None, is_some, if◌then◌else◌, slice_index_or, slice_set, refl, sym, ap, ◌∙◌, subst, inl, inr, eq-eqb, eqb-true, arith}
+use Rattle.std.proofs.Common.{◌≡◌, ◌≢◌, ℕ, ◌<◌, ◌≤◌, true, false, List, [], length, pos, Option, Some, None, is_some, if◌then◌else◌, slice_index_or, slice_set, refl, sym, ap, ◌∙◌, subst, inl, inr, eq-eqb, eqb-true, arith}
 use Rattle.std.proofs.lemmas.List.{length-set, get_or-set_same, get_or-set_other}
-use Rattle.tx_base.specs.declared.errors.Errno.TheVariants.{TooManyDescriptors}
 use Rattle.tx_base.specs.declared.steps.Refusal.TheVariants.{NumberTaken}
 use Rattle.tx_base.specs.declared.limits.TheConstants.{PIPE_BYTES}
 use Rattle.tx_model.specs.Numbers.{failing}
 use Rattle.tx_model.specs.State.{Process, Side, ReadSide, WriteSide, Description, State, SetProc, SetDesc, SetPipe, put_at, write_one, written, is_number, names_at}
-use Rattle.tx_model.specs.Effects.{idle, noted}
-use Rattle.tx_model.specs.Descriptors.{with_descriptor, lowest_free, with_two_slots, is_pipe_in_use, opens_at, opens_from, pipe_effect}
+use Rattle.tx_model.specs.Effects.{Inside, noted}
+use Rattle.tx_model.specs.Forms.{effect_of}
+use Rattle.tx_model.specs.Book.{pipe}
+use Rattle.tx_model.specs.Descriptors.{with_descriptor, with_two_slots}
 use Rattle.tx_model.specs.StateLaws.{put_here, put_cases, put_there}
 use Rattle.tx_laws.proofs.KeepsFormParts.{IsArranged, IsTabled, IsNamed, IsEnd, IsLinked, names_at_of, form_from, tabled_of, linked_of, tabled_edit}
 use Rattle.tx_laws.proofs.KeepsFormOwn.{KeepsSizes, stays_from, plain}
 use Rattle.tx_laws.proofs.KeepsFormReleased.{tabled_same}
 use Rattle.tx_laws.proofs.KeepsFormNames.{KeepsForm, idle_form, done_form, new_slot, old_slot, free_place, number_of, own_name}
 use Rattle.tx_laws.proofs.KeepsFormTransfers.{still_some}
+use Rattle.tx_model.specs.BookLaws.{pipe_lines}
 
 -- the numbers that a pipe chooses are in range, and the two of the descriptions are different
 pub record AreGood (q r w : ℕ) : Type 0 where
@@ -29,7 +31,7 @@ still_there {A} f k v x n free h = elim (put_cases f k (Some v) n) [
   | inr z ↦ z.1 ∙ h
 ]
 
-module _ (S : State) (p q r w : ℕ) (me : Process) (e : S.procs p ≡ Some me) (runs : me.status ≡ None) (form : IsArranged S) (good : AreGood q r w) where
+module _ (S : State) (p q r w : ℕ) (me : Process) (inside : Option Inside) (e : S.procs p ≡ Some me) (runs : me.status ≡ None) (form : IsArranged S) (good : AreGood q r w) where
   -- the process has the two ends at the descriptors f and g
   module _ (read_free : S.descs r ≡ None) (write_free : S.descs w ≡ None) (f g : ℕ)
       (f_free : slice_index_or me.descriptors f None ≡ None) (f_in : f < length me.descriptors)
@@ -176,28 +178,18 @@ module _ (S : State) (p q r w : ℕ) (me : Process) (e : S.procs p ≡ Some me) 
     opened_form : IsArranged now
     opened_form = form_from now tabled (record { names = now_names; named = now_named; pipes = now_pipes })
 
-  module _ (read_free : S.descs r ≡ None) (write_free : S.descs w ≡ None) where
-    at_form : (f : ℕ) → lowest_free me ≡ Some f → (g : Option ℕ) → lowest_free (with_descriptor f (Some r) me) ≡ g → KeepsForm S (opens_at p q r w me f g)
-    unfolding written
-    at_form f h None k = done_form S p me e form (failing TooManyDescriptors)
-    at_form f h (Some g) k =
-        let one = free_place me.descriptors f h in
-        let two = free_place (slice_set me.descriptors f (Some r)) g k in
-        opened_form read_free write_free f g one.0 one.1 two.0 two.1
-
-    from_form : (f : Option ℕ) → lowest_free me ≡ f → KeepsForm S (opens_from p q r w me f)
-    from_form None h = done_form S p me e form (failing TooManyDescriptors)
-    from_form (Some f) h = at_form f h (lowest_free (with_descriptor f (Some r) me)) refl
-
   both_free : (x : Option (List ℕ)) (y z : Option Description) → (if is_some x then true else (if is_some y then true else is_some z)) ≡ false → (y ≡ None) × (z ≡ None)
   both_free (Some x) y z h = cc
   both_free None (Some y) z h = cc
   both_free None None (Some z) h = cc
   both_free None None None h = (refl, refl)
 
-  pub pipe_form : KeepsForm S (pipe_effect p q r w me S)
-  pipe_form = by (is_pipe_in_use q r w S) refl
-    where
-      by : (b : Bool) → is_pipe_in_use q r w S ≡ b → KeepsForm S (if b then idle NumberTaken else opens_from p q r w me (lowest_free me))
-      by true h = idle_form S NumberTaken form
-      by false h = let free = both_free (S.pipes q) (S.descs r) (S.descs w) h in from_form free.0 free.1 (lowest_free me) refl
+  pub pipe_form : KeepsForm S (effect_of p me (pipe q r w (record { number = p; process = me; inside = inside; state = S })))
+  unfolding written
+  pipe_form =
+      pipe_lines (λ outcome. KeepsForm S (effect_of p me outcome)) (record { number = p; process = me; inside = inside; state = S }) (λ errno. done_form S p me e form (failing errno)) q r w (idle_form S NumberTaken form)
+      λ f g unused one two.
+      let free = both_free (S.pipes q) (S.descs r) (S.descs w) unused in
+      let first = free_place me.descriptors f one in
+      let second = free_place (slice_set me.descriptors f (Some r)) g two in
+      opened_form free.0 free.1 f g first.0 first.1 second.0 second.1

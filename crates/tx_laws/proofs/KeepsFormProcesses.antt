@@ -1,18 +1,24 @@
 -- fork and waitpid leave a state well formed.
-use Rattle.std.proofs.Common.{◌≡◌, ◌≢◌, ℕ, Bool, true, false, ℤ, pos, Option, Some, None, is_some, is_none, if◌then◌else◌, ◌==◌, slice_index_or, refl, sym, ap, ◌∙◌, subst, inl, inr, eqb-true, arith}
+use Rattle.std.proofs.Common.{[], ◌∷◌, ◌≡◌, ◌≢◌, ℕ, Bool, true, false, ℤ, pos, Option, Some, None, is_some, is_none, slice_index_or, refl, sym, ap, ◌∙◌, subst, inl, inr, eqb-true, arith}
 use Rattle.std.proofs.lemmas.List.{length-set}
-use Rattle.tx_base.specs.declared.errors.Errno.TheVariants.{NoChild}
 use Rattle.tx_base.specs.declared.steps.Refusal.TheVariants.{NumberTaken, Wait}
 use Rattle.tx_model.specs.Numbers.{failing}
 use Rattle.tx_model.specs.State.{Process, State, SetProc, write_one, written, is_number, names_at, is_between}
-use Rattle.tx_model.specs.Effects.{noted, done}
-use Rattle.tx_model.specs.Processes.{child_of, forks, fork_effect, numbered, with_status, waits_by, waits_for, waits_at, waitpid_effect}
+use Rattle.tx_model.specs.Effects.{Inside, noted}
+use Rattle.tx_model.specs.Forms.{Caller, Outcome, changes, effect_of}
+use Rattle.tx_model.specs.Book.{fork, waitpid}
+use Rattle.tx_model.specs.Processes.{child_of, with_status}
 use Rattle.tx_model.specs.Answer.{is_running}
 use Rattle.tx_model.specs.StateLaws.{put_here, put_cases, put_there}
 use Rattle.tx_laws.specs.WellFormed.{HasSizes, IsPlaced, IsFirst}
 use Rattle.tx_laws.proofs.KeepsFormParts.{IsArranged, IsNamed, names_of, form_from, linked_of, form_edit, relinked}
 use Rattle.tx_laws.proofs.KeepsFormOwn.{stays_from, plain}
+use Rattle.tx_model.specs.BookLaws.{fork_lines, waitpid_lines}
 use Rattle.tx_laws.proofs.KeepsFormNames.{KeepsForm, idle_form, noted_form, done_form, number_of, own_name}
+
+none_of : {A : Type 0} (x : Option A) → is_some x ≡ false → x ≡ None
+none_of None h = refl
+none_of (Some y) h = cc
 
 -- one more process
 module _ (T : State) (c : ℕ) (child : Process) (free : T.procs c ≡ None) (w : IsArranged T) where
@@ -112,7 +118,13 @@ module _ (T : State) (t s : ℕ) (q : Process) (e : T.procs t ≡ Some q) (statu
             names = ap (names_at d h.place) (put_there T.procs t None h.process (not_ended h.process who.0 who.1 who.2)) ∙ h.names;
           }
 
-module _ (S : State) (p : ℕ) (me : Process) (e : S.procs p ≡ Some me) (runs : me.status ≡ None) (w : IsArranged S) where
+module _ (S : State) (p : ℕ) (me : Process) (inside : Option Inside) (e : S.procs p ≡ Some me) (runs : me.status ≡ None) (w : IsArranged S) where
+  abbrev c : Caller
+  c = record { number = p; process = me; inside = inside; state = S }
+
+  abbrev FormKept : Outcome → Type 0
+  FormKept outcome = KeepsForm S (effect_of p me outcome)
+
   -- fork
   child_sizes : HasSizes me → HasSizes (child_of p me)
   child_sizes h = record {
@@ -125,48 +137,31 @@ module _ (S : State) (p : ℕ) (me : Process) (e : S.procs p ≡ Some me) (runs 
     queued = omega arith;
   }
 
-  forks_form : (c : ℕ) → is_between S.width c ≡ true → (x : Option Process) → S.procs c ≡ x → KeepsForm S (forks p c me x)
+  grown_form : (child : ℕ) → is_between S.width child ≡ true → S.procs child ≡ None → FormKept (changes (pos child) me (SetProc child (Some (child_of p me)) ∷ []))
   unfolding written
-  forks_form c number (Some other) k = idle_form S NumberTaken w
-  forks_form c number None k =
-      add_form parent_now c (child_of p me) (put_there S.procs p (Some (noted (pos c) me)) c (λ z. apart (sym z)) ∙ k) (noted_form S p me e w (pos c)) number
-      (ap is_running (put_here S.procs p (Some (noted (pos c) me))) ∙ ap (λ (x : Option ℕ). is_none x) runs) apart (child_sizes (w.placed p me e).sizes)
+  grown_form child number free =
+      add_form parent_now child (child_of p me) (put_there S.procs p (Some (noted (pos child) me)) child (λ z. apart (sym z)) ∙ free) (noted_form S p me e w (pos child)) number
+      (ap is_running (put_here S.procs p (Some (noted (pos child) me))) ∙ ap (λ (x : Option ℕ). is_none x) runs) apart (child_sizes (w.placed p me e).sizes)
       (own_name S p me me e runs (linked_of S w))
     where
       parent_now : State
-      parent_now = write_one (SetProc p (Some (noted (pos c) me))) S
+      parent_now = write_one (SetProc p (Some (noted (pos child) me))) S
 
-      apart : p ≢ c
-      apart z = let no : None ≡ Some me = sym (ap S.procs z ∙ k) ∙ e in cc
+      apart : p ≢ child
+      apart z = let no : None ≡ Some me = sym (ap S.procs z ∙ free) ∙ e in cc
 
-  pub fork_form : (c : ℕ) → is_between S.width c ≡ true → KeepsForm S (fork_effect p c me S)
-  fork_form c number = forks_form c number (S.procs c) refl
+  pub fork_form : (child : ℕ) → is_between S.width child ≡ true → FormKept (fork child c)
+  fork_form child number =
+      fork_lines FormKept c (λ errno. done_form S p me e w (failing errno)) child (λ taken. idle_form S NumberTaken w) λ free. grown_form child number (none_of (S.procs child) free)
 
   -- waitpid
-  waits_form : (t : ℕ) (nohang : Bool) (x : Option Process) → S.procs t ≡ x → KeepsForm S (waits_for p t nohang me x)
+  pub waitpid_form : (t : ℤ) (nohang : Bool) → FormKept (waitpid t nohang c)
   unfolding written
-  waits_form t nohang None k = done_form S p me e w (failing NoChild)
-  waits_form t nohang (Some q) k = by (q.parent == p) refl q.status refl nohang
-    where
-      taken_off : (status : ℕ) → q.status ≡ Some status → q.parent ≡ p
-          → IsArranged (write_one (SetProc t None) (write_one (SetProc p (Some (noted (pos t) (with_status status me)))) S))
-      taken_off status s a =
-          let now : Process = noted (pos t) (with_status status me) in
-          let sized = plain me now refl refl refl (length-set me.registers.slots 0 (pos status)) refl refl refl in
-          let apart : t ≢ p = λ z. (w.placed t q k).other (a ∙ sym z) in
-          remove_form (write_one (SetProc p (Some now)) S) t status q (put_there S.procs p (Some now) t apart ∙ k) s
-          (form_edit S p me now e (stays_from p me now refl refl sized) refl w)
-
-      by : (b : Bool) → (q.parent == p) ≡ b → (status : Option ℕ) → q.status ≡ status → (nohang : Bool)
-          → KeepsForm S (if b then waits_by p t nohang me status else done p (failing NoChild) me)
-      by true a None s true = done_form S p me e w (pos 0)
-      by true a None s false = idle_form S Wait w
-      by true a (Some status) s nohang = taken_off status s (eqb-true q.parent p a)
-      by false a status s nohang = done_form S p me e w (failing NoChild)
-
-  waits_at_form : (t : Option ℕ) (nohang : Bool) → KeepsForm S (waits_at p t nohang me S)
-  waits_at_form None nohang = done_form S p me e w (failing NoChild)
-  waits_at_form (Some t) nohang = waits_form t nohang (S.procs t) refl
-
-  pub waitpid_form : (t : ℤ) (nohang : Bool) → KeepsForm S (waitpid_effect p t nohang me S)
-  waitpid_form t nohang = waits_at_form (numbered S.width t) nohang
+  waitpid_form t nohang =
+      waitpid_lines FormKept c (λ errno. done_form S p me e w (failing errno)) t nohang (done_form S p me e w (pos 0)) (idle_form S Wait w)
+      λ child status q number there mine over.
+      let now : Process = noted (pos child) (with_status status me) in
+      let sized = plain me now refl refl refl (length-set me.registers.slots 0 (pos status)) refl refl refl in
+      let apart : child ≢ p = λ z. (w.placed child q there).other (eqb-true q.parent p mine ∙ sym z) in
+      remove_form (write_one (SetProc p (Some now)) S) child status q (put_there S.procs p (Some now) child apart ∙ there) over
+      (form_edit S p me now e (stays_from p me now refl refl sized) refl w)

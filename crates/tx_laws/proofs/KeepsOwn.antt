@@ -4,7 +4,7 @@ use Rattle.std.proofs.lemmas.Bool.{both_ways}
 use Rattle.tx_model.specs.State.{Process, State, Sender, Sending, written}
 use Rattle.tx_model.specs.Effects.{Inside, Effect}
 use Rattle.tx_model.specs.Processes.{told_to}
-use Rattle.tx_model.specs.Sends.{has_sender, sent_by_members}
+use Rattle.tx_model.specs.Book.{has_sender, sent_by_members}
 use Rattle.tx_model.specs.Membership.{Table, is_member_of, is_live, is_open_of}
 use Rattle.tx_model.specs.Answer.{is_running}
 use Rattle.tx_laws.specs.WellFormedTable.{sent_by_kernel, HasParentInside, HasParentOutside, IsTransaction}

@@ -2,8 +2,8 @@
 use Rattle.std.proofs.Common.{◌≡◌, ◌≢◌, ℕ, Bool, true, false, [], ◌∷◌, ℤ, Option, Some, None, if◌then◌else◌, ◌==◌, refl, sym, ap, ◌∙◌, subst, inl, inr, eq-eqb, eqb-true}
 use Rattle.std.proofs.lemmas.Bool.{both_ways}
 use Rattle.tx_base.specs.declared.marks.Mark.{Mark}
-use Rattle.tx_model.specs.State.{State, Object, Proc, Held, SetHeld, AgreeAt, put_at, write_one, written, has}
-use Rattle.tx_model.specs.StateLaws.{put_here, put_cases, put_there}
+use Rattle.tx_model.specs.State.{State, Object, Proc, Held, SetHeld, put_at, write_one, written, has}
+use Rattle.tx_model.specs.StateLaws.{put_here, put_cases, put_there, AgreeAt}
 use Rattle.tx_model.specs.Effects.{Inside, Effect, send_answers}
 use Rattle.tx_model.specs.Posts.{posts}
 use Rattle.tx_model.specs.Events.{Event, Note, Commit, actor, effect, objects, after}

@@ -7,7 +7,7 @@ use Rattle.tx_model.specs.State.{Process, State, Sending, Proc, written, has, is
 use Rattle.tx_model.specs.StateLaws.{put_here, put_cases, put_there}
 use Rattle.tx_model.specs.Effects.{Inside, Conclusion, Replies, AnswersPost, ListsFailed, concluding_reply}
 use Rattle.tx_model.specs.Numbers.{negative}
-use Rattle.tx_model.specs.Sends.{sent_by_members}
+use Rattle.tx_model.specs.Book.{sent_by_members}
 use Rattle.tx_model.specs.Events.{Event, Do, Note, Commit, actor, effect, objects, after, reply_of}
 use Rattle.tx_model.specs.Membership.{Table, is_of, is_member_of, is_live, is_open_of, inside_by, Progress, Continues, Parks, Forks, Begins, Role, Outside, Within, Commits, Aborts, Kind, Ordinary, Forking, Beginning, Leaving, Aborting, says_ended, others_open, member_end_role, ordinary_role, called_by_status, kind_role, kind_event, event_in, parked, defers_in, new_mark, table_after}
 use Rattle.tx_model.specs.History.{Starters, nobody, just, less_one}

@@ -3,7 +3,8 @@ pub mod Objects
 pub mod Owed
 pub mod InPlace
 pub mod Released
-pub mod OfCalls
+pub mod Mild
+pub mod OfPages
 pub mod OfDescriptors
 pub mod OfTransfers
 pub mod OfProcesses
@@ -21,7 +22,6 @@ pub mod Erased
 pub mod TwoPartsView
 pub mod StepView
 pub mod Commutes
-pub mod Mild
 pub mod SaysEnded
 pub mod ShownFew
 pub mod StepFootprints
@@ -39,6 +39,7 @@ pub mod KeepsFormDeliveries
 pub mod KeepsFormEvents
 pub mod WithinSets
 pub mod WithinOwn
+pub mod OwnPages
 pub mod PlainWrites
 pub mod PlainCalls
 pub mod WithinEvents

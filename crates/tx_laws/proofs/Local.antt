@@ -2,7 +2,8 @@
 use Rattle.std.proofs.Common.{◌≡◌, ℕ, true, List, [], ◌∷◌, ◌++◌, ℤ, Option, refl, ap, ap₂, ◌∙◌, subst}
 use Rattle.tx_base.specs.declared.steps.Step.{Step}
 use Rattle.tx_base.specs.declared.steps.Step.TheVariants.{Call as Calls, Deliver, KernelAbort}
-use Rattle.tx_model.specs.State.{State, Sending, Object, Proc, Held, SetHeld, written, AgreePart, AgreeAt, AgreeOn, has}
+use Rattle.tx_model.specs.State.{State, Sending, Object, Proc, Held, SetHeld, written, has}
+use Rattle.tx_model.specs.StateLaws.{AgreePart, AgreeAt, AgreeOn}
 use Rattle.tx_model.specs.Effects.{Inside, Effect, ListsFailed, send_answers, applied, concluding_reply, committing}
 use Rattle.tx_model.specs.Calls.{MakesCall, TakesSignal, objects_at}
 use Rattle.tx_model.specs.Events.{Event, Do, Note, Commit, actor, note_effect, step_effect, effect, step_objects, objects, after, reply_of}

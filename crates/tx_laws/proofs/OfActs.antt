@@ -1,63 +1,61 @@
 -- Every call and every delivery, made by a process that runs or not.
-use Rattle.std.proofs.Common.{◌≡◌, ℕ, true, List, ◌∷◌, pos, Option, Some, None, refl, ap, ◌∙◌}
+use Rattle.std.proofs.Common.{◌≡◌, ℕ, true, List, [], ◌∷◌, pos, Option, Some, None, refl, ap, ◌∙◌}
 use Rattle.tx_base.specs.declared.steps.Call.{Call}
 use Rattle.tx_base.specs.declared.steps.Call.TheVariants as call
-use Rattle.tx_base.specs.declared.limits.TheConstants.{SLOTS}
-use Rattle.tx_model.specs.State.{Process, State, Sending, Object, Proc, Held, AgreeOn, has}
+use Rattle.tx_model.specs.State.{Process, State, Sending, Object, Proc, Held, has}
+use Rattle.tx_model.specs.StateLaws.{AgreeOn}
 use Rattle.tx_model.specs.Effects.{Inside}
-use Rattle.tx_model.specs.Descriptors.{descriptor, named}
-use Rattle.tx_laws.specs.Fits.{IsIn}
+use Rattle.tx_model.specs.Book.{page_of_call}
 use Rattle.tx_model.specs.Calls.{call_effect, call_objects, Act, MakesCall, TakesSignal, act_effect, act_objects, running_effect, effect_at, objects_at, act_footprint}
-use Rattle.tx_model.specs.Numbers.{below, failing}
-use Rattle.tx_model.specs.Pages.{page_of, map_page, unmap_page, protect_page, store_bytes, load_byte}
-use Rattle.tx_model.specs.Signals.{known, tells_pending, newest}
-use Rattle.tx_model.specs.Identities.{id_of, set_user, set_effective_user, set_group, set_effective_group}
+use Rattle.tx_laws.specs.Fits.{IsIn}
 use Rattle.tx_laws.proofs.Objects.{WritesFit, ConclusionIn, Covers, has_head}
 use Rattle.tx_laws.proofs.Owed.{IsLocal}
+use Rattle.tx_laws.proofs.Mild.{IsMild}
+use Rattle.tx_laws.proofs.InPlace.{held_nowhere}
+use Rattle.tx_laws.proofs.OfPages.{caller, page_local}
+use Rattle.tx_laws.proofs.OwnPages.{own_page, own_owed}
 use Rattle.tx_laws.proofs.OfDeliveries.{delivery_local}
-use Rattle.tx_laws.proofs.OfDescriptors.{dup_local, dup2_local, close_local, nonblock_local, pipe_local}
-use Rattle.tx_laws.proofs.OfProcesses.{fork_local, exit_local, waitpid_local}
+use Rattle.tx_laws.proofs.OfDescriptors.{dup_owes, dup_local, dup2_owes, dup2_local, close_owes, close_local, nonblock_owes, nonblock_local, pipe_owes, pipe_local}
+use Rattle.tx_laws.proofs.OfProcesses.{fork_owes, fork_local, exit_local, waitpid_owes, waitpid_local}
 use Rattle.tx_laws.proofs.OfSends.{send_local}
-use Rattle.tx_laws.proofs.OfTransfers.{read_local, write_local}
-use Rattle.tx_laws.proofs.InPlace.{in_place, own_local, done_local}
-use Rattle.tx_laws.proofs.OfCalls.{memory_local, ids_local, action_local, mask_local, return_local, console_local, jump_local, keep_local}
-use Rattle.tx_base.specs.declared.errors.Errno.TheVariants.{InvalidArgument}
+use Rattle.tx_laws.proofs.OfTransfers.{read_owes, read_local, write_owes, write_local}
 
 call_local : (inside : Option Inside) (p : ℕ) (c : Call) (me : Process) → IsLocal inside p me (λ S. call_effect inside p c me S) (λ S. call_objects inside c p me S)
-call_local inside p (call.Map page) me = memory_local inside p me (map_page (page_of page) me.memory)
-call_local inside p (call.Unmap page) me = memory_local inside p me (unmap_page (page_of page) me.memory)
-call_local inside p (call.Protect page writable) me = memory_local inside p me (protect_page (page_of page) writable me.memory)
-call_local inside p (call.Store address bytes) me = memory_local inside p me (store_bytes address bytes.items me.memory)
-call_local inside p (call.Load address) me = memory_local inside p me (load_byte address me.memory)
 call_local inside p (call.Fork child) me = fork_local inside p child.0 me
 call_local inside p (call.Exit status) me = exit_local inside p status me
-call_local inside p (call.Waitpid t nohang) me = waitpid_local inside p t nohang me
-call_local inside p call.Getpid me = done_local inside p me (pos p)
-call_local inside p call.Getppid me = done_local inside p me (pos me.parent)
-call_local inside p (call.Setuid u) me = ids_local inside p me (set_user (id_of u) me.ids)
-call_local inside p (call.Seteuid u) me = ids_local inside p me (set_effective_user (id_of u) me.ids)
-call_local inside p (call.Setgid g) me = ids_local inside p me (set_group (id_of g) me.ids)
-call_local inside p (call.Setegid g) me = ids_local inside p me (set_effective_group (id_of g) me.ids)
+call_local inside p (call.Waitpid t nohang) me = waitpid_local inside p me t nohang
 call_local inside p (call.Pipe q r w) me = pipe_local inside p q.0 r.0 w.0 me
-call_local inside p (call.Dup f) me = dup_local inside p me (descriptor f)
-call_local inside p (call.Dup2 f g) me = dup2_local inside p me (descriptor f) (descriptor g)
-call_local inside p (call.Close f) me = close_local inside p me (descriptor f)
-call_local inside p (call.SetNonblock f on) me = nonblock_local inside p on me (descriptor f)
-call_local inside p (call.Read f address n) me = read_local inside p (named me (descriptor f)) address n me
-call_local inside p (call.Write f address n) me = write_local inside p (named me (descriptor f)) address n me
+call_local inside p (call.Dup f) me = dup_local inside p me f
+call_local inside p (call.Dup2 f g) me = dup2_local inside p me f g
+call_local inside p (call.Close f) me = close_local inside p me f
+call_local inside p (call.SetNonblock f on) me = nonblock_local inside p me f on
+call_local inside p (call.Read f address n) me = read_local inside p me f address n
+call_local inside p (call.Write f address n) me = write_local inside p me f address n
 call_local inside p (call.Kill t signo) me = send_local inside p me t signo (pos 0)
 call_local inside p (call.Sigqueue t signo value) me = send_local inside p me t signo value
-call_local inside p (call.Sigaction signo action) me = action_local inside p me (known signo) action
-call_local inside p (call.Sigprocmask how set) me = mask_local inside p me how set
-call_local inside p call.Sigpending me = own_local inside p me (tells_pending me) (in_place me _ refl refl refl)
-call_local inside p call.Sigreturn me = return_local inside p me (newest me.frames)
-call_local inside p (call.ConsoleWrite address n) me = console_local inside p me address n
-call_local inside p (call.Jump point when) me = jump_local inside p me point when
-call_local inside p (call.Keep slot) me = keep_local inside p me (below SLOTS slot)
-call_local inside p call.SysXbegin me = done_local inside p me (failing InvalidArgument)
-call_local inside p call.SysXbeginDefer me = done_local inside p me (failing InvalidArgument)
-call_local inside p call.SysXend me = done_local inside p me (failing InvalidArgument)
-call_local inside p call.SysXabort me = done_local inside p me (failing InvalidArgument)
+call_local inside p c me = page_local inside p me (page_of_call c).outcome (λ S. []) (λ S R a. refl) (λ S R a. refl) (λ S u. held_nowhere u) (λ S. own_owed p me S ((page_of_call c).outcome (caller inside p me S)) (own_page (caller inside p me S) c tt))
+
+-- the calls that end nothing, and send to nobody but their own process
+abbrev pub IsMildCall : Call → Type 0
+IsMildCall (call.Exit status) = ⊥
+IsMildCall (call.Kill t signo) = ⊥
+IsMildCall (call.Sigqueue t signo value) = ⊥
+IsMildCall c = Unit {0}
+
+pub call_mild : (inside : Option Inside) (p : ℕ) (c : Call) (me : Process) (S : State) → IsMildCall c → IsMild p (call_effect inside p c me S)
+call_mild inside p (call.Fork child) me S calm = (fork_owes inside p child.0 me S).mild
+call_mild inside p (call.Exit status) me S calm = absurd calm
+call_mild inside p (call.Waitpid t nohang) me S calm = (waitpid_owes inside p me t nohang S).mild
+call_mild inside p (call.Pipe q r w) me S calm = (pipe_owes inside p q.0 r.0 w.0 me S).mild
+call_mild inside p (call.Dup f) me S calm = (dup_owes inside p me f S).mild
+call_mild inside p (call.Dup2 f g) me S calm = (dup2_owes inside p me f g S).mild
+call_mild inside p (call.Close f) me S calm = (close_owes inside p me f S).mild
+call_mild inside p (call.SetNonblock f on) me S calm = (nonblock_owes inside p me f on S).mild
+call_mild inside p (call.Read f address n) me S calm = (read_owes inside p me f address n S).mild
+call_mild inside p (call.Write f address n) me S calm = (write_owes inside p me f address n S).mild
+call_mild inside p (call.Kill t signo) me S calm = absurd calm
+call_mild inside p (call.Sigqueue t signo value) me S calm = absurd calm
+call_mild inside p c me S calm = (own_owed p me S ((page_of_call c).outcome (caller inside p me S)) (own_page (caller inside p me S) c tt)).mild
 
 -- what every call and every delivery owes
 act_local : (inside : Option Inside) (p : ℕ) (act : Act) (me : Process) → IsLocal inside p me (λ S. act_effect inside p act me S) (λ S. act_objects inside p act me S)

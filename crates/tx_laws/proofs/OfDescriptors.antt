@@ -1,17 +1,20 @@
 -- What the calls on descriptors owe to the laws.
-use Rattle.std.proofs.Common.{◌≡◌, ℕ, zero, suc, ◌+◌, Bool, true, false, List, [], ◌∷◌, ◌++◌, pos, Option, Some, None, is_some, if◌then◌else◌, ◌==◌, slice_index_or, slice_set, refl, sym, ap, ap₂, ◌∙◌, subst, eqb-true, arith}
+use Rattle.std.proofs.Common.{◌≡◌, ℕ, zero, suc, ◌+◌, Bool, true, false, List, [], ◌∷◌, ◌++◌, ℤ, pos, Option, Some, None, is_some, if◌then◌else◌, ◌==◌, slice_index_or, slice_set, refl, sym, ap, ap₂, ◌∙◌, subst, eqb-true, arith}
 use Rattle.std.proofs.lemmas.Bool.{both_ways}
-use Rattle.tx_base.specs.declared.errors.Errno.TheVariants.{BadDescriptor, TooManyDescriptors}
+use Rattle.tx_base.specs.declared.errors.Errno.TheVariants.{BadDescriptor}
 use Rattle.tx_base.specs.declared.steps.Refusal.TheVariants.{NumberTaken}
-use Rattle.tx_model.specs.Numbers.{failing}
-use Rattle.tx_model.specs.State.{Process, ReadSide, WriteSide, Side, Description, State, Sending, Object, Proc, Desc, Pipe, Held, SetDesc, is_number, side_in, AgreeOn, same_object, has}
-use Rattle.tx_model.specs.Effects.{Inside, Effect, idle, noted, done}
-use Rattle.tx_laws.specs.Fits.{IsIn}
-use Rattle.tx_model.specs.Descriptors.{named, with_descriptor, first_free, lowest_free, bad_descriptor, listed, pipes_of, pipe_list, with_two_slots, is_pipe_in_use, new_side, opens_at, opens_from, pipe_effect, pipe_objects, dups_to, dup_effect, renames, dup2_named, dup2_effect, dup2_objects, other_than, closes, close_effect, flags, nonblock_effect, gives_up, desc_objects, desc_pipe_objects}
+use Rattle.tx_model.specs.State.{Process, ReadSide, WriteSide, Side, Description, State, Object, Proc, Desc, Pipe, Held, SetDesc, is_number, side_in, same_object, has}
+use Rattle.tx_model.specs.StateLaws.{AgreeOn}
+use Rattle.tx_model.specs.Effects.{Inside, noted}
+use Rattle.tx_model.specs.Descriptors.{descriptor, named, with_descriptor, first_free, listed, with_two_slots, is_pipe_in_use, pipe_objects, dup2_objects, other_than, desc_objects, desc_pipe_objects}
+use Rattle.tx_model.specs.Forms.{fails, answers, changes, refuses, effect_of}
+use Rattle.tx_model.specs.Book.{gives_up, pipe, dup, dup2, close, set_nonblock}
+use Rattle.tx_model.specs.BookLaws.{pipe_lines, dup_lines, dup2_lines, close_lines, set_nonblock_lines}
 use Rattle.tx_laws.proofs.Objects.{WriteFits, Covers, has_head, has_tail, same_true}
 use Rattle.tx_laws.proofs.Owed.{IsLocal}
-use Rattle.tx_laws.proofs.InPlace.{StaysIn, self_fits, noted_fits, done_fits}
-use Rattle.tx_laws.proofs.Released.{agree_right, agree_rest, covers_left, covers_right, covers_rest, covers_head, lacks_both, descs_held, ends_held, ends_same, gives_up_same, gives_up_fits}
+use Rattle.tx_laws.proofs.InPlace.{in_place, self_fits}
+use Rattle.tx_laws.proofs.OfPages.{caller, or_same, when_same, Owes, answers_owes, fails_owes, refuses_owes, changes_owes, writes_owe, page_local}
+use Rattle.tx_laws.proofs.Released.{agree_right, agree_rest, covers_left, covers_right, covers_head, lacks_both, descs_held, ends_held, ends_same, released_after, released_fits}
 
 -- the number of a description that is none of the objects
 abbrev IsElsewhere : List Object → ℕ → Type 0
@@ -65,207 +68,120 @@ free_same : (all : List Object) (xs : List (Option ℕ)) (f r : ℕ) → first_f
 free_same all xs f r e h d i k =
     slot_same d xs f (Some r) i (not_named all (Some r) (one_covered all r h) d k ∙ ap (is_number d) (sym (free_at xs f e)))
 
-module _ (p : ℕ) (me : Process) (S : State) (all : List Object) (e : S.procs p ≡ Some me) (h : has (Proc p) all ≡ true) where
-  pub bad_fits : StaysIn S all (bad_descriptor p me)
-  bad_fits = done_fits p me S all e h (failing BadDescriptor)
+desc_covered : (all : List Object) (v : Option ℕ) (d : ℕ) → v ≡ Some d → Covers all (desc_objects (listed v)) → has (Desc d) all ≡ true
+desc_covered all v d e c = covers_head all (Desc d) [] (subst (λ (x : Option ℕ). Covers all (desc_objects (listed x))) e c)
 
-  many_fits : StaysIn S all (done p (failing TooManyDescriptors) me)
-  many_fits = done_fits p me S all e h (failing TooManyDescriptors)
+module _ (inside : Option Inside) (p : ℕ) (me : Process) where
+  gives_up_same : (ds : List ℕ) (r : ℤ) (q : Process) (S R : State) → AgreeOn (desc_pipe_objects ds S) S R → gives_up ds r q (caller inside p me S) ≡ gives_up ds r q (caller inside p me R)
+  gives_up_same ds r q S R a = ap (changes r q) (released_after ds p (Some (noted r q)) S R a)
 
--- dup
-module _ (p : ℕ) (me : Process) where
-  dup_fits : (v : Option ℕ) (S : State) (all : List Object) → S.procs p ≡ Some me → has (Proc p) all ≡ true → Covers all (desc_objects (listed v)) → StaysIn S all (dup_effect p me v)
-  dup_fits None S all e h c = bad_fits p me S all e h
-  dup_fits (Some d) S all e h c = by (lowest_free me) refl
-    where
-      by : (x : Option ℕ) → lowest_free me ≡ x → StaysIn S all (dups_to p me d x)
-      by None k = many_fits p me S all e h
-      by (Some f) k =
-          ((self_fits p me S all e h (noted (pos f) (with_descriptor f (Some d) me)) refl refl (free_same all me.descriptors f d k (covers_head all (Desc d) [] c)), tt), tt)
+  -- a descriptor is free, or named one of the objects, and gets the name of one of them or none
+  gives_up_owes : (os : List Object) (ds : List ℕ) (r : ℤ) (f : ℕ) (v : Option ℕ) (S : State)
+      → ((all : List Object) → Covers all os → Covers all (desc_pipe_objects ds S) × ((n : ℕ) → has (Desc n) all ≡ false → is_number n v ≡ is_number n (named me (Some f))))
+      → Owes p me S os (gives_up ds r (with_descriptor f v me) (caller inside p me S))
+  gives_up_owes os ds r f v S h = changes_owes p me S os r (with_descriptor f v me) _ λ all e g c. (
+    self_fits p me S all e g (noted r (with_descriptor f v me)) refl refl (λ n i l. slot_same n me.descriptors f v i ((h all c).1 n l)),
+    released_fits ds S _ all refl (h all c).0,
+  )
 
-  dup_sends : (v : Option ℕ) (m : Sending) → IsIn m (dup_effect p me v).sends → ⊥
-  dup_sends None m i = i
-  dup_sends (Some d) m i = by (lowest_free me) i
-    where
-      by : (x : Option ℕ) → IsIn m (dups_to p me d x).sends → ⊥
-      by None j = j
-      by (Some f) j = j
-
-pub dup_local : (inside : Option Inside) (p : ℕ) (me : Process) (f : Option ℕ) → IsLocal inside p me (λ S. dup_effect p me (named me f)) (λ S. desc_objects (listed (named me f)))
-dup_local inside p me f = record {
-  same = λ S R a. refl;
-  foot = λ S R a. refl;
-  fits = λ S all e c. dup_fits p me (named me f) S all e (covers_head all (Proc p) (desc_objects (listed (named me f))) c) (covers_rest all (Proc p) (desc_objects (listed (named me f))) c);
-  sends = λ S i k l m n. absurd (dup_sends p me (named me f) m n);
-  holds = λ S i k u h. absurd (both_ways (has (Held u) (desc_objects (listed (named me f)))) (descs_held u (listed (named me f))) h);
-}
-
--- close
-module _ (p : ℕ) (me : Process) (f : ℕ) where
-  closes_same : (v : Option ℕ) (S R : State) → AgreeOn (desc_pipe_objects (listed v) S) S R → closes p me S f v ≡ closes p me R f v
-  closes_same None S R a = refl
-  closes_same (Some d) S R a = gives_up_same (d ∷ []) p (pos 0) (with_descriptor f None me) S R a
-
-  closes_fits : (v : Option ℕ) (S : State) (all : List Object) → named me (Some f) ≡ v → S.procs p ≡ Some me → has (Proc p) all ≡ true → Covers all (desc_pipe_objects (listed v) S) → StaysIn S all (closes p me S f v)
-  closes_fits None S all k e h c = bad_fits p me S all e h
-  closes_fits (Some d) S all k e h c =
-      let was : (n : ℕ) → has (Desc n) all ≡ false → is_number n (slice_index_or me.descriptors f None) ≡ false =
-      λ n l. ap (is_number n) k ∙ not_named all (Some d) (one_covered all d (covers_head all (Desc d) _ c)) n l in (
-        gives_up_fits (d ∷ []) p (pos 0) (with_descriptor f None me) S all
-            (self_fits p me S all e h (noted (pos 0) (with_descriptor f None me)) refl refl (λ n i l. slot_same n me.descriptors f None i (sym (was n l)))) c,
+  -- dup
+  pub dup_owes : (f : ℤ) (S : State) → Owes p me S (desc_objects (listed (named me (descriptor f)))) (dup f (caller inside p me S))
+  dup_owes f S =
+      let os : List Object = desc_objects (listed (named me (descriptor f))) in
+      dup_lines (λ o. Owes p me S os o) (caller inside p me S) (fails_owes p me S os) f
+      λ d g e free. changes_owes p me S os (pos g) (with_descriptor g (Some d) me) [] λ all z h c. (
+        self_fits p me S all z h (noted (pos g) (with_descriptor g (Some d) me)) refl refl (free_same all me.descriptors g d free (desc_covered all (named me (descriptor f)) d e c)),
         tt,
       )
 
-  closes_sends : (v : Option ℕ) (S : State) (m : Sending) → IsIn m (closes p me S f v).sends → ⊥
-  closes_sends None S m i = i
-  closes_sends (Some d) S m i = i
+  pub dup_local : (f : ℤ) → IsLocal inside p me (λ S. effect_of p me (dup f (caller inside p me S))) (λ S. desc_objects (listed (named me (descriptor f))))
+  dup_local f = page_local inside p me (dup f) _ (λ S R a. refl) (λ S R a. refl) (λ S u. descs_held u (listed (named me (descriptor f)))) (dup_owes f)
 
-module _ (p : ℕ) (me : Process) where
-  close_same : (f : Option ℕ) (S R : State) → AgreeOn (desc_pipe_objects (listed (named me f)) S) S R → close_effect p f me S ≡ close_effect p f me R
-  close_same None S R a = refl
-  close_same (Some f) S R a = closes_same p me f (named me (Some f)) S R a
+  -- close
+  pub close_owes : (a : ℤ) (S : State) → Owes p me S (desc_pipe_objects (listed (named me (descriptor a))) S) (close a (caller inside p me S))
+  close_owes a S =
+      let v : Option ℕ = named me (descriptor a) in
+      close_lines (λ o. Owes p me S (desc_pipe_objects (listed v) S) o) (caller inside p me S) (fails_owes p me S (desc_pipe_objects (listed v) S)) a
+      λ f d first e. gives_up_owes (desc_pipe_objects (listed v) S) (d ∷ []) (pos 0) f None S λ all c.
+      let k : Covers all (desc_pipe_objects (d ∷ []) S) = subst (λ (x : Option ℕ). Covers all (desc_pipe_objects (listed x) S)) (ap (named me) first ∙ e) c in
+      (k, λ n l. sym (ap (is_number n) e ∙ not_named all (Some d) (one_covered all d (covers_head all (Desc d) _ k)) n l))
 
-  close_fits : (f : Option ℕ) (S : State) (all : List Object) → S.procs p ≡ Some me → has (Proc p) all ≡ true → Covers all (desc_pipe_objects (listed (named me f)) S) → StaysIn S all (close_effect p f me S)
-  close_fits None S all e h c = bad_fits p me S all e h
-  close_fits (Some f) S all e h c = closes_fits p me f (named me (Some f)) S all refl e h c
+  pub close_local : (a : ℤ) → IsLocal inside p me (λ S. effect_of p me (close a (caller inside p me S))) (λ S. desc_pipe_objects (listed (named me (descriptor a))) S)
+  close_local a = page_local inside p me (close a) names same (λ S R k. ends_same (listed v) S R (agree_rest (Proc p) (names S) S R k)) (λ S u. ends_held u (listed v) S) (close_owes a)
+    where
+      v : Option ℕ
+      v = named me (descriptor a)
 
-  close_sends : (f : Option ℕ) (S : State) (m : Sending) → IsIn m (close_effect p f me S).sends → ⊥
-  close_sends None S m i = i
-  close_sends (Some f) S m i = closes_sends p me f (named me (Some f)) S m i
+      names : State → List Object
+      names S = desc_pipe_objects (listed v) S
 
-pub close_local : (inside : Option Inside) (p : ℕ) (me : Process) (f : Option ℕ) → IsLocal inside p me (λ S. close_effect p f me S) (λ S. desc_pipe_objects (listed (named me f)) S)
-close_local inside p me f =
-    let ds : List ℕ = listed (named me f) in
-    record {
-      same = λ S R a. close_same p me f S R (agree_rest (Proc p) (desc_pipe_objects ds S) S R a);
-      foot = λ S R a. ends_same ds S R (agree_rest (Proc p) (desc_pipe_objects ds S) S R a);
-      fits = λ S all e c. close_fits p me f S all e (covers_head all (Proc p) (desc_pipe_objects ds S) c) (covers_rest all (Proc p) (desc_pipe_objects ds S) c);
-      sends = λ S i k l m n. absurd (close_sends p me f S m n);
-      holds = λ S i k u h. absurd (both_ways (has (Held u) (desc_pipe_objects ds S)) (ends_held u ds S) h);
-    }
+      same : (S R : State) → AgreeOn (Proc p ∷ names S) S R → close a (caller inside p me S) ≡ close a (caller inside p me R)
+      same S R k =
+          or_same (descriptor a) (descriptor a) (fails BadDescriptor) _ _ refl λ f first. or_same (named me (Some f)) (named me (Some f)) (fails BadDescriptor) _ _ refl
+          λ d e. gives_up_same (d ∷ []) (pos 0) (with_descriptor f None me) S R
+          (subst (λ (x : Option ℕ). AgreeOn (desc_pipe_objects (listed x) S) S R) (ap (named me) first ∙ e) (agree_rest (Proc p) (names S) S R k))
 
--- set_nonblock
-module _ (p : ℕ) (me : Process) (on : Bool) where
-  nonblock_same : (v : Option ℕ) (S R : State) → AgreeOn (desc_objects (listed v)) S R → nonblock_effect p on me v S ≡ nonblock_effect p on me v R
-  nonblock_same None S R a = refl
-  nonblock_same (Some d) S R a = ap (flags p me d on) (a (Desc d) (has_head (Desc d) [])).part
+  -- set_nonblock
+  pub nonblock_owes : (f : ℤ) (on : Bool) (S : State) → Owes p me S (desc_objects (listed (named me (descriptor f)))) (set_nonblock f on (caller inside p me S))
+  nonblock_owes f on S =
+      let os : List Object = desc_objects (listed (named me (descriptor f))) in
+      set_nonblock_lines (λ o. Owes p me S os o) (caller inside p me S) (fails_owes p me S os) f on
+      λ d x e there. writes_owe p me S os (pos 0) me _ (in_place me _ refl refl refl) λ all c. ((desc_covered all (named me (descriptor f)) d e c, λ n l. rw there refl), tt)
 
-  flags_fits : (d : ℕ) (x : Option Description) (S : State) (all : List Object) → S.descs d ≡ x → S.procs p ≡ Some me → has (Proc p) all ≡ true → has (Desc d) all ≡ true → StaysIn S all (flags p me d on x)
-  flags_fits d None S all k e h c = bad_fits p me S all e h
-  flags_fits d (Some x) S all k e h c = ((noted_fits p me S all e h (pos 0), ((c, λ n l. rw k refl), tt)), tt)
+  pub nonblock_local : (f : ℤ) (on : Bool) → IsLocal inside p me (λ S. effect_of p me (set_nonblock f on (caller inside p me S))) (λ S. desc_objects (listed (named me (descriptor f))))
+  nonblock_local f on =
+      page_local inside p me (set_nonblock f on) (λ S. desc_objects (listed (named me (descriptor f)))) same (λ S R a. refl) (λ S u. descs_held u (listed v)) (nonblock_owes f on)
+    where
+      v : Option ℕ
+      v = named me (descriptor f)
 
-  nonblock_fits : (v : Option ℕ) (S : State) (all : List Object) → S.procs p ≡ Some me → has (Proc p) all ≡ true → Covers all (desc_objects (listed v)) → StaysIn S all (nonblock_effect p on me v S)
-  nonblock_fits None S all e h c = bad_fits p me S all e h
-  nonblock_fits (Some d) S all e h c = flags_fits d (S.descs d) S all refl e h (covers_head all (Desc d) [] c)
-
-  flags_sends : (d : ℕ) (x : Option Description) (m : Sending) → IsIn m (flags p me d on x).sends → ⊥
-  flags_sends d None m i = i
-  flags_sends d (Some x) m i = i
-
-  nonblock_sends : (v : Option ℕ) (S : State) (m : Sending) → IsIn m (nonblock_effect p on me v S).sends → ⊥
-  nonblock_sends None S m i = i
-  nonblock_sends (Some d) S m i = flags_sends d (S.descs d) m i
-
-pub nonblock_local : (inside : Option Inside) (p : ℕ) (on : Bool) (me : Process) (f : Option ℕ) → IsLocal inside p me (λ S. nonblock_effect p on me (named me f) S) (λ S. desc_objects (listed (named me f)))
-nonblock_local inside p on me f =
-    let os : List Object = desc_objects (listed (named me f)) in
-    record {
-      same = λ S R a. nonblock_same p me on (named me f) S R (agree_rest (Proc p) os S R a);
-      foot = λ S R a. refl;
-      fits = λ S all e c. nonblock_fits p me on (named me f) S all e (covers_head all (Proc p) os c) (covers_rest all (Proc p) os c);
-      sends = λ S i k l m n. absurd (nonblock_sends p me on (named me f) S m n);
-      holds = λ S i k u h. absurd (both_ways (has (Held u) os) (descs_held u (listed (named me f))) h);
-    }
+      same : (S R : State) → AgreeOn (Proc p ∷ desc_objects (listed v)) S R → set_nonblock f on (caller inside p me S) ≡ set_nonblock f on (caller inside p me R)
+      same S R a =
+          or_same v v (fails BadDescriptor) _ _ refl λ d e. or_same (S.descs d) (R.descs d) (fails BadDescriptor) _ _
+          (subst (λ (x : Option ℕ). AgreeOn (desc_objects (listed x)) S R) e (agree_rest (Proc p) (desc_objects (listed v)) S R a) (Desc d) (has_head (Desc d) [])).part
+          λ x z. refl
 
 -- dup2
-module _ (p : ℕ) (me : Process) (g : ℕ) where
-  abbrev other : Bool → List ℕ
-  other b = if b then [] else listed (named me (Some g))
+module _ (inside : Option Inside) (p : ℕ) (me : Process) (a b : ℤ) where
+  abbrev kept : List Object
+  kept = desc_objects (listed (named me (descriptor a)))
 
-  -- descriptor f names d, and g is the same descriptor or another one
-  abbrev renamed : ℕ → Bool → State → Effect
-  renamed d b S = if b then done p (pos g) me else gives_up (listed (named me (Some g))) p (pos g) (with_descriptor g (Some d) me) S
+  abbrev lost : List ℕ
+  lost = other_than (descriptor a) (descriptor b) me
 
-  renamed_same : (d : ℕ) (b : Bool) (S R : State) → AgreeOn (desc_pipe_objects (other b) S) S R → renamed d b S ≡ renamed d b R
-  renamed_same d true S R a = refl
-  renamed_same d false S R a = gives_up_same (listed (named me (Some g))) p (pos g) (with_descriptor g (Some d) me) S R a
+  abbrev names : State → List Object
+  names S = dup2_objects (descriptor a) (descriptor b) me S
 
-  renamed_fits : (d : ℕ) (b : Bool) (S : State) (all : List Object) → S.procs p ≡ Some me → has (Proc p) all ≡ true → has (Desc d) all ≡ true → Covers all (desc_pipe_objects (other b) S) → StaysIn S all (renamed d b S)
-  renamed_fits d true S all e h k c = done_fits p me S all e h (pos g)
-  renamed_fits d false S all e h k c =
-      let ds : List ℕ = listed (named me (Some g)) in
-      let old : Covers all (desc_objects ds) = covers_left all (desc_objects ds) (pipe_list (pipes_of ds S)) c in
-      let same : (n : ℕ) → has (Desc n) all ≡ false → is_number n (Some d) ≡ is_number n (named me (Some g)) =
-      λ n l. not_named all (Some d) (one_covered all d k) n l ∙ sym (not_named all (named me (Some g)) old n l) in (
-        gives_up_fits ds p (pos g) (with_descriptor g (Some d) me) S all
-            (self_fits p me S all e h (noted (pos g) (with_descriptor g (Some d) me)) refl refl (λ n i l. slot_same n me.descriptors g (Some d) i (same n l))) c,
-        tt,
-      )
+  lost_is : (f g : ℕ) → descriptor a ≡ Some f → descriptor b ≡ Some g → (f == g) ≡ false → lost ≡ listed (named me (Some g))
+  lost_is f g first second other = ap₂ (λ (x y : Option ℕ). other_than x y me) first second ∙ ap (λ (z : Bool). if z then [] else listed (named me (Some g))) other
 
-  renamed_sends : (d : ℕ) (b : Bool) (S : State) (m : Sending) → IsIn m (renamed d b S).sends → ⊥
-  renamed_sends d true S m i = i
-  renamed_sends d false S m i = i
+  pub dup2_owes : (S : State) → Owes p me S (names S) (dup2 a b (caller inside p me S))
+  dup2_owes S =
+      dup2_lines (λ o. Owes p me S (names S) o) (caller inside p me S) (fails_owes p me S (names S)) a b (λ g. answers_owes p me S (names S) (pos g))
+      λ f d g first e second other. gives_up_owes inside p me (names S) (listed (named me (Some g))) (pos g) g (Some d) S λ all c.
+      let d_in : has (Desc d) all ≡ true = desc_covered all (named me (descriptor a)) d (ap (named me) first ∙ e) (covers_left all kept (desc_pipe_objects lost S) c) in
+      let k : Covers all (desc_pipe_objects (listed (named me (Some g))) S) =
+      subst (λ (ds : List ℕ). Covers all (desc_pipe_objects ds S)) (lost_is f g first second other) (covers_right all kept (desc_pipe_objects lost S) c) in
+      (k, λ n l. not_named all (Some d) (one_covered all d d_in) n l ∙ sym (not_named all (named me (Some g)) (covers_left all _ _ k) n l))
 
--- what the first descriptor names
-module _ (p : ℕ) (me : Process) (f : ℕ) where
-  renames_same : (d : ℕ) (g : Option ℕ) (S R : State) → AgreeOn (desc_pipe_objects (other_than (Some f) g me) S) S R → renames p me S f d g ≡ renames p me R f d g
-  renames_same d None S R a = refl
-  renames_same d (Some g) S R a = renamed_same p me g d (f == g) S R a
+  agree_lost : (S R : State) → AgreeOn (Proc p ∷ names S) S R → AgreeOn (desc_pipe_objects lost S) S R
+  agree_lost S R k = agree_right kept (desc_pipe_objects lost S) S R (agree_rest (Proc p) (names S) S R k)
 
-  named_same : (v g : Option ℕ) (S R : State) → AgreeOn (desc_pipe_objects (other_than (Some f) g me) S) S R → dup2_named p me S f g v ≡ dup2_named p me R f g v
-  named_same None g S R a = refl
-  named_same (Some d) g S R a = renames_same d g S R a
+  dup2_same : (S R : State) → AgreeOn (Proc p ∷ names S) S R → dup2 a b (caller inside p me S) ≡ dup2 a b (caller inside p me R)
+  dup2_same S R k =
+      or_same (descriptor a) (descriptor a) (fails BadDescriptor) _ _ refl λ f first. or_same (named me (Some f)) (named me (Some f)) (fails BadDescriptor) _ _ refl
+      λ d e. or_same (descriptor b) (descriptor b) (fails BadDescriptor) _ _ refl λ g second. when_same (f == g) (f == g) (answers (pos g)) _ _ refl
+      λ other. gives_up_same inside p me (listed (named me (Some g))) (pos g) (with_descriptor g (Some d) me) S R
+      (subst (λ (ds : List ℕ). AgreeOn (desc_pipe_objects ds S) S R) (lost_is f g first second other) (agree_lost S R k))
 
-  renames_fits : (d : ℕ) (g : Option ℕ) (S : State) (all : List Object) → S.procs p ≡ Some me → has (Proc p) all ≡ true → has (Desc d) all ≡ true
-      → Covers all (desc_pipe_objects (other_than (Some f) g me) S) → StaysIn S all (renames p me S f d g)
-  renames_fits d None S all e h k c = bad_fits p me S all e h
-  renames_fits d (Some g) S all e h k c = renamed_fits p me g d (f == g) S all e h k c
-
-  named_fits : (v g : Option ℕ) (S : State) (all : List Object) → S.procs p ≡ Some me → has (Proc p) all ≡ true → Covers all (desc_objects (listed v))
-      → Covers all (desc_pipe_objects (other_than (Some f) g me) S) → StaysIn S all (dup2_named p me S f g v)
-  named_fits None g S all e h k c = bad_fits p me S all e h
-  named_fits (Some d) g S all e h k c = renames_fits d g S all e h (covers_head all (Desc d) [] k) c
-
-  renames_sends : (d : ℕ) (g : Option ℕ) (S : State) (m : Sending) → IsIn m (renames p me S f d g).sends → ⊥
-  renames_sends d None S m i = i
-  renames_sends d (Some g) S m i = renamed_sends p me g d (f == g) S m i
-
-  named_sends : (v g : Option ℕ) (S : State) (m : Sending) → IsIn m (dup2_named p me S f g v).sends → ⊥
-  named_sends None g S m i = i
-  named_sends (Some d) g S m i = renames_sends d g S m i
-
-module _ (p : ℕ) (me : Process) where
-  dup2_same : (f g : Option ℕ) (S R : State) → AgreeOn (desc_pipe_objects (other_than f g me) S) S R → dup2_effect p f g me S ≡ dup2_effect p f g me R
-  dup2_same None g S R a = refl
-  dup2_same (Some f) g S R a = named_same p me f (named me (Some f)) g S R a
-
-  dup2_fits : (f g : Option ℕ) (S : State) (all : List Object) → S.procs p ≡ Some me → has (Proc p) all ≡ true → Covers all (desc_objects (listed (named me f)))
-      → Covers all (desc_pipe_objects (other_than f g me) S) → StaysIn S all (dup2_effect p f g me S)
-  dup2_fits None g S all e h k c = bad_fits p me S all e h
-  dup2_fits (Some f) g S all e h k c = named_fits p me f (named me (Some f)) g S all e h k c
-
-  dup2_sends : (f g : Option ℕ) (S : State) (m : Sending) → IsIn m (dup2_effect p f g me S).sends → ⊥
-  dup2_sends None g S m i = i
-  dup2_sends (Some f) g S m i = named_sends p me f (named me (Some f)) g S m i
-
-pub dup2_local : (inside : Option Inside) (p : ℕ) (me : Process) (f g : Option ℕ) → IsLocal inside p me (λ S. dup2_effect p f g me S) (λ S. dup2_objects f g me S)
-dup2_local inside p me f g =
-    let xs : List Object = desc_objects (listed (named me f)) in
-    let ds : List ℕ = other_than f g me in
-    let own : (S R : State) → AgreeOn (Proc p ∷ dup2_objects f g me S) S R → AgreeOn (desc_pipe_objects ds S) S R =
-    λ S R a. agree_right xs (desc_pipe_objects ds S) S R (agree_rest (Proc p) (dup2_objects f g me S) S R a) in
-    record {
-      same = λ S R a. dup2_same p me f g S R (own S R a);
-      foot = λ S R a. ap (λ (os : List Object). xs ++ os) (ends_same ds S R (own S R a));
-      fits = λ S all e c.
-          let k : Covers all (xs ++ desc_pipe_objects ds S) = covers_rest all (Proc p) (dup2_objects f g me S) c in
-          dup2_fits p me f g S all e (covers_head all (Proc p) (dup2_objects f g me S) c) (covers_left all xs (desc_pipe_objects ds S) k) (covers_right all xs (desc_pipe_objects ds S) k);
-      sends = λ S i k l m n. absurd (dup2_sends p me f g S m n);
-      holds = λ S i k u h. absurd (both_ways (has (Held u) (dup2_objects f g me S)) (lacks_both (Held u) xs (desc_pipe_objects ds S) (descs_held u (listed (named me f))) (ends_held u ds S)) h);
-    }
+  pub dup2_local : IsLocal inside p me (λ S. effect_of p me (dup2 a b (caller inside p me S))) names
+  dup2_local =
+      page_local inside p me (dup2 a b) names dup2_same (λ S R k. ap (λ (os : List Object). kept ++ os) (ends_same lost S R (agree_lost S R k)))
+      (λ S u. lacks_both (Held u) kept (desc_pipe_objects lost S) (descs_held u (listed (named me (descriptor a)))) (ends_held u lost S)) dup2_owes
 
 -- pipe: an end of the new pipe at a number that was free
-side_fits : (S : State) (all : List Object) (q r : ℕ) (side : Side) → S.descs r ≡ None → has (Desc r) all ≡ true → has (Pipe q) all ≡ true → WriteFits S all (SetDesc r (new_side q side))
+side_fits : (S : State) (all : List Object) (q r : ℕ) (side : Side) → S.descs r ≡ None → has (Desc r) all ≡ true → has (Pipe q) all ≡ true
+    → WriteFits S all (SetDesc r (Some (record { pipe = q; side = side; nonblock = false })))
 side_fits S all q r side e h k = (h, λ n l. by n l (q == n) (λ z. eqb-true q n z) ∙ ap (side_in n) (sym e))
   where
     by : (n : ℕ) → has (Pipe n) all ≡ false → (b : Bool) → (b ≡ true → q ≡ n) → (if b then Some side else None) ≡ None
@@ -274,55 +190,26 @@ side_fits S all q r side e h k = (h, λ n l. by n l (q == n) (λ z. eqb-true q n
         absurd (both_ways (has (Pipe n) all) l m)
     by n l false z = refl
 
-none_of : {A : Type 0} (x : Option A) → is_some x ≡ false → x ≡ None
-none_of None h = refl
-none_of (Some y) h = cc
+-- the numbers of the descriptions are free
+free_two : (x : Option (List ℕ)) (y z : Option Description) → (if is_some x then true else (if is_some y then true else is_some z)) ≡ false → (y ≡ None) × (z ≡ None)
+free_two (Some x) y z h = cc
+free_two None (Some y) z h = cc
+free_two None None (Some z) h = cc
+free_two None None None h = (refl, refl)
 
-module _ (p q r w : ℕ) (me : Process) where
-  -- the numbers of the descriptions are free
-  free_two : (x : Option (List ℕ)) (y z : Option Description) → (if is_some x then true else (if is_some y then true else is_some z)) ≡ false → (y ≡ None) × (z ≡ None)
-  free_two (Some x) y z h = cc
-  free_two None (Some y) z h = cc
-  free_two None None (Some z) h = cc
-  free_two None None None h = (refl, refl)
-
-  module _ (S : State) (all : List Object) (e : S.procs p ≡ Some me) (c : Covers all (Proc p ∷ pipe_objects q r w)) where
-    at_fits : (f : ℕ) → lowest_free me ≡ Some f → S.descs r ≡ None → S.descs w ≡ None → (y : Option ℕ) → lowest_free (with_descriptor f (Some r) me) ≡ y
-        → StaysIn S all (opens_at p q r w me f y)
-    at_fits f k i j None l = many_fits p me S all e (c (Proc p) (has_head (Proc p) _))
-    at_fits f k i j (Some g) l =
-        let one : has (Pipe q) all ≡ true = c (Pipe q) (has_tail (Pipe q) (Proc p) (pipe_objects q r w) (has_head (Pipe q) (Desc r ∷ Desc w ∷ []))) in
-        let two : has (Desc r) all ≡ true = c (Desc r) (has_tail (Desc r) (Proc p) (pipe_objects q r w) (has_tail (Desc r) (Pipe q) (Desc r ∷ Desc w ∷ []) (has_head (Desc r) (Desc w ∷ [])))) in
-        let three : has (Desc w) all ≡ true = c (Desc w) (has_tail (Desc w) (Proc p) (pipe_objects q r w) (has_tail (Desc w) (Pipe q) (Desc r ∷ Desc w ∷ []) (has_tail (Desc w) (Desc r) (Desc w ∷ []) (has_head (Desc w) [])))) in
-        let both : Process = with_two_slots f g (with_descriptor g (Some w) (with_descriptor f (Some r) me)) in
-        let names : (d n : ℕ) → has (Desc d) all ≡ false → is_number d (slice_index_or both.descriptors n None) ≡ is_number d (slice_index_or me.descriptors n None) =
-        λ d n m. free_same all (slice_set me.descriptors f (Some r)) g w l three d n m ∙ free_same all me.descriptors f r k two d n m in (
-          (
-            self_fits p me S all e (c (Proc p) (has_head (Proc p) (pipe_objects q r w))) (noted (pos 0) both) refl refl names,
-            (one, (side_fits S all q r ReadSide i two one, (side_fits S all q w WriteSide j three one, tt))),
-          ),
-          tt,
-        )
-
-    from_fits : S.descs r ≡ None → S.descs w ≡ None → (x : Option ℕ) → lowest_free me ≡ x → StaysIn S all (opens_from p q r w me x)
-    from_fits i j None k = many_fits p me S all e (c (Proc p) (has_head (Proc p) (pipe_objects q r w)))
-    from_fits i j (Some f) k = at_fits f k i j (lowest_free (with_descriptor f (Some r) me)) refl
-
-    pipe_fits : (b : Bool) → is_pipe_in_use q r w S ≡ b → StaysIn S all (if b then idle NumberTaken else opens_from p q r w me (lowest_free me))
-    pipe_fits true k = (tt, tt)
-    pipe_fits false k = let z = free_two (S.pipes q) (S.descs r) (S.descs w) k in from_fits z.0 z.1 (lowest_free me) refl
-
-  at_sends : (f : ℕ) (y : Option ℕ) (m : Sending) → IsIn m (opens_at p q r w me f y).sends → ⊥
-  at_sends f None m i = i
-  at_sends f (Some g) m i = i
-
-  from_sends : (x : Option ℕ) (m : Sending) → IsIn m (opens_from p q r w me x).sends → ⊥
-  from_sends None m i = i
-  from_sends (Some f) m i = at_sends f (lowest_free (with_descriptor f (Some r) me)) m i
-
-  pipe_sends : (b : Bool) (m : Sending) → IsIn m (if b then idle NumberTaken else opens_from p q r w me (lowest_free me)).sends → ⊥
-  pipe_sends true m i = i
-  pipe_sends false m i = from_sends (lowest_free me) m i
+module _ (inside : Option Inside) (p q r w : ℕ) (me : Process) where
+  pub pipe_owes : (S : State) → Owes p me S (pipe_objects q r w) (pipe q r w (caller inside p me S))
+  pipe_owes S =
+      pipe_lines (λ o. Owes p me S (pipe_objects q r w) o) (caller inside p me S) (fails_owes p me S (pipe_objects q r w)) q r w (refuses_owes p me S (pipe_objects q r w) NumberTaken)
+      λ f g free k l. changes_owes p me S (pipe_objects q r w) (pos 0) _ _ λ all e h c.
+      let one : has (Pipe q) all ≡ true = c (Pipe q) (has_head (Pipe q) (Desc r ∷ Desc w ∷ [])) in
+      let two : has (Desc r) all ≡ true = c (Desc r) (has_tail (Desc r) (Pipe q) (Desc r ∷ Desc w ∷ []) (has_head (Desc r) (Desc w ∷ []))) in
+      let three : has (Desc w) all ≡ true = c (Desc w) (has_tail (Desc w) (Pipe q) (Desc r ∷ Desc w ∷ []) (has_tail (Desc w) (Desc r) (Desc w ∷ []) (has_head (Desc w) []))) in
+      let none = free_two (S.pipes q) (S.descs r) (S.descs w) free in
+      let both : Process = with_two_slots f g (with_descriptor g (Some w) (with_descriptor f (Some r) me)) in
+      let names : (d n : ℕ) → has (Desc d) all ≡ false → is_number d (slice_index_or both.descriptors n None) ≡ is_number d (slice_index_or me.descriptors n None) =
+      λ d n m. free_same all (slice_set me.descriptors f (Some r)) g w l three d n m ∙ free_same all me.descriptors f r k two d n m in
+      (self_fits p me S all e h (noted (pos 0) both) refl refl names, (one, (side_fits S all q r ReadSide none.0 two one, (side_fits S all q w WriteSide none.1 three one, tt))))
 
   taken_same : (S R : State) → AgreeOn (pipe_objects q r w) S R → is_pipe_in_use q r w S ≡ is_pipe_in_use q r w R
   taken_same S R a =
@@ -336,12 +223,9 @@ pipe_held : (u q r w : ℕ) → has (Held u) (pipe_objects q r w) ≡ false
 unfolding has
 pipe_held u q r w = refl
 
-pub pipe_local : (inside : Option Inside) (p q r w : ℕ) (me : Process) → IsLocal inside p me (λ S. pipe_effect p q r w me S) (λ S. pipe_objects q r w)
-pipe_local inside p q r w me = record {
-  same = λ S R a. ap (λ (b : Bool). if b then idle NumberTaken else opens_from p q r w me (lowest_free me))
-      (taken_same p q r w me S R (agree_rest (Proc p) (pipe_objects q r w) S R a));
-  foot = λ S R a. refl;
-  fits = λ S all e c. pipe_fits p q r w me S all e c (is_pipe_in_use q r w S) refl;
-  sends = λ S i k l m n. absurd (pipe_sends p q r w me (is_pipe_in_use q r w S) m n);
-  holds = λ S i k u h. absurd (both_ways (has (Held u) (pipe_objects q r w)) (pipe_held u q r w) h);
-}
+pub pipe_local : (inside : Option Inside) (p q r w : ℕ) (me : Process) → IsLocal inside p me (λ S. effect_of p me (pipe q r w (caller inside p me S))) (λ S. pipe_objects q r w)
+pipe_local inside p q r w me =
+    page_local inside p me (pipe q r w) (λ S. pipe_objects q r w)
+    (λ S R a. when_same (is_pipe_in_use q r w S) (is_pipe_in_use q r w R) (refuses NumberTaken) _ _
+    (taken_same inside p q r w me S R (agree_rest (Proc p) (pipe_objects q r w) S R a)) (λ z. refl))
+    (λ S R a. refl) (λ S u. pipe_held u q r w) (pipe_owes inside p q r w me)

@@ -2,16 +2,22 @@
 use Rattle.std.proofs.Common.{◌≡◌, ◌≢◌, ℕ, zero, suc, ◌+◌, Bool, true, false, List, [], ◌∷◌, ◌++◌, ℤ, pos, Option, Some, None, is_some, if◌then◌else◌, ◌==◌, slice_index_or, refl, sym, ap, ap₂, ◌∙◌, subst, inl, inr, eq-eqb, eqb-true}
 use Rattle.std.proofs.lemmas.Bool.{both_ways}
 use Rattle.tx_base.specs.declared.errors.Errno.TheVariants.{NotPermitted, NoChild}
+use Rattle.tx_base.specs.declared.steps.Refusal.TheVariants.{NumberTaken, Wait}
 use Rattle.tx_base.specs.declared.steps.Reply.TheVariants.{Ended}
 use Rattle.tx_model.specs.Numbers.{failing}
-use Rattle.tx_model.specs.State.{Process, State, Sending, Object, Proc, Desc, Held, Write, SetProc, SetHeld, write_one, has_parent, is_number, names_at, AgreeAt, AgreeOn, has}
-use Rattle.tx_model.specs.Effects.{Inside, Replies, noted, done}
+use Rattle.tx_model.specs.State.{Process, State, Sending, Object, Proc, Desc, Held, Write, SetProc, SetHeld, write_one, has_parent, is_number, names_at, has}
+use Rattle.tx_model.specs.StateLaws.{AgreeAt, AgreeOn}
+use Rattle.tx_model.specs.Effects.{Inside, Replies, noted}
 use Rattle.tx_laws.specs.Fits.{IsIn}
 use Rattle.tx_model.specs.Descriptors.{open_in, pipes_of, released, desc_objects, pipe_list, desc_pipe_objects}
-use Rattle.tx_model.specs.Processes.{child_of, forks, fork_effect, fork_objects, ended, children_below, children_of, with_parent, orphaned, told_to, NotTold, AtOnce, AtCommit, telling, told_at_once, told_at_commit, ending, procs_of, held_objects, ending_objects, exit_status, exit_effect, exit_objects, numbered, with_status, waits_by, waits_for, waits_at, waitpid_effect, numbered_objects, waitpid_objects}
+use Rattle.tx_model.specs.Processes.{fork_objects, ended, children_below, children_of, with_parent, orphaned, told_to, NotTold, AtOnce, AtCommit, telling, told_at_once, told_at_commit, ending, procs_of, held_objects, ending_objects, exit_status, exit_objects, numbered, with_status, numbered_objects, waitpid_objects}
+use Rattle.tx_model.specs.Forms.{fails, refuses, does, effect_of, ◌when◌}
+use Rattle.tx_model.specs.Book.{fork, exit, waitpid}
+use Rattle.tx_model.specs.BookLaws.{fork_lines, waitpid_lines}
 use Rattle.tx_laws.proofs.Objects.{WriteFits, WritesFit, Covers, has_head, has_tail, writes_append}
 use Rattle.tx_laws.proofs.Owed.{IsLocal}
-use Rattle.tx_laws.proofs.InPlace.{StaysIn, in_place, kept_fits, done_fits, done_local}
+use Rattle.tx_laws.proofs.InPlace.{StaysIn, in_place, kept_fits, done_local}
+use Rattle.tx_laws.proofs.OfPages.{caller, none_there, or_same, when_same, Owes, answers_owes, fails_owes, refuses_owes, changes_owes, page_local}
 use Rattle.tx_laws.proofs.Released.{lacks_both, agree_left, agree_right, agree_rest, ends_same, released_fits, released_after, descs_held, ends_held, covers_left, covers_right, covers_rest, covers_head}
 
 -- processes are nothing held
@@ -62,41 +68,32 @@ names_none all me d f c h = by (is_some me.status) (is_number d (slice_index_or 
     by false false e = refl
 
 -- fork
-forks_keeps : (p c : ℕ) (me : Process) (S : State) (all : List Object) → S.procs p ≡ Some me → Covers all (Proc p ∷ fork_objects c me) → (x : Option Process) → S.procs c ≡ x → StaysIn S all (forks p c me x)
-forks_keeps p c me S all e cover (Some other) k = (tt, tt)
-forks_keeps p c me S all e cover None k = ((kept_fits p me S all e mine (noted (pos c) me) (in_place me _ refl refl refl), ((child, parents, names), tt)), tt)
-  where
-    descs : List Object
-    descs = desc_objects (open_in me.descriptors)
-
-    mine : has (Proc p) all ≡ true
-    mine = cover (Proc p) (has_head (Proc p) (fork_objects c me))
-
-    child : has (Proc c) all ≡ true
-    child = cover (Proc c) (has_tail (Proc c) (Proc p) (fork_objects c me) (has_head (Proc c) descs))
-
-    parents : (n : ℕ) → n ≢ 1 → has (Proc n) all ≡ false → (p == n) ≡ has_parent n (S.procs c)
-    parents n ne l = rw k (other_number all p n mine l)
-
-    names : (d f : ℕ) → has (Desc d) all ≡ false → names_at d f (Some (child_of p me)) ≡ names_at d f (S.procs c)
-    names d f l = rw k (names_none all me d f (λ o i. cover o (has_tail o (Proc p) (fork_objects c me) (has_tail o (Proc c) descs i))) l)
-
-forks_sends : (p c : ℕ) (me : Process) (x : Option Process) (m : Sending) → IsIn m (forks p c me x).sends → ⊥
-forks_sends p c me None m h = h
-forks_sends p c me (Some other) m h = h
-
 pub child_in : (c : ℕ) (me : Process) → has (Proc c) (fork_objects c me) ≡ true
 child_in c me = has_head (Proc c) (desc_objects (open_in me.descriptors))
 
-pub fork_local : (inside : Option Inside) (p c : ℕ) (me : Process) → IsLocal inside p me (λ S. fork_effect p c me S) (λ S. fork_objects c me)
-unfolding has
-fork_local inside p c me = record {
-  same = λ S R a. ap (forks p c me) (a (Proc c) (has_tail (Proc c) (Proc p) (fork_objects c me) (child_in c me))).part;
-  foot = λ S R a. refl;
-  fits = λ S all e cover. forks_keeps p c me S all e cover (S.procs c) refl;
-  sends = λ S i e k m h. absurd (forks_sends p c me (S.procs c) m h);
-  holds = λ S i e u h. absurd (both_ways (has (Held u) (fork_objects c me)) (descs_held u (open_in me.descriptors)) h);
-}
+module _ (inside : Option Inside) (p child : ℕ) (me : Process) where
+  pub fork_owes : (S : State) → Owes p me S (fork_objects child me) (fork child (caller inside p me S))
+  fork_owes S =
+      fork_lines (λ o. Owes p me S (fork_objects child me) o) (caller inside p me S) (fails_owes p me S (fork_objects child me)) child (λ z. refuses_owes p me S (fork_objects child me) NumberTaken)
+      λ free. changes_owes p me S (fork_objects child me) (pos child) me _ λ all e mine c.
+      let k : S.procs child ≡ None = none_there (S.procs child) free in (
+        kept_fits p me S all e mine (noted (pos child) me) (in_place me _ refl refl refl),
+        (
+          (c (Proc child) (child_in child me), λ n ne l. rw k (other_number all p n mine l), λ d f l. rw k (names_none all me d f (covers_rest all (Proc child) _ c) l)),
+          tt,
+        ),
+      )
+
+  fork_held : (u : ℕ) → has (Held u) (fork_objects child me) ≡ false
+  unfolding has
+  fork_held u = descs_held u (open_in me.descriptors)
+
+  pub fork_local : IsLocal inside p me (λ S. effect_of p me (fork child (caller inside p me S))) (λ S. fork_objects child me)
+  fork_local =
+      page_local inside p me (fork child) (λ S. fork_objects child me)
+      (λ S R a. when_same (is_some (S.procs child)) (is_some (R.procs child)) (refuses NumberTaken) _ _
+      (ap is_some (a (Proc child) (has_tail (Proc child) (Proc p) (fork_objects child me) (child_in child me))).part) (λ z. refl))
+      (λ S R a. refl) (λ S u. fork_held u) fork_owes
 
 -- the children of a process
 children_below_same : (p n : ℕ) (S R : State) → ((q : ℕ) → has_parent p (S.procs q) ≡ has_parent p (R.procs q)) → children_below p n S ≡ children_below p n R
@@ -297,71 +294,44 @@ module _ (inside : Option Inside) (p status : ℕ) (me now : Process) where
   }
 
 -- exit
-pub exit_local : (inside : Option Inside) (p : ℕ) (v : ℤ) (me : Process) → IsLocal inside p me (λ S. exit_effect inside p v me S) (λ S. exit_objects inside p me S)
+pub exit_local : (inside : Option Inside) (p : ℕ) (v : ℤ) (me : Process) → IsLocal inside p me (λ S. effect_of p me (exit v (caller inside p me S))) (λ S. exit_objects inside p me S)
 exit_local inside p v me = by (p == 1)
   where
-    by : (b : Bool) → IsLocal inside p me (λ S. if b then done p (failing NotPermitted) me else ending inside p (exit_status v) me S) (λ S. if b then [] else ending_objects inside p me S)
+    by : (b : Bool) → IsLocal inside p me (λ S. effect_of p me ((fails NotPermitted when b) (does (ending inside p (exit_status v) me S)))) (λ S. if b then [] else ending_objects inside p me S)
     by true = done_local inside p me (failing NotPermitted)
     by false = ending_local inside p (exit_status v) me me refl refl
 
 -- waitpid
-waits_keeps : (p t : ℕ) (nohang : Bool) (me : Process) (S : State) (all : List Object) → S.procs p ≡ Some me → has (Proc p) all ≡ true → has (Proc t) all ≡ true
-    → (x : Option Process) → S.procs t ≡ x → StaysIn S all (waits_for p t nohang me x)
-waits_keeps p t nohang me S all e h g None k = done_fits p me S all e h (failing NoChild)
-waits_keeps p t nohang me S all e h g (Some q) k = by (q.parent == p) refl q.status refl nohang
-  where
-    by : (b : Bool) → (q.parent == p) ≡ b → (status : Option ℕ) → q.status ≡ status → (nohang : Bool)
-        → StaysIn S all (if b then waits_by p t nohang me status else done p (failing NoChild) me)
-    by true a None s true = done_fits p me S all e h (pos 0)
-    by true a None s false = (tt, tt)
-    by true a (Some status) s nohang = (
-      (
-        kept_fits p me S all e h (noted (pos t) (with_status status me)) (in_place me _ refl refl refl),
-        ((g, λ n ne l. rw k (sym (other_parent all p n q.parent h l a)), λ d f l. rw (k, s) refl), tt),
-      ),
-      tt,
-    )
-    by false a status s nohang = done_fits p me S all e h (failing NoChild)
-
-waits_at_keeps : (p : ℕ) (t : Option ℕ) (nohang : Bool) (me : Process) (S : State) (all : List Object) → S.procs p ≡ Some me → Covers all (Proc p ∷ numbered_objects t)
-    → StaysIn S all (waits_at p t nohang me S)
-waits_at_keeps p None nohang me S all e c = done_fits p me S all e (c (Proc p) (has_head (Proc p) [])) (failing NoChild)
-waits_at_keeps p (Some t) nohang me S all e c =
-    waits_keeps p t nohang me S all e (c (Proc p) (has_head (Proc p) (Proc t ∷ []))) (c (Proc t) (has_tail (Proc t) (Proc p) (Proc t ∷ []) (has_head (Proc t) []))) (S.procs t) refl
-
-waits_sends : (p t : ℕ) (nohang : Bool) (me : Process) (x : Option Process) (m : Sending) → IsIn m (waits_for p t nohang me x).sends → ⊥
-waits_sends p t nohang me None m h = h
-waits_sends p t nohang me (Some q) m h = by (q.parent == p) q.status nohang h
-  where
-    by : (b : Bool) (status : Option ℕ) (nohang : Bool) → IsIn m (if b then waits_by p t nohang me status else done p (failing NoChild) me).sends → ⊥
-    by true None true k = k
-    by true None false k = k
-    by true (Some status) nohang k = k
-    by false status nohang k = k
-
-waits_at_sends : (p : ℕ) (t : Option ℕ) (nohang : Bool) (me : Process) (S : State) (m : Sending) → IsIn m (waits_at p t nohang me S).sends → ⊥
-waits_at_sends p None nohang me S m h = h
-waits_at_sends p (Some t) nohang me S m h = waits_sends p t nohang me (S.procs t) m h
-
-waits_at_same : (p : ℕ) (t : Option ℕ) (nohang : Bool) (me : Process) (S R : State) → AgreeOn (numbered_objects t) S R → waits_at p t nohang me S ≡ waits_at p t nohang me R
-waits_at_same p None nohang me S R a = refl
-waits_at_same p (Some t) nohang me S R a = ap (waits_for p t nohang me) (a (Proc t) (has_head (Proc t) [])).part
-
 numbered_held : (u : ℕ) (t : Option ℕ) → has (Held u) (numbered_objects t) ≡ false
 unfolding has
 numbered_held u None = refl
 numbered_held u (Some t) = refl
 
-waitpid_same : (p : ℕ) (t : ℤ) (nohang : Bool) (me : Process) (S R : State) → AgreeOn (Proc p ∷ waitpid_objects t S) S R → waitpid_effect p t nohang me S ≡ waitpid_effect p t nohang me R
-waitpid_same p t nohang me S R a =
-    waits_at_same p (numbered S.width t) nohang me S R (λ o h. a o (has_tail o (Proc p) (waitpid_objects t S) h))
-    ∙ ap (λ (w : ℕ). waits_at p (numbered w t) nohang me R) (a (Proc p) (has_head (Proc p) (waitpid_objects t S))).width
+module _ (inside : Option Inside) (p : ℕ) (me : Process) (t : ℤ) (nohang : Bool) where
+  pub waitpid_owes : (S : State) → Owes p me S (waitpid_objects t S) (waitpid t nohang (caller inside p me S))
+  waitpid_owes S =
+      let os : List Object = waitpid_objects t S in
+      waitpid_lines (λ o. Owes p me S os o) (caller inside p me S) (fails_owes p me S os) t nohang (answers_owes p me S os (pos 0)) (refuses_owes p me S os Wait)
+      λ child status q is there mine over. changes_owes p me S os (pos child) (with_status status me) _ λ all e h c. (
+        kept_fits p me S all e h (noted (pos child) (with_status status me)) (in_place me _ refl refl refl),
+        (
+          (
+            covers_head all (Proc child) [] (subst (λ (x : Option ℕ). Covers all (numbered_objects x)) is c),
+            λ n ne l. rw there (sym (other_parent all p n q.parent h l mine)),
+            λ d f l. rw (there, over) refl,
+          ),
+          tt,
+        ),
+      )
 
-pub waitpid_local : (inside : Option Inside) (p : ℕ) (t : ℤ) (nohang : Bool) (me : Process) → IsLocal inside p me (λ S. waitpid_effect p t nohang me S) (λ S. waitpid_objects t S)
-waitpid_local inside p t nohang me = record {
-  same = λ S R a. waitpid_same p t nohang me S R a;
-  foot = λ S R a. ap (λ (w : ℕ). numbered_objects (numbered w t)) (a (Proc p) (has_head (Proc p) (waitpid_objects t S))).width;
-  fits = λ S all e c. waits_at_keeps p (numbered S.width t) nohang me S all e c;
-  sends = λ S i e k m h. absurd (waits_at_sends p (numbered S.width t) nohang me S m h);
-  holds = λ S i e u h. absurd (both_ways (has (Held u) (waitpid_objects t S)) (numbered_held u (numbered S.width t)) h);
-}
+  waitpid_same : (S R : State) → AgreeOn (Proc p ∷ waitpid_objects t S) S R → waitpid t nohang (caller inside p me S) ≡ waitpid t nohang (caller inside p me R)
+  waitpid_same S R a =
+      or_same (numbered S.width t) (numbered R.width t) (fails NoChild) _ _ (ap (λ (w : ℕ). numbered w t) (a (Proc p) (has_head (Proc p) (waitpid_objects t S))).width)
+      λ child e. or_same (S.procs child) (R.procs child) (fails NoChild) _ _
+      (a (Proc child) (has_tail (Proc child) (Proc p) (waitpid_objects t S) (rw e (has_head (Proc child) [])))).part λ q z. refl
+
+  pub waitpid_local : IsLocal inside p me (λ S. effect_of p me (waitpid t nohang (caller inside p me S))) (λ S. waitpid_objects t S)
+  waitpid_local =
+      page_local inside p me (waitpid t nohang) (λ S. waitpid_objects t S) waitpid_same
+      (λ S R a. ap (λ (w : ℕ). numbered_objects (numbered w t)) (a (Proc p) (has_head (Proc p) (waitpid_objects t S))).width)
+      (λ S u. numbered_held u (numbered S.width t)) waitpid_owes

@@ -1,6 +1,7 @@
 -- What the rule of a call or a delivery owes to the laws.
 use Rattle.std.proofs.Common.{◌≡◌, ℕ, true, List, ◌∷◌, Option, Some}
-use Rattle.tx_model.specs.State.{Process, State, Sending, Object, Proc, Held, AgreeOn, has}
+use Rattle.tx_model.specs.State.{Process, State, Sending, Object, Proc, Held, has}
+use Rattle.tx_model.specs.StateLaws.{AgreeOn}
 use Rattle.tx_model.specs.Effects.{Inside, Effect}
 use Rattle.tx_laws.specs.Fits.{IsIn}
 use Rattle.tx_laws.proofs.Objects.{WritesFit, ConclusionIn, Covers}

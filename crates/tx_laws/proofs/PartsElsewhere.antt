@@ -1,6 +1,7 @@
 -- What an event, made on any state, does to what is no object of it: its posts, and nothing else.
 use Rattle.std.proofs.Common.{◌≡◌, false, List, [], ◌∷◌, refl, ℤ}
-use Rattle.tx_model.specs.State.{State, Object, Proc, Desc, Pipe, Held, Write, SetProc, SetDesc, SetPipe, SetHeld, write_one, written, AgreePart, has}
+use Rattle.tx_model.specs.State.{State, Object, Proc, Desc, Pipe, Held, Write, SetProc, SetDesc, SetPipe, SetHeld, write_one, written, has}
+use Rattle.tx_model.specs.StateLaws.{AgreePart}
 use Rattle.tx_model.specs.Posts.{posts}
 use Rattle.tx_model.specs.Effects.{Effect, before_sends, applied}
 use Rattle.tx_model.specs.Events.{Event, effect, objects}

@@ -1,9 +1,9 @@
 -- What goes with names of descriptions that were given up depends on those descriptions and their pipes alone.
-use Rattle.std.proofs.Common.{◌≡◌, ℕ, zero, suc, ◌+◌, Bool, true, false, List, [], ◌∷◌, ◌++◌, ℤ, Option, Some, None, if◌then◌else◌, ◌==◌, refl, sym, ap, ap₂, ◌∙◌, subst, eqb-true}
+use Rattle.std.proofs.Common.{◌≡◌, ℕ, zero, suc, ◌+◌, Bool, true, false, List, [], ◌∷◌, ◌++◌, Option, Some, None, if◌then◌else◌, ◌==◌, refl, sym, ap, ap₂, ◌∙◌, subst, eqb-true}
 use Rattle.std.proofs.lemmas.Bool.{both_ways}
-use Rattle.tx_model.specs.State.{Process, Side, Description, State, Object, Desc, Pipe, Held, Write, SetProc, SetDesc, SetPipe, write_one, written, names_at, side_in, AgreeAt, AgreeOn, same_object, has}
-use Rattle.tx_model.specs.Effects.{noted, done_with}
-use Rattle.tx_model.specs.Descriptors.{names_below, is_named_below, is_named, is_side, has_side_below, has_description, pipe_of, pipes_of, unnamed_go, endless_go, released, gives_up, desc_objects, pipe_list, desc_pipe_objects}
+use Rattle.tx_model.specs.State.{Process, Side, Description, State, Object, Desc, Pipe, Held, Write, SetProc, SetDesc, SetPipe, write_one, written, names_at, side_in, same_object, has}
+use Rattle.tx_model.specs.StateLaws.{AgreeAt, AgreeOn}
+use Rattle.tx_model.specs.Descriptors.{names_below, is_named_below, is_named, is_side, has_side_below, has_description, pipe_of, pipes_of, unnamed_go, endless_go, released, desc_objects, pipe_list, desc_pipe_objects}
 use Rattle.tx_laws.proofs.Agree.{written_keeps}
 use Rattle.tx_laws.proofs.Objects.{WriteFits, WritesFit, Covers, has_head, has_tail, has_left, has_right, writes_append}
 
@@ -193,11 +193,3 @@ released_after ds p x S R a =
     let same : desc_pipe_objects ds S ≡ desc_pipe_objects ds T = ap (λ (ks : List ℕ). desc_objects ds ++ pipe_list ks) (sym (pipes_of_descs ds S T refl)) in
     released_same ds T (write_one (SetProc p x) R)
     (subst (λ (os : List Object). AgreeOn os T (write_one (SetProc p x) R)) same (agree_written (SetProc p x) (desc_pipe_objects ds S) S R a))
-
-pub gives_up_same : (ds : List ℕ) (p : ℕ) (r : ℤ) (me : Process) (S R : State) → AgreeOn (desc_pipe_objects ds S) S R → gives_up ds p r me S ≡ gives_up ds p r me R
-gives_up_same ds p r me S R a =
-    ap (λ (ws : List Write). done_with ws p r me) (released_after ds p (Some (noted r me)) S R a)
-
-pub gives_up_fits : (ds : List ℕ) (p : ℕ) (r : ℤ) (me : Process) (S : State) (all : List Object) → WriteFits S all (SetProc p (Some (noted r me))) → Covers all (desc_pipe_objects ds S)
-    → WritesFit S all (gives_up ds p r me S).writes
-gives_up_fits ds p r me S all f c = (f, released_fits ds S (write_one (SetProc p (Some (noted r me))) S) all refl c)

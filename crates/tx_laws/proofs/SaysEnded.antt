@@ -1,5 +1,5 @@
 -- Which calls and deliveries end their process, and what the transactions make of that.
-use Rattle.std.proofs.Common.{◌≡◌, ℕ, Bool, true, false, not, ℤ, pos, negsuc, Option, Some, None, if◌then◌else◌, ◌++◌, [], ◌∷◌, ◌==◌, nat_lt, refl, sym, ap, ◌∙◌, inl, inr}
+use Rattle.std.proofs.Common.{◌≡◌, ℕ, Bool, true, false, not, ℤ, pos, negsuc, Option, Some, None, if◌then◌else◌, ◌==◌, refl, sym, ap, ◌∙◌}
 use Rattle.tx_base.specs.declared.marks.Mark.{Mark}
 use Rattle.tx_base.specs.declared.steps.Call.{Call}
 use Rattle.tx_base.specs.declared.steps.Call.TheVariants as call
@@ -8,25 +8,24 @@ use Rattle.tx_base.specs.declared.steps.Step.{Step}
 use Rattle.tx_base.specs.declared.steps.Step.TheVariants.{Call as Calls, Deliver, KernelAbort}
 use Rattle.tx_base.specs.declared.steps.Refusal.TheVariants.{Deferred, FramesFull}
 use Rattle.tx_base.specs.declared.steps.Reply.TheVariants.{Done}
-use Rattle.tx_base.specs.declared.errors.Errno.TheVariants.{NotPermitted, TryAgain}
-use Rattle.tx_base.specs.declared.limits.TheConstants.{HELD_SENDS}
-use Rattle.tx_model.specs.Numbers.{failing}
-use Rattle.tx_model.specs.State.{Process, State, Sending, SetHeld}
-use Rattle.tx_model.specs.Effects.{Inside, Conclusion, Replies, AnswersPost, ListsFailed, idle, own_effect, done, done_with}
-use Rattle.tx_model.specs.Scripts.{closed_inside}
-use Rattle.tx_model.specs.Sends.{sent_by, sent_by_members, posts_now, hands_out, sends_signal, sendable}
-use Rattle.tx_model.specs.Processes.{ending, exit_status, numbered}
+use Rattle.tx_base.specs.declared.errors.Errno.TheVariants.{NotPermitted}
+use Rattle.tx_model.specs.Forms.{fails, does, effect_of, ◌when◌}
+use Rattle.tx_model.specs.Book.{sigqueue}
+use Rattle.tx_model.specs.State.{Process, State}
+use Rattle.tx_model.specs.Effects.{Inside, Conclusion, Replies, AnswersPost, ListsFailed, idle, own_effect}
+use Rattle.tx_model.specs.Processes.{ending, exit_status}
 use Rattle.tx_model.specs.Signals.{Disposition, Ignored, Fatal, Caught, disposition}
 use Rattle.tx_model.specs.Deliveries.{action_at, acts_on, caught, delivered_value, delivers, ends_by, is_deferred, is_full, kills, relieved}
 use Rattle.tx_model.specs.Calls.{MakesCall, TakesSignal, call_effect, effect_at, running_effect}
 use Rattle.tx_model.specs.Events.{Do, Note, effect, reply_of}
 use Rattle.tx_model.specs.Membership.{Table, inside_by, Kind, Ordinary, Forking, Beginning, Leaving, Aborting, kind_of, says_ended, ordinary_role, kind_role, kind_event, Role, event_in}
 use Rattle.tx_model.specs.View.{View, present, first_reply}
+use Rattle.tx_model.specs.BookLaws.{sigqueue_lines}
+use Rattle.tx_laws.proofs.OfActs.{call_mild}
+use Rattle.tx_laws.proofs.OfPages.{caller}
 use Rattle.tx_laws.specs.Endings.{is_exit, end_reply, ExitIsTold, ExitsSayEnd, OtherCallsSayNoEnd, DeliveriesSayEnd, StepIsToldByEnd, OtherCallIsTold, DeliveryIsTold}
-use Rattle.tx_laws.proofs.Mild
 use Rattle.tx_laws.proofs.Mild.{GoesOn, goes_unended}
 use Rattle.tx_laws.proofs.KeepsView.{reply_ends}
-use Rattle.tx_laws.proofs.PlainCalls.{IsSpecial, call_plain}
 use Rattle.tx_laws.proofs.PlainWrites.{concludes_ended}
 
 goes_concludes : (c : Conclusion) → GoesOn c → concludes_ended c ≡ false
@@ -37,36 +36,16 @@ goes_concludes ListsFailed h = absurd h
 -- an act of process p, which is me and runs
 module _ (inside : Option Inside) (p : ℕ) (me : Process) (S : State) where
   -- a send ends nobody
-  out_goes : (m : Sending) (x : Option Inside) → concludes_ended (hands_out p x me m S).conclusion ≡ false
-  out_goes m None = refl
-  out_goes m (Some i) = by (i.members m.target) (m.signo == 0) (nat_lt (sent_by_members (S.held i.starter)) HELD_SENDS)
-    where
-      by : (a b c : Bool) → concludes_ended (if a then posts_now p m else (if b then done p closed_inside me
-          else (if c then done_with (SetHeld i.starter (S.held i.starter ++ m ∷ []) ∷ []) p (pos 0) me else done p (failing TryAgain) me))).conclusion ≡ false
-      by true b c = refl
-      by false true c = refl
-      by false false true = refl
-      by false false false = refl
-
-  signal_goes : (target signo : Option ℕ) (value : ℤ) → concludes_ended (sends_signal p inside me target signo value S).conclusion ≡ false
-  signal_goes target None value = refl
-  signal_goes None (Some signo) value = refl
-  signal_goes (Some n) (Some signo) value = out_goes (sent_by me n signo value) inside
-
-  special_goes : (c : Call) → IsSpecial c → is_exit c ≡ false → concludes_ended (call_effect inside p c me S).conclusion ≡ false
-  special_goes (call.Fork child) h other = goes_concludes _ (Mild.fork_mild p child.0 me S).goes_on
-  special_goes (call.Exit status) h other = cc
-  special_goes (call.Waitpid t nohang) h other = goes_concludes _ (Mild.waitpid_mild p t nohang me S).goes_on
-  special_goes (call.Kill t signo) h other = signal_goes (numbered S.width t) (sendable signo) (pos 0)
-  special_goes (call.Sigqueue t signo value) h other = signal_goes (numbered S.width t) (sendable signo) value
-  special_goes c h other = absurd h
+  send_goes : (t signo value : ℤ) → concludes_ended (effect_of p me (sigqueue t signo value (caller inside p me S))).conclusion ≡ false
+  send_goes t signo value =
+      sigqueue_lines (λ o. concludes_ended (effect_of p me o).conclusion ≡ false) (caller inside p me S) (λ e. refl) t signo value refl (λ n target a b out. refl) (λ n target i a b held some room. refl)
 
   -- no call but an exit ends its process
   call_goes : (c : Call) → is_exit c ≡ false → concludes_ended (call_effect inside p c me S).conclusion ≡ false
-  call_goes c other = elim (call_plain S p me inside c) [
-    | inl special ↦ special_goes c special other
-    | inr plain ↦ plain.goes_on
-  ]
+  call_goes (call.Exit status) other = cc
+  call_goes (call.Kill t signo) other = send_goes t signo (pos 0)
+  call_goes (call.Sigqueue t signo value) other = send_goes t signo value
+  call_goes c other = goes_concludes (call_effect inside p c me S).conclusion (call_mild inside p c me S tt).goes_on
 
   -- a signal that is no longer pending ends its process where it kills
   acts_end : (signo : ℕ) (value : ℤ) (what : Disposition) (now : Process) → concludes_ended (acts_on inside p signo value what now S).conclusion ≡ kills what
@@ -119,7 +98,7 @@ exits_say S pid status inside me here runs =
     ∙ ap (λ (n : Option ℕ). concludes_ended (running_effect inside pid.0 (MakesCall (call.Exit status)) S me n).conclusion) runs
     ∙ by (pid.0 == 1)
   where
-    by : (b : Bool) → concludes_ended (if b then done pid.0 (failing NotPermitted) me else ending inside pid.0 (exit_status status) me S).conclusion ≡ not b
+    by : (b : Bool) → concludes_ended (effect_of pid.0 me ((fails NotPermitted when b) (does (ending inside pid.0 (exit_status status) me S)))).conclusion ≡ not b
     by true = refl
     by false = refl
 

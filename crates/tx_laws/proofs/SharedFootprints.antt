@@ -7,7 +7,7 @@ use Rattle.tx_base.specs.declared.steps.Step.TheVariants.{Call as Calls, Deliver
 use Rattle.tx_model.specs.State.{Process, State, Sending, Object, Proc, Held, same_object, has}
 use Rattle.tx_model.specs.Descriptors.{descriptor, named, listed, open_in, desc_pipe_objects, desc_objects, other_than}
 use Rattle.tx_model.specs.Processes.{children_of, procs_of, numbered, numbered_objects}
-use Rattle.tx_model.specs.Sends.{sendable}
+use Rattle.tx_model.specs.Book.{sendable}
 use Rattle.tx_model.specs.Deliveries.{delivered_value, ends_by}
 use Rattle.tx_model.specs.Membership.{Table, inside_by, others_open}
 use Rattle.tx_model.specs.History.{is_other_starter, targets}

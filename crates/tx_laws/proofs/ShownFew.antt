@@ -1,8 +1,7 @@
 -- What a step shows on the console fits its reply.
-use Rattle.std.proofs.Common.{◌≡◌, ◌+◌, ◌<◌, ℕ, Bool, true, false, List, [], ◌∷◌, ◌++◌, length, ℤ, pos, Option, Some, None, if◌then◌else◌, ◌==◌, nat_lt, refl, subst, arith}
+use Rattle.std.proofs.Common.{◌≡◌, ◌+◌, ◌<◌, ℕ, Bool, true, false, List, length, ℤ, pos, Option, Some, None, if◌then◌else◌, nat_lt, refl, subst, arith}
 use Rattle.std.proofs.lemmas.Bool.{ltb-true}
-use Rattle.tx_base.specs.declared.limits.TheConstants.{CONSOLE_BYTES, HELD_SENDS, SLOTS}
-use Rattle.tx_base.specs.declared.errors.Errno.TheVariants.{NotPermitted, TryAgain}
+use Rattle.tx_base.specs.declared.limits.TheConstants.{CONSOLE_BYTES}
 use Rattle.tx_base.specs.declared.steps.Call.{Call}
 use Rattle.tx_base.specs.declared.steps.Call.TheVariants as call
 use Rattle.tx_base.specs.declared.steps.Refusal.{Refusal}
@@ -11,22 +10,21 @@ use Rattle.tx_base.specs.declared.steps.Reply.{Reply}
 use Rattle.tx_base.specs.declared.steps.Reply.TheVariants.{Done, Ended, Committed, Aborted, Out, No}
 use Rattle.tx_base.specs.declared.steps.Step.{Step}
 use Rattle.tx_base.specs.declared.steps.Step.TheVariants.{Call as Calls, Deliver, KernelAbort}
-use Rattle.tx_model.specs.Numbers.{below, failing}
-use Rattle.tx_model.specs.State.{Process, State, Sending, SetHeld}
-use Rattle.tx_model.specs.Effects.{Inside, Effect, Conclusion, Replies, AnswersPost, ListsFailed, concluding_reply, send_answers, idle, own_effect, done, done_with}
-use Rattle.tx_model.specs.Scripts.{closed_inside}
-use Rattle.tx_model.specs.Sends.{sent_by, sent_by_members, posts_now, hands_out, sends_signal, sendable}
-use Rattle.tx_model.specs.Processes.{ending, exit_status, exit_effect, numbered}
-use Rattle.tx_model.specs.Signals.{Disposition, Ignored, Fatal, Caught, disposition, known, newest}
-use Rattle.tx_model.specs.Descriptors.{named, descriptor}
+use Rattle.tx_model.specs.Forms.{effect_of}
+use Rattle.tx_model.specs.Book.{sigqueue}
+use Rattle.tx_model.specs.State.{Process, State, Sending}
+use Rattle.tx_model.specs.Effects.{Inside, Effect, Conclusion, Replies, AnswersPost, ListsFailed, concluding_reply, send_answers, idle, own_effect}
+use Rattle.tx_model.specs.Signals.{Disposition, Ignored, Fatal, Caught, disposition}
 use Rattle.tx_model.specs.Deliveries.{action_at, acts_on, caught, delivered_value, delivers, is_deferred, is_full, relieved}
 use Rattle.tx_model.specs.Calls.{Act, MakesCall, TakesSignal, act_effect, call_effect, effect_at, running_effect}
 use Rattle.tx_model.specs.Events.{Event, Do, Note, Commit, effect, reply_of}
 use Rattle.tx_model.specs.Membership.{Role, Outside, Within, Commits, Aborts, is_live}
 use Rattle.tx_model.specs.View.{View, present, kernel_status, abort_status, role_on, event_on}
 use Rattle.tx_model.specs.Answer.{refusal, plain_reply, accepted_reply, unless_refused, answer}
+use Rattle.tx_model.specs.BookLaws.{exit_lines, sigqueue_lines}
+use Rattle.tx_laws.proofs.OfActs.{call_mild}
+use Rattle.tx_laws.proofs.OfPages.{caller}
 use Rattle.tx_laws.specs.Shown.{ShowsFew}
-use Rattle.tx_laws.proofs.Mild
 use Rattle.tx_laws.proofs.Mild.{GoesOn, IsMild, goes}
 
 -- whether what the reply shows fits it
@@ -61,65 +59,15 @@ mild_few f h = on_few f.conclusion h.goes_on
 
 -- an act of process p, which is me and runs
 module _ (inside : Option Inside) (p : ℕ) (me : Process) (S : State) where
-  -- a send
-  out_few : (m : Sending) (x : Option Inside) → concludes_few (hands_out p x me m S).conclusion ≡ true
-  out_few m None = refl
-  out_few m (Some i) = by (i.members m.target) (m.signo == 0) (nat_lt (sent_by_members (S.held i.starter)) HELD_SENDS)
-    where
-      by : (a b c : Bool) → concludes_few (if a then posts_now p m else (if b then done p closed_inside me
-          else (if c then done_with (SetHeld i.starter (S.held i.starter ++ m ∷ []) ∷ []) p (pos 0) me else done p (failing TryAgain) me))).conclusion ≡ true
-      by true b c = refl
-      by false true c = refl
-      by false false true = refl
-      by false false false = refl
-
-  signal_few : (target signo : Option ℕ) (value : ℤ) → concludes_few (sends_signal p inside me target signo value S).conclusion ≡ true
-  signal_few target None value = refl
-  signal_few None (Some signo) value = refl
-  signal_few (Some n) (Some signo) value = out_few (sent_by me n signo value) inside
-
-  exit_few : (v : ℤ) → concludes_few (exit_effect inside p v me S).conclusion ≡ true
-  exit_few v = by (p == 1)
-    where
-      by : (b : Bool) → concludes_few (if b then done p (failing NotPermitted) me else ending inside p (exit_status v) me S).conclusion ≡ true
-      by true = refl
-      by false = refl
+  send_few : (t signo value : ℤ) → concludes_few (effect_of p me (sigqueue t signo value (caller inside p me S))).conclusion ≡ true
+  send_few t signo value =
+      sigqueue_lines (λ o. concludes_few (effect_of p me o).conclusion ≡ true) (caller inside p me S) (λ e. refl) t signo value refl (λ n target a b out. refl) (λ n target i a b held some room. refl)
 
   call_few : (c : Call) → concludes_few (call_effect inside p c me S).conclusion ≡ true
-  call_few (call.Map page) = refl
-  call_few (call.Unmap page) = refl
-  call_few (call.Protect page writable) = refl
-  call_few (call.Store address bytes) = refl
-  call_few (call.Load address) = refl
-  call_few (call.Fork child) = mild_few _ (Mild.fork_mild p child.0 me S)
-  call_few (call.Exit status) = exit_few status
-  call_few (call.Waitpid t nohang) = mild_few _ (Mild.waitpid_mild p t nohang me S)
-  call_few call.Getpid = refl
-  call_few call.Getppid = refl
-  call_few (call.Setuid u) = refl
-  call_few (call.Seteuid u) = refl
-  call_few (call.Setgid g) = refl
-  call_few (call.Setegid g) = refl
-  call_few (call.Pipe q r w) = mild_few _ (Mild.pipe_mild p q.0 r.0 w.0 me S)
-  call_few (call.Dup f) = mild_few _ (Mild.dup_mild p me (named me (descriptor f)))
-  call_few (call.Dup2 f g) = mild_few _ (Mild.dup2_mild p (descriptor f) (descriptor g) me S)
-  call_few (call.Close f) = mild_few _ (Mild.close_mild p (descriptor f) me S)
-  call_few (call.SetNonblock f on) = mild_few _ (Mild.nonblock_mild p on me (named me (descriptor f)) S)
-  call_few (call.Read f address n) = mild_few _ (Mild.read_mild p (named me (descriptor f)) address n me S)
-  call_few (call.Write f address n) = mild_few _ (Mild.write_mild p (named me (descriptor f)) address n me S)
-  call_few (call.Kill t signo) = signal_few (numbered S.width t) (sendable signo) (pos 0)
-  call_few (call.Sigqueue t signo value) = signal_few (numbered S.width t) (sendable signo) value
-  call_few (call.Sigaction signo action) = mild_few _ (Mild.action_mild p (known signo) action me)
-  call_few (call.Sigprocmask how set) = refl
-  call_few call.Sigpending = refl
-  call_few call.Sigreturn = mild_few _ (Mild.return_mild p (newest me.frames) me)
-  call_few (call.ConsoleWrite address n) = mild_few _ (Mild.console_mild p inside address n me)
-  call_few (call.Jump point when) = mild_few _ (Mild.jump_mild p point when me)
-  call_few (call.Keep slot) = mild_few _ (Mild.keep_mild p (below SLOTS slot) me)
-  call_few call.SysXbegin = refl
-  call_few call.SysXbeginDefer = refl
-  call_few call.SysXend = refl
-  call_few call.SysXabort = refl
+  call_few (call.Exit status) = exit_lines (λ o. concludes_few (effect_of p me o).conclusion ≡ true) (caller inside p me S) (λ e. refl) status (λ other. refl)
+  call_few (call.Kill t signo) = send_few t signo (pos 0)
+  call_few (call.Sigqueue t signo value) = send_few t signo value
+  call_few c = mild_few _ (call_mild inside p c me S tt)
 
   -- a delivery
   acts_few : (signo : ℕ) (value : ℤ) (what : Disposition) (now : Process) → concludes_few (acts_on inside p signo value what now S).conclusion ≡ true

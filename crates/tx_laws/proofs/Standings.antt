@@ -6,7 +6,7 @@ use Rattle.tx_model.specs.Posts.{has_room, may_signal, is_quiet, with_queued, wi
 use Rattle.tx_model.specs.SignalSets.{is_realtime}
 use Rattle.tx_model.specs.Effects.{Conclusion, Replies, AnswersPost, ListsFailed, noted_if, first_answer, concluded}
 use Rattle.tx_base.specs.declared.marks.Mark.{Mark}
-use Rattle.tx_model.specs.Sends.{sent_by_members}
+use Rattle.tx_model.specs.Book.{sent_by_members}
 use Rattle.tx_model.specs.Membership.{Table, is_of, is_member_of, is_live, is_open_of}
 use Rattle.tx_model.specs.Answer.{is_running}
 use Rattle.tx_laws.specs.WellFormedTable.{sent_by_kernel, HasParentInside, HasParentOutside, IsTransaction}

@@ -1,31 +1,31 @@
 -- The footprint of a step has what its event names, and the targets of its posts.
-use Rattle.std.proofs.Common.{◌≡◌, ℕ, Bool, true, false, not, List, [], ◌∷◌, ◌++◌, ℤ, pos, negsuc, Option, Some, None, if◌then◌else◌, ◌==◌, refl, sym, ap, ap₂, ◌∙◌, subst, inl, inr, eq-eqb, append_assoc, append-nil, nat_lt, is_none}
+use Rattle.std.proofs.Common.{◌≡◌, ℕ, Bool, true, false, not, List, [], ◌∷◌, ◌++◌, ℤ, pos, negsuc, Option, Some, None, if◌then◌else◌, ◌==◌, refl, sym, ap, ap₂, ◌∙◌, subst, inl, inr, eq-eqb, append_assoc, append-nil, nat_lt, is_none, is_some}
 use Rattle.tx_base.specs.declared.steps.Call.TheVariants as call
 use Rattle.tx_base.specs.declared.steps.Refusal.TheVariants.{FramesFull, NotDeliverable, Deferred}
-use Rattle.tx_base.specs.declared.limits.TheConstants.{HELD_SENDS, SLOTS}
-use Rattle.tx_model.specs.State.{State, Sending, Object, Proc, Desc, Pipe, Held, SetProc, written, has, same_object, write_one, SetDesc, SetPipe, Process, Write, SetHeld}
-use Rattle.tx_model.specs.Effects.{Inside, idle, own_effect, done, done_with, concluding_reply, Conclusion, Effect, Replies, AnswersPost, ListsFailed, send_answers}
-use Rattle.tx_model.specs.Descriptors.{released, is_named, has_description, pipes_of, unnamed_go, endless_go, open_in, desc_pipe_objects, named, descriptor}
-use Rattle.tx_model.specs.Processes.{orphaned, NotTold, AtOnce, AtCommit, telling, told_at_once, held_objects, with_parent, telling_by, ended, children_of, told_to, told_at_commit, ending, procs_of, ending_objects, exit_status, exit_effect, exit_objects, numbered}
+use Rattle.tx_base.specs.declared.limits.TheConstants.{HELD_SENDS}
+use Rattle.tx_model.specs.Forms.{posts, fails, does, effect_of, ◌when◌}
+use Rattle.tx_model.specs.Book.{exit, holder_of, sigqueue, sent_by_members, sent_by, sendable, closed_inside}
+use Rattle.tx_model.specs.State.{State, Sending, Object, Proc, Desc, Pipe, Held, SetProc, written, has, same_object, write_one, SetDesc, SetPipe, Process, Write}
+use Rattle.tx_model.specs.Effects.{Inside, idle, own_effect, concluding_reply, Conclusion, Effect, Replies, AnswersPost, ListsFailed, send_answers}
+use Rattle.tx_model.specs.Descriptors.{released, is_named, has_description, pipes_of, unnamed_go, endless_go, open_in, desc_pipe_objects}
+use Rattle.tx_model.specs.Processes.{orphaned, NotTold, AtOnce, AtCommit, telling, told_at_once, held_objects, with_parent, telling_by, ended, children_of, told_to, told_at_commit, ending, procs_of, ending_objects, exit_status, exit_objects, numbered}
 use Rattle.tx_model.specs.Events.{Event, Commit, effect, objects, actor, process_of, reply_of, Do, Note}
 use Rattle.tx_model.specs.Membership.{Table, inside_by, says_ended, kind_of, kind_role, event_in, Ordinary, Leaving, others_open, member_end_role, is_member_of, Aborting, Beginning, Forking, Kind, kind_event}
 use Rattle.tx_model.specs.History.{is_other_starter, targets, event_footprint}
 use Rattle.tx_model.specs.Footprints.{is_for_later, target_row, send_row, ending_row, call_row, footprint, told_for_later, commit_row, commit_row_of, call_row_at, delivery_row_at, delivery_row}
-use Rattle.tx_model.specs.Numbers.{failing, below}
-use Rattle.tx_model.specs.Signals.{disposition, Disposition, Ignored, Fatal, Caught, known, masks, tells_pending, newest}
-use Rattle.tx_model.specs.Sends.{sent_by_members, sent_by, posts_now, holds, hands_out, sends_signal, sendable}
-use Rattle.tx_model.specs.Scripts.{closed_inside, identifies}
+use Rattle.tx_model.specs.Numbers.{failing}
+use Rattle.tx_model.specs.Signals.{disposition, Disposition, Ignored, Fatal, Caught}
 use Rattle.tx_model.specs.Deliveries.{relieved, action_at, kills, is_full, killed_status, acts_on, is_deferred, delivers, ends_by, caught, delivery_effect, delivery_objects, delivered_value}
 use Rattle.tx_model.specs.Calls.{call_effect, call_objects, MakesCall, TakesSignal, effect_at, running_effect, objects_at}
-use Rattle.tx_model.specs.Pages.{page_of, map_page, unmap_page, protect_page, store_bytes, load_byte, remembers}
-use Rattle.tx_model.specs.Identities.{id_of, set_user, set_effective_user, set_group, set_effective_group}
 use Rattle.tx_model.specs.Answer.{is_running}
 use Rattle.tx_model.specs.View.{present, first_reply}
+use Rattle.tx_model.specs.BookLaws.{through_when, through_unless}
+use Rattle.tx_laws.proofs.OfActs.{call_mild}
+use Rattle.tx_laws.proofs.OfPages.{caller}
 use Rattle.tx_laws.specs.Fits.{IsIn}
 use Rattle.tx_laws.specs.Footprints.{is_shared, is_abort, FootprintIsOfEvent}
-use Rattle.tx_laws.proofs.Mild
 use Rattle.tx_laws.proofs.KeepsFormReleased.{written_append}
-use Rattle.tx_laws.proofs.Mild.{GoesOn, IsMild, goes_unended}
+use Rattle.tx_laws.proofs.Mild.{GoesOn, IsMild, goes_unended, idle_mild, own_mild, done_mild, with_mild}
 use Rattle.tx_base.specs.declared.errors.Errno.TheVariants.{InvalidArgument, TryAgain, NoSuchProcess, NotPermitted}
 use Rattle.tx_base.specs.declared.steps.Call.{Call}
 use Rattle.tx_base.specs.declared.steps.Step.{Step}
@@ -241,10 +241,13 @@ module _ (t : Table) (o : Object) (shared : is_shared o ≡ true) (S : State) (p
     same = sym (mild_has t p o (held_objects inside) f.sends m.sends ∙ ap (λ (b : Bool). if same_object o (Proc p) then true else b) (held_lacks o inside shared));
   }
 
-  -- a send
-  now_plain : (m : Sending) → IsPlain (posts_now p m) (held_objects inside) (if is_other_starter t p m.target then [] else Proc m.target ∷ [])
+  -- a send that is posted, and its row
+  abbrev post_row : ℕ → List Object
+  post_row target = if is_other_starter t p target then [] else Proc target ∷ []
+
+  posts_plain : (m : Sending) → IsPlain (effect_of p me (posts m)) (held_objects inside) (post_row m.target)
   unfolding has targets
-  now_plain m = record {
+  posts_plain m = record {
     goes_on = tt;
     same =
         (by (same_object o (Proc p)) (is_other_starter t p m.target) ∙ ap (λ (b : Bool). if (if same_object o (Proc p) then true else b) then true else has o (targets t p (m ∷ []))) (sym (held_lacks o inside shared)))
@@ -255,59 +258,63 @@ module _ (t : Table) (o : Object) (shared : is_shared o ≡ true) (S : State) (p
       by true c = refl
       by false c = refl
 
-  holds_plain : (i : Inside) (m : Sending) → IsMild p (holds p i me m S)
-  holds_plain i m = by (m.signo == 0) (nat_lt (sent_by_members (S.held i.starter)) HELD_SENDS)
+  -- what is held names nothing
+  later_row : (target : ℕ) (x : Option Inside) → (if is_for_later x target then [] else post_row target) ≡ (if is_some (holder_of target x) then [] else post_row target)
+  later_row target None = refl
+  later_row target (Some i) = by (i.members target)
     where
-      by : (b c : Bool) → IsMild p (if b then done p closed_inside me
-          else (if c then done_with (SetHeld i.starter (S.held i.starter ++ m ∷ []) ∷ []) p (pos 0) me else done p (failing TryAgain) me))
-      by true c = record { goes_on = refl; sends = λ n h. absurd h }
-      by false true = record { goes_on = refl; sends = λ n h. absurd h }
-      by false false = record { goes_on = refl; sends = λ n h. absurd h }
+      by : (b : Bool) → (if not b then [] else post_row target) ≡ (if is_some (if b then None else Some i) then [] else post_row target)
+      by true = refl
+      by false = refl
 
-  -- by what the send is made inside of
-  out_plain : (m : Sending) (x : Option Inside) → inside ≡ x → IsPlain (hands_out p x me m S) (held_objects inside) (if is_for_later x m.target then [] else (if is_other_starter t p m.target then [] else Proc m.target ∷ []))
-  out_plain m None e = now_plain m
-  out_plain m (Some i) e = by (i.members m.target)
-    where
-      by : (b : Bool) → IsPlain (if b then posts_now p m else holds p i me m S) (held_objects inside)
-          (if not b then [] else (if is_other_starter t p m.target then [] else Proc m.target ∷ []))
-      by true = now_plain m
-      by false = held_mild (holds p i me m S) (holds_plain i m)
-
-  signal_plain : (target signo : Option ℕ) (value : ℤ) → IsPlain (sends_signal p inside me target signo value S) (held_objects inside) (send_row t p target signo)
+  send_plain : (n s value : ℤ) → IsPlain (effect_of p me (sigqueue n s value (caller inside p me S))) (held_objects inside) (send_row t p (numbered S.width n) (sendable s))
   unfolding inside
-  signal_plain None None value = held_mild _ (Mild.done_mild p (failing InvalidArgument) me)
-  signal_plain None (Some signo) value = held_mild _ (Mild.done_mild p (failing NoSuchProcess) me)
-  signal_plain (Some n) None value = held_mild _ (Mild.done_mild p (failing InvalidArgument) me)
-  signal_plain (Some n) (Some signo) value = out_plain (sent_by me n signo value) inside refl
+  send_plain n s value = by (sendable s) (numbered S.width n) refl refl
+    where
+      out : (signo target : ℕ) → sendable s ≡ Some signo → numbered S.width n ≡ Some target → (x : Option Inside) → holder_of target inside ≡ x
+          → IsPlain (effect_of p me (sigqueue n s value (caller inside p me S))) (held_objects inside) (if is_some x then [] else post_row target)
+      out signo target e k None z = rw (e, k, z) (posts_plain (sent_by me target signo value))
+      out signo target e k (Some i) z = rw (e, k, z) (held_mild _
+          (through_when (λ r. IsMild p (effect_of p me r)) (signo == 0) _ _ (λ y. done_mild p closed_inside me)
+          λ y. through_unless (λ r. IsMild p (effect_of p me r)) (nat_lt (sent_by_members (S.held i.starter)) HELD_SENDS) _ _ (λ x. done_mild p (failing TryAgain) me)
+          λ x. with_mild p _ (pos 0) me))
+
+      by : (signo target : Option ℕ) → sendable s ≡ signo → numbered S.width n ≡ target
+          → IsPlain (effect_of p me (sigqueue n s value (caller inside p me S))) (held_objects inside) (send_row t p target signo)
+      by None None e k = rw e (held_mild _ (done_mild p (failing InvalidArgument) me))
+      by None (Some target) e k = rw e (held_mild _ (done_mild p (failing InvalidArgument) me))
+      by (Some signo) None e k = rw (e, k) (held_mild _ (done_mild p (failing NoSuchProcess) me))
+      by (Some signo) (Some target) e k =
+          subst (λ (row : List Object). IsPlain (effect_of p me (sigqueue n s value (caller inside p me S))) (held_objects inside) row) (sym (later_row target inside))
+          (out signo target e k (holder_of target inside) refl)
 
   -- what is so of a call, by what it may come to: it is plain, or it ends its process
   data Comes (f : Effect) (os row : List Object) : Type 0 where
     Plainly : IsPlain f os row → Comes f os row
     Ends : (status : ℕ) (now : Process) → now.parent ≡ me.parent → f ≡ ending inside p status now S → os ≡ ending_objects inside p me S → row ≡ ending_row t p me S → Comes f os row
 
-  exit_comes : (v : ℤ) → Comes (exit_effect inside p v me S) (exit_objects inside p me S) (if p == 1 then [] else ending_row t p me S)
+  exit_comes : (v : ℤ) → Comes (effect_of p me (exit v (caller inside p me S))) (exit_objects inside p me S) (if p == 1 then [] else ending_row t p me S)
   exit_comes v = by (p == 1)
     where
-      by : (b : Bool) → Comes (if b then done p (failing NotPermitted) me else ending inside p (exit_status v) me S) (if b then [] else ending_objects inside p me S)
+      by : (b : Bool) → Comes (effect_of p me ((fails NotPermitted when b) (does (ending inside p (exit_status v) me S)))) (if b then [] else ending_objects inside p me S)
           (if b then [] else ending_row t p me S)
-      by true = Plainly (mild_plain (done p (failing NotPermitted) me) [] [] (Mild.done_mild p (failing NotPermitted) me) refl)
+      by true = Plainly (mild_plain _ [] [] (done_mild p (failing NotPermitted) me) refl)
       by false = Ends (exit_status v) me refl refl refl refl
 
   acts_come : (signo : ℕ) (value : ℤ) (what : Disposition) → Comes (acts_on inside p signo value what (relieved signo me) S) (if kills what then ending_objects inside p me S else [])
       (if kills what then ending_row t p me S else [])
-  acts_come signo value Ignored = Plainly (mild_plain _ [] [] (Mild.ignored_mild p (relieved signo me)) refl)
+  acts_come signo value Ignored = Plainly (mild_plain _ [] [] (own_mild p (record { process = relieved signo me; reply = Done me.registers.ret }) refl) refl)
   acts_come signo value Fatal = Ends (killed_status signo) (relieved signo me) refl refl refl refl
   acts_come signo value (Caught point mask) = by (is_full (relieved signo me))
     where
       by : (b : Bool) → Comes (if b then idle FramesFull else own_effect p (record { process = caught signo value point mask (relieved signo me); reply = Done value })) [] []
-      by true = Plainly (mild_plain (idle FramesFull) [] [] (Mild.idle_mild p FramesFull) refl)
+      by true = Plainly (mild_plain (idle FramesFull) [] [] (idle_mild p FramesFull) refl)
       by false = Plainly (mild_plain (own_effect p (record { process = caught signo value point mask (relieved signo me); reply = Done value })) [] []
-          (Mild.own_mild p (record { process = caught signo value point mask (relieved signo me); reply = Done value }) refl) refl)
+          (own_mild p (record { process = caught signo value point mask (relieved signo me); reply = Done value }) refl) refl)
 
   delivers_come : (signo : ℕ) (value : Option ℤ) → Comes (delivers inside p signo me value S) (if ends_by inside signo me value then ending_objects inside p me S else [])
       (if ends_by inside signo me value then ending_row t p me S else [])
-  delivers_come signo None = Plainly (mild_plain (idle NotDeliverable) [] [] (Mild.idle_mild p NotDeliverable) refl)
+  delivers_come signo None = Plainly (mild_plain (idle NotDeliverable) [] [] (idle_mild p NotDeliverable) refl)
   delivers_come signo (Some value) = by (is_deferred inside signo)
     where
       what : Disposition
@@ -315,45 +322,16 @@ module _ (t : Table) (o : Object) (shared : is_shared o ≡ true) (S : State) (p
 
       by : (b : Bool) → Comes (if b then idle Deferred else acts_on inside p signo value what (relieved signo me) S) (if (if b then false else kills what) then ending_objects inside p me S else [])
           (if (if b then false else kills what) then ending_row t p me S else [])
-      by true = Plainly (mild_plain (idle Deferred) [] [] (Mild.idle_mild p Deferred) refl)
+      by true = Plainly (mild_plain (idle Deferred) [] [] (idle_mild p Deferred) refl)
       by false = acts_come signo value what
 
-  -- every call but those of transactions
+  -- every call but the one that may commit
   call_comes : (c : Call) → (kind_of c ≡ Leaving → ⊥) → Comes (call_effect inside p c me S) (call_objects inside c p me S) (call_row t p c me S)
-  call_comes (call.Map page) h = Plainly (mild_plain _ [] [] (Mild.own_mild p (remembers (map_page (page_of page) me.memory) me) refl) refl)
-  call_comes (call.Unmap page) h = Plainly (mild_plain _ [] [] (Mild.own_mild p (remembers (unmap_page (page_of page) me.memory) me) refl) refl)
-  call_comes (call.Protect page writable) h = Plainly (mild_plain _ [] [] (Mild.own_mild p (remembers (protect_page (page_of page) writable me.memory) me) refl) refl)
-  call_comes (call.Store address bytes) h = Plainly (mild_plain _ [] [] (Mild.own_mild p (remembers (store_bytes address bytes.items me.memory) me) refl) refl)
-  call_comes (call.Load address) h = Plainly (mild_plain _ [] [] (Mild.own_mild p (remembers (load_byte address me.memory) me) refl) refl)
-  call_comes (call.Fork child) h = Plainly (mild_plain _ _ _ (Mild.fork_mild p child.0 me S) refl)
   call_comes (call.Exit status) h = exit_comes status
-  call_comes (call.Waitpid n nohang) h = Plainly (mild_plain _ _ _ (Mild.waitpid_mild p n nohang me S) refl)
-  call_comes call.Getpid h = Plainly (mild_plain _ [] [] (Mild.done_mild p (pos p) me) refl)
-  call_comes call.Getppid h = Plainly (mild_plain _ [] [] (Mild.done_mild p (pos me.parent) me) refl)
-  call_comes (call.Setuid u) h = Plainly (mild_plain _ [] [] (Mild.own_mild p (identifies (set_user (id_of u) me.ids) me) refl) refl)
-  call_comes (call.Seteuid u) h = Plainly (mild_plain _ [] [] (Mild.own_mild p (identifies (set_effective_user (id_of u) me.ids) me) refl) refl)
-  call_comes (call.Setgid g) h = Plainly (mild_plain _ [] [] (Mild.own_mild p (identifies (set_group (id_of g) me.ids) me) refl) refl)
-  call_comes (call.Setegid g) h = Plainly (mild_plain _ [] [] (Mild.own_mild p (identifies (set_effective_group (id_of g) me.ids) me) refl) refl)
-  call_comes (call.Pipe q r w) h = Plainly (mild_plain _ _ _ (Mild.pipe_mild p q.0 r.0 w.0 me S) refl)
-  call_comes (call.Dup f) h = Plainly (mild_plain _ _ _ (Mild.dup_mild p me (named me (descriptor f))) refl)
-  call_comes (call.Dup2 f g) h = Plainly (mild_plain _ _ _ (Mild.dup2_mild p (descriptor f) (descriptor g) me S) refl)
-  call_comes (call.Close f) h = Plainly (mild_plain _ _ _ (Mild.close_mild p (descriptor f) me S) refl)
-  call_comes (call.SetNonblock f on) h = Plainly (mild_plain _ _ _ (Mild.nonblock_mild p on me (named me (descriptor f)) S) refl)
-  call_comes (call.Read f address n) h = Plainly (mild_plain _ _ _ (Mild.read_mild p (named me (descriptor f)) address n me S) refl)
-  call_comes (call.Write f address n) h = Plainly (mild_plain _ _ _ (Mild.write_mild p (named me (descriptor f)) address n me S) refl)
-  call_comes (call.Kill n signo) h = Plainly (signal_plain (numbered S.width n) (sendable signo) (pos 0))
-  call_comes (call.Sigqueue n signo value) h = Plainly (signal_plain (numbered S.width n) (sendable signo) value)
-  call_comes (call.Sigaction signo action) h = Plainly (mild_plain _ [] [] (Mild.action_mild p (known signo) action me) refl)
-  call_comes (call.Sigprocmask how set) h = Plainly (mild_plain _ [] [] (Mild.own_mild p (masks how set me) refl) refl)
-  call_comes call.Sigpending h = Plainly (mild_plain _ [] [] (Mild.own_mild p (tells_pending me) refl) refl)
-  call_comes call.Sigreturn h = Plainly (mild_plain _ [] [] (Mild.return_mild p (newest me.frames) me) refl)
-  call_comes (call.ConsoleWrite address n) h = Plainly (mild_plain _ [] [] (Mild.console_mild p inside address n me) refl)
-  call_comes (call.Jump point when) h = Plainly (mild_plain _ [] [] (Mild.jump_mild p point when me) refl)
-  call_comes (call.Keep slot) h = Plainly (mild_plain _ [] [] (Mild.keep_mild p (below SLOTS slot) me) refl)
-  call_comes call.SysXbegin h = Plainly (mild_plain _ [] [] (Mild.done_mild p (failing InvalidArgument) me) refl)
-  call_comes call.SysXbeginDefer h = Plainly (mild_plain _ [] [] (Mild.done_mild p (failing InvalidArgument) me) refl)
+  call_comes (call.Kill n signo) h = Plainly (send_plain n signo (pos 0))
+  call_comes (call.Sigqueue n signo value) h = Plainly (send_plain n signo value)
   call_comes call.SysXend h = absurd (h refl)
-  call_comes call.SysXabort h = Plainly (mild_plain _ [] [] (Mild.done_mild p (failing InvalidArgument) me) refl)
+  call_comes c h = Plainly (mild_plain _ _ _ (call_mild inside p c me S tt) refl)
 
   -- a step that is made as an event of its own: what it does, and what it names
   module _ (step : Step) (f : Effect) (os row : List Object) (who : process_of step ≡ p) (E : effect (Do step inside) S ≡ f) (O : objects (Do step inside) S ≡ Proc p ∷ os)
@@ -469,7 +447,7 @@ module _ (t : Table) (o : Object) (shared : is_shared o ≡ true) (S : State) (p
 
   -- a fork, and the calls that have no row
   fork_plain : (c : Call) (n : ℕ) → kind_of c ≡ Forking n → IsPlain (call_effect inside p c me S) (call_objects inside c p me S) (call_row t p c me S)
-  fork_plain (call.Fork child) n e = mild_plain _ _ _ (Mild.fork_mild p child.0 me S) refl
+  fork_plain (call.Fork child) n e = mild_plain _ _ _ (call_mild inside p (call.Fork child) me S tt) refl
   fork_plain c n e = cc
 
   begin_row : (c : Call) (defers : Bool) → kind_of c ≡ Beginning defers → call_row t p c me S ≡ []
@@ -499,9 +477,9 @@ module _ (t : Table) (o : Object) (shared : is_shared o ≡ true) (S : State) (p
   unfolding footprint
   row_of = ap (λ (x : Option Process). Proc pid.0 ∷ call_row_at t pid.0 c x S) here
 
-  effect_of : effect (Do (Calls pid c) (inside_by t (t.marks pid.0))) S ≡ call_effect (inside_by t (t.marks pid.0)) pid.0 c me S
+  call_effect_of : effect (Do (Calls pid c) (inside_by t (t.marks pid.0))) S ≡ call_effect (inside_by t (t.marks pid.0)) pid.0 c me S
   unfolding effect
-  effect_of = ap (effect_at (inside_by t (t.marks pid.0)) pid.0 (MakesCall c) S) here ∙ ap (running_effect (inside_by t (t.marks pid.0)) pid.0 (MakesCall c) S me) runs
+  call_effect_of = ap (effect_at (inside_by t (t.marks pid.0)) pid.0 (MakesCall c) S) here ∙ ap (running_effect (inside_by t (t.marks pid.0)) pid.0 (MakesCall c) S me) runs
 
   objects_of : objects (Do (Calls pid c) (inside_by t (t.marks pid.0))) S ≡ Proc pid.0 ∷ call_objects (inside_by t (t.marks pid.0)) c pid.0 me S
   unfolding objects
@@ -514,12 +492,12 @@ module _ (t : Table) (o : Object) (shared : is_shared o ≡ true) (S : State) (p
   call_foot Ordinary e r is h =
       subst (λ (x : Reply). has o (footprint t (Calls pid c) S) ≡ has o (event_footprint t (event_in (kind_role t pid.0 Ordinary x (t.marks pid.0)) (Do (Calls pid c) (inside_by t (t.marks pid.0)))) S)) (sym is)
       (step_foot t o shared S pid.0 me (Calls pid c) (call_effect (inside_by t (t.marks pid.0)) pid.0 c me S) (call_objects (inside_by t (t.marks pid.0)) c pid.0 me S) (call_row t pid.0 c me S)
-      refl effect_of objects_of row_of (call_comes t o shared S pid.0 me c (λ z. let no : Ordinary ≡ Leaving = sym e ∙ z in cc)))
+      refl call_effect_of objects_of row_of (call_comes t o shared S pid.0 me c (λ z. let no : Ordinary ≡ Leaving = sym e ∙ z in cc)))
   call_foot (Forking n) e r is h = by (t.marks pid.0)
     where
       alone : has o (footprint t (Calls pid c) S) ≡ has o (event_footprint t (Do (Calls pid c) (inside_by t (t.marks pid.0))) S)
       alone = plain_foot t o shared S pid.0 me (Calls pid c) (call_effect (inside_by t (t.marks pid.0)) pid.0 c me S) (call_objects (inside_by t (t.marks pid.0)) c pid.0 me S) (call_row t pid.0 c me S)
-          refl effect_of objects_of row_of (fork_plain t o shared S pid.0 me c n e)
+          refl call_effect_of objects_of row_of (fork_plain t o shared S pid.0 me c n e)
 
       by : (mark : Option Mark) → has o (footprint t (Calls pid c) S) ≡ has o (event_footprint t (event_in (kind_role t pid.0 (Forking n) r mark) (Do (Calls pid c) (inside_by t (t.marks pid.0)))) S)
       by None = alone

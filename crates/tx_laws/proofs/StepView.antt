@@ -2,7 +2,8 @@
 use Rattle.std.proofs.Common.{◌≡◌, true, false, List, [], ◌∷◌, ◌++◌, refl, ap₂, subst}
 use Rattle.tx_base.specs.declared.steps.Step.{Step}
 use Rattle.tx_base.specs.declared.steps.Reply.{Reply}
-use Rattle.tx_model.specs.State.{State, Sending, Object, Proc, AgreePart, AgreeAt, has}
+use Rattle.tx_model.specs.State.{State, Sending, Object, Proc, has}
+use Rattle.tx_model.specs.StateLaws.{AgreePart, AgreeAt}
 use Rattle.tx_model.specs.Events.{Event, process_of, effect, objects, after}
 use Rattle.tx_model.specs.Membership.{Role}
 use Rattle.tx_model.specs.History.{processes_of}

@@ -1,5 +1,5 @@
 -- The live transactions of every lawful history are so.
-use Rattle.std.proofs.Common.{◌≡◌, ℕ, Bool, true, false, not, List, [], ◌∷◌, ℤ, Option, Some, None, is_some, is_none, ◌==◌, refl, sym, ap, ◌∙◌, subst, inl, inr, eq-eqb, eqb-true}
+use Rattle.std.proofs.Common.{◌≡◌, ℕ, Bool, true, false, not, List, [], ◌∷◌, ℤ, Option, Some, None, is_none, ◌==◌, refl, sym, ap, ◌∙◌, subst, inl, inr, eq-eqb, eqb-true}
 use Rattle.std.proofs.lemmas.Bool.{both_ways, cases_Bool}
 use Rattle.tx_base.specs.declared.names.Pid.{Pid}
 use Rattle.tx_base.specs.declared.steps.Accepted.{Accepted}
@@ -11,7 +11,6 @@ use Rattle.tx_base.specs.declared.steps.Step.TheVariants.{Call as Calls, Deliver
 use Rattle.tx_model.specs.State.{Process, State, written, Object, Held, has, has_parent}
 use Rattle.tx_model.specs.Numbers.{negative}
 use Rattle.tx_model.specs.Effects.{Inside}
-use Rattle.tx_model.specs.Processes.{forks}
 use Rattle.tx_model.specs.Calls.{MakesCall, running_effect, effect_at}
 use Rattle.tx_model.specs.Events.{Event, Note, process_of, actor, effect, objects, after, run}
 use Rattle.tx_model.specs.Membership.{is_member_of, is_live, Role, Outside, Within, Commits, Aborts, Ordinary, kind_of, table_after}
@@ -30,6 +29,7 @@ use Rattle.tx_laws.proofs.Erased.{lawful_sound, lawful_next}
 use Rattle.tx_laws.proofs.StepView.{IsFitting, fitting}
 use Rattle.tx_laws.proofs.FormHistory.{history_form}
 use Rattle.tx_laws.proofs.WithinSets.{false_unless}
+use Rattle.tx_laws.proofs.OfPages.{none_there}
 use Rattle.tx_laws.proofs.Turns.{GrowsBy, step_turn, forks_by}
 use Rattle.tx_laws.proofs.KeepsTable.{after_holds, other_part, untouched}
 use Rattle.tx_laws.proofs.KeepsView.{ForksNow, kind_formed, aborts_by}
@@ -47,10 +47,6 @@ free_number V p step h =
     let d = if_none (has_number_in_use (present V) step) NumberTaken _ c.1 in
     d.0
 
-none_there : (x : Option Process) → is_some x ≡ false → x ≡ None
-none_there None h = refl
-none_there (Some q) h = cc
-
 -- no process is its own parent
 pub not_own : (S : State) (p : ℕ) → IsWellFormed S → has_parent p (S.procs p) ≡ false
 not_own S p w = by (S.procs p) refl
@@ -61,13 +57,9 @@ not_own S p w = by (S.procs p) refl
 
 -- a process that runs and forks makes its child
 module _ (S : State) (w : IsWellFormed S) (inside : Option Inside) (p : ℕ) (child : Pid) (free : S.procs child.0 ≡ None) where
-  forks_free : (me : Process) → S.procs p ≡ Some me → me.status ≡ None → (y : Option Process) → y ≡ None → GrowsBy p child.0 S (forks p child.0 me y)
-  forks_free me e runs None k = forks_by inside S p me e runs (not_own S p w) child.0 free
-  forks_free me e runs (Some q) k = cc
-
   fork_running : (me : Process) (status : Option ℕ) → S.procs p ≡ Some me → me.status ≡ status → is_running (Some me) ≡ true
       → GrowsBy p child.0 S (running_effect inside p (MakesCall (call.Fork child)) S me status)
-  fork_running me None e k h = forks_free me e k (S.procs child.0) free
+  fork_running me None e k h = forks_by inside S p me e k (not_own S p w) child.0 free
   fork_running me (Some status) e k h = let no : false ≡ true = sym (ap (λ (x : Option ℕ). is_none x) k) ∙ h in cc
 
   fork_grows : (x : Option Process) → S.procs p ≡ x → is_running x ≡ true → GrowsBy p child.0 S (effect_at inside p (MakesCall (call.Fork child)) S x)

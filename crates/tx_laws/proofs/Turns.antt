@@ -1,7 +1,7 @@
 -- What the writes of a step make of the processes' standing, and of what is held.
-use Rattle.std.proofs.Common.{◌≡◌, ◌≢◌, ◌⊎◌, ℕ, zero, suc, ◌+◌, ◌<◌, Bool, true, false, List, [], ◌∷◌, ◌++◌, ℤ, pos, Option, Some, None, is_some, is_none, if◌then◌else◌, nat_lt, ◌==◌, refl, sym, ap, ◌∙◌, subst, inl, inr, eq-eqb, eqb-true}
+use Rattle.std.proofs.Common.{◌≡◌, ◌≢◌, ◌⊎◌, ℕ, zero, suc, ◌+◌, ◌<◌, Bool, true, false, List, [], ◌∷◌, ◌++◌, ℤ, pos, Option, Some, None, is_some, is_none, if◌then◌else◌, ◌==◌, refl, sym, ap, ap₂, ◌∙◌, subst, inl, inr, eq-eqb, eqb-true}
 use Rattle.std.proofs.lemmas.Bool.{both_ways, ltb-true}
-use Rattle.tx_base.specs.declared.errors.Errno.TheVariants.{NotPermitted, NoChild, NoSuchProcess, TryAgain, InvalidArgument}
+use Rattle.tx_base.specs.declared.errors.Errno.{Errno}
 use Rattle.tx_base.specs.declared.limits.TheConstants.{HELD_SENDS}
 use Rattle.tx_base.specs.declared.steps.Call.{Call}
 use Rattle.tx_base.specs.declared.steps.Call.TheVariants as call
@@ -10,18 +10,21 @@ use Rattle.tx_base.specs.declared.steps.Refusal.TheVariants.{NoProcess, NotRunni
 use Rattle.tx_base.specs.declared.steps.Reply.TheVariants.{Done, Ended}
 use Rattle.tx_base.specs.declared.steps.Step.{Step}
 use Rattle.tx_base.specs.declared.steps.Step.TheVariants.{Call as Calls, Deliver, KernelAbort}
+use Rattle.tx_model.specs.Forms.{Outcome, fails, answers, changes, refuses, effect_of, ◌when◌}
+use Rattle.tx_model.specs.Book.{fork, exit, waitpid, sigqueue, closed_inside, has_sender, sent_by_members, sent_by}
 use Rattle.tx_model.specs.Numbers.{failing}
 use Rattle.tx_model.specs.State.{Process, State, Sending, Write, SetProc, SetDesc, SetPipe, SetHeld, put_at, write_one, written, has_parent}
 use Rattle.tx_model.specs.StateLaws.{put_here, put_cases, put_there}
-use Rattle.tx_model.specs.Effects.{Inside, Effect, Replies, idle, noted, own_effect, done, done_with}
-use Rattle.tx_model.specs.Scripts.{closed_inside}
+use Rattle.tx_model.specs.Effects.{Inside, Effect, Replies, idle, noted, own_effect}
 use Rattle.tx_model.specs.Signals.{Disposition, Ignored, Fatal, Caught, disposition}
 use Rattle.tx_model.specs.Descriptors.{open_in, released}
-use Rattle.tx_model.specs.Processes.{child_of, forks, ended, children_below, children_of, with_parent, orphaned, told_to, Telling, NotTold, AtOnce, AtCommit, telling, told_at_once, told_at_commit, ending, exit_status, exit_effect, numbered, with_status, waits_by, waits_for, waits_at}
-use Rattle.tx_model.specs.Sends.{has_sender, sent_by_members, sendable, sent_by, posts_now, holds, hands_out, sends_signal}
+use Rattle.tx_model.specs.Processes.{child_of, ended, children_below, children_of, with_parent, orphaned, told_to, Telling, NotTold, AtOnce, AtCommit, telling, told_at_once, told_at_commit, ending, exit_status, with_status}
 use Rattle.tx_model.specs.Deliveries.{delivered_value, relieved, action_at, caught, is_full, killed_status, acts_on, is_deferred, delivers}
 use Rattle.tx_model.specs.Calls.{call_effect, MakesCall, TakesSignal, running_effect, effect_at}
 use Rattle.tx_model.specs.Events.{process_of, step_effect}
+use Rattle.tx_model.specs.BookLaws.{fork_lines, exit_lines, waitpid_lines, sigqueue_lines}
+use Rattle.tx_laws.proofs.OfPages.{caller, none_there}
+use Rattle.tx_laws.proofs.OfSends.{holder_is}
 use Rattle.tx_laws.proofs.KeepsFormReleased.{written_append}
 use Rattle.tx_laws.proofs.Standings.{some_same, some_is, Standing, standing_of, stand, put_stand}
 use Rattle.tx_laws.proofs.PlainWrites.{IsLater, IsPlainWrite, ArePlain, concludes_ended, IsPlain, same_plain, released_plain}
@@ -201,9 +204,9 @@ module _ (inside : Option Inside) (S : State) (p : ℕ) (me : Process) (e : S.pr
   later_same_stand q parent status n =
       put_stand S.procs p (Some q) ((λ i. standing (parent i) (is_none (status i))) ∙ sym (ap stand e)) n
 
-  pub forks_by : (c : ℕ) → S.procs c ≡ None → GrowsBy p c S (forks p c me None)
+  pub grows_by : (c : ℕ) → S.procs c ≡ None → GrowsBy p c S (effect_of p me (changes (pos c) me (SetProc c (Some (child_of p me)) ∷ [])))
   unfolding written
-  forks_by c k =
+  grows_by c k =
       let T : State = write_one (SetProc p (Some (noted (pos c) me))) S in
       record {
         free = k;
@@ -212,31 +215,32 @@ module _ (inside : Option Inside) (S : State) (p : ℕ) (me : Process) (e : S.pr
         held = λ u. refl;
       }
 
-  forks_turn : (c : ℕ) (x : Option Process) → S.procs c ≡ x → Turn inside p S (forks p c me x)
+  pub forks_by : (c : ℕ) → S.procs c ≡ None → GrowsBy p c S (effect_of p me (fork c (caller inside p me S)))
+  forks_by c k = subst (λ (x : Option Process). GrowsBy p c S (effect_of p me ((refuses NumberTaken when is_some x) (changes (pos c) me (SetProc c (Some (child_of p me)) ∷ []))))) (sym k) (grows_by c k)
+
+  -- what an outcome does
+  abbrev Turns : Outcome → Type 0
+  Turns o = Turn inside p S (effect_of p me o)
+
+  errs : (errno : Errno) → Turns (fails errno)
+  errs errno = plain_turn _ (same_plain p me (failing errno))
+
+  answered : (r : ℤ) → Turns (answers r)
+  answered r = plain_turn _ (same_plain p me r)
+
+  fork_turn : (c : ℕ) → Turns (fork c (caller inside p me S))
+  fork_turn c =
+      fork_lines Turns (caller inside p me S) errs c (λ taken. idle_turn inside p S NumberTaken)
+      λ free. let g = grows_by c (none_there (S.procs c) free) in Grows refl c g.free g.child g.others g.held
+
+  waitpid_turn : (t : ℤ) (nohang : Bool) → Turns (waitpid t nohang (caller inside p me S))
   unfolding written
-  forks_turn c (Some q) k = idle_turn inside p S NumberTaken
-  forks_turn c None k = let g : GrowsBy p c S (forks p c me None) = forks_by c k in Grows refl c g.free g.child g.others g.held
-
-  waits_by_turn : (t : ℕ) (nohang : Bool) (status : Option ℕ) → stand (S.procs t) ≡ standing p (is_none status) → Turn inside p S (waits_by p t nohang me status)
-  unfolding written
-  waits_by_turn t true None k = plain_turn _ (same_plain p me (pos 0))
-  waits_by_turn t false None k = idle_turn inside p S Wait
-  waits_by_turn t nohang (Some status) k =
-      let T : State = write_one (SetProc p (Some (noted (pos t) (with_status status me)))) S in
-      Reaps refl t k (ap stand (put_here T.procs t None))
-      (λ n ne. ap stand (put_there T.procs t None n ne) ∙ later_same_stand (noted (pos t) (with_status status me)) refl refl n) (λ u. refl)
-
-  waits_for_turn : (t : ℕ) (nohang : Bool) (x : Option Process) → S.procs t ≡ x → Turn inside p S (waits_for p t nohang me x)
-  waits_for_turn t nohang None k = plain_turn _ (same_plain p me (failing NoChild))
-  waits_for_turn t nohang (Some q) k = by (q.parent == p) refl
-    where
-      by : (b : Bool) → (q.parent == p) ≡ b → Turn inside p S (if b then waits_by p t nohang me q.status else done p (failing NoChild) me)
-      by true z = waits_by_turn t nohang q.status (ap stand k ∙ ap (λ (n : ℕ). standing n (is_none q.status)) (eqb-true q.parent p z))
-      by false z = plain_turn _ (same_plain p me (failing NoChild))
-
-  waits_at_turn : (t : Option ℕ) (nohang : Bool) → Turn inside p S (waits_at p t nohang me S)
-  waits_at_turn None nohang = plain_turn _ (same_plain p me (failing NoChild))
-  waits_at_turn (Some t) nohang = waits_for_turn t nohang (S.procs t) refl
+  waitpid_turn t nohang =
+      waitpid_lines Turns (caller inside p me S) errs t nohang (answered (pos 0)) (idle_turn inside p S Wait)
+      λ child status q is there mine over.
+      let T : State = write_one (SetProc p (Some (noted (pos child) (with_status status me)))) S in
+      Reaps refl child (ap stand there ∙ ap₂ (λ (n : ℕ) (x : Option ℕ). standing n (is_none x)) (eqb-true q.parent p mine) over) (ap stand (put_here T.procs child None))
+      (λ n ne. ap stand (put_there T.procs child None n ne) ∙ later_same_stand (noted (pos child) (with_status status me)) refl refl n) (λ u. refl)
 
   -- the end of the process
   module _ (status : ℕ) (now : Process) (parent : now.parent ≡ me.parent) where
@@ -295,45 +299,20 @@ module _ (inside : Option Inside) (S : State) (p : ℕ) (me : Process) (e : S.pr
         refl
         (subst (λ (U : State). Told inside now.parent S U) (sym whole) (told_by inside now.parent S closed closed_held))
 
-  exit_turn : (v : ℤ) → Turn inside p S (exit_effect inside p v me S)
-  exit_turn v = by (p == 1)
-    where
-      by : (b : Bool) → Turn inside p S (if b then done p (failing NotPermitted) me else ending inside p (exit_status v) me S)
-      by true = plain_turn _ (same_plain p me (failing NotPermitted))
-      by false = ending_turn (exit_status v) me refl
+  exit_turn : (v : ℤ) → Turns (exit v (caller inside p me S))
+  exit_turn v = exit_lines Turns (caller inside p me S) errs v λ other. ending_turn (exit_status v) me refl
 
-  -- sends
-  now_turn : (m : Sending) → Turn inside p S (posts_now p m)
+  send_turn : (t s value : ℤ) → Turns (sigqueue t s value (caller inside p me S))
   unfolding written
-  now_turn m = Stays refl (λ n. refl) (λ u. refl)
-
-  holds_turn : (i : Inside) → inside ≡ Some i → (m : Sending) → has_sender m.from ≡ 1 → Turn inside p S (holds p i me m S)
-  unfolding written
-  holds_turn i z m sender = by (m.signo == 0) (nat_lt (sent_by_members (S.held i.starter)) HELD_SENDS) refl
-    where
-      by : (b c : Bool) → nat_lt (sent_by_members (S.held i.starter)) HELD_SENDS ≡ c → Turn inside p S (if b then done p closed_inside me
-          else (if c then done_with (SetHeld i.starter (S.held i.starter ++ m ∷ []) ∷ []) p (pos 0) me else done p (failing TryAgain) me))
-      by true c k = plain_turn _ (same_plain p me closed_inside)
-      by false true k =
-          Sends refl i z m sender (ltb-true (sent_by_members (S.held i.starter)) HELD_SENDS k) (later_same_stand (noted (pos 0) me) refl refl)
-          (record {
-            more = put_here S.held i.starter (S.held i.starter ++ m ∷ []);
-            others = λ u ne. put_there S.held i.starter (S.held i.starter ++ m ∷ []) u ne;
-          })
-      by false false k = plain_turn _ (same_plain p me (failing TryAgain))
-
-  hands_turn : (x : Option Inside) → inside ≡ x → (m : Sending) → has_sender m.from ≡ 1 → Turn inside p S (hands_out p x me m S)
-  hands_turn None z m sender = now_turn m
-  hands_turn (Some i) z m sender = by (i.members m.target)
-    where
-      by : (b : Bool) → Turn inside p S (if b then posts_now p m else holds p i me m S)
-      by true = now_turn m
-      by false = holds_turn i z m sender
-
-  signal_turn : (t signo : Option ℕ) (value : ℤ) → Turn inside p S (sends_signal p inside me t signo value S)
-  signal_turn t None value = plain_turn _ (same_plain p me (failing InvalidArgument))
-  signal_turn None (Some signo) value = plain_turn _ (same_plain p me (failing NoSuchProcess))
-  signal_turn (Some t) (Some signo) value = hands_turn inside refl (sent_by me t signo value) refl
+  send_turn t s value =
+      sigqueue_lines Turns (caller inside p me S) errs t s value (answered closed_inside) (λ signo target a b out. Stays refl (λ n. refl) (λ u. refl))
+      λ signo target i a b is some room.
+      let m : Sending = sent_by me target signo value in
+      Sends refl i (holder_is target inside i is) m refl (ltb-true (sent_by_members (S.held i.starter)) HELD_SENDS room) (later_same_stand (noted (pos 0) me) refl refl)
+      (record {
+        more = put_here S.held i.starter (S.held i.starter ++ m ∷ []);
+        others = λ u ne. put_there S.held i.starter (S.held i.starter ++ m ∷ []) u ne;
+      })
 
   -- deliveries
   relieved_turn : (own : Process) → own.parent ≡ me.parent → own.status ≡ me.status → (r : ℤ) → Turn inside p S (own_effect p (record { process = own; reply = Done r }))
@@ -358,11 +337,11 @@ module _ (inside : Option Inside) (S : State) (p : ℕ) (me : Process) (e : S.pr
       by false = acts_on_turn signo value (disposition signo (action_at signo me))
 
   special_turn : (c : Call) → IsSpecial c → Turn inside p S (call_effect inside p c me S)
-  special_turn (call.Fork child) h = forks_turn child.0 (S.procs child.0) refl
+  special_turn (call.Fork child) h = fork_turn child.0
   special_turn (call.Exit status) h = exit_turn status
-  special_turn (call.Waitpid t nohang) h = waits_at_turn (numbered S.width t) nohang
-  special_turn (call.Kill t signo) h = signal_turn (numbered S.width t) (sendable signo) (pos 0)
-  special_turn (call.Sigqueue t signo value) h = signal_turn (numbered S.width t) (sendable signo) value
+  special_turn (call.Waitpid t nohang) h = waitpid_turn t nohang
+  special_turn (call.Kill t signo) h = send_turn t signo (pos 0)
+  special_turn (call.Sigqueue t signo value) h = send_turn t signo value
   special_turn c h = absurd h
 
   call_turn : (c : Call) → Turn inside p S (call_effect inside p c me S)

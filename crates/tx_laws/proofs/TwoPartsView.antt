@@ -1,14 +1,14 @@
 -- A kernel of two parts an object has the view of its history.
 use Rattle.std.proofs.Common.{◌≡◌, ℕ, Bool, true, false, not, List, [], ℤ, Option, Some, None, is_none, if◌then◌else◌, ◌==◌, refl, sym, ap, ap₂, ◌∙◌, subst, inl, inr, ◌⊎◌, eq-eqb, eqb-true}
 use Rattle.std.proofs.lemmas.Bool.{both_ways, cases_Bool}
-use Rattle.tx_model.specs.State.{State, Object, Proc, Desc, Pipe, Held, AgreePart, has}
+use Rattle.tx_model.specs.State.{State, Object, Proc, Desc, Pipe, Held, has}
 use Rattle.tx_model.specs.Posts.{answers}
 use Rattle.tx_model.specs.Effects.{Effect, send_answers, applied}
 use Rattle.tx_model.specs.Events.{Event, Note, note_effect, effect, after, run}
 use Rattle.tx_model.specs.Membership.{Table, empty_table, is_member_of, is_live, Progress, Role, Outside, Within, Commits, Aborts, table_after}
 use Rattle.tx_model.specs.History.{Starters, survivors, without, table_of, touched_of, nobody, just, with_one, less_one, event_footprint, objects_reserved}
 use Rattle.tx_model.specs.View.{View, view, IsClear, after_if, next_by}
-use Rattle.tx_model.specs.StateLaws.{state_ext}
+use Rattle.tx_model.specs.StateLaws.{state_ext, AgreePart}
 use Rattle.tx_laws.specs.Sound.{IsSound}
 use Rattle.tx_laws.specs.TwoParts.{TwoParts, in_set, is_owner, pick, parts_without, parts_view, freed, reserved, on_both, parts_next}
 use Rattle.tx_laws.proofs.Agree.{part_refl, part_sym, part_trans, applied_part, applied_width}

@@ -13,7 +13,7 @@ use Rattle.tx_model.specs.State.{Process, State, Sending, SetHeld, written, is_b
 use Rattle.tx_model.specs.Posts.{is_quiet, post_answer, answers}
 use Rattle.tx_model.specs.Effects.{Inside, Conclusion, Replies, concluding_reply, send_answers, failed_sends}
 use Rattle.tx_model.specs.Processes.{told_to, NotTold, AtOnce, AtCommit, telling, told_at_once}
-use Rattle.tx_model.specs.Sends.{sent_by_members}
+use Rattle.tx_model.specs.Book.{sent_by_members}
 use Rattle.tx_model.specs.Events.{Event, Do, Note, Commit, effect, reply_of}
 use Rattle.tx_model.specs.Membership.{is_member_of, is_live, inside_by, Parks, Within, Kind, Ordinary, Forking, Beginning, Leaving, Aborting, kind_of, says_ended, others_open, member_end_role, ordinary_role, kind_role, kind_event, event_in, table_after}
 use Rattle.tx_model.specs.View.{View, view, present, kernel_status, abort_status}

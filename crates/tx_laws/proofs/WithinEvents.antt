@@ -1,12 +1,11 @@
 -- Every event leaves what processes have within its limits, and what transactions hold known signals, to process numbers
 -- that there are.
-use Rattle.std.proofs.Common.{◌≡◌, ◌≢◌, ◌⊎◌, ℕ, zero, suc, Bool, true, false, ◌||◌, ◌^◌, List, [], ◌∷◌, ◌++◌, ℤ, pos, negsuc, Option, Some, None, is_some, if◌then◌else◌, nat_lt, ◌==◌, slice_index_or, slice_set, refl, sym, ap, ◌∙◌, subst, inl, inr, eq-eqb, arith}
+use Rattle.std.proofs.Common.{◌≡◌, ◌≢◌, ◌⊎◌, ℕ, zero, suc, Bool, true, false, ◌||◌, ◌^◌, List, [], ◌∷◌, ◌++◌, ℤ, pos, negsuc, Option, Some, None, is_some, if◌then◌else◌, ◌==◌, slice_index_or, slice_set, refl, sym, ap, ◌∙◌, subst, inl, inr, eq-eqb, arith}
 use Rattle.std.specs.Prelude.{All}
 use Rattle.std.proofs.lemmas.Bool.{both_ways}
 use Rattle.std.proofs.lemmas.List.Elements.{All-nil, All-cons, All-head, All-tail, All-push, All-append, All-replicate}
 use Rattle.tx_base.specs.Signals.{bits_of}
-use Rattle.tx_base.specs.declared.limits.TheConstants.{HELD_SENDS}
-use Rattle.tx_base.specs.declared.errors.Errno.TheVariants.{NotPermitted, NoChild, NoSuchProcess, TryAgain, InvalidArgument}
+use Rattle.tx_base.specs.declared.errors.Errno.{Errno}
 use Rattle.tx_base.specs.declared.signals.Action.{Action}
 use Rattle.tx_base.specs.declared.signals.Action.TheVariants.{Usual, Ignore, Catch}
 use Rattle.tx_base.specs.declared.signals.SigSet.{SigSet}
@@ -21,14 +20,14 @@ use Rattle.tx_model.specs.Numbers.{failing}
 use Rattle.tx_model.specs.Memory.{no_memory}
 use Rattle.tx_model.specs.SignalSets.{standard_signals, kill_signo, child_signo, is_one_of, is_realtime, is_known, is_in_set, without_one}
 use Rattle.tx_model.specs.State.{Process, State, Queued, Sending, Write, SetProc, SetDesc, SetPipe, SetHeld, put_at, write_one, written, usual_actions, booted_process, booted, is_between}
-use Rattle.tx_model.specs.Posts.{has_room, may_signal, is_quiet, with_queued, with_pending, received, post, posts}
-use Rattle.tx_model.specs.Effects.{Inside, Effect, Conclusion, Replies, AnswersPost, ListsFailed, idle, noted_if, own_effect, done, done_with, first_answer, concluded, send_answers}
-use Rattle.tx_model.specs.Scripts.{closed_inside}
+use Rattle.tx_model.specs.Posts.{has_room, may_signal, is_quiet, with_queued, with_pending, received, post, posts as all_posted}
+use Rattle.tx_model.specs.Effects.{Inside, Effect, Conclusion, Replies, AnswersPost, ListsFailed, idle, noted_if, own_effect, first_answer, concluded, send_answers}
+use Rattle.tx_model.specs.Book.{closed_inside, sendable, sent_by, fork, exit, waitpid, sigqueue}
 use Rattle.tx_model.specs.Signals.{known, Disposition, Ignored, Fatal, Caught, disposition}
 use Rattle.tx_model.specs.Descriptors.{open_in, released}
-use Rattle.tx_model.specs.Processes.{child_of, forks, ended, children_of, with_parent, orphaned, told_to, Telling, NotTold, AtOnce, AtCommit, telling, told_at_once, told_at_commit, ending, exit_status, exit_effect, numbered, with_status, waits_by, waits_for, waits_at}
-use Rattle.tx_model.specs.Sends.{sent_by_members, sendable, sent_by, posts_now, holds, hands_out, sends_signal, send_effect}
+use Rattle.tx_model.specs.Processes.{child_of, ended, children_of, with_parent, orphaned, told_to, Telling, NotTold, AtOnce, AtCommit, telling, told_at_once, told_at_commit, ending, exit_status, numbered, with_status}
 use Rattle.tx_model.specs.Deliveries.{first_value, less_first, is_blocked, delivered_value, relieved, action_at, caught, is_full, killed_status, acts_on, is_deferred, delivers, delivery_effect}
+use Rattle.tx_model.specs.Forms.{Caller, Outcome, fails, posts, effect_of}
 use Rattle.tx_model.specs.Calls.{call_effect, MakesCall, TakesSignal, running_effect, effect_at}
 use Rattle.tx_model.specs.Events.{Event, Do, Note, Commit, step_effect, effect, after}
 use Rattle.tx_laws.specs.WellFormed.{IsWholePage, IsMask, HasFrameLimits, HasActionLimits, HasCatchLimits, IsRealtimeEntry, IsHeldSending, IsSendable, HasIdLimits, HasLimits}
@@ -41,6 +40,7 @@ use Rattle.tx_laws.proofs.WithinSets.{either_true, in_one_more, in_less, empty_s
 use Rattle.tx_laws.proofs.WithinOwn.{KeepsLimits, next_within, noted_limits, slotted}
 use Rattle.tx_laws.proofs.PlainWrites.{IsPlainWrite, ArePlain, IsPlain, idle_plain, own_plain, same_plain, released_plain}
 use Rattle.tx_laws.proofs.PlainCalls.{IsSpecial, call_plain}
+use Rattle.tx_model.specs.BookLaws.{fork_lines, exit_lines, waitpid_lines, sigqueue_lines}
 
 -- the limits of a state: those of its processes, and those of what is held
 pub record IsWithin (S : State) : Type 0 where
@@ -198,32 +198,30 @@ module _ (S : State) (p : ℕ) (me : Process) (here : S.procs p ≡ Some me) (ru
       by None e h = cc
       by (Some q) e h = (a.placed me.parent q e).number
 
-  forks_fine : (c : ℕ) (x : Option Process) → IsFine S.width (forks p c me x)
-  forks_fine c None = record { writes = fine_two S.width _ _ (noted_limits (pos c) me l) (child_limits p me l); sends = no_sends }
-  forks_fine c (Some other) = record { writes = (plain_fine S.width p me (idle NumberTaken) l (idle_plain p me NumberTaken)).writes; sends = no_sends }
-
   plainly : (f : Effect) → IsPlain p me f → IsFine S.width f
   plainly f k = plain_fine S.width p me f l k
 
   statused : (status : ℕ) → KeepsLimits me (with_status status me)
   statused status = slotted me (slice_set me.registers.slots 0 (pos status))
 
-  waits_by_fine : (t : ℕ) (nohang : Bool) (status : Option ℕ) → IsFine S.width (waits_by p t nohang me status)
-  waits_by_fine t true None = plainly _ (same_plain p me (pos 0))
-  waits_by_fine t false None = plainly _ (idle_plain p me Wait)
-  waits_by_fine t nohang (Some status) = record { writes = fine_two S.width _ _ (noted_limits (pos t) (with_status status me) (statused status l)) tt; sends = no_sends }
+  abbrev caller : Option Inside → Caller
+  caller inside = record { number = p; process = me; inside = inside; state = S }
 
-  waits_for_fine : (t : ℕ) (nohang : Bool) (x : Option Process) → IsFine S.width (waits_for p t nohang me x)
-  waits_for_fine t nohang None = plainly _ (same_plain p me (failing NoChild))
-  waits_for_fine t nohang (Some q) = by (q.parent == p)
-    where
-      by : (b : Bool) → IsFine S.width (if b then waits_by p t nohang me q.status else done p (failing NoChild) me)
-      by true = waits_by_fine t nohang q.status
-      by false = plainly _ (same_plain p me (failing NoChild))
+  abbrev Fine : Outcome → Type 0
+  Fine outcome = IsFine S.width (effect_of p me outcome)
 
-  waits_at_fine : (t : Option ℕ) (nohang : Bool) → IsFine S.width (waits_at p t nohang me S)
-  waits_at_fine None nohang = plainly _ (same_plain p me (failing NoChild))
-  waits_at_fine (Some t) nohang = waits_for_fine t nohang (S.procs t)
+  error_fine : (errno : Errno) → Fine (fails errno)
+  error_fine errno = plainly _ (same_plain p me (failing errno))
+
+  fork_fine : (inside : Option Inside) (child : ℕ) → Fine (fork child (caller inside))
+  fork_fine inside child =
+      fork_lines Fine (caller inside) error_fine child (λ taken. plainly _ (idle_plain p me NumberTaken))
+      λ free. record { writes = fine_two S.width _ _ (noted_limits (pos child) me l) (child_limits p me l); sends = no_sends }
+
+  waitpid_fine : (inside : Option Inside) (t : ℤ) (nohang : Bool) → Fine (waitpid t nohang (caller inside))
+  waitpid_fine inside t nohang =
+      waitpid_lines Fine (caller inside) error_fine t nohang (plainly _ (same_plain p me (pos 0))) (plainly _ (idle_plain p me Wait))
+      λ child status q number there mine over. record { writes = fine_two S.width _ _ (noted_limits (pos child) (with_status status me) (statused status l)) tt; sends = no_sends }
 
   orphaned_fine : (qs : List ℕ) → AreFine S.width (orphaned qs S)
   unfolding orphaned AreFine
@@ -260,41 +258,12 @@ module _ (S : State) (p : ℕ) (me : Process) (here : S.procs p ≡ Some me) (ru
     sends = tells_fine (telling inside now.parent) now.parent;
   }
 
-  exit_fine : (inside : Option Inside) (v : ℤ) → IsFine S.width (exit_effect inside p v me S)
-  exit_fine inside v = by (p == 1) refl
-    where
-      by : (b : Bool) → (p == 1) ≡ b → IsFine S.width (if b then done p (failing NotPermitted) me else ending inside p (exit_status v) me S)
-      by true z = plainly _ (same_plain p me (failing NotPermitted))
-      by false z = ending_fine inside (exit_status v) me (parent_number (λ y. both_ways (p == 1) z (eq-eqb p 1 y))) l
+  exit_fine : (inside : Option Inside) (v : ℤ) → Fine (exit v (caller inside))
+  exit_fine inside v =
+      exit_lines Fine (caller inside) error_fine v
+      λ other. ending_fine inside (exit_status v) me (parent_number (λ y. both_ways (p == 1) other (eq-eqb p 1 y))) l
 
   -- sends
-  now_fine : (m : Sending) → IsSendable m → IsFine S.width (posts_now p m)
-  unfolding AreFine
-  now_fine m k = record { writes = tt; sends = All-cons IsSendable m [] k no_sends }
-
-  holds_fine : (inside : Inside) (m : Sending) → IsSendable m → is_between S.width m.target ≡ true → IsFine S.width (holds p inside me m S)
-  holds_fine inside m k number = by (m.signo == 0) refl (nat_lt (sent_by_members (S.held inside.starter)) HELD_SENDS)
-    where
-      loud : (m.signo == 0) ≡ false → is_known m.signo ≡ true
-      loud h = elim k [ inl e ↦ absurd (both_ways (m.signo == 0) h (eq-eqb m.signo 0 e)) | inr e ↦ e ]
-
-      by : (b : Bool) → (m.signo == 0) ≡ b → (c : Bool) → IsFine S.width (if b then done p closed_inside me
-          else (if c then done_with (SetHeld inside.starter (S.held inside.starter ++ m ∷ []) ∷ []) p (pos 0) me else done p (failing TryAgain) me))
-      by true h c = plainly _ (same_plain p me closed_inside)
-      by false h true = record {
-        writes = fine_two S.width _ _ (noted_limits (pos 0) me l) (All-push (IsHeldSending S.width) (S.held inside.starter) m (w.held inside.starter) (record { known = loud h; target = number }));
-        sends = no_sends;
-      }
-      by false h false = plainly _ (same_plain p me (failing TryAgain))
-
-  hands_fine : (inside : Option Inside) (m : Sending) → IsSendable m → is_between S.width m.target ≡ true → IsFine S.width (hands_out p inside me m S)
-  hands_fine None m k number = now_fine m k
-  hands_fine (Some inside) m k number = by (inside.members m.target)
-    where
-      by : (b : Bool) → IsFine S.width (if b then posts_now p m else holds p inside me m S)
-      by true = now_fine m k
-      by false = holds_fine inside m k number
-
   known_is : (v : ℤ) (n : ℕ) → known v ≡ Some n → is_known n ≡ true
   known_is (pos m) n e = by (is_known m) refl e
     where
@@ -316,14 +285,22 @@ module _ (S : State) (p : ℕ) (me : Process) (here : S.procs p ≡ Some me) (ru
       by false h k = cc
   numbered_is (negsuc m) t e = cc
 
-  signal_fine : (inside : Option Inside) (t signo : Option ℕ) (value n v : ℤ) → numbered S.width n ≡ t → sendable v ≡ signo
-      → IsFine S.width (sends_signal p inside me t signo value S)
-  signal_fine inside t None value n v d e = plainly _ (same_plain p me (failing InvalidArgument))
-  signal_fine inside None (Some signo) value n v d e = plainly _ (same_plain p me (failing NoSuchProcess))
-  signal_fine inside (Some t) (Some signo) value n v d e = hands_fine inside (sent_by me t signo value) (sendable_is v signo e) (numbered_is n t d)
+  posted_fine : (m : Sending) → IsSendable m → Fine (posts m)
+  unfolding AreFine
+  posted_fine m k = record { writes = tt; sends = All-cons IsSendable m [] k no_sends }
 
-  send_fine : (inside : Option Inside) (t signo value : ℤ) → IsFine S.width (send_effect p inside me t signo value S)
-  send_fine inside t signo value = signal_fine inside (numbered S.width t) (sendable signo) value t signo refl refl
+  sigqueue_fine : (inside : Option Inside) (t signo value : ℤ) → Fine (sigqueue t signo value (caller inside))
+  sigqueue_fine inside t s value =
+      sigqueue_lines Fine (caller inside) error_fine t s value (plainly _ (same_plain p me closed_inside))
+      (λ signo target known there outside. posted_fine (sent_by me target signo value) (sendable_is s signo known))
+      λ signo target i known there held some room. record {
+        writes = fine_two S.width _ _ (noted_limits (pos 0) me l) (All-push (IsHeldSending S.width) (S.held i.starter) (sent_by me target signo value) (w.held i.starter)
+            (record { known = loud signo some (sendable_is s signo known); target = numbered_is t target there }));
+        sends = no_sends;
+      }
+    where
+      loud : (signo : ℕ) → (signo == 0) ≡ false → (signo ≡ 0) ⊎ (is_known signo ≡ true) → is_known signo ≡ true
+      loud signo some k = elim k [ inl e ↦ absurd (both_ways (signo == 0) some (eq-eqb signo 0 e)) | inr e ↦ e ]
 
   -- deliveries
   fewer_queued : (signo : ℕ) (entries : List Queued) → All IsRealtimeEntry entries → All IsRealtimeEntry (less_first signo entries)
@@ -435,11 +412,11 @@ module _ (S : State) (p : ℕ) (me : Process) (here : S.procs p ≡ Some me) (ru
   delivery_fine inside signo = delivers_fine inside signo (delivered_value signo me) refl
 
   special_fine : (inside : Option Inside) (c : Call) → IsSpecial c → IsFine S.width (call_effect inside p c me S)
-  special_fine inside (call.Fork child) h = forks_fine child.0 (S.procs child.0)
+  special_fine inside (call.Fork child) h = fork_fine inside child.0
   special_fine inside (call.Exit status) h = exit_fine inside status
-  special_fine inside (call.Waitpid t nohang) h = waits_at_fine (numbered S.width t) nohang
-  special_fine inside (call.Kill t signo) h = send_fine inside t signo (pos 0)
-  special_fine inside (call.Sigqueue t signo value) h = send_fine inside t signo value
+  special_fine inside (call.Waitpid t nohang) h = waitpid_fine inside t nohang
+  special_fine inside (call.Kill t signo) h = sigqueue_fine inside t signo (pos 0)
+  special_fine inside (call.Sigqueue t signo value) h = sigqueue_fine inside t signo value
   special_fine inside c h = absurd h
 
   call_fine : (inside : Option Inside) (c : Call) → IsFine S.width (call_effect inside p c me S)
@@ -554,8 +531,8 @@ post_within m S k w =
     write_within (SetProc m.target (received m (S.procs m.target))) S
     (received_limits m (S.procs m.target) k (limits_if S w m.target (S.procs m.target) refl)) w
 
-posts_within : (ms : List Sending) (S : State) → All IsSendable ms → IsWithin S → IsWithin (posts ms S)
-unfolding posts
+posts_within : (ms : List Sending) (S : State) → All IsSendable ms → IsWithin S → IsWithin (all_posted ms S)
+unfolding all_posted
 posts_within [] S h w = w
 posts_within (m ∷ ms) S h w = posts_within ms (post m S) (All-tail IsSendable m ms h) (post_within m S (All-head IsSendable m ms h) w)
 
@@ -571,7 +548,7 @@ unfolding after
 after_within ev S a w =
     let f : Effect = effect ev S in
     let k : IsFine S.width f = event_fine ev S a w in
-    concluded_within f.conclusion (send_answers f S) (posts f.sends (written f.writes S))
+    concluded_within f.conclusion (send_answers f S) (all_posted f.sends (written f.writes S))
     (posts_within f.sends (written f.writes S) k.sends (written_within f.writes S k.writes w))
 
 -- the state at the start

@@ -1,5 +1,5 @@
 -- The calls that concern their own process alone keep the limits of what it has.
-use Rattle.std.proofs.Common.{◌≡◌, ◌≢◌, ℕ, zero, suc, ◌+◌, ◌-◌, ◌<◌, ◌≤◌, Bool, true, false, ◌||◌, ◌^◌, ◌/◌, ◌%◌, List, [], ◌∷◌, length, ℤ, pos, negsuc, Option, Some, None, if◌then◌else◌, nat_lt, ◌==◌, slice_get, slice_set, refl, sym, ◌∙◌, subst, eq-eqb, arith}
+use Rattle.std.proofs.Common.{◌≡◌, ◌≢◌, ℕ, zero, suc, ◌+◌, ◌-◌, ◌<◌, ◌≤◌, Bool, true, false, ◌||◌, ◌^◌, ◌/◌, ◌%◌, List, [], ◌∷◌, length, ℤ, pos, negsuc, Option, Some, None, if◌then◌else◌, nat_lt, ◌==◌, slice_get, refl, sym, ◌∙◌, subst, eq-eqb, arith}
 use Rattle.std.specs.Prelude.{All}
 use Rattle.std.proofs.lemmas.Bool.{both_ways, ltb-true, ltb-false}
 use Rattle.std.proofs.lemmas.List.{length-set, get_or-set_other}
@@ -7,20 +7,14 @@ use Rattle.std.proofs.lemmas.List.Elements.{All-cons, All-head, All-tail, All-se
 use Rattle.tx_base.specs.Signals.{bits_of}
 use Rattle.tx_base.specs.declared.signals.Action.{Action}
 use Rattle.tx_base.specs.declared.signals.Action.TheVariants.{Usual, Ignore, Catch}
-use Rattle.tx_base.specs.declared.signals.How.{How}
-use Rattle.tx_base.specs.declared.signals.SigSet.{SigSet}
-use Rattle.tx_base.specs.declared.limits.TheConstants.{PAGE_BYTES, CONSOLE_BYTES, LAST_ID, LAST_POINT}
-use Rattle.tx_base.specs.declared.errors.Errno.TheVariants.{InvalidArgument}
-use Rattle.tx_base.specs.declared.steps.Reply.TheVariants.{Done}
-use Rattle.tx_base.specs.declared.steps.When.{When}
-use Rattle.tx_model.specs.Numbers.{below, failing}
-use Rattle.tx_model.specs.Memory.{Memory, PageView, is_good, is_mapped, page_at, with_page, with_flag, flagged, with_byte, put_byte, put_bytes, stored}
+use Rattle.tx_base.specs.declared.limits.TheConstants.{PAGE_BYTES, LAST_ID, LAST_POINT}
+use Rattle.tx_model.specs.Numbers.{below}
+use Rattle.tx_model.specs.Memory.{Memory, PageView, page_at, with_byte, put_byte, put_bytes, stored}
 use Rattle.tx_model.specs.State.{Ids, Process, Frame, Queued}
-use Rattle.tx_model.specs.Effects.{Inside, Own, next_point, answers_with, noted}
-use Rattle.tx_model.specs.Identities.{Identified, id_of, is_privileged, is_own_user, is_own_group, with_user, with_group, with_all_users, with_all_groups, set_user, set_effective_user, set_group, set_effective_group}
-use Rattle.tx_model.specs.Scripts.{identifies, stands_at, jumps, does_jump, last_ret, with_kept, keeps_at, shows, writes_console}
+use Rattle.tx_model.specs.Effects.{next_point, noted}
+use Rattle.tx_model.specs.Book.{id_of, with_user, with_group, with_all_users, with_all_groups}
 use Rattle.tx_model.specs.SignalSets.{kill_signo, maskable}
-use Rattle.tx_model.specs.Signals.{acts, is_bad_action, is_ignored, with_action, kept_action, discarded, queued_others, masked, masks, newest, returns}
+use Rattle.tx_model.specs.Signals.{is_bad_action, is_ignored, with_action, kept_action, discarded, queued_others, newest, restored}
 use Rattle.tx_laws.specs.WellFormed.{IsWholePage, HasIdLimits, HasFrameLimits, HasActionLimits, IsRealtimeEntry, HasLimits}
 use Rattle.tx_laws.proofs.WithinSets.{in_less, maskable_mask}
 
@@ -50,10 +44,6 @@ noted_limits r me h = record {
   frames = h.frames;
 }
 
-if_limits : (me : Process) (b : Bool) (x y : Own) → KeepsLimits me x.process → KeepsLimits me y.process → KeepsLimits me (if b then x else y).process
-if_limits me true x y k l = k
-if_limits me false x y k l = l
-
 -- other ids
 pub below_limit : (limit n : ℕ) (v : ℤ) → below limit v ≡ Some n → n < limit
 below_limit limit n (pos m) h = by (nat_lt m limit) refl h
@@ -63,17 +53,10 @@ below_limit limit n (pos m) h = by (nat_lt m limit) refl h
     by false e k = cc
 below_limit limit n (negsuc m) h = cc
 
-id_limit : (v : ℤ) (n : ℕ) → id_of v ≡ Some n → n ≤ LAST_ID
+pub id_limit : (v : ℤ) (n : ℕ) → id_of v ≡ Some n → n ≤ LAST_ID
 id_limit v n h = let small : n < 65536 = below_limit 65536 n v h in omega arith
 
-abbrev HasGoodIds : Identified → Type 0
-HasGoodIds after = HasIdLimits after.ids
-
-if_ids : (b : Bool) (x y : Identified) → HasGoodIds x → HasGoodIds y → HasGoodIds (if b then x else y)
-if_ids true x y h k = h
-if_ids false x y h k = k
-
-one_user : (u : ℕ) (ids : Ids) → u ≤ LAST_ID → HasIdLimits ids → HasIdLimits (with_user u ids)
+pub one_user : (u : ℕ) (ids : Ids) → u ≤ LAST_ID → HasIdLimits ids → HasIdLimits (with_user u ids)
 one_user u ids k h = record {
   real_user = h.real_user;
   effective_user = k;
@@ -83,7 +66,7 @@ one_user u ids k h = record {
   saved_group = h.saved_group;
 }
 
-one_group : (g : ℕ) (ids : Ids) → g ≤ LAST_ID → HasIdLimits ids → HasIdLimits (with_group g ids)
+pub one_group : (g : ℕ) (ids : Ids) → g ≤ LAST_ID → HasIdLimits ids → HasIdLimits (with_group g ids)
 one_group g ids k h = record {
   real_user = h.real_user;
   effective_user = h.effective_user;
@@ -93,7 +76,7 @@ one_group g ids k h = record {
   saved_group = h.saved_group;
 }
 
-all_users : (u : ℕ) (ids : Ids) → u ≤ LAST_ID → HasIdLimits ids → HasIdLimits (with_all_users u ids)
+pub all_users : (u : ℕ) (ids : Ids) → u ≤ LAST_ID → HasIdLimits ids → HasIdLimits (with_all_users u ids)
 all_users u ids k h = record {
   real_user = k;
   effective_user = k;
@@ -103,7 +86,7 @@ all_users u ids k h = record {
   saved_group = h.saved_group;
 }
 
-all_groups : (g : ℕ) (ids : Ids) → g ≤ LAST_ID → HasIdLimits ids → HasIdLimits (with_all_groups g ids)
+pub all_groups : (g : ℕ) (ids : Ids) → g ≤ LAST_ID → HasIdLimits ids → HasIdLimits (with_all_groups g ids)
 all_groups g ids k h = record {
   real_user = h.real_user;
   effective_user = h.effective_user;
@@ -113,28 +96,8 @@ all_groups g ids k h = record {
   saved_group = k;
 }
 
-user_ids : (v : ℤ) (x : Option ℕ) (ids : Ids) → id_of v ≡ x → HasIdLimits ids → HasGoodIds (set_user x ids)
-user_ids v None ids e h = h
-user_ids v (Some u) ids e h =
-    let small : u ≤ LAST_ID = id_limit v u e in
-    if_ids (is_privileged ids) _ _ (all_users u ids small h) (if_ids (is_own_user u ids) _ _ (one_user u ids small h) h)
-
-effective_user_ids : (v : ℤ) (x : Option ℕ) (ids : Ids) → id_of v ≡ x → HasIdLimits ids → HasGoodIds (set_effective_user x ids)
-effective_user_ids v None ids e h = h
-effective_user_ids v (Some u) ids e h = if_ids (is_privileged ids || is_own_user u ids) _ _ (one_user u ids (id_limit v u e) h) h
-
-group_ids : (v : ℤ) (x : Option ℕ) (ids : Ids) → id_of v ≡ x → HasIdLimits ids → HasGoodIds (set_group x ids)
-group_ids v None ids e h = h
-group_ids v (Some g) ids e h =
-    let small : g ≤ LAST_ID = id_limit v g e in
-    if_ids (is_privileged ids) _ _ (all_groups g ids small h) (if_ids (is_own_group g ids) _ _ (one_group g ids small h) h)
-
-effective_group_ids : (v : ℤ) (x : Option ℕ) (ids : Ids) → id_of v ≡ x → HasIdLimits ids → HasGoodIds (set_effective_group x ids)
-effective_group_ids v None ids e h = h
-effective_group_ids v (Some g) ids e h = if_ids (is_privileged ids || is_own_group g ids) _ _ (one_group g ids (id_limit v g e) h) h
-
-identifies_limits : (after : Identified) (me : Process) → (HasIdLimits me.ids → HasGoodIds after) → KeepsLimits me (identifies after me).process
-identifies_limits after me k h = noted_limits after.ret (record me { ids = after.ids }) (record {
+pub identified_limits : (me : Process) (ids : Ids) → (HasIdLimits me.ids → HasIdLimits ids) → KeepsLimits me (record me { ids = ids })
+identified_limits me ids k h = record {
   point = h.point;
   pages = h.pages;
   ids = k h.ids;
@@ -144,31 +107,10 @@ identifies_limits after me k h = noted_limits after.ret (record me { ids = after
   pending = h.pending;
   queued = h.queued;
   frames = h.frames;
-})
-
-pub set_user_limits : (v : ℤ) (me : Process) → KeepsLimits me (identifies (set_user (id_of v) me.ids) me).process
-set_user_limits v me = identifies_limits (set_user (id_of v) me.ids) me (user_ids v (id_of v) me.ids refl)
-
-pub set_effective_user_limits : (v : ℤ) (me : Process) → KeepsLimits me (identifies (set_effective_user (id_of v) me.ids) me).process
-set_effective_user_limits v me = identifies_limits (set_effective_user (id_of v) me.ids) me (effective_user_ids v (id_of v) me.ids refl)
-
-pub set_group_limits : (v : ℤ) (me : Process) → KeepsLimits me (identifies (set_group (id_of v) me.ids) me).process
-set_group_limits v me = identifies_limits (set_group (id_of v) me.ids) me (group_ids v (id_of v) me.ids refl)
-
-pub set_effective_group_limits : (v : ℤ) (me : Process) → KeepsLimits me (identifies (set_effective_group (id_of v) me.ids) me).process
-set_effective_group_limits v me = identifies_limits (set_effective_group (id_of v) me.ids) me (effective_group_ids v (id_of v) me.ids refl)
-
--- scripts
-shows_limits : (address : ℤ) (n : Option ℕ) (me : Process) → KeepsLimits me (shows address n me).process
-shows_limits address None me = noted_limits _ me
-shows_limits address (Some n) me = if_limits me (is_good is_mapped me.memory address n) _ _ (noted_limits _ me) (noted_limits _ me)
-
-pub console_limits : (inside : Option Inside) (address n : ℤ) (me : Process) → KeepsLimits me (writes_console inside address n me).process
-console_limits None address n me = shows_limits address (below (CONSOLE_BYTES + 1) n) me
-console_limits (Some inside) address n me = noted_limits _ me
+}
 
 -- the same process with other registers
-registered : (me : Process) (point : ℕ) (ret : ℤ) (slots : List ℤ) → point ≤ LAST_POINT
+pub registered : (me : Process) (point : ℕ) (ret : ℤ) (slots : List ℤ) → point ≤ LAST_POINT
     → KeepsLimits me (record me { registers = record { point = point; ret = ret; slots = slots } })
 registered me point ret slots small h = record {
   point = small;
@@ -185,21 +127,8 @@ registered me point ret slots small h = record {
 pub slotted : (me : Process) (slots : List ℤ) → KeepsLimits me (record me { registers = record { point = me.registers.point; ret = me.registers.ret; slots = slots } })
 slotted me slots h = registered me me.registers.point me.registers.ret slots h.point h
 
-not_over : (point : ℕ) → nat_lt LAST_POINT point ≡ false → point ≤ LAST_POINT
+pub not_over : (point : ℕ) → nat_lt LAST_POINT point ≡ false → point ≤ LAST_POINT
 not_over point e = ltb-false LAST_POINT point e
-
-pub jumps_limits : (point : ℕ) (when : When) (me : Process) → KeepsLimits me (jumps point when me).process
-jumps_limits point when me = by (nat_lt LAST_POINT point) refl
-  where
-    by : (b : Bool) → nat_lt LAST_POINT point ≡ b
-        → KeepsLimits me (if b then answers_with (failing InvalidArgument) me
-        else (if does_jump when (last_ret me) then record { process = stands_at point me; reply = Done (last_ret me) } else answers_with (last_ret me) me)).process
-    by true e = noted_limits _ me
-    by false e = if_limits me (does_jump when (last_ret me)) _ _ (registered me point (last_ret me) me.registers.slots (not_over point e)) (noted_limits _ me)
-
-pub keep_limits : (slot : Option ℕ) (me : Process) → KeepsLimits me (keeps_at slot me).process
-keep_limits None me = noted_limits _ me
-keep_limits (Some k) me = λ h. noted_limits (last_ret me) (with_kept k (last_ret me) me) (registered me me.registers.point (last_ret me) (slice_set me.registers.slots k (last_ret me)) h.point h)
 
 -- signals
 pub discarded_limits : (signo : ℕ) (me : Process) → KeepsLimits me (discarded signo me)
@@ -246,36 +175,29 @@ neither true b h = cc
 neither false true h = cc
 neither false false h = (refl, refl)
 
-pub acts_limits : (signo : Option ℕ) (action : Action) (me : Process) → KeepsLimits me (acts signo action me).process
-acts_limits None action me = noted_limits _ me
-acts_limits (Some signo) action me = by (signo == kill_signo || is_bad_action action) refl
+pub acted_limits : (signo : ℕ) (action : Action) (me : Process) → (signo == kill_signo || is_bad_action action) ≡ false
+    → KeepsLimits me (with_action signo action (if is_ignored signo action then discarded signo me else me))
+acted_limits signo action me e = by (is_ignored signo action)
   where
-    good : (b : Bool) → signo ≢ kill_signo → is_bad_action action ≡ false
-        → KeepsLimits me (noted (pos 0) (with_action signo action (if b then discarded signo me else me)))
-    good true other fine h =
-        noted_limits (pos 0) (with_action signo action (discarded signo me)) (action_limits signo action (discarded signo me) other fine (discarded_limits signo me h))
-    good false other fine h = noted_limits (pos 0) (with_action signo action me) (action_limits signo action me other fine h)
+    good : (signo ≡ kill_signo → ⊥) × (is_bad_action action ≡ false)
+    good = let r = neither (signo == kill_signo) (is_bad_action action) e in (λ z. both_ways (signo == kill_signo) r.0 (eq-eqb signo kill_signo z), r.1)
 
-    by : (b : Bool) → (signo == kill_signo || is_bad_action action) ≡ b
-        → KeepsLimits me (if b then answers_with (failing InvalidArgument) me
-        else answers_with (pos 0) (with_action signo action (if is_ignored signo action then discarded signo me else me))).process
-    by true e = noted_limits _ me
-    by false e =
-        let r = neither (signo == kill_signo) (is_bad_action action) e in
-        good (is_ignored signo action) (λ z. both_ways (signo == kill_signo) r.0 (eq-eqb signo kill_signo z)) r.1
+    by : (b : Bool) → KeepsLimits me (with_action signo action (if b then discarded signo me else me))
+    by true h = action_limits signo action (discarded signo me) good.0 good.1 (discarded_limits signo me h)
+    by false h = action_limits signo action me good.0 good.1 h
 
-pub masks_limits : (how : How) (set : SigSet) (me : Process) → KeepsLimits me (masks how set me).process
-masks_limits how set me h = noted_limits (pos 0) (record me { mask = maskable (masked how (bits_of set) me.mask) }) (record {
+pub masked_limits : (me : Process) (set : ℕ) → KeepsLimits me (record me { mask = maskable set })
+masked_limits me set h = record {
   point = h.point;
   pages = h.pages;
   ids = h.ids;
-  mask = maskable_mask (masked how (bits_of set) me.mask);
+  mask = maskable_mask set;
   actions = h.actions;
   kill = h.kill;
   pending = h.pending;
   queued = h.queued;
   frames = h.frames;
-})
+}
 
 -- what was saved is within its limits
 pub found_all : {X : Type 0} (P : X → Type 0) (xs : List X) (i : ℕ) (x : X) → slice_get xs i ≡ Some x → All P xs → P x
@@ -283,9 +205,8 @@ found_all {X} P [] i x e h = cc
 found_all {X} P (y ∷ xs) zero x e h = let same : y ≡ x = cc in subst P same (All-head P y xs h)
 found_all {X} P (y ∷ xs) (suc i) x e h = found_all P xs i x e (All-tail P y xs h)
 
-pub returns_limits : (x : Option Frame) (me : Process) → newest me.frames ≡ x → KeepsLimits me (returns x me).process
-returns_limits None me e = noted_limits _ me
-returns_limits (Some frame) me e = λ h.
+pub restored_limits : (frame : Frame) (me : Process) → newest me.frames ≡ Some frame → KeepsLimits me (restored frame me)
+restored_limits frame me e h =
     let saved : HasFrameLimits frame = found_all HasFrameLimits me.frames (length me.frames - 1) frame e h.frames in
     record {
       point = saved.point;
@@ -313,22 +234,10 @@ paged_limits me memory k h = record {
   frames = h.frames;
 }
 
-whole_at : (memory : Memory) (n : ℕ) → All IsWholePage memory → IsWholePage (page_at memory n)
+pub whole_at : (memory : Memory) (n : ℕ) → All IsWholePage memory → IsWholePage (page_at memory n)
 whole_at [] n h = tt
 whole_at (x ∷ memory) zero h = All-head IsWholePage x memory h
 whole_at (x ∷ memory) (suc n) h = whole_at memory n (All-tail IsWholePage x memory h)
-
-pub with_page_whole : (memory : Memory) (n : Option ℕ) (page : Option PageView) → IsWholePage page → All IsWholePage memory → All IsWholePage (with_page memory n page)
-with_page_whole memory None page k h = h
-with_page_whole memory (Some n) page k h = All-set IsWholePage memory n page k h
-
-flag_whole : (writable : Bool) (page : Option PageView) → IsWholePage page → IsWholePage (with_flag writable page)
-flag_whole writable None h = tt
-flag_whole writable (Some page) h = h
-
-pub flagged_whole : (writable : Bool) (memory : Memory) (n : Option ℕ) → All IsWholePage memory → IsWholePage (flagged writable memory n)
-flagged_whole writable memory None h = tt
-flagged_whole writable memory (Some n) h = flag_whole writable (page_at memory n) (whole_at memory n h)
 
 byte_whole : (offset byte : ℕ) (page : Option PageView) → IsWholePage page → IsWholePage (with_byte offset byte page)
 byte_whole offset byte None h = tt

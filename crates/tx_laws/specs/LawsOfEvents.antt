@@ -1,7 +1,8 @@
 -- The laws of single events: what they depend on, what they change, and which of them commute. Own rules.
 use Rattle.std.specs.Prelude.{◌≡◌, ℕ, ℤ, List, Some, true, false, ◌++◌}
 use Rattle.tx_base.specs.declared.steps.Step.{Step}
-use Rattle.tx_model.specs.State.{State, Sending, Object, Proc, Held, AgreePart, AgreeAt, AgreeOn, has}
+use Rattle.tx_model.specs.State.{State, Sending, Object, Proc, Held, has}
+use Rattle.tx_model.specs.StateLaws.{AgreePart, AgreeAt, AgreeOn}
 use Rattle.tx_model.specs.Posts.{posts}
 use Rattle.tx_model.specs.Effects.{Inside, before_sends, applied}
 use Rattle.tx_model.specs.Events.{Event, Do, process_of, actor, effect, objects, after, reply_of}

@@ -1,7 +1,8 @@
 -- The laws of entries, and of what their events do where transactions of others are left out. Own rules.
 use Rattle.std.specs.Prelude.{◌≡◌, List, ◌∷◌}
 use Rattle.tx_base.specs.declared.steps.Accepted.{Accepted}
-use Rattle.tx_model.specs.State.{State, Object, AgreeAt, AgreeOn}
+use Rattle.tx_model.specs.State.{State, Object}
+use Rattle.tx_model.specs.StateLaws.{AgreeAt, AgreeOn}
 use Rattle.tx_model.specs.Effects.{send_answers}
 use Rattle.tx_model.specs.Events.{Event, process_of, effect, objects, after}
 use Rattle.tx_model.specs.History.{Starters, role_in, event_of}

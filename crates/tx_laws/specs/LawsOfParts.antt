@@ -2,7 +2,8 @@
 use Rattle.std.specs.Prelude.{◌≡◌, ℕ, true, false, [], Some, None}
 use Rattle.tx_base.specs.declared.steps.Step.{Step}
 use Rattle.tx_model.specs.SignalSets.{kill_signo}
-use Rattle.tx_model.specs.State.{State, Object, Proc, AgreePart, has}
+use Rattle.tx_model.specs.State.{State, Object, Proc, has}
+use Rattle.tx_model.specs.StateLaws.{AgreePart}
 use Rattle.tx_model.specs.Events.{Event, process_of, objects}
 use Rattle.tx_model.specs.Membership.{Role, is_live, empty_table}
 use Rattle.tx_model.specs.View.{view, present, has_pending, is_doomed, has_two_answers, in_way, least, holder, next, next_by, role_on, event_on}

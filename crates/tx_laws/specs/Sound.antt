@@ -1,7 +1,8 @@
 -- What is so of the view of every history: what stands at an object without some transactions depends
 -- on those alone that touched it. Own rules.
 use Rattle.std.specs.Prelude.{◌≡◌, ℕ, true}
-use Rattle.tx_model.specs.State.{Object, Proc, Held, AgreeAt, is_between}
+use Rattle.tx_model.specs.State.{Object, Proc, Held, is_between}
+use Rattle.tx_model.specs.StateLaws.{AgreeAt}
 use Rattle.tx_model.specs.Membership.{is_live, is_member_of}
 use Rattle.tx_model.specs.History.{Starters, just}
 use Rattle.tx_model.specs.View.{View}

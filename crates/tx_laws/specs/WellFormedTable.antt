@@ -2,7 +2,7 @@
 use Rattle.std.specs.Prelude.{◌≡◌, ◌≢◌, ◌⊎◌, ℕ, ◌+◌, ◌-◌, ◌≤◌, true, false, List, [], ◌∷◌, Option, Some, None, is_some}
 use Rattle.tx_base.specs.declared.limits.TheConstants.{HELD_SENDS}
 use Rattle.tx_model.specs.State.{Process, Sending, State}
-use Rattle.tx_model.specs.Sends.{has_sender, sent_by_members}
+use Rattle.tx_model.specs.Book.{has_sender, sent_by_members}
 use Rattle.tx_model.specs.Membership.{Table, is_member_of, is_live, is_open_of}
 use Rattle.tx_model.specs.History.{just}
 use Rattle.tx_model.specs.View.{View, present}

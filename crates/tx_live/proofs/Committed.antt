@@ -52,7 +52,7 @@ use Rattle.tx_model.specs.Events.{Commit, Event, actor, effect, objects, reply_o
 use Rattle.tx_model.specs.History.{processes_of}
 use Rattle.tx_model.specs.Membership.{Commits, is_of, unmarked}
 use Rattle.tx_model.specs.Posts.{answers}
-use Rattle.tx_model.specs.Sends.{sent_by_members}
+use Rattle.tx_model.specs.Book.{sent_by_members}
 use Rattle.tx_model.specs.State.{Object, Proc, Desc, Pipe, Held, Sending, SetHeld, State, has, same_object, write_one}
 use Rattle.tx_reserve.specs.Objects.{is_in}
 use Rattle.tx_reserve.specs.Reservations.{owner_of, unless}

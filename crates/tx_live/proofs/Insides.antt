@@ -43,7 +43,7 @@ use Rattle.tx_model.specs.Effects.{Inside as InsideOf}
 use Rattle.tx_model.specs.Events.{Event, actor, effect, objects, reply_of}
 use Rattle.tx_model.specs.History.{event_footprint, objects_reserved, processes_of, targets, is_other_starter}
 use Rattle.tx_model.specs.Membership.{Within, is_of, marks_after, new_mark, parked, defers_in, Table}
-use Rattle.tx_model.specs.Sends.{sent_by_members}
+use Rattle.tx_model.specs.Book.{sent_by_members}
 use Rattle.tx_model.specs.State.{Object, Proc, Desc, Pipe, Held, Sending, State, has, same_object}
 use Rattle.tx_reserve.specs.Objects.{is_in}
 use Rattle.tx_reserve.specs.Reservations.{owner_of, unless}

@@ -20,7 +20,7 @@ use Rattle.tx_live.specs.declared.inside.Stepped.{Stepped}
 use Rattle.tx_model.specs.Effects.{Inside as TheInside}
 use Rattle.tx_model.specs.Events.{Event}
 use Rattle.tx_model.specs.History.{event_footprint}
-use Rattle.tx_model.specs.Sends.{sent_by_members}
+use Rattle.tx_model.specs.Book.{sent_by_members}
 use Rattle.tx_model.specs.State.{Object, has}
 use Rattle.tx_reserve.specs.Objects.{is_in}
 use Rattle.tx_reserve.specs.Reservations.{owner_of, unless}

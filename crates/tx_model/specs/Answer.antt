@@ -6,16 +6,17 @@ use Rattle.tx_base.specs.declared.steps.Accepted.{Accepted}
 use Rattle.tx_base.specs.declared.steps.Refusal.{Refusal}
 use Rattle.tx_base.specs.declared.steps.Refusal.TheVariants.{NoProcess, NotRunning, BadNumber, NumberTaken, Doomed, Parked, KillPending, Busy, NoTransaction}
 use Rattle.tx_base.specs.declared.steps.Reply.{Reply}
-use Rattle.tx_base.specs.declared.steps.Reply.TheVariants.{Done, Ended, Committed, Aborted, Out, No}
+use Rattle.tx_base.specs.declared.steps.Reply.TheVariants.{Aborted, No}
 use Rattle.tx_base.specs.declared.steps.Call.{Call}
-use Rattle.tx_base.specs.declared.steps.Call.TheVariants as call
 use Rattle.tx_base.specs.declared.steps.Step.{Step}
 use Rattle.tx_base.specs.declared.steps.Step.TheVariants.{Call as Calls, Deliver, KernelAbort}
+pub use Rattle.tx_model.specs.Forms.{Choice, ChoosesNothing, ChoosesProcess, ChoosesPipe}
+use Rattle.tx_model.specs.Book.{page_of_call}
 use Rattle.tx_model.specs.State.{Process, State, is_between}
 use Rattle.tx_model.specs.SignalSets.{kill_signo}
 use Rattle.tx_model.specs.Descriptors.{is_pipe_in_use}
-use Rattle.tx_model.specs.Events.{Event, reply_of}
-use Rattle.tx_model.specs.Membership.{is_live, Role, Outside, Within, Commits, Aborts}
+use Rattle.tx_model.specs.Events.{Event, reply_of, process_of}
+use Rattle.tx_model.specs.Membership.{is_live, Role, Aborts}
 use Rattle.tx_model.specs.History.{Starters, nobody, role_in, event_of, left_out_before, stays, without}
 use Rattle.tx_model.specs.View.{View, view, present, has_pending, is_doomed, kernel_status, abort_status, role_on, event_on, holder}
 
@@ -27,53 +28,13 @@ is_running (Some q) = is_none q.status
 abbrev pub is_there : View → ℕ → Bool
 is_there V p = if is_between V.table.width p then is_some ((present V).procs p) else false
 
--- the numbers that a call chooses
-pub data Choice : Type 0 where
-  ChoosesNothing : Choice
-  ChoosesProcess : ℕ → Choice
-  -- a pipe, and its two descriptions
-  ChoosesPipe : ℕ → ℕ → ℕ → Choice
-
+-- the numbers that a call chooses, by its page
 abbrev pub chosen_in : Call → Choice
-chosen_in (call.Map page) = ChoosesNothing
-chosen_in (call.Unmap page) = ChoosesNothing
-chosen_in (call.Protect page writable) = ChoosesNothing
-chosen_in (call.Store address bytes) = ChoosesNothing
-chosen_in (call.Load address) = ChoosesNothing
-chosen_in (call.Fork child) = ChoosesProcess child.0
-chosen_in (call.Exit status) = ChoosesNothing
-chosen_in (call.Waitpid t nohang) = ChoosesNothing
-chosen_in call.Getpid = ChoosesNothing
-chosen_in call.Getppid = ChoosesNothing
-chosen_in (call.Setuid u) = ChoosesNothing
-chosen_in (call.Seteuid u) = ChoosesNothing
-chosen_in (call.Setgid g) = ChoosesNothing
-chosen_in (call.Setegid g) = ChoosesNothing
-chosen_in (call.Pipe q r w) = ChoosesPipe q.0 r.0 w.0
-chosen_in (call.Dup f) = ChoosesNothing
-chosen_in (call.Dup2 f g) = ChoosesNothing
-chosen_in (call.Close f) = ChoosesNothing
-chosen_in (call.SetNonblock f on) = ChoosesNothing
-chosen_in (call.Read f address n) = ChoosesNothing
-chosen_in (call.Write f address n) = ChoosesNothing
-chosen_in (call.Kill t signo) = ChoosesNothing
-chosen_in (call.Sigqueue t signo value) = ChoosesNothing
-chosen_in (call.Sigaction signo action) = ChoosesNothing
-chosen_in (call.Sigprocmask how set) = ChoosesNothing
-chosen_in call.Sigpending = ChoosesNothing
-chosen_in call.Sigreturn = ChoosesNothing
-chosen_in (call.ConsoleWrite address n) = ChoosesNothing
-chosen_in (call.Jump point when) = ChoosesNothing
-chosen_in (call.Keep slot) = ChoosesNothing
-chosen_in call.SysXbegin = ChoosesNothing
-chosen_in call.SysXbeginDefer = ChoosesNothing
-chosen_in call.SysXend = ChoosesNothing
-chosen_in call.SysXabort = ChoosesNothing
+chosen_in c = (page_of_call c).chooses
 
 abbrev pub chosen_by : Step → Choice
 chosen_by (Calls p call) = chosen_in call
-chosen_by (Deliver p signo) = ChoosesNothing
-chosen_by (KernelAbort s) = ChoosesNothing
+chosen_by step = ChoosesNothing
 
 abbrev pub is_bad_choice : ℕ → Choice → Bool
 is_bad_choice width ChoosesNothing = false
@@ -104,9 +65,8 @@ is_parked None = false
 is_parked (Some m) = m.ended
 
 abbrev pub delivers_kill : Step → Bool
-delivers_kill (Calls p call) = false
 delivers_kill (Deliver p signo) = signo.0 == kill_signo
-delivers_kill (KernelAbort s) = false
+delivers_kill step = false
 
 -- whether SIGKILL is pending at the process, and the step does not deliver it
 abbrev pub is_held_by_kill : State → ℕ → Step → Bool
@@ -131,10 +91,8 @@ refusal V p step =
 -- the reply to a step that is so to the transactions: at an abort its status, else that of its event.
 -- A call that waits and a delivery that can't be made are refused by their rules
 abbrev pub plain_reply : ℕ → Role → Event → State → Reply
-plain_reply status Outside ev S = reply_of ev S
-plain_reply status (Within s part) ev S = reply_of ev S
-plain_reply status (Commits s) ev S = reply_of ev S
 plain_reply status (Aborts s k) ev S = Aborted status
+plain_reply status role ev S = reply_of ev S
 
 -- the reply to a step that nothing refuses
 abbrev pub accepted_reply : View → Step → Reply
@@ -146,17 +104,12 @@ unless_refused (Some why) r = No why
 
 -- the answer to a step
 unfoldable pub answer : View → Step → Reply
-answer V (Calls p call) = unless_refused (refusal V p.0 (Calls p call)) (accepted_reply V (Calls p call))
-answer V (Deliver p signo) = unless_refused (refusal V p.0 (Deliver p signo)) (accepted_reply V (Deliver p signo))
 answer V (KernelAbort s) = if is_live V.table s.0 then Aborted (kernel_status V s.0) else No NoTransaction
+answer V step = unless_refused (refusal V (process_of step) step) (accepted_reply V step)
 
 abbrev pub IsAccepted : Reply → Type 0
-IsAccepted (Done r) = Unit {0}
-IsAccepted Ended = Unit {0}
-IsAccepted (Committed undelivered) = Unit {0}
-IsAccepted (Aborted status) = Unit {0}
-IsAccepted (Out bytes) = Unit {0}
 IsAccepted (No why) = ⊥
+IsAccepted reply = Unit {0}
 
 -- lawful: each reply is the accepted answer to its step on the view of the entries before it
 unfoldable pub Lawful : State → List Accepted → Type 0

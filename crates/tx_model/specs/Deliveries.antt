@@ -52,9 +52,8 @@ abbrev pub action_at : ℕ → Process → Action
 action_at signo me = slice_index_or me.actions signo Usual
 
 abbrev pub kills : Disposition → Bool
-kills Ignored = false
 kills Fatal = true
-kills (Caught point mask) = false
+kills disposition = false
 
 -- whether a delivery of the signal ends a process with this action
 abbrev pub is_fatal : ℕ → Action → Bool

@@ -2,11 +2,8 @@
 -- Descriptor and Open File Description).
 use Rattle.std.specs.Prelude.{ℕ, zero, suc, ◌+◌, Bool, true, false, List, [], ◌∷◌, ◌++◌, ℤ, pos, Option, Some, None, is_some, if◌then◌else◌, ◌==◌, slice_index_or, slice_set}
 use Rattle.tx_base.specs.declared.limits.TheConstants.{DESCRIPTIONS, DESCRIPTORS}
-use Rattle.tx_base.specs.declared.errors.Errno.TheVariants.{BadDescriptor, TooManyDescriptors}
-use Rattle.tx_base.specs.declared.steps.Refusal.TheVariants.{NumberTaken}
-use Rattle.tx_model.specs.Numbers.{below, failing}
-use Rattle.tx_model.specs.State.{Process, Side, ReadSide, WriteSide, Description, State, Object, Desc, Pipe, Write, SetProc, SetDesc, SetPipe, write_one, written, names_at, side_in}
-use Rattle.tx_model.specs.Effects.{Effect, idle, noted, done, done_with}
+use Rattle.tx_model.specs.Numbers.{below}
+use Rattle.tx_model.specs.State.{Process, Side, Description, State, Object, Desc, Pipe, Write, SetDesc, SetPipe, written, names_at, side_in}
 
 -- the description that a descriptor names
 abbrev pub named : Process → Option ℕ → Option ℕ
@@ -87,13 +84,6 @@ endless_go (k ∷ ks) S = if has_description k S then endless_go ks S else SetPi
 abbrev pub released : List ℕ → State → List Write
 released ds S = unnamed_go ds S ++ endless_go (pipes_of ds S) (written (unnamed_go ds S) S)
 
--- the process has given up names of these descriptions
-abbrev pub gives_up : List ℕ → ℕ → ℤ → Process → State → Effect
-gives_up ds p r me S = done_with (released ds (write_one (SetProc p (Some (noted r me))) S)) p r me
-
-abbrev pub bad_descriptor : ℕ → Process → Effect
-bad_descriptor p me = done p (failing BadDescriptor) me
-
 abbrev pub listed : Option ℕ → List ℕ
 listed None = []
 listed (Some d) = d ∷ []
@@ -107,68 +97,8 @@ with_two_slots f g me = record me {
   registers = record { point = me.registers.point; ret = me.registers.ret; slots = slice_set (slice_set me.registers.slots 0 (pos f)) 1 (pos g) };
 }
 
-abbrev pub new_side : ℕ → Side → Option Description
-new_side q side = Some (record { pipe = q; side = side; nonblock = false })
-
--- the process has the two sides at these two descriptors
-abbrev pub opens_at : ℕ → ℕ → ℕ → ℕ → Process → ℕ → Option ℕ → Effect
-opens_at p q r w me f None = done p (failing TooManyDescriptors) me
-opens_at p q r w me f (Some g) =
-    done_with (SetPipe q (Some []) ∷ SetDesc r (new_side q ReadSide) ∷ SetDesc w (new_side q WriteSide) ∷ []) p (pos 0)
-    (with_two_slots f g (with_descriptor g (Some w) (with_descriptor f (Some r) me)))
-
-abbrev pub opens_from : ℕ → ℕ → ℕ → ℕ → Process → Option ℕ → Effect
-opens_from p q r w me None = done p (failing TooManyDescriptors) me
-opens_from p q r w me (Some f) = opens_at p q r w me f (lowest_free (with_descriptor f (Some r) me))
-
--- pipe (POSIX.1-2017, XSH, pipe()): the schedule chooses the numbers of the pipe and of its two descriptions
-abbrev pub pipe_effect : ℕ → ℕ → ℕ → ℕ → Process → State → Effect
-pipe_effect p q r w me S = if is_pipe_in_use q r w S then idle NumberTaken else opens_from p q r w me (lowest_free me)
-
 abbrev pub pipe_objects : ℕ → ℕ → ℕ → List Object
 pipe_objects q r w = Pipe q ∷ Desc r ∷ Desc w ∷ []
-
-abbrev pub dups_to : ℕ → Process → ℕ → Option ℕ → Effect
-dups_to p me d None = done p (failing TooManyDescriptors) me
-dups_to p me d (Some f) = done p (pos f) (with_descriptor f (Some d) me)
-
--- dup (POSIX.1-2017, XSH, dup())
-abbrev pub dup_effect : ℕ → Process → Option ℕ → Effect
-dup_effect p me None = bad_descriptor p me
-dup_effect p me (Some d) = dups_to p me d (lowest_free me)
-
--- descriptor g, another one than f, names description d
-abbrev pub renames : ℕ → Process → State → ℕ → ℕ → Option ℕ → Effect
-renames p me S f d None = bad_descriptor p me
-renames p me S f d (Some g) =
-    if f == g then done p (pos g) me else gives_up (listed (named me (Some g))) p (pos g) (with_descriptor g (Some d) me) S
-
-abbrev pub dup2_named : ℕ → Process → State → ℕ → Option ℕ → Option ℕ → Effect
-dup2_named p me S f g None = bad_descriptor p me
-dup2_named p me S f g (Some d) = renames p me S f d g
-
--- dup2 (POSIX.1-2017, XSH, dup2())
-abbrev pub dup2_effect : ℕ → Option ℕ → Option ℕ → Process → State → Effect
-dup2_effect p None g me S = bad_descriptor p me
-dup2_effect p (Some f) g me S = dup2_named p me S f g (named me (Some f))
-
-abbrev pub closes : ℕ → Process → State → ℕ → Option ℕ → Effect
-closes p me S f None = bad_descriptor p me
-closes p me S f (Some d) = gives_up (d ∷ []) p (pos 0) (with_descriptor f None me) S
-
--- close (POSIX.1-2017, XSH, close())
-abbrev pub close_effect : ℕ → Option ℕ → Process → State → Effect
-close_effect p None me S = bad_descriptor p me
-close_effect p (Some f) me S = closes p me S f (named me (Some f))
-
-abbrev pub flags : ℕ → Process → ℕ → Bool → Option Description → Effect
-flags p me d on None = bad_descriptor p me
-flags p me d on (Some x) = done_with (SetDesc d (Some (record { pipe = x.pipe; side = x.side; nonblock = on })) ∷ []) p (pos 0) me
-
--- set_nonblock (POSIX.1-2017, XSH, fcntl(), F_SETFL with O_NONBLOCK)
-abbrev pub nonblock_effect : ℕ → Bool → Process → Option ℕ → State → Effect
-nonblock_effect p on me None S = bad_descriptor p me
-nonblock_effect p on me (Some d) S = flags p me d on (S.descs d)
 
 -- the description, where a descriptor is open
 abbrev pub desc_objects : List ℕ → List Object

@@ -85,9 +85,8 @@ first_answer [] = pos 0
 first_answer (r ∷ rs) = r
 
 abbrev pub concluded : Conclusion → List ℤ → State → State
-concluded (Replies r) rs S = S
 concluded (AnswersPost p) rs S = write_one (SetProc p (noted_if (first_answer rs) (S.procs p))) S
-concluded ListsFailed rs S = S
+concluded conclusion rs S = S
 
 abbrev pub concluding_reply : Conclusion → List Sending → List ℤ → Reply
 concluding_reply (Replies r) ms rs = r

@@ -8,9 +8,9 @@ use Rattle.tx_base.specs.declared.steps.Step.{Step}
 use Rattle.tx_base.specs.declared.steps.Step.TheVariants.{Call as Calls, Deliver, KernelAbort}
 use Rattle.tx_model.specs.State.{Process, State, Sending, Object, Proc}
 use Rattle.tx_model.specs.Effects.{Inside}
-use Rattle.tx_model.specs.Descriptors.{descriptor, named, open_in, listed, pipe_objects, desc_objects, desc_pipe_objects, dup2_objects}
-use Rattle.tx_model.specs.Processes.{fork_objects, children_of, told_to, procs_of, numbered, waitpid_objects}
-use Rattle.tx_model.specs.Sends.{sendable}
+use Rattle.tx_model.specs.Descriptors.{open_in, desc_pipe_objects}
+use Rattle.tx_model.specs.Processes.{children_of, told_to, procs_of, numbered}
+use Rattle.tx_model.specs.Book.{page_of_call, sendable}
 use Rattle.tx_model.specs.Deliveries.{delivered_value, ends_by}
 use Rattle.tx_model.specs.Membership.{Table, inside_by, others_open}
 use Rattle.tx_model.specs.History.{is_other_starter, targets}
@@ -52,40 +52,11 @@ ending_row t p me S =
 
 -- what a call names beside its process
 abbrev pub call_row : Table → ℕ → Call → Process → State → List Object
-call_row t p (call.Map page) me S = []
-call_row t p (call.Unmap page) me S = []
-call_row t p (call.Protect page writable) me S = []
-call_row t p (call.Store address bytes) me S = []
-call_row t p (call.Load address) me S = []
-call_row t p (call.Fork child) me S = fork_objects child.0 me
 call_row t p (call.Exit status) me S = if p == 1 then [] else ending_row t p me S
-call_row t p (call.Waitpid n nohang) me S = waitpid_objects n S
-call_row t p call.Getpid me S = []
-call_row t p call.Getppid me S = []
-call_row t p (call.Setuid u) me S = []
-call_row t p (call.Seteuid u) me S = []
-call_row t p (call.Setgid g) me S = []
-call_row t p (call.Setegid g) me S = []
-call_row t p (call.Pipe q r w) me S = pipe_objects q.0 r.0 w.0
-call_row t p (call.Dup f) me S = desc_objects (listed (named me (descriptor f)))
-call_row t p (call.Dup2 f g) me S = dup2_objects (descriptor f) (descriptor g) me S
-call_row t p (call.Close f) me S = desc_pipe_objects (listed (named me (descriptor f))) S
-call_row t p (call.SetNonblock f on) me S = desc_objects (listed (named me (descriptor f)))
-call_row t p (call.Read f address n) me S = desc_pipe_objects (listed (named me (descriptor f))) S
-call_row t p (call.Write f address n) me S = desc_pipe_objects (listed (named me (descriptor f))) S
 call_row t p (call.Kill n signo) me S = send_row t p (numbered S.width n) (sendable signo)
 call_row t p (call.Sigqueue n signo value) me S = send_row t p (numbered S.width n) (sendable signo)
-call_row t p (call.Sigaction signo action) me S = []
-call_row t p (call.Sigprocmask how set) me S = []
-call_row t p call.Sigpending me S = []
-call_row t p call.Sigreturn me S = []
-call_row t p (call.ConsoleWrite address n) me S = []
-call_row t p (call.Jump point when) me S = []
-call_row t p (call.Keep slot) me S = []
-call_row t p call.SysXbegin me S = []
-call_row t p call.SysXbeginDefer me S = []
 call_row t p call.SysXend me S = commit_row t p [] S
-call_row t p call.SysXabort me S = []
+call_row t p c me S = (page_of_call c).names (record { number = p; process = me; inside = inside_by t (t.marks p); state = S })
 
 -- what a delivery names beside its process: nothing, unless it ends the process
 abbrev pub delivery_row : Table → ℕ → ℕ → Process → State → List Object

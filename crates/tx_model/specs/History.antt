@@ -3,7 +3,7 @@ use Rattle.std.specs.Prelude.{ℕ, Bool, true, false, not, List, [], ◌∷◌, 
 use Rattle.tx_base.specs.declared.steps.Accepted.{Accepted}
 use Rattle.tx_model.specs.State.{State, Sending, Object, Proc, Held, has}
 use Rattle.tx_model.specs.Events.{Event, process_of, actor, effect, objects, run}
-use Rattle.tx_model.specs.Membership.{Table, empty_table, is_member_of, is_live, Begins, Continues, Parks, Forks, Progress, Role, Outside, Within, Commits, Aborts, role, event, table_after}
+use Rattle.tx_model.specs.Membership.{Table, empty_table, is_member_of, is_live, Begins, Progress, Role, Outside, Within, Commits, Aborts, role, event, table_after}
 
 -- a set of starters: a live transaction is named by the number of its starter
 abbrev pub Starters : Type 0
@@ -35,17 +35,14 @@ event_of S e h = event (table_of S h) e.step e.reply
 -- whose transactions are left out of the entries before a step, when those of X are left out after
 -- it: an aborted one is left out back to its begin, a committed one is kept back to its begin
 abbrev pub left_out_before : Role → Starters → Starters
-left_out_before Outside X = X
-left_out_before (Within s part) X = X
 left_out_before (Commits s) X = less_one s X
 left_out_before (Aborts s status) X = with_one s X
+left_out_before role X = X
 
 -- whether the step has an event when the transactions of X are left out
 abbrev pub stays : Role → Starters → Bool
-stays Outside X = true
 stays (Within s part) X = not (X s)
-stays (Commits s) X = true
-stays (Aborts s status) X = true
+stays role X = true
 
 abbrev pub placed : Bool → Event → List Event → List Event
 placed true ev evs = ev ∷ evs
@@ -81,10 +78,8 @@ event_footprint t ev S = objects ev S ++ targets t (actor ev) (effect ev S).send
 
 -- a transaction's first step takes its held sends too
 abbrev pub objects_reserved : Progress → ℕ → List Object → List Object
-objects_reserved Continues s F = F
-objects_reserved Parks s F = F
-objects_reserved (Forks c) s F = F
 objects_reserved (Begins defers) s F = Held s ∷ F
+objects_reserved part s F = F
 
 abbrev pub touched_after : Role → List Object → (ℕ → Object → Bool) → ℕ → Object → Bool
 touched_after Outside F touched s o = touched s o

@@ -1,25 +1,28 @@
+-- In the order in which to read them. What the headline says stands first: the state, the rule book and its small words,
+-- deliveries, posts and events; then who is in which transaction, what is left of a history, what there is to see of it,
+-- and the answer to a step.
 pub mod Numbers
 pub mod SignalSets
 pub mod Memory
 pub mod State
-pub mod StateLaws
 pub mod Posts
 pub mod Effects
-pub mod Pages
-pub mod Identities
-pub mod Scripts
 pub mod Signals
 pub mod Descriptors
-pub mod Transfers
 pub mod Processes
-pub mod Sends
+pub mod Forms
+pub mod Book
 pub mod Deliveries
 pub mod Calls
 pub mod Events
 pub mod Membership
 pub mod History
-pub mod Footprints
 pub mod View
-pub mod FreeNumbers
 pub mod Answer
 pub mod Schedules
+-- What the other promises add: the footprint of a step, and the numbers that are free.
+pub mod Footprints
+pub mod FreeNumbers
+-- First laws, for the proofs above. Nothing here has to be believed.
+pub mod StateLaws
+pub mod BookLaws

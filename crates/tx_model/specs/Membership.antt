@@ -1,14 +1,16 @@
 -- Who is in which transaction, and what a step is to the transactions. Own rules.
-use Rattle.std.specs.Prelude.{ℕ, zero, suc, Bool, true, false, pos, negsuc, Option, Some, None, if◌then◌else◌, ◌==◌}
+use Rattle.std.specs.Prelude.{ℕ, zero, suc, Bool, true, false, pos, Option, Some, None, if◌then◌else◌, ◌==◌}
 use Rattle.tx_base.specs.declared.limits.TheConstants.{ABORTED_BY_CALL}
 use Rattle.tx_base.specs.declared.marks.Mark.{Mark}
 use Rattle.tx_base.specs.declared.steps.Call.{Call}
-use Rattle.tx_base.specs.declared.steps.Call.TheVariants as call
 use Rattle.tx_base.specs.declared.steps.Step.{Step}
 use Rattle.tx_base.specs.declared.steps.Step.TheVariants.{Call as Calls, Deliver, KernelAbort}
 use Rattle.tx_base.specs.declared.steps.Reply.{Reply}
-use Rattle.tx_base.specs.declared.steps.Reply.TheVariants.{Done, Ended, Committed, Aborted, Out, No}
-use Rattle.tx_model.specs.Numbers.{negative}
+use Rattle.tx_base.specs.declared.steps.Reply.TheVariants.{Ended, Committed, Aborted}
+pub use Rattle.tx_model.specs.Forms.{Kind, Ordinary, Forking, Beginning, Leaving, Aborting}
+use Rattle.tx_base.specs.declared.errors.Errno.TheVariants.{InvalidArgument}
+use Rattle.tx_model.specs.Book.{page_of_call}
+use Rattle.tx_model.specs.Numbers.{failing, negative}
 use Rattle.tx_model.specs.State.{put_at}
 use Rattle.tx_model.specs.Effects.{Inside}
 use Rattle.tx_model.specs.Events.{Event, Do, Note, Commit}
@@ -68,66 +70,19 @@ pub data Role : Type 0 where
   -- the abort of the starter's transaction, with its status
   Aborts : ℕ → ℕ → Role
 
-pub data Kind : Type 0 where
-  Ordinary : Kind
-  -- the caller has a child of this number, if the call is accepted
-  Forking : ℕ → Kind
-  Beginning : Bool → Kind
-  Leaving : Kind
-  Aborting : Kind
-
+-- what a call is to transactions, by its page
 abbrev pub kind_of : Call → Kind
-kind_of (call.Map page) = Ordinary
-kind_of (call.Unmap page) = Ordinary
-kind_of (call.Protect page writable) = Ordinary
-kind_of (call.Store address bytes) = Ordinary
-kind_of (call.Load address) = Ordinary
-kind_of (call.Fork child) = Forking child.0
-kind_of (call.Exit status) = Ordinary
-kind_of (call.Waitpid t nohang) = Ordinary
-kind_of call.Getpid = Ordinary
-kind_of call.Getppid = Ordinary
-kind_of (call.Setuid u) = Ordinary
-kind_of (call.Seteuid u) = Ordinary
-kind_of (call.Setgid g) = Ordinary
-kind_of (call.Setegid g) = Ordinary
-kind_of (call.Pipe q r w) = Ordinary
-kind_of (call.Dup f) = Ordinary
-kind_of (call.Dup2 f g) = Ordinary
-kind_of (call.Close f) = Ordinary
-kind_of (call.SetNonblock f on) = Ordinary
-kind_of (call.Read f address n) = Ordinary
-kind_of (call.Write f address n) = Ordinary
-kind_of (call.Kill t signo) = Ordinary
-kind_of (call.Sigqueue t signo value) = Ordinary
-kind_of (call.Sigaction signo action) = Ordinary
-kind_of (call.Sigprocmask how set) = Ordinary
-kind_of call.Sigpending = Ordinary
-kind_of call.Sigreturn = Ordinary
-kind_of (call.ConsoleWrite address n) = Ordinary
-kind_of (call.Jump point when) = Ordinary
-kind_of (call.Keep slot) = Ordinary
-kind_of call.SysXbegin = Beginning false
-kind_of call.SysXbeginDefer = Beginning true
-kind_of call.SysXend = Leaving
-kind_of call.SysXabort = Aborting
+kind_of c = (page_of_call c).kind
 
 -- whether the reply says that the process ended
 abbrev pub says_ended : Reply → Bool
-says_ended (Done r) = false
 says_ended Ended = true
 says_ended (Committed undelivered) = true
-says_ended (Aborted status) = false
-says_ended (Out bytes) = false
-says_ended (No why) = false
+says_ended reply = false
 
 abbrev pub status_in : Reply → ℕ
-status_in (Done r) = 0
-status_in Ended = 0
-status_in (Committed undelivered) = 0
 status_in (Aborted status) = status
-status_in (Out bytes) = 0
-status_in (No why) = 0
+status_in reply = 0
 
 -- the member p ends its part: the last one commits
 abbrev pub member_end_role : Bool → ℕ → Role
@@ -163,16 +118,15 @@ role t (Deliver p signo) r = kind_role t p.0 Ordinary r (t.marks p.0)
 role t (KernelAbort s) r = Aborts s.0 (status_in r)
 
 -- the event that stands for a step, its commit apart: at an abort, the note that its starter is given. Where the call
--- means nothing its process is given -22 (EINVAL)
+-- means nothing its process is given the error
 abbrev pub kind_event : Table → ℕ → Step → Kind → Option Mark → Event
-kind_event t p step Ordinary mark = Do step (inside_by t mark)
-kind_event t p step (Forking c) mark = Do step (inside_by t mark)
 kind_event t p step (Beginning defers) None = Note p (pos 0)
-kind_event t p step (Beginning defers) (Some m) = Note p (negsuc 21)
-kind_event t p step Leaving None = Note p (negsuc 21)
+kind_event t p step (Beginning defers) (Some m) = Note p (failing InvalidArgument)
+kind_event t p step Leaving None = Note p (failing InvalidArgument)
 kind_event t p step Leaving (Some m) = Note p (pos 0)
-kind_event t p step Aborting None = Note p (negsuc 21)
+kind_event t p step Aborting None = Note p (failing InvalidArgument)
 kind_event t p step Aborting (Some m) = Note m.starter.0 (negative called_by_status)
+kind_event t p step kind mark = Do step (inside_by t mark)
 
 abbrev pub step_event : Table → Step → Reply → Event
 step_event t (Calls p call) r = kind_event t p.0 (Calls p call) (kind_of call) (t.marks p.0)
@@ -180,10 +134,8 @@ step_event t (Deliver p signo) r = kind_event t p.0 (Deliver p signo) Ordinary (
 step_event t (KernelAbort s) r = Note s.0 (negative (status_in r))
 
 abbrev pub event_in : Role → Event → Event
-event_in Outside ev = ev
-event_in (Within s part) ev = ev
 event_in (Commits s) ev = Commit s ev
-event_in (Aborts s status) ev = ev
+event_in role ev = ev
 
 -- the plain event that stands for the step
 abbrev pub event : Table → Step → Reply → Event

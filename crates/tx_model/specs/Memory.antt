@@ -1,5 +1,5 @@
 -- The memory of a process: sixteen pages of 64 bytes each. Own rules.
-use Rattle.std.specs.Prelude.{ℕ, zero, suc, ◌+◌, ◌/◌, ◌%◌, ℤ, Bool, true, false, List, [], ◌∷◌, Option, Some, None, is_none, if◌then◌else◌, nat_lt, ◌==◌, replicate, slice_index, slice_index_or, slice_set}
+use Rattle.std.specs.Prelude.{ℕ, zero, suc, ◌+◌, ◌/◌, ◌%◌, ℤ, Bool, true, false, List, [], ◌∷◌, Option, Some, None, if◌then◌else◌, nat_lt, ◌==◌, replicate, slice_index, slice_index_or, slice_set}
 use Rattle.tx_base.specs.declared.limits.TheConstants.{PAGES, PAGE_BYTES, ADDRESSES}
 pub use Rattle.tx_model.specs.Numbers.{below}
 
@@ -16,11 +16,6 @@ Memory = List (Option PageView)
 abbrev pub page_at : Memory → ℕ → Option PageView
 page_at memory n = slice_index_or memory n None
 
--- whether a page number has nothing
-abbrev pub is_vacant : Memory → Option ℕ → Bool
-is_vacant memory None = false
-is_vacant memory (Some n) = is_none (page_at memory n)
-
 -- whether a page may be written
 abbrev pub is_writable : Option PageView → Bool
 is_writable None = false
@@ -34,26 +29,6 @@ is_mapped (Some page) = true
 -- a page of zeros that may be written
 abbrev pub zero_page : PageView
 zero_page = record { writable = true; bytes = replicate PAGE_BYTES 0 }
-
--- memory with what a page number has replaced
-abbrev pub with_page : Memory → Option ℕ → Option PageView → Memory
-with_page memory None page = memory
-with_page memory (Some n) page = slice_set memory n page
-
--- the page with the flag
-abbrev pub with_flag : Bool → Option PageView → Option PageView
-with_flag writable None = None
-with_flag writable (Some page) = Some (record { writable = writable; bytes = page.bytes })
-
--- what a page number has, with the flag
-abbrev pub flagged : Bool → Memory → Option ℕ → Option PageView
-flagged writable memory None = None
-flagged writable memory (Some n) = with_flag writable (page_at memory n)
-
--- whether a page number is one of a mapped page
-abbrev pub has_page : Memory → Option ℕ → Bool
-has_page memory None = false
-has_page memory (Some n) = is_mapped (page_at memory n)
 
 -- the page with the byte at an offset replaced
 abbrev pub with_byte : ℕ → ℕ → Option PageView → Option PageView

@@ -1,6 +1,8 @@
 -- The posting rule: what a signal that is sent does to its target (POSIX.1-2017, XSH, Signal Concepts and kill()).
-use Rattle.std.specs.Prelude.{ℕ, Bool, true, ◌||◌, List, [], ◌∷◌, ◌++◌, length, ℤ, pos, negsuc, Option, Some, None, is_some, if◌then◌else◌, nat_lt, ◌==◌}
+use Rattle.std.specs.Prelude.{ℕ, Bool, true, ◌||◌, List, [], ◌∷◌, ◌++◌, length, ℤ, pos, Option, Some, None, is_some, if◌then◌else◌, nat_lt, ◌==◌}
+use Rattle.tx_base.specs.declared.errors.Errno.TheVariants.{NoSuchProcess, NotPermitted, TryAgain}
 use Rattle.tx_base.specs.declared.limits.TheConstants.{QUEUED}
+use Rattle.tx_model.specs.Numbers.{failing}
 use Rattle.tx_model.specs.SignalSets.{kill_signo, is_realtime, with_one_more}
 use Rattle.tx_model.specs.State.{Ids, Process, Sender, Sending, State, SetProc, write_one}
 pub use Rattle.tx_model.specs.SignalSets.{kill_signo, is_realtime}
@@ -34,14 +36,14 @@ abbrev pub received : Sending → Option Process → Option Process
 received m None = None
 received m (Some q) = Some (if may_signal m.from q.ids then (if is_quiet m q then q else with_signal m q) else q)
 
--- the answer of a post that is let through: EAGAIN (11) at a full queue
+-- the answer of a post that is let through
 abbrev pub room_answer : Sending → Process → ℤ
-room_answer m q = if is_quiet m q then pos 0 else (if is_realtime m.signo then (if has_room q then pos 0 else negsuc 10) else pos 0)
+room_answer m q = if is_quiet m q then pos 0 else (if is_realtime m.signo then (if has_room q then pos 0 else failing TryAgain) else pos 0)
 
--- the answer of a post: ESRCH (3) where there is no such process, EPERM (1) where it is not permitted
+-- the answer of a post
 abbrev pub post_answer : Sending → Option Process → ℤ
-post_answer m None = negsuc 2
-post_answer m (Some q) = if may_signal m.from q.ids then room_answer m q else negsuc 0
+post_answer m None = failing NoSuchProcess
+post_answer m (Some q) = if may_signal m.from q.ids then room_answer m q else failing NotPermitted
 
 abbrev pub post : Sending → State → State
 post m S = write_one (SetProc m.target (received m (S.procs m.target))) S

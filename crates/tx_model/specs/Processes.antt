@@ -1,14 +1,11 @@
 -- Children, the end of a process, and the wait for it (POSIX.1-2017, XSH, fork(), _exit() and waitpid()).
-use Rattle.std.specs.Prelude.{ℕ, zero, suc, ◌+◌, ◌-◌, ◌%◌, Bool, List, [], ◌∷◌, ◌++◌, ℤ, pos, negsuc, Option, Some, None, if◌then◌else◌, ◌==◌, replicate, slice_set}
+use Rattle.std.specs.Prelude.{ℕ, zero, suc, ◌+◌, ◌-◌, ◌%◌, List, [], ◌∷◌, ◌++◌, ℤ, pos, negsuc, Option, Some, None, if◌then◌else◌, ◌==◌, replicate, slice_set}
 use Rattle.tx_base.specs.declared.limits.TheConstants.{DESCRIPTORS}
-use Rattle.tx_base.specs.declared.errors.Errno.TheVariants.{NotPermitted, NoChild}
-use Rattle.tx_base.specs.declared.steps.Refusal.TheVariants.{NumberTaken, Wait}
 use Rattle.tx_base.specs.declared.steps.Reply.TheVariants.{Ended}
-use Rattle.tx_model.specs.Numbers.{failing}
 use Rattle.tx_model.specs.Memory.{no_memory}
 use Rattle.tx_model.specs.SignalSets.{child_signo}
 use Rattle.tx_model.specs.State.{Process, State, Sending, Object, Proc, Held, Write, SetProc, SetHeld, write_one, has_parent, first_registers, usual_actions, is_between}
-use Rattle.tx_model.specs.Effects.{Inside, Effect, Replies, idle, next_point, done, done_with}
+use Rattle.tx_model.specs.Effects.{Inside, Effect, Replies, next_point}
 use Rattle.tx_model.specs.Descriptors.{open_in, released, desc_objects, desc_pipe_objects}
 
 -- the child: pending signals apart, a copy of its parent, with the answer 0 at the point after the call
@@ -19,14 +16,6 @@ child_of p me = record me {
   pending = 0;
   queued = [];
 }
-
-abbrev pub forks : ℕ → ℕ → Process → Option Process → Effect
-forks p c me None = done_with (SetProc c (Some (child_of p me)) ∷ []) p (pos c) me
-forks p c me (Some other) = idle NumberTaken
-
--- fork: the schedule chooses the child's number
-abbrev pub fork_effect : ℕ → ℕ → Process → State → Effect
-fork_effect p c me S = forks p c me (S.procs c)
 
 abbrev pub fork_objects : ℕ → Process → List Object
 fork_objects c me = Proc c ∷ desc_objects (open_in me.descriptors)
@@ -85,14 +74,12 @@ abbrev pub telling : Option Inside → ℕ → Telling
 telling inside parent = if parent == 1 then NotTold else telling_by inside parent
 
 abbrev pub told_at_once : Telling → ℕ → List Sending
-told_at_once NotTold parent = []
 told_at_once AtOnce parent = told_to parent ∷ []
-told_at_once (AtCommit s) parent = []
+told_at_once telling parent = []
 
 abbrev pub told_at_commit : Telling → ℕ → State → List Write
-told_at_commit NotTold parent S = []
-told_at_commit AtOnce parent S = []
 told_at_commit (AtCommit s) parent S = SetHeld s (S.held s ++ told_to parent ∷ []) ∷ []
+told_at_commit telling parent S = []
 
 -- the end of a process, by its exit or by a signal: its children get parent 1, its descriptors are closed, and its parent is told
 abbrev pub ending : Option Inside → ℕ → ℕ → Process → State → Effect
@@ -121,10 +108,6 @@ abbrev pub exit_status : ℤ → ℕ
 exit_status (pos n) = n % 256
 exit_status (negsuc n) = 255 - n % 256
 
--- exit: process 1 does not end (own rule)
-abbrev pub exit_effect : Option Inside → ℕ → ℤ → Process → State → Effect
-exit_effect inside p v me S = if p == 1 then done p (failing NotPermitted) me else ending inside p (exit_status v) me S
-
 abbrev pub exit_objects : Option Inside → ℕ → Process → State → List Object
 exit_objects inside p me S = if p == 1 then [] else ending_objects inside p me S
 
@@ -137,23 +120,6 @@ abbrev pub with_status : ℕ → Process → Process
 with_status status me = record me {
   registers = record { point = me.registers.point; ret = me.registers.ret; slots = slice_set me.registers.slots 0 (pos status) };
 }
-
--- the wait for a child that runs, or that ended with a status
-abbrev pub waits_by : ℕ → ℕ → Bool → Process → Option ℕ → Effect
-waits_by p t nohang me None = if nohang then done p (pos 0) me else idle Wait
-waits_by p t nohang me (Some status) = done_with (SetProc t None ∷ []) p (pos t) (with_status status me)
-
-abbrev pub waits_for : ℕ → ℕ → Bool → Process → Option Process → Effect
-waits_for p t nohang me None = done p (failing NoChild) me
-waits_for p t nohang me (Some q) = if q.parent == p then waits_by p t nohang me q.status else done p (failing NoChild) me
-
-abbrev pub waits_at : ℕ → Option ℕ → Bool → Process → State → Effect
-waits_at p None nohang me S = done p (failing NoChild) me
-waits_at p (Some t) nohang me S = waits_for p t nohang me (S.procs t)
-
--- waitpid: an ended child is removed
-abbrev pub waitpid_effect : ℕ → ℤ → Bool → Process → State → Effect
-waitpid_effect p t nohang me S = waits_at p (numbered S.width t) nohang me S
 
 abbrev pub numbered_objects : Option ℕ → List Object
 numbered_objects None = []

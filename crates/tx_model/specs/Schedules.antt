@@ -2,7 +2,7 @@
 use Rattle.std.specs.Prelude.{List, [], ◌∷◌}
 use Rattle.tx_base.specs.declared.steps.Accepted.{Accepted}
 use Rattle.tx_base.specs.declared.steps.Reply.{Reply}
-use Rattle.tx_base.specs.declared.steps.Reply.TheVariants.{Done, Ended, Committed, Aborted, Out, No}
+use Rattle.tx_base.specs.declared.steps.Reply.TheVariants.{No}
 use Rattle.tx_base.specs.declared.steps.Step.{Step}
 use Rattle.tx_model.specs.State.{State}
 use Rattle.tx_model.specs.View.{view}
@@ -11,11 +11,7 @@ use Rattle.tx_model.specs.Answer.{answer}
 -- the history with the step, if it was accepted
 abbrev pub recorded : List Accepted → Step → Reply → List Accepted
 recorded h step (No why) = h
-recorded h step (Done r) = record { step = step; reply = Done r } ∷ h
-recorded h step Ended = record { step = step; reply = Ended } ∷ h
-recorded h step (Committed undelivered) = record { step = step; reply = Committed undelivered } ∷ h
-recorded h step (Aborted status) = record { step = step; reply = Aborted status } ∷ h
-recorded h step (Out bytes) = record { step = step; reply = Out bytes } ∷ h
+recorded h step reply = record { step = step; reply = reply } ∷ h
 
 -- the history of a schedule that follows one, from a start state
 unfoldable pub history_of : State → List Accepted → List Step → List Accepted

@@ -1,5 +1,5 @@
 -- The kernel's state, what is written into it, and what two states have in common.
-use Rattle.std.specs.Prelude.{◌≡◌, ◌≢◌, ℕ, zero, suc, Bool, true, false, List, [], ◌∷◌, Option, Some, None, ℤ, pos, if◌then◌else◌, nat_lt, ◌==◌, is_some, replicate, slice_index_or}
+use Rattle.std.specs.Prelude.{ℕ, zero, suc, Bool, true, false, List, [], ◌∷◌, Option, Some, None, ℤ, pos, if◌then◌else◌, nat_lt, ◌==◌, is_some, replicate, slice_index_or}
 use Rattle.tx_base.specs.declared.limits.TheConstants.{DESCRIPTORS, SIGNALS, SLOTS}
 use Rattle.tx_base.specs.declared.names.Regs.{Regs}
 use Rattle.tx_base.specs.declared.signals.Action.{Action}
@@ -124,52 +124,16 @@ abbrev pub side_in : ℕ → Option Description → Option Side
 side_in k None = None
 side_in k (Some d) = if d.pipe == k then Some d.side else None
 
--- the two states have the same at the object
-abbrev pub AgreePart : State → State → Object → Type 0
-AgreePart S R (Proc n) = S.procs n ≡ R.procs n
-AgreePart S R (Desc n) = S.descs n ≡ R.descs n
-AgreePart S R (Pipe n) = S.pipes n ≡ R.pipes n
-AgreePart S R (Held n) = S.held n ≡ R.held n
-
--- the two states have the same family of the object: the children of a process (those of process 1
--- apart), the descriptors that name a description, the ends of a pipe
-abbrev pub AgreeFamily : State → State → Object → Type 0
-AgreeFamily S R (Proc n) = n ≢ 1 → (q : ℕ) → has_parent n (S.procs q) ≡ has_parent n (R.procs q)
-AgreeFamily S R (Desc n) = (q f : ℕ) → names_at n f (S.procs q) ≡ names_at n f (R.procs q)
-AgreeFamily S R (Pipe n) = (d : ℕ) → side_in n (S.descs d) ≡ side_in n (R.descs d)
-AgreeFamily S R (Held n) = Unit {0}
-
--- the two states are the same at the object, its family and the width included
-pub record AgreeAt (S R : State) (o : Object) : Type 0 where
-  pub width : S.width ≡ R.width
-  pub part : AgreePart S R o
-  pub family : AgreeFamily S R o
-
 abbrev pub same_object : Object → Object → Bool
 same_object (Proc n) (Proc m) = n == m
-same_object (Proc n) (Desc m) = false
-same_object (Proc n) (Pipe m) = false
-same_object (Proc n) (Held m) = false
-same_object (Desc n) (Proc m) = false
 same_object (Desc n) (Desc m) = n == m
-same_object (Desc n) (Pipe m) = false
-same_object (Desc n) (Held m) = false
-same_object (Pipe n) (Proc m) = false
-same_object (Pipe n) (Desc m) = false
 same_object (Pipe n) (Pipe m) = n == m
-same_object (Pipe n) (Held m) = false
-same_object (Held n) (Proc m) = false
-same_object (Held n) (Desc m) = false
-same_object (Held n) (Pipe m) = false
 same_object (Held n) (Held m) = n == m
+same_object one other = false
 
 unfoldable pub has : Object → List Object → Bool
 has o [] = false
 has o (x ∷ xs) = if same_object o x then true else has o xs
-
--- the two states are the same at each of the objects
-abbrev pub AgreeOn : List Object → State → State → Type 0
-AgreeOn os S R = (o : Object) → has o os ≡ true → AgreeAt S R o
 
 abbrev pub root_ids : Ids
 root_ids = record { real_user = 0; effective_user = 0; saved_user = 0; real_group = 0; effective_group = 0; saved_group = 0 }

@@ -1,8 +1,34 @@
--- The first laws of states: a map with one place changed, and states that have the same everywhere. Own rules.
-use Rattle.std.specs.Prelude.{◌≡◌, ◌≢◌, ℕ, Bool, true, false, ◌⊎◌, ◌==◌, if◌then◌else◌}
+-- When two states agree at an object, and the first laws of states: a map with one place changed, and states that have the
+-- same everywhere. Own rules.
+use Rattle.std.specs.Prelude.{◌≡◌, ◌≢◌, ℕ, Bool, true, false, List, ◌⊎◌, ◌==◌, if◌then◌else◌}
 use Rattle.std.proofs.Common.{refl, inl, inr, eq-eqb, eqb-true}
 use Rattle.std.proofs.lemmas.Bool.{both_ways}
-use Rattle.tx_model.specs.State.{State, Object, Proc, Desc, Pipe, Held, put_at, AgreePart}
+use Rattle.tx_model.specs.State.{State, Object, Proc, Desc, Pipe, Held, put_at, has, has_parent, names_at, side_in}
+
+-- the two states have the same at the object
+abbrev pub AgreePart : State → State → Object → Type 0
+AgreePart S R (Proc n) = S.procs n ≡ R.procs n
+AgreePart S R (Desc n) = S.descs n ≡ R.descs n
+AgreePart S R (Pipe n) = S.pipes n ≡ R.pipes n
+AgreePart S R (Held n) = S.held n ≡ R.held n
+
+-- the two states have the same family of the object: the children of a process (those of process 1
+-- apart), the descriptors that name a description, the ends of a pipe
+abbrev pub AgreeFamily : State → State → Object → Type 0
+AgreeFamily S R (Proc n) = n ≢ 1 → (q : ℕ) → has_parent n (S.procs q) ≡ has_parent n (R.procs q)
+AgreeFamily S R (Desc n) = (q f : ℕ) → names_at n f (S.procs q) ≡ names_at n f (R.procs q)
+AgreeFamily S R (Pipe n) = (d : ℕ) → side_in n (S.descs d) ≡ side_in n (R.descs d)
+AgreeFamily S R (Held n) = Unit {0}
+
+-- the two states are the same at the object, its family and the width included
+pub record AgreeAt (S R : State) (o : Object) : Type 0 where
+  pub width : S.width ≡ R.width
+  pub part : AgreePart S R o
+  pub family : AgreeFamily S R o
+
+-- the two states are the same at each of the objects
+abbrev pub AgreeOn : List Object → State → State → Type 0
+AgreeOn os S R = (o : Object) → has o os ≡ true → AgreeAt S R o
 
 -- what is put in a place is there
 pub put_here : {A : Type 0} (f : ℕ → A) (k : ℕ) (v : A) → put_at f k v k ≡ v

@@ -7,7 +7,7 @@ use Rattle.tx_base.specs.declared.steps.Accepted.{Accepted}
 use Rattle.tx_base.specs.declared.steps.Reply.{Reply}
 use Rattle.tx_base.specs.declared.steps.Reply.TheVariants.{Aborted}
 use Rattle.tx_base.specs.declared.steps.Step.{Step}
-use Rattle.tx_base.specs.declared.steps.Step.TheVariants.{Call as Calls, Deliver, KernelAbort}
+use Rattle.tx_base.specs.declared.steps.Step.TheVariants.{KernelAbort}
 use Rattle.tx_model.specs.State.{Process, State, Sending, Object}
 use Rattle.tx_model.specs.SignalSets.{kill_signo}
 use Rattle.tx_model.specs.Effects.{send_answers}
@@ -42,15 +42,13 @@ kernel_status V s = if is_doomed V s then ABORTED_DOOMED else ABORTED_BY_KERNEL
 
 -- the status of the abort that the step is
 abbrev pub abort_status : View → Step → ℕ
-abort_status V (Calls p call) = called_by_status
-abort_status V (Deliver p signo) = called_by_status
 abort_status V (KernelAbort s) = kernel_status V s.0
+abort_status V step = called_by_status
 
--- the reply before it is known whether the step commits
+-- the reply before it is known whether the step commits: at the kernel's abort its status, else that of its event
 abbrev pub first_reply : View → Step → Reply
-first_reply V (Calls p call) = reply_of (step_event V.table (Calls p call) (Aborted called_by_status)) (present V)
-first_reply V (Deliver p signo) = reply_of (step_event V.table (Deliver p signo) (Aborted called_by_status)) (present V)
 first_reply V (KernelAbort s) = Aborted (kernel_status V s.0)
+first_reply V step = reply_of (step_event V.table step (Aborted (abort_status V step))) (present V)
 
 -- what the step is to the transactions, and its event, on the view
 abbrev pub role_on : View → Step → Role

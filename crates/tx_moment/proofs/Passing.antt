@@ -1,8 +1,8 @@
 -- An event of another may be made before the events of a transaction as well as after them.
 use Rattle.std.proofs.Common.{◌≡◌, ◌≢◌, ℕ, Bool, true, false, List, [], ◌∷◌, ◌++◌, Some, None, is_some, refl, sym, ap, ◌∙◌, subst, inl, inr}
 use Rattle.std.proofs.lemmas.Bool.{both_ways, cases_Bool, false_from_ne_true, true_from_ne_false}
-use Rattle.tx_model.specs.State.{Process, State, Sending, Object, Proc, AgreePart, AgreeAt, AgreeOn, same_object, has}
-use Rattle.tx_model.specs.StateLaws.{state_ext}
+use Rattle.tx_model.specs.State.{Process, State, Sending, Object, Proc, same_object, has}
+use Rattle.tx_model.specs.StateLaws.{state_ext, AgreePart, AgreeAt, AgreeOn}
 use Rattle.tx_model.specs.Posts.{posts, answers}
 use Rattle.tx_model.specs.Effects.{Effect, before_sends, send_answers, applied}
 use Rattle.tx_model.specs.Events.{Event, effect, objects, after, reply_of, run}

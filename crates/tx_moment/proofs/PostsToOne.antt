@@ -2,7 +2,8 @@
 use Rattle.std.proofs.Common.{◌≡◌, ℕ, Bool, true, false, ◌||◌, List, [], ◌∷◌, ◌++◌, length, pos, negsuc, Option, Some, None, is_some, is_none, if◌then◌else◌, nat_lt, ◌==◌, refl, sym, ap, ◌∙◌, inl, inr, eqb-true}
 use Rattle.tx_base.specs.declared.limits.TheConstants.{QUEUED}
 use Rattle.tx_model.specs.SignalSets.{is_realtime, with_one_more}
-use Rattle.tx_model.specs.State.{Process, Sending, State, Object, Proc, Desc, Pipe, Held, AgreePart, same_object}
+use Rattle.tx_model.specs.State.{Process, Sending, State, Object, Proc, Desc, Pipe, Held, same_object}
+use Rattle.tx_model.specs.StateLaws.{AgreePart}
 use Rattle.tx_model.specs.Posts.{may_signal, is_quiet, with_signal, room_answer, post_answer, received, post, posts, answers}
 use Rattle.tx_model.specs.Answer.{is_running}
 use Rattle.tx_laws.specs.Fits.{IsIn}

@@ -1,7 +1,7 @@
 -- Other signals pending at one process, carried through writes, posts and conclusions.
 use Rattle.std.proofs.Common.{◌≡◌, ℕ, Bool, true, false, ◌||◌, List, [], ◌∷◌, ℤ, Option, Some, None, is_some, if◌then◌else◌, ◌==◌, refl, sym, ap, ap₂, ◌∙◌, eqb-true}
-use Rattle.tx_model.specs.State.{Process, State, Sending, Object, Proc, Desc, Pipe, Held, Write, SetProc, SetDesc, SetPipe, SetHeld, write_one, written, AgreePart}
-use Rattle.tx_model.specs.StateLaws.{state_ext}
+use Rattle.tx_model.specs.State.{Process, State, Sending, Object, Proc, Desc, Pipe, Held, Write, SetProc, SetDesc, SetPipe, SetHeld, write_one, written}
+use Rattle.tx_model.specs.StateLaws.{state_ext, AgreePart}
 use Rattle.tx_model.specs.Posts.{received, post_answer, post, posts, answers}
 use Rattle.tx_model.specs.Effects.{Conclusion, Replies, AnswersPost, ListsFailed, Effect, noted, noted_if, first_answer, concluded, send_answers, applied}
 use Rattle.tx_laws.specs.OneMoment.{is_sent_to}

@@ -1,7 +1,7 @@
 -- Other signals pending at one process change no other part and no family. Nor does an event change the family of anything but its objects.
 use Rattle.std.proofs.Common.{◌≡◌, ℕ, Bool, true, false, List, [], ◌∷◌, ℤ, Option, Some, None, is_some, if◌then◌else◌, ◌==◌, refl, sym, ap, ◌∙◌, eqb-true}
-use Rattle.tx_model.specs.State.{Process, Sending, State, Object, Proc, Desc, Pipe, Held, written, put_at, has_parent, names_at, AgreePart, AgreeFamily, same_object, has}
-use Rattle.tx_model.specs.StateLaws.{put_here, state_ext}
+use Rattle.tx_model.specs.State.{Process, Sending, State, Object, Proc, Desc, Pipe, Held, written, put_at, has_parent, names_at, same_object, has}
+use Rattle.tx_model.specs.StateLaws.{put_here, state_ext, AgreePart, AgreeFamily}
 use Rattle.tx_model.specs.Posts.{received, post, posts}
 use Rattle.tx_model.specs.Effects.{Conclusion, Replies, AnswersPost, ListsFailed, Effect, noted_if, first_answer, concluded, send_answers}
 use Rattle.tx_model.specs.Events.{Event, effect, objects, after}

@@ -2,8 +2,8 @@
 use Rattle.std.proofs.Common.{◌≡◌, inl, inr, ℕ, Bool, true, false, not, ◌&&◌, List, [], ◌∷◌, Some, None, if◌then◌else◌, ◌==◌, refl, sym, ap, ◌∙◌, subst, eq-eqb, eqb-true}
 use Rattle.std.proofs.lemmas.Bool.{both_ways, not-true}
 use Rattle.tx_base.specs.declared.steps.Accepted.{Accepted}
-use Rattle.tx_model.specs.State.{State, Object, AgreePart}
-use Rattle.tx_model.specs.StateLaws.{put_cases, state_ext}
+use Rattle.tx_model.specs.State.{State, Object}
+use Rattle.tx_model.specs.StateLaws.{put_cases, state_ext, AgreePart}
 use Rattle.tx_model.specs.Events.{process_of, run}
 use Rattle.tx_model.specs.Membership.{Table, is_of, is_live, is_member_of, Progress, Continues, Parks, Forks, Begins, Role, Outside, Within, Commits, Aborts, parked, defers_in, new_mark, unmarked, marks_after}
 use Rattle.tx_model.specs.History.{Starters, with_one, table_of, role_in, event_of, without}

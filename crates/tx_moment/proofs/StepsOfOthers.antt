@@ -2,7 +2,8 @@
 use Rattle.std.proofs.Common.{◌≡◌, inl, inr, ◌⊎◌, ℕ, Bool, true, false, List, ◌∷◌, ℤ, None, if◌then◌else◌, ◌==◌, refl, sym, ap, ◌∙◌, subst, eq-eqb, eqb-true}
 use Rattle.std.proofs.lemmas.Bool.{both_ways, cases_Bool, not-true}
 use Rattle.tx_base.specs.declared.steps.Accepted.{Accepted}
-use Rattle.tx_model.specs.State.{State, Sending, Object, Proc, AgreeOn, same_object, has}
+use Rattle.tx_model.specs.State.{State, Sending, Object, Proc, same_object, has}
+use Rattle.tx_model.specs.StateLaws.{AgreeOn}
 use Rattle.tx_model.specs.Effects.{Effect, send_answers}
 use Rattle.tx_model.specs.Events.{Event, Note, process_of, actor, note_effect, effect, objects, run}
 use Rattle.tx_model.specs.Membership.{is_of, is_member_of, is_live, Progress, Continues, Parks, Forks, Begins, Role, Outside, Within, Commits, Aborts}

@@ -5,7 +5,8 @@ use Rattle.tx_base.specs.declared.steps.Accepted.{Accepted}
 use Rattle.tx_base.specs.declared.steps.Reply.{Reply}
 use Rattle.tx_base.specs.declared.steps.Step.{Step}
 use Rattle.tx_base.specs.declared.steps.Step.TheVariants.{Call as Calls, Deliver, KernelAbort}
-use Rattle.tx_model.specs.State.{Process, State, Sending, Object, Proc, AgreeOn, has}
+use Rattle.tx_model.specs.State.{Process, State, Sending, Object, Proc, has}
+use Rattle.tx_model.specs.StateLaws.{AgreeOn}
 use Rattle.tx_model.specs.Effects.{Effect}
 use Rattle.tx_model.specs.Events.{Event, Note, process_of, actor, effect, objects, reply_of}
 use Rattle.tx_model.specs.Membership.{Table, is_of, is_member_of, is_live, unmarked, others_open, Progress, Continues, Parks, Forks, Begins, Role, Within, Kind, Ordinary, Forking, Beginning, Leaving, Aborting, kind_of, says_ended, member_end_role, ordinary_role, kind_role, role, kind_event, step_event, event, event_in}

@@ -1,25 +1,29 @@
 -- What a call of a running process does is the same, whatever signals are pending at one process.
-use Rattle.std.proofs.Common.{◌≡◌, ℕ, zero, suc, ◌+◌, Bool, true, false, List, [], ◌∷◌, ◌++◌, length, ℤ, pos, Option, Some, None, is_some, if◌then◌else◌, nat_lt, ◌==◌, min, take, drop, refl, sym, ap, ap₂, ◌∙◌, subst, eqb-true}
+use Rattle.std.proofs.Common.{◌≡◌, ℕ, Bool, true, false, not, ◌&&◌, ◌||◌, List, [], ◌∷◌, ◌++◌, length, ℤ, pos, Option, Some, None, is_some, if◌then◌else◌, nat_lt, ◌==◌, ◌+◌, min, take, refl, sym, ap, ap₂, ◌∙◌, subst, eqb-true}
+use Rattle.tx_base.specs.Signals.{bits_of}
+use Rattle.tx_base.specs.declared.errors.Errno.{Errno}
+use Rattle.tx_base.specs.declared.errors.Errno.TheVariants.{NotPermitted, NoChild, InvalidArgument, BrokenPipe, BadDescriptor}
 use Rattle.tx_base.specs.declared.limits.TheConstants.{CONSOLE_BYTES, DESCRIPTIONS, HELD_SENDS, LAST_POINT, PIPE_BYTES, SLOTS}
-use Rattle.tx_base.specs.declared.errors.Errno.TheVariants.{NotPermitted, NoSuchProcess, NoChild, TryAgain, BadAddress, InvalidArgument, BrokenPipe, BadDescriptor, TooManyDescriptors}
 use Rattle.tx_base.specs.declared.steps.Call.{Call}
 use Rattle.tx_base.specs.declared.steps.Call.TheVariants as call
-use Rattle.tx_base.specs.declared.steps.When.{When}
-use Rattle.tx_model.specs.Numbers.{below, failing}
-use Rattle.tx_model.specs.Memory.{is_good, is_mapped, is_writable, stored, bytes_at, address_of}
-use Rattle.tx_model.specs.Pages.{page_of, map_page, unmap_page, protect_page, store_bytes, load_byte, remembers, Remembered}
-use Rattle.tx_model.specs.Identities.{id_of, set_user, set_effective_user, set_group, set_effective_group, Identified}
-use Rattle.tx_model.specs.State.{Process, Side, ReadSide, WriteSide, Description, State, Sending, Frame, Object, Write, SetProc, SetDesc, SetPipe, SetHeld, write_one}
-use Rattle.tx_model.specs.Effects.{Replies, Effect, Inside, Own, noted, answers_with, own_effect, done, done_with}
-use Rattle.tx_model.specs.Scripts.{closed_inside, does_jump, last_ret, with_kept, identifies, jumps, keeps_at, shows, writes_console}
-use Rattle.tx_model.specs.Signals.{Disposition, Ignored, Fatal, Caught, acts, disposition, known, masks, newest, returns, tells_pending}
-use Rattle.tx_model.specs.Descriptors.{descriptor, named, listed, lowest_free, with_descriptor, with_two_slots, new_side, is_pipe_in_use, opens_at, opens_from, pipe_effect, dups_to, dup_effect, dup2_named, dup2_effect, closes, close_effect, flags, nonblock_effect, gives_up, released, open_in, other_than, dup2_objects, desc_objects, pipe_list, desc_pipe_objects}
-use Rattle.tx_model.specs.Transfers.{waits, drains, reads, read_by_side, read_described, read_effect, has_reader, has_writer, is_read_side, is_write_side, bytes_in, puts, breaks, writes, write_by_side, write_described, write_effect}
-use Rattle.tx_model.specs.Processes.{child_of, forks, fork_effect, ended, children_of, orphaned, Telling, NotTold, AtOnce, AtCommit, telling, told_at_once, told_at_commit, ending, ending_objects, procs_of, held_objects, exit_status, exit_effect, with_status, waits_by, waits_for, waits_at, waitpid_effect, numbered}
-use Rattle.tx_model.specs.Sends.{sendable, sent_by, sent_by_members, hands_out, sends_signal, send_effect}
-use Rattle.tx_model.specs.Deliveries.{relieved, caught, is_full, killed_status, acts_on, is_deferred, action_at, delivers, delivered_value, delivery_effect, ends_by, delivery_objects}
-use Rattle.tx_model.specs.Calls.{call_effect, call_objects}
+use Rattle.tx_base.specs.declared.steps.Refusal.{Refusal}
+use Rattle.tx_base.specs.declared.steps.Refusal.TheVariants.{NumberTaken, Wait}
+use Rattle.tx_base.specs.declared.steps.Reply.{Reply}
 use Rattle.tx_base.specs.declared.steps.Reply.TheVariants.{Done, Ended}
+use Rattle.tx_model.specs.Numbers.{below, failing}
+use Rattle.tx_model.specs.Memory.{Memory, page_at, is_good, is_mapped, is_writable, stored, loaded, address_of}
+use Rattle.tx_model.specs.Book.{page_of, id_of, is_privileged, is_own_user, is_own_group, does_jump, last_ret, stands_at, with_kept, has_reader, has_writer, is_read_side, is_write_side, bytes_in, breaks, sendable, sent_by_members, page_of_call, with_memory, with_ids, gives_up, of_side, described, end_at, is_empty, read, write, fork, exit, waitpid, holder_of, sigqueue, sigaction, sigpending}
+use Rattle.tx_model.specs.State.{Ids, Process, Side, State, Object, Write, SetProc, write_one}
+use Rattle.tx_model.specs.Effects.{Replies, Effect, Inside, Own, noted, answers_with, own_effect, done, done_with}
+use Rattle.tx_model.specs.Signals.{Disposition, Ignored, Fatal, Caught, disposition, newest, restored, masked, is_ignored, with_action, discarded}
+use Rattle.tx_model.specs.SignalSets.{maskable}
+use Rattle.tx_model.specs.Descriptors.{descriptor, named, listed, lowest_free, with_descriptor, with_two_slots, is_pipe_in_use, released, open_in, other_than, dup2_objects, desc_objects, pipe_list, desc_pipe_objects}
+use Rattle.tx_model.specs.Processes.{child_of, ended, children_of, orphaned, Telling, NotTold, AtOnce, AtCommit, telling, told_at_once, told_at_commit, ending, ending_objects, procs_of, held_objects, exit_status, with_status, numbered}
+use Rattle.tx_model.specs.Deliveries.{relieved, caught, is_full, killed_status, acts_on, is_deferred, action_at, delivers, delivered_value, delivery_effect, ends_by, delivery_objects}
+use Rattle.tx_model.specs.Forms.{Caller, Outcome, fails, answers, changes, stands, refuses, does, effect_of, ◌or◌, ◌when◌}
+use Rattle.tx_model.specs.Calls.{call_effect, call_objects}
+use Rattle.tx_model.specs.BookLaws.{sigaction_lines}
+use Rattle.tx_laws.proofs.OfPages.{caller, both_or, both_when}
 use Rattle.tx_laws.specs.OneMoment.{call_looks}
 use Rattle.tx_moment.specs.Unseen.{Signals, resignalled, resignalled_if, with_signals}
 use Rattle.tx_moment.proofs.Resigned.{resign, resigned_all, resigned, seen}
@@ -65,16 +69,6 @@ module _ (s : ℕ) (g : Signals) (p : ℕ) where
   if_same true f h k l x y = x
   if_same false f h k l x y = y
 
-  if_goes : (b : Bool) (f h k l : Own) → Goes s g p f h → Goes s g p k l → Goes s g p (if b then f else k) (if b then h else l)
-  if_goes true f h k l x y = x
-  if_goes false f h k l x y = y
-
-  -- names are given up
-  gives_up_same : (ds : List ℕ) (r : ℤ) (x : Process) (S : State) → x.status ≡ None → Follows s g (gives_up ds p r (signed (p == s) g x) (with_signals s g S)) (gives_up ds p r x S)
-  gives_up_same ds r x S h =
-      with_same (released ds (write_one (SetProc p (Some (noted r (signed (p == s) g x)))) (with_signals s g S))) (released ds (write_one (SetProc p (Some (noted r x))) S)) r x h
-      (released_after s g ds p (Some (noted r x)) (Some (noted r (signed (p == s) g x))) S (own_write (noted r x) h))
-
   -- the end of a process
   told_resigned : (t : Telling) (parent : ℕ) (S : State) → told_at_commit t parent (with_signals s g S) ≡ resigned_all s g (told_at_commit t parent S)
   told_resigned NotTold parent S = refl
@@ -107,175 +101,130 @@ module _ (s : ℕ) (g : Signals) (p : ℕ) where
     same = λ i. record { writes = ended_resigned s g p status x i ∷ ending_rest inside status x S i; sends = told_at_once (telling inside x.parent) x.parent; conclusion = Replies Ended };
   }
 
--- the calls of a process that runs
+-- another process than the one that the signals are for
 module _ (s : ℕ) (g : Signals) (p : ℕ) (me : Process) (runs : me.status ≡ None) where
+  pub else_now : (p == s) ≡ false → signed (p == s) g me ≡ me
+  else_now apart = ap (λ (b : Bool). signed b g me) apart
+
+  else_same : (p == s) ≡ false → (own : Own) → Follows s g (own_effect p own) (own_effect p own)
+  else_same apart own = record {
+    same = ap (λ (b : Bool). record { writes = SetProc p (if b then Some (resignalled g own.process) else Some own.process) ∷ []; sends = []; conclusion = Replies own.reply }) (sym apart);
+  }
+
+-- the calls of a process that runs
+module _ (s : ℕ) (g : Signals) (p : ℕ) (me : Process) (runs : me.status ≡ None) (inside : Option Inside) where
   -- the process as it is with these signals
   abbrev now : Process
   now = signed (p == s) g me
 
-  plain : (r : ℤ) → Follows s g (done p r now) (done p r me)
-  plain r = done_same s g p r me runs
+  -- it calls with these signals, and without them
+  abbrev one : State → Caller
+  one S = caller inside p now (with_signals s g S)
 
-  memory_same : (after : Remembered) → Follows s g (own_effect p (remembers after now)) (own_effect p (remembers after me))
-  memory_same after = done_same s g p after.ret (record me { memory = after.memory }) runs
+  abbrev other : State → Caller
+  other S = caller inside p me S
 
-  ids_same : (after : Identified) → Follows s g (own_effect p (identifies after now)) (own_effect p (identifies after me))
-  ids_same after = done_same s g p after.ret (record me { ids = after.ids }) runs
+  record Same (o u : Outcome) : Type 0 where
+    follows : Follows s g (effect_of p now o) (effect_of p me u)
 
-  -- scripts, the console and signals
-  jump_same : (point : ℕ) (when : When) → Follows s g (own_effect p (jumps point when now)) (own_effect p (jumps point when me))
-  jump_same point when =
-      own_same s g p (jumps point when now) (jumps point when me)
-      (if_goes s g p (nat_lt LAST_POINT point) _ _ _ _ (record { process = refl; reply = refl; status = runs })
-      (if_goes s g p (does_jump when (last_ret me)) _ _ _ _ (record { process = refl; reply = refl; status = runs }) (record { process = refl; reply = refl; status = runs })))
+  answered : (r : ℤ) → Same (answers r) (answers r)
+  answered r = record { follows = done_same s g p r me runs }
 
-  keep_same : (slot : Option ℕ) → Follows s g (own_effect p (keeps_at slot now)) (own_effect p (keeps_at slot me))
-  keep_same None = plain (failing InvalidArgument)
-  keep_same (Some k) = done_same s g p (last_ret me) (with_kept k (last_ret me) me) runs
+  failed : (e : Errno) → Same (fails e) (fails e)
+  failed e = record { follows = done_same s g p (failing e) me runs }
 
-  shows_same : (address : ℤ) (n : Option ℕ) → Follows s g (own_effect p (shows address n now)) (own_effect p (shows address n me))
-  shows_same address None = plain (failing InvalidArgument)
-  shows_same address (Some n) =
-      own_same s g p (shows address (Some n) now) (shows address (Some n) me)
-      (if_goes s g p (is_good is_mapped me.memory address n) _ _ _ _ (record { process = refl; reply = refl; status = runs }) (record { process = refl; reply = refl; status = runs }))
+  refused : (why : Refusal) → Same (refuses why) (refuses why)
+  refused why = record { follows = record { same = refl } }
 
-  console_same : (inside : Option Inside) (address n : ℤ) → Follows s g (own_effect p (writes_console inside address n now)) (own_effect p (writes_console inside address n me))
-  console_same None address n = shows_same address (below (CONSOLE_BYTES + 1) n)
-  console_same (Some inside) address n = plain closed_inside
+  becomes : (r : ℤ) (q : Process) (vs ws : List Write) → q.status ≡ None → vs ≡ resigned_all s g ws → Same (changes r (signed (p == s) g q) vs) (changes r q ws)
+  becomes r q vs ws h e = record { follows = with_same s g p vs ws r q h e }
 
-  return_same : (frame : Option Frame) → Follows s g (own_effect p (returns frame now)) (own_effect p (returns frame me))
-  return_same None = plain (failing InvalidArgument)
-  return_same (Some frame) = own_same s g p (returns (Some frame) now) (returns (Some frame) me) (record { process = refl; reply = refl; status = runs })
+  stood : (q : Process) (reply : Reply) → q.status ≡ None → Same (stands (signed (p == s) g q) reply) (stands q reply)
+  stood q reply h = record {
+    follows = own_same s g p (record { process = signed (p == s) g q; reply = reply }) (record { process = q; reply = reply }) (record { process = refl; reply = refl; status = h });
+  }
 
-  -- descriptors
-  pipe_same : (q r w : ℕ) (S : State) → Follows s g (pipe_effect p q r w now (with_signals s g S)) (pipe_effect p q r w me S)
-  pipe_same q r w S = if_same s g p (is_pipe_in_use q r w S) _ _ _ _ (record { same = refl }) (from (lowest_free me))
-    where
-      at : (f : ℕ) (h : Option ℕ) → Follows s g (opens_at p q r w now f h) (opens_at p q r w me f h)
-      at f None = plain (failing TooManyDescriptors)
-      at f (Some h) =
-          let ws : List Write = SetPipe q (Some []) ∷ SetDesc r (new_side q ReadSide) ∷ SetDesc w (new_side q WriteSide) ∷ [] in
-          with_same s g p ws ws (pos 0) (with_two_slots f h (with_descriptor h (Some w) (with_descriptor f (Some r) me))) runs refl
+  -- the lines of two pages that ask the same
+  or_fails : {A : Type 0} (o : Option A) (e : Errno) (mine yours : A → Outcome) → ((x : A) → Same (mine x) (yours x)) → Same ((o or fails e) mine) ((o or fails e) yours)
+  or_fails o e mine yours h = both_or Same o o _ _ mine yours refl (failed e) λ x z. h x
 
-      from : (f : Option ℕ) → Follows s g (opens_from p q r w now f) (opens_from p q r w me f)
-      from None = plain (failing TooManyDescriptors)
-      from (Some f) = at f (lowest_free (with_descriptor f (Some r) me))
+  fails_when : (b : Bool) (e : Errno) (mine yours : Outcome) → Same mine yours → Same ((fails e when b) mine) ((fails e when b) yours)
+  fails_when b e mine yours h = both_when Same b b _ _ mine yours refl (failed e) λ z. h
 
-  dup_same : (d : Option ℕ) → Follows s g (dup_effect p now d) (dup_effect p me d)
-  dup_same None = plain (failing BadDescriptor)
-  dup_same (Some d) = to (lowest_free me)
-    where
-      to : (f : Option ℕ) → Follows s g (dups_to p now d f) (dups_to p me d f)
-      to None = plain (failing TooManyDescriptors)
-      to (Some f) = done_same s g p (pos f) (with_descriptor f (Some d) me) runs
+  answers_when : (b : Bool) (r : ℤ) (mine yours : Outcome) → Same mine yours → Same ((answers r when b) mine) ((answers r when b) yours)
+  answers_when b r mine yours h = both_when Same b b _ _ mine yours refl (answered r) λ z. h
 
-  dup2_same : (f h : Option ℕ) (S : State) → Follows s g (dup2_effect p f h now (with_signals s g S)) (dup2_effect p f h me S)
-  dup2_same None h S = plain (failing BadDescriptor)
-  dup2_same (Some f) h S = by (named me (Some f)) h
-    where
-      by : (d h : Option ℕ) → Follows s g (dup2_named p now (with_signals s g S) f h d) (dup2_named p me S f h d)
-      by None h = plain (failing BadDescriptor)
-      by (Some d) None = plain (failing BadDescriptor)
-      by (Some d) (Some h) = if_same s g p (f == h) _ _ _ _ (plain (pos h)) (gives_up_same s g p (listed (named me (Some h))) (pos h) (with_descriptor h (Some d) me) S runs)
+  refuses_when : (b : Bool) (why : Refusal) (mine yours : Outcome) → Same mine yours → Same ((refuses why when b) mine) ((refuses why when b) yours)
+  refuses_when b why mine yours h = both_when Same b b _ _ mine yours refl (refused why) λ z. h
 
-  close_same : (f : Option ℕ) (S : State) → Follows s g (close_effect p f now (with_signals s g S)) (close_effect p f me S)
-  close_same None S = plain (failing BadDescriptor)
-  close_same (Some f) S = by (named me (Some f))
-    where
-      by : (d : Option ℕ) → Follows s g (closes p now (with_signals s g S) f d) (closes p me S f d)
-      by None = plain (failing BadDescriptor)
-      by (Some d) = gives_up_same s g p (d ∷ []) (pos 0) (with_descriptor f None me) S runs
+  either : (b : Bool) (q r mine yours : Outcome) → Same q r → Same mine yours → Same ((q when b) mine) ((r when b) yours)
+  either b q r mine yours gives goes = both_when Same b b q r mine yours refl gives λ z. goes
 
-  nonblock_same : (on : Bool) (d : Option ℕ) (S : State) → Follows s g (nonblock_effect p on now d (with_signals s g S)) (nonblock_effect p on me d S)
-  nonblock_same on None S = plain (failing BadDescriptor)
-  nonblock_same on (Some d) S = by (S.descs d)
-    where
-      by : (x : Option Description) → Follows s g (flags p now d on x) (flags p me d on x)
-      by None = plain (failing BadDescriptor)
-      by (Some x) =
-          let ws : List Write = SetDesc d (Some (record { pipe = x.pipe; side = x.side; nonblock = on })) ∷ [] in
-          with_same s g p ws ws (pos 0) me runs refl
+  remembers : (S : State) (memory : Memory) → Same (with_memory memory (one S)) (with_memory memory (other S))
+  remembers S memory = becomes (pos 0) (record me { memory = memory }) [] [] runs refl
+
+  identifies : (S : State) (ids : Ids) → Same (with_ids ids (one S)) (with_ids ids (other S))
+  identifies S ids = becomes (pos 0) (record me { ids = ids }) [] [] runs refl
+
+  -- names are given up
+  gave_up : (ds : List ℕ) (r : ℤ) (q : Process) (S : State) → q.status ≡ None → Same (gives_up ds r (signed (p == s) g q) (one S)) (gives_up ds r q (other S))
+  gave_up ds r q S h = becomes r q _ _ h (released_after s g ds p (Some (noted r q)) (Some (noted r (signed (p == s) g q))) S (own_write s g p (noted r q) h))
 
   -- transfers
-  waits_same : (x : Description) → Follows s g (waits p x now) (waits p x me)
-  waits_same x = if_same s g p x.nonblock _ _ _ _ (plain (failing TryAgain)) (record { same = refl })
+  end_unseen : (test : Side → Bool) (d : Option ℕ) (S : State) → of_side test (described d (with_signals s g S)) ≡ of_side test (described d S)
+  end_unseen test None S = refl
+  end_unseen test (Some d) S = refl
 
-  drains_same : (x : Description) (address : ℤ) (n : ℕ) (writer : Bool) (bytes : List ℕ) → Follows s g (drains p x address n now writer bytes) (drains p x address n me writer bytes)
-  drains_same x address n writer [] = if_same s g p writer _ _ _ _ (waits_same x) (plain (pos 0))
-  drains_same x address n writer (byte ∷ bytes) =
-      let m : ℕ = min n (length (byte ∷ bytes)) in
-      let ws : List Write = SetPipe x.pipe (Some (drop m (byte ∷ bytes))) ∷ [] in
-      with_same s g p ws ws (pos m) (record me { memory = stored me.memory (address_of address) (take m (byte ∷ bytes)) }) runs refl
+  read_same : (f address v : ℤ) (S : State) → Same (read f address v (one S)) (read f address v (other S))
+  read_same f address v S =
+      both_or Same (end_at is_read_side f (one S)) (end_at is_read_side f (other S)) _ _ _ _ (end_unseen is_read_side (named me (descriptor f)) S) (failed BadDescriptor)
+      λ x z. rw (has_side_unseen s g is_write_side x.pipe DESCRIPTIONS S)
+      (or_fails (below (PIPE_BYTES + 1) v) _ _ _ λ n. answers_when (n == 0) _ _ _ (fails_when (not (is_good is_writable me.memory address n)) _ _ _
+      (answers_when (is_empty (bytes_in (S.pipes x.pipe)) && not (has_writer x.pipe S)) _ _ _
+      (fails_when (is_empty (bytes_in (S.pipes x.pipe)) && x.nonblock) _ _ _ (refuses_when (is_empty (bytes_in (S.pipes x.pipe))) _ _ _
+      (becomes _ (record me { memory = stored me.memory (address_of address) (take (min n (length (bytes_in (S.pipes x.pipe)))) (bytes_in (S.pipes x.pipe))) }) _ _ runs refl))))))
 
-  reads_same : (x : Description) (address : ℤ) (n : Option ℕ) (S : State) → Follows s g (reads p x address n now (with_signals s g S)) (reads p x address n me S)
-  reads_same x address None S = plain (failing InvalidArgument)
-  reads_same x address (Some zero) S = plain (pos 0)
-  reads_same x address (Some (suc n)) S =
-      if_same s g p (is_good is_writable me.memory address (suc n)) _ _ _ _
-      (subst (λ (b : Bool). Follows s g (drains p x address (suc n) now b (bytes_in (S.pipes x.pipe))) (drains p x address (suc n) me (has_writer x.pipe S) (bytes_in (S.pipes x.pipe))))
-      (sym (has_side_unseen s g is_write_side x.pipe DESCRIPTIONS S)) (drains_same x address (suc n) (has_writer x.pipe S) (bytes_in (S.pipes x.pipe))))
-      (plain (failing BadAddress))
+  broken : Same (does (breaks p now)) (does (breaks p me))
+  broken = record { follows = record { same = ap (λ (w : Write). record (breaks p me) { writes = w ∷ [] }) (own_write s g p (noted (failing BrokenPipe) me) runs) } }
 
-  read_same : (d : Option ℕ) (address n : ℤ) (S : State) → Follows s g (read_effect p d address n now (with_signals s g S)) (read_effect p d address n me S)
-  read_same None address n S = plain (failing BadDescriptor)
-  read_same (Some d) address n S = by (S.descs d)
-    where
-      side : (end : Side) (x : Description) (n : Option ℕ) → Follows s g (read_by_side end p x address n now (with_signals s g S)) (read_by_side end p x address n me S)
-      side WriteSide x n = plain (failing BadDescriptor)
-      side ReadSide x n = reads_same x address n S
-
-      by : (x : Option Description) → Follows s g (read_described p x address n now (with_signals s g S)) (read_described p x address n me S)
-      by None = plain (failing BadDescriptor)
-      by (Some x) = side x.side x (below (PIPE_BYTES + 1) n)
-
-  breaks_same : Follows s g (breaks p now) (breaks p me)
-  breaks_same = record { same = ap (λ (w : Write). record (breaks p me) { writes = w ∷ [] }) (own_write s g p (noted (failing BrokenPipe) me) runs) }
-
-  puts_same : (x : Description) (address : ℤ) (n : ℕ) (bytes : List ℕ) → Follows s g (puts p x address n now bytes) (puts p x address n me bytes)
-  puts_same x address n bytes =
-      let ws : List Write = SetPipe x.pipe (Some (bytes ++ bytes_at me.memory (address_of address) n)) ∷ [] in
-      if_same s g p (nat_lt PIPE_BYTES (length bytes + n)) _ _ _ _ (waits_same x) (with_same s g p ws ws (pos n) me runs refl)
-
-  writes_same : (x : Description) (address : ℤ) (n : Option ℕ) (S : State) → Follows s g (writes p x address n now (with_signals s g S)) (writes p x address n me S)
-  writes_same x address None S = plain (failing InvalidArgument)
-  writes_same x address (Some zero) S = plain (pos 0)
-  writes_same x address (Some (suc n)) S =
-      let bytes : List ℕ = bytes_in (S.pipes x.pipe) in
-      if_same s g p (is_good is_mapped me.memory address (suc n)) _ _ _ _
-      (subst (λ (b : Bool). Follows s g (if b then puts p x address (suc n) now bytes else breaks p now) (if has_reader x.pipe S then puts p x address (suc n) me bytes else breaks p me))
-      (sym (has_side_unseen s g is_read_side x.pipe DESCRIPTIONS S))
-      (if_same s g p (has_reader x.pipe S) _ _ _ _ (puts_same x address (suc n) bytes) breaks_same))
-      (plain (failing BadAddress))
-
-  write_same : (d : Option ℕ) (address n : ℤ) (S : State) → Follows s g (write_effect p d address n now (with_signals s g S)) (write_effect p d address n me S)
-  write_same None address n S = plain (failing BadDescriptor)
-  write_same (Some d) address n S = by (S.descs d)
-    where
-      side : (end : Side) (x : Description) (n : Option ℕ) → Follows s g (write_by_side end p x address n now (with_signals s g S)) (write_by_side end p x address n me S)
-      side ReadSide x n = plain (failing BadDescriptor)
-      side WriteSide x n = writes_same x address n S
-
-      by : (x : Option Description) → Follows s g (write_described p x address n now (with_signals s g S)) (write_described p x address n me S)
-      by None = plain (failing BadDescriptor)
-      by (Some x) = side x.side x (below (PIPE_BYTES + 1) n)
+  write_same : (f address v : ℤ) (S : State) → Same (write f address v (one S)) (write f address v (other S))
+  write_same f address v S =
+      both_or Same (end_at is_write_side f (one S)) (end_at is_write_side f (other S)) _ _ _ _ (end_unseen is_write_side (named me (descriptor f)) S) (failed BadDescriptor)
+      λ x z. rw (has_side_unseen s g is_read_side x.pipe DESCRIPTIONS S)
+      (or_fails (below (PIPE_BYTES + 1) v) _ _ _ λ n. answers_when (n == 0) _ _ _ (fails_when (not (is_good is_mapped me.memory address n)) _ _ _
+      (either (not (has_reader x.pipe S)) _ _ _ _ broken (fails_when (nat_lt PIPE_BYTES (length (bytes_in (S.pipes x.pipe)) + n) && x.nonblock) _ _ _
+      (refuses_when (nat_lt PIPE_BYTES (length (bytes_in (S.pipes x.pipe)) + n)) _ _ _ (becomes (pos n) me _ _ runs refl))))))
 
   -- forks, waits and ends
-  fork_same : (c : ℕ) (S : State) → is_some (S.procs s) ≡ true → Follows s g (fork_effect p c now (with_signals s g S)) (fork_effect p c me S)
-  fork_same c S there =
-      subst (λ (x : Option Process). Follows s g (forks p c now x) (forks p c me (S.procs c))) (sym (seen s g S c))
-      (by (c == s) refl (S.procs c) (λ e. subst (λ (m : ℕ). is_some (S.procs m) ≡ true) (sym (eqb-true c s e)) there))
+  fork_same : (child : ℕ) (S : State) → is_some (S.procs s) ≡ true → Same (fork child (one S)) (fork child (other S))
+  fork_same child S there =
+      subst (λ (x : Option Process). Same ((refuses NumberTaken when is_some x) (changes (pos child) now (SetProc child (Some (child_of p now)) ∷ []))) (fork child (other S))) (sym (seen s g S child))
+      (by (child == s) refl (S.procs child) (λ e. subst (λ (m : ℕ). is_some (S.procs m) ≡ true) (sym (eqb-true child s e)) there))
     where
-      by : (b : Bool) → (c == s) ≡ b → (x : Option Process) → (b ≡ true → is_some x ≡ true) → Follows s g (forks p c now (if b then resignalled_if g x else x)) (forks p c me x)
+      by : (b : Bool) → (child == s) ≡ b → (x : Option Process) → (b ≡ true → is_some x ≡ true)
+          → Same ((refuses NumberTaken when is_some (if b then resignalled_if g x else x)) (changes (pos child) now (SetProc child (Some (child_of p now)) ∷ [])))
+          ((refuses NumberTaken when is_some x) (changes (pos child) me (SetProc child (Some (child_of p me)) ∷ [])))
       by true e None h = let k : false ≡ true = h refl in cc
-      by true e (Some q) h = record { same = refl }
+      by true e (Some q) h = refused NumberTaken
       by false e None h =
-          with_same s g p (SetProc c (Some (child_of p me)) ∷ []) (SetProc c (Some (child_of p me)) ∷ []) (pos c) me runs
-          (ap (λ (b : Bool). SetProc c (if b then Some (resignalled g (child_of p me)) else Some (child_of p me)) ∷ []) (sym e))
-      by false e (Some q) h = record { same = refl }
+          becomes (pos child) me _ _ runs (ap (λ (b : Bool). SetProc child (if b then Some (resignalled g (child_of p me)) else Some (child_of p me)) ∷ []) (sym e))
+      by false e (Some q) h = refused NumberTaken
 
-  waitpid_same : (t : ℤ) (nohang : Bool) (S : State) → Follows s g (waitpid_effect p t nohang now (with_signals s g S)) (waitpid_effect p t nohang me S)
-  waitpid_same t nohang S = at (numbered S.width t)
+  -- a wait, from the process of that number on
+  abbrev waited : ℕ → Bool → Process → Option Process → Outcome
+  waited child nohang x o = (o or fails NoChild) λ q. (fails NoChild when not (q.parent == p))
+      ((q.status or (if nohang then answers (pos 0) else refuses Wait)) λ status. changes (pos child) (with_status status x) (SetProc child None ∷ []))
+
+  waitpid_same : (t : ℤ) (nohang : Bool) (S : State) → Same (waitpid t nohang (one S)) (waitpid t nohang (other S))
+  waitpid_same t nohang S =
+      or_fails (numbered S.width t) _ _ _ λ child. subst (λ (o : Outcome). Same o (waited child nohang me (S.procs child))) (sym (viewed s g (waited child nohang now) (child_viewed child) S child))
+      (or_fails (S.procs child) _ _ _ λ q. fails_when (not (q.parent == p)) _ _ _ (both_or Same q.status q.status _ _ _ _ refl (goes nohang)
+      λ status z. becomes (pos child) (with_status status me) _ _ runs (ap (λ (w : Write). w ∷ []) (removed child))))
     where
+      goes : (b : Bool) → Same (if b then answers (pos 0) else refuses Wait) (if b then answers (pos 0) else refuses Wait)
+      goes true = answered (pos 0)
+      goes false = refused Wait
+
       removed : (n : ℕ) → SetProc n None ≡ resign s g (SetProc n None)
       removed n = by (n == s)
         where
@@ -283,104 +232,91 @@ module _ (s : ℕ) (g : Signals) (p : ℕ) (me : Process) (runs : me.status ≡ 
           by true = refl
           by false = refl
 
-      ended_by : (n : ℕ) (status : Option ℕ) → Follows s g (waits_by p n nohang now status) (waits_by p n nohang me status)
-      ended_by n None = if_same s g p nohang _ _ _ _ (plain (pos 0)) (record { same = refl })
-      ended_by n (Some status) = with_same s g p (SetProc n None ∷ []) (SetProc n None ∷ []) (pos n) (with_status status me) runs (ap (λ (w : Write). w ∷ []) (removed n))
-
-      child : (n : ℕ) (x : Option Process) → Follows s g (waits_for p n nohang now x) (waits_for p n nohang me x)
-      child n None = plain (failing NoChild)
-      child n (Some q) = if_same s g p (q.parent == p) _ _ _ _ (ended_by n q.status) (plain (failing NoChild))
-
-      child_viewed : (n : ℕ) (x : Option Process) → waits_for p n nohang now (resignalled_if g x) ≡ waits_for p n nohang now x
-      child_viewed n None = refl
-      child_viewed n (Some q) = by (is_some q.status)
+      child_viewed : (child : ℕ) (x : Option Process) → waited child nohang now (resignalled_if g x) ≡ waited child nohang now x
+      child_viewed child None = refl
+      child_viewed child (Some q) = by (is_some q.status)
         where
-          by : (b : Bool) → waits_for p n nohang now (Some (if b then q else record q { pending = g.pending; queued = g.queued })) ≡ waits_for p n nohang now (Some q)
+          by : (b : Bool) → waited child nohang now (Some (if b then q else record q { pending = g.pending; queued = g.queued })) ≡ waited child nohang now (Some q)
           by true = refl
           by false = refl
 
-      at : (n : Option ℕ) → Follows s g (waits_at p n nohang now (with_signals s g S)) (waits_at p n nohang me S)
-      at None = plain (failing NoChild)
-      at (Some n) = subst (λ (f : Effect). Follows s g f (waits_for p n nohang me (S.procs n))) (sym (viewed s g (waits_for p n nohang now) (child_viewed n) S n)) (child n (S.procs n))
-
-  exit_same : (inside : Option Inside) (v : ℤ) (S : State) → Follows s g (exit_effect inside p v now (with_signals s g S)) (exit_effect inside p v me S)
-  exit_same inside v S = if_same s g p (p == 1) _ _ _ _ (plain (failing NotPermitted)) (ending_same s g p inside (exit_status v) me S)
+  exit_same : (v : ℤ) (S : State) → Same (exit v (one S)) (exit v (other S))
+  exit_same v S = fails_when (p == 1) _ _ _ (record { follows = ending_same s g p inside (exit_status v) me S })
 
   -- sends
-  send_same : (inside : Option Inside) (t signo value : ℤ) (S : State) → Follows s g (send_effect p inside now t signo value (with_signals s g S)) (send_effect p inside me t signo value S)
-  send_same inside t signo value S = by (numbered S.width t) (sendable signo)
-    where
-      hands : (i : Option Inside) (m : Sending) → Follows s g (hands_out p i now m (with_signals s g S)) (hands_out p i me m S)
-      hands None m = record { same = refl }
-      hands (Some i) m =
-          let ws : List Write = SetHeld i.starter (S.held i.starter ++ m ∷ []) ∷ [] in
-          if_same s g p (i.members m.target) _ _ _ _ (record { same = refl })
-          (if_same s g p (m.signo == 0) _ _ _ _ (plain closed_inside)
-          (if_same s g p (nat_lt (sent_by_members (S.held i.starter)) HELD_SENDS) _ _ _ _ (with_same s g p ws ws (pos 0) me runs refl) (plain (failing TryAgain))))
+  send_same : (t signo value : ℤ) (S : State) → Same (sigqueue t signo value (one S)) (sigqueue t signo value (other S))
+  send_same t signo value S =
+      or_fails (sendable signo) _ _ _ λ n. or_fails (numbered S.width t) _ _ _ λ target. both_or Same (holder_of target inside) (holder_of target inside) _ _ _ _ refl (record { follows = record { same = refl } })
+      λ i z. answers_when (n == 0) _ _ _ (fails_when (not (nat_lt (sent_by_members (S.held i.starter)) HELD_SENDS)) _ _ _ (becomes (pos 0) me _ _ runs refl))
 
-      by : (t signo : Option ℕ) → Follows s g (sends_signal p inside now t signo value (with_signals s g S)) (sends_signal p inside me t signo value S)
-      by t None = plain (failing InvalidArgument)
-      by None (Some signo) = plain (failing NoSuchProcess)
-      by (Some t) (Some signo) = hands inside (sent_by me t signo value)
+  -- a call that looks at what is pending, of another process
+  looked : (p == s) ≡ false → (page : Process → Outcome) → Follows s g (effect_of p me (page me)) (effect_of p me (page me)) → Same (page now) (page me)
+  looked apart page h = record { follows = subst (λ (x : Process). Follows s g (effect_of p x (page x)) (effect_of p me (page me))) (sym (else_now s g p me runs apart)) h }
 
-  -- the calls that look at what is pending, of another process
-  else_same : (p == s) ≡ false → (own : Own) → Follows s g (own_effect p own) (own_effect p own)
-  else_same apart own = record {
-    same = ap (λ (b : Bool). record { writes = SetProc p (if b then Some (resignalled g own.process) else Some own.process) ∷ []; sends = []; conclusion = Replies own.reply }) (sym apart);
-  }
-
-  pub else_now : (p == s) ≡ false → now ≡ me
-  else_now apart = ap (λ (b : Bool). signed b g me) apart
-
-  looks_same : (p == s) ≡ false → (f : Process → Own) → Follows s g (own_effect p (f now)) (own_effect p (f me))
-  looks_same apart f = subst (λ (x : Process). Follows s g (own_effect p (f x)) (own_effect p (f me))) (sym (else_now apart)) (else_same apart (f me))
+  else_answers : (p == s) ≡ false → (r : ℤ) (q : Process) → Follows s g (done p r q) (done p r q)
+  else_answers apart r q = else_same s g p me runs apart (answers_with r q)
 
   -- what a call does
-  pub call_same : (inside : Option Inside) (c : Call) (S : State) → is_some (S.procs s) ≡ true → (call_looks c ≡ true → (p == s) ≡ false) → Follows s g (call_effect inside p c now (with_signals s g S)) (call_effect inside p c me S)
-  call_same inside (call.Map page) S there apart = memory_same (map_page (page_of page) me.memory)
-  call_same inside (call.Unmap page) S there apart = memory_same (unmap_page (page_of page) me.memory)
-  call_same inside (call.Protect page writable) S there apart = memory_same (protect_page (page_of page) writable me.memory)
-  call_same inside (call.Store address bytes) S there apart = memory_same (store_bytes address bytes.items me.memory)
-  call_same inside (call.Load address) S there apart = memory_same (load_byte address me.memory)
-  call_same inside (call.Fork child) S there apart = fork_same child.0 S there
-  call_same inside (call.Exit status) S there apart = exit_same inside status S
-  call_same inside (call.Waitpid t nohang) S there apart = waitpid_same t nohang S
-  call_same inside call.Getpid S there apart = plain (pos p)
-  call_same inside call.Getppid S there apart = plain (pos me.parent)
-  call_same inside (call.Setuid u) S there apart = ids_same (set_user (id_of u) me.ids)
-  call_same inside (call.Seteuid u) S there apart = ids_same (set_effective_user (id_of u) me.ids)
-  call_same inside (call.Setgid u) S there apart = ids_same (set_group (id_of u) me.ids)
-  call_same inside (call.Setegid u) S there apart = ids_same (set_effective_group (id_of u) me.ids)
-  call_same inside (call.Pipe q r w) S there apart = pipe_same q.0 r.0 w.0 S
-  call_same inside (call.Dup f) S there apart = dup_same (named me (descriptor f))
-  call_same inside (call.Dup2 f h) S there apart = dup2_same (descriptor f) (descriptor h) S
-  call_same inside (call.Close f) S there apart = close_same (descriptor f) S
-  call_same inside (call.SetNonblock f on) S there apart = nonblock_same on (named me (descriptor f)) S
-  call_same inside (call.Read f address n) S there apart = read_same (named me (descriptor f)) address n S
-  call_same inside (call.Write f address n) S there apart = write_same (named me (descriptor f)) address n S
-  call_same inside (call.Kill t signo) S there apart = send_same inside t signo (pos 0) S
-  call_same inside (call.Sigqueue t signo value) S there apart = send_same inside t signo value S
-  call_same inside (call.Sigaction signo action) S there apart = looks_same (apart refl) (acts (known signo) action)
-  call_same inside (call.Sigprocmask how set) S there apart = own_same s g p (masks how set now) (masks how set me) (record { process = refl; reply = refl; status = runs })
-  call_same inside call.Sigpending S there apart = looks_same (apart refl) tells_pending
-  call_same inside call.Sigreturn S there apart = return_same (newest me.frames)
-  call_same inside (call.ConsoleWrite address n) S there apart = console_same inside address n
-  call_same inside (call.Jump point when) S there apart = jump_same point when
-  call_same inside (call.Keep slot) S there apart = keep_same (below SLOTS slot)
-  call_same inside call.SysXbegin S there apart = plain (failing InvalidArgument)
-  call_same inside call.SysXbeginDefer S there apart = plain (failing InvalidArgument)
-  call_same inside call.SysXend S there apart = plain (failing InvalidArgument)
-  call_same inside call.SysXabort S there apart = plain (failing InvalidArgument)
+  page_same : (c : Call) (S : State) → is_some (S.procs s) ≡ true → (call_looks c ≡ true → (p == s) ≡ false) → Same ((page_of_call c).outcome (one S)) ((page_of_call c).outcome (other S))
+  page_same (call.Map n) S there apart = or_fails (page_of n) _ _ _ λ k. fails_when (is_mapped (page_at me.memory k)) _ _ _ (remembers S _)
+  page_same (call.Unmap n) S there apart = or_fails (page_of n) _ _ _ λ k. fails_when (not (is_mapped (page_at me.memory k))) _ _ _ (remembers S _)
+  page_same (call.Protect n writable) S there apart = or_fails (page_of n) _ _ _ λ k. or_fails (page_at me.memory k) _ _ _ λ page. remembers S _
+  page_same (call.Store address bytes) S there apart = fails_when (not (is_good is_writable me.memory address (length bytes.items))) _ _ _ (remembers S _)
+  page_same (call.Load address) S there apart = or_fails (loaded me.memory (address_of address)) _ _ _ λ byte. answered (pos byte)
+  page_same (call.Fork child) S there apart = fork_same child.0 S there
+  page_same (call.Exit status) S there apart = exit_same status S
+  page_same (call.Waitpid t nohang) S there apart = waitpid_same t nohang S
+  page_same call.Getpid S there apart = answered (pos p)
+  page_same call.Getppid S there apart = answered (pos me.parent)
+  page_same (call.Setuid v) S there apart =
+      or_fails (id_of v) _ _ _ λ u. either (is_privileged me.ids) _ _ _ _ (identifies S _) (either (is_own_user u me.ids) _ _ _ _ (identifies S _) (failed NotPermitted))
+  page_same (call.Seteuid v) S there apart = or_fails (id_of v) _ _ _ λ u. either (is_privileged me.ids || is_own_user u me.ids) _ _ _ _ (identifies S _) (failed NotPermitted)
+  page_same (call.Setgid v) S there apart =
+      or_fails (id_of v) _ _ _ λ u. either (is_privileged me.ids) _ _ _ _ (identifies S _) (either (is_own_group u me.ids) _ _ _ _ (identifies S _) (failed NotPermitted))
+  page_same (call.Setegid v) S there apart = or_fails (id_of v) _ _ _ λ u. either (is_privileged me.ids || is_own_group u me.ids) _ _ _ _ (identifies S _) (failed NotPermitted)
+  page_same (call.Pipe q r w) S there apart =
+      refuses_when (is_pipe_in_use q.0 r.0 w.0 S) _ _ _ (or_fails (lowest_free me) _ _ _ λ f. or_fails (lowest_free (with_descriptor f (Some r.0) me)) _ _ _
+      λ h. becomes (pos 0) (with_two_slots f h (with_descriptor h (Some w.0) (with_descriptor f (Some r.0) me))) _ _ runs refl)
+  page_same (call.Dup f) S there apart = or_fails (named me (descriptor f)) _ _ _ λ d. or_fails (lowest_free me) _ _ _ λ h. becomes (pos h) (with_descriptor h (Some d) me) [] [] runs refl
+  page_same (call.Dup2 a b) S there apart =
+      or_fails (descriptor a) _ _ _ λ f. or_fails (named me (Some f)) _ _ _ λ d. or_fails (descriptor b) _ _ _
+      λ h. answers_when (f == h) _ _ _ (gave_up (listed (named me (Some h))) (pos h) (with_descriptor h (Some d) me) S runs)
+  page_same (call.Close a) S there apart = or_fails (descriptor a) _ _ _ λ f. or_fails (named me (Some f)) _ _ _ λ d. gave_up (d ∷ []) (pos 0) (with_descriptor f None me) S runs
+  page_same (call.SetNonblock f on) S there apart = or_fails (named me (descriptor f)) _ _ _ λ d. or_fails (S.descs d) _ _ _ λ x. becomes (pos 0) me _ _ runs refl
+  page_same (call.Read f address n) S there apart = read_same f address n S
+  page_same (call.Write f address n) S there apart = write_same f address n S
+  page_same (call.Kill t signo) S there apart = send_same t signo (pos 0) S
+  page_same (call.Sigqueue t signo value) S there apart = send_same t signo value S
+  page_same (call.Sigaction signo action) S there apart =
+      looked (apart refl) (λ x. sigaction signo action (caller inside p x S))
+      (sigaction_lines (λ o. Follows s g (effect_of p me o) (effect_of p me o)) (other S) (λ e. else_answers (apart refl) (failing e) me) signo action
+      λ n e good. else_answers (apart refl) (pos 0) (with_action n action (if is_ignored n action then discarded n me else me)))
+  page_same (call.Sigprocmask how set) S there apart = becomes (pos 0) (record me { mask = maskable (masked how (bits_of set) me.mask) }) [] [] runs refl
+  page_same call.Sigpending S there apart = looked (apart refl) (λ x. sigpending (caller inside p x S)) (else_answers (apart refl) _ me)
+  page_same call.Sigreturn S there apart = or_fails (newest me.frames) _ _ _ λ frame. stood (restored frame me) _ runs
+  page_same (call.ConsoleWrite address v) S there apart =
+      answers_when (is_some inside) _ _ _ (or_fails (below (CONSOLE_BYTES + 1) v) _ _ _
+      λ n. fails_when (not (is_good is_mapped me.memory address n)) _ _ _ (stood (noted (pos n) me) _ runs))
+  page_same (call.Jump point if_so) S there apart =
+      fails_when (nat_lt LAST_POINT point) _ _ _ (answers_when (not (does_jump if_so (last_ret me))) _ _ _ (stood (stands_at point me) _ runs))
+  page_same (call.Keep slot) S there apart = or_fails (below SLOTS slot) _ _ _ λ k. becomes (last_ret me) (with_kept k (last_ret me) me) [] [] runs refl
+  page_same call.SysXbegin S there apart = failed InvalidArgument
+  page_same call.SysXbeginDefer S there apart = failed InvalidArgument
+  page_same call.SysXend S there apart = failed InvalidArgument
+  page_same call.SysXabort S there apart = failed InvalidArgument
+
+  pub call_same : (c : Call) (S : State) → is_some (S.procs s) ≡ true → (call_looks c ≡ true → (p == s) ≡ false) → Follows s g (call_effect inside p c now (with_signals s g S)) (call_effect inside p c me S)
+  call_same c S there apart = (page_same c S there apart).follows
 
   -- what a delivery to another process does
-  pub delivery_same : (inside : Option Inside) (signo : ℕ) (S : State) → (p == s) ≡ false → Follows s g (delivery_effect inside p signo me (with_signals s g S)) (delivery_effect inside p signo me S)
-  delivery_same inside signo S apart = by (delivered_value signo me)
+  pub delivery_same : (signo : ℕ) (S : State) → (p == s) ≡ false → Follows s g (delivery_effect inside p signo me (with_signals s g S)) (delivery_effect inside p signo me S)
+  delivery_same signo S apart = by (delivered_value signo me)
     where
       acted : (value : ℤ) (d : Disposition) → Follows s g (acts_on inside p signo value d (relieved signo me) (with_signals s g S)) (acts_on inside p signo value d (relieved signo me) S)
-      acted value Ignored = else_same apart (record { process = relieved signo me; reply = Done me.registers.ret })
+      acted value Ignored = else_same s g p me runs apart (record { process = relieved signo me; reply = Done me.registers.ret })
       acted value Fatal = ending_same s g p inside (killed_status signo) (relieved signo me) S
       acted value (Caught point mask) =
-          if_same s g p (is_full me) _ _ _ _ (record { same = refl }) (else_same apart (record { process = caught signo value point mask (relieved signo me); reply = Done value }))
+          if_same s g p (is_full me) _ _ _ _ (record { same = refl }) (else_same s g p me runs apart (record { process = caught signo value point mask (relieved signo me); reply = Done value }))
 
       by : (value : Option ℤ) → Follows s g (delivers inside p signo me value (with_signals s g S)) (delivers inside p signo me value S)
       by None = record { same = refl }
@@ -395,22 +331,7 @@ module _ (s : ℕ) (g : Signals) where
   ending_unseen inside p me S = ap₂ (λ (os : List Object) (qs : List ℕ). os ++ procs_of qs ++ held_objects inside) (ends_unseen (open_in me.descriptors) S) (children_unseen s g p S)
 
   pub call_unseen : (inside : Option Inside) (c : Call) (p : ℕ) (b : Bool) (me : Process) (S : State) → call_objects inside c p (signed b g me) (with_signals s g S) ≡ call_objects inside c p me S
-  call_unseen inside (call.Map page) p b me S = refl
-  call_unseen inside (call.Unmap page) p b me S = refl
-  call_unseen inside (call.Protect page writable) p b me S = refl
-  call_unseen inside (call.Store address bytes) p b me S = refl
-  call_unseen inside (call.Load address) p b me S = refl
-  call_unseen inside (call.Fork child) p b me S = refl
   call_unseen inside (call.Exit status) p b me S = ap (λ (os : List Object). if p == 1 then [] else os) (ending_unseen inside p me S)
-  call_unseen inside (call.Waitpid t nohang) p b me S = refl
-  call_unseen inside call.Getpid p b me S = refl
-  call_unseen inside call.Getppid p b me S = refl
-  call_unseen inside (call.Setuid u) p b me S = refl
-  call_unseen inside (call.Seteuid u) p b me S = refl
-  call_unseen inside (call.Setgid u) p b me S = refl
-  call_unseen inside (call.Setegid u) p b me S = refl
-  call_unseen inside (call.Pipe q r w) p b me S = refl
-  call_unseen inside (call.Dup f) p b me S = refl
   call_unseen inside (call.Dup2 f h) p b me S = dup2_unseen (descriptor f) (descriptor h)
     where
       dup2_unseen : (f h : Option ℕ) → dup2_objects f h (signed b g me) (with_signals s g S) ≡ dup2_objects f h me S
@@ -418,22 +339,9 @@ module _ (s : ℕ) (g : Signals) where
       dup2_unseen (Some f) None = ap (λ (os : List Object). desc_objects (listed (named me (Some f))) ++ os) (ends_unseen (other_than (Some f) None me) S)
       dup2_unseen (Some f) (Some h) = ap (λ (os : List Object). desc_objects (listed (named me (Some f))) ++ os) (ends_unseen (other_than (Some f) (Some h) me) S)
   call_unseen inside (call.Close f) p b me S = ends_unseen (listed (named me (descriptor f))) S
-  call_unseen inside (call.SetNonblock f on) p b me S = refl
   call_unseen inside (call.Read f address n) p b me S = ends_unseen (listed (named me (descriptor f))) S
   call_unseen inside (call.Write f address n) p b me S = ends_unseen (listed (named me (descriptor f))) S
-  call_unseen inside (call.Kill t signo) p b me S = refl
-  call_unseen inside (call.Sigqueue t signo value) p b me S = refl
-  call_unseen inside (call.Sigaction signo action) p b me S = refl
-  call_unseen inside (call.Sigprocmask how set) p b me S = refl
-  call_unseen inside call.Sigpending p b me S = refl
-  call_unseen inside call.Sigreturn p b me S = refl
-  call_unseen inside (call.ConsoleWrite address n) p b me S = refl
-  call_unseen inside (call.Jump point when) p b me S = refl
-  call_unseen inside (call.Keep slot) p b me S = refl
-  call_unseen inside call.SysXbegin p b me S = refl
-  call_unseen inside call.SysXbeginDefer p b me S = refl
-  call_unseen inside call.SysXend p b me S = refl
-  call_unseen inside call.SysXabort p b me S = refl
+  call_unseen inside c p b me S = refl
 
   pub delivery_unseen : (inside : Option Inside) (signo p : ℕ) (me : Process) (S : State) → delivery_objects inside p signo me (with_signals s g S) ≡ delivery_objects inside p signo me S
   delivery_unseen inside signo p me S = ap (λ (os : List Object). if ends_by inside signo me (delivered_value signo me) then os else []) (ending_unseen inside p me S)

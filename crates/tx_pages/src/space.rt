@@ -1,11 +1,14 @@
 //! The pages of a process, by their numbers.
 ghost use Rattle.std.specs.Bool.{OnTrue};
 ghost use Rattle.std.specs.Option.{option_copied};
-ghost use Rattle.std.specs.Prelude.{◌≡◌, ◌<◌, ◌≤◌, ◌+◌, ◌/◌, IfOk, length, slice_set};
-ghost use Rattle.tx_model.specs.Memory.{no_memory, page_at, below, all_good, loaded, byte_or_zero, bytes_from, put_bytes, is_good};
+ghost use Rattle.std.specs.Prelude.{◌≡◌, ◌≢◌, ◌<◌, ◌≤◌, ◌+◌, ◌/◌, IfOk, IfErr, OnErr, length, slice_set};
+ghost use Rattle.tx_model.specs.Book.{map, unmap, protect, store};
+ghost use Rattle.tx_model.specs.Forms.{Caller};
+ghost use Rattle.tx_model.specs.Memory.{no_memory, page_at, all_good, loaded, bytes_from, put_bytes, is_good, byte_or_zero};
 ghost use Rattle.tx_pages.specs.Access.{test_of};
 ghost use Rattle.tx_pages.specs.Frames.{written};
-ghost use Rattle.tx_pages.specs.Outcomes.{Maps, Unmaps, Protects, Stores, Loads, Takes, PlansMap, PlansUnmap, PlansProtect, PlansStore, with_pages, AreNumbered};
+ghost use Rattle.tx_pages.specs.Outcomes.{Remembers, Loads, Takes, with_new, with_all_new, with_pages, AreNumbered};
+ghost use Rattle.tx_pages.specs.declared.errors.PageError.TheVariants.{Invalid, Fault};
 
 use crate::access::Access;
 use crate::errors::PageError;
@@ -90,7 +93,10 @@ impl Space {
     /// Invalid where the number is not 0 to 15 or is mapped; NoMemory where a growth is refused.
     /// The pages are then as they were.
     pub fn map(&mut self, alloc: Global, page: i64) -> Result<(), PageError>
-        ensures { Maps self.old (below 16 page) result self.new }
+        ensures answer { (c : Caller) → c.process.memory ≡ self.old →
+            Remembers result self.new (map page) c }
+        ensures errors { IfErr result (λ why. why ≢ Fault) }
+        ensures err { OnErr result (self.new ≡ self.old) }
     {
         let mut new = self.plan_map(alloc, page)?;
         self.swap_page(new.number, &mut new.page);
@@ -101,7 +107,10 @@ impl Space {
     ///
     /// Invalid where the number is not one of a mapped page. The pages are then as they were.
     pub fn unmap(&mut self, page: i64) -> Result<(), PageError>
-        ensures { Unmaps self.old (below 16 page) result self.new }
+        ensures answer { (c : Caller) → c.process.memory ≡ self.old →
+            Remembers result self.new (unmap page) c }
+        ensures errors { IfErr result (λ why. why ≡ Invalid) }
+        ensures err { OnErr result (self.new ≡ self.old) }
     {
         let mut new = self.plan_unmap(page)?;
         self.swap_page(new.number, &mut new.page);
@@ -112,7 +121,10 @@ impl Space {
     ///
     /// Invalid where the number is not one of a mapped page. The pages are then as they were.
     pub fn protect(&mut self, page: i64, writable: bool) -> Result<(), PageError>
-        ensures { Protects writable self.old (below 16 page) result self.new }
+        ensures answer { (c : Caller) → c.process.memory ≡ self.old →
+            Remembers result self.new (protect page writable) c }
+        ensures errors { IfErr result (λ why. why ≡ Invalid) }
+        ensures err { OnErr result (self.new ≡ self.old) }
     {
         let Some(number) = number_below(PAGES, page) else {
             return Err(PageError::Invalid);
@@ -130,7 +142,10 @@ impl Space {
     /// Fault where the range is not empty and does not lie in 0 to 1,023 on pages that may be
     /// written; NoMemory where a growth is refused. The pages are then as they were.
     pub fn store(&mut self, alloc: Global, address: i64, bytes: &[u8]) -> Result<(), PageError>
-        ensures { Stores self.old address bytes.now result self.new }
+        ensures answer { (c : Caller) → c.process.memory ≡ self.old →
+            Remembers result self.new (store address bytes.now) c }
+        ensures errors { IfErr result (λ why. why ≢ Invalid) }
+        ensures err { OnErr result (self.new ≡ self.old) }
     {
         let new = self.plan_store(alloc, address, bytes)?;
         self.put_pages(new);
@@ -190,7 +205,10 @@ impl Space {
     ///
     /// Invalid and NoMemory as at `map`.
     pub fn plan_map(&self, alloc: Global, page: i64) -> Result<NewPage, PageError>
-        ensures { PlansMap self.now (below 16 page) result }
+        ensures answer { (c : Caller) → c.process.memory ≡ self.now →
+            Remembers result (with_new self.now result) (map page) c }
+        ensures errors { IfErr result (λ why. why ≢ Fault) }
+        ensures number { IfOk result (λ new. new.number < 16) }
     {
         let Some(number) = number_below(PAGES, page) else {
             return Err(PageError::Invalid);
@@ -209,7 +227,10 @@ impl Space {
     ///
     /// Invalid as at `unmap`.
     pub fn plan_unmap(&self, page: i64) -> Result<NewPage, PageError>
-        ensures { PlansUnmap self.now (below 16 page) result }
+        ensures answer { (c : Caller) → c.process.memory ≡ self.now →
+            Remembers result (with_new self.now result) (unmap page) c }
+        ensures errors { IfErr result (λ why. why ≡ Invalid) }
+        ensures number { IfOk result (λ new. new.number < 16) }
     {
         let Some(number) = number_below(PAGES, page) else {
             return Err(PageError::Invalid);
@@ -224,7 +245,10 @@ impl Space {
     ///
     /// Invalid as at `protect`; NoMemory where the frame can't be shared once more.
     pub fn plan_protect(&self, page: i64, writable: bool) -> Result<NewPage, PageError>
-        ensures { PlansProtect writable self.now (below 16 page) result }
+        ensures answer { (c : Caller) → c.process.memory ≡ self.now →
+            Remembers result (with_new self.now result) (protect page writable) c }
+        ensures errors { IfErr result (λ why. why ≢ Fault) }
+        ensures number { IfOk result (λ new. new.number < 16) }
     {
         let Some(number) = number_below(PAGES, page) else {
             return Err(PageError::Invalid);
@@ -249,7 +273,10 @@ impl Space {
         address: i64,
         bytes: &[u8],
     ) -> Result<NewPages, PageError>
-        ensures { PlansStore self.now address bytes.now result }
+        ensures answer { (c : Caller) → c.process.memory ≡ self.now →
+            Remembers result (with_all_new self.now result) (store address bytes.now) c }
+        ensures errors { IfErr result (λ why. why ≢ Invalid) }
+        ensures numbers { IfOk result (λ new. AreNumbered new.pages.items) }
     {
         if bytes.is_empty() {
             return Ok(NewPages {

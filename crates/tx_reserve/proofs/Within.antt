@@ -16,8 +16,8 @@ use Rattle.tx_model.specs.Effects.{Inside}
 use Rattle.tx_model.specs.Footprints.{call_row, call_row_at, commit_row_of, delivery_row, delivery_row_at, ending_row, footprint, is_for_later, send_row, target_row, told_for_later}
 use Rattle.tx_model.specs.History.{is_other_starter, targets}
 use Rattle.tx_model.specs.Membership.{Table, inside_by, others_open}
-use Rattle.tx_model.specs.Processes.{children_below, children_of, numbered, numbered_objects, procs_of, told_to}
-use Rattle.tx_model.specs.Sends.{sendable}
+use Rattle.tx_model.specs.Processes.{children_below, children_of, numbered, procs_of, numbered_objects, told_to}
+use Rattle.tx_model.specs.Book.{sendable}
 use Rattle.tx_model.specs.State.{Description, Object, is_number, Proc, Desc, Pipe, Held, Process, Queued, Sending, State, has, has_parent, is_between, names_at, same_object}
 use Rattle.tx_reserve.specs.Laws.{FootprintIsWithin, WithinIsSmall, is_within}
 use Rattle.tx_reserve.proofs.Members.{no_bit, same_is}

@@ -12,7 +12,7 @@ ghost use Rattle.tx_model.specs.Footprints.{call_row, commit_row, delivery_row, 
 ghost use Rattle.tx_model.specs.History.{is_other_starter, targets};
 ghost use Rattle.tx_model.specs.Membership.{is_of};
 ghost use Rattle.tx_model.specs.Processes.{children_of, fork_objects, numbered, procs_of, waitpid_objects};
-ghost use Rattle.tx_model.specs.Sends.{sendable};
+ghost use Rattle.tx_model.specs.Book.{sendable};
 ghost use Rattle.tx_model.specs.State.{Object as TheObject, Proc, Sending as TheSending, has_parent};
 ghost use Rattle.tx_reserve.specs.Footprints.{Adds, GoesWith, IsInside, IsSetOf, table_at};
 ghost use Rattle.tx_reserve.specs.Objects.{is_in};

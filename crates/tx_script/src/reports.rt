@@ -13,9 +13,10 @@ ghost use Rattle.tx_lines.specs.declared.faults.Fault.TheVariants.{NoMemory};
 use std::alloc::{AllocError, Global};
 use tx_base::{ABORTED_BY_CALL, Reply, Step};
 use tx_core::Machine;
+use tx_journal::put_state;
 use tx_lines::{Fault, Header, Schedule, Version, put, put_count};
 use tx_live::Inverse;
-use tx_text::{put_reply, put_state};
+use tx_text::put_reply;
 
 /// The report of a schedule: a line for each step's reply, and the text of the state after the
 /// last one. The only fault is `NoMemory`.

@@ -15,9 +15,8 @@ ghost use Rattle.tx_text.specs.State.{state_text};
 
 use std::alloc::{AllocError, Global};
 use tx_base::Step;
-use tx_journal::{AtStart, ForwardFault, GotoFault, Moved, MovedFault, Session};
+use tx_journal::{AtStart, ForwardFault, GotoFault, Moved, MovedFault, Session, put_state};
 use tx_lines::{Command, Fault, Header, Version, Walk, put, put_count, put_numbers};
-use tx_text::put_state;
 
 /// The worker that makes the steps of a schedule.
 const WORKER: u16 = 1;

@@ -18,7 +18,7 @@ use Rattle.tx_kernel.specs.declared.actor.Actor.{Actor}
 use Rattle.tx_live.specs.Content.{held_of, now_of}
 use Rattle.tx_live.specs.declared.content.Content.{Content}
 use Rattle.tx_model.specs.Answer.{IsAccepted}
-use Rattle.tx_model.specs.Calls.{MakesCall, TakesSignal, call_effect}
+use Rattle.tx_model.specs.Calls.{call_effect, MakesCall, TakesSignal}
 use Rattle.tx_model.specs.Deliveries.{delivery_effect}
 use Rattle.tx_model.specs.Effects.{Effect, Inside, concluding_reply, idle, send_answers}
 use Rattle.tx_model.specs.Events.{Event, Do, Note, effect, reply_of}

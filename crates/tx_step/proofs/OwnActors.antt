@@ -14,7 +14,7 @@ use Rattle.tx_live.specs.declared.content.BoxedTxn.{BoxedTxn}
 use Rattle.tx_live.specs.declared.content.Content.{Content}
 use Rattle.tx_model.specs.Effects.{Inside as TheInside}
 use Rattle.tx_model.specs.Membership.{inside_by}
-use Rattle.tx_model.specs.Sends.{sent_by_members}
+use Rattle.tx_model.specs.Book.{sent_by_members}
 use Rattle.tx_txn.specs.Content.{IsKept}
 use Rattle.tx_txn.specs.Marks.{table_at}
 use Rattle.tx_txn.specs.Txns.{inside_at}

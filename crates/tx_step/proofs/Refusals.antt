@@ -22,8 +22,8 @@ use Rattle.tx_live.proofs.KeptPosted.{slot_there}
 use Rattle.tx_live.specs.Content.{content_of, held_of, now_of, txn_of, view_of, IsShaped}
 use Rattle.tx_live.specs.declared.content.BoxedTxn.{BoxedTxn}
 use Rattle.tx_live.specs.declared.content.Content.{Content}
-use Rattle.tx_model.specs.Answer.{busy, chosen_by, delivers_kill, has_bad_number, has_number_in_use, is_doomed_at, is_held_by_kill, is_parked, is_running, is_there}
-use Rattle.tx_model.specs.Calls.{Act, MakesCall, effect_at, running_effect}
+use Rattle.tx_model.specs.Answer.{delivers_kill, is_doomed_at, is_parked, is_running, is_there, busy, has_bad_number, has_number_in_use, is_held_by_kill, chosen_by}
+use Rattle.tx_model.specs.Calls.{effect_at, Act, running_effect, MakesCall}
 use Rattle.tx_model.specs.Effects.{Effect, Replies, idle}
 use Rattle.tx_model.specs.Membership.{is_live, is_of}
 use Rattle.tx_model.specs.SignalSets.{is_in_set, kill_signo}

@@ -24,7 +24,7 @@ use Rattle.tx_kernel.specs.declared.planned.Sends.{Sends}
 use Rattle.tx_kernel.specs.declared.planned.Sends.TheVariants.{Nothing, AtOnce, AtCommit}
 use Rattle.tx_live.specs.Content.{held_of, now_of}
 use Rattle.tx_live.specs.declared.content.Content.{Content}
-use Rattle.tx_model.specs.Calls.{Act, MakesCall, TakesSignal, act_effect, call_effect, effect_at, running_effect}
+use Rattle.tx_model.specs.Calls.{call_effect, effect_at, Act, act_effect, running_effect, MakesCall, TakesSignal}
 use Rattle.tx_model.specs.Deliveries.{delivery_effect}
 use Rattle.tx_model.specs.Effects.{Effect, Inside, before_sends}
 use Rattle.tx_model.specs.Events.{Event, Do, effect}

@@ -8,8 +8,8 @@ use std::alloc::Global;
 use std::test::Fail;
 use tx_base::{Call, DescNo, NoMemory, Pid, PipeNo, Reply, Step};
 use tx_core::{Free, Machine, NoTransaction};
+use tx_journal::print_state;
 use tx_lines::read_schedule;
-use tx_text::print_state;
 
 #[test]
 fn runs_a_schedule(rt: HostRuntime) -> Result<(), Fail> {

@@ -12,9 +12,8 @@ use std::alloc::Global;
 use std::process::Abort;
 use tx_base::{Accepted, NoMemory, Step};
 use tx_core::{Kept, Ran};
-use tx_journal::{GotoFault, Session};
+use tx_journal::{GotoFault, Session, print_state};
 use tx_pages::{PageError, Space};
-use tx_text::print_state;
 
 /// Whether the text is what is wanted. One that was refused memory is.
 fn is_text(text: Result<String, NoMemory>, wanted: &str) -> bool {

@@ -1,4 +1,2 @@
 pub mod Listed
 pub mod OneMore
-pub mod StateSpelled
-pub mod Upto

@@ -6,7 +6,7 @@ use Rattle.tx_text.specs.Each.{upto}
 use Rattle.tx_text.specs.Links.{is_of, LeadsOn}
 use Rattle.tx_text.specs.Txns.{is_listed_in, listed_text, some_of}
 use Rattle.tx_lines.specs.Lists.{member_text, some_after}
-use Rattle.tx_text.proofs.Upto.{upto_none, upto_more}
+use Rattle.tx_text.specs.EachLaws.{upto_none, upto_more}
 
 pub listed_none : (listed : ℕ → Bool) (before : List ℕ) → before ≡ before ++ listed_text listed 0
 unfolding listed_text

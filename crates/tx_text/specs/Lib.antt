@@ -1,5 +1,6 @@
 pub mod Descriptors
 pub mod Each
+pub mod EachLaws
 pub mod Links
 pub mod Processes
 pub mod Registers

@@ -1,4 +1,4 @@
-//! The texts that are printed: that of a machine's state, and that of a reply.
+//! The texts that are printed: those of the parts of a state, and that of a reply.
 #![tactic(auto)]
 
 mod descriptors;
@@ -7,8 +7,10 @@ mod processes;
 mod registers;
 mod replies;
 mod signals;
-mod state;
 mod txns;
 
+pub use descriptors::{put_descs, put_pipes};
+pub use links::Links;
+pub use processes::put_procs;
 pub use replies::put_reply;
-pub use state::{print_state, put_state};
+pub use txns::put_txn_lines;

@@ -1,35 +1,19 @@
-//! Prints the live transactions of a machine.
+//! Prints the lines of a live transaction.
 ghost use Rattle.std.specs.Option.{option_copied};
 ghost use Rattle.std.specs.Prelude.{◌≡◌, ◌≤◌, ◌++◌, OnOk, map, string_bytes};
 ghost use Rattle.tx_base.specs.Slots.{slot_at};
-ghost use Rattle.tx_live.specs.Content.{view_of};
 ghost use Rattle.tx_kernel.specs.Plans.{sending_of};
-ghost use Rattle.tx_model.specs.View.{present};
 ghost use Rattle.tx_text.specs.Links.{AreLinkedAbove};
-ghost use Rattle.tx_text.specs.Txns.{flag_of, held_text, helds_text, is_listed_in, mark_text, members_text, txn_text, txns_text};
+ghost use Rattle.tx_text.specs.Txns.{flag_of, held_text, helds_text, is_listed_in, mark_text, members_text, txn_text};
 
 use crate::links::Links;
 use std::alloc::AllocError;
 use tx_base::{Mark, Pid, Sending, Slots};
-use tx_core::Machine;
 use tx_lines::{dash, put, put_count, put_member, put_number};
 
-/// Appends the lines of each live transaction, by its rising starter. It goes over the marks twice,
-/// and over the members of each transaction once for each of its two lists.
-pub fn put_txns(text: &mut String, machine: &Machine, width: u16) -> Result<(), AllocError>
-    ensures { OnOk result (string_bytes text.new ≡ string_bytes text.old ++ txns_text width (slot_at machine.now.marks) (present (view_of machine.now)).held) }
-{
-    let marks = machine.marks();
-    let links = Links::new(*text.allocator(), marks, width)?;
-    for done in 0..width {
-        let pid = Pid(done + 1);
-        put_txn_lines(text, marks, &links, width, pid, machine.held(pid))?;
-    }
-    Ok(())
-}
-
-/// Appends the lines of a starter's live transaction: none where the process has begun none.
-fn put_txn_lines(
+/// Appends the lines of a starter's live transaction, with what it holds: none where the process has
+/// begun none. It goes over the members once for each of the two lists.
+pub fn put_txn_lines(
     text: &mut String,
     marks: &Slots<Mark>,
     links: &Links,

@@ -6,7 +6,8 @@ use Rattle.tx_laws.specs.Fits.{IsIn}
 use Rattle.tx_laws.specs.TwoParts.{in_set, is_owner, pick, freed}
 use Rattle.tx_model.specs.History.{just, is_other_starter, targets, processes_of, objects_reserved}
 use Rattle.tx_model.specs.Membership.{Table, is_of, Progress, Continues, Parks, Forks, Begins, unmarked}
-use Rattle.tx_model.specs.State.{State, Sending, Object, Proc, Desc, Pipe, Held, AgreePart, same_object, has}
+use Rattle.tx_model.specs.State.{State, Sending, Object, Proc, Desc, Pipe, Held, same_object, has}
+use Rattle.tx_model.specs.StateLaws.{AgreePart}
 use Rattle.tx_model.specs.View.{meets}
 
 pub part_refl : (S : State) (o : Object) → AgreePart S S o

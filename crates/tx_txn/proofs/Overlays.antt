@@ -7,7 +7,8 @@ use Rattle.tx_change.specs.States.{changed, changed_by}
 use Rattle.tx_change.specs.declared.change.Change.{Change}
 use Rattle.tx_change.specs.declared.change.Change.TheVariants.{Slot, Part, Description as DescChange, Pipe as PipeChange}
 use Rattle.tx_desc.specs.Descriptions.{described}
-use Rattle.tx_model.specs.State.{Process, Description, State, Object, Proc, Desc, Pipe, Held, AgreePart, same_object}
+use Rattle.tx_model.specs.State.{Process, Description, State, Object, Proc, Desc, Pipe, Held, same_object}
+use Rattle.tx_model.specs.StateLaws.{AgreePart}
 use Rattle.tx_proc.specs.Processes.{process_in, revised}
 use Rattle.tx_proc.specs.declared.part.Part.{Part as ProcPart}
 use Rattle.tx_proc.specs.declared.part.Part.TheVariants as part

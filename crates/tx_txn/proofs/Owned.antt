@@ -10,7 +10,8 @@ use Rattle.tx_model.specs.Events.{Event, actor, effect, objects, after}
 use Rattle.tx_model.specs.History.{is_other_starter, targets, event_footprint, objects_reserved}
 use Rattle.tx_model.specs.Membership.{Table, Progress, is_member_of, is_live}
 use Rattle.tx_model.specs.Posts.{posts}
-use Rattle.tx_model.specs.State.{Process, State, Object, Proc, Desc, Pipe, Held, AgreePart, same_object, has}
+use Rattle.tx_model.specs.State.{Process, State, Object, Proc, Desc, Pipe, Held, same_object, has}
+use Rattle.tx_model.specs.StateLaws.{AgreePart}
 use Rattle.tx_model.specs.View.{IsClear}
 use Rattle.tx_signal.specs.Parts.{PendingView}
 use Rattle.tx_txn.specs.Content.{Txn, Content, overlay, with_kept, led_by, kept_for, kept_of, two_parts_of, is_named, IsKept}

@@ -9,8 +9,8 @@ use Rattle.tx_model.specs.Events.{Event, Note, actor, effect}
 use Rattle.tx_model.specs.History.{just, event_footprint, objects_reserved}
 use Rattle.tx_model.specs.Membership.{Progress, Role, Outside, Within, Commits, Aborts, is_live}
 use Rattle.tx_model.specs.Posts.{posts}
-use Rattle.tx_model.specs.State.{State, Object, Proc, Desc, Pipe, Held, AgreePart, put_at, same_object, has, written}
-use Rattle.tx_model.specs.StateLaws.{state_ext}
+use Rattle.tx_model.specs.State.{State, Object, Proc, Desc, Pipe, Held, put_at, same_object, has, written}
+use Rattle.tx_model.specs.StateLaws.{state_ext, AgreePart}
 use Rattle.tx_model.specs.View.{IsClear, next_by}
 use Rattle.tx_txn.specs.Content.{Txn, Content, with_kept, led_by, kept_of, two_parts_of, IsKept}
 use Rattle.tx_txn.specs.Faces.{pending_in}

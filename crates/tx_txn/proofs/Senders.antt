@@ -2,7 +2,7 @@
 use Rattle.std.proofs.Common.{◌≡◌, ◌≤◌, ◌<◌, ℕ, zero, suc, ◌+◌, List, [], ◌∷◌, length, map, drop, slice_index_or, arith, refl, ap, ◌∙◌, pos, Option, Some, None}
 use Rattle.tx_base.specs.declared.names.Sending.{Sending as TheSending}
 use Rattle.tx_kernel.specs.Plans.{sender_of, sending_of}
-use Rattle.tx_model.specs.Sends.{has_sender, sent_by_members}
+use Rattle.tx_model.specs.Book.{has_sender, sent_by_members}
 use Rattle.tx_model.specs.State.{Sender}
 
 sent_suc : (ms : List TheSending) (i : ℕ) (d : TheSending) → i < length ms →

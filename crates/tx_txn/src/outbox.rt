@@ -1,6 +1,6 @@
 //! The signals that a transaction holds until it commits.
 ghost use Rattle.std.specs.Prelude.{◌≡◌, ◌<◌, ◌≤◌, ◌++◌, ◌∷◌, [], ◌-◌, None, Ok, OnOk, OnErr, length, map, take, slice_set, slice_index_or};
-ghost use Rattle.tx_model.specs.Sends.{has_sender, sent_by_members};
+ghost use Rattle.tx_model.specs.Book.{has_sender, sent_by_members};
 ghost use Rattle.tx_kernel.specs.Plans.{sender_of, sending_of};
 ghost use Rattle.tx_txn.specs.Outboxes.{missed_in, unmade};
 ghost use Rattle.tx_txn.specs.Txns.{none_held};

@@ -3,7 +3,7 @@ ghost use Rattle.std.specs.Prelude.{◌≡◌, ◌≤◌, ◌&&◌, ◌||◌, �
 ghost use Rattle.tx_base.specs.Slots.{slot_at};
 ghost use Rattle.tx_change.specs.Exchange.{AreNamed, applied, exchanged, reverted, undone};
 ghost use Rattle.tx_kernel.specs.Actors.{transaction_of};
-ghost use Rattle.tx_model.specs.Sends.{sent_by_members};
+ghost use Rattle.tx_model.specs.Book.{sent_by_members};
 ghost use Rattle.tx_proc.specs.Parts.{pending_in};
 ghost use Rattle.tx_model.specs.Membership.{is_of, unmarked};
 ghost use Rattle.tx_model.specs.State.{Object, Proc};

@@ -3,7 +3,7 @@ use Rattle.tx_model.specs.State.{has, written}
 use Rattle.tx_model.specs.Posts.{posts, answers}
 use Rattle.tx_model.specs.Descriptors.{first_free, open_in, names_below, is_named_below, has_side_below, pipes_of, unnamed_go, endless_go}
 use Rattle.tx_model.specs.Processes.{children_below, orphaned}
-use Rattle.tx_model.specs.Sends.{sent_by_members}
+use Rattle.tx_model.specs.Book.{sent_by_members}
 use Rattle.tx_model.specs.Deliveries.{first_value, less_first, has_lower}
 use Rattle.tx_model.specs.Events.{effect, objects, after, reply_of, run}
 use Rattle.tx_model.specs.Membership.{others_open}

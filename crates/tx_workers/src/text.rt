@@ -6,9 +6,9 @@ ghost use Rattle.tx_lines.specs.declared.faults.Fault.TheVariants.{NoMemory};
 
 use std::alloc::{AllocError, Global};
 use tx_base::{Reply, Step};
-use tx_journal::Session;
+use tx_journal::{Session, put_state};
 use tx_lines::{Fault, Sink, put, put_count, put_count_first, put_step, write_whole};
-use tx_text::{put_reply, put_state};
+use tx_text::put_reply;
 
 /// Writes the entries of a session, a line each with its worker, its step and its reply, and the state at
 /// the position. Nothing is written where the fault is `NoMemory`; the only other one is `Writer`.

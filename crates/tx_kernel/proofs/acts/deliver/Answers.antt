@@ -1,8 +1,8 @@
 use Rattle.std.proofs.Common.{refl}
 use Rattle.tx_kernel.proofs.Made.{made_at}
 use Rattle.tx_kernel.proofs.PostedWhole.{made_whole}
-use Rattle.tx_model.specs.Calls.{TakesSignal}
 use Rattle.tx_kernel.proofs.acts.deliver.Goals as goal
+use Rattle.tx_model.specs.Calls.{TakesSignal}
 
 pub returns-clause-ok : goal.returns-clause-ok
 returns-clause-ok c =

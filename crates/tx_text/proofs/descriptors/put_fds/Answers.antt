@@ -1,6 +1,6 @@
 use Rattle.std.proofs.Common.{string_bytes, slice_index_or, None}
 use Rattle.tx_text.specs.Descriptors.{fd_line}
-use Rattle.tx_text.proofs.Upto.{upto_none, upto_more}
+use Rattle.tx_text.specs.EachLaws.{upto_none, upto_more}
 use Rattle.tx_text.proofs.descriptors.put_fds.Goals as goal
 
 pub loop-fd-init : goal.loop-fd-init

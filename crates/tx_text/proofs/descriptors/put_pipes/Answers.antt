@@ -1,7 +1,7 @@
 use Rattle.std.proofs.Common.{string_bytes}
 use Rattle.tx_change.specs.Exchange.{pipe_at}
 use Rattle.tx_text.specs.Descriptors.{pipe_line}
-use Rattle.tx_text.proofs.Upto.{upto_none, upto_more}
+use Rattle.tx_text.specs.EachLaws.{upto_none, upto_more}
 use Rattle.tx_text.proofs.descriptors.put_pipes.Goals as goal
 
 pub loop-number-init : goal.loop-number-init

@@ -1,6 +1,6 @@
 use Rattle.std.proofs.Common.{string_bytes, slice_index}
 use Rattle.tx_text.specs.Processes.{byte_text}
-use Rattle.tx_text.proofs.Upto.{upto_none, upto_more}
+use Rattle.tx_text.specs.EachLaws.{upto_none, upto_more}
 use Rattle.tx_text.proofs.processes.put_page.Goals as goal
 
 pub loop-offset-init : goal.loop-offset-init

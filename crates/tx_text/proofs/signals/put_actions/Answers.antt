@@ -2,7 +2,7 @@ use Rattle.std.proofs.Common.{slice_index_or, string_bytes}
 use Rattle.tx_base.specs.declared.signals.Action.TheVariants.{Usual}
 use Rattle.tx_model.specs.State.{booted_process}
 use Rattle.tx_text.specs.Signals.{action_line}
-use Rattle.tx_text.proofs.Upto.{upto_none, upto_more}
+use Rattle.tx_text.specs.EachLaws.{upto_none, upto_more}
 use Rattle.tx_text.proofs.signals.put_actions.Goals as goal
 
 pub loop-number-init : goal.loop-number-init

@@ -1,5 +1,5 @@
 use Rattle.std.proofs.Common.{drop, ◌≡◌, map, ◌+◌, ◌≤◌}
-use Rattle.tx_model.specs.Sends.{sent_by_members}
+use Rattle.tx_model.specs.Book.{sent_by_members}
 use Rattle.tx_kernel.specs.Plans.{sending_of}
 use Rattle.tx_txn.proofs.outbox.count_sent.Given as goal
 

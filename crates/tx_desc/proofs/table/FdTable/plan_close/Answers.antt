@@ -2,8 +2,9 @@ use Rattle.std.proofs.Common.{◌<◌, ◌∙◌, ◌∷◌, [], ℤ, length, po
 use Rattle.std.proofs.Math.ListN.{set}
 use Rattle.std.proofs.lemmas.Int.{to_z-of_z}
 use Rattle.tx_base.specs.declared.errors.Errno.TheVariants.{BadDescriptor}
-use Rattle.tx_model.specs.Numbers.{failing}
-use Rattle.tx_model.specs.Descriptors.{descriptor, close_effect}
+use Rattle.tx_model.specs.Book.{close}
+use Rattle.tx_model.specs.Descriptors.{descriptor}
+use Rattle.tx_model.specs.Forms.{effect_of}
 use Rattle.tx_desc.specs.Counts.{others_of}
 use Rattle.tx_desc.specs.Places.{named_in}
 use Rattle.tx_desc.specs.Plans.{close_puts}
@@ -15,11 +16,11 @@ use Rattle.tx_desc.proofs.Moves.{moved, moved_sheds}
 use Rattle.tx_desc.proofs.table.FdTable.plan_close.Goals as goal
 
 pub returns-in_err-place-clause-descriptions : goal.returns-in_err-place-clause-descriptions
-returns-in_err-place-clause-descriptions c = λ p me S runs has a.
+returns-in_err-place-clause-descriptions c = λ caller runs has a.
     let read = to_z-of_z w64 c.args.fd c.ranges.fd in
     error_keeps c.from_residual.result (λ r. (close_puts r).descs) c.from_residual.ensures.0 (λ e. refl)
-    (close_effect p (descriptor c.args.fd) me S) p (failing BadDescriptor) me S c.args.descs.now
-    (close_bad p me c.args.self.now runs.has_table (descriptor c.args.fd) S
+    (close c.args.fd) caller BadDescriptor c.args.descs.now
+    (close_bad caller c.args.self.now runs.has_table c.args.fd
     (ap (λ (n : ℤ). named_in c.args.self.now (descriptor n)) (sym read) ∙ c.in_err-place.ensures.1)) has
 
 pub returns-clause-counts : goal.returns-clause-counts
@@ -31,14 +32,14 @@ returns-clause-counts c =
     (ap (λ (new : NewDesc). set c.args.descs.now new.number.0 new.opened) c.one_fewer.ensures.desc)
 
 pub returns-clause-descriptions : goal.returns-clause-descriptions
-returns-clause-descriptions c = λ p me S runs has a.
+returns-clause-descriptions c = λ caller runs has a.
     let read = to_z-of_z w64 c.args.fd c.ranges.fd in
     let new = set c.args.self.now c.in_ok-place.place None in
     let after = set c.args.descs.now c.one_fewer.result.0.number.0 c.one_fewer.result.0.opened in
-    gives_keeps (close_effect p (descriptor c.args.fd) me S) (c.in_ok-place.d.0 ∷ []) p (pos 0) me S c.args.self.now new c.args.descs.now after
-    (close_done p me c.args.self.now runs.has_table (descriptor c.args.fd) c.in_ok-place.place c.in_ok-place.d.0 S new
-    (ap descriptor (sym read) ∙ c.in_ok-place.ensures.0) c.in_ok-place.ensures.1 refl)
+    gives_keeps (close c.args.fd) caller (c.in_ok-place.d.0 ∷ []) (pos 0) c.args.self.now new c.args.descs.now after
+    (ap (effect_of caller.number caller.process) (close_done caller c.args.self.now runs.has_table c.args.fd c.in_ok-place.place c.in_ok-place.d.0 new
+    (ap descriptor (sym read) ∙ c.in_ok-place.ensures.0) c.in_ok-place.ensures.1 refl))
     runs (length-set c.args.self.now c.in_ok-place.place None ∙ c.sized.ensures) has
-    (keeps_agree c.args.self.now new (others_of p S) c.args.descs.now after (returns-clause-counts c) a)
+    (keeps_agree c.args.self.now new (others_of caller.number caller.state) c.args.descs.now after (returns-clause-counts c) a)
     (moved_sheds (Some c.in_ok-place.d.0) None c.args.descs.now after
     (ap (λ (n : NewDesc). set c.args.descs.now n.number.0 n.opened) c.one_fewer.ensures.desc))

@@ -2,8 +2,10 @@ use Rattle.std.proofs.Common.{◌<◌, ◌∙◌, ℤ, length, pos, Some, None, 
 use Rattle.std.proofs.Math.ListN.{set}
 use Rattle.std.proofs.lemmas.Int.{to_z-of_z}
 use Rattle.tx_base.specs.declared.errors.Errno.TheVariants.{BadDescriptor, TooManyDescriptors}
+use Rattle.tx_model.specs.Book.{dup}
+use Rattle.tx_model.specs.Descriptors.{descriptor}
+use Rattle.tx_model.specs.Forms.{effect_of}
 use Rattle.tx_model.specs.Numbers.{failing}
-use Rattle.tx_model.specs.Descriptors.{named, descriptor, dup_effect}
 use Rattle.tx_desc.specs.Outcomes.{with_table}
 use Rattle.tx_desc.specs.Places.{named_in}
 use Rattle.tx_desc.specs.Plans.{dup_puts}
@@ -15,32 +17,32 @@ use Rattle.tx_desc.proofs.Moves.{moved, raised_same}
 use Rattle.tx_desc.proofs.table.FdTable.plan_dup.Goals as goal
 
 pub returns-in_err-d-clause-descriptions : goal.returns-in_err-d-clause-descriptions
-returns-in_err-d-clause-descriptions c = λ p me S same has.
+returns-in_err-d-clause-descriptions c = λ caller same has.
     let read = to_z-of_z w64 c.args.fd c.ranges.fd in
     error_keeps c.from_residual.result (λ r. (dup_puts r).descs) c.from_residual.ensures.0 (λ e. refl)
-    (dup_effect p me (named me (descriptor c.args.fd))) p (failing BadDescriptor) me S c.args.descs.now
-    (dup_bad p me c.args.self.now same (named me (descriptor c.args.fd))
-    (none_named me c.args.self.now (descriptor c.args.fd) same
+    (dup c.args.fd) caller BadDescriptor c.args.descs.now
+    (dup_bad caller c.args.self.now same c.args.fd
+    (none_named caller.process c.args.self.now (descriptor c.args.fd) same
     (ap (λ (n : ℤ). named_in c.args.self.now (descriptor n)) (sym read) ∙ c.in_err-d.ensures.1))) has
 
 pub returns-in_default-clause-descriptions : goal.returns-in_default-clause-descriptions
-returns-in_default-clause-descriptions c = λ p me S same has.
+returns-in_default-clause-descriptions c = λ caller same has.
     let read = to_z-of_z w64 c.args.fd c.ranges.fd in
-    done_keeps (dup_effect p me (named me (descriptor c.args.fd))) p (failing TooManyDescriptors) me S c.args.descs.now
-    (dup_full p me c.args.self.now same (named me (descriptor c.args.fd)) c.in_ok-d.d.0
-    (found_named me c.args.self.now (descriptor c.args.fd) c.in_ok-d.field-0-0 c.in_ok-d.d.0 same (ap descriptor (sym read) ∙ c.in_ok-d.ensures.0) c.in_ok-d.ensures.1)
-    c.in_default.ensures) has
+    done_keeps (dup c.args.fd) caller (failing TooManyDescriptors) caller.process c.args.descs.now
+    (ap (effect_of caller.number caller.process) (dup_full caller c.args.self.now same c.args.fd c.in_ok-d.d.0
+    (found_named caller.process c.args.self.now (descriptor c.args.fd) c.in_ok-d.field-0-0 c.in_ok-d.d.0 same (ap descriptor (sym read) ∙ c.in_ok-d.ensures.0) c.in_ok-d.ensures.1)
+    c.in_default.ensures)) has
 
 pub returns-clause-descriptions : goal.returns-clause-descriptions
-returns-clause-descriptions c = λ p me S same has.
+returns-clause-descriptions c = λ caller same has.
     let read = to_z-of_z w64 c.args.fd c.ranges.fd in
     let new = set c.args.self.now c.in-Some.free (Some c.in_ok-d.d.0) in
     let after = set c.args.descs.now c.in_ok-d.d.0 c.raised-opened.result in
-    done_keeps (dup_effect p me (named me (descriptor c.args.fd))) p (pos c.in-Some.free) (with_table new me) S after
-    (dup_done p me c.args.self.now same (named me (descriptor c.args.fd)) c.in_ok-d.d.0 c.in-Some.free new
-    (found_named me c.args.self.now (descriptor c.args.fd) c.in_ok-d.field-0-0 c.in_ok-d.d.0 same (ap descriptor (sym read) ∙ c.in_ok-d.ensures.0) c.in_ok-d.ensures.1)
-    c.in-Some.ensures refl)
-    (same_descs S c.args.descs.now after (raised_same (Some c.in_ok-d.d.0) c.args.descs.now after (ap (set c.args.descs.now c.in_ok-d.d.0) c.raised-opened.ensures)) has)
+    done_keeps (dup c.args.fd) caller (pos c.in-Some.free) (with_table new caller.process) after
+    (ap (effect_of caller.number caller.process) (dup_done caller c.args.self.now same c.args.fd c.in_ok-d.d.0 c.in-Some.free new
+    (found_named caller.process c.args.self.now (descriptor c.args.fd) c.in_ok-d.field-0-0 c.in_ok-d.d.0 same (ap descriptor (sym read) ∙ c.in_ok-d.ensures.0) c.in_ok-d.ensures.1)
+    c.in-Some.ensures refl))
+    (same_descs caller.state c.args.descs.now after (raised_same (Some c.in_ok-d.d.0) c.args.descs.now after (ap (set c.args.descs.now c.in_ok-d.d.0) c.raised-opened.ensures)) has)
 
 pub returns-clause-counts : goal.returns-clause-counts
 returns-clause-counts c =

@@ -1,8 +1,10 @@
 use Rattle.std.proofs.Common.{◌<◌, ◌∙◌, [], ℤ, length, pos, Some, None, get_or, w64, of_z, to_z, refl, sym, ap, inl, arith, length-set}
 use Rattle.std.proofs.lemmas.Int.{to_z-of_z}
 use Rattle.tx_base.specs.declared.errors.Errno.TheVariants.{BadDescriptor}
+use Rattle.tx_model.specs.Book.{dup2}
 use Rattle.tx_model.specs.Numbers.{failing}
-use Rattle.tx_model.specs.Descriptors.{descriptor, listed, dup2_effect}
+use Rattle.tx_model.specs.Descriptors.{descriptor, listed}
+use Rattle.tx_model.specs.Forms.{effect_of}
 use Rattle.tx_desc.specs.Counts.{others_of}
 use Rattle.tx_desc.specs.Places.{named_in}
 use Rattle.tx_desc.specs.Plans.{dup2_puts, rename_puts, put_names, put_descs}
@@ -13,34 +15,33 @@ use Rattle.tx_desc.proofs.Moves.{moved, moved_sheds}
 use Rattle.tx_desc.proofs.table.FdTable.plan_dup2.Goals as goal
 
 pub returns-in_err-place-clause-descriptions : goal.returns-in_err-place-clause-descriptions
-returns-in_err-place-clause-descriptions c = λ p me S runs has a.
+returns-in_err-place-clause-descriptions c = λ caller runs has a.
     let read = to_z-of_z w64 c.args.fd c.ranges.fd in
     error_keeps c.from_residual.result (λ r. (dup2_puts r).descs) c.from_residual.ensures.0 (λ e. refl)
-    (dup2_effect p (descriptor c.args.fd) (descriptor c.args.other) me S) p (failing BadDescriptor) me S c.args.descs.now
-    (dup2_bad p me c.args.self.now runs.has_table (descriptor c.args.fd) (descriptor c.args.other) S
+    (dup2 c.args.fd c.args.other) caller BadDescriptor c.args.descs.now
+    (dup2_bad caller c.args.self.now runs.has_table c.args.fd c.args.other
     (ap (λ (n : ℤ). named_in c.args.self.now (descriptor n)) (sym read) ∙ c.in_err-place.ensures.1)) has
 
 pub returns-in_default-clause-descriptions : goal.returns-in_default-clause-descriptions
-returns-in_default-clause-descriptions c = λ p me S runs has a.
+returns-in_default-clause-descriptions c = λ caller runs has a.
     let read = to_z-of_z w64 c.args.fd c.ranges.fd in
     let read_other = to_z-of_z w64 c.args.other c.ranges.other in
-    done_keeps (dup2_effect p (descriptor c.args.fd) (descriptor c.args.other) me S) p (failing BadDescriptor) me S c.args.descs.now
-    (dup2_other p me c.args.self.now runs.has_table (descriptor c.args.fd) (descriptor c.args.other) c.in_ok-place.place c.in_ok-place.d.0 S
-    (ap descriptor (sym read) ∙ c.in_ok-place.ensures.0) c.in_ok-place.ensures.1 (c.in_default.ensures ∙ ap descriptor read_other))
+    done_keeps (dup2 c.args.fd c.args.other) caller (failing BadDescriptor) caller.process c.args.descs.now
+    (ap (effect_of caller.number caller.process) (dup2_other caller c.args.self.now runs.has_table c.args.fd c.args.other c.in_ok-place.place c.in_ok-place.d.0
+    (ap descriptor (sym read) ∙ c.in_ok-place.ensures.0) c.in_ok-place.ensures.1 (c.in_default.ensures ∙ ap descriptor read_other)))
     has
 
 pub returns-then-place-target-clause-answer : goal.returns-then-place-target-clause-answer
-returns-then-place-target-clause-answer c = λ p me S same.
+returns-then-place-target-clause-answer c = λ caller same.
     let read = to_z-of_z w64 c.args.fd c.ranges.fd in
     let read_other = to_z-of_z w64 c.args.other c.ranges.other in
-    dup2_same p me c.args.self.now same (descriptor c.args.fd) (descriptor c.args.other) c.in_ok-place.place c.in_ok-place.d.0 c.in-Some.target S
+    dup2_same caller c.args.self.now same c.args.fd c.args.other c.in_ok-place.place c.in_ok-place.d.0 c.in-Some.target
     (ap descriptor (sym read) ∙ c.in_ok-place.ensures.0) c.in_ok-place.ensures.1 (c.in-Some.ensures ∙ ap descriptor read_other) c.if-place-target.true
 
 pub returns-then-place-target-clause-descriptions : goal.returns-then-place-target-clause-descriptions
-returns-then-place-target-clause-descriptions c = λ p me S runs has a.
-    gives_keeps (dup2_effect p (descriptor c.args.fd) (descriptor c.args.other) me S) [] p (pos c.in-Some.target) me S
-    c.args.self.now c.args.self.now c.args.descs.now c.args.descs.now
-    (returns-then-place-target-clause-answer c p me S runs.has_table) runs c.sized.ensures has a (λ k. inl refl)
+returns-then-place-target-clause-descriptions c = λ caller runs has a.
+    gives_keeps (dup2 c.args.fd c.args.other) caller [] (pos c.in-Some.target) c.args.self.now c.args.self.now c.args.descs.now c.args.descs.now
+    (returns-then-place-target-clause-answer c caller runs.has_table) runs c.sized.ensures has a (λ k. inl refl)
 
 pub returns-clause-counts : goal.returns-clause-counts
 returns-clause-counts c =
@@ -55,17 +56,17 @@ returns-clause-counts c =
     refl c.plan_rename.ensures.table c.plan_rename.ensures.after
 
 pub returns-clause-descriptions : goal.returns-clause-descriptions
-returns-clause-descriptions c = λ p me S runs has a.
+returns-clause-descriptions c = λ caller runs has a.
     let read = to_z-of_z w64 c.args.fd c.ranges.fd in
     let read_other = to_z-of_z w64 c.args.other c.ranges.other in
     let old = get_or c.args.self.now c.in-Some.target None in
     let puts = rename_puts c.plan_rename.result.rename in
     let new = put_names puts.names c.args.self.now in
     let after = put_descs puts.descs c.args.descs.now in
-    gives_keeps (dup2_effect p (descriptor c.args.fd) (descriptor c.args.other) me S) (listed old) p (pos c.in-Some.target) me S c.args.self.now new c.args.descs.now after
-    (dup2_done p me c.args.self.now runs.has_table (descriptor c.args.fd) (descriptor c.args.other) c.in_ok-place.place c.in_ok-place.d.0 c.in-Some.target S new (listed old)
+    gives_keeps (dup2 c.args.fd c.args.other) caller (listed old) (pos c.in-Some.target) c.args.self.now new c.args.descs.now after
+    (ap (effect_of caller.number caller.process) (dup2_done caller c.args.self.now runs.has_table c.args.fd c.args.other c.in_ok-place.place c.in_ok-place.d.0 c.in-Some.target new (listed old)
     (ap descriptor (sym read) ∙ c.in_ok-place.ensures.0) c.in_ok-place.ensures.1 (c.in-Some.ensures ∙ ap descriptor read_other)
-    c.if-place-target.false c.plan_rename.ensures.table refl)
+    c.if-place-target.false c.plan_rename.ensures.table refl))
     runs (ap length c.plan_rename.ensures.table ∙ length-set c.args.self.now c.in-Some.target (Some c.in_ok-place.d.0) ∙ c.sized.ensures) has
-    (keeps_agree c.args.self.now new (others_of p S) c.args.descs.now after (returns-clause-counts c) a)
+    (keeps_agree c.args.self.now new (others_of caller.number caller.state) c.args.descs.now after (returns-clause-counts c) a)
     (moved_sheds old (Some c.in_ok-place.d.0) c.args.descs.now after c.plan_rename.ensures.after)

@@ -1,9 +1,10 @@
 use Rattle.std.proofs.Common.{◌<◌, ◌∙◌, length, Some, refl, ap, arith, length-set}
 use Rattle.std.proofs.Math.ListN.{set}
 use Rattle.tx_base.specs.declared.errors.Errno.TheVariants.{TooManyDescriptors}
+use Rattle.tx_model.specs.Book.{pipe}
 use Rattle.tx_model.specs.Numbers.{failing}
-use Rattle.tx_model.specs.Descriptors.{pipe_effect, with_two_slots}
-use Rattle.tx_desc.specs.Descriptions.{described}
+use Rattle.tx_model.specs.Descriptors.{with_two_slots}
+use Rattle.tx_model.specs.Forms.{effect_of}
 use Rattle.tx_desc.specs.Outcomes.{with_table}
 use Rattle.tx_desc.specs.declared.opened.Opened.{Opened}
 use Rattle.tx_desc.proofs.Counting.{keeps_then, opens_keeps}
@@ -13,16 +14,16 @@ use Rattle.tx_desc.proofs.Pipes.{pipe_full, pipe_done, pipe_keeps, first_there, 
 use Rattle.tx_desc.proofs.table.FdTable.plan_pipe.Goals as goal
 
 pub returns-in_default-clause-answer : goal.returns-in_default-clause-answer
-returns-in_default-clause-answer c = λ p me S descs same free has no_pipe.
-    pipe_full p c.args.pipe c.args.read.0 c.args.write.0 me S c.args.self.now descs same has no_pipe free.first free.second (c.in_default.ensures c.args.read.0)
+returns-in_default-clause-answer c = λ caller descs same free has no_pipe.
+    pipe_full c.args.pipe c.args.read.0 c.args.write.0 caller c.args.self.now descs same has no_pipe free.first free.second (c.in_default.ensures c.args.read.0)
 
 pub returns-in_default-clause-descriptions : goal.returns-in_default-clause-descriptions
-returns-in_default-clause-descriptions c = λ p me S descs same free has no_pipe.
-    done_keeps (pipe_effect p c.args.pipe.0 c.args.read.0 c.args.write.0 me S) p (failing TooManyDescriptors) me S descs
-    (returns-in_default-clause-answer c p me S descs same free has no_pipe) has
+returns-in_default-clause-descriptions c = λ caller descs same free has no_pipe.
+    done_keeps (pipe c.args.pipe.0 c.args.read.0 c.args.write.0) caller (failing TooManyDescriptors) caller.process descs
+    (ap (effect_of caller.number caller.process) (returns-in_default-clause-answer c caller descs same free has no_pipe)) has
 
 pub returns-clause-answer : goal.returns-clause-answer
-returns-clause-answer c = λ p me S descs same free has no_pipe.
+returns-clause-answer c = λ caller descs same free has no_pipe.
     let parts = two_parts c.args.read.0 c.args.self.now (c.in-Some.first, c.in-Some.second) (c.in-Some.ensures c.args.read.0) in
     let sized = free.sized in
     let read_in : c.args.read.0 < length descs = omega arith in
@@ -31,19 +32,19 @@ returns-clause-answer c = λ p me S descs same free has no_pipe.
     let mid = set descs c.args.read.0 (Some c.first.result) in
     let after = set mid c.args.write.0 (Some c.first-2.result) in
     let write_still = still_inside c.args.read.0 c.args.write.0 c.first.result descs mid refl write_in in
-    pipe_done p c.args.pipe c.args.read.0 c.args.write.0 me S c.args.self.now descs same has no_pipe free.first free.second
+    pipe_done c.args.pipe c.args.read.0 c.args.write.0 caller c.args.self.now descs same has no_pipe free.first free.second
     c.in-Some.first c.in-Some.second new after parts.0 parts.1 refl
-    (ap described (first_there c.args.read.0 c.args.write.0 c.first.result c.first-2.result descs mid after c.requires.apart read_in refl refl ∙ ap Some c.first.ensures))
-    (ap described (second_there c.args.write.0 c.first-2.result mid after write_still refl ∙ ap Some c.first-2.ensures))
+    (first_there c.args.read.0 c.args.write.0 c.first.result c.first-2.result descs mid after c.requires.apart read_in refl refl ∙ ap Some c.first.ensures)
+    (second_there c.args.write.0 c.first-2.result mid after write_still refl ∙ ap Some c.first-2.ensures)
 
 pub returns-clause-descriptions : goal.returns-clause-descriptions
-returns-clause-descriptions c = λ p me S descs same free has no_pipe.
+returns-clause-descriptions c = λ caller descs same free has no_pipe.
     let new = set (set c.args.self.now c.in-Some.first (Some c.args.read.0)) c.in-Some.second (Some c.args.write.0) in
     let mid = set descs c.args.read.0 (Some c.first.result) in
     let after = set mid c.args.write.0 (Some c.first-2.result) in
-    pipe_keeps (pipe_effect p c.args.pipe.0 c.args.read.0 c.args.write.0 me S) p c.args.pipe.0 c.args.read.0 c.args.write.0
-    (with_two_slots c.in-Some.first c.in-Some.second (with_table new me)) S c.first.result c.first-2.result descs mid after
-    (returns-clause-answer c p me S descs same free has no_pipe) refl refl has
+    pipe_keeps (pipe c.args.pipe.0 c.args.read.0 c.args.write.0) caller c.args.pipe.0 c.args.read.0 c.args.write.0
+    (with_two_slots c.in-Some.first c.in-Some.second (with_table new caller.process)) c.first.result c.first-2.result descs mid after
+    (returns-clause-answer c caller descs same free has no_pipe) refl refl has
 
 pub returns-clause-counts : goal.returns-clause-counts
 returns-clause-counts c = λ descs free.

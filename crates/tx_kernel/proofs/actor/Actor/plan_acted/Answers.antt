@@ -2,13 +2,14 @@ use Rattle.std.proofs.Common.{◌≡◌, ◌∙◌, ℤ, IfOk, w64, ap, sym, sub
 use Rattle.std.proofs.lemmas.Int.{to_z-of_z}
 use Rattle.tx_base.specs.declared.signals.Action.TheVariants.{Catch}
 use Rattle.tx_base.specs.declared.steps.Reply.TheVariants.{Done}
-use Rattle.tx_kernel.proofs.Delivered.{acted, acting, acting_objects, caught_acted, caught_low, fatal_is, full_refuses, ignored_is}
+use Rattle.tx_kernel.proofs.Delivered.{acted, acting, acting_objects, catching, caught_acted, caught_low, fatal_is, full_refuses, ignored_is}
 use Rattle.tx_kernel.proofs.OwnPlans.{own_plans}
 use Rattle.tx_kernel.proofs.Returned.{sized_actor}
-use Rattle.tx_kernel.specs.Actors.{me_of}
+use Rattle.tx_kernel.specs.Actors.{effect_by, me_of}
 use Rattle.tx_kernel.specs.Own.{PlansOwn}
 use Rattle.tx_kernel.specs.Plans.{Plans}
-use Rattle.tx_model.specs.Deliveries.{action_at, caught, relieved}
+use Rattle.tx_model.specs.Deliveries.{action_at, relieved}
+use Rattle.tx_model.specs.Forms.{stands}
 use Rattle.tx_model.specs.Signals.{Disposition, Ignored, Fatal, Caught, disposition}
 use Rattle.tx_kernel.proofs.actor.Actor.plan_acted.Goals as goal
 
@@ -20,7 +21,7 @@ returns-then-is_ignored-clause-ok c =
     = ap (disposition c.args.signo.0) (sym action) ∙ ignored_is c.args.signo.0 c.get-action.result (sym c.is_ignored.ensures ∙ c.if-is_ignored.true) in
     acted actor c.args.log.now c.plan_ignored.new.log c.quiet.result c.args.signo.0 c.args.value Ignored _ what
     (rw c.quiet.ensures (own_plans c.laws.ensures actor c.args.log.now c.plan_ignored.new.log c.in_ok-outcome.outcome
-    (λ me. record { process = relieved c.args.signo.0 me; reply = Done me.registers.ret }) (acting_objects actor Ignored) c.sized.ensures c.requires.actor c.in_ok-outcome.ensures.ok))
+    (effect_by actor (λ d. stands (relieved c.args.signo.0 d.process) (Done d.process.registers.ret))) (acting_objects actor Ignored) c.sized.ensures c.requires.actor c.in_ok-outcome.ensures.ok))
 
 pub returns-in_default-clause-ok : goal.returns-in_default-clause-ok
 returns-in_default-clause-ok c =
@@ -54,5 +55,5 @@ returns-clause-ok c =
     (rw c.quiet-2.ensures (caught_acted c.laws.ensures actor c.args.log.now c.plan_caught.new.log c.in_ok-outcome-2.outcome c.args.signo.0 c.args.value c.in-Catch.point c.in-Catch.mask
     c.sized.ensures c.requires.actor (sym (c.is_full.ensures (me_of actor)) ∙ c.if-is_full.false)
     (subst (λ (value : ℤ). PlansOwn actor c.args.log.now c.plan_caught.new.log c.in_ok-outcome-2.outcome
-    (λ me. record { process = caught c.args.signo.0 value c.in-Catch.point c.in-Catch.mask (relieved c.args.signo.0 me); reply = Done value }))
+    (effect_by actor (catching c.args.signo.0 value c.in-Catch.point c.in-Catch.mask)))
     (to_z-of_z w64 c.args.value c.ranges.value) c.in_ok-outcome-2.ensures.ok)))

@@ -3,8 +3,8 @@ use Rattle.tx_kernel.proofs.Made.{plans_event}
 use Rattle.tx_kernel.specs.Actors.{inside_of}
 use Rattle.tx_kernel.specs.Acts.{PlansEvent, event_of}
 use Rattle.tx_kernel.specs.declared.events.Act.{Act}
-use Rattle.tx_model.specs.Calls.{MakesCall, TakesSignal}
 use Rattle.tx_kernel.proofs.actor.Actor.plan_asked.Goals as goal
+use Rattle.tx_model.specs.Calls.{MakesCall, TakesSignal}
 
 pub returns-in_ok-plan_call-in-Call-clause-ok : goal.returns-in_ok-plan_call-in-Call-clause-ok
 returns-in_ok-plan_call-in-Call-clause-ok c =

@@ -1,16 +1,16 @@
-use Rattle.std.proofs.Common.{◌≡◌, ◌++◌, ◌∷◌, [], List, None, ℤ, pos, to_z, w64, arith, refl, sym, ap, subst, ◌∙◌}
+use Rattle.std.proofs.Common.{◌≡◌, ◌++◌, ◌∷◌, [], List, ℤ, pos, to_z, w64, arith, refl, sym, ap, subst, ◌∙◌}
 use Rattle.std.proofs.lemmas.Int.{ints}
 use Rattle.tx_change.specs.Counts.{desc_changes}
 use Rattle.tx_change.specs.declared.change.Change.{Change}
 use Rattle.tx_change.specs.declared.change.Change.TheVariants.{Part}
 use Rattle.tx_desc.specs.declared.plans.NewDesc.{NewDesc}
-use Rattle.tx_kernel.proofs.Forked.{fork_plans}
-use Rattle.tx_kernel.specs.Actors.{me_of}
+use Rattle.tx_kernel.proofs.Forked.{fork_plans, makes_child}
+use Rattle.tx_kernel.specs.Actors.{effect_by, names_by}
 use Rattle.tx_kernel.specs.Own.{answer_after}
 use Rattle.tx_kernel.specs.Plans.{Plans, quiet}
 use Rattle.tx_kernel.specs.declared.planned.Outcome.TheVariants.{Done}
 use Rattle.tx_kernel.specs.declared.planned.Planned.{Planned}
-use Rattle.tx_model.specs.Processes.{fork_objects, forks}
+use Rattle.tx_model.specs.Processes.{fork_objects}
 use Rattle.tx_proc.specs.Processes.{process_of}
 use Rattle.tx_proc.specs.declared.part.Part.TheVariants.{Answer as SetAnswer}
 use Rattle.tx_kernel.proofs.actor.Actor.plan_child.Goals as goal
@@ -26,7 +26,7 @@ returns-clause-ok c =
     let actor = c.args.self.now in
     let told : to_z w64 c.args.child.0 ≡ pos c.args.child.0 = omega (arith, ints) in
     let descs = c.plan_raise_all-descs.ensures in
-    subst (λ (planned : Planned). Plans actor c.args.log.now c.push_answer.new.log planned (λ S. forks actor.pid.0 c.args.child.0 (me_of actor) None) (λ S. fork_objects c.args.child.0 (me_of actor)))
+    subst (λ (planned : Planned). Plans actor c.args.log.now c.push_answer.new.log planned (effect_by actor (makes_child c.args.child.0)) (names_by actor (λ d. fork_objects c.args.child.0 d.process)))
     (sym (c.quiet.ensures ∙ ap (λ (r : ℤ). quiet (Done r)) told))
     (fork_plans c.laws.ensures actor c.args.child c.in_ok-boxed.boxed c.plan_raise_all-descs.result.items c.args.log.now c.push_descs.new.log c.push.new.self c.push_answer.new.log c.sized.ensures
     c.requires.actor c.requires.number c.requires.free (ap process_of c.in_ok-boxed.ensures ∙ c.in_ok-child.ensures)

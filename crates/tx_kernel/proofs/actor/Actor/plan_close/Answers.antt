@@ -1,10 +1,9 @@
 use Rattle.std.proofs.Common.{arith, refl, w64, to_z, of_z}
 use Rattle.std.proofs.lemmas.Int.{to_z-of_z}
 use Rattle.tx_change.specs.States.{state_of}
-use Rattle.tx_kernel.proofs.NamedCalls.{close_plan, done_plan}
-use Rattle.tx_kernel.specs.Actors.{me_of}
-use Rattle.tx_model.specs.Descriptors.{descriptor, desc_pipe_objects, close_effect, listed, named}
-use Rattle.tx_model.specs.Numbers.{failing}
+use Rattle.tx_kernel.proofs.NamedCalls.{close_plan, failed_plan}
+use Rattle.tx_kernel.specs.Actors.{caller_of}
+use Rattle.tx_model.specs.Book.{close, desc_and_pipe_of}
 use Rattle.tx_kernel.proofs.actor.Actor.plan_close.Goals as goal
 
 pub plan_close-requires : goal.plan_close-requires
@@ -16,13 +15,12 @@ plan_close-requires c =
 pub returns-in_ok-push_answer-in-Ok-clause-ok : goal.returns-in_ok-push_answer-in-Ok-clause-ok
 returns-in_ok-push_answer-in-Ok-clause-ok c =
     rw c.quiet.ensures (simp (to_z-of_z w64 c.args.fd c.ranges.fd) at (close_plan c.laws.ensures c.args.self.now c.args.log.now c.push_name.new.log c.push_desc.new.log c.push_endless.new.log c.push_answer.new.log
-    (descriptor (to_z w64 (of_z w64 c.args.fd))) c.in-Ok.plan c.sized.ensures c.requires
+    (to_z w64 (of_z w64 c.args.fd)) c.in-Ok.plan c.sized.ensures c.requires
     c.in-Ok.ensures.answer c.in-Ok.ensures.descriptions c.in-Ok.ensures.counts c.in-Ok.ensures.gone c.in-Ok.ensures.given c.in-Ok.ensures.named c.in-Ok.ensures.numbers
     c.in_ok-push_name-in-Ok.ensures.ok c.in_ok-push_desc-in-Ok.ensures.ok c.in_ok-push_endless-in-Ok.ensures.ok c.in_ok-push_answer-in-Ok.ensures.ok))
 
 pub returns-in-Err-clause-ok : goal.returns-in-Err-clause-ok
 returns-in-Err-clause-ok c =
     let me = c.args.self.now in
-    let x = descriptor c.args.fd in
-    done_plan c.plan_failure.result me c.args.log.now c.plan_failure.new.log (failing c.in-Err.errno) (λ S. close_effect me.pid.0 x (me_of me) S)
-    (λ S. desc_pipe_objects (listed (named (me_of me) x)) S) (λ held. simp (to_z-of_z w64 c.args.fd c.ranges.fd) at (c.in-Err.ensures.answer me.pid.0 (me_of me) (state_of held me.parts.now) refl)) c.plan_failure.ensures.ok
+    failed_plan c.plan_failure.result me c.args.log.now c.plan_failure.new.log c.in-Err.errno (close c.args.fd) (desc_and_pipe_of c.args.fd)
+    (λ held. simp (to_z-of_z w64 c.args.fd c.ranges.fd) at (c.in-Err.ensures.answer (caller_of me (state_of held me.parts.now)) refl)) c.plan_failure.ensures.ok

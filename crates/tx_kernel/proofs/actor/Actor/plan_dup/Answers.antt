@@ -1,9 +1,9 @@
 use Rattle.std.proofs.Common.{arith, refl, w64, to_z, of_z}
 use Rattle.std.proofs.lemmas.Int.{to_z-of_z, to_z_pos}
-use Rattle.tx_kernel.proofs.NamedCalls.{dup_plan, done_plan}
-use Rattle.tx_kernel.specs.Actors.{me_of}
-use Rattle.tx_model.specs.Descriptors.{descriptor, desc_objects, dup_effect, listed, named}
-use Rattle.tx_model.specs.Numbers.{failing}
+use Rattle.tx_change.specs.States.{state_of}
+use Rattle.tx_kernel.proofs.NamedCalls.{dup_plan, failed_plan}
+use Rattle.tx_kernel.specs.Actors.{caller_of}
+use Rattle.tx_model.specs.Book.{dup, desc_of}
 use Rattle.tx_kernel.proofs.actor.Actor.plan_dup.Goals as goal
 
 pub plan_dup-requires : goal.plan_dup-requires
@@ -14,17 +14,15 @@ plan_dup-requires c =
 
 pub returns-in_ok-push_answer-in-Ok-clause-ok : goal.returns-in_ok-push_answer-in-Ok-clause-ok
 returns-in_ok-push_answer-in-Ok-clause-ok c =
-    let x = descriptor (to_z w64 (of_z w64 c.args.fd)) in
     let plan = c.in-Ok.plan in
     let below = c.in-Ok.ensures.numbers.0.0 in
     let as_ret = to_z_pos w64 plan.name.fd (omega (arith, below)) in
-    rw (c.quiet.ensures, as_ret) (simp (to_z-of_z w64 c.args.fd c.ranges.fd) at (dup_plan c.laws.ensures c.args.self.now c.args.log.now c.push_name.new.log c.push_desc.new.log c.push_answer.new.log x plan c.sized.ensures c.requires
+    rw (c.quiet.ensures, as_ret) (simp (to_z-of_z w64 c.args.fd c.ranges.fd) at (dup_plan c.laws.ensures c.args.self.now c.args.log.now c.push_name.new.log c.push_desc.new.log c.push_answer.new.log (to_z w64 (of_z w64 c.args.fd)) plan c.sized.ensures c.requires
     c.in-Ok.ensures.answer c.in-Ok.ensures.descriptions c.in-Ok.ensures.counts c.in-Ok.ensures.named c.in-Ok.ensures.numbers
     c.in_ok-push_name-in-Ok.ensures.ok c.in_ok-push_desc-in-Ok.ensures.ok (rw as_ret at c.in_ok-push_answer-in-Ok.ensures.ok)))
 
 pub returns-in-Err-clause-ok : goal.returns-in-Err-clause-ok
 returns-in-Err-clause-ok c =
     let me = c.args.self.now in
-    let x = descriptor c.args.fd in
-    done_plan c.plan_failure.result me c.args.log.now c.plan_failure.new.log (failing c.in-Err.errno) (λ S. dup_effect me.pid.0 (me_of me) (named (me_of me) x))
-    (λ S. desc_objects (listed (named (me_of me) x))) (λ held. simp (to_z-of_z w64 c.args.fd c.ranges.fd) at (c.in-Err.ensures.answer me.pid.0 (me_of me) refl)) c.plan_failure.ensures.ok
+    failed_plan c.plan_failure.result me c.args.log.now c.plan_failure.new.log c.in-Err.errno (dup c.args.fd) (desc_of c.args.fd)
+    (λ held. simp (to_z-of_z w64 c.args.fd c.ranges.fd) at (c.in-Err.ensures.answer (caller_of me (state_of held me.parts.now)) refl)) c.plan_failure.ensures.ok

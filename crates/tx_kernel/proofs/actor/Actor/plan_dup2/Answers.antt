@@ -2,8 +2,9 @@ use Rattle.std.proofs.Common.{arith, refl, w64, to_z, of_z}
 use Rattle.std.proofs.lemmas.Int.{to_z-of_z, to_z_pos}
 use Rattle.tx_change.specs.States.{state_of}
 use Rattle.tx_kernel.proofs.NamedCalls.{dup2_plan, done_plan}
-use Rattle.tx_kernel.specs.Actors.{me_of}
-use Rattle.tx_model.specs.Descriptors.{descriptor, dup2_effect, dup2_objects}
+use Rattle.tx_kernel.specs.Actors.{caller_of, effect_by, names_by}
+use Rattle.tx_model.specs.Book.{dup2}
+use Rattle.tx_model.specs.Descriptors.{descriptor, dup2_objects}
 use Rattle.tx_model.specs.Numbers.{failing}
 use Rattle.tx_kernel.proofs.actor.Actor.plan_dup2.Goals as goal
 
@@ -24,14 +25,13 @@ returns-in_ok-push_answer-in-Ok-clause-ok c =
     let as_ret = to_z_pos w64 plan.renamed.fd (omega (arith, below)) in
     rw (c.quiet.ensures, as_ret) (simp (to_z-of_z w64 c.args.fd c.ranges.fd, to_z-of_z w64 c.args.other c.ranges.other) at
     (dup2_plan c.laws.ensures c.args.self.now c.args.log.now c.push_rename.new.log c.push_answer.new.log
-    (descriptor (to_z w64 (of_z w64 c.args.fd))) (descriptor (to_z w64 (of_z w64 c.args.other))) plan.renamed plan.rename c.sized.ensures c.requires
+    (to_z w64 (of_z w64 c.args.fd)) (to_z w64 (of_z w64 c.args.other)) plan.renamed plan.rename c.sized.ensures c.requires
     c.in-Ok.ensures.answer c.in-Ok.ensures.descriptions c.in-Ok.ensures.counts c.in-Ok.ensures.gone c.in-Ok.ensures.changed c.in-Ok.ensures.apart c.in-Ok.ensures.left c.in-Ok.ensures.numbers
     c.in_ok-push_rename-in-Ok.ensures.ok (rw as_ret at c.in_ok-push_answer-in-Ok.ensures.ok)))
 
 pub returns-in-Err-clause-ok : goal.returns-in-Err-clause-ok
 returns-in-Err-clause-ok c =
     let me = c.args.self.now in
-    let x = descriptor c.args.fd in
-    let y = descriptor c.args.other in
-    done_plan c.plan_failure.result me c.args.log.now c.plan_failure.new.log (failing c.in-Err.errno) (λ S. dup2_effect me.pid.0 x y (me_of me) S)
-    (λ S. dup2_objects x y (me_of me) S) (λ held. simp (to_z-of_z w64 c.args.fd c.ranges.fd, to_z-of_z w64 c.args.other c.ranges.other) at (c.in-Err.ensures.answer me.pid.0 (me_of me) (state_of held me.parts.now) refl)) c.plan_failure.ensures.ok
+    done_plan c.plan_failure.result me c.args.log.now c.plan_failure.new.log (failing c.in-Err.errno) (effect_by me (dup2 c.args.fd c.args.other))
+    (names_by me (λ k. dup2_objects (descriptor c.args.fd) (descriptor c.args.other) k.process k.state))
+    (λ held. simp (to_z-of_z w64 c.args.fd c.ranges.fd, to_z-of_z w64 c.args.other c.ranges.other) at (c.in-Err.ensures.answer (caller_of me (state_of held me.parts.now)) refl)) c.plan_failure.ensures.ok

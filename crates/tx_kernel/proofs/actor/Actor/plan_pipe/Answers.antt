@@ -1,12 +1,10 @@
-use Rattle.std.proofs.Common.{Bool, length, [], refl, ap, sym, inl, inr, if◌then◌else◌}
-use Rattle.tx_base.specs.declared.steps.Refusal.TheVariants.{NumberTaken}
+use Rattle.std.proofs.Common.{length, [], refl, sym, inl, inr}
 use Rattle.tx_change.specs.States.{state_of}
 use Rattle.tx_kernel.proofs.AnyCall.{so_anyway}
-use Rattle.tx_kernel.proofs.NamedCalls.{pipe_plan, done_plan, good_choice, free_numbers}
-use Rattle.tx_kernel.specs.Actors.{me_of}
-use Rattle.tx_model.specs.Descriptors.{pipe_effect, pipe_objects, opens_from, lowest_free}
-use Rattle.tx_model.specs.Effects.{idle}
-use Rattle.tx_model.specs.Numbers.{failing}
+use Rattle.tx_kernel.proofs.NamedCalls.{pipe_plan, failed_plan, good_choice, free_numbers}
+use Rattle.tx_kernel.specs.Actors.{caller_of}
+use Rattle.tx_model.specs.Book.{pipe}
+use Rattle.tx_model.specs.Descriptors.{pipe_objects}
 use Rattle.tx_kernel.proofs.actor.Actor.plan_pipe.Goals as goal
 
 pub returns-then-is_bad_pipe-clause-refused : goal.returns-then-is_bad_pipe-clause-refused
@@ -14,9 +12,7 @@ returns-then-is_bad_pipe-clause-refused c = inr (refl, sym (c.if-is_bad_pipe.ens
 
 pub returns-then-has_taken-clause-refused : goal.returns-then-has_taken-clause-refused
 returns-then-has_taken-clause-refused c =
-    let me = me_of c.args.self.now in
-    inl (inr (λ held counted. ap (λ (b : Bool). if b then idle NumberTaken else opens_from c.args.self.now.pid.0 c.args.pipe.0 c.args.read.0 c.args.write.0 me (lowest_free me))
-    (sym (c.if-has_taken.ensures held))))
+    inl (inr (λ held counted. rw (← c.if-has_taken.ensures held) refl))
 
 pub plan_pipe-requires-clause-apart : goal.plan_pipe-requires-clause-apart
 plan_pipe-requires-clause-apart c = (good_choice c.args.pipe.0 c.args.read.0 c.args.write.0 (c.if-is_bad_pipe.ensures 0)).3
@@ -38,9 +34,9 @@ pub returns-in-Err-clause-ok : goal.returns-in-Err-clause-ok
 returns-in-Err-clause-ok c =
     let me = c.args.self.now in
     let free = free_numbers me c.args.pipe.0 c.args.read.0 c.args.write.0 (λ starter. []) c.sized.ensures (sym (c.if-has_taken.ensures (λ starter. []))) in
-    done_plan c.plan_failure.result me c.args.log.now c.plan_failure.new.log (failing c.in-Err.errno) (λ S. pipe_effect me.pid.0 c.args.pipe.0 c.args.read.0 c.args.write.0 (me_of me) S)
-    (λ S. pipe_objects c.args.pipe.0 c.args.read.0 c.args.write.0)
-    (λ held. c.in-Err.ensures.answer me.pid.0 (me_of me) (state_of held me.parts.now) me.parts.now.descs refl free.0 (λ d. refl) free.1) c.plan_failure.ensures.ok
+    failed_plan c.plan_failure.result me c.args.log.now c.plan_failure.new.log c.in-Err.errno (pipe c.args.pipe.0 c.args.read.0 c.args.write.0)
+    (λ k. pipe_objects c.args.pipe.0 c.args.read.0 c.args.write.0)
+    (λ held. c.in-Err.ensures.answer (caller_of me (state_of held me.parts.now)) me.parts.now.descs refl free.0 (λ d. refl) free.1) c.plan_failure.ensures.ok
 
 pub returns-in_ok-push_pipe-in-Ok-clause-numbers : goal.returns-in_ok-push_pipe-in-Ok-clause-numbers
 returns-in_ok-push_pipe-in-Ok-clause-numbers c = sym (c.if-is_bad_pipe.ensures (length c.args.self.now.parts.now.procs))

@@ -4,8 +4,21 @@ use Rattle.std.specs.Int.{w64}
 use Rattle.std.specs.Prelude.{FitsSigned}
 use Rattle.tx_base.specs.Signals.{bits_of}
 use Rattle.tx_model.specs.State.{Frame}
+use Rattle.tx_base.specs.declared.errors.Errno.TheVariants.{InvalidArgument}
+use Rattle.tx_kernel.proofs.PageLines.{misses}
+use Rattle.tx_kernel.proofs.PartsOwned.{owned_page}
 use Rattle.tx_kernel.proofs.Returned.{returned}
+use Rattle.tx_kernel.specs.Actors.{me_of}
+use Rattle.tx_model.specs.Book.{sigreturn}
+use Rattle.tx_model.specs.Forms.{fails}
+use Rattle.tx_model.specs.Signals.{newest}
 use Rattle.tx_kernel.proofs.actor.Actor.plan_sigreturn.Goals as goal
+
+pub returns-in_default-clause-ok : goal.returns-in_default-clause-ok
+returns-in_default-clause-ok c =
+    let actor = c.args.self.now in
+    owned_page c.plan_error.result actor c.args.log.now c.plan_error.new.log (λ d. fails InvalidArgument) (sigreturn)
+    (λ S. misses (newest (me_of actor).frames) _ _ (search rules)) c.plan_error.ensures.ok
 
 pub returns-clause-ok : goal.returns-clause-ok
 returns-clause-ok c =

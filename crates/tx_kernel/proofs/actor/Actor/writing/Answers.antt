@@ -1,12 +1,10 @@
-use Rattle.std.proofs.Common.{w64, sym, ◌∙◌}
+use Rattle.std.proofs.Common.{w64, sym}
 use Rattle.std.proofs.lemmas.Int.{to_z-of_z}
-use Rattle.tx_kernel.proofs.Piped.{write_open}
-use Rattle.tx_kernel.specs.Actors.{me_of}
-use Rattle.tx_model.specs.Descriptors.{descriptor, named}
+use Rattle.tx_desc.specs.declared.opened.Side.TheVariants.{Write}
+use Rattle.tx_kernel.proofs.Piped.{open_end_is}
 use Rattle.tx_kernel.proofs.actor.Actor.writing.Goals as goal
 
 pub returns-clause-effect : goal.returns-clause-effect
 returns-clause-effect c held =
-    let me = c.args.self.now in
-    write_open me (named (me_of me) (descriptor c.args.fd)) c.args.address c.args.count c.in_ok-desc.desc held (sym (simp (to_z-of_z w64 c.args.fd c.ranges.fd) at c.in_ok-desc.ensures))
-    ∙ (simp (to_z-of_z w64 c.args.address c.ranges.address, to_z-of_z w64 c.args.count c.ranges.count) at (c.writing_to.ensures.effect held))
+    simp (to_z-of_z w64 c.args.address c.ranges.address, to_z-of_z w64 c.args.count c.ranges.count) at
+    (c.writing_to.ensures.effect c.args.fd held (open_end_is c.args.self.now Write c.args.fd c.in_ok-desc.desc held (sym (simp (to_z-of_z w64 c.args.fd c.ranges.fd) at c.in_ok-desc.ensures))))

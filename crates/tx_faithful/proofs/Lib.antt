@@ -1,0 +1,17 @@
+pub mod Fronts
+pub mod Ranks
+pub mod Numbered
+pub mod Lines
+pub mod Lists
+pub mod Bytes
+pub mod Upto
+pub mod Descriptors
+pub mod Pages
+pub mod Items
+pub mod Registers
+pub mod Signals
+pub mod Processes
+pub mod Txns
+pub mod Tells
+pub mod Histories
+pub mod Resting

@@ -1,0 +1,22 @@
+//! The text of a state tells the state, as the contract of a function that does nothing.
+#![tactic(auto)]
+
+ghost use Rattle.tx_faithful.specs.Told.{HistoriesAreOfKernel, RestingAreSame, TextsTellStates};
+
+use tx_laws::{next_view, well_formed, well_formed_table};
+
+/// Where two views of one width have one text, they have the same state and the same table, but for
+/// what the law names as shown by no line: the point and the answer of a process that has ended, the
+/// ids of who sent what is held, and what the mark of a member other than the starter says of
+/// deferring. Where the point and the answer of those that have ended are 0, all processes are the
+/// same. The law asks of a view that its numbers are of the kernel's types; all else that it asks is
+/// so after every lawful history from a booted state.
+pub fn texts_tell_states()
+    ensures told { TextsTellStates }
+    ensures resting { RestingAreSame }
+    ensures histories { HistoriesAreOfKernel }
+{
+    next_view();
+    well_formed();
+    well_formed_table();
+}
