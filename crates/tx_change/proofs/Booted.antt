@@ -11,7 +11,7 @@ use Rattle.tx_change.specs.declared.parts.Parts.{Parts}
 use Rattle.tx_base.proofs.SlotFacts.{slot_at-with_slot}
 use Rattle.tx_desc.specs.Descriptions.{described}
 use Rattle.tx_desc.specs.declared.opened.Opened.{Opened}
-use Rattle.tx_model.specs.State.{Process, Object, Proc as TheProc, Desc, Pipe as ThePipe, Held, booted, booted_process, is_between}
+use Rattle.tx_model.specs.State.{Process, Object, Proc as TheProc, Desc, Pipe as ThePipe, Held, boot_state, booted_process, is_between}
 use Rattle.tx_model.specs.StateLaws.{state_ext, AgreePart}
 use Rattle.tx_proc.specs.Processes.{process_of, process_in}
 use Rattle.tx_proc.specs.declared.proc.Proc.{Proc}
@@ -87,10 +87,10 @@ no_opened (suc size) (suc n) = no_opened size n
 
 -- the parts with these processes, and nothing else, mean the booted state
 pub booted_state : (parts : Parts) (width count : ℕ) → length parts.procs ≡ width → ((n : ℕ) → process_in (slot_at parts.procs n) ≡ booted_slot count n) →
-    parts.descs ≡ replicate 64 None → parts.pipes ≡ replicate 32 None → state_of (λ starter. []) parts ≡ booted width count
-booted_state parts width count sized procs descs pipes = state_ext (state_of (λ starter. []) parts) (booted width count) sized at
+    parts.descs ≡ replicate 64 None → parts.pipes ≡ replicate 32 None → state_of (λ starter. []) parts ≡ boot_state width count
+booted_state parts width count sized procs descs pipes = state_ext (state_of (λ starter. []) parts) (boot_state width count) sized at
   where
-    at : (o : Object) → AgreePart (state_of (λ starter. []) parts) (booted width count) o
+    at : (o : Object) → AgreePart (state_of (λ starter. []) parts) (boot_state width count) o
     at (TheProc n) = procs n
     at (Desc n) = rw descs (ap described (no_opened 64 n))
     at (ThePipe n) = rw pipes (nothing_at 32 n)

@@ -19,11 +19,11 @@ use Rattle.tx_desc.proofs.Totals.{room, none_agrees, names-empty}
 use Rattle.tx_desc.specs.Counts.{Agrees, HasRoom, IsBacked, count_in, names_in, table_of, others_below, others_of}
 use Rattle.tx_desc.specs.Places.{Descriptors, named_in}
 use Rattle.tx_desc.specs.declared.opened.Opened.{Opened}
-use Rattle.tx_model.specs.State.{Sending, State, booted, booted_process, is_between}
+use Rattle.tx_model.specs.State.{Sending, State, boot_state, booted_process, is_between}
 use Rattle.tx_proc.specs.Parts.{edited_once}
 use Rattle.tx_proc.specs.Processes.{process_in}
 use Rattle.tx_proc.specs.declared.part.Part.{Part as ProcPart}
-use Rattle.tx_proc.specs.declared.part.Part.TheVariants.{Answer, Register, Parent, Status, Cred, Page, Descriptor, Mask, Action, Pending, Queued, Frame}
+use Rattle.tx_proc.specs.declared.part.Part.TheVariants.{Status, Descriptor}
 use Rattle.tx_proc.specs.declared.proc.Proc.{Proc}
 
 -- the parts as a state, of which nothing is held
@@ -116,16 +116,7 @@ pub names_same : (proc : Proc) (pid : Pid) (part : ProcPart) → IsNameless (Par
     ((edited_once proc part).status ≡ proc.status) × ((edited_once proc part).descriptors ≡ proc.descriptors)
 names_same proc pid (Status status) free = absurd free
 names_same proc pid (Descriptor number name) free = absurd free
-names_same proc pid (Answer answer) free = (refl, refl)
-names_same proc pid (Register kept) free = (refl, refl)
-names_same proc pid (Parent parent) free = (refl, refl)
-names_same proc pid (Cred cred) free = (refl, refl)
-names_same proc pid (Page number page) free = (refl, refl)
-names_same proc pid (Mask mask) free = (refl, refl)
-names_same proc pid (Action signo action) free = (refl, refl)
-names_same proc pid (Pending set) free = (refl, refl)
-names_same proc pid (Queued place entry) free = (refl, refl)
-names_same proc pid (Frame frame) free = (refl, refl)
+names_same proc pid part free = (refl, refl)
 
 same_table : (proc : Proc) (pid : Pid) (part : ProcPart) → IsNameless (Part pid part) → table_in (Some (edited_once proc part)) ≡ table_in (Some proc)
 same_table proc pid part free =
@@ -182,7 +173,7 @@ room_for_name parts n table fd room less there agree places few here =
     backed_room fd room 16 table parts.descs less (room_for_names parts n table there agree places few here)
 
 -- the booted parts
-pub counts_booted : (parts : Parts) (width count : ℕ) → plain parts ≡ booted width count → parts.descs ≡ replicate 64 None → CountsAgree parts
+pub counts_booted : (parts : Parts) (width count : ℕ) → plain parts ≡ boot_state width count → parts.descs ≡ replicate 64 None → CountsAgree parts
 unfolding tables_below
 counts_booted parts width count is none =
     subst (λ (descs : List (Option Opened)). Agrees (tables_of parts) descs) (sym none)

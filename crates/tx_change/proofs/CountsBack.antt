@@ -21,7 +21,7 @@ use Rattle.tx_desc.specs.declared.opened.Opened.{Opened}
 use Rattle.tx_model.specs.State.{State, Proc as TheProc, Desc as TheDesc, same_object}
 use Rattle.tx_proc.specs.Parts.{edited_once}
 use Rattle.tx_proc.specs.declared.part.Part.{Part as ProcPart}
-use Rattle.tx_proc.specs.declared.part.Part.TheVariants.{Answer, Register, Parent, Status, Cred, Page, Descriptor, Mask, Action, Pending, Queued, Frame}
+use Rattle.tx_proc.specs.declared.part.Part.TheVariants.{Status, Descriptor}
 use Rattle.tx_proc.specs.declared.proc.Proc.{Proc}
 
 -- what counts of a process number decides the descriptors that count
@@ -61,26 +61,8 @@ edited_counts (Status status) None = refl
 edited_counts (Status status) (Some proc) = refl
 edited_counts (Descriptor number name) None = refl
 edited_counts (Descriptor number name) (Some proc) = refl
-edited_counts (Answer answer) None = refl
-edited_counts (Answer answer) (Some proc) = refl
-edited_counts (Register kept) None = refl
-edited_counts (Register kept) (Some proc) = refl
-edited_counts (Parent parent) None = refl
-edited_counts (Parent parent) (Some proc) = refl
-edited_counts (Cred cred) None = refl
-edited_counts (Cred cred) (Some proc) = refl
-edited_counts (Page number page) None = refl
-edited_counts (Page number page) (Some proc) = refl
-edited_counts (Mask mask) None = refl
-edited_counts (Mask mask) (Some proc) = refl
-edited_counts (Action signo action) None = refl
-edited_counts (Action signo action) (Some proc) = refl
-edited_counts (Pending set) None = refl
-edited_counts (Pending set) (Some proc) = refl
-edited_counts (Queued place entry) None = refl
-edited_counts (Queued place entry) (Some proc) = refl
-edited_counts (Frame frame) None = refl
-edited_counts (Frame frame) (Some proc) = refl
+edited_counts part None = refl
+edited_counts part (Some proc) = refl
 
 edited_counts_same : (part : ProcPart) (one other : Option Proc) → counting one ≡ counting other →
     counting (option_map (λ proc. edited_once proc part) one) ≡ counting (option_map (λ proc. edited_once proc part) other)

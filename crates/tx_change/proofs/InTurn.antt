@@ -21,7 +21,7 @@ use Rattle.tx_desc.specs.declared.plans.NewName.{NewName}
 use Rattle.tx_desc.specs.declared.plans.NewDesc.{NewDesc}
 use Rattle.tx_proc.specs.Parts.{edited_once}
 use Rattle.tx_proc.specs.declared.part.Part.{Part as ProcPart}
-use Rattle.tx_proc.specs.declared.part.Part.TheVariants.{Answer, Register, Parent, Status, Cred, Page, Descriptor, Mask, Action, Pending, Queued, Frame}
+use Rattle.tx_proc.specs.declared.part.Part.TheVariants.{Status, Descriptor}
 use Rattle.tx_proc.specs.declared.proc.Proc.{Proc}
 
 -- what a number has, and the descriptions
@@ -92,16 +92,7 @@ part_once : (n q : ℕ) (pid : Pid) (part : ProcPart) (slot : Option Proc) → q
     table_in (if q == pid.0 then option_map (λ proc. edited_once proc part) slot else slot) ≡ table_in slot
 part_once n q pid (Status status) slot apart of = elsewhere n q pid (Status status) slot apart of
 part_once n q pid (Descriptor number name) slot apart of = elsewhere n q pid (Descriptor number name) slot apart of
-part_once n q pid (Answer answer) slot apart of = nameless (q == pid.0) pid (Answer answer) slot tt
-part_once n q pid (Register kept) slot apart of = nameless (q == pid.0) pid (Register kept) slot tt
-part_once n q pid (Parent parent) slot apart of = nameless (q == pid.0) pid (Parent parent) slot tt
-part_once n q pid (Cred cred) slot apart of = nameless (q == pid.0) pid (Cred cred) slot tt
-part_once n q pid (Page number page) slot apart of = nameless (q == pid.0) pid (Page number page) slot tt
-part_once n q pid (Mask mask) slot apart of = nameless (q == pid.0) pid (Mask mask) slot tt
-part_once n q pid (Action signo action) slot apart of = nameless (q == pid.0) pid (Action signo action) slot tt
-part_once n q pid (Pending set) slot apart of = nameless (q == pid.0) pid (Pending set) slot tt
-part_once n q pid (Queued place entry) slot apart of = nameless (q == pid.0) pid (Queued place entry) slot tt
-part_once n q pid (Frame frame) slot apart of = nameless (q == pid.0) pid (Frame frame) slot tt
+part_once n q pid part slot apart of = nameless (q == pid.0) pid part slot tt
 
 other_once : (n q : ℕ) (change : Change) (slot : Option Proc) → q ≢ n → IsNamesOf n change → table_in (slot_once q change slot) ≡ table_in slot
 unfolding slot_once
@@ -227,16 +218,7 @@ nameless_of n (Description number opened) free = absurd free
 nameless_of n (Pipe number part) free = tt
 nameless_of n (Part pid (Status status)) free = absurd free
 nameless_of n (Part pid (Descriptor number name)) free = absurd free
-nameless_of n (Part pid (Answer answer)) free = tt
-nameless_of n (Part pid (Register kept)) free = tt
-nameless_of n (Part pid (Parent parent)) free = tt
-nameless_of n (Part pid (Cred cred)) free = tt
-nameless_of n (Part pid (Page number page)) free = tt
-nameless_of n (Part pid (Mask mask)) free = tt
-nameless_of n (Part pid (Action signo action)) free = tt
-nameless_of n (Part pid (Pending set)) free = tt
-nameless_of n (Part pid (Queued place entry)) free = tt
-nameless_of n (Part pid (Frame frame)) free = tt
+nameless_of n (Part pid part) free = tt
 
 others_of_none : (n : ℕ) (changes : List Change) → AreNameless changes → AreNamesOf n changes
 others_of_none n [] free = tt

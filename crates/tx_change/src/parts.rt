@@ -2,7 +2,7 @@
 ghost use Rattle.std.specs.Option.{option_copied};
 ghost use Rattle.std.specs.Prelude.{◌≡◌, ◌≤◌, [], IfOk};
 ghost use Rattle.tx_base.specs.Slots.{slot_at};
-ghost use Rattle.tx_model.specs.State.{booted};
+ghost use Rattle.tx_model.specs.State.{boot_state};
 
 use crate::pipes::PipeTable;
 use std::alloc::Global;
@@ -30,7 +30,7 @@ impl Parts {
     /// There must be as many numbers as processes. NoMemory where a growth is refused.
     pub fn boot(alloc: Global, width: u16, count: u16) -> Result<Parts, NoMemory>
         requires { count ≤ width }
-        ensures state { IfOk result (λ parts. state_of (λ starter. []) parts ≡ booted width count) }
+        ensures state { IfOk result (λ parts. state_of (λ starter. []) parts ≡ boot_state width count) }
         ensures places { IfOk result (λ parts. HaveAllPlaces parts) }
         ensures counts { IfOk result (λ parts. CountsAgree parts) }
     {

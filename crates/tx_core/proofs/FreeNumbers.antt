@@ -53,32 +53,32 @@ owner_kept k (the.Pipe number) = refl
 module _ (k : Content) (is : IsContent k) (p : ℕ) (object : TheObject) where
   -- whether s is a live transaction of others that reserved the object
   abbrev reserves : ℕ → Bool
-  reserves s = is_live (view_of k).table s && (not (is_member_of (view_of k).table s p) && (view_of k).touched s (object_of object))
+  reserves s = is_live (view_of k).table s && (not (is_member_of (view_of k).table s p) && (view_of k).reserved s (object_of object))
 
   -- whether s reserved the object, its owner says
-  touched_by : (s : ℕ) (owner : Option ℕ) → owner ≡ owner_of k.owners (object_of object) → (view_of k).touched s (object_of object) ≡ is_owner s owner
+  reserved_by : (s : ℕ) (owner : Option ℕ) → owner ≡ owner_of k.owners (object_of object) → (view_of k).reserved s (object_of object) ≡ is_owner s owner
   unfolding view_of parts_view
-  touched_by s owner own = ap (is_owner s) (owner_kept k object ∙ sym own)
+  reserved_by s owner own = ap (is_owner s) (owner_kept k object ∙ sym own)
 
   -- what nobody owns is reserved by nobody
   pub nobody_reserves : None ≡ owner_of k.owners (object_of object) → false ≡ is_reserved_from (view_of k) p (object_of object)
-  nobody_reserves own = ap is_some (least_none reserves (view_of k).table.width (λ s below. and_never (is_live (view_of k).table s) (not (is_member_of (view_of k).table s p)) ((view_of k).touched s (object_of object)) (touched_by s None own)))
+  nobody_reserves own = ap is_some (least_none reserves (view_of k).table.width (λ s below. and_never (is_live (view_of k).table s) (not (is_member_of (view_of k).table s p)) ((view_of k).reserved s (object_of object)) (reserved_by s None own)))
 
-  owner_touched : (t : ℕ) → Some t ≡ owner_of k.owners (object_of object) → (view_of k).touched t (object_of object) ≡ true
-  owner_touched t own = touched_by t (Some t) own ∙ eq-eqb t t refl
+  owner_reserved : (t : ℕ) → Some t ≡ owner_of k.owners (object_of object) → (view_of k).reserved t (object_of object) ≡ true
+  owner_reserved t own = reserved_by t (Some t) own ∙ eq-eqb t t refl
 
   -- what a transaction owns is reserved from all but its members
   pub owner_reserves : (t : ℕ) (member : Bool) → Some t ≡ owner_of k.owners (object_of object) → member ≡ is_member_of (view_of k).table t p →
       not member ≡ is_reserved_from (view_of k) p (object_of object)
   unfolding view_of
   owner_reserves t member own same =
-      let touched : (view_of k).touched t (object_of object) ≡ true = owner_touched t own in
-      let live : is_live (view_of k).table t ≡ true = is.kept.sound.owned_live t (object_of object) touched in
+      let reserved : (view_of k).reserved t (object_of object) ≡ true = owner_reserved t own in
+      let live : is_live (view_of k).table t ≡ true = is.kept.sound.owned_live t (object_of object) reserved in
       ap not same
-      ∙ sym (and_always (is_live (view_of k).table t) (not (is_member_of (view_of k).table t p)) ((view_of k).touched t (object_of object)) live touched)
+      ∙ sym (and_always (is_live (view_of k).table t) (not (is_member_of (view_of k).table t p)) ((view_of k).reserved t (object_of object)) live reserved)
       ∙ sym (least_alone reserves (view_of k).table.width t
-      (λ s passes. sym (eqb-true t s (sym (touched_by s (Some t) own) ∙ and_right (not (is_member_of (view_of k).table s p)) ((view_of k).touched s (object_of object))
-      (and_right (is_live (view_of k).table s) (not (is_member_of (view_of k).table s p) && (view_of k).touched s (object_of object)) passes))))
+      (λ s passes. sym (eqb-true t s (sym (reserved_by s (Some t) own) ∙ and_right (not (is_member_of (view_of k).table s p)) ((view_of k).reserved s (object_of object))
+      (and_right (is_live (view_of k).table s) (not (is_member_of (view_of k).table s p) && (view_of k).reserved s (object_of object)) passes))))
       (within (view_of k).table.width t (is.kept.sound.bounded t t live)))
 
 -- what was found at a number, by whether something was

@@ -10,7 +10,7 @@ use Rattle.tx_live.specs.Content.{view_of}
 use Rattle.tx_core.specs.Runs.{RunsFrom}
 use Rattle.tx_live.specs.declared.content.Content.{Content}
 use Rattle.tx_model.specs.Answer.{answer, IsAccepted, Lawful}
-use Rattle.tx_model.specs.Schedules.{recorded, history_of}
+use Rattle.tx_model.specs.Schedules.{history_with, history_of}
 use Rattle.tx_model.specs.State.{State}
 use Rattle.tx_model.specs.View.{View, view}
 
@@ -24,7 +24,7 @@ run_starts start k entries none same =
       view = same ∙ ap (view start) (sym empty);
     }
 
-recorded_accepted : (h : List Accepted) (step : Step) (r : Reply) → IsAccepted r → recorded h step r ≡ record { step = step; reply = r } ∷ h
+recorded_accepted : (h : List Accepted) (step : Step) (r : Reply) → IsAccepted r → history_with h step r ≡ record { step = step; reply = r } ∷ h
 recorded_accepted h step (No why) a = absurd a
 recorded_accepted h step (Done r) a = refl
 recorded_accepted h step Ended a = refl
@@ -32,7 +32,7 @@ recorded_accepted h step (Committed undelivered) a = refl
 recorded_accepted h step (Aborted status) a = refl
 recorded_accepted h step (Out bytes) a = refl
 
-recorded_refused : (h : List Accepted) (step : Step) (r : Reply) → (IsAccepted r → ⊥) → recorded h step r ≡ h
+recorded_refused : (h : List Accepted) (step : Step) (r : Reply) → (IsAccepted r → ⊥) → history_with h step r ≡ h
 recorded_refused h step (No why) a = refl
 recorded_refused h step (Done r) a = absurd (a tt)
 recorded_refused h step Ended a = absurd (a tt)
@@ -42,17 +42,17 @@ recorded_refused h step (Out bytes) a = absurd (a tt)
 
 -- the history of a schedule and one more step
 history_of_more : (start : State) (h : List Accepted) (made : List Step) (step : Step)
-    → history_of start h (made ++ step ∷ []) ≡ recorded (history_of start h made) step (answer (view start (history_of start h made)) step)
+    → history_of start h (made ++ step ∷ []) ≡ history_with (history_of start h made) step (answer (view start (history_of start h made)) step)
 unfolding history_of
 history_of_more start h [] step = refl
-history_of_more start h (first ∷ made) step = history_of_more start (recorded h first (answer (view start h) first)) made step
+history_of_more start h (first ∷ made) step = history_of_more start (history_with h first (answer (view start h) first)) made step
 
 -- the same of a run, by the reply that the step gets
 one_more : (start : State) (made : List Step) (step : Step) (old : Content) (entries : List Accepted) (reply : Reply) → RunsFrom start made old entries → answer (view_of old) step ≡ reply
-    → recorded (reverse entries) step reply ≡ history_of start [] (made ++ step ∷ [])
+    → history_with (reverse entries) step reply ≡ history_of start [] (made ++ step ∷ [])
 one_more start made step old entries reply so answered =
-    ap (recorded (reverse entries) step) (sym answered ∙ ap (λ (V : View). answer V step) so.view)
-    ∙ ap (λ (h : List Accepted). recorded h step (answer (view start h) step)) so.history
+    ap (history_with (reverse entries) step) (sym answered ∙ ap (λ (V : View). answer V step) so.view)
+    ∙ ap (λ (h : List Accepted). history_with h step (answer (view start h) step)) so.history
     ∙ sym (history_of_more start [] made step)
 
 pub run_accepted : (start : State) (made : List Step) (step : Step) (old new : Content) (entries : List Accepted) (reply : Reply) → RunsFrom start made old entries

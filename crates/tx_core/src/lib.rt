@@ -10,4 +10,4 @@ mod schedules;
 
 pub use free::Free;
 pub use machine::{Machine, NoTransaction};
-pub use schedules::{Kept, Ran, run, run_kept, run_wide};
+pub use schedules::{KeptRun, Ran, run, run_kept, run_wide};

@@ -11,7 +11,7 @@ ghost use Rattle.tx_live.specs.declared.content.Content.{Content as TheContent};
 ghost use Rattle.tx_model.specs.Answer.{answer, IsAccepted, Lawful};
 ghost use Rattle.tx_model.specs.Events.{process_of};
 ghost use Rattle.tx_model.specs.Membership.{is_live};
-ghost use Rattle.tx_model.specs.State.{State, booted};
+ghost use Rattle.tx_model.specs.State.{State, boot_state};
 ghost use Rattle.tx_model.specs.View.{kernel_status, view};
 ghost use Rattle.tx_step.specs.Steps.{IsKernelAbort, IsStep, IsXabort, Takes};
 
@@ -52,7 +52,7 @@ impl Machine {
     /// never to a member's sys_xabort or to the kernel's abort.
     ///
     /// The inverse changes only what the step names: objects of its footprint, the processes that its
-    /// sends go to, and, where it ends a transaction, what that one touched.
+    /// sends go to, and, where it ends a transaction, what that one reserved.
     pub fn step(&mut self, alloc: Global, step: &Step) -> (Reply, Option<Inverse>)
         ensures answer { (result.0 ≡ No Refusal.NoMemory) ⊎ (answer (view_of self.old) step.now ≡ result.0) }
         ensures memory { result.0 ≡ No Refusal.NoMemory → IsAccepted (answer (view_of self.old) step.now) }
@@ -155,7 +155,7 @@ impl Machine {
         requires low { 1 ≤ count }
         requires high { count ≤ width }
         requires width { IsWidth width }
-        ensures view { IfOk result (λ machine. view_of machine ≡ view (booted width count) []) }
+        ensures view { IfOk result (λ machine. view_of machine ≡ view (boot_state width count) []) }
         ensures processes { IfOk result (λ machine. length machine.parts.procs ≡ width) }
     {
         laws();
@@ -168,7 +168,7 @@ impl Machine {
     pub fn boot(alloc: Global, count: u16) -> Result<Machine, NoMemory>
         requires low { 1 ≤ count }
         requires high { count ≤ 64 }
-        ensures view { IfOk result (λ machine. view_of machine ≡ view (booted 64 count) []) }
+        ensures view { IfOk result (λ machine. view_of machine ≡ view (boot_state 64 count) []) }
         ensures processes { IfOk result (λ machine. length machine.parts.procs ≡ 64) }
     {
         Machine::booted(alloc, PROCESSES, count)
@@ -178,7 +178,7 @@ impl Machine {
     pub fn boot_wide(alloc: Global, count: u16) -> Result<Machine, NoMemory>
         requires low { 1 ≤ count }
         requires high { count ≤ 256 }
-        ensures view { IfOk result (λ machine. view_of machine ≡ view (booted 256 count) []) }
+        ensures view { IfOk result (λ machine. view_of machine ≡ view (boot_state 256 count) []) }
         ensures processes { IfOk result (λ machine. length machine.parts.procs ≡ 256) }
     {
         Machine::booted(alloc, WIDE_PROCESSES, count)

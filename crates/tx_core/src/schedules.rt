@@ -6,7 +6,7 @@ ghost use Rattle.tx_core.specs.Runs.{RunsFrom, taken};
 ghost use Rattle.tx_live.specs.Content.{view_of};
 ghost use Rattle.tx_model.specs.Answer.{Lawful, Agreement};
 ghost use Rattle.tx_model.specs.Schedules.{history_of};
-ghost use Rattle.tx_model.specs.State.{State, booted};
+ghost use Rattle.tx_model.specs.State.{State, boot_state};
 ghost use Rattle.tx_model.specs.View.{view};
 ghost use Rattle.tx_moment.specs.Moments.{HasMoments};
 
@@ -26,7 +26,7 @@ pub struct Ran {
 
 /// A run that is kept up to the step that wanted memory.
 #[derive(Drop)]
-pub struct Kept {
+pub struct KeptRun {
     /// The run of the steps that were taken: those before the one where it stopped, or all.
     pub ran: Ran,
     /// The number of the step where it stopped, counted from 0. None where all were taken.
@@ -40,11 +40,11 @@ pub struct Kept {
 pub fn run(alloc: Global, count: u16, steps: &[Step]) -> Result<Ran, NoMemory>
     requires low { 1 ≤ count }
     requires high { count ≤ 64 }
-    ensures history { IfOk result (λ ran. reverse ran.history.items ≡ history_of (booted 64 count) [] steps.now) }
-    ensures lawful { IfOk result (λ ran. Lawful (booted 64 count) (reverse ran.history.items)) }
-    ensures view { IfOk result (λ ran. view_of ran.machine ≡ view (booted 64 count) (reverse ran.history.items)) }
-    ensures agreement { IfOk result (λ ran. (later earlier : List TheAccepted) → reverse ran.history.items ≡ later ++ earlier → Agreement (booted 64 count) earlier) }
-    ensures moments { IfOk result (λ ran. HasMoments (booted 64 count) (reverse ran.history.items)) }
+    ensures history { IfOk result (λ ran. reverse ran.history.items ≡ history_of (boot_state 64 count) [] steps.now) }
+    ensures lawful { IfOk result (λ ran. Lawful (boot_state 64 count) (reverse ran.history.items)) }
+    ensures view { IfOk result (λ ran. view_of ran.machine ≡ view (boot_state 64 count) (reverse ran.history.items)) }
+    ensures agreement { IfOk result (λ ran. (later earlier : List TheAccepted) → reverse ran.history.items ≡ later ++ earlier → Agreement (boot_state 64 count) earlier) }
+    ensures moments { IfOk result (λ ran. HasMoments (boot_state 64 count) (reverse ran.history.items)) }
 {
     // The laws that the agreement and the moments stand on.
     erasure();
@@ -56,11 +56,11 @@ pub fn run(alloc: Global, count: u16, steps: &[Step]) -> Result<Ran, NoMemory>
 pub fn run_wide(alloc: Global, count: u16, steps: &[Step]) -> Result<Ran, NoMemory>
     requires low { 1 ≤ count }
     requires high { count ≤ 256 }
-    ensures history { IfOk result (λ ran. reverse ran.history.items ≡ history_of (booted 256 count) [] steps.now) }
-    ensures lawful { IfOk result (λ ran. Lawful (booted 256 count) (reverse ran.history.items)) }
-    ensures view { IfOk result (λ ran. view_of ran.machine ≡ view (booted 256 count) (reverse ran.history.items)) }
-    ensures agreement { IfOk result (λ ran. (later earlier : List TheAccepted) → reverse ran.history.items ≡ later ++ earlier → Agreement (booted 256 count) earlier) }
-    ensures moments { IfOk result (λ ran. HasMoments (booted 256 count) (reverse ran.history.items)) }
+    ensures history { IfOk result (λ ran. reverse ran.history.items ≡ history_of (boot_state 256 count) [] steps.now) }
+    ensures lawful { IfOk result (λ ran. Lawful (boot_state 256 count) (reverse ran.history.items)) }
+    ensures view { IfOk result (λ ran. view_of ran.machine ≡ view (boot_state 256 count) (reverse ran.history.items)) }
+    ensures agreement { IfOk result (λ ran. (later earlier : List TheAccepted) → reverse ran.history.items ≡ later ++ earlier → Agreement (boot_state 256 count) earlier) }
+    ensures moments { IfOk result (λ ran. HasMoments (boot_state 256 count) (reverse ran.history.items)) }
 {
     // The laws that the agreement and the moments stand on.
     erasure();
@@ -75,14 +75,14 @@ pub fn run_wide(alloc: Global, count: u16, steps: &[Step]) -> Result<Ran, NoMemo
 /// in the history was refused. That step changed nothing, and `ran` is the run of the steps before it.
 ///
 /// Answers `NoMemory` only where the machine is refused, before the first step.
-pub fn run_kept(alloc: Global, count: u16, steps: &[Step]) -> Result<Kept, NoMemory>
+pub fn run_kept(alloc: Global, count: u16, steps: &[Step]) -> Result<KeptRun, NoMemory>
     requires low { 1 ≤ count }
     requires high { count ≤ 64 }
-    ensures history { IfOk result (λ kept. reverse kept.ran.history.items ≡ history_of (booted 64 count) [] (taken kept.stopped steps.now)) }
-    ensures lawful { IfOk result (λ kept. Lawful (booted 64 count) (reverse kept.ran.history.items)) }
-    ensures view { IfOk result (λ kept. view_of kept.ran.machine ≡ view (booted 64 count) (reverse kept.ran.history.items)) }
-    ensures agreement { IfOk result (λ kept. (later earlier : List TheAccepted) → reverse kept.ran.history.items ≡ later ++ earlier → Agreement (booted 64 count) earlier) }
-    ensures moments { IfOk result (λ kept. HasMoments (booted 64 count) (reverse kept.ran.history.items)) }
+    ensures history { IfOk result (λ kept. reverse kept.ran.history.items ≡ history_of (boot_state 64 count) [] (taken kept.stopped steps.now)) }
+    ensures lawful { IfOk result (λ kept. Lawful (boot_state 64 count) (reverse kept.ran.history.items)) }
+    ensures view { IfOk result (λ kept. view_of kept.ran.machine ≡ view (boot_state 64 count) (reverse kept.ran.history.items)) }
+    ensures agreement { IfOk result (λ kept. (later earlier : List TheAccepted) → reverse kept.ran.history.items ≡ later ++ earlier → Agreement (boot_state 64 count) earlier) }
+    ensures moments { IfOk result (λ kept. HasMoments (boot_state 64 count) (reverse kept.ran.history.items)) }
     ensures stopped { IfOk result (λ kept. IfSome kept.stopped (λ number. number < length steps.now)) }
 {
     // The laws that the agreement and the moments stand on.
@@ -103,7 +103,7 @@ fn run_whole(alloc: Global, machine: Machine, steps: &[Step]) -> Result<Ran, NoM
 }
 
 /// Runs a schedule on a booted machine, up to the step that wants memory.
-fn run_on(alloc: Global, mut machine: Machine, steps: &[Step]) -> Kept
+fn run_on(alloc: Global, mut machine: Machine, steps: &[Step]) -> KeptRun
     ensures run { (start : State) → view_of machine ≡ view start [] → RunsFrom start (taken result.stopped steps.now) result.ran.machine result.ran.history.items }
     ensures stopped { IfSome result.stopped (λ number. number < length steps.now) }
 {
@@ -111,14 +111,14 @@ fn run_on(alloc: Global, mut machine: Machine, steps: &[Step]) -> Kept
     for (i, step) in steps.iter().enumerate() {
         if run_step(alloc, &mut machine, &mut history, step).is_err() {
             let ran = Ran { machine, history };
-            return Kept {
+            return KeptRun {
                 ran,
                 stopped: Some(i),
             };
         }
     }
     let ran = Ran { machine, history };
-    Kept { ran, stopped: None }
+    KeptRun { ran, stopped: None }
 }
 
 /// Makes one more step of a schedule, and records it where it was accepted. Its place in the history

@@ -4,11 +4,12 @@ use Rattle.std.proofs.lemmas.Bool.{false_from_ne_true}
 use Rattle.std.proofs.Math.ListN.{set}
 use Rattle.tx_base.specs.declared.errors.Errno.{Errno}
 use Rattle.tx_base.specs.declared.errors.Errno.TheVariants.{BadDescriptor, TooManyDescriptors}
-use Rattle.tx_model.specs.Book.{description_at, gives_up, dup, dup2, close, set_nonblock}
-use Rattle.tx_model.specs.State.{Process, SetDesc, written}
-use Rattle.tx_model.specs.Effects.{Effect, done, before_sends}
+use Rattle.tx_model.specs.Book.{description_at, release, dup, dup2, close, set_nonblock}
+use Rattle.tx_model.specs.State.{Process, SetDesc, with_writes}
+use Rattle.tx_model.specs.Effects.{Effect}
+use Rattle.tx_model.specs.Words.{answer_effect, before_sends}
 use Rattle.tx_model.specs.Forms.{Caller, Outcome, Rule, answers, changes, fails, effect_of, ◌or◌}
-use Rattle.tx_model.specs.Descriptors.{named, descriptor, first_free, lowest_free, listed, pipes_of, unnamed_go, endless_go}
+use Rattle.tx_model.specs.Descriptors.{description_named, descriptor, first_free, lowest_free, option_list, pipes_of, description_removals, pipe_removals}
 use Rattle.tx_desc.specs.declared.opened.Opened.{Opened}
 use Rattle.tx_desc.specs.declared.plans.NewDesc.{NewDesc}
 use Rattle.tx_desc.specs.Places.{Descriptors, named_in}
@@ -20,16 +21,16 @@ use Rattle.tx_desc.proofs.Counting.{room_there}
 use Rattle.tx_desc.proofs.Gone.{Sheds}
 use Rattle.tx_desc.proofs.Running.{running_gives}
 
-named_is : (me : Process) (table : Descriptors) (x : Option ℕ) → me.descriptors ≡ table → named me x ≡ named_in table x
+named_is : (me : Process) (table : Descriptors) (x : Option ℕ) → me.descriptors ≡ table → description_named me x ≡ named_in table x
 named_is me table None same = refl
 named_is me table (Some f) same = ap (λ (t : Descriptors). get_or t f None) same
 
 -- what was found
 
-pub found_named : (me : Process) (table : Descriptors) (x : Option ℕ) (f d : ℕ) → me.descriptors ≡ table → x ≡ Some f → get_or table f None ≡ Some d → named me x ≡ Some d
+pub found_named : (me : Process) (table : Descriptors) (x : Option ℕ) (f d : ℕ) → me.descriptors ≡ table → x ≡ Some f → get_or table f None ≡ Some d → description_named me x ≡ Some d
 found_named me table x f d same h is = named_is me table x same ∙ ap (named_in table) h ∙ is
 
-pub none_named : (me : Process) (table : Descriptors) (x : Option ℕ) → me.descriptors ≡ table → named_in table x ≡ None → named me x ≡ None
+pub none_named : (me : Process) (table : Descriptors) (x : Option ℕ) → me.descriptors ≡ table → named_in table x ≡ None → description_named me x ≡ None
 none_named me table x same h = named_is me table x same ∙ h
 
 pub found_room : (room : ℕ) (table : Descriptors) (D : List (Option Opened)) (x : Option ℕ) (f d : ℕ) → x ≡ Some f → get_or table f None ≡ Some d →
@@ -38,9 +39,9 @@ found_room room table D x f d h is r = subst (λ (y : Option ℕ). HasRoom room 
 
 -- what a rule keeps
 
-pub done_keeps : (rule : Rule) (c : Caller) (r : ℤ) (q : Process) (D : List (Option Opened)) → effect_in rule c ≡ done c.number r q →
+pub done_keeps : (rule : Rule) (c : Caller) (r : ℤ) (q : Process) (D : List (Option Opened)) → effect_in rule c ≡ answer_effect c.number r q →
     HasDescs c.state D → HasDescs (state_after rule c) D
-unfolding written
+unfolding with_writes
 done_keeps rule c r q D e has d = ap (λ (F : Effect). (before_sends F c.state).descs d) e ∙ has d
 
 -- an error puts nothing in place
@@ -53,7 +54,7 @@ error_keeps (Err e) news err none rule c errno D is has =
     (done_keeps rule c _ c.process D (ap (effect_of c.number c.process) is) has)
 
 pub gives_keeps : (rule : Rule) (c : Caller) (ds : List ℕ) (r : ℤ) (table new : Descriptors) (before after : List (Option Opened)) →
-    effect_in rule c ≡ effect_in (gives_up ds r (with_table new c.process)) c → RunsWith c.number c.process c.state table → length new ≡ 16 →
+    effect_in rule c ≡ effect_in (release ds r (with_table new c.process)) c → RunsWith c.number c.process c.state table → length new ≡ 16 →
     HasDescs c.state before → Agrees (new ∷ others_of c.number c.state) after → Sheds ds before after → HasDescs (state_after rule c) after
 gives_keeps rule c ds r table new before after e w full has a sheds =
     subst (λ (F : Effect). HasDescs (before_sends F c.state) after) (sym e) (running_gives ds r c table new before after w full has a sheds)
@@ -62,20 +63,20 @@ module _ (c : Caller) (table : Descriptors) (same : c.process.descriptors ≡ ta
   as_table : with_table table c.process ≡ c.process
   as_table = sym (ap (λ (t : Descriptors). with_table t c.process) same)
 
-  at_table : (f : ℕ) (x : Option ℕ) → get_or table f None ≡ x → named c.process (Some f) ≡ x
+  at_table : (f : ℕ) (x : Option ℕ) → get_or table f None ≡ x → description_named c.process (Some f) ≡ x
   at_table f x h = ap (λ (t : Descriptors). get_or t f None) same ∙ h
 
   -- a descriptor that is not open
   unnamed : (x : Option ℕ) (rest : ℕ → ℕ → Outcome) → named_in table x ≡ None →
-      (x or fails BadDescriptor) (λ f. (named c.process (Some f) or fails BadDescriptor) (rest f)) ≡ fails BadDescriptor
+      (x or fails BadDescriptor) (λ f. (description_named c.process (Some f) or fails BadDescriptor) (rest f)) ≡ fails BadDescriptor
   unnamed None rest none = refl
   unnamed (Some f) rest none = ap (λ (y : Option ℕ). (y or fails BadDescriptor) (rest f)) (at_table f None none)
 
   -- and one that is
   opened : (x : Option ℕ) (f d : ℕ) (rest : ℕ → ℕ → Outcome) → x ≡ Some f → get_or table f None ≡ Some d →
-      (x or fails BadDescriptor) (λ f. (named c.process (Some f) or fails BadDescriptor) (rest f)) ≡ rest f d
+      (x or fails BadDescriptor) (λ f. (description_named c.process (Some f) or fails BadDescriptor) (rest f)) ≡ rest f d
   opened x f d rest h is =
-      ap (λ (y : Option ℕ). (y or fails BadDescriptor) (λ f. (named c.process (Some f) or fails BadDescriptor) (rest f))) h
+      ap (λ (y : Option ℕ). (y or fails BadDescriptor) (λ f. (description_named c.process (Some f) or fails BadDescriptor) (rest f))) h
       ∙ ap (λ (y : Option ℕ). (y or fails BadDescriptor) (rest f)) (at_table f (Some d) is)
 
   -- dup
@@ -100,10 +101,10 @@ module _ (c : Caller) (table : Descriptors) (same : c.process.descriptors ≡ ta
   close_bad fd none = unnamed (descriptor fd) _ none
 
   pub close_done : (fd : ℤ) (f d : ℕ) (new : Descriptors) → descriptor fd ≡ Some f → get_or table f None ≡ Some d → new ≡ set table f None →
-      close fd c ≡ gives_up (d ∷ []) (pos 0) (with_table new c.process) c
+      close fd c ≡ release (d ∷ []) (pos 0) (with_table new c.process) c
   close_done fd f d new h is changed =
       opened (descriptor fd) f d _ h is
-      ∙ ap (λ (t : Descriptors). gives_up (d ∷ []) (pos 0) (with_table t c.process) c) (ap (λ (t : Descriptors). set t f None) same ∙ sym changed)
+      ∙ ap (λ (t : Descriptors). release (d ∷ []) (pos 0) (with_table t c.process) c) (ap (λ (t : Descriptors). set t f None) same ∙ sym changed)
 
   -- dup2
 
@@ -114,24 +115,24 @@ module _ (c : Caller) (table : Descriptors) (same : c.process.descriptors ≡ ta
       dup2 fd other c ≡ fails BadDescriptor
   dup2_other fd other f d h is none = opened (descriptor fd) f d _ h is ∙ rw (← none) refl
 
-  gives_none : (r : ℤ) → done c.number r c.process ≡ effect_in (gives_up [] r c.process) c
-  unfolding unnamed_go endless_go pipes_of
+  gives_none : (r : ℤ) → answer_effect c.number r c.process ≡ effect_in (release [] r c.process) c
+  unfolding description_removals pipe_removals pipes_of
   gives_none r = refl
 
   pub dup2_same : (fd other : ℤ) (f d g : ℕ) → descriptor fd ≡ Some f → get_or table f None ≡ Some d → Some g ≡ descriptor other → f ≡ g →
-      effect_in (dup2 fd other) c ≡ effect_in (gives_up [] (pos g) (with_table table c.process)) c
+      effect_in (dup2 fd other) c ≡ effect_in (release [] (pos g) (with_table table c.process)) c
   dup2_same fd other f d g h is there z =
       let whole : dup2 fd other c ≡ answers (pos g) = opened (descriptor fd) f d _ h is ∙ rw (← there, eq-eqb f g z) refl in
-      ap (effect_of c.number c.process) whole ∙ gives_none (pos g) ∙ ap (λ (q : Process). effect_in (gives_up [] (pos g) q) c) (sym as_table)
+      ap (effect_of c.number c.process) whole ∙ gives_none (pos g) ∙ ap (λ (q : Process). effect_in (release [] (pos g) q) c) (sym as_table)
 
   pub dup2_done : (fd other : ℤ) (f d g : ℕ) (new : Descriptors) (ds : List ℕ) → descriptor fd ≡ Some f → get_or table f None ≡ Some d →
-      Some g ≡ descriptor other → f ≢ g → new ≡ set table g (Some d) → ds ≡ listed (get_or table g None) →
-      dup2 fd other c ≡ gives_up ds (pos g) (with_table new c.process) c
+      Some g ≡ descriptor other → f ≢ g → new ≡ set table g (Some d) → ds ≡ option_list (get_or table g None) →
+      dup2 fd other c ≡ release ds (pos g) (with_table new c.process) c
   dup2_done fd other f d g new ds h is there apart changed names =
       let differ : (f == g) ≡ false = false_from_ne_true (f == g) (λ k. apart (eqb-true f g k)) in
       opened (descriptor fd) f d _ h is ∙ rw (← there, differ) refl
-      ∙ ap (λ (t : Descriptors). gives_up (listed (get_or t g None)) (pos g) (with_table (set t g (Some d)) c.process) c) same
-      ∙ (λ i. gives_up (sym names i) (pos g) (with_table (sym changed i) c.process) c)
+      ∙ ap (λ (t : Descriptors). release (option_list (get_or t g None)) (pos g) (with_table (set t g (Some d)) c.process) c) same
+      ∙ (λ i. release (sym names i) (pos g) (with_table (sym changed i) c.process) c)
 
 -- set_nonblock
 

@@ -1,7 +1,8 @@
 -- The ends of a pipe among the descriptions.
 use Rattle.std.proofs.Common.{◌≡◌, ℕ, zero, suc, ◌+◌, Bool, true, false, List, Option, Some, None, if◌then◌else◌, get_or, refl, sym, ap, ◌∙◌, arith}
 use Rattle.tx_model.specs.State.{Side as End, ReadSide, WriteSide, Description, State, side_in}
-use Rattle.tx_model.specs.Descriptors.{is_side, has_side_below, has_description}
+use Rattle.tx_model.specs.Descriptors.{is_side, has_description, some_below}
+use Rattle.tx_model.specs.Words.{has_side_below}
 use Rattle.tx_model.specs.Book.{is_read_side, is_write_side}
 use Rattle.tx_desc.specs.declared.opened.Side.{Side}
 use Rattle.tx_desc.specs.declared.opened.Side.TheVariants.{Read, Write}
@@ -21,7 +22,7 @@ is_end_at : (side : Side) (k d : ℕ) (S : State) (D : List (Option Opened)) →
 is_end_at side k d S D same = ap (λ (x : Option Description). is_side (side_test side) (side_in k x)) (same d)
 
 below_next : (test : End → Bool) (k d : ℕ) (S : State) → has_side_below test k (d + 1) S ≡ (if has_side_below test k d S then true else is_side test (side_in k (S.descs d)))
-unfolding has_side_below
+unfolding some_below
 below_next test k d S = let next : d + 1 ≡ suc d = omega arith in ap (λ (n : ℕ). has_side_below test k n S) next
 
 pub end_found : (side : Side) (k d : ℕ) (S : State) (D : List (Option Opened)) → HasDescs S D → is_end_of side k (get_or D d None) ≡ true →
@@ -35,7 +36,7 @@ end_missed side k d S D same h =
     sym (below_next (side_test side) k d S ∙ or_left (has_side_below (side_test side) k d S) _ (is_end_at side k d S D same ∙ h))
 
 pub none_below : (test : End → Bool) (k : ℕ) (S : State) → false ≡ has_side_below test k 0 S
-unfolding has_side_below
+unfolding some_below
 none_below test k S = refl
 
 pub side_whole : (side : Side) (k d : ℕ) (S : State) → d ≡ 64 → has_side_below (side_test side) k d S ≡ has_side side k S
@@ -57,7 +58,7 @@ mixed false false false d = refl
 
 both_below : (k n : ℕ) (S : State) →
     (if has_side_below is_read_side k n S then true else has_side_below is_write_side k n S) ≡ has_side_below (λ (side : End). true) k n S
-unfolding has_side_below
+unfolding some_below
 both_below k zero S = refl
 both_below k (suc n) S =
     mixed (has_side_below is_read_side k n S) (is_side is_read_side (side_in k (S.descs n))) (has_side_below is_write_side k n S) (is_side is_write_side (side_in k (S.descs n)))

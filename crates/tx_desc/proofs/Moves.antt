@@ -3,10 +3,11 @@ use Rattle.std.proofs.Common.{◌≡◌, ◌≢◌, ℕ, ◌+◌, ◌-◌, ◌<�
 use Rattle.std.proofs.lemmas.Bool.{lt-ltb}
 use Rattle.std.proofs.lemmas.List.{set-set, set-get_or}
 use Rattle.std.proofs.Math.ListN.{set}
-use Rattle.tx_model.specs.State.{written}
-use Rattle.tx_model.specs.Effects.{Effect, before_sends}
+use Rattle.tx_model.specs.State.{with_writes}
+use Rattle.tx_model.specs.Effects.{Effect}
+use Rattle.tx_model.specs.Words.{before_sends}
 use Rattle.tx_model.specs.Forms.{Caller, Rule, changes, effect_of}
-use Rattle.tx_model.specs.Descriptors.{listed}
+use Rattle.tx_model.specs.Descriptors.{option_list}
 use Rattle.tx_model.specs.StateLaws.{put_cases}
 use Rattle.std.specs.Prelude.{option_map}
 use Rattle.tx_base.specs.declared.names.DescNo.{DescNo}
@@ -29,10 +30,10 @@ moved f x y t new D after inside room is changed moves =
     (subst (λ (l : Descriptors). KeepsCounts t l D (changed_at (with_fewer 1) (get_or t f None) (changed_at (with_more 1) y D))) (sym changed)
     (moves_keeps f y t D inside room))
 
-pub moved_sheds : (x y : Option ℕ) (D after : List (Option Opened)) → after ≡ changed_at (with_fewer 1) x (changed_at (with_more 1) y D) → Sheds (listed x) D after
+pub moved_sheds : (x y : Option ℕ) (D after : List (Option Opened)) → after ≡ changed_at (with_fewer 1) x (changed_at (with_more 1) y D) → Sheds (option_list x) D after
 moved_sheds x y D after moves =
-    subst (Sheds (listed x) D) (sym moves)
-    (lower_sheds (listed x) x D (changed_at (with_more 1) y D) (λ e is. subst (λ (z : Option ℕ). IsIn e (listed z)) (sym is) (inl refl)) (λ k. inl (raise_same y D k)))
+    subst (Sheds (option_list x) D) (sym moves)
+    (lower_sheds (option_list x) x D (changed_at (with_more 1) y D) (λ e is. subst (λ (z : Option ℕ). IsIn e (option_list z)) (sym is) (inl refl)) (λ k. inl (raise_same y D k)))
 
 -- one more and one fewer is nothing
 more_fewer : (room : ℕ) (p : Option Opened) → IsEnough 1 room p → with_fewer 1 (with_more 1 p) ≡ p
@@ -70,7 +71,7 @@ raised_same y D mid raised = subst (SameDescs D) (sym raised) (raise_same y D)
 pub flag_descs : (rule : Rule) (c : Caller) (on : Bool) (x : Option ℕ) (d : ℕ) (D new : List (Option Opened)) →
     rule c ≡ changes (pos 0) c.process (described_again x new) → x ≡ Some d → new ≡ changed_at (with_flag on) (Some d) D → HasDescs c.state D →
     HasDescs (state_after rule c) new
-unfolding written
+unfolding with_writes
 flag_descs rule c on x d D new e is changed has k =
     ap (λ (F : Effect). (before_sends F c.state).descs k)
     (ap (effect_of c.number c.process) (e ∙ ap (λ (y : Option ℕ). changes (pos 0) c.process (described_again y new)) is))

@@ -3,8 +3,9 @@ use Rattle.std.proofs.Common.{◌≡◌, ◌≢◌, ℕ, zero, suc, ◌+◌, ◌
 use Rattle.std.proofs.lemmas.Bool.{both_ways, ltb-true, ltb-false, lt-ltb, le-ltb}
 use Rattle.std.proofs.lemmas.List.{take_more, take_all}
 use Rattle.std.proofs.lemmas.List.Sums.{sum_by_push, sum_by-append}
+use Rattle.tx_model.specs.Descriptors.{some_below}
 use Rattle.tx_model.specs.State.{Process, State, SetProc, write_one, is_number}
-use Rattle.tx_model.specs.Descriptors.{names_below, is_named_below}
+use Rattle.tx_model.specs.Words.{names_below, is_named_below}
 use Rattle.tx_desc.specs.Places.{Descriptors}
 use Rattle.tx_desc.specs.Counts.{count_in, names_in, table_of, others_below, others_of, HasNamed}
 use Rattle.tx_desc.proofs.Counting.{hit, names-cons}
@@ -24,12 +25,12 @@ hit_some d x = by (is_number d x)
     by false = refl
 
 ended_below : (d n : ℕ) (x : Process) → is_some x.status ≡ true → names_below d n (Some x) ≡ false
-unfolding names_below
+unfolding some_below
 ended_below d zero x ended = refl
 ended_below d (suc n) x ended = rw (ended_below d n x ended, ended) refl
 
 runs_below : (d n : ℕ) (x : Process) → is_some x.status ≡ false → n ≤ length x.descriptors → names_below d n (Some x) ≡ nat_lt 0 (count_in d (take n x.descriptors))
-unfolding names_below
+unfolding some_below
 runs_below d zero x runs inside = refl
 runs_below d (suc n) x runs inside =
     let before = runs_below d n x runs (omega arith) in
@@ -53,7 +54,7 @@ named_one d x sized = by (is_some x.status) refl
         runs_below d 16 x is (omega arith) ∙ ap (λ (t : Descriptors). nat_lt 0 (count_in d t)) all ∙ ap (nat_lt 0) same
 
 nobody_below : (d n : ℕ) → names_below d n None ≡ false
-unfolding names_below
+unfolding some_below
 nobody_below d zero = refl
 nobody_below d (suc n) = rw (nobody_below d n) refl
 
@@ -103,7 +104,7 @@ module _ (p : ℕ) (q : Process) (S : State) (sized : (n : ℕ) (x : Process) �
 
   named_below : (d n : ℕ) →
       is_named_below d n (write_one (SetProc p (Some q)) S) ≡ nat_lt 0 (own p n (mine d) + names_in d (others_below p n S))
-  unfolding is_named_below others_below
+  unfolding some_below others_below
   named_below d zero =
       let none : names_in d [] ≡ 0 = refl in
       let start : own p 0 (mine d) ≡ 0 = own_none p 0 (mine d) (omega arith) in

@@ -4,10 +4,11 @@ use Rattle.std.proofs.Math.ListN.{set}
 use Rattle.tx_base.specs.declared.names.PipeNo.{PipeNo}
 use Rattle.tx_base.specs.declared.errors.Errno.TheVariants.{TooManyDescriptors}
 use Rattle.tx_model.specs.Book as the
-use Rattle.tx_model.specs.State.{Process, SetDesc, SetPipe, put_at, written}
-use Rattle.tx_model.specs.Effects.{Effect, before_sends}
+use Rattle.tx_model.specs.State.{Process, SetDesc, SetPipe, put_at, with_writes}
+use Rattle.tx_model.specs.Effects.{Effect}
+use Rattle.tx_model.specs.Words.{before_sends, with_two_slots}
 use Rattle.tx_model.specs.Forms.{Caller, Rule, changes, fails, effect_of}
-use Rattle.tx_model.specs.Descriptors.{first_free, lowest_free, is_pipe_in_use, with_descriptor, with_two_slots}
+use Rattle.tx_model.specs.Descriptors.{first_free, lowest_free, is_pipe_in_use, with_descriptor}
 use Rattle.tx_model.specs.StateLaws.{put_cases}
 use Rattle.tx_desc.specs.declared.opened.Opened.{Opened}
 use Rattle.tx_desc.specs.Places.{Descriptors, two_free}
@@ -67,7 +68,7 @@ still_inside r w x D mid one inside = let all = ap length one ∙ length-set D r
 pub pipe_keeps : (rule : Rule) (c : Caller) (q r w : ℕ) (new : Process) (x y : Opened) (D mid after : List (Option Opened)) →
     rule c ≡ changes (pos 0) new (SetPipe q (Some []) ∷ SetDesc r (description_at after r) ∷ SetDesc w (description_at after w) ∷ []) →
     mid ≡ set D r (Some x) → after ≡ set mid w (Some y) → HasDescs c.state D → HasDescs (state_after rule c) after
-unfolding written
+unfolding with_writes
 pipe_keeps rule c q r w new x y D mid after e one two has k =
     ap (λ (F : Effect). (before_sends F c.state).descs k) (ap (effect_of c.number c.process) e)
     ∙ elim (put_cases (put_at c.state.descs r (description_at after r)) w (description_at after w) k) [

@@ -5,8 +5,8 @@ use Rattle.std.proofs.lemmas.List.{take_more, length_push}
 use Rattle.std.proofs.lemmas.List.Sums.{sum_by_push}
 use Rattle.std.proofs.Math.ListN.{set}
 use Rattle.tx_base.specs.declared.names.DescNo.{DescNo}
-use Rattle.tx_model.specs.State.{State, written}
-use Rattle.tx_model.specs.Descriptors.{open_in, unnamed_go}
+use Rattle.tx_model.specs.State.{State, with_writes}
+use Rattle.tx_model.specs.Descriptors.{open_in, description_removals}
 use Rattle.tx_desc.specs.declared.counts.Names.{Names}
 use Rattle.tx_desc.specs.declared.counts.Names.TheVariants.{Fewer}
 use Rattle.tx_desc.specs.declared.opened.Opened.{Opened}
@@ -185,6 +185,6 @@ dropped_sheds table D E after d = by (nat_lt 0 (count_in d table)) refl
 
 pub dropped_descs : (table : Descriptors) (D E : List (Option Opened)) (others : List Descriptors) (S : State) →
     ((d : ℕ) → get_or E d None ≡ recounted Fewer (count_in d table) (get_or D d None)) → Agrees (table ∷ others) D → HasDescs S D → HasNamed S others →
-    HasDescs (written (unnamed_go (open_in table) S) S) E
+    HasDescs (with_writes (description_removals (open_in table) S) S) E
 dropped_descs table D E others S after a has named =
     shed_descs (open_in table) others S D E (keeps_go table others D E (dropped_keeps table D E after) a) named has (dropped_sheds table D E after)

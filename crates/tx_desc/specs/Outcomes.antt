@@ -2,9 +2,9 @@
 use Rattle.std.specs.Prelude.{◌≡◌, ℕ, List, [], ◌∷◌, pos, Option, Some, None, Result, Ok, Err, length, true}
 use Rattle.tx_base.specs.declared.errors.Errno.{Errno}
 use Rattle.tx_base.specs.declared.limits.TheConstants.{DESCRIPTORS}
-use Rattle.tx_model.specs.Book.{gives_up}
-use Rattle.tx_model.specs.Effects.{Effect, before_sends}
-use Rattle.tx_model.specs.Descriptors.{with_two_slots}
+use Rattle.tx_model.specs.Book.{release}
+use Rattle.tx_model.specs.Effects.{Effect}
+use Rattle.tx_model.specs.Words.{before_sends, with_two_slots}
 use Rattle.tx_model.specs.Forms.{Caller, Rule, changes, fails, effect_of}
 use Rattle.tx_model.specs.State.{Process, State, Write, SetDesc, SetPipe, is_between}
 use Rattle.tx_desc.specs.declared.opened.Opened.{Opened}
@@ -47,11 +47,11 @@ given_up None = []
 given_up (Some given) = given.number.0 ∷ []
 
 abbrev pub dup2_outcome : Result Renamed Errno → Descriptors → Rule
-dup2_outcome (Ok renamed) table c = gives_up (given_up renamed.given) (pos renamed.fd) (with_table table c.process) c
+dup2_outcome (Ok renamed) table c = release (given_up renamed.given) (pos renamed.fd) (with_table table c.process) c
 dup2_outcome (Err errno) table c = fails errno
 
 abbrev pub close_outcome : Result Given Errno → Descriptors → Rule
-close_outcome (Ok given) table c = gives_up (given.number.0 ∷ []) (pos 0) (with_table table c.process) c
+close_outcome (Ok given) table c = release (given.number.0 ∷ []) (pos 0) (with_table table c.process) c
 close_outcome (Err errno) table c = fails errno
 
 abbrev pub described_again : Option ℕ → List (Option Opened) → List Write

@@ -1,8 +1,8 @@
 //! The counts of names: raised where a descriptor comes to name a description, lowered where one gives
 //! its name up.
 ghost use Rattle.std.specs.Prelude.{◌≡◌, ◌<◌, ℕ, List, [], ◌∷◌, None, option_map, slice_index_or};
-ghost use Rattle.tx_model.specs.Descriptors.{unnamed_go, open_in};
-ghost use Rattle.tx_model.specs.State.{State, written};
+ghost use Rattle.tx_model.specs.Descriptors.{description_removals, open_in};
+ghost use Rattle.tx_model.specs.State.{State, with_writes};
 ghost use Rattle.tx_desc.specs.Counts.{Agrees, HasNamed, HasSpace, IsBacked, KeepsCounts, count_in};
 ghost use Rattle.tx_desc.specs.Descriptions.{HasDescs, recounted, with_more, with_fewer, with_flag};
 ghost use Rattle.tx_desc.specs.Places.{Descriptors};
@@ -44,7 +44,7 @@ impl Descs {
         ensures counts { KeepsCounts table.now [] self.now (put_descs result.items self.now) }
         ensures descriptions { (others : List Descriptors) (S : State) →
             Agrees (table.now ∷ others) self.now → HasDescs S self.now → HasNamed S others →
-            HasDescs (written (unnamed_go (open_in table.now) S) S) (put_descs result.items self.now) }
+            HasDescs (with_writes (description_removals (open_in table.now) S) S) (put_descs result.items self.now) }
         ensures once { IsOnceEach table.now result.items }
         ensures numbers { AreNumbers result.items }
     {
@@ -71,7 +71,7 @@ impl Descs {
         ensures counts { (others : List Descriptors) → Agrees (table.now ∷ others) self.old → Agrees others self.new }
         ensures descriptions { (others : List Descriptors) (S : State) →
             Agrees (table.now ∷ others) self.old → HasDescs S self.old → HasNamed S others →
-            HasDescs (written (unnamed_go (open_in table.now) S) S) self.new }
+            HasDescs (with_writes (description_removals (open_in table.now) S) S) self.new }
     {
         let plan = self.plan_drop_all(table);
         self.put_all(plan.as_slice());

@@ -2,7 +2,7 @@
 ghost use Rattle.std.specs.Prelude.{◌≡◌, ◌≢◌, ◌<◌, List, Option, IfOk, [], ◌∷◌, Some, None, slice_index_or, slice_set};
 ghost use Rattle.tx_desc.specs.declared.opened.Opened.{Opened};
 ghost use Rattle.tx_model.specs.Book.{pipe as pipe_rule, dup, dup2, close, set_nonblock, description_at};
-ghost use Rattle.tx_model.specs.Descriptors.{descriptor, listed};
+ghost use Rattle.tx_model.specs.Descriptors.{descriptor, option_list};
 ghost use Rattle.tx_model.specs.Forms.{Caller};
 ghost use Rattle.tx_desc.specs.Counts.{Agrees, HasRoom, KeepsCounts, others_of};
 ghost use Rattle.tx_desc.specs.Descriptions.{HasDescs, IsGone, changed_at, with_more, with_fewer};
@@ -207,7 +207,7 @@ impl FdTable {
         requires left { HasRoom 0 (slice_index_or self.now target None) descs.now }
 
         ensures fd { result.renamed.fd ≡ target }
-        ensures given { given_up result.renamed.given ≡ listed (slice_index_or self.now target None) }
+        ensures given { given_up result.renamed.given ≡ option_list (slice_index_or self.now target None) }
         ensures table { put_names (rename_puts result.rename).names self.now ≡ slice_set self.now target (Some d.0) }
         ensures after { put_descs (rename_puts result.rename).descs descs.now
             ≡ changed_at (with_fewer 1) (slice_index_or self.now target None) (changed_at (with_more 1) (Some d.0) descs.now) }

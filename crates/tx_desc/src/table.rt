@@ -1,6 +1,6 @@
 //! The descriptors of a process.
 ghost use Rattle.std.specs.Prelude.{◌≡◌, ◌<◌, ℕ, [], ◌∷◌, None, is_none, length, map, position, replicate, slice_index_or, slice_set, take};
-ghost use Rattle.tx_model.specs.Descriptors.{named, descriptor, first_free};
+ghost use Rattle.tx_model.specs.Descriptors.{description_named, descriptor, first_free};
 ghost use Rattle.tx_model.specs.State.{Process};
 ghost use Rattle.tx_desc.specs.Counts.{count_in};
 ghost use Rattle.tx_desc.specs.Places.{Finds, number_in, looked_up, two_free};
@@ -64,7 +64,7 @@ impl FdTable {
     ///
     /// BadDescriptor where the number is not 0 to 15, or that descriptor is free.
     pub fn look(&self, fd: i64) -> Result<DescNo, Errno>
-        ensures { (me : Process) → me.descriptors ≡ self.now → result ≡ looked_up (named me (descriptor fd)) }
+        ensures { (me : Process) → me.descriptors ≡ self.now → result ≡ looked_up (description_named me (descriptor fd)) }
     {
         let (_, d) = self.find(fd)?;
         Ok(d)

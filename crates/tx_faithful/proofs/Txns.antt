@@ -10,8 +10,8 @@ use Rattle.tx_base.specs.declared.marks.Mark.{Mark}
 use Rattle.tx_model.specs.Membership.{defers_in, is_of}
 use Rattle.tx_model.specs.SignalSets.{is_one_of}
 use Rattle.tx_model.specs.State.{Sending}
-use Rattle.tx_lines.proofs.Known.{joined, some_in}
-use Rattle.tx_lines.specs.Lists.{more_text, list_text, member_text, some_after}
+use Rattle.tx_lines.specs.ListLaws.{joined, list_end, one_looked, some_in}
+use Rattle.tx_lines.specs.Lists.{list_text, member_text, some_after}
 use Rattle.tx_text.specs.Each.{upto}
 use Rattle.tx_text.specs.Txns.{flag_of, held_text, helds_text, is_listed_in, listed_text, mark_text, members_text, some_of, txn_lines, txn_text, txns_text}
 use Rattle.tx_faithful.specs.Told.{HasSentWord, unsigned}
@@ -22,28 +22,6 @@ use Rattle.tx_faithful.proofs.Lists.{AreSmall, in_list, list_told, same_test, on
 use Rattle.tx_faithful.proofs.Numbered.{numbered, numbered_told, Tells}
 use Rattle.tx_faithful.proofs.Ranks.{rank}
 use Rattle.tx_faithful.proofs.Upto.{keeps_upto}
-
-more_push : (ns : List ℕ) (n : ℕ) → more_text (ns ++ n ∷ []) ≡ more_text ns ++ 44 ∷ decimal n
-more_push [] n = ap (λ (t : List ℕ). 44 ∷ t) (append-nil (decimal n))
-more_push (m ∷ ms) n =
-    ap (λ (t : List ℕ). 44 ∷ (decimal m ++ t)) (more_push ms n) ∙ ap (λ (t : List ℕ). 44 ∷ t) (sym (append_assoc (decimal m) (more_text ms) (44 ∷ decimal n)))
-
-joined_push : (ns : List ℕ) (n : ℕ) → joined (ns ++ n ∷ []) ≡ joined ns ++ member_text (some_in ns) true n
-joined_push [] n = append-nil (decimal n)
-joined_push (m ∷ ms) n = ap (λ (t : List ℕ). decimal m ++ t) (more_push ms n) ∙ sym (append_assoc (decimal m) (more_text ms) (44 ∷ decimal n))
-
-some_push : (ns : List ℕ) (n : ℕ) → some_in (ns ++ n ∷ []) ≡ true
-some_push [] n = refl
-some_push (m ∷ ms) n = refl
-
-one_looked : (ns : List ℕ) (n : ℕ) (is : Bool) →
-    (joined (ns ++ cond is (n ∷ []) []) ≡ joined ns ++ member_text (some_in ns) is n) × (some_in (ns ++ cond is (n ∷ []) []) ≡ some_after (some_in ns) is)
-one_looked ns n true = (joined_push ns n, some_push ns n)
-one_looked ns n false = (ap joined (append-nil ns) ∙ sym (append-nil (joined ns)), ap some_in (append-nil ns))
-
-list_end : (ns : List ℕ) → joined ns ++ (if some_in ns then [] else codes "-") ≡ list_text ns
-list_end [] = refl
-list_end (n ∷ ns) = append-nil (decimal n ++ more_text ns)
 
 -- the numbers from 1 on
 numbers : ℕ → List ℕ

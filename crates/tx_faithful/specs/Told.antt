@@ -7,7 +7,7 @@ use Rattle.tx_base.specs.declared.marks.Mark.{Mark}
 use Rattle.tx_base.specs.declared.names.Regs.{Regs}
 use Rattle.tx_base.specs.declared.steps.Accepted.{Accepted}
 use Rattle.tx_model.specs.Memory.{PageView}
-use Rattle.tx_model.specs.State.{Frame, Process, Queued, Sending, State, booted, is_between}
+use Rattle.tx_model.specs.State.{Frame, Process, Queued, Sending, State, boot_state, is_between}
 use Rattle.tx_model.specs.Membership.{Table, defers_in, is_live, is_member_of}
 use Rattle.tx_model.specs.View.{View, present, view}
 use Rattle.tx_model.specs.Answer.{Lawful}
@@ -134,6 +134,6 @@ RestingAreSame = (S T : State) → EndedRest S → EndedRest T →
 -- types of its numbers
 abbrev pub HistoriesAreOfKernel : Type 0
 HistoriesAreOfKernel = (width count : ℕ) (history : List Accepted) →
-    1 ≤ count → count ≤ width → Lawful (booted width count) history →
-    IsTyped (present (view (booted width count) history)) →
-    IsOfKernel (view (booted width count) history)
+    1 ≤ count → count ≤ width → Lawful (boot_state width count) history →
+    IsTyped (present (view (boot_state width count) history)) →
+    IsOfKernel (view (boot_state width count) history)

@@ -15,13 +15,14 @@ use Rattle.tx_laws.specs.TwoParts.{parts_view}
 use Rattle.tx_live.specs.Content.{view_of}
 use Rattle.tx_live.specs.declared.content.Content.{Content}
 use Rattle.tx_model.specs.Events.{process_of}
-use Rattle.tx_model.specs.Membership.{Kind, Ordinary, Forking, Beginning, Leaving, Aborting, Progress, Continues, Parks, Forks, Begins, Role, Outside, Within, Commits, Aborts, Table, is_live, is_of, kind_of, kind_role, marks_after, member_end_role, ordinary_role, parked, role, table_after, unmarked, others_open, says_ended}
+use Rattle.tx_model.specs.Membership.{Kind, Ordinary, Forking, Beginning, Leaving, Aborting, Progress, Continues, Parks, Forks, Begins, Role, Outside, Within, Commits, Aborts, Table, is_live, is_of, marks_after, parked_mark, role, table_after, mark_unless_of, others_open, says_ended}
+use Rattle.tx_model.specs.Words.{kind_of, kind_role, member_end_role, ordinary_role}
 use Rattle.tx_model.specs.State.{put_at, is_between}
 use Rattle.tx_step.specs.Steps.{IsXabort}
 use Rattle.tx_model.specs.View.{View, event_on, first_reply, next, role_on}
 
 -- a mark that was taken out names nobody, and another one whom it named
-left_marks : (s n : ℕ) (mark : Option Mark) → is_of n (unmarked s mark) ≡ true → is_of n mark ≡ true
+left_marks : (s n : ℕ) (mark : Option Mark) → is_of n (mark_unless_of s mark) ≡ true → is_of n mark ≡ true
 left_marks s n None is = is
 left_marks s n (Some m) is = by (m.starter.0 == s) is
   where
@@ -29,7 +30,7 @@ left_marks s n (Some m) is = by (m.starter.0 == s) is
     by true is = absurd (both_ways false refl is)
     by false is = is
 
-parked_as : (n : ℕ) (mark : Option Mark) → is_of n (parked mark) ≡ is_of n mark
+parked_as : (n : ℕ) (mark : Option Mark) → is_of n (parked_mark mark) ≡ is_of n mark
 parked_as n None = refl
 parked_as n (Some m) = refl
 
@@ -45,7 +46,7 @@ put_less s p n marks mark at is = by (n == p) refl is
 role_less : (r : Role) (p : ℕ) (t : Table) (s : ℕ) → ((u : ℕ) (defers : Bool) → r ≡ Within u (Begins defers) → u ≡ s) → ((u c : ℕ) → r ≡ Within u (Forks c) → u ≡ s) → LessBut s (table_after r p t) t
 role_less Outside p t s begins forks n other is = is
 role_less (Within u Continues) p t s begins forks n other is = is
-role_less (Within u Parks) p t s begins forks n other is = put_less s p n t.marks (parked (t.marks p)) (λ at h. ap (λ (x : ℕ). is_of n (t.marks x)) at ∙ sym (parked_as n (t.marks p)) ∙ h) is
+role_less (Within u Parks) p t s begins forks n other is = put_less s p n t.marks (parked_mark (t.marks p)) (λ at h. ap (λ (x : ℕ). is_of n (t.marks x)) at ∙ sym (parked_as n (t.marks p)) ∙ h) is
 role_less (Within u (Forks c)) p t s begins forks n other is = put_less s c n t.marks _ (λ at h. absurd (other (sym (eqb-true u n h) ∙ forks u c refl))) is
 role_less (Within u (Begins defers)) p t s begins forks n other is = put_less s u n t.marks _ (λ at h. absurd (other (at ∙ begins u defers refl))) is
 role_less (Commits u) p t s begins forks n other is = left_marks u n (t.marks n) is
@@ -132,7 +133,7 @@ pub lives_some : (V : View) (s : ℕ) → IsSound V → is_live V.table s ≡ tr
 lives_some V s sound live = counted s V.table V.table.width (starts_within V sound s live).0 (starts_within V sound s live).1 live
 
 -- an abort leaves its own not live
-gone : (s : ℕ) (mark : Option Mark) → is_of s (unmarked s mark) ≡ false
+gone : (s : ℕ) (mark : Option Mark) → is_of s (mark_unless_of s mark) ≡ false
 gone s None = refl
 gone s (Some m) = by (m.starter.0 == s) refl
   where

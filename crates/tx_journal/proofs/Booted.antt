@@ -3,7 +3,7 @@ use Rattle.std.proofs.Common.{◌≡◌, ℕ, zero, suc, ◌≤◌, [], ◌∷�
 use Rattle.tx_core.specs.Machines.{IsWidth}
 use Rattle.tx_journal.specs.Entries.{history_of}
 use Rattle.tx_journal.specs.Lives.{lives, lives_to}
-use Rattle.tx_journal.specs.Sessions.{HasRoom, IsJournal, kept_of}
+use Rattle.tx_journal.specs.Sessions.{HasRoom, IsJournal, session_state}
 use Rattle.tx_journal.specs.Walks.{WalksBack}
 use Rattle.tx_journal.specs.declared.journal.Journal.{Journal}
 use Rattle.tx_live.specs.Content.{view_of}
@@ -13,7 +13,7 @@ use Rattle.tx_journal.specs.declared.entry.Entry.{Entry}
 use Rattle.tx_model.specs.Answer.{Lawful}
 use Rattle.tx_model.specs.History.{table_of}
 use Rattle.tx_model.specs.Membership.{empty_table}
-use Rattle.tx_model.specs.State.{booted}
+use Rattle.tx_model.specs.State.{boot_state}
 use Rattle.tx_model.specs.View.{view}
 
 none_live : (width n : ℕ) → lives_to (empty_table width) n ≡ 0
@@ -22,24 +22,24 @@ none_live width zero = refl
 none_live width (suc n) = let rest : lives_to (empty_table width) n ≡ 0 = none_live width n in omega (arith, rest)
 
 module _ (machine : Content) (width count : ℕ) where
-  starts : (es : List Entry) → es ≡ [] → (is : List Inverse) → is ≡ [] → 1 ≤ count → count ≤ width → IsWidth width → view_of machine ≡ view (booted width count) [] →
+  starts : (es : List Entry) → es ≡ [] → (is : List Inverse) → is ≡ [] → 1 ≤ count → count ≤ width → IsWidth width → view_of machine ≡ view (boot_state width count) [] →
       IsJournal (record { machine = machine; entries = es; inverses = is; width = width; count = count })
   unfolding Lawful WalksBack
   starts [] none [] nothing low high wide seen = record { low = low; high = high; wide = wide; few = omega arith; lawful = tt; walks = seen }
   starts [] none (i ∷ is) nothing low high wide seen = cc
   starts (e ∷ es) none is nothing low high wide seen = cc
 
-  starts_counted : (es : List Entry) → es ≡ [] → lives (table_of (booted width count) (history_of es)) ≤ 0
+  starts_counted : (es : List Entry) → es ≡ [] → lives (table_of (boot_state width count) (history_of es)) ≤ 0
   unfolding table_of
   starts_counted [] none = let zero_live : lives_to (empty_table width) width ≡ 0 = none_live width width in omega (arith, zero_live)
   starts_counted (e ∷ es) none = cc
 
-  pub journal_starts : (j : Journal) → j.entries.items ≡ [] → j.inverses.items ≡ [] → 1 ≤ count → count ≤ width → IsWidth width → view_of machine ≡ view (booted width count) [] →
-      IsJournal (kept_of machine j width count)
+  pub journal_starts : (j : Journal) → j.entries.items ≡ [] → j.inverses.items ≡ [] → 1 ≤ count → count ≤ width → IsWidth width → view_of machine ≡ view (boot_state width count) [] →
+      IsJournal (session_state machine j width count)
   journal_starts j entries inverses low high wide seen = starts j.entries.items entries j.inverses.items inverses low high wide seen
 
-  pub room_starts : (j : Journal) → j.entries.items ≡ [] → j.live ≡ 0 → (room places : ℕ) → HasRoom (kept_of machine j width count) j.live room places
+  pub room_starts : (j : Journal) → j.entries.items ≡ [] → j.live ≡ 0 → (room places : ℕ) → HasRoom (session_state machine j width count) j.live room places
   room_starts j entries live room places =
-      let counted : lives (table_of (booted width count) (history_of j.entries.items)) ≤ 0 = starts_counted j.entries.items entries in
+      let counted : lives (table_of (boot_state width count) (history_of j.entries.items)) ≤ 0 = starts_counted j.entries.items entries in
       let none : length j.entries.items ≡ 0 = ap length entries in
       record { counted = omega (arith, counted); entries = omega (arith, none, live); inverses = omega (arith, none, live) }

@@ -4,7 +4,7 @@ use Rattle.std.proofs.lemmas.List.{map-append, reverse-append, take_all}
 use Rattle.tx_base.specs.declared.steps.Accepted.{Accepted}
 use Rattle.tx_core.specs.Undo.{LeadsBack}
 use Rattle.tx_journal.specs.Entries.{accepted_of, history_of}
-use Rattle.tx_journal.specs.Sessions.{Kept, IsAtEnd, IsJournal, made_of, position_of, start_of}
+use Rattle.tx_journal.specs.Sessions.{SessionState, IsAtEnd, IsJournal, made_of, position_of, start_of}
 use Rattle.tx_journal.specs.Walks.{WalksBack}
 use Rattle.tx_journal.specs.declared.entry.Entry.{Entry}
 use Rattle.tx_live.specs.Content.{view_of}
@@ -31,14 +31,14 @@ take_whole : {X : Type 0} (n : ℕ) (xs : List X) → n ≡ length xs → take n
 take_whole n xs same = take_all n xs (omega (arith, same))
 
 -- at its end all entries are made
-pub all_made : (k : Kept) → IsAtEnd k → made_of k ≡ k.entries
+pub all_made : (k : SessionState) → IsAtEnd k → made_of k ≡ k.entries
 all_made k at_end = take_whole (position_of k) k.entries at_end
 
-pub seen_at_end : (k : Kept) → IsJournal k → IsAtEnd k → view_of k.machine ≡ view (start_of k) (history_of k.entries)
+pub seen_at_end : (k : SessionState) → IsJournal k → IsAtEnd k → view_of k.machine ≡ view (start_of k) (history_of k.entries)
 seen_at_end k is at_end = walks_view (start_of k) k.machine (reverse k.inverses) (history_of (made_of k)) is.walks ∙ ap (λ (es : List Entry). view (start_of k) (history_of es)) (all_made k at_end)
 
-module _ (k : Kept) (e : Entry) (inverse : Inverse) (new : Content) where
-  abbrev pub more : Kept
+module _ (k : SessionState) (e : Entry) (inverse : Inverse) (new : Content) where
+  abbrev pub more : SessionState
   more = record { machine = new; entries = k.entries ++ e ∷ []; inverses = k.inverses ++ inverse ∷ []; width = k.width; count = k.count }
 
   pub more_at_end : IsAtEnd k → IsAtEnd more

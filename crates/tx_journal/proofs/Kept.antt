@@ -7,7 +7,7 @@ use Rattle.tx_journal.specs.Entries.{accepted_of, history_of}
 use Rattle.tx_journal.specs.Laws.{SessionLaws}
 use Rattle.tx_journal.specs.Lives.{lives}
 use Rattle.tx_journal.specs.Rooms.{IsAdded, IsCounted, SameRecord}
-use Rattle.tx_journal.specs.Sessions.{HasRoom, IsAtEnd, IsJournal, Kept, kept_of, start_of}
+use Rattle.tx_journal.specs.Sessions.{HasRoom, IsAtEnd, IsJournal, SessionState, session_state, start_of}
 use Rattle.tx_journal.specs.declared.entry.Entry.{Entry}
 use Rattle.tx_journal.specs.declared.journal.Journal.{Journal}
 use Rattle.tx_laws.specs.Sound.{IsSound}
@@ -16,14 +16,14 @@ use Rattle.tx_live.specs.declared.content.Content.{Content}
 use Rattle.tx_model.specs.Answer.{Lawful}
 use Rattle.tx_model.specs.History.{table_of}
 use Rattle.tx_model.specs.Membership.{Table}
-use Rattle.tx_model.specs.State.{State, booted}
+use Rattle.tx_model.specs.State.{State, boot_state}
 use Rattle.tx_model.specs.View.{View, view}
 
 -- the room of a session, told by its machine's view
 abbrev pub IsKeptSo : Content → Journal → ℕ → ℕ → Type 0
-IsKeptSo machine j width count = IsJournal (kept_of machine j width count) × HasRoom (kept_of machine j width count) j.live (vec_capacity j.entries) (vec_capacity j.inverses)
+IsKeptSo machine j width count = IsJournal (session_state machine j width count) × HasRoom (session_state machine j width count) j.live (vec_capacity j.entries) (vec_capacity j.inverses)
 
-table_seen : (k : Kept) → view_of k.machine ≡ view (start_of k) (history_of k.entries) → (view_of k.machine).table ≡ table_of (start_of k) (history_of k.entries)
+table_seen : (k : SessionState) → view_of k.machine ≡ view (start_of k) (history_of k.entries) → (view_of k.machine).table ≡ table_of (start_of k) (history_of k.entries)
 unfolding view
 table_seen k seen = ap (λ (V : View). V.table) seen
 
@@ -31,11 +31,11 @@ table_seen k seen = ap (λ (V : View). V.table) seen
 pub kept_roomier : (machine : Content) (j after : Journal) (width count : ℕ) → IsKeptSo machine j width count → SameRecord after j → vec_capacity j.entries ≤ vec_capacity after.entries → vec_capacity j.inverses ≤ vec_capacity after.inverses
     → IsKeptSo machine after width count
 kept_roomier machine j after width count is stays entries inverses =
-    let back : kept_of machine j width count ≡ kept_of machine after width count
+    let back : session_state machine j width count ≡ session_state machine after width count
     = λ i. record { machine = machine; entries = sym stays.entries i; inverses = sym stays.inverses i; width = width; count = count } in (
       subst IsJournal back is.0,
-      subst (λ (k : Kept). HasRoom k after.live (vec_capacity after.entries) (vec_capacity after.inverses)) back
-          (subst (λ (live : ℕ). HasRoom (kept_of machine j width count) live (vec_capacity after.entries) (vec_capacity after.inverses)) (sym stays.live)
+      subst (λ (k : SessionState). HasRoom k after.live (vec_capacity after.entries) (vec_capacity after.inverses)) back
+          (subst (λ (live : ℕ). HasRoom (session_state machine j width count) live (vec_capacity after.entries) (vec_capacity after.inverses)) (sym stays.live)
           (record {
             counted = is.1.counted;
             entries = let room = is.1.entries in omega (arith, room, entries);
@@ -43,28 +43,28 @@ kept_roomier machine j after width count is stays entries inverses =
           })),
     )
 
-module _ (laws : SessionLaws) (machine : Content) (j : Journal) (width count : ℕ) (is : IsKeptSo machine j width count) (at_end : IsAtEnd (kept_of machine j width count)) where
-  seen : view_of machine ≡ view (booted width count) (history_of j.entries.items)
-  seen = seen_at_end (kept_of machine j width count) is.0 at_end
+module _ (laws : SessionLaws) (machine : Content) (j : Journal) (width count : ℕ) (is : IsKeptSo machine j width count) (at_end : IsAtEnd (session_state machine j width count)) where
+  seen : view_of machine ≡ view (boot_state width count) (history_of j.entries.items)
+  seen = seen_at_end (session_state machine j width count) is.0 at_end
 
   pub sound_now : IsSound (view_of machine)
-  sound_now = subst IsSound (sym seen) (laws.sound (booted width count) (history_of j.entries.items) is.0.lawful)
+  sound_now = subst IsSound (sym seen) (laws.sound (boot_state width count) (history_of j.entries.items) is.0.lawful)
 
   pub counted_now : IsCounted machine j
   counted_now = record {
-    lives = subst (λ (t : Table). lives t ≤ j.live) (sym (table_seen (kept_of machine j width count) seen)) is.1.counted;
+    lives = subst (λ (t : Table). lives t ≤ j.live) (sym (table_seen (session_state machine j width count) seen)) is.1.counted;
     places = record { entries = is.1.entries; inverses = is.1.inverses };
   }
 
   -- where nothing was added
   pub kept_same : (new : Content) (after : Journal) → new ≡ machine → SameRecord after j → IsCounted machine after → IsKeptSo new after width count
   kept_same new after same stays counted =
-      let back : kept_of machine j width count ≡ kept_of new after width count
+      let back : session_state machine j width count ≡ session_state new after width count
       = λ i. record { machine = sym same i; entries = sym stays.entries i; inverses = sym stays.inverses i; width = width; count = count } in (
         subst IsJournal back is.0,
-        subst (λ (k : Kept). HasRoom k after.live (vec_capacity after.entries) (vec_capacity after.inverses)) back
+        subst (λ (k : SessionState). HasRoom k after.live (vec_capacity after.entries) (vec_capacity after.inverses)) back
             (record {
-              counted = subst (λ (t : Table). lives t ≤ after.live) (table_seen (kept_of machine j width count) seen) counted.lives;
+              counted = subst (λ (t : Table). lives t ≤ after.live) (table_seen (session_state machine j width count) seen) counted.lives;
               entries = subst (λ (xs : List Entry). length xs + after.live ≤ vec_capacity after.entries) stays.entries counted.places.entries;
               inverses = subst (λ (xs : List Entry). length xs + after.live ≤ vec_capacity after.inverses) stays.entries counted.places.inverses;
             }),
@@ -75,14 +75,14 @@ module _ (laws : SessionLaws) (machine : Content) (j : Journal) (width count : �
       ((start : State) (earlier : List Accepted) → Lawful start earlier → view_of machine ≡ view start earlier → Lawful start (accepted_of entry ∷ earlier) × (view_of new ≡ view start (accepted_of entry ∷ earlier))) →
       IsKeptSo new after width count
   kept_more entry new after added along =
-      let next = along (booted width count) (history_of j.entries.items) is.0.lawful seen in
-      let same : more (kept_of machine j width count) entry added.inverse new ≡ kept_of new after width count
+      let next = along (boot_state width count) (history_of j.entries.items) is.0.lawful seen in
+      let same : more (session_state machine j width count) entry added.inverse new ≡ session_state new after width count
       = λ i. record { machine = new; entries = sym added.entries i; inverses = sym added.inverses i; width = width; count = count } in
-      let there : view_of new ≡ view (booted width count) (history_of after.entries.items)
-      = next.1 ∙ ap (view (booted width count)) (sym (history_more j.entries.items entry) ∙ ap history_of (sym added.entries)) in (
-        subst IsJournal same (journal_more (kept_of machine j width count) entry added.inverse new is.0 at_end next.0 next.1 added.leads added.undoes),
+      let there : view_of new ≡ view (boot_state width count) (history_of after.entries.items)
+      = next.1 ∙ ap (view (boot_state width count)) (sym (history_more j.entries.items entry) ∙ ap history_of (sym added.entries)) in (
+        subst IsJournal same (journal_more (session_state machine j width count) entry added.inverse new is.0 at_end next.0 next.1 added.leads added.undoes),
         record {
-          counted = subst (λ (t : Table). lives t ≤ after.live) (table_seen (kept_of new after width count) there) added.counted.lives;
+          counted = subst (λ (t : Table). lives t ≤ after.live) (table_seen (session_state new after width count) there) added.counted.lives;
           entries = added.counted.places.entries;
           inverses = added.counted.places.inverses;
         },

@@ -8,7 +8,7 @@ use Rattle.tx_journal.proofs.Noting.{history_length}
 use Rattle.tx_journal.proofs.Walked.{history_to}
 use Rattle.tx_journal.specs.Entries.{accepted_of, entry_at, history_of}
 use Rattle.tx_journal.specs.Moved.{IsMoved, Numbers, Told, entries_named, moved_at, moved_numbers, numbers_above, numbers_parted, told_by, told_in, told_of, with_other_number, with_own_number}
-use Rattle.tx_journal.specs.Sessions.{Kept, start_of}
+use Rattle.tx_journal.specs.Sessions.{SessionState, start_of}
 use Rattle.tx_journal.specs.declared.entry.Entry.{Entry}
 use Rattle.tx_journal.specs.declared.moved.Moved.{Moved}
 use Rattle.tx_laws.specs.OneMoment.{Parted, begins_it, is_step_of, is_one_moment, moved_history, moved_to, parted, with_other, with_own}
@@ -117,7 +117,7 @@ names_all : (entries : List Entry) → Names (name_in entries) (history_of entri
 names_all entries = subst (λ (es : List Entry). Names (name_in entries) (history_of es)) (take_all (length entries) entries (omega arith)) (names_to entries (length entries) (omega arith))
 
 -- what is told of a commit holds of the moved history
-module _ (k : Kept) (number : ℕ) (m : Moved) (told : moved_at (start_of k) (history_of k.entries) number ≡ Some (told_in m))
+module _ (k : SessionState) (number : ℕ) (m : Moved) (told : moved_at (start_of k) (history_of k.entries) number ≡ Some (told_in m))
     (moments : HasMoments (start_of k) (history_of k.entries)) where
   abbrev start : State
   start = start_of k

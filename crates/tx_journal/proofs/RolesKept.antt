@@ -7,9 +7,10 @@ use Rattle.tx_base.specs.declared.steps.Reply.{Reply}
 use Rattle.tx_base.specs.declared.steps.Reply.TheVariants.{Aborted, No}
 use Rattle.tx_base.specs.declared.steps.Step.{Step}
 use Rattle.tx_base.specs.declared.steps.Step.TheVariants.{Call as Calls, Deliver, KernelAbort}
-use Rattle.tx_model.specs.Answer.{accepted_reply, answer, plain_reply, refusal, unless_refused, IsAccepted}
+use Rattle.tx_model.specs.Answer.{accepted_reply, answer, plain_reply, refusal, IsAccepted}
+use Rattle.tx_model.specs.Words.{unless_refused, called_by_status, kind_of, kind_role, member_end_role, ordinary_role}
 use Rattle.tx_model.specs.Events.{Event, Do, Commit, effect, reply_of}
-use Rattle.tx_model.specs.Membership.{Table, Role, Kind, Ordinary, Forking, Beginning, Leaving, Aborting, called_by_status, event, event_in, inside_by, is_live, kind_event, kind_of, kind_role, member_end_role, ordinary_role, others_open, role, says_ended, step_event}
+use Rattle.tx_model.specs.Membership.{Table, Role, Kind, Ordinary, Forking, Beginning, Leaving, Aborting, event, event_in, inside_by, is_live, kind_event, others_open, role, says_ended, step_event}
 use Rattle.tx_model.specs.State.{State}
 use Rattle.tx_model.specs.View.{View, event_on, first_reply, kernel_status, present, role_on}
 

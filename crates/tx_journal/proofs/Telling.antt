@@ -6,10 +6,10 @@ use Rattle.tx_journal.proofs.Parting.{back_more, back_none}
 use Rattle.tx_journal.specs.Entries.{history_of}
 use Rattle.tx_journal.specs.Moved.{moved_at, numbers_above, told_in}
 use Rattle.tx_journal.specs.Noted.{commit_of, is_silent_by, noted_back, notes_in, parted_by, told_with}
-use Rattle.tx_journal.specs.Sessions.{Kept, start_of}
+use Rattle.tx_journal.specs.Sessions.{SessionState, start_of}
 use Rattle.tx_journal.specs.declared.entry.Entry.{Entry}
 use Rattle.tx_journal.specs.declared.moved.Moved.{Moved}
-use Rattle.tx_model.specs.State.{booted}
+use Rattle.tx_model.specs.State.{boot_state}
 use Rattle.tx_journal.specs.Notes.{Noted, noted}
 use Rattle.tx_journal.specs.declared.notes.Note.{Note}
 
@@ -17,10 +17,10 @@ use Rattle.tx_journal.specs.declared.notes.Note.{Note}
 pub front : (n : ℕ) (entries : List Entry) → take (n - 0) entries ≡ take n entries
 front n entries = let whole : n - 0 ≡ n = omega arith in ap (λ (m : ℕ). take m entries) whole
 
-module _ (k : Kept) (number : ℕ) (few : number ≤ length k.entries) (width count : ℕ) (wide : width ≡ k.width) (some : count ≡ k.count) (first : List Entry) (is : first ≡ take number k.entries) (notes : List Note)
-    (are : noted_back notes ≡ notes_in (booted width count) (history_of first)) where
+module _ (k : SessionState) (number : ℕ) (few : number ≤ length k.entries) (width count : ℕ) (wide : width ≡ k.width) (some : count ≡ k.count) (first : List Entry) (is : first ≡ take number k.entries) (notes : List Note)
+    (are : noted_back notes ≡ notes_in (boot_state width count) (history_of first)) where
   seen : noted_back notes ≡ notes_in (start_of k) (history_of (take number k.entries))
-  seen = are ∙ (λ j. notes_in (booted (wide j) (some j)) (history_of (is j)))
+  seen = are ∙ (λ j. notes_in (boot_state (wide j) (some j)) (history_of (is j)))
 
   pub told_empty : length notes ≡ 0 → None ≡ moved_at (start_of k) (history_of k.entries) number
   told_empty none = sym (moved_unnoted (start_of k) k.entries number few (sym (back_none notes none) ∙ seen))

@@ -9,7 +9,7 @@ use Rattle.tx_base.specs.declared.steps.Reply.TheVariants.{No}
 use Rattle.tx_core.specs.Undo.{LeadsBack}
 use Rattle.tx_journal.proofs.Extended.{history_more, walks_view}
 use Rattle.tx_journal.specs.Entries.{accepted_of, history_of}
-use Rattle.tx_journal.specs.Sessions.{IsJournal, Kept, position_of, start_of}
+use Rattle.tx_journal.specs.Sessions.{IsJournal, SessionState, position_of, start_of}
 use Rattle.tx_journal.specs.Walks.{WalksBack}
 use Rattle.tx_journal.specs.declared.entry.Entry.{Entry}
 use Rattle.tx_live.specs.Content.{view_of}
@@ -39,7 +39,7 @@ pub lawful_to : (start : State) (entries : List Entry) (n : ℕ) → Lawful star
 lawful_to start entries n lawful = lawful_before start (history_of (drop n entries)) (history_of (take n entries)) (subst (Lawful start) (history_parts entries n) lawful)
 
 -- the session without its newest inverse
-module _ (k : Kept) (is : IsJournal k) (rest : List Inverse) (inverse : Inverse) (parts : k.inverses ≡ rest ++ inverse ∷ []) where
+module _ (k : SessionState) (is : IsJournal k) (rest : List Inverse) (inverse : Inverse) (parts : k.inverses ≡ rest ++ inverse ∷ []) where
   fewer : position_of k ≡ length rest + 1
   fewer = ap length parts ∙ length-append rest (inverse ∷ [])
 
@@ -59,7 +59,7 @@ module _ (k : Kept) (is : IsJournal k) (rest : List Inverse) (inverse : Inverse)
   pub leads_back : LeadsBack k.machine inverse
   leads_back = (first_walk k.entries refl).0
 
-  abbrev pub less : Content → Kept
+  abbrev pub less : Content → SessionState
   less before = record { machine = before; entries = k.entries; inverses = rest; width = k.width; count = k.count }
 
   pub journal_less : (new : Content) → ((before : Content) → Undoes k.machine inverse before → new ≡ before) → IsJournal (less new)
@@ -82,7 +82,7 @@ within entries n entry at = by (slice_get_cases entries n).1
     by (inl (x, under, is, same)) = under
     by (inr (past, none)) = let clash : Some entry ≡ None = at ∙ none in cc
 
-module _ (k : Kept) (is : IsJournal k) (entry : Entry) (next : Some entry ≡ slice_get k.entries (position_of k)) where
+module _ (k : SessionState) (is : IsJournal k) (entry : Entry) (next : Some entry ≡ slice_get k.entries (position_of k)) where
   abbrev earlier : List Accepted
   earlier = history_of (take (position_of k) k.entries)
 

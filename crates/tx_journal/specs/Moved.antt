@@ -3,7 +3,7 @@
 use Rattle.std.specs.Prelude.{true, ◌≡◌, ℕ, zero, suc, ◌+◌, ◌-◌, Bool, List, [], ◌∷◌, ◌++◌, Option, Some, None, length, map, option_map, reverse, take, drop, nat_lt, if◌then◌else◌}
 use Rattle.tx_base.specs.declared.steps.Accepted.{Accepted}
 use Rattle.tx_journal.specs.Entries.{accepted_of, entry_at, history_of}
-use Rattle.tx_journal.specs.Sessions.{Kept, start_of}
+use Rattle.tx_journal.specs.Sessions.{SessionState, start_of}
 use Rattle.tx_journal.specs.declared.entry.Entry.{Entry}
 use Rattle.tx_journal.specs.declared.moved.Moved.{Moved}
 use Rattle.tx_laws.specs.OneMoment.{begins_it, is_step_of, is_one_moment, moved_history}
@@ -68,7 +68,7 @@ entries_named entries numbers = map (λ n. option_map accepted_of (entry_at entr
 
 -- what is answered of the entry of a number, which commits a transaction: the numbers name the entries of the history with its steps moved,
 -- and it is told whether it may count as one moment; where it may, that history leaves the same, with the same replies
-pub record IsMoved (k : Kept) (number : ℕ) (m : Moved) : Type 0 where
+pub record IsMoved (k : SessionState) (number : ℕ) (m : Moved) : Type 0 where
   pub told : moved_at (start_of k) (history_of k.entries) number ≡ Some (told_in m)
   pub starter : ℕ
   pub later : List Accepted

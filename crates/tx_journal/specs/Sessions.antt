@@ -10,11 +10,11 @@ use Rattle.tx_live.specs.declared.content.Content.{Content}
 use Rattle.tx_live.specs.declared.inverse.Inverse.{Inverse}
 use Rattle.tx_model.specs.Answer.{Lawful}
 use Rattle.tx_model.specs.History.{table_of}
-use Rattle.tx_model.specs.State.{State, booted}
+use Rattle.tx_model.specs.State.{State, boot_state}
 
 -- the machine's content; all entries, the oldest first; what takes those back that are made, the oldest first; and how many processes there
 -- may be, and with how many it was booted
-pub record Kept : Type 0 where
+pub record SessionState : Type 0 where
   pub machine : Content
   pub entries : List Entry
   pub inverses : List Inverse
@@ -22,23 +22,23 @@ pub record Kept : Type 0 where
   pub count : ℕ
 
 -- what a session keeps, of its fields
-abbrev pub kept_of : Content → Journal → ℕ → ℕ → Kept
-kept_of machine journal width count = record { machine = machine; entries = journal.entries.items; inverses = journal.inverses.items; width = width; count = count }
+abbrev pub session_state : Content → Journal → ℕ → ℕ → SessionState
+session_state machine journal width count = record { machine = machine; entries = journal.entries.items; inverses = journal.inverses.items; width = width; count = count }
 
 -- the state in which it was booted
-abbrev pub start_of : Kept → State
-start_of k = booted k.width k.count
+abbrev pub start_of : SessionState → State
+start_of k = boot_state k.width k.count
 
 -- how many of the entries are made
-abbrev pub position_of : Kept → ℕ
+abbrev pub position_of : SessionState → ℕ
 position_of k = length k.inverses
 
 -- the entries that are made
-abbrev pub made_of : Kept → List Entry
+abbrev pub made_of : SessionState → List Entry
 made_of k = take (position_of k) k.entries
 
 -- the journal is a lawful history, and the machine has the view of the entries that are made, which can be taken back
-pub record IsJournal (k : Kept) : Type 0 where
+pub record IsJournal (k : SessionState) : Type 0 where
   pub low : 1 ≤ k.count
   pub high : k.count ≤ k.width
   pub wide : IsWidth k.width
@@ -48,22 +48,22 @@ pub record IsJournal (k : Kept) : Type 0 where
 
 -- where so many transactions are counted, at least those that are live after the last entry, and there is room for so many entries and
 -- places for so many inverses: there is room for the abort of each of them
-pub record HasRoom (k : Kept) (live room places : ℕ) : Type 0 where
+pub record HasRoom (k : SessionState) (live room places : ℕ) : Type 0 where
   pub counted : lives (table_of (start_of k) (history_of k.entries)) ≤ live
   pub entries : length k.entries + live ≤ room
   pub inverses : length k.entries + live ≤ places
 
 -- the session is at its end: all entries are made
-abbrev pub IsAtEnd : Kept → Type 0
+abbrev pub IsAtEnd : SessionState → Type 0
 IsAtEnd k = position_of k ≡ length k.entries
 
 -- the one was booted as the other was
-pub record SameBoot (new old : Kept) : Type 0 where
+pub record SameBoot (new old : SessionState) : Type 0 where
   pub width : new.width ≡ old.width
   pub count : new.count ≡ old.count
 
 -- the one has the entries of the other, and was booted as it was: they differ in their position at most
-pub record SameJournal (new old : Kept) : Type 0 where
+pub record SameJournal (new old : SessionState) : Type 0 where
   pub entries : new.entries ≡ old.entries
   pub boot : SameBoot new old
 

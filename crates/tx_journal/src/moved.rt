@@ -6,7 +6,7 @@ ghost use Rattle.tx_journal.specs.Noted.{noted_back, notes_in};
 ghost use Rattle.tx_journal.specs.Sessions.{start_of};
 ghost use Rattle.tx_journal.specs.declared.faults.MovedFault.TheVariants as fault;
 ghost use Rattle.tx_model.specs.Answer.{Lawful};
-ghost use Rattle.tx_model.specs.State.{booted};
+ghost use Rattle.tx_model.specs.State.{boot_state};
 
 use crate::entry::Entry;
 use crate::faults::MovedFault;
@@ -78,8 +78,8 @@ fn notes_of(alloc: Global, width: u16, count: u16, entries: &[Entry]) -> Result<
     requires low { 1 ≤ count }
     requires high { count ≤ width }
     requires wide { width ≤ 256 }
-    requires lawful { Lawful (booted width count) (history_of entries.now) }
-    ensures { IfOk result (λ notes. noted_back notes.items ≡ notes_in (booted width count) (history_of entries.now)) }
+    requires lawful { Lawful (boot_state width count) (history_of entries.now) }
+    ensures { IfOk result (λ notes. noted_back notes.items ≡ notes_in (boot_state width count) (history_of entries.now)) }
 {
     let mut retrace = Retrace::boot(alloc, width, count)?;
     let mut notes = Vec::new(alloc);

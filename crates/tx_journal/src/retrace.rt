@@ -5,7 +5,7 @@ ghost use Rattle.tx_base.specs.declared.steps.Reply.{Reply as TheReply};
 ghost use Rattle.tx_step.specs.Contents.{IsContent};
 ghost use Rattle.tx_live.specs.Content.{view_of};
 ghost use Rattle.tx_model.specs.Answer.{Lawful};
-ghost use Rattle.tx_model.specs.State.{State, booted};
+ghost use Rattle.tx_model.specs.State.{State, boot_state};
 ghost use Rattle.tx_model.specs.View.{next, view};
 ghost use Rattle.tx_journal.specs.Notes.{IsNoteOf};
 
@@ -42,7 +42,7 @@ impl Retrace {
         requires low { 1 ≤ count }
         requires high { count ≤ width }
         requires width { width ≤ 256 }
-        ensures view { IfOk result (λ retrace. view_of retrace ≡ view (booted width count) []) }
+        ensures view { IfOk result (λ retrace. view_of retrace ≡ view (boot_state width count) []) }
     {
         laws();
         let content = Content::boot(alloc, width, count)?;

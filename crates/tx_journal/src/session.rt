@@ -33,14 +33,14 @@ pub struct Session {
 
 impl Model for Session {
     ghost use Rattle.std.specs.Prelude.{vec_capacity};
-    ghost use Rattle.tx_journal.specs.Sessions.{HasRoom, IsJournal, Kept, kept_of};
+    ghost use Rattle.tx_journal.specs.Sessions.{HasRoom, IsJournal, SessionState, session_state};
 
-    ghost Value = { Kept };
+    ghost Value = { SessionState };
 
-    ghost view = { λ session. kept_of session.machine session.journal session.width session.count };
+    ghost view = { λ session. session_state session.machine session.journal session.width session.count };
 
-    ghost invariant = { λ session. IsJournal (kept_of session.machine session.journal session.width session.count)
-        × HasRoom (kept_of session.machine session.journal session.width session.count) session.journal.live (vec_capacity session.journal.entries) (vec_capacity session.journal.inverses) };
+    ghost invariant = { λ session. IsJournal (session_state session.machine session.journal session.width session.count)
+        × HasRoom (session_state session.machine session.journal session.width session.count) session.journal.live (vec_capacity session.journal.entries) (vec_capacity session.journal.inverses) };
 }
 
 impl Session {

@@ -10,7 +10,8 @@ use Rattle.tx_base.specs.declared.steps.Call.TheVariants as call
 use Rattle.tx_base.specs.declared.steps.Reply.{Reply}
 use Rattle.tx_kernel.specs.Calls.{concerns_itself_alone}
 use Rattle.tx_model.specs.BookLaws.{map_lines, unmap_lines, protect_lines, store_lines, load_lines, setuid_lines, seteuid_lines, setgid_lines, setegid_lines, sigaction_lines, sigreturn_lines, console_write_lines, jump_lines, keep_lines}
-use Rattle.tx_model.specs.Answer.{ChoosesNothing, IsAccepted, chosen_in}
+use Rattle.tx_model.specs.Answer.{ChoosesNothing, IsAccepted}
+use Rattle.tx_model.specs.Words.{chosen_in}
 use Rattle.tx_model.specs.Book.{page_of_call}
 use Rattle.tx_model.specs.Forms.{Caller, Outcome, answers, changes, fails, stands}
 use Rattle.tx_model.specs.State.{Process}

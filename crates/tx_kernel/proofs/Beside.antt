@@ -21,8 +21,9 @@ use Rattle.tx_kernel.specs.Plans.{Plans, Gives, AreAmong, quiet}
 use Rattle.tx_kernel.specs.declared.actor.Actor.{Actor}
 use Rattle.tx_kernel.specs.declared.planned.Outcome.TheVariants.{Done}
 use Rattle.tx_kernel.specs.declared.planned.Planned.{Planned}
-use Rattle.tx_model.specs.Effects.{Effect, done_with, noted}
-use Rattle.tx_model.specs.State.{Object, Proc as TheProc, Desc, Pipe as ThePipe, Held, Process, Sending, State, SetProc, has, write_one, written}
+use Rattle.tx_model.specs.Effects.{Effect, with_answer}
+use Rattle.tx_model.specs.Words.{answer_effect_with}
+use Rattle.tx_model.specs.State.{Object, Proc as TheProc, Desc, Pipe as ThePipe, Held, Process, Sending, State, SetProc, has_object, write_one, with_writes}
 use Rattle.tx_model.specs.StateLaws.{AgreePart}
 use Rattle.tx_model.specs.StateLaws.{put_there, state_ext}
 use Rattle.tx_proc.specs.Processes.{process_in}
@@ -100,18 +101,18 @@ writes_swap S n m x y apart = state_ext (write_one (SetProc n x) (write_one (Set
 -- each planned description is one of the objects
 abbrev pub AreDescsAmong : List Object → List NewDesc → Type 0
 AreDescsAmong objects [] = Unit {0}
-AreDescsAmong objects (new ∷ descs) = (has (Desc new.number.0) objects ≡ true) × AreDescsAmong objects descs
+AreDescsAmong objects (new ∷ descs) = (has_object (Desc new.number.0) objects ≡ true) × AreDescsAmong objects descs
 
 pub descs_among : (objects : List Object) (descs : List NewDesc) (behind : List Change) → AreDescsAmong objects descs → AreAmong objects behind → AreAmong objects (desc_changes descs ++ behind)
 descs_among objects [] behind first last = last
 descs_among objects (new ∷ descs) behind first last = (first.0, descs_among objects descs behind first.1 last)
 
 -- the other process is the second object
-pub second-first : (p c : ℕ) (more : List Object) → has (TheProc c) (TheProc p ∷ TheProc c ∷ more) ≡ true
-unfolding has
+pub second-first : (p c : ℕ) (more : List Object) → has_object (TheProc c) (TheProc p ∷ TheProc c ∷ more) ≡ true
+unfolding has_object
 second-first p c more = by (c == p)
   where
-    by : (b : Bool) → (if b then true else (if c == c then true else has (TheProc c) more)) ≡ true
+    by : (b : Bool) → (if b then true else (if c == c then true else has_object (TheProc c) more)) ≡ true
     by true = refl
     by false = rw (eq-eqb c c refl) refl
 
@@ -149,11 +150,11 @@ beside_state laws actor descs other slot own held is beside named =
 
 pub beside_plans : (laws : PlanLaws) (actor : Actor) (before now : List Change) (descs : List NewDesc) (other : Pid) (slot : Option Proc) (own : List Change) (r : ℤ) (new : Process)
     (objects : State → List Object) → IsActor actor → Beside actor descs other slot own → now ≡ before ++ (desc_changes descs ++ Slot other slot ∷ own) →
-    revised_by own (me_of actor) ≡ noted r new →
+    revised_by own (me_of actor) ≡ with_answer r new →
     ((held : ℕ → List Sending) → AreDescsAmong (TheProc actor.pid.0 ∷ objects (state_of held actor.parts.now)) descs) →
-    ((held : ℕ → List Sending) → has (TheProc other.0) (TheProc actor.pid.0 ∷ objects (state_of held actor.parts.now)) ≡ true) →
-    Plans actor before now (quiet (Done r)) (λ S. done_with (SetProc other.0 (process_in slot) ∷ []) actor.pid.0 r new) objects
-unfolding written
+    ((held : ℕ → List Sending) → has_object (TheProc other.0) (TheProc actor.pid.0 ∷ objects (state_of held actor.parts.now)) ≡ true) →
+    Plans actor before now (quiet (Done r)) (λ S. answer_effect_with (SetProc other.0 (process_in slot) ∷ []) actor.pid.0 r new) objects
+unfolding with_writes
 beside_plans laws actor before now descs other slot own r new objects is beside added process among there =
     let parts : Parts = actor.parts.now in
     let n : ℕ = actor.pid.0 in

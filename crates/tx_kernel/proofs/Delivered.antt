@@ -18,7 +18,7 @@ use Rattle.tx_kernel.proofs.OwnPlans.{own_plans}
 use Rattle.tx_kernel.proofs.Owned.{own_reply}
 use Rattle.tx_kernel.proofs.PartsOwned.{own_same, part_none, part_more, part_same, part_whole}
 use Rattle.tx_kernel.proofs.Whole.{first_calm}
-use Rattle.tx_kernel.specs.Actors.{effect_by, me_of, inside_of, IsActor}
+use Rattle.tx_kernel.specs.Actors.{effect_by, me_of, names_by, inside_of, IsActor}
 use Rattle.tx_kernel.specs.Discards.{queue_of}
 use Rattle.tx_kernel.specs.Laws.{PlanLaws}
 use Rattle.tx_kernel.specs.Own.{PlansOwn, PlansPart}
@@ -27,12 +27,13 @@ use Rattle.tx_kernel.specs.declared.actor.Actor.{Actor}
 use Rattle.tx_kernel.specs.declared.planned.Outcome.{Outcome}
 use Rattle.tx_kernel.specs.declared.planned.Outcome.TheVariants.{Done}
 use Rattle.tx_kernel.specs.declared.planned.Planned.{Planned}
-use Rattle.tx_model.specs.Deliveries.{action_at, caught, delivered_value, ends_by, first_value, is_blocked, is_deferred, kills, less_first, relieved, delivery_effect, delivery_objects, is_fatal, is_full, acts_on, delivers}
-use Rattle.tx_model.specs.Effects.{Effect, idle, own_effect}
-use Rattle.tx_model.specs.Forms.{Rule, stands}
+use Rattle.tx_model.specs.Deliveries.{action_at, at_catch_point, delivered_value, ends_by, first_value, is_blocked, is_deferred, is_killing, without_first, without_delivered, reaction, delivery, delivery_page}
+use Rattle.tx_model.specs.Words.{is_fatal, is_full, is_ignored, own_effect}
+use Rattle.tx_model.specs.Effects.{Effect, idle}
+use Rattle.tx_model.specs.Forms.{Rule, refuses, stands}
 use Rattle.tx_model.specs.Processes.{ending_objects}
 use Rattle.tx_model.specs.SignalSets.{child_signo, is_in_set, is_realtime, with_one_more}
-use Rattle.tx_model.specs.Signals.{Disposition, Ignored, Fatal, Caught, disposition, ignores, is_ignored}
+use Rattle.tx_model.specs.Signals.{Disposition, Ignored, Fatal, Caught, disposition, is_ignoring}
 use Rattle.tx_model.specs.State.{Frame, Object, Process, Queued, State}
 use Rattle.tx_proc.specs.Parts.{frames_swapped, queue_swapped}
 use Rattle.tx_proc.specs.Processes.{revised}
@@ -42,14 +43,14 @@ use Rattle.tx_signal.specs.Entries.{entry_swapped}
 
 -- the first entry of a realtime signal is taken out
 pub entry_leaves : (actor : Actor) (before now : List Change) (signo place : ℕ) → is_realtime signo ≡ true → length (queue_of actor) ≤ QUEUED →
-    entry_swapped place None (queue_of actor) ≡ less_first signo (queue_of actor) → now ≡ before ++ SetPart actor.pid (SetQueued place None) ∷ [] →
-    PlansPart actor before now (relieved signo)
+    entry_swapped place None (queue_of actor) ≡ without_first signo (queue_of actor) → now ≡ before ++ SetPart actor.pid (SetQueued place None) ∷ [] →
+    PlansPart actor before now (without_delivered signo)
 entry_leaves actor before now signo place realtime few first last =
     let me : Process = me_of actor in
     let short = le-ltb QUEUED (length (queue_of actor)) few in
-    let out : queue_swapped place None (queue_of actor) ≡ less_first signo (queue_of actor) = rw short first in
-    let same : record me { queued = queue_swapped place None me.queued } ≡ relieved signo me = rw realtime (ap (λ (q : List Queued). record me { queued = q }) out) in
-    part_same actor before now (λ me. revised (SetQueued place None) me) (relieved signo) (part_more actor before before now (λ me. me) (SetQueued place None) (part_none actor before) tt tt last) same
+    let out : queue_swapped place None (queue_of actor) ≡ without_first signo (queue_of actor) = rw short first in
+    let same : record me { queued = queue_swapped place None me.queued } ≡ without_delivered signo me = rw realtime (ap (λ (q : List Queued). record me { queued = q }) out) in
+    part_same actor before now (λ me. revised (SetQueued place None) me) (without_delivered signo) (part_more actor before before now (λ me. me) (SetQueued place None) (part_none actor before) tt tt last) same
 
 -- where there is room, a frame is the newest
 framed : (frames : List Frame) (frame : Frame) → not (nat_lt (length frames) FRAMES) ≡ false → frames_swapped (Some frame) frames ≡ frames ++ frame ∷ []
@@ -61,11 +62,11 @@ framed frames frame room = by (nat_lt (length frames) FRAMES) room
 
 -- a signal that is caught
 abbrev pub catching : ℕ → ℤ → ℕ → SigSet → Rule
-catching signo value point mask c = stands (caught signo value point mask (relieved signo c.process)) (TheDone value)
+catching signo value point mask c = stands (at_catch_point signo value point mask (without_delivered signo c.process)) (TheDone value)
 
 -- the mask, the frame, and the catch point with the signal's value
 pub caught_plans : (actor : Actor) (before gone masked saved now : List Change) (signo : ℕ) (value ret : ℤ) (point : ℕ) (mask blocked : SigSet) (frame : Option Frame) →
-    ret ≡ value → is_full (me_of actor) ≡ false → PlansPart actor before gone (relieved signo) → masked ≡ gone ++ SetPart actor.pid (SetMask blocked) ∷ [] →
+    ret ≡ value → is_full (me_of actor) ≡ false → PlansPart actor before gone (without_delivered signo) → masked ≡ gone ++ SetPart actor.pid (SetMask blocked) ∷ [] →
     saved ≡ masked ++ SetPart actor.pid (SetFrame frame) ∷ [] → now ≡ saved ++ SetPart actor.pid (SetAnswer (record { point = point; ret = ret })) ∷ [] →
     bits_of blocked ≡ with_one_more (bit_or (me_of actor).mask (bits_of mask)) signo →
     frame ≡ Some (record { registers = actor.proc.now.regs; mask = bits_of actor.proc.now.mask }) →
@@ -74,15 +75,15 @@ caught_plans actor before gone masked saved now signo value ret point mask block
     let me : Process = me_of actor in
     let kept : Frame = record { registers = me.registers; mask = me.mask } in
     let answer : Answer = record { point = point; ret = ret } in
-    let one = part_more actor before gone masked (relieved signo) (SetMask blocked) taken tt tt first in
-    let two = part_more actor before masked saved (λ me. revised (SetMask blocked) (relieved signo me)) (SetFrame frame) one tt tt second in
-    let three = part_more actor before saved now (λ me. revised (SetFrame frame) (revised (SetMask blocked) (relieved signo me))) (SetAnswer answer) two tt tt last in
+    let one = part_more actor before gone masked (without_delivered signo) (SetMask blocked) taken tt tt first in
+    let two = part_more actor before masked saved (λ me. revised (SetMask blocked) (without_delivered signo me)) (SetFrame frame) one tt tt second in
+    let three = part_more actor before saved now (λ me. revised (SetFrame frame) (revised (SetMask blocked) (without_delivered signo me))) (SetAnswer answer) two tt tt last in
     let frames : frames_swapped frame me.frames ≡ me.frames ++ kept ∷ [] = ap (λ (x : Option Frame). frames_swapped x me.frames) here ∙ framed me.frames kept room in
-    let after : ℤ → Process = λ r. record (relieved signo me) { registers = record { point = point; ret = r; slots = me.registers.slots }; mask = with_one_more (bit_or me.mask (bits_of mask)) signo; frames = me.frames ++ kept ∷ [] } in
+    let after : ℤ → Process = λ r. record (without_delivered signo me) { registers = record { point = point; ret = r; slots = me.registers.slots }; mask = with_one_more (bit_or me.mask (bits_of mask)) signo; frames = me.frames ++ kept ∷ [] } in
     own_same actor before now (Done ret) (λ S. own_reply actor (Done ret) (after ret)) (effect_by actor (catching signo value point mask))
     (part_whole actor before now (Done ret) (λ me. after ret)
     (part_same actor before now _ (λ me. after ret) three
-    (λ j. record (relieved signo me) { registers = record { point = point; ret = ret; slots = me.registers.slots }; mask = bits j; frames = frames j })) tt)
+    (λ j. record (without_delivered signo me) { registers = record { point = point; ret = ret; slots = me.registers.slots }; mask = bits j; frames = frames j })) tt)
     (λ S. ap (λ (r : ℤ). own_effect actor.pid.0 (record { process = after r; reply = TheDone r })) same)
 
 -- what the action comes to
@@ -90,7 +91,7 @@ caught_plans actor before gone masked saved now signo value ret point mask block
 pub ignored_is : (signo : ℕ) (action : Action) → is_ignored signo action ≡ true → disposition signo action ≡ Ignored
 ignored_is signo Usual is = by (signo == child_signo) is
   where
-    by : (b : Bool) → ignores (if b then Ignored else Fatal) ≡ true → (if b then Ignored else Fatal) ≡ Ignored
+    by : (b : Bool) → is_ignoring (if b then Ignored else Fatal) ≡ true → (if b then Ignored else Fatal) ≡ Ignored
     by true e = refl
     by false e = cc
 ignored_is signo Ignore is = refl
@@ -99,7 +100,7 @@ ignored_is signo (Catch point mask) is = cc
 pub fatal_is : (signo : ℕ) (action : Action) → is_ignored signo action ≡ false → ((point : ℕ) (mask : SigSet) → action ≡ Catch point mask → ⊥) → disposition signo action ≡ Fatal
 fatal_is signo Usual is other = by (signo == child_signo) is
   where
-    by : (b : Bool) → ignores (if b then Ignored else Fatal) ≡ false → (if b then Ignored else Fatal) ≡ Fatal
+    by : (b : Bool) → is_ignoring (if b then Ignored else Fatal) ≡ false → (if b then Ignored else Fatal) ≡ Fatal
     by true e = cc
     by false e = refl
 fatal_is signo Ignore is other = cc
@@ -117,11 +118,14 @@ caught_low actions signo point mask size is = by (nat_lt signo 40) refl
         cc
 
 -- the rule of a signal that may be delivered, and what it names
+abbrev pub reacting : ℕ → ℤ → Disposition → Rule
+reacting signo value what c = reaction signo value what (record c { process = without_delivered signo c.process })
+
 abbrev pub acting : Actor → ℕ → ℤ → Disposition → State → Effect
-acting actor signo value what S = acts_on (inside_of actor.inside) actor.pid.0 signo value what (relieved signo (me_of actor)) S
+acting actor signo value what = effect_by actor (reacting signo value what)
 
 abbrev pub acting_objects : Actor → Disposition → State → List Object
-acting_objects actor what S = if kills what then ending_objects (inside_of actor.inside) actor.pid.0 (me_of actor) S else []
+acting_objects actor what = names_by actor (λ c. if is_killing what then ending_objects c else [])
 
 pub acted : (actor : Actor) (before now : List Change) (planned : Planned) (signo : ℕ) (value : ℤ) (what is : Disposition) → is ≡ what →
     Plans actor before now planned (acting actor signo value what) (acting_objects actor what) → Plans actor before now planned (acting actor signo value is) (acting_objects actor is)
@@ -134,9 +138,8 @@ acted actor before now planned signo value what is same plans =
 pub full_refuses : (actor : Actor) (signo : ℕ) (value : ℤ) (point : ℕ) (mask : SigSet) (is : Disposition) → is ≡ Caught point mask → is_full (me_of actor) ≡ true →
     RefusedBy actor FramesFull (acting actor signo value is)
 full_refuses actor signo value point mask is same full =
-    let after : Process = caught signo value point mask (relieved signo (me_of actor)) in
     inr (λ held counted. ap (λ (d : Disposition). acting actor signo value d (state_of held actor.parts.now)) same
-    ∙ ap (λ (b : Bool). if b then idle FramesFull else own_effect actor.pid.0 (record { process = after; reply = TheDone value })) full)
+    ∙ ap (λ (b : Bool). effect_by actor (λ c. if b then refuses FramesFull else catching signo value point mask c) (state_of held actor.parts.now)) full)
 
 -- there is room for a frame
 pub caught_acted : (laws : PlanLaws) (actor : Actor) (before now : List Change) (outcome : Outcome) (signo : ℕ) (value : ℤ) (point : ℕ) (mask : SigSet) →
@@ -146,44 +149,48 @@ pub caught_acted : (laws : PlanLaws) (actor : Actor) (before now : List Change) 
 caught_acted laws actor before now outcome signo value point mask sized is room own =
     plans_same actor before now (quiet outcome) (effect_by actor (catching signo value point mask)) (acting actor signo value (Caught point mask)) (acting_objects actor (Caught point mask))
     (acting_objects actor (Caught point mask))
-    (λ held counted. sym (ap (λ (b : Bool). if b then idle FramesFull else effect_by actor (catching signo value point mask) (state_of held actor.parts.now)) room)) (λ held. refl)
+    (λ held counted. sym (ap (λ (b : Bool). effect_by actor (λ c. if b then refuses FramesFull else catching signo value point mask c) (state_of held actor.parts.now)) room)) (λ held. refl)
     (own_plans laws actor before now outcome (effect_by actor (catching signo value point mask)) (acting_objects actor (Caught point mask)) sized is own)
 
 -- the delivery
 
+-- a delivery that brings this value, or none
+abbrev pub delivered : ℕ → Option ℤ → Rule
+delivered signo brought c = elim brought [
+  | None ↦ refuses NotDeliverable
+  | Some value ↦ if is_deferred c.inside signo then refuses Deferred else reacting signo value (disposition signo (action_at signo c.process)) c
+]
+
 -- the signal may be delivered, and is not deferred
 pub delivers_is : (actor : Actor) (signo : ℕ) (value passed : ℤ) → delivered_value signo (me_of actor) ≡ Some value → is_deferred (inside_of actor.inside) signo ≡ false → passed ≡ value →
-    acting actor signo passed (disposition signo (action_at signo (me_of actor))) ≡ (λ S. delivery_effect (inside_of actor.inside) actor.pid.0 signo (me_of actor) S)
+    acting actor signo passed (disposition signo (action_at signo (me_of actor))) ≡ effect_by actor (delivery signo)
 delivers_is actor signo value passed here now same =
-    let rule : ℤ → State → Effect = λ v. acting actor signo v (disposition signo (action_at signo (me_of actor))) in
-    let inside = inside_of actor.inside in
-    ap rule same ∙ sym (ap (λ (b : Bool). λ S. if b then idle Deferred else rule value S) now)
-    ∙ sym (ap (λ (x : Option ℤ). λ S. delivers inside actor.pid.0 signo (me_of actor) x S) here)
+    let rule : ℤ → Rule = λ v. reacting signo v (disposition signo (action_at signo (me_of actor))) in
+    ap (λ (v : ℤ). effect_by actor (rule v)) same ∙ sym (ap (λ (b : Bool). effect_by actor (λ c. if b then refuses Deferred else rule value c)) now)
+    ∙ sym (ap (λ (x : Option ℤ). effect_by actor (delivered signo x)) here)
 
 pub names_is : (actor : Actor) (signo : ℕ) (value : ℤ) → delivered_value signo (me_of actor) ≡ Some value → is_deferred (inside_of actor.inside) signo ≡ false →
-    acting_objects actor (disposition signo (action_at signo (me_of actor))) ≡ (λ S. delivery_objects (inside_of actor.inside) actor.pid.0 signo (me_of actor) S)
+    acting_objects actor (disposition signo (action_at signo (me_of actor))) ≡ names_by actor (delivery_page signo).names
 names_is actor signo value here now =
     let me : Process = me_of actor in
-    let inside = inside_of actor.inside in
-    let objects : Bool → State → List Object = λ ends S. if ends then ending_objects inside actor.pid.0 me S else [] in
-    sym (ap (λ (b : Bool). objects (if b then false else is_fatal signo (action_at signo me))) now) ∙ sym (ap (λ (x : Option ℤ). objects (ends_by inside signo me x)) here)
+    let objects : Bool → State → List Object = λ ends. names_by actor (λ c. if ends then ending_objects c else []) in
+    sym (ap (λ (b : Bool). objects (if b then false else is_fatal signo (action_at signo me))) now)
+    ∙ sym (ap (λ (x : Option ℤ). objects (ends_by (inside_of actor.inside) signo me x)) here)
 
-pub none_is : (actor : Actor) (signo : ℕ) (S : State) → None ≡ delivered_value signo (me_of actor) →
-    delivery_effect (inside_of actor.inside) actor.pid.0 signo (me_of actor) S ≡ idle NotDeliverable
-none_is actor signo S none = ap (λ (x : Option ℤ). delivers (inside_of actor.inside) actor.pid.0 signo (me_of actor) x S) (sym none)
+pub none_is : (actor : Actor) (signo : ℕ) (S : State) → None ≡ delivered_value signo (me_of actor) → effect_by actor (delivery signo) S ≡ idle NotDeliverable
+none_is actor signo S none = ap (λ (x : Option ℤ). effect_by actor (delivered signo x) S) (sym none)
 
-pub none_refuses : (actor : Actor) (signo : ℕ) → None ≡ delivered_value signo (me_of actor) →
-    RefusedBy actor NotDeliverable (λ S. delivery_effect (inside_of actor.inside) actor.pid.0 signo (me_of actor) S)
+pub none_refuses : (actor : Actor) (signo : ℕ) → None ≡ delivered_value signo (me_of actor) → RefusedBy actor NotDeliverable (effect_by actor (delivery signo))
 none_refuses actor signo none = inr (λ held counted. none_is actor signo (state_of held actor.parts.now) none)
 
 pub deferred_is : (actor : Actor) (signo : ℕ) (value : ℤ) (S : State) → delivered_value signo (me_of actor) ≡ Some value → is_deferred (inside_of actor.inside) signo ≡ true →
-    delivery_effect (inside_of actor.inside) actor.pid.0 signo (me_of actor) S ≡ idle Deferred
+    effect_by actor (delivery signo) S ≡ idle Deferred
 deferred_is actor signo value S here late =
-    let rule : State → Effect = acting actor signo value (disposition signo (action_at signo (me_of actor))) in
-    ap (λ (x : Option ℤ). delivers (inside_of actor.inside) actor.pid.0 signo (me_of actor) x S) here ∙ ap (λ (b : Bool). if b then idle Deferred else rule S) late
+    ap (λ (x : Option ℤ). effect_by actor (delivered signo x) S) here
+    ∙ ap (λ (b : Bool). effect_by actor (λ c. if b then refuses Deferred else reacting signo value (disposition signo (action_at signo c.process)) c) S) late
 
 pub deferred_refuses : (actor : Actor) (signo : ℕ) (value : ℤ) → delivered_value signo (me_of actor) ≡ Some value → is_deferred (inside_of actor.inside) signo ≡ true →
-    RefusedBy actor Deferred (λ S. delivery_effect (inside_of actor.inside) actor.pid.0 signo (me_of actor) S)
+    RefusedBy actor Deferred (effect_by actor (delivery signo))
 deferred_refuses actor signo value here late = inr (λ held counted. deferred_is actor signo value (state_of held actor.parts.now) here late)
 
 -- where nothing is pending, nothing is delivered

@@ -12,7 +12,7 @@ use Rattle.tx_kernel.specs.Actors.{me_of}
 use Rattle.tx_kernel.specs.Discards.{TakenOut, queue_of}
 use Rattle.tx_kernel.specs.Own.{PlansPart}
 use Rattle.tx_kernel.specs.declared.actor.Actor.{Actor}
-use Rattle.tx_model.specs.Signals.{discarded, queued_others}
+use Rattle.tx_model.specs.Signals.{without_signal, queued_others}
 use Rattle.tx_model.specs.State.{Process, Queued}
 use Rattle.tx_proc.specs.Parts.{queue_swapped}
 use Rattle.tx_proc.specs.declared.part.Part.TheVariants.{Queued as SetQueued}
@@ -100,6 +100,6 @@ here_at queue items at entry whole there is =
     one = omega arith
 
 -- what is discarded leaves the registers
-pub stays_there : (b : Bool) (signo : ℕ) (me : Process) → (if b then discarded signo me else me).registers.point ≡ me.registers.point
+pub stays_there : (b : Bool) (signo : ℕ) (me : Process) → (if b then without_signal signo me else me).registers.point ≡ me.registers.point
 stays_there true signo me = refl
 stays_there false signo me = refl

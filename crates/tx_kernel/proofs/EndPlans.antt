@@ -25,7 +25,7 @@ use Rattle.tx_kernel.proofs.Ended.{children_are, ended_alone, ended_plan, ending
 use Rattle.tx_kernel.proofs.Forked.{listed-among, open-has, planned-named}
 use Rattle.tx_kernel.proofs.OwnPlans.{brings_append}
 use Rattle.tx_kernel.proofs.Whole.{HasPipe, not_own_parent, whole_piped}
-use Rattle.tx_kernel.specs.Actors.{me_of, inside_of, IsActor}
+use Rattle.tx_kernel.specs.Actors.{me_of, inside_of, IsActor, caller_of, effect_by, names_by}
 use Rattle.tx_kernel.specs.Endings.{gone_changes, orphan_changes, plain, plain_with}
 use Rattle.tx_kernel.proofs.EndSeen.{descs_slot, gone_slot, orphans_seen, slot_after-append}
 use Rattle.tx_kernel.proofs.PostPlans.{seen_now}
@@ -36,10 +36,12 @@ use Rattle.tx_kernel.specs.declared.actor.Actor.{Actor}
 use Rattle.tx_kernel.specs.declared.planned.Outcome.TheVariants.{Ended}
 use Rattle.tx_kernel.specs.declared.planned.Sends.{Sends}
 use Rattle.tx_kernel.specs.declared.planned.Sends.TheVariants.{Nothing, AtOnce, AtCommit}
-use Rattle.tx_model.specs.Descriptors.{desc_objects, has_description, open_in, pipe_list, pipe_of, pipes_of, unnamed_go}
+use Rattle.tx_model.specs.Descriptors.{desc_objects, has_description, open_in, pipe_of, pipes_of, description_removals}
+use Rattle.tx_model.specs.Words.{pipe_list}
 use Rattle.tx_model.specs.Processes as rules
-use Rattle.tx_model.specs.Processes.{children_below, children_of, ended, ending, ending_objects, held_objects, procs_of, NotTold, telling, Telling, told_at_once, told_at_commit}
-use Rattle.tx_model.specs.State.{Object, Proc as TheProc, Desc, Pipe as ThePipe, Process, Sending, State, SetProc, has, has_parent, is_between, same_object, write_one, written}
+use Rattle.tx_model.specs.Processes.{children_below, children_of, ended_process, ending, ending_objects, held_objects, procs_of, NotTold, parent_notice, Notice, notice_now, notice_held}
+use Rattle.tx_model.specs.State.{Object, Proc as TheProc, Desc, Pipe as ThePipe, Process, Sending, State, SetProc, has_object, has_parent, is_between, same_object, write_one, with_writes}
+use Rattle.tx_model.specs.Forms.{does}
 use Rattle.tx_proc.specs.Laws.{IsSized}
 use Rattle.tx_proc.specs.Processes.{process_of, process_in}
 use Rattle.tx_proc.specs.declared.proc.Proc.{Proc}
@@ -130,53 +132,53 @@ gone_bring (k ∷ ks) R = by (gone_bring ks R) (has_description k R)
 
 -- each is one of the objects
 
-has-front : (o : Object) (front behind : List Object) → has o front ≡ true → has o (front ++ behind) ≡ true
-unfolding has
+has-front : (o : Object) (front behind : List Object) → has_object o front ≡ true → has_object o (front ++ behind) ≡ true
+unfolding has_object
 has-front o [] behind there = cc
 has-front o (x ∷ front) behind there = by (λ rest. has-front o front behind rest) (same_object o x) there
   where
-    by : (has o front ≡ true → has o (front ++ behind) ≡ true) → (b : Bool) → (if b then true else has o front) ≡ true → (if b then true else has o (front ++ behind)) ≡ true
+    by : (has_object o front ≡ true → has_object o (front ++ behind) ≡ true) → (b : Bool) → (if b then true else has_object o front) ≡ true → (if b then true else has_object o (front ++ behind)) ≡ true
     by rest true is = refl
     by rest false is = rest is
 
-has-behind : (o : Object) (front behind : List Object) → has o behind ≡ true → has o (front ++ behind) ≡ true
-unfolding has
+has-behind : (o : Object) (front behind : List Object) → has_object o behind ≡ true → has_object o (front ++ behind) ≡ true
+unfolding has_object
 has-behind o [] behind there = there
 has-behind o (x ∷ front) behind there = by (has-behind o front behind there) (same_object o x)
   where
-    by : has o (front ++ behind) ≡ true → (b : Bool) → (if b then true else has o (front ++ behind)) ≡ true
+    by : has_object o (front ++ behind) ≡ true → (b : Bool) → (if b then true else has_object o (front ++ behind)) ≡ true
     by rest true = refl
     by rest false = rest
 
-has-next : (o x : Object) (objects : List Object) → has o objects ≡ true → has o (x ∷ objects) ≡ true
+has-next : (o x : Object) (objects : List Object) → has_object o objects ≡ true → has_object o (x ∷ objects) ≡ true
 has-next o x objects there = has-behind o (x ∷ []) objects there
 
 among_both : (objects : List Object) (front behind : List Change) → AreAmong objects front → AreAmong objects behind → AreAmong objects (front ++ behind)
 among_both objects [] behind first last = last
 among_both objects (change ∷ front) behind first last = (first.0, among_both objects front behind first.1 last)
 
-orphans_among : (objects : List Object) (qs : List ℕ) → ((o : Object) → has o (procs_of qs) ≡ true → has o objects ≡ true) → AreAmong objects (orphan_changes qs)
-unfolding has
+orphans_among : (objects : List Object) (qs : List ℕ) → ((o : Object) → has_object o (procs_of qs) ≡ true → has_object o objects ≡ true) → AreAmong objects (orphan_changes qs)
+unfolding has_object
 orphans_among objects [] all = tt
 orphans_among objects (q ∷ qs) all = (
   all (TheProc q) (rw (eq-eqb q q refl) refl),
   orphans_among objects qs (λ o there. all o (has-next o (TheProc q) (procs_of qs) there)),
 )
 
-gone_among : (objects : List Object) (ks : List ℕ) (R : State) → ((o : Object) → has o (pipe_list ks) ≡ true → has o objects ≡ true) → AreAmong objects (gone_changes ks R)
-unfolding has gone_changes
+gone_among : (objects : List Object) (ks : List ℕ) (R : State) → ((o : Object) → has_object o (pipe_list ks) ≡ true → has_object o objects ≡ true) → AreAmong objects (gone_changes ks R)
+unfolding has_object gone_changes
 gone_among objects [] R all = tt
 gone_among objects (k ∷ ks) R all =
     by (all (ThePipe k) (rw (eq-eqb k k refl) refl)) (gone_among objects ks R (λ o there. all o (has-next o (ThePipe k) (pipe_list ks) there))) (has_description k R)
   where
-    by : has (ThePipe k) objects ≡ true → AreAmong objects (gone_changes ks R) → (b : Bool) →
+    by : has_object (ThePipe k) objects ≡ true → AreAmong objects (gone_changes ks R) → (b : Bool) →
         AreAmong objects (if b then gone_changes ks R else Pipe (record { 0 = k }) (Whole None) ∷ gone_changes ks R)
     by here rest true = rest
     by here rest false = (here, rest)
 
 -- the process that has ended
 
-ended_sized : (new : Proc) (status : ℕ) (me : Process) → process_of new ≡ ended status me → IsSized new
+ended_sized : (new : Proc) (status : ℕ) (me : Process) → process_of new ≡ ended_process status me → IsSized new
 ended_sized new status me is = record {
   slots = ap (λ (q : Process). length q.registers.slots) is;
   pages = ap (λ (q : Process). length q.memory) is;
@@ -184,7 +186,7 @@ ended_sized new status me is = record {
   actions = ap (λ (q : Process). length q.actions) is;
 }
 
-ended_counted : (new : Proc) (status : ℕ) (me : Process) → process_of new ≡ ended status me → counted_in (Some new) ≡ []
+ended_counted : (new : Proc) (status : ℕ) (me : Process) → process_of new ≡ ended_process status me → counted_in (Some new) ≡ []
 ended_counted new status me is = ap (λ (q : Process). if is_some q.status then [] else q.descriptors) is
 
 running_counted : (actor : Actor) → IsActor actor → counted_in (slot_at actor.parts.now.procs actor.pid.0) ≡ actor.proc.now.descriptors
@@ -218,12 +220,12 @@ EndedNames = (p : ℕ) (me new : Process) (S : State) (table : Descriptors) → 
 pub record DropsAll (actor : Actor) (descs : List NewDesc) : Type 0 where
   pub counts : KeepsCounts actor.proc.now.descriptors [] actor.parts.now.descs (put_descs descs actor.parts.now.descs)
   pub descriptions : (others : List Descriptors) (S : State) → Agrees (actor.proc.now.descriptors ∷ others) actor.parts.now.descs → HasDescs S actor.parts.now.descs → HasNamed S others →
-      HasDescs (written (unnamed_go (open_in actor.proc.now.descriptors) S) S) (put_descs descs actor.parts.now.descs)
+      HasDescs (with_writes (description_removals (open_in actor.proc.now.descriptors) S) S) (put_descs descs actor.parts.now.descs)
   pub once : IsOnceEach actor.proc.now.descriptors descs
   pub numbers : AreNumbers descs
 
 left_descs : (laws : PlanLaws) (names : EndedNames) (actor : Actor) (status : ℕ) (descs : List NewDesc) (held : ℕ → List Sending) → IsActor actor → DropsAll actor descs →
-    HasDescs (written (unnamed_go (open_in actor.proc.now.descriptors) (ended_alone actor status (state_of held actor.parts.now))) (ended_alone actor status (state_of held actor.parts.now)))
+    HasDescs (with_writes (description_removals (open_in actor.proc.now.descriptors) (ended_alone actor status (state_of held actor.parts.now))) (ended_alone actor status (state_of held actor.parts.now)))
     (put_descs descs actor.parts.now.descs)
 left_descs laws names actor status descs held is drops =
     let parts : Parts = actor.parts.now in
@@ -232,13 +234,13 @@ left_descs laws names actor status descs held is drops =
     let table : Descriptors = actor.proc.now.descriptors in
     drops.descriptions (others_of p S) (ended_alone actor status S)
     (laws.others held parts p table is.number is.whole.counts (actor.proc.now, is.there, is.runs, refl)) (λ d. refl)
-    (names p (me_of actor) (ended status (me_of actor)) S table (runs_with actor held is) refl refl)
+    (names p (me_of actor) (ended_process status (me_of actor)) S table (runs_with actor held is) refl refl)
 
 -- the whole plan
 
 plan_among : (actor : Actor) (status : ℕ) (descs : List NewDesc) (new : Proc) (held : ℕ → List Sending) → actor.pid.0 ≢ 1 → DropsAll actor descs →
-    AreAmong (TheProc actor.pid.0 ∷ ending_objects (inside_of actor.inside) actor.pid.0 (me_of actor) (state_of held actor.parts.now)) (ended_plan actor descs new)
-unfolding has
+    AreAmong (TheProc actor.pid.0 ∷ ending_objects (caller_of actor (state_of held actor.parts.now))) (ended_plan actor descs new)
+unfolding has_object
 plan_among actor status descs new held other drops =
     let p : ℕ = actor.pid.0 in
     let S : State = state_of held actor.parts.now in
@@ -258,15 +260,15 @@ plan_among actor status descs new held other drops =
       among_both objects (orphan_changes (orphans_of actor)) (gone_changes (pipes_left actor) (plain_with descs actor.parts.now))
           (orphans_among objects (orphans_of actor) (λ o there.
           has-next o (TheProc p) (((front ++ pipes) ++ procs) ++ last) (has-front o ((front ++ pipes) ++ procs) last (has-behind o (front ++ pipes) procs
-          (subst (λ (os : List Object). has o os ≡ true) children there)))))
+          (subst (λ (os : List Object). has_object o os ≡ true) children there)))))
           (gone_among objects (pipes_left actor) (plain_with descs actor.parts.now) (λ o there.
           has-next o (TheProc p) (((front ++ pipes) ++ procs) ++ last) (has-front o ((front ++ pipes) ++ procs) last (has-front o (front ++ pipes) procs
-          (has-behind o front pipes (subst (λ (os : List Object). has o os ≡ true) left there)))))),
+          (has-behind o front pipes (subst (λ (os : List Object). has_object o os ≡ true) left there)))))),
     )
 
 -- the signal to the parent, by what is told at once
-told_once : (telling : Telling) (parent : ℕ) (m : TheSending) → told_at_once telling parent ≡ sending_of m ∷ [] → (m.target.0 ≡ parent) × (m.signo.0 ≡ 17)
-told_once telling parent m e = by telling e
+told_once : (parent_notice : Notice) (parent : ℕ) (m : TheSending) → notice_now parent_notice parent ≡ sending_of m ∷ [] → (m.target.0 ≡ parent) × (m.signo.0 ≡ 17)
+told_once parent_notice parent m e = by parent_notice e
   where
     first_target : List Sending → ℕ
     first_target [] = parent
@@ -276,21 +278,21 @@ told_once telling parent m e = by telling e
     first_signo [] = 17
     first_signo (x ∷ xs) = x.signo
 
-    by : (t : Telling) → told_at_once t parent ≡ sending_of m ∷ [] → (m.target.0 ≡ parent) × (m.signo.0 ≡ 17)
+    by : (t : Notice) → notice_now t parent ≡ sending_of m ∷ [] → (m.target.0 ≡ parent) × (m.signo.0 ≡ 17)
     by NotTold e = (sym (ap first_target e), sym (ap first_signo e))
     by rules.AtOnce e = (sym (ap first_target e), sym (ap first_signo e))
     by (rules.AtCommit s) e = (sym (ap first_target e), sym (ap first_signo e))
 
 -- the end leaves of the parent what a post sees
 ending_seen : (laws : PlanLaws) (actor : Actor) (descs : List NewDesc) (new : Proc) (sends : Sends) → IsActor actor → AreNamed actor.parts.now (ended_plan actor descs new) →
-    told_at_once (telling (inside_of actor.inside) (me_of actor).parent) (me_of actor).parent ≡ sent_at_once sends →
+    notice_now (parent_notice (inside_of actor.inside) (me_of actor).parent) (me_of actor).parent ≡ sent_at_once sends →
     LeavesTarget actor.parts.now sends (applied actor.parts.now (ended_plan actor descs new))
 ending_seen laws actor descs new Nothing is named told = tt
 ending_seen laws actor descs new (AtCommit m) is named told = tt
 ending_seen laws actor descs new (AtOnce m) is named told =
     let parts : Parts = actor.parts.now in
     let parent : ℕ = (me_of actor).parent in
-    let sent = told_once (telling (inside_of actor.inside) parent) parent m told in
+    let sent = told_once (parent_notice (inside_of actor.inside) parent) parent m told in
     let slot : Option Proc = slot_at parts.procs parent in
     let orphans : List Change = orphan_changes (orphans_of actor) in
     let gone : List Change = gone_changes (pipes_left actor) (plain_with descs parts) in
@@ -308,13 +310,13 @@ ending_seen laws actor descs new (AtOnce m) is named told =
     )
 
 pub ending_plans : (laws : PlanLaws) (names : EndedNames) (actor : Actor) (status : ℕ) (descs : List NewDesc) (new : Proc) (sends : Sends) (before first second third now : List Change) →
-    length actor.parts.now.descs ≡ 64 → IsActor actor → actor.pid.0 ≢ 1 → DropsAll actor descs → process_of new ≡ ended status (me_of actor) →
+    length actor.parts.now.descs ≡ 64 → IsActor actor → actor.pid.0 ≢ 1 → DropsAll actor descs → process_of new ≡ ended_process status (me_of actor) →
     first ≡ before ++ desc_changes descs → second ≡ first ++ Slot actor.pid (Some new) ∷ [] → third ≡ second ++ orphan_changes (orphans_of actor) →
     now ≡ third ++ gone_changes (pipes_left actor) (plain_with descs actor.parts.now) →
-    told_at_once (telling (inside_of actor.inside) (me_of actor).parent) (me_of actor).parent ≡ sent_at_once sends →
-    ((S : State) → written (told_at_commit (telling (inside_of actor.inside) (me_of actor).parent) (me_of actor).parent S) S ≡ record S { held = held_after (inside_of actor.inside) sends S.held }) →
-    Plans actor before now (record { outcome = Ended; sends = sends }) (λ S. ending (inside_of actor.inside) actor.pid.0 status (me_of actor) S)
-    (λ S. ending_objects (inside_of actor.inside) actor.pid.0 (me_of actor) S)
+    notice_now (parent_notice (inside_of actor.inside) (me_of actor).parent) (me_of actor).parent ≡ sent_at_once sends →
+    ((S : State) → with_writes (notice_held (parent_notice (inside_of actor.inside) (me_of actor).parent) (me_of actor).parent S) S ≡ record S { held = held_after (inside_of actor.inside) sends S.held }) →
+    Plans actor before now (record { outcome = Ended; sends = sends }) (effect_by actor (λ c. does (ending status c)))
+    (names_by actor ending_objects)
 ending_plans laws names actor status descs new sends before first second third now sized is other drops copy one two three four at_once at_commit =
     let parts : Parts = actor.parts.now in
     let orphans : List Change = orphan_changes (orphans_of actor) in

@@ -6,56 +6,57 @@ use Rattle.tx_change.specs.declared.pipes.PipePart.TheVariants.{Whole}
 use Rattle.tx_desc.specs.Descriptions.{HasDescs, description_at}
 use Rattle.tx_desc.specs.declared.opened.Opened.{Opened}
 use Rattle.tx_kernel.specs.Endings.{gone_changes, orphan_changes}
-use Rattle.tx_model.specs.Descriptors.{endless_go, has_description, has_side_below, is_named, is_side, pipe_of, pipes_of, unnamed_go}
-use Rattle.tx_model.specs.Processes.{AtCommit, AtOnce, NotTold, children_below, orphaned, with_parent, told_to, Telling, told_at_commit}
-use Rattle.tx_model.specs.State.{Description, Process, Side, Sending, State, SetDesc, SetHeld, SetPipe, SetProc, Write, has_parent, put_at, side_in, write_one, written}
+use Rattle.tx_model.specs.Descriptors.{pipe_removals, has_description, is_named, is_side, pipe_of, pipes_of, description_removals, some_below}
+use Rattle.tx_model.specs.Words.{has_side_below}
+use Rattle.tx_model.specs.Processes.{AtCommit, AtOnce, NotTold, children_below, orphan_writes, with_parent, Notice, notice_held, child_notice}
+use Rattle.tx_model.specs.State.{Description, Process, Side, Sending, State, SetDesc, SetHeld, SetPipe, SetProc, Write, has_parent, put_at, side_in, write_one, with_writes}
 use Rattle.tx_model.specs.StateLaws.{put_cases}
 use Rattle.tx_proc.specs.Processes.{revised}
 use Rattle.tx_proc.specs.declared.part.Part.TheVariants.{Parent}
 
-pub written-append : (front behind : List Write) (S : State) → written (front ++ behind) S ≡ written behind (written front S)
-unfolding written
+pub written-append : (front behind : List Write) (S : State) → with_writes (front ++ behind) S ≡ with_writes behind (with_writes front S)
+unfolding with_writes
 written-append [] behind S = refl
 written-append (w ∷ front) behind S = written-append front behind (write_one w S)
 
 -- descriptions that go, beside processes that change
 
 unnamed_proc : (ds : List ℕ) (T X : State) (n : ℕ) (x : Option Process) →
-    written (unnamed_go ds T) (write_one (SetProc n x) X) ≡ write_one (SetProc n x) (written (unnamed_go ds T) X)
-unfolding unnamed_go written
+    with_writes (description_removals ds T) (write_one (SetProc n x) X) ≡ write_one (SetProc n x) (with_writes (description_removals ds T) X)
+unfolding description_removals with_writes
 unnamed_proc [] T X n x = refl
 unnamed_proc (d ∷ ds) T X n x = by (unnamed_proc ds T X n x) (unnamed_proc ds T (write_one (SetDesc d None) X) n x) (is_named d T)
   where
-    by : written (unnamed_go ds T) (write_one (SetProc n x) X) ≡ write_one (SetProc n x) (written (unnamed_go ds T) X) →
-        written (unnamed_go ds T) (write_one (SetProc n x) (write_one (SetDesc d None) X)) ≡ write_one (SetProc n x) (written (unnamed_go ds T) (write_one (SetDesc d None) X)) →
-        (b : Bool) → written (if b then unnamed_go ds T else SetDesc d None ∷ unnamed_go ds T) (write_one (SetProc n x) X)
-        ≡ write_one (SetProc n x) (written (if b then unnamed_go ds T else SetDesc d None ∷ unnamed_go ds T) X)
+    by : with_writes (description_removals ds T) (write_one (SetProc n x) X) ≡ write_one (SetProc n x) (with_writes (description_removals ds T) X) →
+        with_writes (description_removals ds T) (write_one (SetProc n x) (write_one (SetDesc d None) X)) ≡ write_one (SetProc n x) (with_writes (description_removals ds T) (write_one (SetDesc d None) X)) →
+        (b : Bool) → with_writes (if b then description_removals ds T else SetDesc d None ∷ description_removals ds T) (write_one (SetProc n x) X)
+        ≡ write_one (SetProc n x) (with_writes (if b then description_removals ds T else SetDesc d None ∷ description_removals ds T) X)
     by stays goes true = stays
     by stays goes false = goes
 
 pub unnamed_orphans : (ds : List ℕ) (T S X : State) (qs : List ℕ) →
-    written (unnamed_go ds T) (written (orphaned qs S) X) ≡ written (orphaned qs S) (written (unnamed_go ds T) X)
-unfolding orphaned written
+    with_writes (description_removals ds T) (with_writes (orphan_writes qs S) X) ≡ with_writes (orphan_writes qs S) (with_writes (description_removals ds T) X)
+unfolding orphan_writes with_writes
 unnamed_orphans ds T S X [] = refl
 unnamed_orphans ds T S X (q ∷ qs) =
     unnamed_orphans ds T S (write_one (SetProc q (with_parent 1 (S.procs q))) X) qs
-    ∙ ap (written (orphaned qs S)) (unnamed_proc ds T X q (with_parent 1 (S.procs q)))
+    ∙ ap (with_writes (orphan_writes qs S)) (unnamed_proc ds T X q (with_parent 1 (S.procs q)))
 
 -- nothing else changes
-unnamed_form : (ds : List ℕ) (T X : State) → written (unnamed_go ds T) X ≡ record X { descs = (written (unnamed_go ds T) X).descs }
-unfolding unnamed_go written
+unnamed_form : (ds : List ℕ) (T X : State) → with_writes (description_removals ds T) X ≡ record X { descs = (with_writes (description_removals ds T) X).descs }
+unfolding description_removals with_writes
 unnamed_form [] T X = refl
 unnamed_form (d ∷ ds) T X = by (unnamed_form ds T X) (unnamed_form ds T (write_one (SetDesc d None) X)) (is_named d T)
   where
-    by : written (unnamed_go ds T) X ≡ record X { descs = (written (unnamed_go ds T) X).descs } →
-        written (unnamed_go ds T) (write_one (SetDesc d None) X) ≡ record X { descs = (written (unnamed_go ds T) (write_one (SetDesc d None) X)).descs } →
-        (b : Bool) → written (if b then unnamed_go ds T else SetDesc d None ∷ unnamed_go ds T) X
-        ≡ record X { descs = (written (if b then unnamed_go ds T else SetDesc d None ∷ unnamed_go ds T) X).descs }
+    by : with_writes (description_removals ds T) X ≡ record X { descs = (with_writes (description_removals ds T) X).descs } →
+        with_writes (description_removals ds T) (write_one (SetDesc d None) X) ≡ record X { descs = (with_writes (description_removals ds T) (write_one (SetDesc d None) X)).descs } →
+        (b : Bool) → with_writes (if b then description_removals ds T else SetDesc d None ∷ description_removals ds T) X
+        ≡ record X { descs = (with_writes (if b then description_removals ds T else SetDesc d None ∷ description_removals ds T) X).descs }
     by stays goes true = stays
     by stays goes false = goes
 
-pub unnamed_state : (ds : List ℕ) (T X : State) (D : List (Option Opened)) → HasDescs (written (unnamed_go ds T) X) D →
-    written (unnamed_go ds T) X ≡ record X { descs = λ d. description_at D d }
+pub unnamed_state : (ds : List ℕ) (T X : State) (D : List (Option Opened)) → HasDescs (with_writes (description_removals ds T) X) D →
+    with_writes (description_removals ds T) X ≡ record X { descs = λ d. description_at D d }
 unnamed_state ds T X D has = unnamed_form ds T X ∙ (λ i. record X { descs = λ d. has d i })
 
 -- the children
@@ -91,8 +92,8 @@ parent_twice None = refl
 parent_twice (Some me) = refl
 
 pub orphans_state : (p : ℕ) (qs : List ℕ) (S X : State) → AreApart p qs → ((q : ℕ) → q ≢ p → with_parent 1 (X.procs q) ≡ with_parent 1 (S.procs q)) →
-    changed_by (orphan_changes qs) X ≡ written (orphaned qs S) X
-unfolding orphaned written
+    changed_by (orphan_changes qs) X ≡ with_writes (orphan_writes qs S) X
+unfolding orphan_writes with_writes
 orphans_state p [] S X apart same = refl
 orphans_state p (q ∷ qs) S X apart same =
     ap (λ (x : Option Process). changed_by (orphan_changes qs) (write_one (SetProc q x) X)) (parent_given (X.procs q) ∙ same q apart.0)
@@ -112,29 +113,29 @@ pipes_same [] S R same = refl
 pipes_same (d ∷ ds) S R same = ap (λ (ks : List ℕ). pipe_of (S.descs d) ++ ks) (pipes_same ds S R same) ∙ ap (λ (x : Option Description). pipe_of x ++ pipes_of ds R) (same d)
 
 sides_same : (test : Side → Bool) (k n : ℕ) (S R : State) → ((d : ℕ) → S.descs d ≡ R.descs d) → has_side_below test k n S ≡ has_side_below test k n R
-unfolding has_side_below
+unfolding some_below
 sides_same test k zero S R same = refl
 sides_same test k (suc d) S R same =
     ap (λ (b : Bool). if b then true else is_side test (side_in k (S.descs d))) (sides_same test k d S R same)
     ∙ ap (λ (x : Option Description). if has_side_below test k d R then true else is_side test (side_in k x)) (same d)
 
-pub gone_state : (ks : List ℕ) (R T X : State) → ((d : ℕ) → R.descs d ≡ T.descs d) → changed_by (gone_changes ks R) X ≡ written (endless_go ks T) X
-unfolding gone_changes endless_go written
+pub gone_state : (ks : List ℕ) (R T X : State) → ((d : ℕ) → R.descs d ≡ T.descs d) → changed_by (gone_changes ks R) X ≡ with_writes (pipe_removals ks T) X
+unfolding gone_changes pipe_removals with_writes
 gone_state [] R T X same = refl
 gone_state (k ∷ ks) R T X same =
     ap (λ (b : Bool). changed_by (if b then gone_changes ks R else Pipe (record { 0 = k }) (Whole None) ∷ gone_changes ks R) X) (sides_same (λ side. true) k 64 R T same)
     ∙ by (gone_state ks R T X same) (gone_state ks R T (write_one (SetPipe k None) X) same) (has_description k T)
   where
-    by : changed_by (gone_changes ks R) X ≡ written (endless_go ks T) X →
-        changed_by (gone_changes ks R) (write_one (SetPipe k None) X) ≡ written (endless_go ks T) (write_one (SetPipe k None) X) →
+    by : changed_by (gone_changes ks R) X ≡ with_writes (pipe_removals ks T) X →
+        changed_by (gone_changes ks R) (write_one (SetPipe k None) X) ≡ with_writes (pipe_removals ks T) (write_one (SetPipe k None) X) →
         (b : Bool) → changed_by (if b then gone_changes ks R else Pipe (record { 0 = k }) (Whole None) ∷ gone_changes ks R) X
-        ≡ written (if b then endless_go ks T else SetPipe k None ∷ endless_go ks T) X
+        ≡ with_writes (if b then pipe_removals ks T else SetPipe k None ∷ pipe_removals ks T) X
     by stays goes true = stays
     by stays goes false = goes
 
 -- what is held
 
-pub told_same : (told : Telling) (parent : ℕ) (S R : State) → S.held ≡ R.held → told_at_commit told parent S ≡ told_at_commit told parent R
+pub told_same : (told : Notice) (parent : ℕ) (S R : State) → S.held ≡ R.held → notice_held told parent S ≡ notice_held told parent R
 told_same NotTold parent S R same = refl
 told_same AtOnce parent S R same = refl
-told_same (AtCommit s) parent S R same = ap (λ (held : ℕ → List Sending). SetHeld s (held s ++ told_to parent ∷ []) ∷ []) same
+told_same (AtCommit s) parent S R same = ap (λ (held : ℕ → List Sending). SetHeld s (held s ++ child_notice parent ∷ []) ∷ []) same

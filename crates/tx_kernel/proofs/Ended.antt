@@ -14,16 +14,16 @@ use Rattle.tx_desc.specs.declared.plans.NewDesc.{NewDesc}
 use Rattle.tx_kernel.proofs.Whole.{orderly_parts}
 use Rattle.tx_kernel.proofs.Beside.{descs_state}
 use Rattle.tx_kernel.proofs.EndStates.{written-append, unnamed_orphans, unnamed_state, children_apart, children_same, orphans_state, pipes_same, gone_state, told_same}
-use Rattle.tx_kernel.specs.Actors.{me_of, inside_of, IsActor}
+use Rattle.tx_kernel.specs.Actors.{me_of, inside_of, IsActor, caller_of}
 use Rattle.tx_kernel.specs.Endings.{gone_changes, orphan_changes, plain, plain_with}
 use Rattle.tx_kernel.specs.Laws.{PlanLaws}
 use Rattle.tx_kernel.specs.Plans.{held_after}
 use Rattle.tx_kernel.specs.declared.actor.Actor.{Actor}
 use Rattle.tx_kernel.specs.declared.planned.Sends.{Sends}
-use Rattle.tx_model.specs.Descriptors.{endless_go, open_in, pipes_of, unnamed_go}
-use Rattle.tx_model.specs.Effects.{before_sends}
-use Rattle.tx_model.specs.Processes.{children_below, children_of, ended, ending, orphaned, telling, with_parent, Telling, told_at_commit}
-use Rattle.tx_model.specs.State.{Process, Sending, State, SetProc, Write, write_one, written}
+use Rattle.tx_model.specs.Descriptors.{pipe_removals, open_in, pipes_of, description_removals}
+use Rattle.tx_model.specs.Words.{before_sends}
+use Rattle.tx_model.specs.Processes.{children_below, children_of, ended_process, ending, orphan_writes, parent_notice, with_parent, Notice, notice_held}
+use Rattle.tx_model.specs.State.{Process, Sending, State, SetProc, Write, write_one, with_writes}
 use Rattle.tx_model.specs.StateLaws.{put_there}
 use Rattle.tx_proc.specs.Processes.{process_of}
 use Rattle.tx_proc.specs.declared.proc.Proc.{Proc}
@@ -45,11 +45,11 @@ ended_plan actor descs new = desc_changes descs ++ Slot actor.pid (Some new) ∷
 
 -- the state in which the process has ended, and nothing else has changed
 abbrev pub ended_alone : Actor → ℕ → State → State
-ended_alone actor status S = write_one (SetProc actor.pid.0 (Some (ended status (me_of actor)))) S
+ended_alone actor status S = write_one (SetProc actor.pid.0 (Some (ended_process status (me_of actor)))) S
 
 -- the state
 
-changes_state : (laws : PlanLaws) (actor : Actor) (status : ℕ) (descs : List NewDesc) (new : Proc) (held : ℕ → List Sending) → process_of new ≡ ended status (me_of actor) →
+changes_state : (laws : PlanLaws) (actor : Actor) (status : ℕ) (descs : List NewDesc) (new : Proc) (held : ℕ → List Sending) → process_of new ≡ ended_process status (me_of actor) →
     AreNamed actor.parts.now (desc_changes descs) → AreNamed actor.parts.now (ended_plan actor descs new) →
     state_of held (applied actor.parts.now (ended_plan actor descs new))
     ≡ changed_by (gone_changes (pipes_left actor) (plain_with descs actor.parts.now))
@@ -72,13 +72,13 @@ children_are actor held other =
     ∙ children_same p (S.width + 1) S (plain actor.parts.now) (λ q. refl)
 
 pub ending_state : (laws : PlanLaws) (actor : Actor) (status : ℕ) (descs : List NewDesc) (new : Proc) (sends : Sends) (held : ℕ → List Sending) →
-    IsActor actor → actor.pid.0 ≢ 1 → process_of new ≡ ended status (me_of actor) → AreNamed actor.parts.now (desc_changes descs) → AreNamed actor.parts.now (ended_plan actor descs new) →
-    HasDescs (written (unnamed_go (open_in actor.proc.now.descriptors) (ended_alone actor status (state_of held actor.parts.now))) (ended_alone actor status (state_of held actor.parts.now)))
+    IsActor actor → actor.pid.0 ≢ 1 → process_of new ≡ ended_process status (me_of actor) → AreNamed actor.parts.now (desc_changes descs) → AreNamed actor.parts.now (ended_plan actor descs new) →
+    HasDescs (with_writes (description_removals (open_in actor.proc.now.descriptors) (ended_alone actor status (state_of held actor.parts.now))) (ended_alone actor status (state_of held actor.parts.now)))
     (put_descs descs actor.parts.now.descs) →
-    ((S : State) → written (told_at_commit (telling (inside_of actor.inside) (me_of actor).parent) (me_of actor).parent S) S ≡ record S { held = held_after (inside_of actor.inside) sends S.held }) →
-    before_sends (ending (inside_of actor.inside) actor.pid.0 status (me_of actor) (state_of held actor.parts.now)) (state_of held actor.parts.now)
+    ((S : State) → with_writes (notice_held (parent_notice (inside_of actor.inside) (me_of actor).parent) (me_of actor).parent S) S ≡ record S { held = held_after (inside_of actor.inside) sends S.held }) →
+    before_sends (ending status (caller_of actor (state_of held actor.parts.now))) (state_of held actor.parts.now)
     ≡ state_of (held_after (inside_of actor.inside) sends held) (applied actor.parts.now (ended_plan actor descs new))
-unfolding written
+unfolding with_writes
 ending_state laws actor status descs new sends held is other copy first named has tells =
     let parts : Parts = actor.parts.now in
     let p : ℕ = actor.pid.0 in
@@ -87,29 +87,29 @@ ending_state laws actor status descs new sends held is other copy first named ha
     let ds : List ℕ = open_in me.descriptors in
     let S : State = state_of held parts in
     let S1 : State = ended_alone actor status S in
-    let T : State = written (unnamed_go ds S1) S1 in
+    let T : State = with_writes (description_removals ds S1) S1 in
     let X : State = ended_alone actor status (state_of held (record parts { descs = D })) in
     let qs : List ℕ = orphans_of actor in
     let ks : List ℕ = pipes_left actor in
     let R : State = plain_with descs parts in
-    let U : List Write = unnamed_go ds S1 in
-    let E : List Write = endless_go (pipes_of ds S1) T in
-    let O : List Write = orphaned (children_of p S) S in
-    let told : Telling = telling (inside_of actor.inside) me.parent in
+    let U : List Write = description_removals ds S1 in
+    let E : List Write = pipe_removals (pipes_of ds S1) T in
+    let O : List Write = orphan_writes (children_of p S) S in
+    let told : Notice = parent_notice (inside_of actor.inside) me.parent in
     let P : Parts = applied parts (ended_plan actor descs new) in
-    let children : written O X ≡ changed_by (orphan_changes qs) X
-    = ap (λ (xs : List ℕ). written (orphaned xs S) X) (children_are actor held other)
-    ∙ sym (orphans_state p qs S X (children_apart p (length parts.procs + 1) (plain parts) ((orderly_parts parts is.whole).parents p)) (λ q apart. ap (with_parent 1) (put_there S.procs p (Some (ended status me)) q apart))) in
-    let pipes : (Y : State) → written E Y ≡ changed_by (gone_changes ks R) Y
-    = λ Y. ap (λ (xs : List ℕ). written (endless_go xs T) Y) (pipes_same ds S1 (plain parts) (λ d. refl))
+    let children : with_writes O X ≡ changed_by (orphan_changes qs) X
+    = ap (λ (xs : List ℕ). with_writes (orphan_writes xs S) X) (children_are actor held other)
+    ∙ sym (orphans_state p qs S X (children_apart p (length parts.procs + 1) (plain parts) ((orderly_parts parts is.whole).parents p)) (λ q apart. ap (with_parent 1) (put_there S.procs p (Some (ended_process status me)) q apart))) in
+    let pipes : (Y : State) → with_writes E Y ≡ changed_by (gone_changes ks R) Y
+    = λ Y. ap (λ (xs : List ℕ). with_writes (pipe_removals xs T) Y) (pipes_same ds S1 (plain parts) (λ d. refl))
     ∙ sym (gone_state ks R T Y (λ d. sym (has d))) in
-    let after : written E (written O X) ≡ state_of held P
-    = ap (written E) children ∙ pipes (changed_by (orphan_changes qs) X) ∙ sym (changes_state laws actor status descs new held copy first named) in
-    written-append ((SetProc p (Some (ended status me)) ∷ O) ++ (U ++ E)) (told_at_commit told me.parent S) S
-    ∙ ap (written (told_at_commit told me.parent S))
-    (written-append (SetProc p (Some (ended status me)) ∷ O) (U ++ E) S
-    ∙ written-append U E (written O S1)
-    ∙ ap (written E) (unnamed_orphans ds S1 S S1 (children_of p S) ∙ ap (written O) (unnamed_state ds S1 S1 D has))
+    let after : with_writes E (with_writes O X) ≡ state_of held P
+    = ap (with_writes E) children ∙ pipes (changed_by (orphan_changes qs) X) ∙ sym (changes_state laws actor status descs new held copy first named) in
+    written-append ((SetProc p (Some (ended_process status me)) ∷ O) ++ (U ++ E)) (notice_held told me.parent S) S
+    ∙ ap (with_writes (notice_held told me.parent S))
+    (written-append (SetProc p (Some (ended_process status me)) ∷ O) (U ++ E) S
+    ∙ written-append U E (with_writes O S1)
+    ∙ ap (with_writes E) (unnamed_orphans ds S1 S S1 (children_of p S) ∙ ap (with_writes O) (unnamed_state ds S1 S1 D has))
     ∙ after)
-    ∙ ap (λ (ws : List Write). written ws (state_of held P)) (told_same told me.parent S (state_of held P) refl)
+    ∙ ap (λ (ws : List Write). with_writes ws (state_of held P)) (told_same told me.parent S (state_of held P) refl)
     ∙ tells (state_of held P)

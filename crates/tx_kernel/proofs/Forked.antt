@@ -22,10 +22,10 @@ use Rattle.tx_kernel.specs.Plans.{Plans, quiet}
 use Rattle.tx_kernel.specs.declared.actor.Actor.{Actor}
 use Rattle.tx_kernel.specs.declared.planned.Outcome.TheVariants.{Done}
 use Rattle.tx_model.specs.Descriptors.{open_in, desc_objects}
-use Rattle.tx_model.specs.Effects.{done_with}
+use Rattle.tx_model.specs.Words.{answer_effect_with, fork_objects}
 use Rattle.tx_model.specs.Forms.{Rule, changes}
-use Rattle.tx_model.specs.Processes.{child_of, fork_objects}
-use Rattle.tx_model.specs.State.{Object, Proc as TheProc, Desc, Process, SetProc, has, is_number}
+use Rattle.tx_model.specs.Processes.{child_of}
+use Rattle.tx_model.specs.State.{Object, Proc as TheProc, Desc, Process, SetProc, has_object, is_number}
 use Rattle.tx_proc.specs.Laws.{IsSized}
 use Rattle.tx_proc.specs.Processes.{process_of, process_in}
 use Rattle.tx_proc.specs.declared.part.Part.TheVariants.{Answer as SetAnswer}
@@ -42,14 +42,14 @@ count-first d x table = sum_by-cons (λ (y : Option ℕ). one_if (is_number d y)
 entries-first : (d : ℕ) (new : NewDesc) (descs : List NewDesc) → entries_of d (new ∷ descs) ≡ one_if (d == new.number.0) + entries_of d descs
 entries-first d new descs = sum_by-cons (λ (x : NewDesc). one_if (d == x.number.0)) new descs
 
-pub open-has : (d : ℕ) (table : Descriptors) → 0 < count_in d table → has (Desc d) (desc_objects (open_in table)) ≡ true
-unfolding open_in has
+pub open-has : (d : ℕ) (table : Descriptors) → 0 < count_in d table → has_object (Desc d) (desc_objects (open_in table)) ≡ true
+unfolding open_in has_object
 open-has d [] some = absurd (let none : count_in d [] ≡ 0 = refl in omega arith)
 open-has d (None ∷ table) some = open-has d table (let sum = count-first d None table in omega arith)
 open-has d (Some e ∷ table) some = by (λ more. open-has d table more) (d == e) refl
   where
-    by : (0 < count_in d table → has (Desc d) (desc_objects (open_in table)) ≡ true) → (b : Bool) → (d == e) ≡ b →
-        (if b then true else has (Desc d) (desc_objects (open_in table))) ≡ true
+    by : (0 < count_in d table → has_object (Desc d) (desc_objects (open_in table)) ≡ true) → (b : Bool) → (d == e) ≡ b →
+        (if b then true else has_object (Desc d) (desc_objects (open_in table))) ≡ true
     by rest true is = refl
     by rest false is =
         let sum = count-first d (Some e) table in
@@ -65,7 +65,7 @@ planned-named table descs d once some = by (nat_lt 0 (count_in d table)) refl (o
     by true is one = ltb-true 0 (count_in d table) is
     by false is none = absurd (omega arith)
 
-pub listed-among : (objects : List Object) (descs : List NewDesc) → ((d : ℕ) → 0 < entries_of d descs → has (Desc d) objects ≡ true) → AreDescsAmong objects descs
+pub listed-among : (objects : List Object) (descs : List NewDesc) → ((d : ℕ) → 0 < entries_of d descs → has_object (Desc d) objects ≡ true) → AreDescsAmong objects descs
 listed-among objects [] all = tt
 listed-among objects (new ∷ descs) all = (
   all new.number.0 (let sum = entries-first new.number.0 new descs in
@@ -76,7 +76,7 @@ listed-among objects (new ∷ descs) all = (
 
 -- each is one of the objects that the descriptors name
 pub planned-among : (table : Descriptors) (descs : List NewDesc) (p c : ℕ) → IsOnceEach table descs → AreDescsAmong (TheProc p ∷ TheProc c ∷ desc_objects (open_in table)) descs
-unfolding has
+unfolding has_object
 planned-among table descs p c once =
     listed-among (TheProc p ∷ TheProc c ∷ desc_objects (open_in table)) descs (λ d some. open-has d table (planned-named table descs d once some))
 
@@ -113,9 +113,9 @@ fork_plans laws actor child new descs before first second now sized is number fr
     let slot : Change = Slot child (Some new) in
     let places : IsSized proc = subst HasPlaces is.there (is.whole.places actor.pid.0) in
     plans_same actor before now (quiet (Done (pos child.0)))
-    (λ S. done_with (SetProc child.0 (process_in (Some new)) ∷ []) actor.pid.0 (pos child.0) (me_of actor)) (effect_by actor (makes_child child.0))
+    (λ S. answer_effect_with (SetProc child.0 (process_in (Some new)) ∷ []) actor.pid.0 (pos child.0) (me_of actor)) (effect_by actor (makes_child child.0))
     (λ S. fork_objects child.0 (me_of actor)) (λ S. fork_objects child.0 (me_of actor))
-    (λ held counted. ap (λ (q : Process). done_with (SetProc child.0 (Some q) ∷ []) actor.pid.0 (pos child.0) (me_of actor)) copy) (λ held. refl)
+    (λ held counted. ap (λ (q : Process). answer_effect_with (SetProc child.0 (Some q) ∷ []) actor.pid.0 (pos child.0) (me_of actor)) copy) (λ held. refl)
     (beside_plans laws actor before now descs child (Some new) (answer ∷ []) (pos child.0) (me_of actor) (λ S. fork_objects child.0 (me_of actor)) is
     (record {
       sized = sized;

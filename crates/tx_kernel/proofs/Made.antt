@@ -9,8 +9,8 @@ use Rattle.tx_change.specs.States.{state_of}
 use Rattle.tx_change.specs.declared.change.Change.{Change}
 use Rattle.tx_change.specs.declared.change.Change.TheVariants.{Slot, Part, Description, Pipe}
 use Rattle.tx_change.specs.declared.parts.Parts.{Parts}
-use Rattle.tx_kernel.specs.Actors.{inside_of, me_of, IsActor}
-use Rattle.tx_kernel.specs.Acts.{act_rule, Makes, PlansEvent}
+use Rattle.tx_kernel.specs.Actors.{effect_by, inside_of, me_of, names_by, IsActor}
+use Rattle.tx_kernel.specs.Acts.{Makes, PlansEvent}
 use Rattle.tx_kernel.specs.Own.{PlansOwn}
 use Rattle.tx_kernel.proofs.OwnPlans.{own_plans}
 use Rattle.tx_kernel.proofs.StepPlans.{quiet_step}
@@ -22,22 +22,19 @@ use Rattle.tx_kernel.specs.declared.planned.Outcome.{Outcome}
 use Rattle.tx_kernel.specs.declared.planned.Sends.TheVariants.{Nothing}
 use Rattle.tx_kernel.specs.declared.planned.Planned.{Planned}
 use Rattle.tx_kernel.specs.declared.inside.Inside.{Inside}
+use Rattle.tx_base.specs.declared.names.Signo.{Signo}
+use Rattle.tx_base.specs.declared.steps.Call.{Call}
 use Rattle.tx_base.specs.declared.steps.Step.{Step}
 use Rattle.tx_base.specs.declared.steps.Step.TheVariants.{Call as Calls, Deliver}
-use Rattle.tx_model.specs.Events.{Event, Do, Note, effect, note_effect, objects}
-use Rattle.tx_model.specs.Calls.{effect_at, objects_at, Act, act_effect, act_objects, running_effect, act_footprint, MakesCall, TakesSignal}
-use Rattle.tx_model.specs.Effects.{Inside as TheInside, done}
-use Rattle.tx_model.specs.State.{has, Object, Proc, Process, Sending, State}
+use Rattle.tx_model.specs.Events.{Event, Do, Note, effect, objects, effect_at, objects_at}
+use Rattle.tx_model.specs.Words.{note_effect, answer_effect}
+use Rattle.tx_model.specs.Effects.{Inside as TheInside}
+use Rattle.tx_model.specs.Forms.{Page}
+use Rattle.tx_model.specs.State.{has_object, Object, State}
+use Rattle.tx_model.specs.Book.{page_of_call}
+use Rattle.tx_model.specs.Deliveries.{delivery_page}
+use Rattle.tx_model.specs.BookLaws.{names_as, runs_as}
 use Rattle.tx_proc.specs.Processes.{process_in}
-
--- a process that runs does what its rule says
-pub act_is : (actor : Actor) (act : Act) (held : ℕ → List Sending) → IsActor actor →
-    act_rule (inside_of actor.inside) actor.pid.0 act (state_of held actor.parts.now) ≡ act_effect (inside_of actor.inside) actor.pid.0 act (me_of actor) (state_of held actor.parts.now)
-act_is actor act held is =
-    let inside : Option TheInside = inside_of actor.inside in
-    let S : State = state_of held actor.parts.now in
-    ap (λ (q : Option Process). effect_at inside actor.pid.0 act S q) (ap process_in is.there)
-    ∙ ap (λ (status : Option ℕ). running_effect inside actor.pid.0 act S (me_of actor) status) is.runs
 
 -- what a change has once it was exchanged is of the same object
 same_object_after : (parts : Parts) (change : Change) → object_of (change_after parts change) ≡ object_of change
@@ -49,7 +46,7 @@ same_object_after parts (Pipe number part) = refl
 kept_among : (os : List Object) (parts : Parts) (changes : List Change) → AreAmong os changes → AreAmong os (exchanged parts changes)
 kept_among os parts [] among = tt
 kept_among os parts (change ∷ changes) among =
-    (ap (λ (o : Object). has o os) (same_object_after parts change) ∙ among.0, kept_among os (parts_after parts change) changes among.1)
+    (ap (λ (o : Object). has_object o os) (same_object_after parts change) ∙ among.0, kept_among os (parts_after parts change) changes among.1)
 
 -- the plan of an event at the end of a log, and its exchanges
 pub made : (laws : PlanLaws) (actor : Actor) (event : Event) (log between now : List Change) (after : Parts) (planned : Planned) → IsActor actor →
@@ -62,42 +59,39 @@ made laws actor event log between now after planned is plans goes logged =
     let kept : List Change = exchanged parts plan in
     let behind : drop (length log) between ≡ plan = ap (drop (length log)) plans.added ∙ drop_at log plan (length log) refl in
     let front : take (length log) between ≡ log = ap (take (length log)) plans.added ∙ take_at log plan (length log) refl in
-    let then : after ≡ applied parts plan = goes ∙ ap (applied parts) behind in
+    let goes_so : after ≡ applied parts plan = goes ∙ ap (applied parts) behind in
     record {
       kept = kept;
       added = logged ∙ (λ j. front j ++ exchanged parts (behind j));
-      named = subst (λ (p : Parts). AreNamed p kept) (sym then) (subst (λ (sizes : Sizes). AreWithin sizes kept) (sym (laws.sizes parts plan)) (laws.stays (sizes_of parts) parts plan plans.named));
-      back = ap (λ (p : Parts). undone p kept) then ∙ laws.reverts parts plan plans.named;
-      counts = subst CountsAgree (sym then) plans.counts;
-      places = subst HaveAllPlaces (sym then) (laws.places parts plan plans.named plans.brings is.whole.places);
+      named = subst (λ (p : Parts). AreNamed p kept) (sym goes_so) (subst (λ (sizes : Sizes). AreWithin sizes kept) (sym (laws.sizes parts plan)) (laws.stays (sizes_of parts) parts plan plans.named));
+      back = ap (λ (p : Parts). undone p kept) goes_so ∙ laws.reverts parts plan plans.named;
+      counts = subst CountsAgree (sym goes_so) plans.counts;
+      places = subst HaveAllPlaces (sym goes_so) (laws.places parts plan plans.named plans.brings is.whole.places);
       brings = laws.taken parts plan plans.named plans.brings is.whole.places;
       gives = λ held counted.
-          subst (λ (p : Parts). GivesStep actor.inside actor.pid parts p planned.outcome planned.sends held (effect event (state_of held parts))) (sym then) (plans.gives held counted);
+          subst (λ (p : Parts). GivesStep actor.inside actor.pid parts p planned.outcome planned.sends held (effect event (state_of held parts))) (sym goes_so) (plans.gives held counted);
       signal = plans.signal;
       among = λ held. kept_among (objects event (state_of held parts) ++ target_objects planned.sends) parts plan (plans.among held);
     }
 
--- the step in which the process of a number does so
-abbrev pub step_of : Pid → Act → Step
-step_of pid (MakesCall call) = Calls pid call
-step_of pid (TakesSignal signo) = Deliver pid (record { 0 = signo })
+-- a step of the page, whoever makes it
+pub record IsOfPage (page : Page) (step : Pid → Step) : Type 0 where
+  pub rule : (inside : Option TheInside) (pid : Pid) (S : State) → effect (Do (step pid) inside) S ≡ effect_at inside pid.0 page S
+  pub names : (inside : Option TheInside) (pid : Pid) (S : State) → objects (Do (step pid) inside) S ≡ objects_at inside pid.0 page S
 
-rule_is : (inside : Option TheInside) (pid : Pid) (act : Act) (S : State) → effect (Do (step_of pid act) inside) S ≡ act_rule inside pid.0 act S
-unfolding effect
-rule_is inside pid (MakesCall call) S = refl
-rule_is inside pid (TakesSignal signo) S = refl
+pub of_call : (call : Call) → IsOfPage (page_of_call call) (λ pid. Calls pid call)
+unfolding effect objects
+of_call call = record { rule = λ inside pid S. refl; names = λ inside pid S. refl }
 
-objects_are : (inside : Option TheInside) (pid : Pid) (act : Act) (S : State) → objects (Do (step_of pid act) inside) S ≡ act_footprint inside pid.0 act S
-unfolding objects
-objects_are inside pid (MakesCall call) S = refl
-objects_are inside pid (TakesSignal signo) S = refl
+pub of_delivery : (signo : Signo) → IsOfPage (delivery_page signo.0) (λ pid. Deliver pid signo)
+unfolding effect objects
+of_delivery signo = record { rule = λ inside pid S. refl; names = λ inside pid S. refl }
 
 -- the plan of a call or a delivery is that of its event
-pub plans_event : (actor : Actor) (act : Act) (log now : List Change) (planned : Planned) → IsActor actor →
-    PlansStep actor log now planned.outcome planned.sends (λ S. act_effect (inside_of actor.inside) actor.pid.0 act (me_of actor) S)
-    (λ S. act_objects (inside_of actor.inside) actor.pid.0 act (me_of actor) S) →
-    PlansEvent actor log now planned (Do (step_of actor.pid act) (inside_of actor.inside))
-plans_event actor act log now planned is plans =
+pub plans_event : (actor : Actor) (page : Page) (step : Pid → Step) → IsOfPage page step → (log now : List Change) (planned : Planned) → IsActor actor →
+    PlansStep actor log now planned.outcome planned.sends (effect_by actor page.outcome) (names_by actor page.names) →
+    PlansEvent actor log now planned (Do (step actor.pid) (inside_of actor.inside))
+plans_event actor page step of log now planned is plans =
     let parts : Parts = actor.parts.now in
     record {
       plan = plans.plan;
@@ -107,23 +101,24 @@ plans_event actor act log now planned is plans =
       brings = plans.brings;
       gives = λ held counted.
           subst (GivesStep actor.inside actor.pid parts (applied parts plans.plan) planned.outcome planned.sends held)
-          (sym (rule_is (inside_of actor.inside) actor.pid act (state_of held parts) ∙ act_is actor act held is)) (plans.gives held counted);
+          (sym (of.rule (inside_of actor.inside) actor.pid (state_of held parts) ∙ runs_as (inside_of actor.inside) actor.pid.0 page (state_of held parts) (me_of actor) (ap process_in is.there) is.runs))
+          (plans.gives held counted);
       signal = plans.signal;
       among = λ held.
           subst (λ (os : List Object). AreAmong (os ++ target_objects planned.sends) plans.plan)
-          (sym (objects_are (inside_of actor.inside) actor.pid act (state_of held parts)
-          ∙ ap (λ (q : Option Process). Proc actor.pid.0 ∷ objects_at (inside_of actor.inside) actor.pid.0 act (state_of held parts) q) (ap process_in is.there))) (plans.among held);
+          (sym (of.names (inside_of actor.inside) actor.pid (state_of held parts) ∙ names_as (inside_of actor.inside) actor.pid.0 page (state_of held parts) (me_of actor) (ap process_in is.there)))
+          (plans.among held);
     }
 
 -- an answer is planned as the note of it
 pub plans_note : (laws : PlanLaws) (actor : Actor) (log now : List Change) (outcome : Outcome) (ret : ℤ) → length actor.parts.now.descs ≡ 64 → IsActor actor →
-    PlansOwn actor log now outcome (λ S. done actor.pid.0 ret (me_of actor)) → PlansEvent actor log now (quiet outcome) (Note actor.pid.0 ret)
+    PlansOwn actor log now outcome (λ S. answer_effect actor.pid.0 ret (me_of actor)) → PlansEvent actor log now (quiet outcome) (Note actor.pid.0 ret)
 unfolding effect objects
 plans_note laws actor log now outcome ret sized is plans =
     let parts : Parts = actor.parts.now in
-    let step : PlansStep actor log now outcome Nothing (λ S. done actor.pid.0 ret (me_of actor)) (λ S. []) =
-    quiet_step actor log now outcome Nothing (λ S. done actor.pid.0 ret (me_of actor)) (λ S. []) refl
-    (own_plans laws actor log now outcome (λ S. done actor.pid.0 ret (me_of actor)) (λ S. []) sized is plans) in
+    let step : PlansStep actor log now outcome Nothing (λ S. answer_effect actor.pid.0 ret (me_of actor)) (λ S. []) =
+    quiet_step actor log now outcome Nothing (λ S. answer_effect actor.pid.0 ret (me_of actor)) (λ S. []) refl
+    (own_plans laws actor log now outcome (λ S. answer_effect actor.pid.0 ret (me_of actor)) (λ S. []) sized is plans) in
     record {
       plan = step.plan;
       added = step.added;
@@ -138,18 +133,18 @@ plans_note laws actor log now outcome ret sized is plans =
     }
 
 -- a call or a delivery that is planned and made, by the parts, the number and the transaction that its process was found by
-pub made_at : (laws : PlanLaws) (actor : Actor) (parts : Parts) (pid : Pid) (inside : Option Inside) (act : Act) (log between now : List Change) (from : ℕ) (after : Parts) (planned : Planned) →
+pub made_at : (laws : PlanLaws) (actor : Actor) (parts : Parts) (pid : Pid) (inside : Option Inside) (page : Page) (step : Pid → Step) → IsOfPage page step →
+    (log between now : List Change) (from : ℕ) (after : Parts) (planned : Planned) →
     IsActor actor → (actor.parts.now ≡ parts) × (actor.pid ≡ pid) × (actor.inside ≡ inside) → from ≡ length log →
-    PlansStep actor log between planned.outcome planned.sends (λ S. act_effect (inside_of actor.inside) actor.pid.0 act (me_of actor) S)
-    (λ S. act_objects (inside_of actor.inside) actor.pid.0 act (me_of actor) S) →
+    PlansStep actor log between planned.outcome planned.sends (effect_by actor page.outcome) (names_by actor page.names) →
     after ≡ applied parts (drop from between) → now ≡ take from between ++ exchanged parts (drop from between) →
-    Makes parts pid inside (Do (step_of pid act) (inside_of inside)) log now after planned
-made_at laws actor parts pid inside act log between now from after planned is same long plans goes logged =
-    let whole : Makes actor.parts.now actor.pid actor.inside (Do (step_of actor.pid act) (inside_of actor.inside)) log now after planned
-    = made laws actor (Do (step_of actor.pid act) (inside_of actor.inside)) log between now after planned is (plans_event actor act log between planned is plans)
+    Makes parts pid inside (Do (step pid) (inside_of inside)) log now after planned
+made_at laws actor parts pid inside page step of log between now from after planned is same long plans goes logged =
+    let whole : Makes actor.parts.now actor.pid actor.inside (Do (step actor.pid) (inside_of actor.inside)) log now after planned
+    = made laws actor (Do (step actor.pid) (inside_of actor.inside)) log between now after planned is (plans_event actor page step of log between planned is plans)
     (goes ∙ ap (λ (p : Parts). applied p (drop from between)) (sym same.0) ∙ ap (λ (k : ℕ). applied actor.parts.now (drop k between)) long)
     (logged ∙ ap (λ (p : Parts). take from between ++ exchanged p (drop from between)) (sym same.0)
     ∙ ap (λ (k : ℕ). take k between ++ exchanged actor.parts.now (drop k between)) long) in
-    subst (λ (i : Option Inside). Makes parts pid i (Do (step_of pid act) (inside_of i)) log now after planned) same.2
-    (subst (λ (n : Pid). Makes parts n actor.inside (Do (step_of n act) (inside_of actor.inside)) log now after planned) same.1
-    (subst (λ (p : Parts). Makes p actor.pid actor.inside (Do (step_of actor.pid act) (inside_of actor.inside)) log now after planned) same.0 whole))
+    subst (λ (i : Option Inside). Makes parts pid i (Do (step pid) (inside_of i)) log now after planned) same.2
+    (subst (λ (n : Pid). Makes parts n actor.inside (Do (step n) (inside_of actor.inside)) log now after planned) same.1
+    (subst (λ (p : Parts). Makes p actor.pid actor.inside (Do (step actor.pid) (inside_of actor.inside)) log now after planned) same.0 whole))

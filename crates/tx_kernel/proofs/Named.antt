@@ -25,8 +25,9 @@ use Rattle.tx_model.specs.Memory.{Memory}
 use Rattle.tx_base.specs.Slots.{slot_at}
 use Rattle.tx_kernel.specs.declared.actor.Actor.{Actor}
 use Rattle.tx_kernel.specs.declared.planned.Planned.{Planned}
-use Rattle.tx_model.specs.Effects.{Effect, before_sends}
-use Rattle.tx_model.specs.State.{Object, Proc, Process, Sending, State, Write, SetProc, SetDesc, SetPipe, SetHeld, has, put_at, same_object, write_one, written}
+use Rattle.tx_model.specs.Effects.{Effect}
+use Rattle.tx_model.specs.Words.{before_sends}
+use Rattle.tx_model.specs.State.{Object, Proc, Process, Sending, State, Write, SetProc, SetDesc, SetPipe, SetHeld, has_object, put_at, same_object, write_one, with_writes}
 use Rattle.tx_model.specs.StateLaws.{put_cases, put_here}
 use Rattle.tx_proc.specs.Processes.{process_in}
 
@@ -75,11 +76,11 @@ among_append : (os : List Object) (front behind : List Change) → AreAmong os f
 among_append os [] behind f b = b
 among_append os (change ∷ front) behind f b = (f.0, among_append os front behind f.1 b)
 
-pub has_more : (o x : Object) (os : List Object) → has o os ≡ true → has o (x ∷ os) ≡ true
-unfolding has
+pub has_more : (o x : Object) (os : List Object) → has_object o os ≡ true → has_object o (x ∷ os) ≡ true
+unfolding has_object
 has_more o x os is = by (same_object o x)
   where
-    by : (b : Bool) → (if b then true else has o os) ≡ true
+    by : (b : Bool) → (if b then true else has_object o os) ≡ true
     by true = refl
     by false = is
 
@@ -91,17 +92,17 @@ among_more x os (change ∷ changes) among = (has_more _ x os among.0, among_mor
 
 desc_put : (S : State) (D : List (Option Opened)) (n : ℕ) (x : Option Opened) → n < length D → HasDescs S D →
     HasDescs (write_one (SetDesc n (described x)) S) (set D n x)
-desc_put S D n x inside has d = elim (put_cases S.descs n (described x) d) [
+desc_put S D n x inside holds d = elim (put_cases S.descs n (described x) d) [
   | inl z ↦ z.1 ∙ ap described (sym (ap (λ (i : ℕ). get_or (set D n x) i None) z.0 ∙ get_or-set_same D n x None inside))
-  | inr z ↦ z.1 ∙ has d ∙ ap described (sym (get_or-set_other D n d x None z.0))
+  | inr z ↦ z.1 ∙ holds d ∙ ap described (sym (get_or-set_other D n d x None z.0))
 ]
 
 pub descs_changed : (S : State) (D : List (Option Opened)) (descs : List NewDesc) → length D ≡ 64 → AreNumbers descs → HasDescs S D →
     HasDescs (changed_by (desc_changes descs) S) (put_descs descs D)
-descs_changed S D [] full numbers has = has
-descs_changed S D (new ∷ descs) full numbers has =
+descs_changed S D [] full numbers holds = holds
+descs_changed S D (new ∷ descs) full numbers holds =
     descs_changed (write_one (SetDesc new.number.0 (described new.opened)) S) (set D new.number.0 new.opened) descs (length-set D new.number.0 new.opened ∙ full) numbers.1
-    (desc_put S D new.number.0 new.opened (subst (λ (w : ℕ). new.number.0 < w) (sym full) numbers.0) has)
+    (desc_put S D new.number.0 new.opened (subst (λ (w : ℕ). new.number.0 < w) (sym full) numbers.0) holds)
 
 descs_rest : (descs : List NewDesc) (S : State) → changed_by (desc_changes descs) S ≡ record S { descs = (changed_by (desc_changes descs) S).descs }
 descs_rest [] S = refl
@@ -142,8 +143,8 @@ abbrev pub AreOfFiles : List Write → Type 0
 AreOfFiles [] = Unit {0}
 AreOfFiles (w ∷ ws) = IsOfFiles w × AreOfFiles ws
 
-files_rest : (ws : List Write) (S : State) → AreOfFiles ws → written ws S ≡ record S { descs = (written ws S).descs; pipes = (written ws S).pipes }
-unfolding written
+files_rest : (ws : List Write) (S : State) → AreOfFiles ws → with_writes ws S ≡ record S { descs = (with_writes ws S).descs; pipes = (with_writes ws S).pipes }
+unfolding with_writes
 files_rest [] S files = refl
 files_rest (SetProc n x ∷ ws) S files = absurd files.0
 files_rest (SetDesc n x ∷ ws) S files = files_rest ws (write_one (SetDesc n x) S) files.1
@@ -227,15 +228,15 @@ made laws actor new files S here =
 reached : (laws : PlanLaws) (actor : Actor) (new : Process) (files : Files actor new) (planned : Planned) (S : State) (effect : Effect) → length actor.parts.now.descs ≡ 64 →
     HasDescs S actor.parts.now.descs → S.procs actor.pid.0 ≡ Some (me_of actor) → Writes actor new files.descs files.pipes planned S effect →
     before_sends effect S ≡ changed_by (changes_of files) S
-unfolding written
-reached laws actor new files planned S effect sized has here does =
+unfolding with_writes
+reached laws actor new files planned S effect sized has_object here does =
     let n : ℕ = actor.pid.0 in
     let me : Process = record (me_of actor) { descriptors = put_names files.names actor.proc.now.descriptors } in
     let named : State = write_one (SetProc n (Some me)) S in
     let whole : before_sends effect S ≡ record (write_one (SetProc n (Some new)) S) { descs = (before_sends effect S).descs; pipes = (before_sends effect S).pipes } =
-    ap (λ (ws : List Write). written ws S) does.writes ∙ files_rest does.more (write_one (SetProc n (Some new)) S) does.files
-    ∙ ap (λ (ws : List Write). record (write_one (SetProc n (Some new)) S) { descs = (written ws S).descs; pipes = (written ws S).pipes }) (sym does.writes) in
-    let descs = descs_changed named actor.parts.now.descs files.descs sized files.numbers has in
+    ap (λ (ws : List Write). with_writes ws S) does.writes ∙ files_rest does.more (write_one (SetProc n (Some new)) S) does.files
+    ∙ ap (λ (ws : List Write). record (write_one (SetProc n (Some new)) S) { descs = (with_writes ws S).descs; pipes = (with_writes ws S).pipes }) (sym does.writes) in
+    let descs = descs_changed named actor.parts.now.descs files.descs sized files.numbers has_object in
     let last : State = record {
       width = S.width;
       procs = put_at (put_at S.procs n (Some me)) n (Some new);

@@ -1,13 +1,13 @@
 -- The plans of the calls on descriptors.
 use Rattle.std.proofs.Common.{nat_lt, ◌==◌, not, ◌&&◌, ◌||◌, is_some, ◌<◌, ◌≡◌, ◌≢◌, option_map, ℕ, zero, suc, ◌≤◌, false, if◌then◌else◌, length-set, ◌+◌, Bool, arith, List, [], ◌∷◌, ◌++◌, length, ℤ, pos, Option, Some, None, Result, Ok, Err, IfOk, refl, ap, sym, subst, ◌∙◌, append_assoc, eq-eqb, true, get_or}
-use Rattle.tx_model.specs.Book.{description_at as described_at, desc_of, desc_and_pipe_of, dup, dup2, close, gives_up, set_nonblock}
+use Rattle.tx_model.specs.Book.{description_at as described_at, desc_of, desc_and_pipe_of, dup, dup2, close, release, set_nonblock}
 use Rattle.tx_model.specs.Book as the
 use Rattle.tx_model.specs.Forms.{Caller, Rule, fails, effect_of}
 use Rattle.tx_model.specs.Answer.{ChoosesPipe, is_bad_choice}
 use Rattle.tx_desc.specs.declared.plans.PipePlan.{PipePlan}
 use Rattle.tx_base.specs.declared.names.PipeNo.{PipeNo}
 use Rattle.tx_base.specs.declared.errors.Errno.{Errno}
-use Rattle.tx_model.specs.Numbers.{failing}
+use Rattle.tx_model.specs.Numbers.{error_answer}
 use Rattle.tx_change.specs.declared.pipes.PipePart.TheVariants.{Whole}
 use Rattle.tx_change.specs.Counts.{name_changes, desc_changes}
 use Rattle.tx_change.specs.Exchange.{pipe_at, AreNamed}
@@ -50,9 +50,10 @@ use Rattle.tx_kernel.specs.declared.actor.Actor.{Actor}
 use Rattle.tx_kernel.specs.declared.planned.Outcome.TheVariants.{Done}
 use Rattle.tx_kernel.specs.declared.planned.Planned.{Planned}
 use Rattle.tx_kernel.proofs.OwnPlans.{held_quiet}
-use Rattle.tx_model.specs.Descriptors.{is_pipe_in_use, unnamed_go, endless_go, other_than, desc_pipe_objects, pipes_of, released, named, descriptor, desc_objects, listed, pipe_objects, with_two_slots, dup2_objects, pipe_list}
-use Rattle.tx_model.specs.Effects.{Effect, done_with, done, noted, before_sends}
-use Rattle.tx_model.specs.State.{SetPipe, SetDesc, Pipe as ThePipe, Object, Desc, Process, Sending, State, Write, SetProc, has, is_between, same_object, write_one, written}
+use Rattle.tx_model.specs.Descriptors.{is_pipe_in_use, description_removals, pipe_removals, other_than, desc_pipe_objects, pipes_of, removals, description_named, descriptor, desc_objects, option_list}
+use Rattle.tx_model.specs.Words.{pipe_objects, with_two_slots, dup2_objects, pipe_list, answer_effect_with, answer_effect, before_sends}
+use Rattle.tx_model.specs.Effects.{Effect, with_answer}
+use Rattle.tx_model.specs.State.{SetPipe, SetDesc, Pipe as ThePipe, Object, Desc, Process, Sending, State, Write, SetProc, has_object, is_between, same_object, write_one, with_writes}
 use Rattle.tx_proc.specs.declared.part.Part.TheVariants.{Answer}
 
 -- what holds of a rule of these parts holds of an equal one
@@ -73,20 +74,20 @@ same_rule actor before now planned rule other objects same plans = record {
 
 -- an answer alone, where the rule is that answer
 pub done_plan : {E : Type 0} (result : Result Planned E) (actor : Actor) (before now : List Change) (r : ℤ) (rule : State → Effect) (objects : State → List Object) →
-    ((held : ℕ → List Sending) → rule (state_of held actor.parts.now) ≡ done actor.pid.0 r (me_of actor)) →
-    IfOk result (λ planned. (os : State → List Object) → Plans actor before now planned (λ S. done actor.pid.0 r (me_of actor)) os) →
+    ((held : ℕ → List Sending) → rule (state_of held actor.parts.now) ≡ answer_effect actor.pid.0 r (me_of actor)) →
+    IfOk result (λ planned. (os : State → List Object) → Plans actor before now planned (λ S. answer_effect actor.pid.0 r (me_of actor)) os) →
     IfOk result (λ planned. Plans actor before now planned rule objects)
 done_plan {E} (Ok planned) actor before now r rule objects same plans =
-    same_rule actor before now planned (λ S. done actor.pid.0 r (me_of actor)) rule objects (λ held counted. sym (same held)) (plans objects)
+    same_rule actor before now planned (λ S. answer_effect actor.pid.0 r (me_of actor)) rule objects (λ held counted. sym (same held)) (plans objects)
 done_plan {E} (Err why) actor before now r rule objects same plans = tt
 
 -- an error alone, where it is the rule's
 pub failed_plan : {E : Type 0} (result : Result Planned E) (actor : Actor) (before now : List Change) (errno : Errno) (rule : Rule) (names : Caller → List Object) →
     ((held : ℕ → List Sending) → rule (caller_of actor (state_of held actor.parts.now)) ≡ fails errno) →
-    IfOk result (λ planned. (os : State → List Object) → Plans actor before now planned (λ S. done actor.pid.0 (failing errno) (me_of actor)) os) →
+    IfOk result (λ planned. (os : State → List Object) → Plans actor before now planned (λ S. answer_effect actor.pid.0 (error_answer errno) (me_of actor)) os) →
     IfOk result (λ planned. Plans actor before now planned (effect_by actor rule) (names_by actor names))
 failed_plan result actor before now errno rule names same plans =
-    done_plan result actor before now (failing errno) (effect_by actor rule) (names_by actor names) (λ held. ap (effect_of actor.pid.0 (me_of actor)) (same held)) plans
+    done_plan result actor before now (error_answer errno) (effect_by actor rule) (names_by actor names) (λ held. ap (effect_of actor.pid.0 (me_of actor)) (same held)) plans
 
 -- an answer alone, as the last change
 abbrev pub last_answer : ℤ → Actor → List Change
@@ -96,8 +97,8 @@ last_answer r actor = Part actor.pid (Answer (answer_after r actor)) ∷ []
 abbrev pub answered_files : (actor : Actor) (names : List NewName) (descs : List NewDesc) (pipes : List Change) (r : ℤ) → AreFds names → AreNumbers descs →
     ArePipes pipes → AreNamed actor.parts.now pipes →
     KeepsCounts actor.proc.now.descriptors (put_names names actor.proc.now.descriptors) actor.parts.now.descs (put_descs descs actor.parts.now.descs) →
-    Files actor (noted r (with_table (put_names names actor.proc.now.descriptors) (me_of actor)))
-answered_files actor names descs pipes r fds numbers are named keeps = record {
+    Files actor (with_answer r (with_table (put_names names actor.proc.now.descriptors) (me_of actor)))
+answered_files actor names descs pipes r fds numbers are description_named keeps = record {
   names = names;
   descs = descs;
   pipes = pipes;
@@ -105,7 +106,7 @@ answered_files actor names descs pipes r fds numbers are named keeps = record {
   fds = fds;
   numbers = numbers;
   are_pipes = are;
-  pipes_named = named;
+  pipes_named = description_named;
   are_own = ((refl, tt), tt);
   nameless = (tt, tt);
   keeps = keeps;
@@ -114,10 +115,10 @@ answered_files actor names descs pipes r fds numbers are named keeps = record {
 
 -- what a rule writes that answers so and writes no other process
 pub done_writes : (actor : Actor) (news : List NewDesc) (changes : List Change) (S : State) (effect : Effect) (ws : List Write) (r : ℤ) (me : Process) →
-    effect ≡ done_with ws actor.pid.0 r me → AreOfFiles ws → HasDescs (before_sends effect S) (put_descs news actor.parts.now.descs) →
-    (written ws (write_one (SetProc actor.pid.0 (Some (noted r me))) S)).pipes ≡ (changed_by changes S).pipes →
-    Writes actor (noted r me) news changes (quiet (Done r)) S effect
-unfolding written
+    effect ≡ answer_effect_with ws actor.pid.0 r me → AreOfFiles ws → HasDescs (before_sends effect S) (put_descs news actor.parts.now.descs) →
+    (with_writes ws (write_one (SetProc actor.pid.0 (Some (with_answer r me))) S)).pipes ≡ (changed_by changes S).pipes →
+    Writes actor (with_answer r me) news changes (quiet (Done r)) S effect
+unfolding with_writes
 done_writes actor news changes S effect ws r me is files descs pipes = record {
   more = ws;
   files = files;
@@ -133,12 +134,12 @@ appended3 before a b c l1 l2 l3 first second third =
     third ∙ ap (λ (l : List Change). l ++ c) (second ∙ ap (λ (l : List Change). l ++ b) first) ∙ simp append_assoc
 
 -- the description is that of the descriptor
-has_desc : (d : ℕ) (x : Option ℕ) → x ≡ Some d → has (Desc d) (desc_objects (listed x)) ≡ true
-unfolding has
+has_desc : (d : ℕ) (x : Option ℕ) → x ≡ Some d → has_object (Desc d) (desc_objects (option_list x)) ≡ true
+unfolding has_object
 has_desc d x is = rw is (rw (eq-eqb d d refl) refl)
 
 -- what the process names
-named_me : (actor : Actor) (x : Option ℕ) → named (me_of actor) x ≡ named_in actor.proc.now.descriptors x
+named_me : (actor : Actor) (x : Option ℕ) → description_named (me_of actor) x ≡ named_in actor.proc.now.descriptors x
 named_me actor None = refl
 named_me actor (Some f) = refl
 
@@ -154,19 +155,19 @@ pub dup_plan : (laws : PlanLaws) (actor : Actor) (before first second now : List
     first ≡ before ++ name_changes actor.pid (plan.name ∷ []) → second ≡ first ++ desc_changes (plan.desc ∷ []) →
     now ≡ second ++ last_answer (pos plan.name.fd) actor →
     Plans actor before now (quiet (Done (pos plan.name.fd))) (effect_by actor (dup fd)) (names_by actor (desc_of fd))
-unfolding written
+unfolding with_writes
 dup_plan laws actor before first second now fd plan sized is answer descriptions counts found numbers one two three =
     let p : ℕ = actor.pid.0 in
     let me : Process = me_of actor in
     let r : ℤ = pos plan.name.fd in
     let new : Process = with_table (put_names (plan.name ∷ []) actor.proc.now.descriptors) me in
-    files_plan laws actor before now (quiet (Done r)) (effect_by actor (dup fd)) (names_by actor (desc_of fd)) (noted r new)
+    files_plan laws actor before now (quiet (Done r)) (effect_by actor (dup fd)) (names_by actor (desc_of fd)) (with_answer r new)
     (answered_files actor (plan.name ∷ []) (plan.desc ∷ []) [] r numbers.0 numbers.1 tt tt counts) sized is
     (appended3 before (name_changes actor.pid (plan.name ∷ [])) (desc_changes (plan.desc ∷ [])) (last_answer r actor) first second now one two three)
     (λ after. tt) (held_quiet actor.inside (Done r))
     (λ held counted. let S : State = state_of held actor.parts.now in let c : Caller = caller_of actor S in
     done_writes actor (plan.desc ∷ []) [] S (effect_in (dup fd) c) [] r new (ap (effect_of p me) (answer c refl)) tt (descriptions c refl (λ d. refl)) refl)
-    (λ held. (has_desc plan.desc.number.0 (named me (descriptor fd)) (named_me actor (descriptor fd) ∙ found), tt))
+    (λ held. (has_desc plan.desc.number.0 (description_named me (descriptor fd)) (named_me actor (descriptor fd) ∙ found), tt))
     tt
 
 pub appended2 : (before a b l1 l2 : List Change) → l1 ≡ before ++ a → l2 ≡ l1 ++ b → l2 ≡ before ++ (a ++ b)
@@ -177,8 +178,8 @@ files_again : (x : Option ℕ) (D : List (Option Opened)) → AreOfFiles (descri
 files_again None D = tt
 files_again (Some d) D = (tt, tt)
 
-pipes_again : (x : Option ℕ) (D : List (Option Opened)) (S : State) → (written (described_again x D) S).pipes ≡ S.pipes
-unfolding written
+pipes_again : (x : Option ℕ) (D : List (Option Opened)) (S : State) → (with_writes (described_again x D) S).pipes ≡ S.pipes
+unfolding with_writes
 pipes_again None D S = refl
 pipes_again (Some d) D S = refl
 
@@ -207,15 +208,15 @@ nonblock_plan laws actor before first now fd on new sized is answer descriptions
     let me : Process = me_of actor in
     let x : Option ℕ = descriptor fd in
     let after : List (Option Opened) = put_descs (new ∷ []) actor.parts.now.descs in
-    files_plan laws actor before now (quiet (Done (pos 0))) (effect_by actor (set_nonblock fd on)) (names_by actor (desc_of fd)) (noted (pos 0) me)
+    files_plan laws actor before now (quiet (Done (pos 0))) (effect_by actor (set_nonblock fd on)) (names_by actor (desc_of fd)) (with_answer (pos 0) me)
     (answered_files actor [] (new ∷ []) [] (pos 0) numbers.0 numbers.1 tt tt (keeps_beside actor.proc.now.descriptors actor.parts.now.descs after counts)) sized is
     (appended2 before (desc_changes (new ∷ [])) (last_answer (pos 0) actor) first now one two)
     (λ after. tt) (held_quiet actor.inside (Done (pos 0)))
     (λ held counted. let S : State = state_of held actor.parts.now in let c : Caller = caller_of actor S in
-    done_writes actor (new ∷ []) [] S (effect_in (set_nonblock fd on) c) (described_again (named me x) after) (pos 0) me
-    (ap (effect_of p me) (answer c refl (λ d. refl))) (files_again (named me x) after) (descriptions c refl (λ d. refl))
-    (pipes_again (named me x) after (write_one (SetProc p (Some (noted (pos 0) me))) S)))
-    (λ held. (has_desc new.number.0 (named me x) (named_me actor x ∙ found), tt))
+    done_writes actor (new ∷ []) [] S (effect_in (set_nonblock fd on) c) (described_again (description_named me x) after) (pos 0) me
+    (ap (effect_of p me) (answer c refl (λ d. refl))) (files_again (description_named me x) after) (descriptions c refl (λ d. refl))
+    (pipes_again (description_named me x) after (write_one (SetProc p (Some (with_answer (pos 0) me))) S)))
+    (λ held. (has_desc new.number.0 (description_named me x) (named_me actor x ∙ found), tt))
     tt
 
 -- the process runs with its descriptors
@@ -248,19 +249,19 @@ length_put (new ∷ news) D = length_put news (set D new.number.0 new.opened) �
 
 -- what a rule writes that gives up names of one description
 gives_writes : (actor : Actor) (news : List NewDesc) (held : ℕ → List Sending) (effect : Effect) (d : ℕ) (r : ℤ) (me : Process) (lost : Option OpenDesc) →
-    length actor.parts.now.descs ≡ 64 → effect ≡ effect_by actor (gives_up (d ∷ []) r me) (state_of held actor.parts.now) →
+    length actor.parts.now.descs ≡ 64 → effect ≡ effect_by actor (release (d ∷ []) r me) (state_of held actor.parts.now) →
     HasDescs (before_sends effect (state_of held actor.parts.now)) (put_descs news actor.parts.now.descs) →
     lost ≡ gone_between (get_or actor.parts.now.descs d None) (get_or (put_descs news actor.parts.now.descs) d None) →
-    Writes actor (noted r me) news (endless_changes lost (described_by actor.parts.now (put_descs news actor.parts.now.descs))) (quiet (Done r)) (state_of held actor.parts.now) effect
-unfolding written
+    Writes actor (with_answer r me) news (endless_changes lost (described_by actor.parts.now (put_descs news actor.parts.now.descs))) (quiet (Done r)) (state_of held actor.parts.now) effect
+unfolding with_writes
 gives_writes actor news held effect d r me lost sized is descs went =
     let S : State = state_of held actor.parts.now in
-    let T : State = write_one (SetProc actor.pid.0 (Some (noted r me))) S in
+    let T : State = write_one (SetProc actor.pid.0 (Some (with_answer r me))) S in
     let D : List (Option Opened) = actor.parts.now.descs in
     let after : List (Option Opened) = put_descs news D in
     let R : State = described_by actor.parts.now after in
-    let last : HasDescs (written (released (d ∷ []) T) T) after = λ e. ap (λ (f : Effect). (before_sends f S).descs e) (sym is) ∙ descs e in
-    rw went (done_writes actor news (endless_changes (gone_between (get_or D d None) (get_or after d None)) R) S effect (released (d ∷ []) T) r me is (released_files (d ∷ []) T) descs
+    let last : HasDescs (with_writes (removals (d ∷ []) T) T) after = λ e. ap (λ (f : Effect). (before_sends f S).descs e) (sym is) ∙ descs e in
+    rw went (done_writes actor news (endless_changes (gone_between (get_or D d None) (get_or after d None)) R) S effect (removals (d ∷ []) T) r me is (released_files (d ∷ []) T) descs
     (one_released d T R D after (length_put news D ∙ sized) (λ e. refl) last (λ e. refl)
     ∙ pipes_alone (endless_changes (gone_between (get_or D d None) (get_or after d None)) R) T S (endless_pipes (gone_between (get_or D d None) (get_or after d None)) R) refl))
 
@@ -268,21 +269,21 @@ appended4 : (before a b c d l1 l2 l3 l4 : List Change) → l1 ≡ before ++ a �
 appended4 before a b c d l1 l2 l3 l4 first second third fourth =
     fourth ∙ ap (λ (l : List Change). l ++ d) (appended3 before a b c l1 l2 l3 first second third) ∙ simp append_assoc
 
-pub has_append : (o : Object) (os ps : List Object) → has o ps ≡ true → has o (os ++ ps) ≡ true
-unfolding has
+pub has_append : (o : Object) (os ps : List Object) → has_object o ps ≡ true → has_object o (os ++ ps) ≡ true
+unfolding has_object
 has_append o [] ps there = there
 has_append o (x ∷ os) ps there = by (same_object o x) (has_append o os ps there)
   where
-    by : (b : Bool) → has o (os ++ ps) ≡ true → (if b then true else has o (os ++ ps)) ≡ true
+    by : (b : Bool) → has_object o (os ++ ps) ≡ true → (if b then true else has_object o (os ++ ps)) ≡ true
     by true rest = refl
     by false rest = rest
 
-has_before : (o : Object) (os ps : List Object) → has o os ≡ true → has o (os ++ ps) ≡ true
-unfolding has
+has_before : (o : Object) (os ps : List Object) → has_object o os ≡ true → has_object o (os ++ ps) ≡ true
+unfolding has_object
 has_before o [] ps there = let never : ⊥ = cc in absurd never
 has_before o (x ∷ os) ps there = by (same_object o x) there (has_before o os ps)
   where
-    by : (b : Bool) → (if b then true else has o os) ≡ true → (has o os ≡ true → has o (os ++ ps) ≡ true) → (if b then true else has o (os ++ ps)) ≡ true
+    by : (b : Bool) → (if b then true else has_object o os) ≡ true → (has_object o os ≡ true → has_object o (os ++ ps) ≡ true) → (if b then true else has_object o (os ++ ps)) ≡ true
     by true now rest = refl
     by false now rest = rest now
 
@@ -292,12 +293,12 @@ among_behind os ps [] among = tt
 among_behind os ps (change ∷ changes) among = (has_append (object_of change) os ps among.0, among_behind os ps changes among.1)
 
 -- an object that is listed first
-desc_here : (d e : ℕ) (os : List Object) → d ≡ e → has (Desc e) (Desc d ∷ os) ≡ true
-unfolding has
+desc_here : (d e : ℕ) (os : List Object) → d ≡ e → has_object (Desc e) (Desc d ∷ os) ≡ true
+unfolding has_object
 desc_here d e os same = rw same (rw (eq-eqb e e refl) refl)
 
-pipe_first : (k : ℕ) (os : List Object) → has (ThePipe k) (ThePipe k ∷ os) ≡ true
-unfolding has
+pipe_first : (k : ℕ) (os : List Object) → has_object (ThePipe k) (ThePipe k ∷ os) ≡ true
+unfolding has_object
 pipe_first k os = rw (eq-eqb k k refl) refl
 
 pub close_plan : (laws : PlanLaws) (actor : Actor) (before first second third now : List Change) (fd : ℤ) (plan : ClosePlan) →
@@ -329,15 +330,15 @@ close_plan laws actor before first second third now fd plan sized is answer desc
     let named_pipes : AreNamed actor.parts.now pipes = rw gone (endless_named actor.parts.now (get_or D d None) (get_or after d None) R (whole_piped actor.parts.now is.whole d)) in
     let among_pipes : (held : ℕ → List Sending) → AreAmong (pipe_list (pipes_of (d ∷ []) (state_of held actor.parts.now))) pipes =
     λ held. rw gone (endless_among d (state_of held actor.parts.now) R (get_or D d None) (get_or after d None) refl) in
-    let is_named : named me x ≡ Some d = named_me actor x ∙ found ∙ ap (λ (n : DescNo). Some n.0) (sym same) in
-    files_plan laws actor before now (quiet (Done (pos 0))) (effect_by actor (close fd)) (names_by actor (desc_and_pipe_of fd)) (noted (pos 0) new)
+    let is_named : description_named me x ≡ Some d = named_me actor x ∙ found ∙ ap (λ (n : DescNo). Some n.0) (sym same) in
+    files_plan laws actor before now (quiet (Done (pos 0))) (effect_by actor (close fd)) (names_by actor (desc_and_pipe_of fd)) (with_answer (pos 0) new)
     (answered_files actor (plan.name ∷ []) (plan.desc ∷ []) pipes (pos 0) numbers.0 numbers.1 (endless_pipes plan.given.gone R) named_pipes counts) sized is
     (appended4 before (name_changes actor.pid (plan.name ∷ [])) (desc_changes (plan.desc ∷ [])) pipes (last_answer (pos 0) actor) first second third now one two three four)
     (λ after. tt) (held_quiet actor.inside (Done (pos 0)))
     (λ held counted. let c : Caller = caller_of actor (state_of held actor.parts.now) in
     gives_writes actor (plan.desc ∷ []) held (effect_in (close fd) c) d (pos 0) new plan.given.gone sized (ap (effect_of p me) (answer c refl))
     (descriptions c (runs_with actor held is) (λ e. refl) (agrees_beside laws actor held is)) gone)
-    (λ held. subst (λ (y : Option ℕ). AreAmong (desc_pipe_objects (listed y) (state_of held actor.parts.now)) (desc_changes (plan.desc ∷ []) ++ pipes)) (sym is_named) (
+    (λ held. subst (λ (y : Option ℕ). AreAmong (desc_pipe_objects (option_list y) (state_of held actor.parts.now)) (desc_changes (plan.desc ∷ []) ++ pipes)) (sym is_named) (
       desc_here d plan.desc.number.0 (pipe_list (pipes_of (d ∷ []) (state_of held actor.parts.now))) (ap (λ (n : DescNo). n.0) same),
       among_behind (Desc d ∷ []) (pipe_list (pipes_of (d ∷ []) (state_of held actor.parts.now))) pipes (among_pipes held),
     ))
@@ -377,11 +378,11 @@ rename_listed pid parts given (Some rename) = refl
 
 -- what a rule writes that gives up a name, or none
 given_writes : (actor : Actor) (news : List NewDesc) (held : ℕ → List Sending) (effect : Effect) (given : Option Given) (r : ℤ) (me : Process) →
-    length actor.parts.now.descs ≡ 64 → effect ≡ effect_by actor (gives_up (given_up given) r me) (state_of held actor.parts.now) →
+    length actor.parts.now.descs ≡ 64 → effect ≡ effect_by actor (release (given_up given) r me) (state_of held actor.parts.now) →
     HasDescs (before_sends effect (state_of held actor.parts.now)) (put_descs news actor.parts.now.descs) →
     IsGone given actor.parts.now.descs (put_descs news actor.parts.now.descs) →
-    Writes actor (noted r me) news (endless_changes (gone_of given) (described_by actor.parts.now (put_descs news actor.parts.now.descs))) (quiet (Done r)) (state_of held actor.parts.now) effect
-unfolding written unnamed_go endless_go pipes_of
+    Writes actor (with_answer r me) news (endless_changes (gone_of given) (described_by actor.parts.now (put_descs news actor.parts.now.descs))) (quiet (Done r)) (state_of held actor.parts.now) effect
+unfolding with_writes description_removals pipe_removals pipes_of
 given_writes actor news held effect None r me sized is descs lost = done_writes actor news [] (state_of held actor.parts.now) effect [] r me is tt descs refl
 given_writes actor news held effect (Some given) r me sized is descs lost = gives_writes actor news held effect given.number.0 r me given.gone sized is descs lost
 
@@ -391,7 +392,7 @@ other_is : (actor : Actor) (x y : Option ℕ) (d l : ℕ) → x ≢ y → named_
 other_is actor None y d l apart first second = let never : ⊥ = cc in absurd never
 other_is actor (Some f) None d l apart first second = let never : ⊥ = cc in absurd never
 other_is actor (Some f) (Some g) d l apart first second =
-    ap (λ (b : Bool). if b then [] else listed (named (me_of actor) (Some g))) (ne_eqb f g (λ e. apart (ap Some e))) ∙ ap listed second
+    ap (λ (b : Bool). if b then [] else option_list (description_named (me_of actor) (Some g))) (ne_eqb f g (λ e. apart (ap Some e))) ∙ ap option_list second
 
 among_before : (os ps : List Object) (changes : List Change) → AreAmong os changes → AreAmong (os ++ ps) changes
 among_before os ps [] among = tt
@@ -404,8 +405,8 @@ rename_among : (actor : Actor) (held : ℕ → List Sending) (x y : Option ℕ) 
     AreAmong (dup2_objects x y (me_of actor) (state_of held actor.parts.now)) (desc_changes (rename_puts rename).descs ++ left_pipes actor.parts.now given rename)
 rename_among actor held x y given None lost of apart left = tt
 rename_among actor held x y given (Some rename) lost of apart left = (
-  has_before (Desc rename.named.number.0) (desc_objects (listed (named (me_of actor) x))) (desc_pipe_objects (other_than x y (me_of actor)) S)
-      (has_desc rename.named.number.0 (named (me_of actor) x) (named_me actor x ∙ of.0)),
+  has_before (Desc rename.named.number.0) (desc_objects (option_list (description_named (me_of actor) x))) (desc_pipe_objects (other_than x y (me_of actor)) S)
+      (has_desc rename.named.number.0 (description_named (me_of actor) x) (named_me actor x ∙ of.0)),
   by given rename.left lost of.1 left,
 )
   where
@@ -428,7 +429,7 @@ rename_among actor held x y given (Some rename) lost of apart left = (
         let one : other_than x y (me_of actor) ≡ g.number.0 ∷ [] = other_is actor x y rename.named.number.0 g.number.0 apart of.0 (named_other ∙ sym same) in
         let pipes : List Change = endless_changes g.gone R in
         let among : AreAmong (pipe_list (pipes_of (g.number.0 ∷ []) S)) pipes = rw gone (endless_among g.number.0 S R (get_or D g.number.0 None) (get_or after g.number.0 None) refl) in
-        among_behind (desc_objects (listed (named (me_of actor) x))) (desc_pipe_objects (other_than x y (me_of actor)) S) (desc_changes (l ∷ []) ++ pipes)
+        among_behind (desc_objects (option_list (description_named (me_of actor) x))) (desc_pipe_objects (other_than x y (me_of actor)) S) (desc_changes (l ∷ []) ++ pipes)
         (subst (λ (ds : List ℕ). AreAmong (desc_pipe_objects ds S) (desc_changes (l ∷ []) ++ pipes)) (sym one) (
           desc_here g.number.0 l.number.0 (pipe_list (pipes_of (g.number.0 ∷ []) S)) is,
           among_behind (Desc g.number.0 ∷ []) (pipe_list (pipes_of (g.number.0 ∷ []) S)) pipes among,
@@ -468,7 +469,7 @@ dup2_plan laws actor before first now fd other renamed rename sized is answer de
     let new : Process = with_table (put_names names actor.proc.now.descriptors) me in
     let pipes : List Change = endless_changes (gone_of renamed.given) R in
     let same : left_pipes actor.parts.now renamed.given rename ≡ pipes = left_endless actor.parts.now renamed.given rename lost left in
-    files_plan laws actor before now (quiet (Done r)) (effect_by actor (dup2 fd other)) (names_by actor (λ c. dup2_objects x y c.process c.state)) (noted r new)
+    files_plan laws actor before now (quiet (Done r)) (effect_by actor (dup2 fd other)) (names_by actor (λ c. dup2_objects x y c.process c.state)) (with_answer r new)
     (answered_files actor names descs pipes r numbers.0 numbers.1 (endless_pipes (gone_of renamed.given) R) (given_named actor renamed.given descs R is lost) counts) sized is
     (appended2 before (name_changes actor.pid names ++ desc_changes descs ++ pipes) (last_answer r actor) first now
     (one ∙ ap (λ (l : List Change). before ++ l) (rename_listed actor.pid actor.parts.now renamed.given rename ∙ ap (λ (l : List Change). name_changes actor.pid names ++ desc_changes descs ++ l) same)) two
@@ -527,7 +528,7 @@ pub pipe_plan : (laws : PlanLaws) (actor : Actor) (before now : List Change) (pi
     AreFds (plan.read_name ∷ plan.write_name ∷ []) × AreNumbers (plan.read ∷ plan.write ∷ []) →
     now ≡ before ++ pipe_changes actor pipe plan →
     Plans actor before now (quiet (Done (pos 0))) (effect_by actor (the.pipe pipe.0 read.0 write.0)) (names_by actor (λ c. pipe_objects pipe.0 read.0 write.0))
-unfolding written
+unfolding with_writes
 pipe_plan laws actor before now pipe read write plan sized rooms is inside free answer descriptions counts same numbers added =
     let p : ℕ = actor.pid.0 in
     let me : Process = me_of actor in
@@ -535,7 +536,7 @@ pipe_plan laws actor before now pipe read write plan sized rooms is inside free 
     let after : List (Option Opened) = put_descs (plan.read ∷ plan.write ∷ []) D in
     let table : Descriptors = put_names (plan.read_name ∷ plan.write_name ∷ []) actor.proc.now.descriptors in
     let new : Process = with_two_slots plan.read_name.fd plan.write_name.fd (with_table table me) in
-    let files : Files actor (noted (pos 0) new) = record {
+    let files : Files actor (with_answer (pos 0) new) = record {
       names = plan.read_name ∷ plan.write_name ∷ [];
       descs = plan.read ∷ plan.write ∷ [];
       pipes = Pipe pipe (Whole (Some [])) ∷ [];
@@ -549,7 +550,7 @@ pipe_plan laws actor before now pipe read write plan sized rooms is inside free 
       keeps = counts D free.0;
       process = refl;
     } in
-    files_plan laws actor before now (quiet (Done (pos 0))) (effect_by actor (the.pipe pipe.0 read.0 write.0)) (names_by actor (λ c. pipe_objects pipe.0 read.0 write.0)) (noted (pos 0) new) files sized is added
+    files_plan laws actor before now (quiet (Done (pos 0))) (effect_by actor (the.pipe pipe.0 read.0 write.0)) (names_by actor (λ c. pipe_objects pipe.0 read.0 write.0)) (with_answer (pos 0) new) files sized is added
     (λ after. tt) (held_quiet actor.inside (Done (pos 0)))
     (λ held counted. let S : State = state_of held actor.parts.now in let c : Caller = caller_of actor S in
     done_writes actor (plan.read ∷ plan.write ∷ []) (Pipe pipe (Whole (Some [])) ∷ []) S (effect_in (the.pipe pipe.0 read.0 write.0) c)
@@ -574,8 +575,8 @@ pub pipe_logged : (actor : Actor) (pipe : PipeNo) (plan : PipePlan) (before l1 l
 pipe_logged actor pipe plan before l1 l2 l3 l4 l5 l6 l7 now e1 e2 e3 e4 e5 e6 e7 e8 =
     let names : List Change = name_changes actor.pid (plan.read_name ∷ plan.write_name ∷ []) in
     let descs : List Change = desc_changes (plan.read ∷ plan.write ∷ []) in
-    let named : l2 ≡ before ++ names = appended2 before (name_changes actor.pid (plan.read_name ∷ [])) (name_changes actor.pid (plan.write_name ∷ [])) l1 l2 e1 e2 in
-    let described : l4 ≡ before ++ (names ++ descs) = appended3 before names (desc_changes (plan.read ∷ [])) (desc_changes (plan.write ∷ [])) l2 l3 l4 named e3 e4 in
+    let description_named : l2 ≡ before ++ names = appended2 before (name_changes actor.pid (plan.read_name ∷ [])) (name_changes actor.pid (plan.write_name ∷ [])) l1 l2 e1 e2 in
+    let described : l4 ≡ before ++ (names ++ descs) = appended3 before names (desc_changes (plan.read ∷ [])) (desc_changes (plan.write ∷ [])) l2 l3 l4 description_named e3 e4 in
     let slots : l7 ≡ before ++ (names ++ descs ++ Pipe pipe (Whole (Some [])) ∷ [] ++ (slot_change actor.pid 0 plan.read_name.fd ∷ slot_change actor.pid 1 plan.write_name.fd ∷ [])) =
     appended4 before (names ++ descs) (Pipe pipe (Whole (Some [])) ∷ []) (slot_change actor.pid 0 plan.read_name.fd ∷ []) (slot_change actor.pid 1 plan.write_name.fd ∷ []) l4 l5 l6 l7 described e5 e6 e7 in
     appended2 before (names ++ descs ++ Pipe pipe (Whole (Some [])) ∷ [] ++ (slot_change actor.pid 0 plan.read_name.fd ∷ slot_change actor.pid 1 plan.write_name.fd ∷ [])) (last_answer (pos 0) actor) l7 now slots e8

@@ -18,7 +18,7 @@ use Rattle.tx_kernel.specs.declared.planned.Outcome.{Outcome}
 use Rattle.tx_kernel.specs.declared.planned.Sends.TheVariants.{Nothing}
 use Rattle.tx_model.specs.Effects.{Effect}
 use Rattle.tx_model.specs.StateLaws.{put_here}
-use Rattle.tx_model.specs.State.{Object, Proc, Process, Sending, State, SetProc, has, write_one, written}
+use Rattle.tx_model.specs.State.{Object, Proc, Process, Sending, State, SetProc, has_object, write_one, with_writes}
 use Rattle.tx_proc.specs.Processes.{process_in}
 
 -- parts of a process of a number that there is are named
@@ -43,7 +43,7 @@ own_brings n (Pipe q part ∷ plan) own = absurd own.0
 
 -- each names the process
 pub own_among : (n : ℕ) (os : List Object) (plan : List Change) → AreOf n plan → AreAmong (Proc n ∷ os) plan
-unfolding has
+unfolding has_object
 own_among n os [] own = tt
 own_among n os (Slot pid slot ∷ plan) own = absurd own.0
 own_among n os (Part pid part ∷ plan) own = (rw (eq-eqb pid.0 n own.0.0) refl, own_among n os plan own.1)
@@ -76,7 +76,7 @@ held_quiet (Some inside) outcome held = refl
 
 pub own_plans : (laws : PlanLaws) (actor : Actor) (before now : List Change) (outcome : Outcome) (rule : State → Effect) (objects : State → List Object) →
     length actor.parts.now.descs ≡ 64 → IsActor actor → PlansOwn actor before now outcome rule → Plans actor before now (quiet outcome) rule objects
-unfolding written
+unfolding with_writes
 own_plans laws actor before now outcome rule objects sized is own =
     let parts : Parts = actor.parts.now in
     let n : ℕ = actor.pid.0 in

@@ -13,7 +13,8 @@ use Rattle.tx_kernel.specs.Plans.{reply_of}
 use Rattle.tx_kernel.specs.declared.planned.Outcome.{Outcome}
 use Rattle.tx_kernel.specs.declared.planned.Outcome.TheVariants.{Done}
 use Rattle.tx_model.specs.Book.{with_memory}
-use Rattle.tx_model.specs.Effects.{Effect, own_effect}
+use Rattle.tx_model.specs.Effects.{Effect}
+use Rattle.tx_model.specs.Words.{own_effect}
 use Rattle.tx_model.specs.State.{Process}
 use Rattle.tx_pages.specs.Outcomes.{with_pages, AreNumbered}
 use Rattle.tx_pages.specs.declared.plans.NewPage.{NewPage}

@@ -3,7 +3,7 @@ use Rattle.std.proofs.Common.{◌≡◌, ◌≢◌, ℕ, ℤ, Bool, true, false,
 use Rattle.tx_base.specs.declared.errors.Errno.TheVariants.{BadAddress, InvalidArgument}
 use Rattle.tx_model.specs.Book.{store, with_memory}
 use Rattle.tx_model.specs.Forms.{Caller, Outcome, Rule, changes, fails, ◌when◌}
-use Rattle.tx_model.specs.Memory.{Memory, address_of, is_good, is_writable, loaded, stored}
+use Rattle.tx_model.specs.Memory.{Memory, address_of, is_good, is_writable, loaded_byte, stored_memory}
 use Rattle.tx_pages.specs.Outcomes.{Loads, Remembers}
 use Rattle.tx_pages.specs.declared.errors.PageError.{PageError}
 use Rattle.tx_pages.specs.declared.errors.PageError.TheVariants.{Fault, Invalid, NoMemory}
@@ -22,7 +22,7 @@ is_fault Invalid memory page c some invalid says = absurd (invalid refl)
 is_fault NoMemory memory page c some invalid says = absurd (some refl)
 
 -- a load that fails finds no byte
-pub not_loaded : (memory : Memory) (address : ℤ) (why : PageError) → Loads memory address (Err why) → loaded memory (address_of address) ≡ None
+pub not_loaded : (memory : Memory) (address : ℤ) (why : PageError) → Loads memory address (Err why) → loaded_byte memory (address_of address) ≡ None
 not_loaded memory address Fault says = says
 not_loaded memory address Invalid says = absurd says
 not_loaded memory address NoMemory says = absurd says
@@ -34,11 +34,11 @@ memory_left memory outcome = memory
 
 -- a store that is carried out leaves its bytes
 pub stored_by : (address : ℤ) (bytes : List ℕ) (memory : Memory) (c : Caller) → store address bytes c ≡ with_memory memory c →
-    memory ≡ stored c.process.memory (address_of address) bytes
+    memory ≡ stored_memory c.process.memory (address_of address) bytes
 unfolding memory_left
 stored_by address bytes memory c is = by (is_good is_writable c.process.memory address (length bytes)) is
   where
-    by : (b : Bool) → (fails BadAddress when not b) (with_memory (stored c.process.memory (address_of address) bytes) c) ≡ with_memory memory c →
-        memory ≡ stored c.process.memory (address_of address) bytes
+    by : (b : Bool) → (fails BadAddress when not b) (with_memory (stored_memory c.process.memory (address_of address) bytes) c) ≡ with_memory memory c →
+        memory ≡ stored_memory c.process.memory (address_of address) bytes
     by true e = sym (ap (memory_left memory) e)
     by false e = let never : ⊥ = cc in absurd never

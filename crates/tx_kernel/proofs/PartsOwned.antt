@@ -11,7 +11,8 @@ use Rattle.tx_kernel.specs.declared.actor.Actor.{Actor}
 use Rattle.tx_kernel.specs.declared.inside.Inside.{Inside}
 use Rattle.tx_kernel.specs.declared.planned.Outcome.{Outcome}
 use Rattle.tx_kernel.specs.declared.planned.Outcome.TheVariants.{Done}
-use Rattle.tx_model.specs.Effects.{Effect, next_point, noted, done}
+use Rattle.tx_model.specs.Effects.{Effect, next_point, with_answer}
+use Rattle.tx_model.specs.Words.{answer_effect}
 use Rattle.tx_model.specs.Forms.{Rule, effect_of}
 use Rattle.tx_model.specs.State.{Process, State}
 use Rattle.tx_proc.specs.Parts.{HasPlace}
@@ -56,10 +57,10 @@ part_whole actor before now outcome rule plan keeps = record {
 -- and then an answer, at the point that the process has
 pub part_answered : (actor : Actor) (before between now : List Change) (rule : Process → Process) (ret : ℤ) → PlansPart actor before between rule →
     (rule (me_of actor)).registers.point ≡ actor.proc.now.regs.point → now ≡ between ++ SetPart actor.pid (SetAnswer (answer_after ret actor)) ∷ [] →
-    PlansOwn actor before now (Done ret) (λ S. done actor.pid.0 ret (rule (me_of actor)))
+    PlansOwn actor before now (Done ret) (λ S. answer_effect actor.pid.0 ret (rule (me_of actor)))
 part_answered actor before between now rule ret first stays last =
-    part_whole actor before now (Done ret) (λ me. noted ret (rule me))
-    (part_same actor before now (λ me. revised (SetAnswer (answer_after ret actor)) (rule me)) (λ me. noted ret (rule me))
+    part_whole actor before now (Done ret) (λ me. with_answer ret (rule me))
+    (part_same actor before now (λ me. revised (SetAnswer (answer_after ret actor)) (rule me)) (λ me. with_answer ret (rule me))
     (part_more actor before between now rule (SetAnswer (answer_after ret actor)) first tt tt last)
     (ap (λ (point : ℕ). record (rule (me_of actor)) { registers = record { point = next_point point; ret = ret; slots = (rule (me_of actor)).registers.slots } }) (sym stays))) tt
 

@@ -16,9 +16,9 @@ use Rattle.tx_kernel.specs.Piped.{IsPutting, calling, end_at, opened_at, writing
 use Rattle.tx_kernel.specs.declared.actor.Actor.{Actor}
 use Rattle.tx_kernel.specs.declared.transfers.Writing.{Writing}
 use Rattle.tx_kernel.specs.declared.transfers.Writing.TheVariants as writing
-use Rattle.tx_model.specs.Book.{end_at as end_in, is_empty, of_side, read, write, breaks, bytes_in, has_reader, has_writer, is_read_side, is_write_side}
+use Rattle.tx_model.specs.Book.{end_at as end_in, is_empty, of_side, read, write, broken_pipe, bytes_in, has_reader, has_writer, is_read_side, is_write_side}
 use Rattle.tx_model.specs.Book as book
-use Rattle.tx_model.specs.Descriptors.{descriptor, named}
+use Rattle.tx_model.specs.Descriptors.{descriptor, description_named}
 use Rattle.tx_model.specs.Forms.{Rule, changes, does, fails, refuses, ◌when◌, ◌>>◌}
 use Rattle.tx_model.specs.Memory.{address_of, bytes_at, is_good, is_mapped}
 use Rattle.tx_model.specs.Numbers.{below}
@@ -34,20 +34,20 @@ side_of side (Some opened) desc e = by (side_test side (end_for opened.desc.side
     by true e = let same : opened.desc ≡ desc = cc in ap (λ (x : Desc). Some (description_of x)) same
     by false e = cc
 
-opened_is : (actor : Actor) (x : Option ℕ) (held : ℕ → List Sending) → book.described x (state_of held actor.parts.now) ≡ described (opened_at actor.parts.now.descs x)
+opened_is : (actor : Actor) (x : Option ℕ) (held : ℕ → List Sending) → book.description_in x (state_of held actor.parts.now) ≡ described (opened_at actor.parts.now.descs x)
 opened_is actor None held = refl
 opened_is actor (Some d) held = refl
 
-pub open_end_is : (actor : Actor) (side : Side) (fd : ℤ) (desc : Desc) (held : ℕ → List Sending) → end_at side (opened_at actor.parts.now.descs (named (me_of actor) (descriptor fd))) ≡ Ok desc →
+pub open_end_is : (actor : Actor) (side : Side) (fd : ℤ) (desc : Desc) (held : ℕ → List Sending) → end_at side (opened_at actor.parts.now.descs (description_named (me_of actor) (descriptor fd))) ≡ Ok desc →
     end_in (side_test side) fd (calling actor held) ≡ Some (description_of desc)
 open_end_is actor side fd desc held is =
-    ap (of_side (side_test side)) (opened_is actor (named (me_of actor) (descriptor fd)) held) ∙ side_of side (opened_at actor.parts.now.descs (named (me_of actor) (descriptor fd))) desc is
+    ap (of_side (side_test side)) (opened_is actor (description_named (me_of actor) (descriptor fd)) held) ∙ side_of side (opened_at actor.parts.now.descs (description_named (me_of actor) (descriptor fd))) desc is
 
 -- write
 
 pub writes_broken : (actor : Actor) (desc : Desc) (fd address count : ℤ) (n : ℕ) (held : ℕ → List Sending) → end_in is_write_side fd (calling actor held) ≡ Some (description_of desc) →
     below 513 count ≡ Some n → n ≢ 0 → is_good is_mapped (me_of actor).memory address n ≡ true → has_reader desc.pipe.0 (state_of held actor.parts.now) ≡ false →
-    write fd address count (calling actor held) ≡ does (breaks actor.pid.0 (me_of actor))
+    write fd address count (calling actor held) ≡ does (broken_pipe actor.pid.0 (me_of actor))
 writes_broken actor desc fd address count n held end number some good reader =
     finds (end_in is_write_side fd (calling actor held)) (description_of desc) _ _ end
     ∙ finds (below 513 count) n _ _ number

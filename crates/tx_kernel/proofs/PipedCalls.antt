@@ -30,7 +30,7 @@ use Rattle.tx_kernel.specs.Posts.{IsSeen}
 use Rattle.tx_kernel.specs.declared.planned.Sends.TheVariants.{AtOnce}
 use Rattle.tx_base.specs.Slots.{slot_at}
 use Rattle.tx_change.specs.declared.parts.Parts.{Parts}
-use Rattle.tx_model.specs.Book.{desc_and_pipe_of, read, write, breaks, bytes_in}
+use Rattle.tx_model.specs.Book.{desc_and_pipe_of, read, write, broken_pipe, bytes_in}
 use Rattle.tx_model.specs.Forms.{does, effect_of}
 use Rattle.tx_model.specs.StateLaws.{put_here}
 use Rattle.tx_proc.specs.Processes.{process_in}
@@ -38,11 +38,12 @@ use Rattle.tx_proc.specs.declared.proc.Proc.{Proc}
 use Rattle.tx_kernel.specs.declared.actor.Actor.{Actor}
 use Rattle.tx_kernel.specs.declared.inside.Inside.{Inside}
 use Rattle.tx_kernel.specs.declared.planned.Outcome.TheVariants.{Done}
-use Rattle.tx_model.specs.Descriptors.{desc_objects, desc_pipe_objects, descriptor, listed, named, pipes_of, pipe_list}
-use Rattle.tx_model.specs.Effects.{Effect, noted, before_sends}
-use Rattle.tx_model.specs.Memory.{stored, Memory, address_of, bytes_at, bytes_from}
-use Rattle.tx_model.specs.Numbers.{failing}
-use Rattle.tx_model.specs.State.{Process, Sending, State, SetPipe, has, put_at, written}
+use Rattle.tx_model.specs.Descriptors.{desc_objects, desc_pipe_objects, descriptor, option_list, description_named, pipes_of}
+use Rattle.tx_model.specs.Words.{pipe_list, before_sends}
+use Rattle.tx_model.specs.Effects.{Effect, with_answer}
+use Rattle.tx_model.specs.Memory.{stored_memory, Memory, address_of, bytes_at, bytes_from}
+use Rattle.tx_model.specs.Numbers.{error_answer}
+use Rattle.tx_model.specs.State.{Process, Sending, State, SetPipe, has_object, put_at, with_writes}
 use Rattle.tx_model.specs.State as model
 
 -- the pipe that a descriptor names
@@ -68,10 +69,10 @@ pipe_inside actor x pipe is names = elim (cases_lt pipe.0 (length actor.parts.no
 
 -- and one of the objects
 pipe_among : (actor : Actor) (x : Option ℕ) (pipe : PipeNo) (held : ℕ → List Sending) → NamesPipe actor x pipe →
-    has (model.Pipe pipe.0) (desc_pipe_objects (listed x) (state_of held actor.parts.now)) ≡ true
+    has_object (model.Pipe pipe.0) (desc_pipe_objects (option_list x) (state_of held actor.parts.now)) ≡ true
 pipe_among actor x pipe held names =
     let S : State = state_of held actor.parts.now in
-    subst (λ (y : Option ℕ). has (model.Pipe pipe.0) (desc_pipe_objects (listed y) S) ≡ true) (sym names.names)
+    subst (λ (y : Option ℕ). has_object (model.Pipe pipe.0) (desc_pipe_objects (option_list y) S) ≡ true) (sym names.names)
     (has_append (model.Pipe pipe.0) (desc_objects (names.number ∷ [])) (pipe_list (pipes_of (names.number ∷ []) S))
     (pipe_there names.number S pipe.0 (description_of names.opened.desc) (ap described names.there) (ap (λ (k : PipeNo). k.0) names.same)))
 
@@ -90,10 +91,10 @@ few_bytes memory (Some address) n = by address n
 
 pub put_plan : (laws : PlanLaws) (actor : Actor) (before first now : List Change) (fd address count : ℤ) (pipe : PipeNo) (n : ℕ) → length actor.parts.now.descs ≡ 64 → IsActor actor →
     ((held : ℕ → List Sending) → write fd address count (calling actor held) ≡ writing_outcome address (Ok (writing.Puts pipe n)) (calling actor held)) →
-    NamesPipe actor (named (me_of actor) (descriptor fd)) pipe → CanPut actor address pipe n →
+    NamesPipe actor (description_named (me_of actor) (descriptor fd)) pipe → CanPut actor address pipe n →
     first ≡ before ++ Pipe pipe (Back 0 (put_bytes actor address n)) ∷ [] → now ≡ first ++ last_answer (pos n) actor →
     Plans actor before now (quiet (Done (pos n))) (effect_by actor (write fd address count)) (names_by actor (desc_and_pipe_of fd))
-unfolding written
+unfolding with_writes
 put_plan laws actor before first now fd address count pipe n sized is page names can one two =
     let p : ℕ = actor.pid.0 in
     let me : Process = me_of actor in
@@ -102,26 +103,26 @@ put_plan laws actor before first now fd address count pipe n sized is page names
     let changes : List Change = Pipe pipe (Back 0 bytes) ∷ [] in
     let few = few_bytes me.memory (address_of address) n in
     let put : piped_in (pipe_at actor.parts.now.pipes pipe.0) (Back 0 bytes) ≡ Some (held_bytes ++ bytes) =
-    ap (λ (o : Option (List ℕ)). piped_in o (Back 0 bytes)) (pipe_held actor (named me (descriptor fd)) pipe is names) ∙ laws.back held_bytes bytes (let room = can.room in omega (arith, room, few)) in
-    files_plan laws actor before now (quiet (Done (pos n))) (effect_by actor (write fd address count)) (names_by actor (desc_and_pipe_of fd)) (noted (pos n) me)
-    (answered_files actor [] [] changes (pos n) tt tt tt (pipe_inside actor (named me (descriptor fd)) pipe is names, tt) (keeps_same actor)) sized is
+    ap (λ (o : Option (List ℕ)). piped_in o (Back 0 bytes)) (pipe_held actor (description_named me (descriptor fd)) pipe is names) ∙ laws.back held_bytes bytes (let room = can.room in omega (arith, room, few)) in
+    files_plan laws actor before now (quiet (Done (pos n))) (effect_by actor (write fd address count)) (names_by actor (desc_and_pipe_of fd)) (with_answer (pos n) me)
+    (answered_files actor [] [] changes (pos n) tt tt tt (pipe_inside actor (description_named me (descriptor fd)) pipe is names, tt) (keeps_same actor)) sized is
     (appended2 before changes (last_answer (pos n) actor) first now one two)
     (λ after. tt) (held_quiet actor.inside (Done (pos n)))
     (λ held counted. let S : State = state_of held actor.parts.now in
     let so = ap (effect_of p me) (page held) in
     done_writes actor [] changes S (effect_by actor (write fd address count) S) (SetPipe pipe.0 (Some (held_bytes ++ bytes)) ∷ []) (pos n) me so (tt, tt)
     (λ d. ap (λ (e : Effect). (before_sends e S).descs d) so) (ap (λ (o : Option (List ℕ)). put_at S.pipes pipe.0 o) (sym put)))
-    (λ held. (pipe_among actor (named me (descriptor fd)) pipe held names, tt))
+    (λ held. (pipe_among actor (description_named me (descriptor fd)) pipe held names, tt))
     tt
 
 -- the process is seen as before where it is given an answer
 broken_seen : (laws : PlanLaws) (actor : Actor) → IsActor actor →
-    LeavesTarget actor.parts.now (AtOnce (broken_sending actor)) (applied actor.parts.now (last_answer (failing BrokenPipe) actor))
+    LeavesTarget actor.parts.now (AtOnce (broken_sending actor)) (applied actor.parts.now (last_answer (error_answer BrokenPipe) actor))
 broken_seen laws actor is =
     let parts : Parts = actor.parts.now in
     let n : ℕ = actor.pid.0 in
     let held : ℕ → List Sending = λ starter. [] in
-    let plan : List Change = last_answer (failing BrokenPipe) actor in
+    let plan : List Change = last_answer (error_answer BrokenPipe) actor in
     let answered : Process = revised_by plan (me_of actor) in
     let now : process_in (slot_at (applied parts plan).procs n) ≡ Some answered
     = ap (λ (S : State). S.procs n) (own_state laws actor plan held is ((refl, tt), tt)) ∙ put_here (state_of held parts).procs n (Some answered) in (
@@ -132,15 +133,15 @@ broken_seen laws actor is =
 
 -- a write without a reader
 pub broken_plan : (laws : PlanLaws) (actor : Actor) (before now : List Change) (fd address count : ℤ) → length actor.parts.now.descs ≡ 64 → IsActor actor →
-    ((held : ℕ → List Sending) → write fd address count (calling actor held) ≡ does (breaks actor.pid.0 (me_of actor))) →
-    now ≡ before ++ last_answer (failing BrokenPipe) actor →
+    ((held : ℕ → List Sending) → write fd address count (calling actor held) ≡ does (broken_pipe actor.pid.0 (me_of actor))) →
+    now ≡ before ++ last_answer (error_answer BrokenPipe) actor →
     Plans actor before now (broken actor) (effect_by actor (write fd address count)) (names_by actor (desc_and_pipe_of fd))
-unfolding written
+unfolding with_writes
 broken_plan laws actor before now fd address count sized is page added =
     let p : ℕ = actor.pid.0 in
     let me : Process = me_of actor in
-    let r : ℤ = failing BrokenPipe in
-    files_plan laws actor before now (broken actor) (effect_by actor (write fd address count)) (names_by actor (desc_and_pipe_of fd)) (noted r me)
+    let r : ℤ = error_answer BrokenPipe in
+    files_plan laws actor before now (broken actor) (effect_by actor (write fd address count)) (names_by actor (desc_and_pipe_of fd)) (with_answer r me)
     (answered_files actor [] [] [] r tt tt tt tt (keeps_same actor)) sized is added
     (λ after. tt) (kept actor.inside)
     (λ held counted. let S : State = state_of held actor.parts.now in
@@ -165,19 +166,19 @@ broken_plan laws actor before now fd address count sized is page added =
 
 pub take_plan : (laws : PlanLaws) (actor : Actor) (before first now : List Change) (fd address count : ℤ) (pipe : PipeNo) (n : ℕ) → length actor.parts.now.descs ≡ 64 → IsActor actor →
     ((held : ℕ → List Sending) → read fd address count (calling actor held) ≡ reading_outcome address (Ok (reading.Takes pipe n)) (calling actor held)) →
-    NamesPipe actor (named (me_of actor) (descriptor fd)) pipe → CanTake actor pipe n → TakesBytes actor before first pipe address n → now ≡ first ++ last_answer (pos n) actor →
+    NamesPipe actor (description_named (me_of actor) (descriptor fd)) pipe → CanTake actor pipe n → TakesBytes actor before first pipe address n → now ≡ first ++ last_answer (pos n) actor →
     Plans actor before now (quiet (Done (pos n))) (effect_by actor (read fd address count)) (names_by actor (desc_and_pipe_of fd))
-unfolding written
+unfolding with_writes
 take_plan laws actor before first now fd address count pipe n sized is page names can takes two =
     let p : ℕ = actor.pid.0 in
     let me : Process = me_of actor in
     let held_bytes : List ℕ = held_in actor pipe in
     let pages : List Change = map (page_change actor.pid) takes.pages in
-    let new : Process = record me { memory = stored me.memory (address_of address) (take n held_bytes) } in
+    let new : Process = record me { memory = stored_memory me.memory (address_of address) (take n held_bytes) } in
     let changes : List Change = Pipe pipe (Front n []) ∷ [] in
     let taken : piped_in (pipe_at actor.parts.now.pipes pipe.0) (Front n []) ≡ Some (drop n held_bytes) =
-    ap (λ (o : Option (List ℕ)). piped_in o (Front n [])) (pipe_held actor (named me (descriptor fd)) pipe is names) ∙ laws.front held_bytes n can.held can.fits in
-    let files : Files actor (noted (pos n) new) = record {
+    ap (λ (o : Option (List ℕ)). piped_in o (Front n [])) (pipe_held actor (description_named me (descriptor fd)) pipe is names) ∙ laws.front held_bytes n can.held can.fits in
+    let files : Files actor (with_answer (pos n) new) = record {
       names = [];
       descs = [];
       pipes = changes;
@@ -185,19 +186,19 @@ take_plan laws actor before first now fd address count pipe n sized is page name
       fds = tt;
       numbers = tt;
       are_pipes = tt;
-      pipes_named = (pipe_inside actor (named me (descriptor fd)) pipe is names, tt);
+      pipes_named = (pipe_inside actor (description_named me (descriptor fd)) pipe is names, tt);
       are_own = AreOf-append p pages (last_answer (pos n) actor) (pages_own actor.pid takes.pages takes.numbered) ((refl, tt), tt);
       nameless = nameless-append pages (last_answer (pos n) actor) (pages_nameless actor.pid takes.pages) (tt, tt);
       keeps = keeps_same actor;
       process = revised-append pages (last_answer (pos n) actor) me
           ∙ ap (revised_by (last_answer (pos n) actor)) (pages_revised actor.pid takes.pages me ∙ ap (λ (m : Memory). record me { memory = m }) takes.memory);
     } in
-    files_plan laws actor before now (quiet (Done (pos n))) (effect_by actor (read fd address count)) (names_by actor (desc_and_pipe_of fd)) (noted (pos n) new) files sized is
+    files_plan laws actor before now (quiet (Done (pos n))) (effect_by actor (read fd address count)) (names_by actor (desc_and_pipe_of fd)) (with_answer (pos n) new) files sized is
     (appended2 before (changes ++ pages) (last_answer (pos n) actor) first now takes.added two)
     (λ after. tt) (held_quiet actor.inside (Done (pos n)))
     (λ held counted. let S : State = state_of held actor.parts.now in
     let so = ap (effect_of p me) (page held) in
     done_writes actor [] changes S (effect_by actor (read fd address count) S) (SetPipe pipe.0 (Some (drop n held_bytes)) ∷ []) (pos n) new so (tt, tt)
     (λ d. ap (λ (e : Effect). (before_sends e S).descs d) so) (ap (λ (o : Option (List ℕ)). put_at S.pipes pipe.0 o) (sym taken)))
-    (λ held. (pipe_among actor (named me (descriptor fd)) pipe held names, tt))
+    (λ held. (pipe_among actor (description_named me (descriptor fd)) pipe held names, tt))
     tt

@@ -4,8 +4,9 @@ use Rattle.std.proofs.lemmas.Bool.{ltb-true}
 use Rattle.tx_base.specs.declared.errors.Errno.{Errno}
 use Rattle.tx_base.specs.declared.errors.Errno.TheVariants.{NotPermitted, NoSuchProcess, BadDescriptor, NoChild, TryAgain, BadAddress, InvalidArgument, TooManyDescriptors, BrokenPipe}
 use Rattle.tx_base.specs.declared.limits.TheConstants.{QUEUED}
-use Rattle.tx_model.specs.Numbers.{failing}
-use Rattle.tx_model.specs.Posts.{is_quiet, is_realtime, may_signal, has_room, with_signal, with_pending, with_queued, room_answer, post_answer, received}
+use Rattle.tx_model.specs.Numbers.{error_answer}
+use Rattle.tx_model.specs.Posts.{is_quiet, is_realtime, may_signal, has_room, with_signal, room_answer, post_answer, target_after}
+use Rattle.tx_model.specs.Words.{with_pending, with_queued}
 use Rattle.tx_model.specs.State.{Process, Sending}
 
 -- an error is not 0
@@ -13,7 +14,7 @@ abbrev IsError : ℤ → Type 0
 IsError (pos n) = ⊥
 IsError (negsuc n) = Unit {0}
 
-errors : (errno : Errno) → IsError (failing errno)
+errors : (errno : Errno) → IsError (error_answer errno)
 errors NotPermitted = tt
 errors NoSuchProcess = tt
 errors BadDescriptor = tt
@@ -36,7 +37,7 @@ true_false : true ≡ false → ⊥
 true_false e = subst IsYes e tt
 
 -- a post that is answered with an error leaves its target
-pub error_leaves : (m : Sending) (q : Process) (errno : Errno) → failing errno ≡ post_answer m (Some q) → received m (Some q) ≡ Some q
+pub error_leaves : (m : Sending) (q : Process) (errno : Errno) → error_answer errno ≡ post_answer m (Some q) → target_after m (Some q) ≡ Some q
 error_leaves m q errno answer = ap Some (by (may_signal m.from q.ids) (is_quiet m q) (is_realtime m.signo) (has_room q) (subst IsError answer (errors errno)))
   where
     by : (permitted quiet realtime room : Bool) →
@@ -49,7 +50,7 @@ error_leaves m q errno answer = ap Some (by (may_signal m.from q.ids) (is_quiet 
     by true false false room error = absurd error
 
 -- and so does a quiet one
-pub quiet_leaves : (m : Sending) (q : Process) → is_quiet m q ≡ true → received m (Some q) ≡ Some q
+pub quiet_leaves : (m : Sending) (q : Process) → is_quiet m q ≡ true → target_after m (Some q) ≡ Some q
 quiet_leaves m q quiet = ap Some (by (may_signal m.from q.ids) (is_quiet m q) quiet)
   where
     by : (permitted b : Bool) → b ≡ true → (if permitted then (if b then q else with_signal m q) else q) ≡ q
@@ -58,7 +59,7 @@ quiet_leaves m q quiet = ap Some (by (may_signal m.from q.ids) (is_quiet m q) qu
     by true false e = absurd (true_false (sym e))
 
 -- one that is answered 0, and is not quiet, is pending then
-pub sent : (m : Sending) (q : Process) → pos 0 ≡ post_answer m (Some q) → is_quiet m q ≡ false → received m (Some q) ≡ Some (with_signal m q)
+pub sent : (m : Sending) (q : Process) → pos 0 ≡ post_answer m (Some q) → is_quiet m q ≡ false → target_after m (Some q) ≡ Some (with_signal m q)
 sent m q answer loud = ap Some (by (may_signal m.from q.ids) (is_quiet m q) loud (subst IsAnswer answer tt))
   where
     by : (permitted b : Bool) → b ≡ false → IsAnswer (if permitted then room_answer m q else negsuc 0) → (if permitted then (if b then q else with_signal m q) else q) ≡ with_signal m q

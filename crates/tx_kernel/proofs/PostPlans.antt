@@ -14,7 +14,7 @@ use Rattle.tx_change.specs.declared.change.Change.TheVariants.{Part as SetPart}
 use Rattle.tx_change.specs.declared.parts.Parts.{Parts}
 use Rattle.tx_kernel.specs.Posts.{IsOfPending, IsSeen, PlansAt, PlansPost, posted, seen_as, without_part}
 use Rattle.tx_kernel.specs.Laws.{PlanLaws}
-use Rattle.tx_model.specs.Posts.{post, post_answer, received}
+use Rattle.tx_model.specs.Posts.{after_post, post_answer, target_after}
 use Rattle.tx_model.specs.State.{Object, Proc as TheProc, Desc, Pipe as ThePipe, Held, Process, Sending, State, SetProc, write_one}
 use Rattle.tx_model.specs.StateLaws.{AgreePart}
 use Rattle.tx_model.specs.StateLaws.{put_cases, state_ext}
@@ -61,7 +61,7 @@ part_of_pending pid (Frame x) is = absurd is
 
 -- what a post to a process is to exchange, where that process is there
 pub planned_at : (parts : Parts) (m : Sending) (proc : Proc) (result : Result (Option Part) Errno) → slot_at parts.procs m.target ≡ Some proc → IfOk result IsOfPending →
-    answer_of (without_part result) ≡ post_answer m (Some (process_of proc)) → ((me : Process) → received m (Some (seen_as proc me)) ≡ Some (posted result (seen_as proc me))) →
+    answer_of (without_part result) ≡ post_answer m (Some (process_of proc)) → ((me : Process) → target_after m (Some (seen_as proc me)) ≡ Some (posted result (seen_as proc me))) →
     PlansAt parts m result
 planned_at parts m proc result here pending right after = record {
   pending = pending;
@@ -78,9 +78,9 @@ planned_at parts m proc result here pending right after = record {
     answered None seen = absurd seen
     answered (Some q) seen = right ∙ ap (λ (me : Process). post_answer m (Some me)) (sym seen)
 
-    taken : (q : Option Process) → IsSeen (Some proc) q → option_map (posted result) q ≡ received m q
+    taken : (q : Option Process) → IsSeen (Some proc) q → option_map (posted result) q ≡ target_after m q
     taken None seen = absurd seen
-    taken (Some q) seen = (λ j. Some (posted result (seen j))) ∙ sym (after q) ∙ ap (λ (me : Process). received m (Some me)) (sym seen)
+    taken (Some q) seen = (λ j. Some (posted result (seen j))) ∙ sym (after q) ∙ ap (λ (me : Process). target_after m (Some me)) (sym seen)
 
 -- a post that fails
 pub failed_post : (parts : Parts) (log : List Change) (m : Sending) (errno : Errno) → PlansAt parts m (Err errno) → PlansPost parts log log m (Err errno)
@@ -116,7 +116,7 @@ seen_now (Some proc) = refl
 -- what an exchange of that part leaves of the parts
 pub part_posted : (laws : PlanLaws) (parts new : Parts) (m : Sending) (pid : Pid) (found : Option Part) (part : Part) → pid.0 ≡ m.target → found ≡ Some part →
     PlansAt parts m (Ok found) → new ≡ parts_after parts (SetPart pid part) →
-    ((held : ℕ → List Sending) → state_of held new ≡ post m (state_of held parts)) × (CountsAgree parts → CountsAgree new) × (HaveAllPlaces parts → HaveAllPlaces new)
+    ((held : ℕ → List Sending) → state_of held new ≡ after_post m (state_of held parts)) × (CountsAgree parts → CountsAgree new) × (HaveAllPlaces parts → HaveAllPlaces new)
 unfolding part_post
 part_posted laws parts new m pid found part target is at made =
     let p : PlansPost parts [] (SetPart pid part ∷ []) m (Ok tt) = part_post parts [] (SetPart pid part ∷ []) m pid found part target is at refl in (
@@ -147,8 +147,8 @@ part_named laws parts new m pid found part change target is at made changed =
     (subst (λ (s : Sizes). AreWithin s (change_after parts (SetPart pid part) ∷ [])) (sym sizes) (laws.stays (sizes_of parts) parts p.plan p.named))
 
 -- where nothing is exchanged the post leaves the state
-posted_nothing : (held : ℕ → List Sending) (parts : Parts) (m : Sending) → received m ((state_of held parts).procs m.target) ≡ (state_of held parts).procs m.target →
-    state_of held parts ≡ post m (state_of held parts)
+posted_nothing : (held : ℕ → List Sending) (parts : Parts) (m : Sending) → target_after m ((state_of held parts).procs m.target) ≡ (state_of held parts).procs m.target →
+    state_of held parts ≡ after_post m (state_of held parts)
 posted_nothing held parts m same = write_same m.target (state_of held parts) ∙ ap (λ (x : Option Process). write_one (SetProc m.target x) (state_of held parts)) (sym same)
   where
     write_same : (n : ℕ) (S : State) → S ≡ write_one (SetProc n (S.procs n)) S
@@ -160,7 +160,7 @@ posted_nothing held parts m same = write_same m.target (state_of held parts) ∙
         all (ThePipe k) = refl
         all (Held k) = refl
 
-pub failed_state : (held : ℕ → List Sending) (parts : Parts) (m : Sending) (errno : Errno) → PlansAt parts m (Err errno) → state_of held parts ≡ post m (state_of held parts)
+pub failed_state : (held : ℕ → List Sending) (parts : Parts) (m : Sending) (errno : Errno) → PlansAt parts m (Err errno) → state_of held parts ≡ after_post m (state_of held parts)
 failed_state held parts m errno at =
     posted_nothing held parts m (sym (at.receives ((state_of held parts).procs m.target) (seen_now (slot_at parts.procs m.target))) ∙ same ((state_of held parts).procs m.target))
   where

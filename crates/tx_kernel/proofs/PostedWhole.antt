@@ -17,11 +17,11 @@ use Rattle.tx_kernel.specs.declared.planned.Planned.{Planned}
 use Rattle.tx_laws.specs.Laws.{EventKeepsForm, HeldKeepsForm, PostKeepsForm}
 use Rattle.tx_laws.specs.WellFormed.{HasGoodNumbers, IsHeldSending, IsSendable, IsWellFormed}
 use Rattle.tx_model.specs.Events.{Event, after}
-use Rattle.tx_model.specs.Posts.{kill_signo, post}
-use Rattle.tx_model.specs.Book.{sent_by_members}
+use Rattle.tx_model.specs.Posts.{kill_signo, after_post}
+use Rattle.tx_model.specs.Book.{member_sends}
 use Rattle.tx_model.specs.State.{Sending, State, is_between}
 
-pub posted_whole : PostKeepsForm → (parts new : Parts) (m : Sending) → ((held : ℕ → List Sending) → state_of held new ≡ post m (state_of held parts)) → (CountsAgree parts → CountsAgree new) →
+pub posted_whole : PostKeepsForm → (parts new : Parts) (m : Sending) → ((held : ℕ → List Sending) → state_of held new ≡ after_post m (state_of held parts)) → (CountsAgree parts → CountsAgree new) →
     (HaveAllPlaces parts → HaveAllPlaces new) → IsSendable m → IsWhole parts → IsWhole new
 posted_whole posted parts new m state counts places may whole =
     let nothing : ℕ → List Sending = λ starter. [] in
@@ -41,8 +41,8 @@ abbrev some_held : Option Inside → ℕ → List Sending
 some_held None starter = []
 some_held (Some inside) starter = replicate inside.held handed_out
 
-some_sent : (count : ℕ) → sent_by_members (replicate count handed_out) ≡ count
-unfolding sent_by_members
+some_sent : (count : ℕ) → member_sends (replicate count handed_out) ≡ count
+unfolding member_sends
 some_sent zero = refl
 some_sent (suc count) = let rest = some_sent count in omega (arith, rest)
 

@@ -4,22 +4,21 @@ use Rattle.tx_base.specs.declared.signals.Action.TheVariants.{Usual}
 use Rattle.tx_base.specs.declared.steps.Call.{Call}
 use Rattle.tx_base.specs.declared.steps.Call.TheVariants as call
 use Rattle.tx_base.specs.declared.steps.Refusal.TheVariants.{FramesFull, NumberTaken, Wait}
-use Rattle.tx_base.specs.declared.steps.Reply.TheVariants.{Done}
 use Rattle.tx_change.specs.States.{state_of}
-use Rattle.tx_kernel.proofs.Delivered.{acting, delivers_is}
+use Rattle.tx_kernel.proofs.Delivered.{acting, delivers_is, catching}
 use Rattle.tx_kernel.proofs.AnyCall.{own_lines}
 use Rattle.tx_kernel.proofs.PageLines.{decides}
 use Rattle.tx_kernel.specs.Actors.{CountsHeld, caller_of, effect_by, inside_of, me_of}
 use Rattle.tx_kernel.specs.Refusals.{IsMade, TellsWait, lacks_frame}
 use Rattle.tx_kernel.specs.declared.actor.Actor.{Actor}
 use Rattle.tx_model.specs.BookLaws.{through_or, through_when, fork_lines, exit_lines, dup_lines, dup2_lines, close_lines, set_nonblock_lines, sigqueue_lines}
-use Rattle.tx_model.specs.Answer.{chosen_in, is_choice_in_use}
-use Rattle.tx_model.specs.Calls.{call_effect}
+use Rattle.tx_model.specs.Answer.{is_choice_in_use}
+use Rattle.tx_model.specs.Words.{chosen_in, call_effect}
 use Rattle.tx_model.specs.Book.{page_of_call, waitpid}
 use Rattle.tx_model.specs.Forms.{Caller, Outcome, answers, effect_of, refuses}
-use Rattle.tx_model.specs.Deliveries.{action_at, caught, delivered_value, is_deferred, relieved, delivery_effect, acts_on}
+use Rattle.tx_model.specs.Deliveries.{action_at, delivered_value, is_deferred, delivery}
 use Rattle.tx_model.specs.Descriptors.{is_pipe_in_use, lowest_free, with_descriptor}
-use Rattle.tx_model.specs.Effects.{Effect, Inside, idle, own_effect}
+use Rattle.tx_model.specs.Effects.{Effect, Inside, idle}
 use Rattle.tx_model.specs.SignalSets.{child_signo}
 use Rattle.tx_model.specs.Signals.{Caught, Disposition, Fatal, Ignored, disposition}
 use Rattle.tx_model.specs.State.{Process, Sending, State}
@@ -92,35 +91,31 @@ usual_has_frame signo me = by (signo == child_signo)
 
 -- a delivery that may be made, whose signal has a frame if it is caught
 
-full_refuses : (inside : Option Inside) (p signo : ℕ) (value : ℤ) (d : Disposition) (me : Process) (S : State) → lacks_frame d me ≡ true →
-    acts_on inside p signo value d (relieved signo me) S ≡ idle FramesFull
-full_refuses inside p signo value Ignored me S full = cc
-full_refuses inside p signo value Fatal me S full = cc
-full_refuses inside p signo value (Caught point mask) me S full =
-    ap (λ (b : Bool). if b then idle FramesFull else own_effect p (record { process = caught signo value point mask (relieved signo me); reply = Done value })) full
+full_refuses : (actor : Actor) (signo : ℕ) (value : ℤ) (d : Disposition) (S : State) → lacks_frame d (me_of actor) ≡ true → acting actor signo value d S ≡ idle FramesFull
+full_refuses actor signo value Ignored S full = cc
+full_refuses actor signo value Fatal S full = cc
+full_refuses actor signo value (Caught point mask) S full = ap (λ (b : Bool). effect_by actor (λ c. if b then refuses FramesFull else catching signo value point mask c) S) full
 
-room_made : (inside : Option Inside) (p signo : ℕ) (value : ℤ) (d : Disposition) (me : Process) (S : State) → lacks_frame d me ≡ false →
-    IsMade (acts_on inside p signo value d (relieved signo me) S)
-room_made inside p signo value Ignored me S room = λ rs. tt
-room_made inside p signo value Fatal me S room = λ rs. tt
-room_made inside p signo value (Caught point mask) me S room =
-    subst (λ (b : Bool). IsMade (if b then idle FramesFull else own_effect p (record { process = caught signo value point mask (relieved signo me); reply = Done value })))
-    (sym room) (λ rs. tt)
+room_made : (actor : Actor) (signo : ℕ) (value : ℤ) (d : Disposition) (S : State) → lacks_frame d (me_of actor) ≡ false → IsMade (acting actor signo value d S)
+room_made actor signo value Ignored S room = λ rs. tt
+room_made actor signo value Fatal S room = λ rs. tt
+room_made actor signo value (Caught point mask) S room =
+    subst (λ (b : Bool). IsMade (effect_by actor (λ c. if b then refuses FramesFull else catching signo value point mask c) S)) (sym room) (λ rs. tt)
 
 acting_is : (actor : Actor) (signo : ℕ) (value : ℤ) (S : State) → delivered_value signo (me_of actor) ≡ Some value → is_deferred (inside_of actor.inside) signo ≡ false →
-    acting actor signo value (disposition signo (action_at signo (me_of actor))) S ≡ delivery_effect (inside_of actor.inside) actor.pid.0 signo (me_of actor) S
+    acting actor signo value (disposition signo (action_at signo (me_of actor))) S ≡ effect_by actor (delivery signo) S
 acting_is actor signo value S here now = ap (λ (rule : State → Effect). rule S) (delivers_is actor signo value value here now refl)
 
 pub frameless_refuses : (actor : Actor) (signo : ℕ) (value : ℤ) (S : State) → delivered_value signo (me_of actor) ≡ Some value → is_deferred (inside_of actor.inside) signo ≡ false →
     lacks_frame (disposition signo (action_at signo (me_of actor))) (me_of actor) ≡ true →
-    delivery_effect (inside_of actor.inside) actor.pid.0 signo (me_of actor) S ≡ idle FramesFull
+    effect_by actor (delivery signo) S ≡ idle FramesFull
 frameless_refuses actor signo value S here now full =
     let me : Process = me_of actor in
-    sym (acting_is actor signo value S here now) ∙ full_refuses (inside_of actor.inside) actor.pid.0 signo value (disposition signo (action_at signo me)) me S full
+    sym (acting_is actor signo value S here now) ∙ full_refuses actor signo value (disposition signo (action_at signo me)) S full
 
 pub delivery_made : (actor : Actor) (signo : ℕ) (value : ℤ) (S : State) → delivered_value signo (me_of actor) ≡ Some value → is_deferred (inside_of actor.inside) signo ≡ false →
     lacks_frame (disposition signo (action_at signo (me_of actor))) (me_of actor) ≡ false →
-    IsMade (delivery_effect (inside_of actor.inside) actor.pid.0 signo (me_of actor) S)
+    IsMade (effect_by actor (delivery signo) S)
 delivery_made actor signo value S here now room =
     let me : Process = me_of actor in
-    subst IsMade (acting_is actor signo value S here now) (room_made (inside_of actor.inside) actor.pid.0 signo value (disposition signo (action_at signo me)) me S room)
+    subst IsMade (acting_is actor signo value S here now) (room_made actor signo value (disposition signo (action_at signo me)) S room)

@@ -21,7 +21,7 @@ use Rattle.tx_kernel.specs.declared.actor.Actor.{Actor}
 use Rattle.tx_kernel.specs.declared.planned.Outcome.TheVariants.{Done}
 use Rattle.tx_model.specs.Book.{sigreturn}
 use Rattle.tx_model.specs.Forms.{effect_of, fails, stands, ◌or◌}
-use Rattle.tx_model.specs.Signals.{newest, restored}
+use Rattle.tx_model.specs.Signals.{newest_frame, with_frame}
 use Rattle.tx_model.specs.State.{Frame, Process}
 use Rattle.tx_proc.specs.Parts.{frames_swapped}
 use Rattle.tx_proc.specs.Processes.{revised}
@@ -91,7 +91,7 @@ whole_frames frames few = let whole = le-ltb FRAMES (length frames) few in rw wh
 pub returned : (actor : Actor) (before put masked taken now : List Change) (frame : Frame) (mask : SigSet) (none : Option Frame) (ret : ℤ) → ret ≡ frame.registers.ret →
     PlansPart actor before put (with_slots frame.registers.slots) → masked ≡ put ++ SetPart actor.pid (SetMask mask) ∷ [] → taken ≡ masked ++ SetPart actor.pid (SetFrame none) ∷ [] →
     now ≡ taken ++ SetPart actor.pid (SetAnswer (record { point = frame.registers.point; ret = ret })) ∷ [] → bits_of mask ≡ frame.mask →
-    newest actor.proc.now.frames ≡ Some frame → none ≡ None → length actor.proc.now.frames ≤ FRAMES →
+    newest_frame actor.proc.now.frames ≡ Some frame → none ≡ None → length actor.proc.now.frames ≤ FRAMES →
     PlansOwn actor before now (Done ret) (effect_by actor sigreturn)
 returned actor before put masked taken now frame mask none ret same slots first second last bits here out few =
     let me : Process = me_of actor in
@@ -101,9 +101,9 @@ returned actor before put masked taken now frame mask none ret same slots first 
     let two = part_more actor before masked taken (λ me. revised (SetMask mask) (slotted me)) (SetFrame none) one tt tt second in
     let three = part_more actor before taken now (λ me. revised (SetFrame none) (revised (SetMask mask) (slotted me))) (SetAnswer answer) two tt tt last in
     let rest : frames_swapped none me.frames ≡ take (length me.frames - 1) me.frames = ap (λ (x : Option Frame). frames_swapped x me.frames) out ∙ whole_frames me.frames few in
-    own_same actor before now (Done ret) (λ S. own_reply actor (Done ret) (record (restored frame me) { registers = record frame.registers { ret = ret } })) (effect_by actor sigreturn)
-    (part_whole actor before now (Done ret) (λ me. record (restored frame me) { registers = record frame.registers { ret = ret } })
-    (part_same actor before now _ (λ me. record (restored frame me) { registers = record frame.registers { ret = ret } }) three
+    own_same actor before now (Done ret) (λ S. own_reply actor (Done ret) (record (with_frame frame me) { registers = record frame.registers { ret = ret } })) (effect_by actor sigreturn)
+    (part_whole actor before now (Done ret) (λ me. record (with_frame frame me) { registers = record frame.registers { ret = ret } })
+    (part_same actor before now _ (λ me. record (with_frame frame me) { registers = record frame.registers { ret = ret } }) three
     (λ j. record me { registers = record { point = frame.registers.point; ret = ret; slots = frame.registers.slots }; mask = bits j; frames = rest j })) tt)
-    (λ S. (λ j. effect_of actor.pid.0 me (stands (record (restored frame me) { registers = record frame.registers { ret = same j } }) (TheDone (same j))))
-    ∙ sym (ap (λ (x : Option Frame). effect_of actor.pid.0 me ((x or fails InvalidArgument) (λ f. stands (restored f me) (TheDone f.registers.ret)))) here))
+    (λ S. (λ j. effect_of actor.pid.0 me (stands (record (with_frame frame me) { registers = record frame.registers { ret = same j } }) (TheDone (same j))))
+    ∙ sym (ap (λ (x : Option Frame). effect_of actor.pid.0 me ((x or fails InvalidArgument) (λ f. stands (with_frame f me) (TheDone f.registers.ret)))) here))

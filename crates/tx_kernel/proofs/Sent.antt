@@ -16,8 +16,9 @@ use Rattle.tx_kernel.specs.declared.actor.Actor.{Actor}
 use Rattle.tx_kernel.specs.declared.inside.Inside.{Inside}
 use Rattle.tx_kernel.specs.declared.planned.Outcome.{Outcome}
 use Rattle.tx_kernel.specs.declared.planned.Sends.TheVariants.{AtOnce, AtCommit}
-use Rattle.tx_model.specs.Effects.{Effect, noted, before_sends, done}
-use Rattle.tx_model.specs.State.{Object, Process, Sending, State, SetProc, write_one, written}
+use Rattle.tx_model.specs.Effects.{Effect, with_answer}
+use Rattle.tx_model.specs.Words.{before_sends, answer_effect}
+use Rattle.tx_model.specs.State.{Object, Process, Sending, State, SetProc, write_one, with_writes}
 
 abbrev IsRule : Actor → (State → Effect) → (State → Effect) → Type 0
 IsRule actor rule other = (held : ℕ → List Sending) → CountsHeld actor.inside held → rule (state_of held actor.parts.now) ≡ other (state_of held actor.parts.now)
@@ -28,9 +29,9 @@ same_held (Some inside) m held = refl
 
 -- what is written, where a signal is handed out with an answer
 held_state : (inside : Option Inside) (m : TheSending) (n : ℕ) (q : Process) (parts : Parts) (held : ℕ → List Sending) →
-    written (SetProc n (Some q) ∷ holds_more (inside_of inside) (sending_of m) (state_of held parts)) (state_of held parts)
+    with_writes (SetProc n (Some q) ∷ holds_more (inside_of inside) (sending_of m) (state_of held parts)) (state_of held parts)
     ≡ write_one (SetProc n (Some q)) (state_of (held_after (inside_of inside) (AtCommit m) held) parts)
-unfolding written
+unfolding with_writes
 held_state None m n q parts held = refl
 held_state (Some inside) m n q parts held = refl
 
@@ -38,9 +39,9 @@ held_state (Some inside) m n q parts held = refl
 pub holds_plans : (laws : PlanLaws) (actor : Actor) (before now : List Change) (outcome : Outcome) (m : TheSending) (rule : State → Effect) (objects : State → List Object) →
     length actor.parts.now.descs ≡ 64 → IsActor actor →
     IsRule actor rule (effect_by actor (sent (Holds m))) →
-    PlansOwn actor before now outcome (λ S. done actor.pid.0 (pos 0) (me_of actor)) →
+    PlansOwn actor before now outcome (λ S. answer_effect actor.pid.0 (pos 0) (me_of actor)) →
     Plans actor before now (record { outcome = outcome; sends = AtCommit m }) rule objects
-unfolding written
+unfolding with_writes
 holds_plans laws actor before now outcome m rule objects sized is does own =
     let parts : Parts = actor.parts.now in
     let n : ℕ = actor.pid.0 in
@@ -56,7 +57,7 @@ holds_plans laws actor before now outcome m rule objects sized is does own =
           let after : ℕ → List Sending = held_after (inside_of actor.inside) (AtCommit m) held in
           record {
             state = ap (λ (f : Effect). before_sends f (state_of held parts)) (does held counted)
-                ∙ held_state actor.inside m n (noted (pos 0) (me_of actor)) parts held
+                ∙ held_state actor.inside m n (with_answer (pos 0) (me_of actor)) parts held
                 ∙ ap (λ (f : Effect). before_sends f (state_of after parts)) (own.effect (state_of after parts))
                 ∙ sym (own_state laws actor plan after is own.own);
             sends = ap (λ (f : Effect). f.sends) (does held counted);

@@ -24,16 +24,17 @@ use Rattle.tx_kernel.specs.declared.planned.Sends.{Sends}
 use Rattle.tx_kernel.specs.declared.planned.Sends.TheVariants.{Nothing, AtOnce, AtCommit}
 use Rattle.tx_kernel.specs.Sends.{sent}
 use Rattle.tx_kernel.specs.declared.sends.Send.TheVariants.{Posts}
-use Rattle.tx_model.specs.Effects.{Conclusion, Effect, applied, before_sends, concluded, concluding_reply, send_answers}
+use Rattle.tx_model.specs.Effects.{Conclusion, Effect, after_effect, after_conclusion, concluding_reply, send_answers}
+use Rattle.tx_model.specs.Words.{before_sends, with_pending, with_queued}
 use Rattle.tx_model.specs.Effects as effects
-use Rattle.tx_model.specs.Posts.{answers, post, post_answer, posts, received, with_pending, with_queued}
+use Rattle.tx_model.specs.Posts.{post_answers, after_post, post_answer, after_posts, target_after}
 use Rattle.tx_base.specs.declared.names.Regs.{Regs}
 use Rattle.tx_change.specs.declared.change.Change.TheVariants.{Part as SetPart}
 use Rattle.tx_kernel.proofs.PostPlans.{seen_now}
 use Rattle.tx_kernel.proofs.Sent.{same_held}
 use Rattle.tx_kernel.specs.Own.{answer_after}
 use Rattle.tx_kernel.specs.declared.planned.Outcome.TheVariants.{Done, Ended, Out}
-use Rattle.tx_model.specs.Effects.{next_point, noted_if}
+use Rattle.tx_model.specs.Effects.{next_point, with_answer_if}
 use Rattle.tx_model.specs.Memory.{Memory}
 use Rattle.tx_model.specs.Posts.{has_room, is_quiet, is_realtime, may_signal}
 use Rattle.tx_model.specs.StateLaws.{put_cases}
@@ -41,16 +42,16 @@ use Rattle.tx_proc.specs.Processes.{process_in, revised}
 use Rattle.tx_proc.specs.declared.part.Part.TheVariants.{Answer as SetAnswer}
 use Rattle.tx_proc.specs.declared.proc.Proc.{Proc}
 use Rattle.tx_signal.specs.Parts.{answer_of}
-use Rattle.tx_model.specs.State.{Object, Proc as TheProc, Desc, Pipe as ThePipe, Held, Process, Sending, State, SetProc, has, same_object, write_one, written}
+use Rattle.tx_model.specs.State.{Object, Proc as TheProc, Desc, Pipe as ThePipe, Held, Process, Sending, State, SetProc, has_object, same_object, write_one, with_writes}
 
 -- what an effect leaves is said by what it writes, what it sends and how it concludes
 effect_leaves : (f : Effect) (S R : State) (ms : List Sending) (c : Conclusion) → before_sends f S ≡ R → f.sends ≡ ms → f.conclusion ≡ c →
-    applied f (send_answers f S) S ≡ concluded c (answers ms R) (posts ms R)
-effect_leaves f S R ms c state sends conclusion = λ j. concluded (conclusion j) (answers (sends j) (state j)) (posts (sends j) (state j))
+    after_effect f (send_answers f S) S ≡ after_conclusion c (post_answers ms R) (after_posts ms R)
+effect_leaves f S R ms c state sends conclusion = λ j. after_conclusion (conclusion j) (post_answers (sends j) (state j)) (after_posts (sends j) (state j))
 
 effect_replies : (f : Effect) (S R : State) (ms : List Sending) (c : Conclusion) → before_sends f S ≡ R → f.sends ≡ ms → f.conclusion ≡ c →
-    concluding_reply f.conclusion f.sends (send_answers f S) ≡ concluding_reply c ms (answers ms R)
-effect_replies f S R ms c state sends conclusion = λ j. concluding_reply (conclusion j) (sends j) (answers (sends j) (state j))
+    concluding_reply f.conclusion f.sends (send_answers f S) ≡ concluding_reply c ms (post_answers ms R)
+effect_replies f S R ms c state sends conclusion = λ j. concluding_reply (conclusion j) (sends j) (post_answers (sends j) (state j))
 
 same_itself : (o : Object) → same_object o o ≡ true
 same_itself (TheProc n) = eq-eqb n n refl
@@ -65,21 +66,21 @@ IsYes false = ⊥
 false_true : false ≡ true → ⊥
 false_true e = subst IsYes (sym e) tt
 
-has_front : (o : Object) (os more : List Object) → has o os ≡ true → has o (os ++ more) ≡ true
-unfolding has
+has_front : (o : Object) (os more : List Object) → has_object o os ≡ true → has_object o (os ++ more) ≡ true
+unfolding has_object
 has_front o [] more e = absurd (false_true e)
 has_front o (x ∷ os) more e = by (same_object o x) (has_front o os more) e
   where
-    by : (b : Bool) → (has o os ≡ true → has o (os ++ more) ≡ true) → (if b then true else has o os) ≡ true → (if b then true else has o (os ++ more)) ≡ true
+    by : (b : Bool) → (has_object o os ≡ true → has_object o (os ++ more) ≡ true) → (if b then true else has_object o os) ≡ true → (if b then true else has_object o (os ++ more)) ≡ true
     by true rest e = refl
     by false rest e = rest e
 
-has_behind : (o : Object) (os : List Object) → has o (os ++ o ∷ []) ≡ true
-unfolding has
+has_behind : (o : Object) (os : List Object) → has_object o (os ++ o ∷ []) ≡ true
+unfolding has_object
 has_behind o [] = rw (same_itself o) refl
 has_behind o (x ∷ os) = by (same_object o x) (has_behind o os)
   where
-    by : (b : Bool) → has o (os ++ o ∷ []) ≡ true → (if b then true else has o (os ++ o ∷ [])) ≡ true
+    by : (b : Bool) → has_object o (os ++ o ∷ []) ≡ true → (if b then true else has_object o (os ++ o ∷ [])) ≡ true
     by true rest = refl
     by false rest = rest
 
@@ -95,7 +96,7 @@ among_both os (change ∷ front) behind f b = (f.0, among_both os front behind f
 among_behind : (n : ℕ) (os : List Object) (plan : List Change) → AreOf n plan → AreAmong (os ++ TheProc n ∷ []) plan
 among_behind n os [] own = tt
 among_behind n os (Slot pid slot ∷ plan) own = absurd own.0
-among_behind n os (Part pid part ∷ plan) own = (subst (λ (k : ℕ). has (TheProc k) (os ++ TheProc n ∷ []) ≡ true) (sym own.0.0) (has_behind (TheProc n) os), among_behind n os plan own.1)
+among_behind n os (Part pid part ∷ plan) own = (subst (λ (k : ℕ). has_object (TheProc k) (os ++ TheProc n ∷ []) ≡ true) (sym own.0.0) (has_behind (TheProc n) os), among_behind n os plan own.1)
 among_behind n os (Description d opened ∷ plan) own = absurd own.0
 among_behind n os (Pipe q part ∷ plan) own = absurd own.0
 
@@ -121,7 +122,7 @@ quiet_signal (AtCommit m) none = tt
 -- nothing is posted with the step
 pub quiet_step : (actor : Actor) (before now : List Change) (outcome : Outcome) (sends : Sends) (rule : State → Effect) (objects : State → List Object) →
     sent_at_once sends ≡ [] → Plans actor before now (record { outcome = outcome; sends = sends }) rule objects → PlansStep actor before now outcome sends rule objects
-unfolding posts
+unfolding after_posts
 quiet_step actor before now outcome sends rule objects none plans = record {
   plan = plans.plan;
   added = plans.added;
@@ -144,7 +145,7 @@ quiet_step actor before now outcome sends rule objects none plans = record {
 abbrev pub calmed : Process → Process
 calmed me = record me { pending = 0; queued = [] }
 
-received_keeps : (m : Sending) (q : Option Process) → option_map calmed (received m q) ≡ option_map calmed q
+received_keeps : (m : Sending) (q : Option Process) → option_map calmed (target_after m q) ≡ option_map calmed q
 received_keeps m None = refl
 received_keeps m (Some q) = by (may_signal m.from q.ids) (is_quiet m q) (is_realtime m.signo) (has_room q)
   where
@@ -156,8 +157,8 @@ received_keeps m (Some q) = by (may_signal m.from q.ids) (is_quiet m q) (is_real
     by true false true false = refl
     by true false false room = refl
 
-pub posted_calm : (m : Sending) (S : State) (p : ℕ) → option_map calmed ((post m S).procs p) ≡ option_map calmed (S.procs p)
-posted_calm m S p = elim (put_cases S.procs m.target (received m (S.procs m.target)) p) [
+pub posted_calm : (m : Sending) (S : State) (p : ℕ) → option_map calmed ((after_post m S).procs p) ≡ option_map calmed (S.procs p)
+posted_calm m S p = elim (put_cases S.procs m.target (target_after m (S.procs m.target)) p) [
   | inl e ↦ ap (option_map calmed) e.1 ∙ received_keeps m (S.procs m.target) ∙ ap (λ (n : ℕ). option_map calmed (S.procs n)) (sym e.0)
   | inr e ↦ ap (option_map calmed) e.1
 ]
@@ -169,20 +170,20 @@ calm_registers : (q : Option Process) → registers_in (option_map calmed q) ≡
 calm_registers None = refl
 calm_registers (Some q) = refl
 
-posted_keeps : (m : Sending) (S : State) (p : ℕ) → registers_in ((post m S).procs p) ≡ registers_in (S.procs p)
-posted_keeps m S p = sym (calm_registers ((post m S).procs p)) ∙ ap registers_in (posted_calm m S p) ∙ calm_registers (S.procs p)
+posted_keeps : (m : Sending) (S : State) (p : ℕ) → registers_in ((after_post m S).procs p) ≡ registers_in (S.procs p)
+posted_keeps m S p = sym (calm_registers ((after_post m S).procs p)) ∙ ap registers_in (posted_calm m S p) ∙ calm_registers (S.procs p)
 
 calm_memory : (q : Option Process) → memory_in (option_map calmed q) ≡ memory_in q
 calm_memory None = refl
 calm_memory (Some q) = refl
 
-posted_shows : (m : Sending) (S : State) (p : ℕ) → memory_in ((post m S).procs p) ≡ memory_in (S.procs p)
-posted_shows m S p = sym (calm_memory ((post m S).procs p)) ∙ ap memory_in (posted_calm m S p) ∙ calm_memory (S.procs p)
+posted_shows : (m : Sending) (S : State) (p : ℕ) → memory_in ((after_post m S).procs p) ≡ memory_in (S.procs p)
+posted_shows m S p = sym (calm_memory ((after_post m S).procs p)) ∙ ap memory_in (posted_calm m S p) ∙ calm_memory (S.procs p)
 
 -- the state after a post, of what it sees
 post_state : (laws : PlanLaws) (parts : Parts) (m : Sending) (answer : Result (Unit {0}) Errno) (before now : List Change) (first : Parts) (held : ℕ → List Sending) →
     (p : PlansPost parts before now m answer) → sizes_of first ≡ sizes_of parts → IsSeen (slot_at parts.procs m.target) ((state_of held first).procs m.target) →
-    state_of held (exchanged_in first p.plan) ≡ post m (state_of held first)
+    state_of held (exchanged_in first p.plan) ≡ after_post m (state_of held first)
 post_state laws parts m answer before now first held p sizes seen =
     let R : State = state_of held first in
     laws.changes held first p.plan (subst (λ (s : Sizes). AreWithin s p.plan) (sym sizes) p.named)
@@ -193,7 +194,7 @@ post_state laws parts m answer before now first held p sizes seen =
 pub posted_step : (laws : PlanLaws) (actor : Actor) (before between now : List Change) (outcome : Outcome) (m : TheSending) (answer : Result (Unit {0}) Errno)
     (rule : State → Effect) (objects : State → List Object) → Plans actor before between (record { outcome = outcome; sends = AtOnce m }) rule objects →
     PlansPost actor.parts.now between now (sending_of m) answer → PlansStep actor before now outcome (AtOnce m) rule objects
-unfolding posts
+unfolding after_posts
 posted_step laws actor before between now outcome m answer rule objects plans p =
     let parts : Parts = actor.parts.now in
     let first : Parts = exchanged_in parts plans.plan in
@@ -229,7 +230,7 @@ posted_step laws actor before between now outcome m answer rule objects plans p 
 
 -- an answer at the next point of a process that stands at this point
 answered_at : (point : ℕ) (ret : ℤ) (q : Option Process) (registers : Regs) → registers_in q ≡ Some registers → registers.point ≡ point →
-    option_map (revised (SetAnswer (record { point = next_point point; ret = ret }))) q ≡ noted_if ret q
+    option_map (revised (SetAnswer (record { point = next_point point; ret = ret }))) q ≡ with_answer_if ret q
 answered_at point ret None registers there stands = refl
 answered_at point ret (Some q) registers there stands =
     (λ j. Some (record q { registers = record { point = next_point (at j); ret = ret; slots = q.registers.slots } }))
@@ -247,7 +248,7 @@ pub answered_step : (laws : PlanLaws) (actor : Actor) (before between now : List
     ((held : ℕ → List Sending) → CountsHeld actor.inside held → rule (state_of held actor.parts.now) ≡ effect_by actor (sent (Posts m)) (state_of held actor.parts.now)) →
     PlansPost actor.parts.now before between (sending_of m) answer → ret ≡ answer_of answer → now ≡ between ++ SetPart actor.pid (SetAnswer (answer_after ret actor)) ∷ [] →
     PlansStep actor before now (Done ret) (AtOnce m) rule objects
-unfolding posts written answers
+unfolding after_posts with_writes post_answers
 answered_step laws actor before between now m answer ret rule objects is small does p number last =
     let parts : Parts = actor.parts.now in
     let n : ℕ = actor.pid.0 in
@@ -269,17 +270,17 @@ answered_step laws actor before between now m answer ret rule objects is small d
           let q : Option Process = S.procs m.target.0 in
           let after : ℕ → List Sending = held_after (inside_of actor.inside) (AtOnce m) held in
           let seen : IsSeen (slot_at parts.procs m.target.0) q = seen_now (slot_at parts.procs m.target.0) in
-          let R : State = post (sending_of m) S in
+          let R : State = after_post (sending_of m) S in
           let right : post_answer (sending_of m) q ≡ ret = sym (p.answers q seen) ∙ sym number in
           let here : registers_in (R.procs n) ≡ Some actor.proc.now.regs = posted_keeps (sending_of m) S n ∙ ap (λ (slot : Option Proc). registers_in (process_in slot)) is.there in
           let posted_so : state_of held first ≡ R = post_state laws parts (sending_of m) answer before between parts held p refl seen in
-          let made : state_of held (exchanged_in first last_one) ≡ write_one (SetProc n (noted_if ret (R.procs n))) R
+          let made : state_of held (exchanged_in first last_one) ≡ write_one (SetProc n (with_answer_if ret (R.procs n))) R
           = laws.changes held first last_one named_now ∙ laws.process n last_one (state_of held first) own
           ∙ ap (λ (X : State). write_one (SetProc n (option_map (revised_by last_one) (X.procs n))) X) posted_so
           ∙ ap (λ (x : Option Process). write_one (SetProc n x) R) (answered_at actor.proc.now.regs.point ret (R.procs n) actor.proc.now.regs here refl) in
           record {
             state = effect_leaves (rule S) S S (sending_of m ∷ []) (effects.AnswersPost n) (ap (λ (f : Effect). before_sends f S) (does held counted)) (ap (λ (f : Effect). f.sends) (does held counted)) (ap (λ (f : Effect). f.conclusion) (does held counted))
-                ∙ ap (λ (r : ℤ). write_one (SetProc n (noted_if r (R.procs n))) R) right ∙ sym made ∙ ap (state_of held) (sym whole)
+                ∙ ap (λ (r : ℤ). write_one (SetProc n (with_answer_if r (R.procs n))) R) right ∙ sym made ∙ ap (state_of held) (sym whole)
                 ∙ ap (λ (h : ℕ → List Sending). state_of h (exchanged_in parts (p.plan ++ last_one))) (sym (same_held actor.inside m held));
             sent = ap (λ (f : Effect). f.sends) (does held counted);
             reply = effect_replies (rule S) S S (sending_of m ∷ []) (effects.AnswersPost n) (ap (λ (f : Effect). before_sends f S) (does held counted)) (ap (λ (f : Effect). f.sends) (does held counted)) (ap (λ (f : Effect). f.conclusion) (does held counted))

@@ -27,7 +27,8 @@ use Rattle.tx_kernel.specs.declared.trees.Child.{Child}
 use Rattle.tx_model.specs.BookLaws.{through_or, through_unless}
 use Rattle.tx_model.specs.Book.{waitpid}
 use Rattle.tx_model.specs.Forms.{Outcome, Rule, answers, changes, effect_of, fails, refuses}
-use Rattle.tx_model.specs.Processes.{numbered, with_status, waitpid_objects, numbered_objects}
+use Rattle.tx_model.specs.Processes.{pid_of}
+use Rattle.tx_model.specs.Words.{with_status, waitpid_objects, numbered_objects}
 use Rattle.tx_model.specs.State.{Object, Proc as TheProc, Process, Sending, SetProc, State, is_between}
 use Rattle.tx_proc.specs.Processes.{process_in, process_of}
 use Rattle.tx_proc.specs.declared.part.Part.TheVariants.{Answer as SetAnswer, Register as SetRegister}
@@ -39,7 +40,7 @@ between-number : (w n : ℕ) → is_between w n ≡ true → (1 ≤ n) × (n ≤
 between-number w zero e = cc
 between-number w (suc n) e = let below = ltb-true n w e in (omega arith, omega arith)
 
-numbered-pid : (w t : ℕ) (z : ℤ) → numbered w z ≡ Some t → (1 ≤ t) × (t ≤ w)
+numbered-pid : (w t : ℕ) (z : ℤ) → pid_of w z ≡ Some t → (1 ≤ t) × (t ≤ w)
 numbered-pid w t (pos n) e = by (is_between w n) refl e
   where
     by : (b : Bool) → is_between w n ≡ b → (if b then Some n else None) ≡ Some t → (1 ≤ t) × (t ≤ w)
@@ -56,13 +57,13 @@ is_child p t (Some proc) q there mine none =
     let found : None ≡ Some one = none ∙ ap (λ (b : Bool). if b then Some one else None) (ap (λ (x : Process). x.parent == p) same ∙ mine) in
     cc
 
-pub no_child : (actor : Actor) (number : ℤ) (nohang : Bool) (held : ℕ → List Sending) → None ≡ child_at actor.pid.0 actor.parts.now.procs (numbered (length actor.parts.now.procs) number) →
+pub no_child : (actor : Actor) (number : ℤ) (nohang : Bool) (held : ℕ → List Sending) → None ≡ child_at actor.pid.0 actor.parts.now.procs (pid_of (length actor.parts.now.procs) number) →
     waitpid number nohang (caller_of actor (state_of held actor.parts.now)) ≡ fails NoChild
 no_child actor number nohang held none =
     let Fails : Outcome → Type 0 = λ o. o ≡ fails NoChild in
     let procs : List (Option Proc) = actor.parts.now.procs in
     let p : ℕ = actor.pid.0 in
-    through_or Fails (numbered (length procs) number) _ _ refl
+    through_or Fails (pid_of (length procs) number) _ _ refl
     λ t e. through_or Fails (process_in (slot_at procs t)) _ _ refl
     λ q there. through_unless Fails (q.parent == p) _ _ (λ other. refl)
     λ mine. absurd (is_child p t (slot_at procs t) q there mine (none ∙ ap (child_at p procs) e))
@@ -93,30 +94,30 @@ a_child p procs (Some t) child e = by (slot_at procs t) refl e
 
 -- the child that a search finds, of a number as it is passed
 pub found_child : (p : ℕ) (procs : List (Option Proc)) (w : ℕ) (number : ℤ) (child : Child) → FitsSigned w64 number →
-    Some child ≡ child_at p procs (numbered w (to_z w64 (of_z w64 number))) → IsChild p procs (numbered w number) child
+    Some child ≡ child_at p procs (pid_of w (to_z w64 (of_z w64 number))) → IsChild p procs (pid_of w number) child
 found_child p procs w number child fits found =
-    a_child p procs (numbered w number) child (sym (subst (λ (z : ℤ). Some child ≡ child_at p procs (numbered w z)) (to_z-of_z w64 number fits) found))
+    a_child p procs (pid_of w number) child (sym (subst (λ (z : ℤ). Some child ≡ child_at p procs (pid_of w z)) (to_z-of_z w64 number fits) found))
 
 -- it ended, or it runs
 pub ended_is : (actor : Actor) (number : ℤ) (nohang : Bool) (held : ℕ → List Sending) (child : Child) (status : ℕ) →
-    IsChild actor.pid.0 actor.parts.now.procs (numbered (length actor.parts.now.procs) number) child → child.status ≡ Some status →
+    IsChild actor.pid.0 actor.parts.now.procs (pid_of (length actor.parts.now.procs) number) child → child.status ≡ Some status →
     waitpid number nohang (caller_of actor (state_of held actor.parts.now)) ≡ changes (pos child.pid.0) (with_status status (me_of actor)) (SetProc child.pid.0 None ∷ [])
 ended_is actor number nohang held child status is ended =
-    finds (numbered (length actor.parts.now.procs) number) child.pid.0 _ _ is.number
+    finds (pid_of (length actor.parts.now.procs) number) child.pid.0 _ _ is.number
     ∙ finds (process_in (slot_at actor.parts.now.procs child.pid.0)) (process_of is.proc) _ _ (ap process_in is.there)
     ∙ passes (not (is.proc.parent.0 == actor.pid.0)) _ _ (ap not is.parent)
     ∙ finds is.proc.status status _ _ (is.status ∙ ended)
 
 pub running_is : (actor : Actor) (number : ℤ) (nohang : Bool) (held : ℕ → List Sending) (child : Child) →
-    IsChild actor.pid.0 actor.parts.now.procs (numbered (length actor.parts.now.procs) number) child → child.status ≡ None →
+    IsChild actor.pid.0 actor.parts.now.procs (pid_of (length actor.parts.now.procs) number) child → child.status ≡ None →
     waitpid number nohang (caller_of actor (state_of held actor.parts.now)) ≡ (if nohang then answers (pos 0) else refuses Wait)
 running_is actor number nohang held child is runs =
-    finds (numbered (length actor.parts.now.procs) number) child.pid.0 _ _ is.number
+    finds (pid_of (length actor.parts.now.procs) number) child.pid.0 _ _ is.number
     ∙ finds (process_in (slot_at actor.parts.now.procs child.pid.0)) (process_of is.proc) _ _ (ap process_in is.there)
     ∙ passes (not (is.proc.parent.0 == actor.pid.0)) _ _ (ap not is.parent)
     ∙ misses is.proc.status _ _ (is.status ∙ runs)
 
-pub child_ended : (actor : Actor) (number : ℤ) (child : Child) (status : ℕ) → IsChild actor.pid.0 actor.parts.now.procs (numbered (length actor.parts.now.procs) number) child →
+pub child_ended : (actor : Actor) (number : ℤ) (child : Child) (status : ℕ) → IsChild actor.pid.0 actor.parts.now.procs (pid_of (length actor.parts.now.procs) number) child →
     child.status ≡ Some status → IsEndedChild actor child.pid.0 status
 child_ended actor number child status is ended =
     let pid = numbered-pid (length actor.parts.now.procs) child.pid.0 number is.number in
@@ -134,7 +135,7 @@ page_plans actor before now planned number nohang outcome objects is names plans
     plans_same actor before now planned (λ S. effect_of actor.pid.0 (me_of actor) outcome) (effect_by actor (waitpid number nohang)) objects (wait_names actor number)
     (λ held counted. sym (ap (effect_of actor.pid.0 (me_of actor)) (is held))) names plans
 
-pub child_names : (actor : Actor) (number : ℤ) (child : Child) (held : ℕ → List Sending) → IsChild actor.pid.0 actor.parts.now.procs (numbered (length actor.parts.now.procs) number) child →
+pub child_names : (actor : Actor) (number : ℤ) (child : Child) (held : ℕ → List Sending) → IsChild actor.pid.0 actor.parts.now.procs (pid_of (length actor.parts.now.procs) number) child →
     TheProc child.pid.0 ∷ [] ≡ wait_names actor number (state_of held actor.parts.now)
 child_names actor number child held is = ap numbered_objects (sym is.number)
 

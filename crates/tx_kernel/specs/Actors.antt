@@ -12,7 +12,7 @@ use Rattle.tx_kernel.specs.declared.inside.Inside.{Inside}
 use Rattle.tx_model.specs.Effects.{Effect, Inside as TheInside}
 use Rattle.tx_model.specs.Forms.{Caller, Rule, effect_of}
 use Rattle.tx_model.specs.Membership.{is_of}
-use Rattle.tx_model.specs.Book.{sent_by_members}
+use Rattle.tx_model.specs.Book.{member_sends}
 use Rattle.tx_model.specs.State.{Object, Process, Sending, State}
 use Rattle.tx_proc.specs.Processes.{process_of}
 
@@ -31,7 +31,7 @@ inside_of (Some inside) = Some (transaction_of inside)
 -- the number of held sends is that of the sends that members handed out
 abbrev pub CountsHeld : Option Inside → (ℕ → List Sending) → Type 0
 CountsHeld None held = Unit {0}
-CountsHeld (Some inside) held = sent_by_members (held inside.starter.0) ≡ inside.held
+CountsHeld (Some inside) held = member_sends (held inside.starter.0) ≡ inside.held
 
 -- the counts of names are right, each process has its places, and the state is well formed, as every state is that a history leads to
 pub record IsWhole (parts : Parts) : Type 0 where

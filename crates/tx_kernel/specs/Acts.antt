@@ -12,22 +12,18 @@ use Rattle.tx_change.specs.declared.parts.Parts.{Parts}
 use Rattle.tx_kernel.specs.Actors.{CountsHeld, IsActor, inside_of}
 use Rattle.tx_kernel.specs.Plans.{AreAmong, HasSignal, IsRefused}
 use Rattle.tx_kernel.specs.Steps.{GivesStep, target_objects}
-use Rattle.tx_kernel.specs.declared.events.Act.{Act as Asked}
+use Rattle.tx_kernel.specs.declared.events.Act.{Act}
 use Rattle.tx_kernel.specs.declared.events.Act.TheVariants.{Call, Delivery, Answer}
 use Rattle.tx_kernel.specs.declared.actor.Actor.{Actor}
 use Rattle.tx_kernel.specs.declared.inside.Inside.{Inside}
 use Rattle.tx_kernel.specs.declared.planned.Planned.{Planned}
-use Rattle.tx_model.specs.Effects.{Effect, Inside as TheInside}
-use Rattle.tx_model.specs.Events.{Event, Do, Note, effect, objects}
-use Rattle.tx_model.specs.Calls.{effect_at, Act}
-use Rattle.tx_model.specs.State.{Sending, State}
-
--- the rule of what the process of a number does, and what it reads and writes
-abbrev pub act_rule : Option TheInside → ℕ → Act → State → Effect
-act_rule inside p act S = effect_at inside p act S (S.procs p)
+use Rattle.tx_model.specs.Effects.{Inside as TheInside}
+use Rattle.tx_model.specs.Forms.{Page}
+use Rattle.tx_model.specs.Events.{Event, Do, Note, effect, objects, effect_at}
+use Rattle.tx_model.specs.State.{Sending}
 
 -- the event in which the process of a number does what it is asked to
-abbrev pub event_of : Option TheInside → Pid → Asked → Event
+abbrev pub event_of : Option TheInside → Pid → Act → Event
 event_of inside pid (Call call) = Do (Calls pid call.now) inside
 event_of inside pid (Delivery signo) = Do (Deliver pid signo) inside
 event_of inside pid (Answer ret) = Note pid.0 ret
@@ -67,5 +63,5 @@ PlansAreMade = (actor : Actor) (event : Event) (log between now : List Change) (
     Makes actor.parts.now actor.pid actor.inside event log now after planned
 
 -- nothing is done, and why: a growth of memory was refused, or the rule refuses the step
-abbrev pub RefusesAct : Parts → Pid → Option Inside → Act → Refusal → Type 0
-RefusesAct before pid inside act why = IsRefused before inside why (act_rule (inside_of inside) pid.0 act)
+abbrev pub RefusesPage : Parts → Pid → Option Inside → Page → Refusal → Type 0
+RefusesPage before pid inside page why = IsRefused before inside why (effect_at (inside_of inside) pid.0 page)

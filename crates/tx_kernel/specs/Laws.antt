@@ -5,7 +5,7 @@ use Rattle.tx_change.specs.Laws.{HaveAllPlaces}
 use Rattle.tx_change.specs.States.{state_of}
 use Rattle.tx_change.specs.declared.parts.Parts.{Parts}
 use Rattle.tx_kernel.specs.Actors.{IsWhole}
-use Rattle.tx_model.specs.State.{booted}
+use Rattle.tx_model.specs.State.{boot_state}
 use Rattle.tx_change.specs.Counts.{CountsElsewhere, CountsNameless, CountsPlanned, CountsReplaced, CountsWithOthers, PlansAreNamed, RoomForName, RoomForNames, SlotInTurn}
 use Rattle.tx_change.specs.Laws.{AppliedAppended, ApplyThenRevert, BackIsWrite, ChangedAppended, ChangesStateInTurn, ExchangedBring, ExchangedStayNamed, ExchangesBack, FrontIsRead, NamedAppended, PartsReplaceProcess, PlacesKept, SizesStay}
 
@@ -36,5 +36,5 @@ pub record PlanLaws : Type 0 where
 
 -- parts that stand as at boot are whole
 abbrev pub BootedAreWhole : Type 0
-BootedAreWhole = (width count : ℕ) (parts : Parts) → 1 ≤ count → count ≤ width → width ≤ 256 → state_of (λ starter. []) parts ≡ booted width count → HaveAllPlaces parts → CountsAgree parts →
+BootedAreWhole = (width count : ℕ) (parts : Parts) → 1 ≤ count → count ≤ width → width ≤ 256 → state_of (λ starter. []) parts ≡ boot_state width count → HaveAllPlaces parts → CountsAgree parts →
     IsWhole parts

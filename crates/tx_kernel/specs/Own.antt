@@ -10,7 +10,8 @@ use Rattle.tx_kernel.specs.Actors.{me_of}
 use Rattle.tx_kernel.specs.Plans.{KeepsShown, reply_of}
 use Rattle.tx_kernel.specs.declared.actor.Actor.{Actor}
 use Rattle.tx_kernel.specs.declared.planned.Outcome.{Outcome}
-use Rattle.tx_model.specs.Effects.{Effect, next_point, own_effect}
+use Rattle.tx_model.specs.Effects.{Effect, next_point}
+use Rattle.tx_model.specs.Words.{own_effect}
 use Rattle.tx_model.specs.State.{Process, State}
 use Rattle.tx_pages.specs.declared.plans.NewPage.{NewPage}
 use Rattle.tx_proc.specs.declared.part.Answer.{Answer}

@@ -28,10 +28,10 @@ use Rattle.tx_kernel.specs.declared.planned.Sends.TheVariants.{AtOnce}
 use Rattle.tx_kernel.specs.declared.transfers.Reading.TheVariants as reading
 use Rattle.tx_kernel.specs.declared.transfers.Writing.{Writing}
 use Rattle.tx_kernel.specs.declared.transfers.Writing.TheVariants as writing
-use Rattle.tx_model.specs.Book.{end_at as end_in, breaks, bytes_in, is_read_side}
+use Rattle.tx_model.specs.Book.{end_at as end_in, broken_pipe, bytes_in, is_read_side}
 use Rattle.tx_model.specs.Forms.{Caller, Rule, answers, changes, does, fails, refuses}
-use Rattle.tx_model.specs.Memory.{stored, address_of, bytes_at, is_good, is_mapped, is_writable}
-use Rattle.tx_model.specs.Numbers.{below, failing}
+use Rattle.tx_model.specs.Memory.{stored_memory, address_of, bytes_at, is_good, is_mapped, is_writable}
+use Rattle.tx_model.specs.Numbers.{below, error_answer}
 use Rattle.tx_model.specs.State.{Sending as TheSending, SetPipe}
 
 -- what the description has that a descriptor names, if it names one
@@ -56,7 +56,7 @@ calling actor held = caller_of actor (state_of held actor.parts.now)
 abbrev pub writing_outcome : ℤ → Result Writing Errno → Rule
 writing_outcome address (Err errno) c = fails errno
 writing_outcome address (Ok writing.Nothing) c = answers (pos 0)
-writing_outcome address (Ok writing.Breaks) c = does (breaks c.number c.process)
+writing_outcome address (Ok writing.Breaks) c = does (broken_pipe c.number c.process)
 writing_outcome address (Ok writing.Waits) c = refuses Wait
 writing_outcome address (Ok (writing.Puts pipe n)) c =
     changes (pos n) c.process (SetPipe pipe.0 (Some (bytes_in (c.state.pipes pipe.0) ++ bytes_at c.process.memory (address_of address) n)) ∷ [])
@@ -106,7 +106,7 @@ broken_sending actor = record { target = actor.pid; signo = SIGPIPE; value = pos
 
 -- a write without a reader
 abbrev pub broken : Actor → Planned
-broken actor = record { outcome = Done (failing BrokenPipe); sends = AtOnce (broken_sending actor) }
+broken actor = record { outcome = Done (error_answer BrokenPipe); sends = AtOnce (broken_sending actor) }
 
 -- what a read comes to
 abbrev pub reading_outcome : ℤ → Result Reading Errno → Rule
@@ -115,7 +115,7 @@ reading_outcome address (Ok reading.Nothing) c = answers (pos 0)
 reading_outcome address (Ok reading.Waits) c = refuses Wait
 reading_outcome address (Ok (reading.Takes pipe n)) c =
     let held = bytes_in (c.state.pipes pipe.0) in
-    changes (pos n) (record c.process { memory = stored c.process.memory (address_of address) (take n held) }) (SetPipe pipe.0 (Some (drop n held)) ∷ [])
+    changes (pos n) (record c.process { memory = stored_memory c.process.memory (address_of address) (take n held) }) (SetPipe pipe.0 (Some (drop n held)) ∷ [])
 
 -- a read from such a descriptor is one from the description, of so many bytes that may be put at the address
 pub record AsksFor (actor : Actor) (desc : Desc) (n : ℕ) (fd address count : ℤ) (held : ℕ → List TheSending) : Type 0 where
@@ -145,5 +145,5 @@ TakesFrom actor x (reading.Takes from n) = NamesPipe actor x from × CanTake act
 pub record TakesBytes (actor : Actor) (before now : List Change) (pipe : PipeNo) (address : ℤ) (n : ℕ) : Type 0 where
   pub pages : List NewPage
   pub numbered : AreNumbered pages
-  pub memory : with_pages (me_of actor).memory pages ≡ stored (me_of actor).memory (address_of address) (take n (held_in actor pipe))
+  pub memory : with_pages (me_of actor).memory pages ≡ stored_memory (me_of actor).memory (address_of address) (take n (held_in actor pipe))
   pub added : now ≡ before ++ Pipe pipe (Front n []) ∷ map (page_change actor.pid) pages

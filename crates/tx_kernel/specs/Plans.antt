@@ -22,10 +22,11 @@ use Rattle.tx_kernel.specs.declared.planned.Planned.{Planned}
 use Rattle.tx_kernel.specs.declared.planned.Sends.{Sends}
 use Rattle.tx_kernel.specs.declared.planned.Sends.TheVariants.{Nothing, AtOnce, AtCommit}
 use Rattle.tx_model.specs.Answer.{Choice, is_bad_choice}
-use Rattle.tx_model.specs.Effects.{Conclusion, Replies, Effect, Inside, before_sends, idle}
+use Rattle.tx_model.specs.Effects.{Conclusion, Replies, Effect, Inside, idle}
+use Rattle.tx_model.specs.Words.{before_sends}
 use Rattle.tx_model.specs.Memory.{Memory, bytes_from, no_memory}
 use Rattle.tx_proc.specs.Processes.{process_in}
-use Rattle.tx_model.specs.State.{Object, Proc, Process, Sender, Sending as TheSending, State, has, put_at}
+use Rattle.tx_model.specs.State.{Object, Proc, Process, Sender, Sending as TheSending, State, has_object, put_at}
 
 -- a step with this answer, which sends nothing
 abbrev pub quiet : Outcome → Planned
@@ -81,7 +82,7 @@ pub record Gives (actor : Actor) (after : Parts) (planned : Planned) (held : ℕ
 -- each change names one of the objects
 abbrev pub AreAmong : List Object → List Change → Type 0
 AreAmong objects [] = Unit {0}
-AreAmong objects (change ∷ changes) = (has (object_of change) objects ≡ true) × AreAmong objects changes
+AreAmong objects (change ∷ changes) = (has_object (object_of change) objects ≡ true) × AreAmong objects changes
 
 -- the number of the signal that is posted is below 64
 abbrev pub HasSignal : Sends → Type 0

@@ -10,7 +10,7 @@ use Rattle.tx_change.specs.declared.change.Change.{Change}
 use Rattle.tx_change.specs.declared.parts.Parts.{Parts}
 use Rattle.tx_cred.specs.Cred.{ids_of}
 use Rattle.tx_kernel.specs.declared.posts.Face.{Face}
-use Rattle.tx_model.specs.Posts.{post_answer, received}
+use Rattle.tx_model.specs.Posts.{post_answer, target_after}
 use Rattle.tx_model.specs.State.{Process, Sending}
 use Rattle.tx_proc.specs.Processes.{revised}
 use Rattle.tx_proc.specs.declared.part.Part.{Part}
@@ -65,14 +65,14 @@ pub record PlansPost (parts : Parts) (before now : List Change) (m : Sending) (a
   pub nameless : AreNameless plan
   pub named : AreNamed parts plan
   pub answers : (q : Option Process) → IsSeen (slot_at parts.procs m.target) q → answer_of answer ≡ post_answer m q
-  pub receives : (q : Option Process) → IsSeen (slot_at parts.procs m.target) q → option_map (revised_by plan) q ≡ received m q
+  pub receives : (q : Option Process) → IsSeen (slot_at parts.procs m.target) q → option_map (revised_by plan) q ≡ target_after m q
 
 -- what a post to the process of a number is to exchange: the answer and the process after it are the posting rule's, of each that is seen as the one there
 pub record PlansAt (parts : Parts) (m : Sending) (result : Result (Option Part) Errno) : Type 0 where
   pub pending : IfOk result IsOfPending
   pub there : IfOk result (λ part. IsSome part → IsPid (sizes_of parts) m.target)
   pub answers : (q : Option Process) → IsSeen (slot_at parts.procs m.target) q → answer_of (without_part result) ≡ post_answer m q
-  pub receives : (q : Option Process) → IsSeen (slot_at parts.procs m.target) q → option_map (posted result) q ≡ received m q
+  pub receives : (q : Option Process) → IsSeen (slot_at parts.procs m.target) q → option_map (posted result) q ≡ target_after m q
 
 -- a change, if there is one
 abbrev pub listed_change : Option Change → List Change

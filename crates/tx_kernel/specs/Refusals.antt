@@ -6,7 +6,7 @@ use Rattle.tx_change.specs.States.{state_of}
 use Rattle.tx_kernel.specs.Actors.{CountsHeld}
 use Rattle.tx_kernel.specs.declared.actor.Actor.{Actor}
 use Rattle.tx_model.specs.Answer.{Choice, IsAccepted, is_bad_choice, is_choice_in_use}
-use Rattle.tx_model.specs.Deliveries.{is_full}
+use Rattle.tx_model.specs.Words.{is_full}
 use Rattle.tx_model.specs.Effects.{Effect, concluding_reply, idle}
 use Rattle.tx_model.specs.Signals.{Caught, Disposition, Fatal, Ignored}
 use Rattle.tx_model.specs.State.{Process, Sending, State}

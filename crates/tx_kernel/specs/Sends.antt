@@ -12,10 +12,11 @@ use Rattle.tx_kernel.specs.declared.sends.Send.{Send}
 use Rattle.tx_kernel.specs.declared.sends.Send.TheVariants.{Answers, Posts, Holds}
 use Rattle.tx_kernel.specs.declared.planned.Sends.{Sends}
 use Rattle.tx_kernel.specs.declared.planned.Sends.TheVariants.{Nothing, AtOnce, AtCommit}
-use Rattle.tx_model.specs.Effects.{Effect, Inside, before_sends}
+use Rattle.tx_model.specs.Effects.{Effect, Inside}
+use Rattle.tx_model.specs.Words.{before_sends}
 use Rattle.tx_model.specs.Forms.{Rule, answers, changes, posts}
-use Rattle.tx_model.specs.Processes.{numbered}
-use Rattle.tx_model.specs.Book.{sendable, sent_by}
+use Rattle.tx_model.specs.Processes.{pid_of}
+use Rattle.tx_model.specs.Book.{sendable, sending_from}
 use Rattle.tx_model.specs.State.{Object, Sending as TheSending, State, Write, SetHeld}
 
 -- what is handed out is held
@@ -32,8 +33,8 @@ sent (Holds m) c = changes (pos 0) c.process (holds_more c.inside (sending_of m)
 -- the signal is what a sigqueue hands out, at its line
 pub record IsHandedOut (actor : Actor) (m : Sending) (target signo value : ℤ) : Type 0 where
   pub signal : sendable signo ≡ Some m.signo.0
-  pub number : numbered (length actor.parts.now.procs) target ≡ Some m.target.0
-  pub sending : sending_of m ≡ sent_by (me_of actor) m.target.0 m.signo.0 value
+  pub number : pid_of (length actor.parts.now.procs) target ≡ Some m.target.0
+  pub sending : sending_of m ≡ sending_from (me_of actor) m.target.0 m.signo.0 value
 
 -- the signal that it sends
 abbrev pub sends_by : Send → Sends

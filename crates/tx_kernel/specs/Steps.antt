@@ -15,7 +15,7 @@ use Rattle.tx_kernel.specs.declared.inside.Inside.{Inside}
 use Rattle.tx_kernel.specs.declared.planned.Outcome.{Outcome}
 use Rattle.tx_kernel.specs.declared.planned.Sends.{Sends}
 use Rattle.tx_kernel.specs.declared.planned.Sends.TheVariants.{Nothing, AtOnce, AtCommit}
-use Rattle.tx_model.specs.Effects.{Effect, applied, concluding_reply, send_answers}
+use Rattle.tx_model.specs.Effects.{Effect, after_effect, concluding_reply, send_answers}
 use Rattle.tx_model.specs.State.{Object, Proc, Sending, State}
 use Rattle.tx_proc.specs.Processes.{process_in}
 
@@ -27,7 +27,7 @@ target_objects (AtCommit m) = []
 
 -- these parts, and what else a step of the process comes to, are the effect's, its post made; bytes are shown of its memory then
 pub record GivesStep (inside : Option Inside) (pid : Pid) (before after : Parts) (outcome : Outcome) (sends : Sends) (held : ℕ → List Sending) (effect : Effect) : Type 0 where
-  pub state : applied effect (send_answers effect (state_of held before)) (state_of held before) ≡ state_of (held_after (inside_of inside) sends held) after
+  pub state : after_effect effect (send_answers effect (state_of held before)) (state_of held before) ≡ state_of (held_after (inside_of inside) sends held) after
   pub sent : effect.sends ≡ sent_at_once sends
   pub reply : concluding_reply effect.conclusion effect.sends (send_answers effect (state_of held before)) ≡ reply_of (memory_in (process_in (slot_at after.procs pid.0))) outcome
 

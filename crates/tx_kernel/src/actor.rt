@@ -2,10 +2,10 @@
 ghost use Rattle.std.specs.Prelude.{◌≡◌, ℕ, List, IfOk, IfErr};
 ghost use Rattle.tx_change.specs.States.{state_of};
 ghost use Rattle.tx_kernel.specs.Actors.{IsActor, IsWhole, inside_of};
-ghost use Rattle.tx_kernel.specs.Acts.{act_rule};
 ghost use Rattle.tx_model.specs.Effects.{idle};
+ghost use Rattle.tx_model.specs.Events.{effect_at};
+ghost use Rattle.tx_model.specs.Forms.{Page};
 ghost use Rattle.tx_model.specs.State.{Sending};
-ghost use Rattle.tx_model.specs.Calls.{Act};
 
 use crate::inside::Inside;
 use tx_base::{Pid, Refusal};
@@ -31,7 +31,7 @@ impl<'a> Actor<'a> {
         requires { IsWhole parts.now }
         ensures ok { IfOk result (λ actor. IsActor actor) }
         ensures same { IfOk result (λ actor. (actor.parts.now ≡ parts.now) × (actor.pid ≡ pid) × (actor.inside ≡ inside.entry)) }
-        ensures refused { IfErr result (λ why. (act : Act) (held : ℕ → List Sending) → act_rule (inside_of inside.entry) pid.0 act (state_of held parts.now) ≡ idle why) }
+        ensures refused { IfErr result (λ why. (page : Page) (held : ℕ → List Sending) → effect_at (inside_of inside.entry) pid.0 page (state_of held parts.now) ≡ idle why) }
     {
         let Some(proc) = parts.proc(pid) else {
             return Err(Refusal::NoProcess);

@@ -2,11 +2,12 @@
 ghost use Rattle.std.specs.Prelude.{◌≡◌, ◌⊎◌, IfOk, IfErr, OnErr};
 ghost use Rattle.tx_base.specs.declared.steps.Step.TheVariants.{Call as Calls, Deliver};
 ghost use Rattle.tx_kernel.specs.Actors.{IsWhole, inside_of};
-ghost use Rattle.tx_kernel.specs.Acts.{Makes, RefusesAct};
+ghost use Rattle.tx_kernel.specs.Acts.{Makes, RefusesPage};
 ghost use Rattle.tx_kernel.specs.Plans.{ChoosesBadly};
-ghost use Rattle.tx_model.specs.Answer.{chosen_in};
+ghost use Rattle.tx_model.specs.Words.{chosen_in};
 ghost use Rattle.tx_model.specs.Events.{Do};
-ghost use Rattle.tx_model.specs.Calls.{MakesCall, TakesSignal};
+ghost use Rattle.tx_model.specs.Book.{page_of_call};
+ghost use Rattle.tx_model.specs.Deliveries.{delivery_page};
 
 use crate::actor::Actor;
 use crate::inside::Inside;
@@ -33,7 +34,7 @@ pub fn act(
     requires { IsWhole parts.old }
     ensures ok { IfOk result (λ planned. Makes parts.old pid inside.entry (Do (Calls pid call.now) (inside_of inside.entry)) log.old log.new parts.new planned) }
     ensures whole { IfOk result (λ planned. IsWhole parts.new) }
-    ensures refused { IfErr result (λ why. RefusesAct parts.old pid inside.entry (MakesCall call.now) why ⊎ ChoosesBadly parts.old why (chosen_in call.now)) }
+    ensures refused { IfErr result (λ why. RefusesPage parts.old pid inside.entry (page_of_call call.now) why ⊎ ChoosesBadly parts.old why (chosen_in call.now)) }
     ensures parts { OnErr result (parts.new ≡ parts.old) }
     ensures log { OnErr result (log.new ≡ log.old) }
 {
@@ -61,7 +62,7 @@ pub fn deliver(
     requires { IsWhole parts.old }
     ensures ok { IfOk result (λ planned. Makes parts.old pid inside.entry (Do (Deliver pid signo) (inside_of inside.entry)) log.old log.new parts.new planned) }
     ensures whole { IfOk result (λ planned. IsWhole parts.new) }
-    ensures refused { IfErr result (λ why. RefusesAct parts.old pid inside.entry (TakesSignal signo.0) why) }
+    ensures refused { IfErr result (λ why. RefusesPage parts.old pid inside.entry (delivery_page signo.0) why) }
     ensures parts { OnErr result (parts.new ≡ parts.old) }
     ensures log { OnErr result (log.new ≡ log.old) }
 {

@@ -7,7 +7,7 @@ ghost use Rattle.tx_kernel.specs.Actors.{IsActor, effect_by};
 ghost use Rattle.tx_kernel.specs.Own.{PlansOwn, answer_after};
 ghost use Rattle.tx_kernel.specs.Plans.{Plans};
 ghost use Rattle.tx_model.specs.Forms.{answers, fails};
-ghost use Rattle.tx_model.specs.Numbers.{failing};
+ghost use Rattle.tx_model.specs.Numbers.{error_answer};
 ghost use Rattle.tx_signal.specs.Parts.{answer_of};
 ghost use Rattle.tx_model.specs.State.{Object, State};
 ghost use Rattle.tx_proc.specs.declared.part.Part.TheVariants.{Answer as SetAnswer};
@@ -21,7 +21,7 @@ use tx_proc::{Answer, Part};
 
 /// The answer that an error is.
 pub(crate) fn failing(errno: Errno) -> i64
-    ensures { result ≡ failing errno }
+    ensures { result ≡ error_answer errno }
 {
     -(errno.number() as i64)
 }

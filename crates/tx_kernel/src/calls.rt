@@ -5,10 +5,9 @@ ghost use Rattle.tx_kernel.specs.Calls.{concerns_itself_alone, sends_on_demand};
 ghost use Rattle.tx_kernel.specs.Own.{PlansOwn};
 ghost use Rattle.tx_kernel.specs.Plans.{Extends, IsBadChoice, IsGoodChoice, Plans, RefusedBy};
 ghost use Rattle.tx_kernel.specs.Steps.{PlansStep};
-ghost use Rattle.tx_model.specs.Answer.{chosen_in};
-ghost use Rattle.tx_model.specs.Calls.{call_effect, call_objects};
-ghost use Rattle.tx_model.specs.Deliveries.{delivery_effect, delivery_objects};
+ghost use Rattle.tx_model.specs.Words.{chosen_in, call_effect, call_objects, delivery_effect, delivery_objects};
 ghost use Rattle.tx_model.specs.Book.{page_of_call};
+ghost use Rattle.tx_model.specs.Deliveries.{delivery, delivery_page};
 
 use crate::actor::Actor;
 use crate::laws::laws;
@@ -145,8 +144,8 @@ impl Actor<'_> {
     ) -> Result<Planned, Refusal>
         requires { IsActor self.now }
         ensures ok { IfOk result (λ planned. PlansStep self.now log.old log.new planned.outcome planned.sends
-            (λ S. delivery_effect (inside_of self.now.inside) self.now.pid.0 signo.0 (me_of self.now) S) (λ S. delivery_objects (inside_of self.now.inside) self.now.pid.0 signo.0 (me_of self.now) S)) }
-        ensures refused { IfErr result (λ why. RefusedBy self.now why (λ S. delivery_effect (inside_of self.now.inside) self.now.pid.0 signo.0 (me_of self.now) S)) }
+            (effect_by self.now (delivery signo.0)) (names_by self.now (delivery_page signo.0).names)) }
+        ensures refused { IfErr result (λ why. RefusedBy self.now why (effect_by self.now (delivery signo.0))) }
         ensures err { OnErr result (log.new ≡ log.old) }
     {
         let before = log.len();
@@ -161,8 +160,8 @@ impl Actor<'_> {
     fn plan_delivered(&self, alloc: Global, signo: Signo, log: &mut Log) -> Result<Planned, Refusal>
         requires { IsActor self.now }
         ensures ok { IfOk result (λ planned. PlansStep self.now log.old log.new planned.outcome planned.sends
-            (λ S. delivery_effect (inside_of self.now.inside) self.now.pid.0 signo.0 (me_of self.now) S) (λ S. delivery_objects (inside_of self.now.inside) self.now.pid.0 signo.0 (me_of self.now) S)) }
-        ensures refused { IfErr result (λ why. RefusedBy self.now why (λ S. delivery_effect (inside_of self.now.inside) self.now.pid.0 signo.0 (me_of self.now) S)) }
+            (effect_by self.now (delivery signo.0)) (names_by self.now (delivery_page signo.0).names)) }
+        ensures refused { IfErr result (λ why. RefusedBy self.now why (effect_by self.now (delivery signo.0))) }
         ensures log { OnErr result (Extends log.old log.new) }
     {
         let planned = self.plan_taken(alloc, signo, log)?;

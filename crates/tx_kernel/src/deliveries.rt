@@ -1,11 +1,12 @@
 //! The delivery of a pending signal (POSIX.1-2017, XSH, Signal Generation and Delivery).
 ghost use Rattle.std.specs.Prelude.{◌≡◌, ◌≢◌, ◌<◌, false, [], if◌then◌else◌, IfOk, IfErr, OnOk, OnErr};
 ghost use Rattle.tx_base.specs.declared.steps.Reply.TheVariants as reply;
-ghost use Rattle.tx_kernel.specs.Actors.{IsActor, effect_by, inside_of, me_of};
+ghost use Rattle.tx_kernel.specs.Actors.{IsActor, effect_by, inside_of, me_of, names_by};
 ghost use Rattle.tx_kernel.specs.Own.{PlansOwn, PlansPart};
 ghost use Rattle.tx_kernel.specs.Plans.{Extends, Plans, RefusedBy};
-ghost use Rattle.tx_model.specs.Deliveries.{action_at, caught, is_deferred, relieved, delivery_effect, delivery_objects, is_fatal, is_full, acts_on};
-ghost use Rattle.tx_model.specs.Forms.{stands};
+ghost use Rattle.tx_model.specs.Deliveries.{action_at, at_catch_point, is_deferred, without_delivered, reaction, delivery, delivery_page};
+ghost use Rattle.tx_model.specs.Words.{delivery_effect, delivery_objects, is_fatal, is_full};
+ghost use Rattle.tx_model.specs.Forms.{stands, caller, effect_of};
 ghost use Rattle.tx_model.specs.Processes.{ending_objects};
 ghost use Rattle.tx_model.specs.Signals.{disposition};
 
@@ -44,8 +45,8 @@ impl Actor<'_> {
         log: &mut Log,
     ) -> Result<Planned, Refusal>
         requires { IsActor self.now }
-        ensures ok { IfOk result (λ planned. Plans self.now log.old log.new planned (λ S. delivery_effect (inside_of self.now.inside) self.now.pid.0 signo.0 (me_of self.now) S) (λ S. delivery_objects (inside_of self.now.inside) self.now.pid.0 signo.0 (me_of self.now) S)) }
-        ensures refused { IfErr result (λ why. RefusedBy self.now why (λ S. delivery_effect (inside_of self.now.inside) self.now.pid.0 signo.0 (me_of self.now) S)) }
+        ensures ok { IfOk result (λ planned. Plans self.now log.old log.new planned (effect_by self.now (delivery signo.0)) (names_by self.now (delivery_page signo.0).names)) }
+        ensures refused { IfErr result (λ why. RefusedBy self.now why (effect_by self.now (delivery signo.0))) }
         ensures log { OnErr result (Extends log.old log.new) }
     {
         let Some(value) = self.proc.pending.delivered(signo, self.proc.mask) else {
@@ -78,10 +79,12 @@ impl Actor<'_> {
         requires actor { IsActor self.now }
         requires other { self.now.pid.0 ≢ 1 }
         ensures ok { IfOk result (λ planned. Plans self.now log.old log.new planned
-            (λ S. acts_on (inside_of self.now.inside) self.now.pid.0 signo.0 value (disposition signo.0 (action_at signo.0 (me_of self.now))) (relieved signo.0 (me_of self.now)) S)
-            (λ S. if is_fatal signo.0 (action_at signo.0 (me_of self.now)) then ending_objects (inside_of self.now.inside) self.now.pid.0 (me_of self.now) S else [])) }
+            (effect_by self.now (λ c. reaction signo.0 value (disposition signo.0 (action_at signo.0 c.process))
+            (record c { process = without_delivered signo.0 c.process })))
+            (names_by self.now (λ c. if is_fatal signo.0 (action_at signo.0 c.process) then ending_objects c else []))) }
         ensures refused { IfErr result (λ why. RefusedBy self.now why
-            (λ S. acts_on (inside_of self.now.inside) self.now.pid.0 signo.0 value (disposition signo.0 (action_at signo.0 (me_of self.now))) (relieved signo.0 (me_of self.now)) S)) }
+            (effect_by self.now (λ c. reaction signo.0 value (disposition signo.0 (action_at signo.0 c.process))
+            (record c { process = without_delivered signo.0 c.process })))) }
         ensures log { OnErr result (Extends log.old log.new) }
     {
         laws();
@@ -105,7 +108,7 @@ impl Actor<'_> {
     fn plan_ignored(&self, signo: Signo, log: &mut Log) -> Result<Outcome, NoMemory>
         ensures ok { IfOk result (λ outcome. PlansOwn self.now log.old log.new outcome
             (effect_by self.now (λ c. stands
-            (relieved signo.0 c.process) (reply.Done c.process.registers.ret)))) }
+            (without_delivered signo.0 c.process) (reply.Done c.process.registers.ret)))) }
         ensures err { OnErr result (log.new ≡ log.old) }
     {
         self.push_relieved(signo, log)?;
@@ -125,7 +128,7 @@ impl Actor<'_> {
         requires room { is_full (me_of self.now) ≡ false }
         ensures ok { IfOk result (λ outcome. PlansOwn self.now log.old log.new outcome
             (effect_by self.now (λ c. stands
-            (caught signo.0 catch.value catch.point catch.mask (relieved signo.0 c.process)) (reply.Done catch.value)))) }
+            (at_catch_point signo.0 catch.value catch.point catch.mask (without_delivered signo.0 c.process)) (reply.Done catch.value)))) }
         ensures err { OnErr result (Extends log.old log.new) }
     {
         let Catch { point, mask, value } = catch;
@@ -145,7 +148,7 @@ impl Actor<'_> {
     /// Appends the exchange that takes the signal out of what is pending: of a realtime one the
     /// first entry.
     fn push_relieved(&self, signo: Signo, log: &mut Log) -> Result<(), NoMemory>
-        ensures ok { OnOk result (PlansPart self.now log.old log.new (relieved signo.0)) }
+        ensures ok { OnOk result (PlansPart self.now log.old log.new (without_delivered signo.0)) }
         ensures err { OnErr result (log.new ≡ log.old) }
     {
         if !is_realtime(signo) {

@@ -8,7 +8,8 @@ ghost use Rattle.tx_kernel.specs.Named.{described_by, endless_changes, gone_of, 
 ghost use Rattle.tx_kernel.specs.Plans.{Plans, RefusedBy, IsBadChoice, IsGoodChoice, Extends};
 ghost use Rattle.tx_model.specs.Answer.{ChoosesPipe, is_bad_choice};
 ghost use Rattle.tx_model.specs.Book.{pipe as pipe_rule, dup, dup2, close, set_nonblock, desc_of, desc_and_pipe_of};
-ghost use Rattle.tx_model.specs.Descriptors.{descriptor, is_pipe_in_use, dup2_objects, pipe_objects};
+ghost use Rattle.tx_model.specs.Descriptors.{descriptor, is_pipe_in_use};
+ghost use Rattle.tx_model.specs.Words.{dup2_objects, pipe_objects};
 ghost use Rattle.tx_model.specs.State.{Sending};
 
 use crate::actor::Actor;

@@ -2,12 +2,13 @@
 ghost use Rattle.std.specs.Prelude.{◌≡◌, ◌≢◌, ◌≤◌, ◌+◌, ◌++◌, length, slice_index_or, None, IfOk, IfErr, OnOk, OnErr};
 ghost use Rattle.tx_base.specs.declared.steps.Refusal.TheVariants as refusal;
 ghost use Rattle.tx_desc.specs.Plans.{AreNumbers};
-ghost use Rattle.tx_kernel.specs.Actors.{IsActor, inside_of, me_of};
+ghost use Rattle.tx_kernel.specs.Actors.{IsActor, inside_of, me_of, effect_by, names_by};
 ghost use Rattle.tx_kernel.specs.Endings.{child_at, gone_changes, gone_at, orphan_changes, pipe_through, plain, plain_with};
 ghost use Rattle.tx_kernel.specs.Plans.{Extends, Plans, held_after, sent_at_once};
 ghost use Rattle.tx_model.specs.Descriptors.{open_in, pipes_of};
-ghost use Rattle.tx_model.specs.Processes.{children_below, ending, ending_objects, telling, told_at_once, told_at_commit};
-ghost use Rattle.tx_model.specs.State.{State, written};
+ghost use Rattle.tx_model.specs.Processes.{children_below, ending, ending_objects, parent_notice, notice_now, notice_held};
+ghost use Rattle.tx_model.specs.State.{State, with_writes};
+ghost use Rattle.tx_model.specs.Forms.{caller, does};
 
 use crate::actor::Actor;
 use crate::laws::laws;
@@ -32,7 +33,7 @@ impl Actor<'_> {
     ) -> Result<Planned, Refusal>
         requires actor { IsActor self.now }
         requires other { self.now.pid.0 ≢ 1 }
-        ensures ok { IfOk result (λ planned. Plans self.now log.old log.new planned (λ S. ending (inside_of self.now.inside) self.now.pid.0 status (me_of self.now) S) (λ S. ending_objects (inside_of self.now.inside) self.now.pid.0 (me_of self.now) S)) }
+        ensures ok { IfOk result (λ planned. Plans self.now log.old log.new planned (effect_by self.now (λ c. does (ending status c))) (names_by self.now ending_objects)) }
         ensures refused { IfErr result (λ why. why ≡ refusal.NoMemory) }
         ensures log { OnErr result (Extends log.old log.new) }
     {
@@ -123,8 +124,8 @@ impl Actor<'_> {
     /// What the end of the process sends: SIGCHLD to its parent, unless that is process 1. A parent
     /// that is no member of the transaction is told when that commits. Own rule.
     pub(crate) fn tells_parent(&self) -> Sends
-        ensures at_once { told_at_once (telling (inside_of self.now.inside) self.now.proc.now.parent.0) self.now.proc.now.parent.0 ≡ sent_at_once result }
-        ensures at_commit { (S : State) → written (told_at_commit (telling (inside_of self.now.inside) self.now.proc.now.parent.0) self.now.proc.now.parent.0 S) S
+        ensures at_once { notice_now (parent_notice (inside_of self.now.inside) self.now.proc.now.parent.0) self.now.proc.now.parent.0 ≡ sent_at_once result }
+        ensures at_commit { (S : State) → with_writes (notice_held (parent_notice (inside_of self.now.inside) self.now.proc.now.parent.0) self.now.proc.now.parent.0 S) S
             ≡ record S { held = held_after (inside_of self.now.inside) result S.held } }
     {
         let parent = self.proc.parent;

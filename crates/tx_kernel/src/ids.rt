@@ -21,7 +21,7 @@ impl Actor<'_> {
             (effect_by self.now (λ c. answers (pos c.number)))) }
         ensures err { OnErr result (log.new ≡ log.old) }
     {
-        self.plan_answer(self.pid.0 as i64, log)
+        self.plan_natural(self.pid.0, log)
     }
 
     /// Answers the number of the parent, 0 for process 1 (POSIX.1-2017, XSH, getppid()).
@@ -30,7 +30,7 @@ impl Actor<'_> {
             (effect_by self.now (λ c. answers (pos c.process.parent)))) }
         ensures err { OnErr result (log.new ≡ log.old) }
     {
-        self.plan_answer(self.proc.parent.0 as i64, log)
+        self.plan_natural(self.proc.parent.0, log)
     }
 
     /// Sets the user's ids (POSIX.1-2017, XSH, setuid()).
@@ -83,6 +83,15 @@ impl Actor<'_> {
             Ok(()) => self.plan_ids(cred, log),
             Err(errno) => self.plan_error(errno, log),
         }
+    }
+
+    /// Plans a number that is not negative as the answer, and nothing else.
+    fn plan_natural(&self, number: u16, log: &mut Log) -> Result<Outcome, NoMemory>
+        ensures ok { IfOk result (λ outcome. PlansOwn self.now log.old log.new outcome
+            (effect_by self.now (λ c. answers (pos number)))) }
+        ensures err { OnErr result (log.new ≡ log.old) }
+    {
+        self.plan_answer(number as i64, log)
     }
 
     /// Plans these ids, and to answer 0.

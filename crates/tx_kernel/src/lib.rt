@@ -19,7 +19,7 @@ mod outgoing;
 mod planned;
 mod posts;
 mod refusals;
-mod script;
+mod registers;
 mod sends;
 mod signals;
 mod steps;

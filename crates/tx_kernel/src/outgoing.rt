@@ -3,8 +3,8 @@ ghost use Rattle.std.specs.Prelude.{◌≡◌, ℤ};
 ghost use Rattle.tx_kernel.specs.Actors.{IsActor, effect_by, inside_of, me_of};
 ghost use Rattle.tx_kernel.specs.Sends.{IsSentBy};
 ghost use Rattle.tx_model.specs.Book.{exit};
-ghost use Rattle.tx_model.specs.Calls.{call_effect};
-ghost use Rattle.tx_model.specs.Deliveries.{delivered_value, delivery_effect, ends_by, is_fatal};
+ghost use Rattle.tx_model.specs.Words.{call_effect, delivery_effect, is_fatal};
+ghost use Rattle.tx_model.specs.Deliveries.{delivered_value, ends_by, delivery};
 
 use crate::actor::Actor;
 use crate::planned::Sends;
@@ -42,7 +42,7 @@ impl Actor<'_> {
     /// The signal that a delivery sends: where it ends the process, its parent is told.
     pub fn sends_of_delivery(&self, signo: Signo) -> Sends
         requires { IsActor self.now }
-        ensures { IsSentBy self.now result (λ S. delivery_effect (inside_of self.now.inside) self.now.pid.0 signo.0 (me_of self.now) S) }
+        ensures { IsSentBy self.now result (effect_by self.now (delivery signo.0)) }
     {
         if !self.is_ended_by(signo) {
             return Sends::Nothing;

@@ -9,7 +9,7 @@ ghost use Rattle.tx_change.specs.Exchange.{AreNamed, undone};
 ghost use Rattle.tx_change.specs.Laws.{HaveAllPlaces};
 ghost use Rattle.tx_change.specs.States.{state_of};
 ghost use Rattle.tx_laws.specs.WellFormed.{IsSendable};
-ghost use Rattle.tx_model.specs.Posts.{is_quiet, is_realtime, may_signal, post, post_answer, received, with_signal};
+ghost use Rattle.tx_model.specs.Posts.{is_quiet, is_realtime, may_signal, after_post, post_answer, target_after, with_signal};
 ghost use Rattle.tx_base.specs.declared.limits.TheConstants.{QUEUED};
 ghost use Rattle.tx_model.specs.State.{Proc as TheProc, Process, Sending as TheSending};
 ghost use Rattle.tx_cred.specs.Cred.{ids_of};
@@ -105,7 +105,7 @@ pub struct Posted {
 pub fn post(parts: &mut Parts, sending: &Sending) -> Posted
     requires { sending.now.signo.0 < 64 }
     ensures answer { (held : ℕ → List TheSending) → answer_of result.answer ≡ post_answer (sending_of sending.now) ((state_of held parts.old).procs sending.now.target.0) }
-    ensures state { (held : ℕ → List TheSending) → state_of held parts.new ≡ post (sending_of sending.now) (state_of held parts.old) }
+    ensures state { (held : ℕ → List TheSending) → state_of held parts.new ≡ after_post (sending_of sending.now) (state_of held parts.old) }
     ensures back { undone parts.new (listed_change result.change) ≡ parts.old }
     ensures named { AreNamed parts.new (listed_change result.change) }
     ensures among { AreAmong (TheProc sending.now.target.0 ∷ []) (listed_change result.change) }
@@ -154,7 +154,7 @@ pub fn plan_post(proc: &Proc, sending: &Sending) -> Result<Option<Part>, Errno>
     requires { sending.now.signo.0 < 64 }
     ensures answer { answer_of (without_part result) ≡ post_answer (sending_of sending.now) (Some (process_of proc.now)) }
     ensures pending { IfOk result IsOfPending }
-    ensures after { (me : Process) → received (sending_of sending.now) (Some (seen_as proc.now me)) ≡ Some (posted result (seen_as proc.now me)) }
+    ensures after { (me : Process) → target_after (sending_of sending.now) (Some (seen_as proc.now me)) ≡ Some (posted result (seen_as proc.now me)) }
 {
     let face = Face::of(proc);
     if let Err(errno) = face.answer(sending) {

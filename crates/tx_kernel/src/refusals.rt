@@ -3,10 +3,10 @@ ghost use Rattle.std.specs.Prelude.{◌≡◌, ◌≢◌, ℕ, List, false, leng
 ghost use Rattle.tx_change.specs.States.{state_of};
 ghost use Rattle.tx_kernel.specs.Actors.{CountsHeld, IsActor, effect_by, inside_of, me_of};
 ghost use Rattle.tx_kernel.specs.Refusals.{IsMade, TellsWait, lacks_frame, number_refusal};
-ghost use Rattle.tx_model.specs.Answer.{chosen_in, is_bad_choice, is_choice_in_use};
-ghost use Rattle.tx_model.specs.Calls.{call_effect};
+ghost use Rattle.tx_model.specs.Answer.{is_bad_choice, is_choice_in_use};
+ghost use Rattle.tx_model.specs.Words.{chosen_in, call_effect, delivery_effect};
 ghost use Rattle.tx_model.specs.Book.{read, waitpid, write};
-ghost use Rattle.tx_model.specs.Deliveries.{action_at, delivery_effect};
+ghost use Rattle.tx_model.specs.Deliveries.{action_at, delivery};
 ghost use Rattle.tx_model.specs.Effects.{idle};
 ghost use Rattle.tx_model.specs.Signals.{disposition};
 ghost use Rattle.tx_model.specs.State.{Sending as TheSending};
@@ -63,9 +63,9 @@ impl Actor<'_> {
     pub fn refusal_of_delivery(&self, signo: Signo) -> Option<Refusal>
         requires { IsActor self.now }
         ensures refused { IfSome result (λ why. (held : ℕ → List TheSending) → CountsHeld self.now.inside held →
-            delivery_effect (inside_of self.now.inside) self.now.pid.0 signo.0 (me_of self.now) (state_of held self.now.parts.now) ≡ idle why) }
+            effect_by self.now (delivery signo.0) (state_of held self.now.parts.now) ≡ idle why) }
         ensures accepted { IfNone result ((held : ℕ → List TheSending) → CountsHeld self.now.inside held →
-            IsMade (delivery_effect (inside_of self.now.inside) self.now.pid.0 signo.0 (me_of self.now) (state_of held self.now.parts.now))) }
+            IsMade (effect_by self.now (delivery signo.0) (state_of held self.now.parts.now))) }
         ensures memory { IfSome result (λ why. why ≢ Refusal.NoMemory) }
     {
         let Some(_value) = self.proc.pending.delivered(signo, self.proc.mask) else {

@@ -7,7 +7,8 @@ ghost use Rattle.tx_kernel.specs.Plans.{Extends};
 ghost use Rattle.tx_kernel.specs.Returns.{with_slots};
 ghost use Rattle.tx_model.specs.Book.{sigaction, sigpending, sigprocmask, sigreturn};
 ghost use Rattle.tx_model.specs.Forms.{changes};
-ghost use Rattle.tx_model.specs.Signals.{discarded, queued_others, with_action, is_ignored};
+ghost use Rattle.tx_model.specs.Signals.{without_signal, queued_others, with_action};
+ghost use Rattle.tx_model.specs.Words.{is_ignored};
 
 use crate::actor::Actor;
 use crate::planned::Outcome;
@@ -47,7 +48,7 @@ impl Actor<'_> {
     fn plan_action(&self, signo: Signo, action: Action, log: &mut Log) -> Result<Outcome, NoMemory>
         ensures ok { IfOk result (λ outcome. PlansOwn self.now log.old log.new outcome
             (effect_by self.now (λ c. changes (pos 0)
-            (with_action signo.0 action (if is_ignored signo.0 action then discarded signo.0 c.process else c.process)) []))) }
+            (with_action signo.0 action (if is_ignored signo.0 action then without_signal signo.0 c.process else c.process)) []))) }
         ensures err { OnErr result (Extends log.old log.new) }
     {
         self.push_ignored(signo, action, log)?;
@@ -58,7 +59,7 @@ impl Actor<'_> {
 
     /// Appends the exchanges that discard the signal, where it is ignored.
     fn push_ignored(&self, signo: Signo, action: Action, log: &mut Log) -> Result<(), NoMemory>
-        ensures ok { OnOk result (PlansPart self.now log.old log.new (λ me. if is_ignored signo.0 action then discarded signo.0 me else me)) }
+        ensures ok { OnOk result (PlansPart self.now log.old log.new (λ me. if is_ignored signo.0 action then without_signal signo.0 me else me)) }
         ensures err { OnErr result (Extends log.old log.new) }
     {
         if is_ignored(signo, action) {
@@ -69,7 +70,7 @@ impl Actor<'_> {
 
     /// Appends the exchanges that discard every pending occurrence of the signal.
     fn push_discarded(&self, signo: Signo, log: &mut Log) -> Result<(), NoMemory>
-        ensures ok { OnOk result (PlansPart self.now log.old log.new (discarded signo.0)) }
+        ensures ok { OnOk result (PlansPart self.now log.old log.new (without_signal signo.0)) }
         ensures err { OnErr result (Extends log.old log.new) }
     {
         self.push_taken_out(signo, log)?;

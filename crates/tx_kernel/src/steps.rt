@@ -6,7 +6,8 @@ ghost use Rattle.tx_kernel.specs.Actors.{CountsHeld, IsActor};
 ghost use Rattle.tx_kernel.specs.Plans.{Extends, HasSignal, Plans, sending_of};
 ghost use Rattle.tx_kernel.specs.Posts.{PlansPost};
 ghost use Rattle.tx_kernel.specs.Steps.{PlansStep};
-ghost use Rattle.tx_model.specs.Effects.{Effect, before_sends};
+ghost use Rattle.tx_model.specs.Effects.{Effect};
+ghost use Rattle.tx_model.specs.Words.{before_sends};
 ghost use Rattle.tx_model.specs.State.{Object, Sending as TheSending, State};
 
 use crate::actor::Actor;

@@ -11,9 +11,9 @@ ghost use Rattle.tx_kernel.specs.Piped.{AsksFor, CanPut, CanTake, IsPutting, IsR
 ghost use Rattle.tx_kernel.specs.Plans.{Plans, RefusedBy, Extends};
 ghost use Rattle.tx_kernel.specs.Sends.{IsSentBy};
 ghost use Rattle.tx_model.specs.Book.{desc_and_pipe_of, end_at as end_in, read, write, is_read_side, is_write_side};
-ghost use Rattle.tx_model.specs.Descriptors.{descriptor, named};
+ghost use Rattle.tx_model.specs.Descriptors.{descriptor, description_named};
 ghost use Rattle.tx_model.specs.Memory.{address_of, bytes_at, is_good, is_mapped};
-ghost use Rattle.tx_model.specs.Numbers.{failing};
+ghost use Rattle.tx_model.specs.Numbers.{error_answer};
 ghost use Rattle.tx_model.specs.State.{Sending as TheSending};
 ghost use Rattle.tx_proc.specs.declared.part.Part.TheVariants.{Answer as SetAnswer};
 
@@ -124,7 +124,7 @@ impl Actor<'_> {
         requires { IsActor self.now }
         ensures effect { (held : ℕ → List TheSending) →
             read fd address count (calling self.now held) ≡ reading_outcome address result (calling self.now held) }
-        ensures ready { IfOk result (λ reading. TakesFrom self.now (named (me_of self.now) (descriptor fd)) reading) }
+        ensures ready { IfOk result (λ reading. TakesFrom self.now (description_named (me_of self.now) (descriptor fd)) reading) }
     {
         let desc = self.open_end(fd, Side::Read)?;
         self.reading_from(desc, address, count)
@@ -236,7 +236,7 @@ impl Actor<'_> {
     /// Appends the answer of a write that no reader is left for, and says what it comes to. After want
     /// of memory the log is as it was.
     fn push_broken(&self, log: &mut Log) -> Result<Planned, NoMemory>
-        ensures ok { IfOk result (λ planned. (log.new ≡ log.old ++ SetPart self.now.pid (SetAnswer (answer_after (failing BrokenPipe) self.now)) ∷ [])
+        ensures ok { IfOk result (λ planned. (log.new ≡ log.old ++ SetPart self.now.pid (SetAnswer (answer_after (error_answer BrokenPipe) self.now)) ∷ [])
             × (planned ≡ broken self.now)) }
         ensures err { OnErr result (log.new ≡ log.old) }
     {
@@ -295,7 +295,7 @@ impl Actor<'_> {
         requires { IsActor self.now }
         ensures effect { (held : ℕ → List TheSending) →
             write fd address count (calling self.now held) ≡ writing_outcome address result (calling self.now held) }
-        ensures ready { IfOk result (λ writing. PutsTo self.now (named (me_of self.now) (descriptor fd)) address writing) }
+        ensures ready { IfOk result (λ writing. PutsTo self.now (description_named (me_of self.now) (descriptor fd)) address writing) }
     {
         let desc = self.open_end(fd, Side::Write)?;
         self.writing_to(desc, address, count)
@@ -341,7 +341,7 @@ impl Actor<'_> {
     ///
     /// BadDescriptor where the descriptor is not 0 to 15, is not open, or is not of this side.
     fn open_end(&self, fd: i64, side: Side) -> Result<Desc, Errno>
-        ensures { result ≡ end_at side (opened_at self.now.parts.now.descs (named (me_of self.now) (descriptor fd))) }
+        ensures { result ≡ end_at side (opened_at self.now.parts.now.descs (description_named (me_of self.now) (descriptor fd))) }
     {
         let d = self.proc.descriptors.look(fd)?;
         match self.parts.descs.get(d) {

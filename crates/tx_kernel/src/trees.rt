@@ -9,8 +9,9 @@ ghost use Rattle.tx_kernel.specs.Plans.{Plans, Extends, IsBadChoice, IsGoodChoic
 ghost use Rattle.tx_kernel.specs.Trees.{child_at, IsEndedChild};
 ghost use Rattle.tx_model.specs.Answer.{ChoosesProcess, is_bad_choice};
 ghost use Rattle.tx_model.specs.Book.{exit, fork, waitpid};
-ghost use Rattle.tx_model.specs.Forms.{changes};
-ghost use Rattle.tx_model.specs.Processes.{child_of, exit_status, numbered, exit_objects, fork_objects, waitpid_objects, with_status};
+ghost use Rattle.tx_model.specs.Forms.{changes, caller};
+ghost use Rattle.tx_model.specs.Processes.{child_of, exit_status, pid_of};
+ghost use Rattle.tx_model.specs.Words.{exit_objects, fork_objects, waitpid_objects, with_status};
 ghost use Rattle.tx_model.specs.State.{Proc as TheProc, SetProc};
 
 use crate::actor::Actor;
@@ -102,7 +103,7 @@ impl Actor<'_> {
         requires { IsActor self.now }
         ensures ok { IfOk result (λ planned. Plans self.now log.old log.new planned
             (effect_by self.now (exit status))
-            (names_by self.now (λ c. exit_objects c.inside c.number c.process c.state))) }
+            (names_by self.now exit_objects)) }
         ensures refused { IfErr result (λ why.
             RefusedBy self.now why (effect_by self.now (exit status))) }
         ensures log { OnErr result (Extends log.old log.new) }
@@ -145,7 +146,7 @@ impl Actor<'_> {
     /// The process number that a program computed; nothing where it is not 1 to the width.
     pub fn numbered(&self, number: i64) -> Option<Pid>
         requires { length self.now.parts.now.procs ≤ 256 }
-        ensures { option_map (λ pid. pid.0) result ≡ numbered (length self.now.parts.now.procs) number }
+        ensures { option_map (λ pid. pid.0) result ≡ pid_of (length self.now.parts.now.procs) number }
     {
         let width = self.parts.procs.width();
         if number < 1 || number > width as i64 {
@@ -157,7 +158,7 @@ impl Actor<'_> {
     /// The child of a number that a program computed; nothing where the number is none of a child.
     pub(crate) fn child(&self, number: i64) -> Option<Child>
         requires { length self.now.parts.now.procs ≤ 256 }
-        ensures { result ≡ child_at self.now.pid.0 self.now.parts.now.procs (numbered (length self.now.parts.now.procs) number) }
+        ensures { result ≡ child_at self.now.pid.0 self.now.parts.now.procs (pid_of (length self.now.parts.now.procs) number) }
     {
         let pid = self.numbered(number)?;
         let child = self.parts.procs.get(pid)?;

@@ -1,9 +1,10 @@
 -- States that agree at an object agree there after the same writes, posts and conclusion.
 use Rattle.std.proofs.Common.{◌≡◌, ℕ, Bool, true, false, List, [], ◌∷◌, ℤ, Option, Some, None, if◌then◌else◌, ◌==◌, refl, sym, ap, ◌∙◌, subst, eqb-true}
-use Rattle.tx_model.specs.State.{Process, State, Sending, Object, Proc, Desc, Pipe, Held, Write, SetProc, SetDesc, SetPipe, SetHeld, put_at, write_one, written, has_parent, names_at, side_in}
+use Rattle.tx_model.specs.State.{Process, State, Sending, Object, Proc, Desc, Pipe, Held, Write, SetProc, SetDesc, SetPipe, SetHeld, put_at, write_one, with_writes, has_parent, names_at, side_in}
 use Rattle.tx_model.specs.StateLaws.{AgreePart, AgreeFamily, AgreeAt}
-use Rattle.tx_model.specs.Posts.{is_realtime, has_room, may_signal, is_quiet, with_queued, with_pending, with_signal, received, post, posts}
-use Rattle.tx_model.specs.Effects.{Conclusion, Replies, AnswersPost, ListsFailed, Effect, noted_if, first_answer, concluded, applied}
+use Rattle.tx_model.specs.Posts.{is_realtime, has_room, may_signal, is_quiet, with_signal, target_after, after_post, after_posts}
+use Rattle.tx_model.specs.Words.{with_queued, with_pending}
+use Rattle.tx_model.specs.Effects.{Conclusion, Replies, AnswersPost, ListsFailed, Effect, with_answer_if, first_answer, after_conclusion, after_effect}
 
 pub part_refl : (S : State) (o : Object) → AgreePart S S o
 part_refl S (Proc n) = refl
@@ -103,23 +104,23 @@ write_width (SetDesc p x) S = refl
 write_width (SetPipe p x) S = refl
 write_width (SetHeld p x) S = refl
 
-pub written_part : (ws : List Write) (S R : State) (o : Object) → AgreePart S R o → AgreePart (written ws S) (written ws R) o
-unfolding written
+pub written_part : (ws : List Write) (S R : State) (o : Object) → AgreePart S R o → AgreePart (with_writes ws S) (with_writes ws R) o
+unfolding with_writes
 written_part [] S R o h = h
 written_part (w ∷ ws) S R o h = written_part ws (write_one w S) (write_one w R) o (write_part w S R o h)
 
-written_family : (ws : List Write) (S R : State) (o : Object) → AgreeFamily S R o → AgreeFamily (written ws S) (written ws R) o
-unfolding written
+written_family : (ws : List Write) (S R : State) (o : Object) → AgreeFamily S R o → AgreeFamily (with_writes ws S) (with_writes ws R) o
+unfolding with_writes
 written_family [] S R o h = h
 written_family (w ∷ ws) S R o h = written_family ws (write_one w S) (write_one w R) o (write_family w S R o h)
 
-pub written_width : (ws : List Write) (S : State) → (written ws S).width ≡ S.width
-unfolding written
+pub written_width : (ws : List Write) (S : State) → (with_writes ws S).width ≡ S.width
+unfolding with_writes
 written_width [] S = refl
 written_width (w ∷ ws) S = written_width ws (write_one w S) ∙ write_width w S
 
 -- where two states agree, they agree after the same writes
-pub written_keeps : (ws : List Write) (S R : State) (o : Object) → AgreeAt S R o → AgreeAt (written ws S) (written ws R) o
+pub written_keeps : (ws : List Write) (S R : State) (o : Object) → AgreeAt S R o → AgreeAt (with_writes ws S) (with_writes ws R) o
 written_keeps ws S R o h = record { width = written_width ws S ∙ h.width ∙ sym (written_width ws R); part = written_part ws S R o h.part; family = written_family ws S R o h.family }
 
 -- an edit of a process in place changes no family
@@ -168,75 +169,75 @@ received_same view m q h k =
     (chosen view q (is_realtime m.signo) (if has_room q then with_queued m q else q) (with_pending m.signo q)
     (chosen view q (has_room q) (with_queued m q) q h refl) k)) refl
 
-pub received_keeps : (m : Sending) → KeepsFamily (received m)
+pub received_keeps : (m : Sending) → KeepsFamily (target_after m)
 received_keeps m = record { parent = parent; names = names }
   where
-    parent : (n : ℕ) (x : Option Process) → has_parent n (received m x) ≡ has_parent n x
+    parent : (n : ℕ) (x : Option Process) → has_parent n (target_after m x) ≡ has_parent n x
     parent n None = refl
     parent n (Some q) = received_same (λ (p : Process). has_parent n (Some p)) m q refl refl
 
-    names : (d f : ℕ) (x : Option Process) → names_at d f (received m x) ≡ names_at d f x
+    names : (d f : ℕ) (x : Option Process) → names_at d f (target_after m x) ≡ names_at d f x
     names d f None = refl
     names d f (Some q) = received_same (λ (p : Process). names_at d f (Some p)) m q refl refl
 
-pub noted_keeps : (r : ℤ) → KeepsFamily (noted_if r)
+pub noted_keeps : (r : ℤ) → KeepsFamily (with_answer_if r)
 noted_keeps r = record { parent = parent; names = names }
   where
-    parent : (n : ℕ) (x : Option Process) → has_parent n (noted_if r x) ≡ has_parent n x
+    parent : (n : ℕ) (x : Option Process) → has_parent n (with_answer_if r x) ≡ has_parent n x
     parent n None = refl
     parent n (Some q) = refl
 
-    names : (d f : ℕ) (x : Option Process) → names_at d f (noted_if r x) ≡ names_at d f x
+    names : (d f : ℕ) (x : Option Process) → names_at d f (with_answer_if r x) ≡ names_at d f x
     names d f None = refl
     names d f (Some q) = refl
 
-pub post_part : (m : Sending) (S R : State) (o : Object) → AgreePart S R o → AgreePart (post m S) (post m R) o
-post_part m S R o h = edit_part (received m) m.target S R o h
+pub post_part : (m : Sending) (S R : State) (o : Object) → AgreePart S R o → AgreePart (after_post m S) (after_post m R) o
+post_part m S R o h = edit_part (target_after m) m.target S R o h
 
-pub posts_part : (ms : List Sending) (S R : State) (o : Object) → AgreePart S R o → AgreePart (posts ms S) (posts ms R) o
-unfolding posts
+pub posts_part : (ms : List Sending) (S R : State) (o : Object) → AgreePart S R o → AgreePart (after_posts ms S) (after_posts ms R) o
+unfolding after_posts
 posts_part [] S R o h = h
-posts_part (m ∷ ms) S R o h = posts_part ms (post m S) (post m R) o (post_part m S R o h)
+posts_part (m ∷ ms) S R o h = posts_part ms (after_post m S) (after_post m R) o (post_part m S R o h)
 
-posts_family : (ms : List Sending) (S R : State) (o : Object) → AgreeFamily S R o → AgreeFamily (posts ms S) (posts ms R) o
-unfolding posts
+posts_family : (ms : List Sending) (S R : State) (o : Object) → AgreeFamily S R o → AgreeFamily (after_posts ms S) (after_posts ms R) o
+unfolding after_posts
 posts_family [] S R o h = h
-posts_family (m ∷ ms) S R o h = posts_family ms (post m S) (post m R) o (edit_family (received m) (received_keeps m) m.target S R o h)
+posts_family (m ∷ ms) S R o h = posts_family ms (after_post m S) (after_post m R) o (edit_family (target_after m) (received_keeps m) m.target S R o h)
 
-posts_width : (ms : List Sending) (S : State) → (posts ms S).width ≡ S.width
-unfolding posts
+posts_width : (ms : List Sending) (S : State) → (after_posts ms S).width ≡ S.width
+unfolding after_posts
 posts_width [] S = refl
-posts_width (m ∷ ms) S = posts_width ms (post m S)
+posts_width (m ∷ ms) S = posts_width ms (after_post m S)
 
-concluded_part : (c : Conclusion) (rs : List ℤ) (S R : State) (o : Object) → AgreePart S R o → AgreePart (concluded c rs S) (concluded c rs R) o
+concluded_part : (c : Conclusion) (rs : List ℤ) (S R : State) (o : Object) → AgreePart S R o → AgreePart (after_conclusion c rs S) (after_conclusion c rs R) o
 concluded_part (Replies r) rs S R o h = h
-concluded_part (AnswersPost p) rs S R o h = edit_part (noted_if (first_answer rs)) p S R o h
+concluded_part (AnswersPost p) rs S R o h = edit_part (with_answer_if (first_answer rs)) p S R o h
 concluded_part ListsFailed rs S R o h = h
 
-concluded_family : (c : Conclusion) (rs : List ℤ) (S R : State) (o : Object) → AgreeFamily S R o → AgreeFamily (concluded c rs S) (concluded c rs R) o
+concluded_family : (c : Conclusion) (rs : List ℤ) (S R : State) (o : Object) → AgreeFamily S R o → AgreeFamily (after_conclusion c rs S) (after_conclusion c rs R) o
 concluded_family (Replies r) rs S R o h = h
-concluded_family (AnswersPost p) rs S R o h = edit_family (noted_if (first_answer rs)) (noted_keeps (first_answer rs)) p S R o h
+concluded_family (AnswersPost p) rs S R o h = edit_family (with_answer_if (first_answer rs)) (noted_keeps (first_answer rs)) p S R o h
 concluded_family ListsFailed rs S R o h = h
 
-concluded_width : (c : Conclusion) (rs : List ℤ) (S : State) → (concluded c rs S).width ≡ S.width
+concluded_width : (c : Conclusion) (rs : List ℤ) (S : State) → (after_conclusion c rs S).width ≡ S.width
 concluded_width (Replies r) rs S = refl
 concluded_width (AnswersPost p) rs S = refl
 concluded_width ListsFailed rs S = refl
 
-pub applied_part : (f : Effect) (rs : List ℤ) (S R : State) (o : Object) → AgreePart S R o → AgreePart (applied f rs S) (applied f rs R) o
+pub applied_part : (f : Effect) (rs : List ℤ) (S R : State) (o : Object) → AgreePart S R o → AgreePart (after_effect f rs S) (after_effect f rs R) o
 applied_part f rs S R o h =
-    concluded_part f.conclusion rs (posts f.sends (written f.writes S)) (posts f.sends (written f.writes R)) o
-    (posts_part f.sends (written f.writes S) (written f.writes R) o (written_part f.writes S R o h))
+    concluded_part f.conclusion rs (after_posts f.sends (with_writes f.writes S)) (after_posts f.sends (with_writes f.writes R)) o
+    (posts_part f.sends (with_writes f.writes S) (with_writes f.writes R) o (written_part f.writes S R o h))
 
-applied_family : (f : Effect) (rs : List ℤ) (S R : State) (o : Object) → AgreeFamily S R o → AgreeFamily (applied f rs S) (applied f rs R) o
+applied_family : (f : Effect) (rs : List ℤ) (S R : State) (o : Object) → AgreeFamily S R o → AgreeFamily (after_effect f rs S) (after_effect f rs R) o
 applied_family f rs S R o h =
-    concluded_family f.conclusion rs (posts f.sends (written f.writes S)) (posts f.sends (written f.writes R)) o
-    (posts_family f.sends (written f.writes S) (written f.writes R) o (written_family f.writes S R o h))
+    concluded_family f.conclusion rs (after_posts f.sends (with_writes f.writes S)) (after_posts f.sends (with_writes f.writes R)) o
+    (posts_family f.sends (with_writes f.writes S) (with_writes f.writes R) o (written_family f.writes S R o h))
 
-pub applied_width : (f : Effect) (rs : List ℤ) (S : State) → (applied f rs S).width ≡ S.width
-applied_width f rs S = concluded_width f.conclusion rs (posts f.sends (written f.writes S)) ∙ posts_width f.sends (written f.writes S) ∙ written_width f.writes S
+pub applied_width : (f : Effect) (rs : List ℤ) (S : State) → (after_effect f rs S).width ≡ S.width
+applied_width f rs S = concluded_width f.conclusion rs (after_posts f.sends (with_writes f.writes S)) ∙ posts_width f.sends (with_writes f.writes S) ∙ written_width f.writes S
 
-pub applied_keeps : (f : Effect) (rs : List ℤ) (S R : State) (o : Object) → AgreeAt S R o → AgreeAt (applied f rs S) (applied f rs R) o
+pub applied_keeps : (f : Effect) (rs : List ℤ) (S R : State) (o : Object) → AgreeAt S R o → AgreeAt (after_effect f rs S) (after_effect f rs R) o
 applied_keeps f rs S R o h = record {
   width = applied_width f rs S ∙ h.width ∙ sym (applied_width f rs R);
   part = applied_part f rs S R o h.part;

@@ -4,7 +4,8 @@ use Rattle.tx_base.specs.declared.steps.Accepted.{Accepted}
 use Rattle.tx_model.specs.State.{State}
 use Rattle.tx_model.specs.Events.{Event}
 use Rattle.tx_model.specs.Membership.{Role, Outside, Within, Commits, Aborts}
-use Rattle.tx_model.specs.History.{Starters, left_out_before, stays, placed, survivors, role_in, event_of}
+use Rattle.tx_model.specs.History.{Starters, left_out_before, is_left_in, survivors, role_in, event_of}
+use Rattle.tx_model.specs.Words.{event_if}
 use Rattle.tx_laws.specs.Places.{Committed, Aborted, fate, leaves_out, is_left_out, survivors_by_place}
 
 -- whose transactions are left out of a history that is followed by steps of these roles
@@ -27,7 +28,7 @@ before X later (Aborts t status) s = by (s == t)
     by true = refl
     by false = refl
 
-stays_same : (X : Starters) (later : List Role) (r : Role) → stays r (left_by X later) ≡ not (is_left_out X later r)
+stays_same : (X : Starters) (later : List Role) (r : Role) → is_left_in r (left_by X later) ≡ not (is_left_out X later r)
 stays_same X later Outside = refl
 stays_same X later (Within s part) = refl
 stays_same X later (Commits s) = refl
@@ -39,7 +40,7 @@ from S X later [] = refl
 from S X later (e ∷ h) =
     let r : Role = role_in S e h in
     let same : left_out_before r (left_by X later) ≡ left_by X (r ∷ later) = λ i s. before X later r s i in
-    ap₂ (λ (b : Bool) (evs : List Event). placed b (event_of S e h) evs) (stays_same X later r)
+    ap₂ (λ (b : Bool) (evs : List Event). event_if b (event_of S e h) evs) (stays_same X later r)
     (ap (λ (Y : Starters). survivors S Y h) same ∙ from S X (r ∷ later) h)
 
 pub by_places : (S : State) (X : Starters) (h : List Accepted) → survivors S X h ≡ survivors_by_place S X [] h

@@ -1,14 +1,15 @@
--- What stands at an object in the states without some transactions depends on who touched it.
+-- What stands at an object in the states without some transactions depends on who reserved it.
 use Rattle.std.proofs.Common.{◌≡◌, ℕ, Bool, true, false, not, List, [], ◌∷◌, ◌++◌, ℤ, Option, if◌then◌else◌, ◌==◌, refl, sym, ap, ap₂, ◌∙◌, subst, inl, inr, ◌⊎◌, eq-eqb, eqb-true}
 use Rattle.std.proofs.lemmas.Bool.{both_ways, cases_Bool}
-use Rattle.tx_model.specs.State.{Process, State, Sending, Object, Proc, Held, same_object, has, is_between}
+use Rattle.tx_model.specs.State.{Process, State, Sending, Object, Proc, Held, same_object, has_object, is_between}
 use Rattle.tx_model.specs.StateLaws.{AgreeAt, AgreeOn}
-use Rattle.tx_model.specs.Effects.{Effect, before_sends, send_answers}
-use Rattle.tx_model.specs.Posts.{answers}
+use Rattle.tx_model.specs.Effects.{Effect, send_answers}
+use Rattle.tx_model.specs.Words.{before_sends, meets_reserved, IsClear, after_if, next_by, starters_with, starters_without}
+use Rattle.tx_model.specs.Posts.{post_answers}
 use Rattle.tx_model.specs.Events.{Event, Note, actor, effect, objects, after, reply_of}
-use Rattle.tx_model.specs.Membership.{Table, is_of, is_member_of, is_live, Progress, Continues, Parks, Forks, Begins, Role, Outside, Within, Commits, Aborts, unmarked, table_after}
-use Rattle.tx_model.specs.History.{Starters, nobody, just, with_one, less_one, is_other_starter, targets, event_footprint, objects_reserved}
-use Rattle.tx_model.specs.View.{View, present, meets, in_way, has_two_answers, meets_touched, IsClear, after_if, next_by}
+use Rattle.tx_model.specs.Membership.{Table, is_of, is_member_of, is_live, Progress, Continues, Parks, Forks, Begins, Role, Outside, Within, Commits, Aborts, mark_unless_of, table_after}
+use Rattle.tx_model.specs.History.{Starters, nobody, just, is_other_starter, targets, event_footprint, objects_reserved}
+use Rattle.tx_model.specs.View.{View, present, some_object, in_way, has_two_answers}
 use Rattle.tx_laws.specs.Sound.{IsSound}
 use Rattle.tx_laws.proofs.Agree.{agree_sym, agree_trans, written_part}
 use Rattle.tx_laws.proofs.Objects.{TargetsIn, same_true, has_head, has_tail, has_left, has_right}
@@ -31,55 +32,55 @@ pub not_left : (x y : Bool) → (if x then false else y) ≡ true → (x ≡ fal
 not_left true y h = cc
 not_left false y h = (refl, h)
 
-pub has_either : (o : Object) (xs ys : List Object) → has o (xs ++ ys) ≡ true → (has o xs ≡ true) ⊎ (has o ys ≡ true)
-unfolding has
+pub has_either : (o : Object) (xs ys : List Object) → has_object o (xs ++ ys) ≡ true → (has_object o xs ≡ true) ⊎ (has_object o ys ≡ true)
+unfolding has_object
 has_either o [] ys h = inr h
 has_either o (x ∷ xs) ys h = by (same_object o x) h (has_either o xs ys)
   where
-    by : (b : Bool) → (if b then true else has o (xs ++ ys)) ≡ true → (has o (xs ++ ys) ≡ true → (has o xs ≡ true) ⊎ (has o ys ≡ true))
-        → ((if b then true else has o xs) ≡ true) ⊎ (has o ys ≡ true)
+    by : (b : Bool) → (if b then true else has_object o (xs ++ ys)) ≡ true → (has_object o (xs ++ ys) ≡ true → (has_object o xs ≡ true) ⊎ (has_object o ys ≡ true))
+        → ((if b then true else has_object o xs) ≡ true) ⊎ (has_object o ys ≡ true)
     by true k rest = inl refl
     by false k rest = rest k
 
-pub meets_not : (os : List Object) (P : Object → Bool) (o : Object) → has o os ≡ true → P o ≡ true → meets os P ≡ false → ⊥
-unfolding has meets
+pub meets_not : (os : List Object) (P : Object → Bool) (o : Object) → has_object o os ≡ true → P o ≡ true → some_object os P ≡ false → ⊥
+unfolding has_object some_object
 meets_not [] P o h k e = cc
 meets_not (x ∷ xs) P o h k e =
-    elim (or_true (same_object o x) (has o xs) h) [
-      | inl a ↦ both_ways (P x) (or_false_left (P x) (meets xs P) e) (subst (λ (y : Object). P y ≡ true) (same_true o x a) k)
-      | inr a ↦ meets_not xs P o a k (or_false_right (P x) (meets xs P) e)
+    elim (or_true (same_object o x) (has_object o xs) h) [
+      | inl a ↦ both_ways (P x) (or_false_left (P x) (some_object xs P) e) (subst (λ (y : Object). P y ≡ true) (same_true o x a) k)
+      | inr a ↦ meets_not xs P o a k (or_false_right (P x) (some_object xs P) e)
     ]
 
-in_targets_cons : (b : Bool) (n m : Sending) (os : List Object) → has (Proc m.target) os ≡ true → has (Proc m.target) (if b then os else Proc n.target ∷ os) ≡ true
+in_targets_cons : (b : Bool) (n m : Sending) (os : List Object) → has_object (Proc m.target) os ≡ true → has_object (Proc m.target) (if b then os else Proc n.target ∷ os) ≡ true
 in_targets_cons true n m os h = h
 in_targets_cons false n m os h = has_tail (Proc m.target) (Proc n.target) os h
 
-pub in_targets : (t : Table) (p : ℕ) (ms : List Sending) (m : Sending) → IsIn m ms → is_other_starter t p m.target ≡ false → has (Proc m.target) (targets t p ms) ≡ true
+pub in_targets : (t : Table) (p : ℕ) (ms : List Sending) (m : Sending) → IsIn m ms → is_other_starter t p m.target ≡ false → has_object (Proc m.target) (targets t p ms) ≡ true
 unfolding targets
 in_targets t p [] m i e = absurd i
 in_targets t p (n ∷ ms) m (inl i) e =
-    subst (λ (x : Sending). has (Proc m.target) (if is_other_starter t p x.target then targets t p ms else Proc x.target ∷ targets t p ms) ≡ true) i
+    subst (λ (x : Sending). has_object (Proc m.target) (if is_other_starter t p x.target then targets t p ms else Proc x.target ∷ targets t p ms) ≡ true) i
     (rw e (has_head (Proc m.target) (targets t p ms)))
 in_targets t p (n ∷ ms) m (inr i) e = in_targets_cons (is_other_starter t p n.target) n m (targets t p ms) (in_targets t p ms m i e)
 
 -- the targets are processes
-targets_held : (t : Table) (p : ℕ) (ms : List Sending) (u : ℕ) → has (Held u) (targets t p ms) ≡ false
-unfolding targets has
+targets_held : (t : Table) (p : ℕ) (ms : List Sending) (u : ℕ) → has_object (Held u) (targets t p ms) ≡ false
+unfolding targets has_object
 targets_held t p [] u = refl
 targets_held t p (m ∷ ms) u = by (is_other_starter t p m.target) (targets_held t p ms u)
   where
-    by : (b : Bool) → has (Held u) (targets t p ms) ≡ false → has (Held u) (if b then targets t p ms else Proc m.target ∷ targets t p ms) ≡ false
+    by : (b : Bool) → has_object (Held u) (targets t p ms) ≡ false → has_object (Held u) (if b then targets t p ms else Proc m.target ∷ targets t p ms) ≡ false
     by true rest = rest
     by false rest = rest
 
--- a live transaction that the actor is no member of, and that is not in the way, touched nothing of the footprint, and answers the posts alike
+-- a live transaction that the actor is no member of, and that is not in the way, reserved nothing of the footprint, and answers the posts alike
 way_clear : (V : View) (ev : Event) (t : ℕ) → is_live V.table t ≡ true → is_member_of V.table t (actor ev) ≡ false → in_way V ev t ≡ false
-    → (if meets_touched V ev t then true else has_two_answers V ev t) ≡ false
+    → (if meets_reserved V ev t then true else has_two_answers V ev t) ≡ false
 unfolding in_way
 way_clear V ev t live other h = rw (live, other) at h
 
--- in a clear event's footprint only the actor's transaction touched anything
-pub clear_foot : (V : View) (ev : Event) → IsSound V → IsClear V ev → (o : Object) (t : ℕ) → has o (event_footprint V.table ev (present V)) ≡ true → V.touched t o ≡ true → is_member_of V.table t (actor ev) ≡ true
+-- in a clear event's footprint only the actor's transaction reserved anything
+pub clear_foot : (V : View) (ev : Event) → IsSound V → IsClear V ev → (o : Object) (t : ℕ) → has_object o (event_footprint V.table ev (present V)) ≡ true → V.reserved t o ≡ true → is_member_of V.table t (actor ev) ≡ true
 clear_foot V ev sound clear o t h k = by (is_member_of V.table t (actor ev)) refl
   where
     live : is_live V.table t ≡ true
@@ -87,7 +88,7 @@ clear_foot V ev sound clear o t h k = by (is_member_of V.table t (actor ev)) ref
 
     by : (b : Bool) → is_member_of V.table t (actor ev) ≡ b → b ≡ true
     by true e = refl
-    by false e = absurd (meets_not (event_footprint V.table ev (present V)) (V.touched t) o h k (or_false_left _ _ (way_clear V ev t live e (clear t live))))
+    by false e = absurd (meets_not (event_footprint V.table ev (present V)) (V.reserved t) o h k (or_false_left _ _ (way_clear V ev t live e (clear t live))))
 
 other_parts : (x y : Bool) → (if x then not y else false) ≡ true → (x ≡ true) × (y ≡ false)
 other_parts true true h = cc
@@ -96,10 +97,10 @@ other_parts false y h = cc
 
 -- an event does the same without transactions that are not its actor's
 module _ (V : View) (ev : Event) (sound : IsSound V) (clear : IsClear V ev) (X : Starters) (quiet : IsQuiet V ev X) where
-  quiet_foot : (o : Object) → has o (event_footprint V.table ev (present V)) ≡ true → AgreeAt (present V) (V.without X) o
+  quiet_foot : (o : Object) → has_object o (event_footprint V.table ev (present V)) ≡ true → AgreeAt (present V) (V.without X) o
   quiet_foot o h = sound.coherent nobody X o (λ t k. sym (quiet t (clear_foot V ev sound clear o t h k)))
 
-  quiet_target : (m : Sending) → IsIn m (effect ev (present V)).sends → is_other_starter V.table (actor ev) m.target ≡ false → has (Proc m.target) (event_footprint V.table ev (present V)) ≡ true
+  quiet_target : (m : Sending) → IsIn m (effect ev (present V)).sends → is_other_starter V.table (actor ev) m.target ≡ false → has_object (Proc m.target) (event_footprint V.table ev (present V)) ≡ true
   unfolding event_footprint
   quiet_target m i e =
       has_right (Proc m.target) (objects ev (present V)) (targets V.table (actor ev) (effect ev (present V)).sends)
@@ -162,43 +163,43 @@ quiet_reply V ev sound clear X x = reply_same ev (present V) (V.without X) (quie
 pub outside_quiet : (V : View) (ev : Event) → ((t : ℕ) → is_member_of V.table t (actor ev) ≡ false) → (X : Starters) → IsQuiet V ev X
 outside_quiet V ev out X t h = absurd (both_ways (is_member_of V.table t (actor ev)) (out t) h)
 
-pub less_self : (s : ℕ) (X : Starters) → less_one s X s ≡ false
+pub less_self : (s : ℕ) (X : Starters) → starters_without s X s ≡ false
 less_self s X = rw (eq-eqb s s refl) refl
 
-pub commits_quiet : (V : View) (ev : Event) (s : ℕ) → is_member_of V.table s (actor ev) ≡ true → (X : Starters) → IsQuiet V ev (less_one s X)
-commits_quiet V ev s mine X t h = subst (λ (x : ℕ). less_one s X x ≡ false) (of_unique s t (V.table.marks (actor ev)) mine h) (less_self s X)
+pub commits_quiet : (V : View) (ev : Event) (s : ℕ) → is_member_of V.table s (actor ev) ≡ true → (X : Starters) → IsQuiet V ev (starters_without s X)
+commits_quiet V ev s mine X t h = subst (λ (x : ℕ). starters_without s X x ≡ false) (of_unique s t (V.table.marks (actor ev)) mine h) (less_self s X)
 
-with_same : (s : ℕ) (X Y : Starters) (t : ℕ) → ((t == s) ≡ false → X t ≡ Y t) → with_one s X t ≡ with_one s Y t
+with_same : (s : ℕ) (X Y : Starters) (t : ℕ) → ((t == s) ≡ false → X t ≡ Y t) → starters_with s X t ≡ starters_with s Y t
 with_same s X Y t h = elim (cases_Bool (t == s)) [ inl e ↦ rw e refl | inr e ↦ rw e (h e) ]
 
-less_same : (s : ℕ) (X Y : Starters) (t : ℕ) → ((t == s) ≡ false → X t ≡ Y t) → less_one s X t ≡ less_one s Y t
+less_same : (s : ℕ) (X Y : Starters) (t : ℕ) → ((t == s) ≡ false → X t ≡ Y t) → starters_without s X t ≡ starters_without s Y t
 less_same s X Y t h = elim (cases_Bool (t == s)) [ inl e ↦ rw e refl | inr e ↦ rw e (h e) ]
 
-has_not : (o : Object) (xs ys : List Object) → has o (xs ++ ys) ≡ false → has o xs ≡ false
-has_not o xs ys h = elim (cases_Bool (has o xs)) [ inl e ↦ absurd (both_ways (has o (xs ++ ys)) h (has_left o xs ys e)) | inr e ↦ e ]
+has_not : (o : Object) (xs ys : List Object) → has_object o (xs ++ ys) ≡ false → has_object o xs ≡ false
+has_not o xs ys h = elim (cases_Bool (has_object o xs)) [ inl e ↦ absurd (both_ways (has_object o (xs ++ ys)) h (has_left o xs ys e)) | inr e ↦ e ]
 
-pub objects_in : (t : Table) (ev : Event) (S : State) (o : Object) → has o (objects ev S) ≡ true → has o (event_footprint t ev S) ≡ true
+pub objects_in : (t : Table) (ev : Event) (S : State) (o : Object) → has_object o (objects ev S) ≡ true → has_object o (event_footprint t ev S) ≡ true
 unfolding event_footprint
 objects_in t ev S o h = has_left o (objects ev S) (targets t (actor ev) (effect ev S).sends) h
 
-pub actor_foot : (t : Table) (ev : Event) (S : State) → has (Proc (actor ev)) (event_footprint t ev S) ≡ true
+pub actor_foot : (t : Table) (ev : Event) (S : State) → has_object (Proc (actor ev)) (event_footprint t ev S) ≡ true
 actor_foot t ev S = objects_in t ev S (Proc (actor ev)) (actor_in ev S)
 
 -- what a first step takes besides its footprint is what its transaction holds
-pub taken_foot : (part : Progress) (s : ℕ) (F : List Object) (o : Object) → has o F ≡ true → has o (objects_reserved part s F) ≡ true
+pub taken_foot : (part : Progress) (s : ℕ) (F : List Object) (o : Object) → has_object o F ≡ true → has_object o (objects_reserved part s F) ≡ true
 taken_foot Continues s F o h = h
 taken_foot Parks s F o h = h
 taken_foot (Forks c) s F o h = h
 taken_foot (Begins defers) s F o h = has_tail o (Held s) F h
 
-pub taken_cases : (part : Progress) (s : ℕ) (F : List Object) (o : Object) → has o (objects_reserved part s F) ≡ true → (o ≡ Held s) ⊎ (has o F ≡ true)
-unfolding has
+pub taken_cases : (part : Progress) (s : ℕ) (F : List Object) (o : Object) → has_object o (objects_reserved part s F) ≡ true → (o ≡ Held s) ⊎ (has_object o F ≡ true)
+unfolding has_object
 taken_cases Continues s F o h = inr h
 taken_cases Parks s F o h = inr h
 taken_cases (Forks c) s F o h = inr h
 taken_cases (Begins defers) s F o h = by (same_object o (Held s)) refl h
   where
-    by : (b : Bool) → same_object o (Held s) ≡ b → (if b then true else has o F) ≡ true → (o ≡ Held s) ⊎ (has o F ≡ true)
+    by : (b : Bool) → same_object o (Held s) ≡ b → (if b then true else has_object o F) ≡ true → (o ≡ Held s) ⊎ (has_object o F ≡ true)
     by true e k = inl (same_true o (Held s) e)
     by false e k = inr k
 
@@ -208,8 +209,8 @@ after_if_width true ev S = after_width ev S
 after_if_width false ev S = refl
 
 -- a note names its own process alone
-note_out : (s u : ℕ) (r : ℤ) (S : State) → (s == u) ≡ false → has (Proc s) (objects (Note u r) S) ≡ false
-unfolding objects has
+note_out : (s u : ℕ) (r : ℤ) (S : State) → (s == u) ≡ false → has_object (Proc s) (objects (Note u r) S) ≡ false
+unfolding objects has_object
 note_out s u r S ne = rw ne refl
 
 -- what posts and answers keep of the starter, in the states without its transaction
@@ -226,20 +227,20 @@ module _ (P : Option Process → Type 0) (keeps : IsKept P) where
           by true e = absurd (both_ways (is_member_of V.table s (actor ev)) other (subst (λ (u : ℕ). is_member_of V.table u (actor ev) ≡ true) (e refl) k))
           by false e = refl
 
-      out_now : (b : Bool) → has (Proc s) (objects ev (present V)) ≡ b → b ≡ false
+      out_now : (b : Bool) → has_object (Proc s) (objects ev (present V)) ≡ b → b ≡ false
       out_now true e = absurd (both_ways (is_member_of V.table s (actor ev)) other
           (clear_foot V ev sound clear (Proc s) s (objects_in V.table ev (present V) (Proc s) e) (sound.own_procs s s live)))
       out_now false e = refl
 
-      out : has (Proc s) (objects ev (V.without (just s))) ≡ false
-      out = subst (λ (os : List Object). has (Proc s) os ≡ false)
+      out : has_object (Proc s) (objects ev (V.without (just s))) ≡ false
+      out = subst (λ (os : List Object). has_object (Proc s) os ≡ false)
           (objects_same ev (present V) (V.without (just s)) (quiet_objects V ev sound clear (just s) quiet))
-          (out_now (has (Proc s) (objects ev (present V))) refl)
+          (out_now (has_object (Proc s) (objects ev (present V))) refl)
 
-  less_just : (u s : ℕ) → (u == s) ≡ false → less_one u (just s) ≡ just s
+  less_just : (u s : ℕ) → (u == s) ≡ false → starters_without u (just s) ≡ just s
   less_just u s ne = λ i n. same n i
     where
-      same : (n : ℕ) → less_one u (just s) n ≡ just s n
+      same : (n : ℕ) → starters_without u (just s) n ≡ just s n
       same n = by (n == u) (λ e. eqb-true n u e)
         where
           by : (b : Bool) → (b ≡ true → n ≡ u) → (if b then false else n == s) ≡ (n == s)
@@ -266,43 +267,43 @@ module _ (P : Option Process → Type 0) (keeps : IsKept P) where
       other true e = absurd (both_ways (u == s) ne (eq-eqb u s (of_unique u s (V.table.marks (actor ev)) fits e)))
       other false e = refl
   starter_keeps (Aborts u k) V ev p sound clear fits s live ne h =
-      event_keeps P keeps s ev (V.without (with_one u (just s))) out (subst P (sym same.part) h)
+      event_keeps P keeps s ev (V.without (starters_with u (just s))) out (subst P (sym same.part) h)
     where
-      same : AgreeAt (V.without (with_one u (just s))) (V.without (just s)) (Proc s)
-      same = sound.coherent (with_one u (just s)) (just s) (Proc s) (λ t z.
+      same : AgreeAt (V.without (starters_with u (just s))) (V.without (just s)) (Proc s)
+      same = sound.coherent (starters_with u (just s)) (just s) (Proc s) (λ t z.
           let e : t ≡ s = sound.single t s (Proc s) z (sound.own_procs s s live) in
-          subst (λ (n : ℕ). with_one u (just s) n ≡ just s n) (sym e) (both (s == u)))
+          subst (λ (n : ℕ). starters_with u (just s) n ≡ just s n) (sym e) (both (s == u)))
         where
           both : (b : Bool) → (if b then true else s == s) ≡ (s == s)
           both true = sym (eq-eqb s s refl)
           both false = refl
 
-      out : has (Proc s) (objects ev (V.without (with_one u (just s)))) ≡ false
-      out = subst (λ (x : Event). has (Proc s) (objects x (V.without (with_one u (just s)))) ≡ false) (sym fits.1.1)
-          (note_out s u fits.1.0 (V.without (with_one u (just s))) (eq_comm s u ∙ ne))
+      out : has_object (Proc s) (objects ev (V.without (starters_with u (just s)))) ≡ false
+      out = subst (λ (x : Event). has_object (Proc s) (objects x (V.without (starters_with u (just s)))) ≡ false) (sym fits.1.1)
+          (note_out s u fits.1.0 (V.without (starters_with u (just s))) (eq_comm s u ∙ ne))
 
--- what was touched after a step inside a transaction
-pub touched_cases : (s p : ℕ) (h t : Bool) → (if s == p then (if h then true else t) else t) ≡ true → ((s ≡ p) × (h ≡ true)) ⊎ (t ≡ true)
-touched_cases s p h t = by (s == p) (λ e. eqb-true s p e) h
+-- what was reserved after a step inside a transaction
+pub reserved_cases : (s p : ℕ) (h t : Bool) → (if s == p then (if h then true else t) else t) ≡ true → ((s ≡ p) × (h ≡ true)) ⊎ (t ≡ true)
+reserved_cases s p h t = by (s == p) (λ e. eqb-true s p e) h
   where
     by : (b : Bool) → (b ≡ true → s ≡ p) → (h : Bool) → (if b then (if h then true else t) else t) ≡ true → ((s ≡ p) × (h ≡ true)) ⊎ (t ≡ true)
     by true e true k = inl (e refl, refl)
     by true e false k = inr k
     by false e h k = inr k
 
-pub touched_old : (s p : ℕ) (h t : Bool) → t ≡ true → (if s == p then (if h then true else t) else t) ≡ true
-touched_old s p h t e = by (s == p) h
+pub reserved_old : (s p : ℕ) (h t : Bool) → t ≡ true → (if s == p then (if h then true else t) else t) ≡ true
+reserved_old s p h t e = by (s == p) h
   where
     by : (b h : Bool) → (if b then (if h then true else t) else t) ≡ true
     by true true = refl
     by true false = e
     by false h = e
 
-pub touched_new : (s : ℕ) (h t : Bool) → h ≡ true → (if s == s then (if h then true else t) else t) ≡ true
-touched_new s h t e = rw (eq-eqb s s refl, e) refl
+pub reserved_new : (s : ℕ) (h t : Bool) → h ≡ true → (if s == s then (if h then true else t) else t) ≡ true
+reserved_new s h t e = rw (eq-eqb s s refl, e) refl
 
 -- the targets of what is posted among members are in the footprint
-targets_foot : (t : Table) (p : ℕ) (ms xs : List Sending) (os : List Object) → ((m : Sending) → IsIn m xs → has (Proc m.target) os ≡ true) → TargetsIn xs os
+targets_foot : (t : Table) (p : ℕ) (ms xs : List Sending) (os : List Object) → ((m : Sending) → IsIn m xs → has_object (Proc m.target) os ≡ true) → TargetsIn xs os
 targets_foot t p ms [] os h = tt
 targets_foot t p ms (x ∷ xs) os h = (h x (inl refl), targets_foot t p ms xs os (λ m i. h m (inr i)))
 
@@ -315,7 +316,7 @@ module _ (V : View) (ev : Event) (sound : IsSound V) (clear : IsClear V ev) (s :
   within_quiet X x t h = subst (λ (u : ℕ). X u ≡ false) (sym (fits.mine t (subst (λ (q : ℕ). is_member_of V.table t q ≡ true) fits.actor_is h))) x
 
   -- the event changes nothing outside its footprint, in any state with the transaction
-  pub within_else : (X : Starters) → X s ≡ false → (o : Object) → has o (event_footprint V.table ev (present V)) ≡ false → AgreeAt (after ev (V.without X)) (V.without X) o
+  pub within_else : (X : Starters) → X s ≡ false → (o : Object) → has_object o (event_footprint V.table ev (present V)) ≡ false → AgreeAt (after ev (V.without X)) (V.without X) o
   unfolding event_footprint
   within_else X x o h =
       let S : State = V.without X in
@@ -324,18 +325,18 @@ module _ (V : View) (ev : Event) (sound : IsSound V) (clear : IsClear V ev) (s :
       (effect_fits ev S os (λ q k. has_left q (objects ev S) (targets V.table (actor ev) (effect ev S).sends) k)
       (targets_foot V.table (actor ev) (effect ev S).sends (effect ev S).sends os (λ m i.
       has_right (Proc m.target) (objects ev S) (targets V.table (actor ev) (effect ev S).sends) (in_targets V.table (actor ev) (effect ev S).sends m i (fits.sends S m i)))))
-      (subst (λ (os : List Object). has o os ≡ false) (quiet_footprint V ev sound clear X (within_quiet X x)) h)
+      (subst (λ (os : List Object). has_object o os ≡ false) (quiet_footprint V ev sound clear X (within_quiet X x)) h)
 
-  within_coherent : (X Y : Starters) (o : Object) → ((t : ℕ) → (next_by (Within s part) ev p V).touched t o ≡ true → X t ≡ Y t)
+  within_coherent : (X Y : Starters) (o : Object) → ((t : ℕ) → (next_by (Within s part) ev p V).reserved t o ≡ true → X t ≡ Y t)
       → AgreeAt ((next_by (Within s part) ev p V).without X) ((next_by (Within s part) ev p V).without Y) o
   within_coherent X Y o same = by (X s) (Y s) refl refl
     where
       old : AgreeAt (V.without X) (V.without Y) o
-      old = sound.coherent X Y o (λ t k. same t (touched_old t s (has o (objects_reserved part s F)) (V.touched t o) k))
+      old = sound.coherent X Y o (λ t k. same t (reserved_old t s (has_object o (objects_reserved part s F)) (V.reserved t o) k))
 
-      apart : (X s ≡ Y s → ⊥) → has o F ≡ false
-      apart ne = elim (cases_Bool (has o F)) [
-        | inl e ↦ absurd (ne (same s (touched_new s (has o (objects_reserved part s F)) (V.touched s o) (taken_foot part s F o e))))
+      apart : (X s ≡ Y s → ⊥) → has_object o F ≡ false
+      apart ne = elim (cases_Bool (has_object o F)) [
+        | inl e ↦ absurd (ne (same s (reserved_new s (has_object o (objects_reserved part s F)) (V.reserved s o) (taken_foot part s F o e))))
         | inr e ↦ e
       ]
 
@@ -347,17 +348,17 @@ module _ (V : View) (ev : Event) (sound : IsSound V) (clear : IsClear V ev) (s :
       by false true x y = agree_trans (after ev (V.without X)) (V.without X) (V.without Y) o
           (within_else X x o (apart (λ d. let z : false ≡ true = sym x ∙ d ∙ y in cc))) old
 
-  -- who touched an object of what is taken is the transaction itself
-  pub taken_mine : (o : Object) (u : ℕ) → has o (objects_reserved part s F) ≡ true → V.touched u o ≡ true → u ≡ s
+  -- who reserved an object of what is taken is the transaction itself
+  pub taken_mine : (o : Object) (u : ℕ) → has_object o (objects_reserved part s F) ≡ true → V.reserved u o ≡ true → u ≡ s
   taken_mine o u h k = elim (taken_cases part s F o h) [
-    | inl e ↦ sound.held_own u s (subst (λ (q : Object). V.touched u q ≡ true) e k)
+    | inl e ↦ sound.held_own u s (subst (λ (q : Object). V.reserved u q ≡ true) e k)
     | inr e ↦ fits.mine u (subst (λ (q : ℕ). is_member_of V.table u q ≡ true) fits.actor_is (clear_foot V ev sound clear o u e k))
   ]
 
-  within_single : (t u : ℕ) (o : Object) → (next_by (Within s part) ev p V).touched t o ≡ true → (next_by (Within s part) ev p V).touched u o ≡ true → t ≡ u
-  within_single t u o h k = by (touched_cases t s (has o (objects_reserved part s F)) (V.touched t o) h) (touched_cases u s (has o (objects_reserved part s F)) (V.touched u o) k)
+  within_single : (t u : ℕ) (o : Object) → (next_by (Within s part) ev p V).reserved t o ≡ true → (next_by (Within s part) ev p V).reserved u o ≡ true → t ≡ u
+  within_single t u o h k = by (reserved_cases t s (has_object o (objects_reserved part s F)) (V.reserved t o) h) (reserved_cases u s (has_object o (objects_reserved part s F)) (V.reserved u o) k)
     where
-      by : ((t ≡ s) × (has o (objects_reserved part s F) ≡ true)) ⊎ (V.touched t o ≡ true) → ((u ≡ s) × (has o (objects_reserved part s F) ≡ true)) ⊎ (V.touched u o ≡ true) → t ≡ u
+      by : ((t ≡ s) × (has_object o (objects_reserved part s F) ≡ true)) ⊎ (V.reserved t o ≡ true) → ((u ≡ s) × (has_object o (objects_reserved part s F) ≡ true)) ⊎ (V.reserved u o ≡ true) → t ≡ u
       by (inl a) (inl b) = a.0 ∙ sym b.0
       by (inl a) (inr b) = a.0 ∙ sym (taken_mine o u a.1 b)
       by (inr a) (inl b) = taken_mine o t b.1 a ∙ sym b.0
@@ -370,7 +371,7 @@ module _ (V : View) (ev : Event) (sound : IsSound V) (clear : IsClear V ev) (s :
   grows = by part fits.progress_fits (λ c h k. fits.mine c (subst (λ (q : ℕ). is_member_of V.table c q ≡ true) fits.actor_is
       (clear_foot V ev sound clear (Proc c) c (objects_in V.table ev (present V) (Proc c) h) (sound.own_procs c c k))))
     where
-      by : (part : Progress) → ProgressFits V s p ev part → ((c : ℕ) → has (Proc c) (objects ev (present V)) ≡ true → is_live V.table c ≡ true → c ≡ s)
+      by : (part : Progress) → ProgressFits V s p ev part → ((c : ℕ) → has_object (Proc c) (objects ev (present V)) ≡ true → is_live V.table c ≡ true → c ≡ s)
           → Grows V.table s (table_after (Within s part) p V.table) (joins_by part p)
       by Continues f own = continues_grows V.table s p (live_of f)
       by Parks f own = parks_grows V.table s p (live_of f)
@@ -378,24 +379,24 @@ module _ (V : View) (ev : Event) (sound : IsSound V) (clear : IsClear V ev) (s :
       by (Begins defers) f own = subst (λ (x : ℕ). Grows V.table x (table_after (Within x (Begins defers)) p V.table) (joins_by (Begins defers) p)) (sym f.0) (begins_grows V.table p defers)
 
   -- a number that joins is in what is taken, and is a process number
-  joins_taken : (q : ℕ) → joins_by part p q ≡ true → (has (Proc q) (objects_reserved part s F) ≡ true) × (is_between V.table.width q ≡ true)
+  joins_taken : (q : ℕ) → joins_by part p q ≡ true → (has_object (Proc q) (objects_reserved part s F) ≡ true) × (is_between V.table.width q ≡ true)
   joins_taken q = by part fits.progress_fits
     where
-      by : (part : Progress) → ProgressFits V s p ev part → joins_by part p q ≡ true → (has (Proc q) (objects_reserved part s F) ≡ true) × (is_between V.table.width q ≡ true)
+      by : (part : Progress) → ProgressFits V s p ev part → joins_by part p q ≡ true → (has_object (Proc q) (objects_reserved part s F) ≡ true) × (is_between V.table.width q ≡ true)
       by Continues f h = cc
       by Parks f h = cc
       by (Forks c) f h =
           let e : c ≡ q = sym (eqb-true q c h) in
-          (objects_in V.table ev (present V) (Proc q) (subst (λ (x : ℕ). has (Proc x) (objects ev (present V)) ≡ true) e f.1), subst (λ (x : ℕ). is_between V.table.width x ≡ true) e f.2)
+          (objects_in V.table ev (present V) (Proc q) (subst (λ (x : ℕ). has_object (Proc x) (objects ev (present V)) ≡ true) e f.1), subst (λ (x : ℕ). is_between V.table.width x ≡ true) e f.2)
       by (Begins defers) f h =
           let e : p ≡ q = sym (eqb-true q p h) in
-          (has_tail (Proc q) (Held s) F (subst (λ (x : ℕ). has (Proc x) F ≡ true) (fits.actor_is ∙ e) (actor_foot V.table ev (present V))), subst (λ (x : ℕ). is_between V.table.width x ≡ true) e f.2)
+          (has_tail (Proc q) (Held s) F (subst (λ (x : ℕ). has_object (Proc x) F ≡ true) (fits.actor_is ∙ e) (actor_foot V.table ev (present V))), subst (λ (x : ℕ). is_between V.table.width x ≡ true) e f.2)
 
   -- a number joins the transaction that is live before, or that this step begins
-  begins_held : (is_live V.table s ≡ true) ⊎ (has (Held s) (objects_reserved part s F) ≡ true)
+  begins_held : (is_live V.table s ≡ true) ⊎ (has_object (Held s) (objects_reserved part s F) ≡ true)
   begins_held = by part fits.progress_fits
     where
-      by : (part : Progress) → ProgressFits V s p ev part → (is_live V.table s ≡ true) ⊎ (has (Held s) (objects_reserved part s F) ≡ true)
+      by : (part : Progress) → ProgressFits V s p ev part → (is_live V.table s ≡ true) ⊎ (has_object (Held s) (objects_reserved part s F) ≡ true)
       by Continues f = inl (live_of f)
       by Parks f = inl (live_of f)
       by (Forks c) f = inl (live_of f.0)
@@ -413,13 +414,13 @@ module _ (V : View) (ev : Event) (sound : IsSound V) (clear : IsClear V ev) (s :
           (subst Runs (sound.coherent nobody (just p) (Proc p) (λ t k.
           absurd (both_ways (is_member_of V.table t p) (of_none t (V.table.marks p) f.1)
           (subst (λ (q : ℕ). is_member_of V.table t q ≡ true) fits.actor_is
-          (clear_foot V ev sound clear (Proc p) t (subst (λ (q : ℕ). has (Proc q) F ≡ true) fits.actor_is (actor_foot V.table ev (present V))) k))))).part f.3)
+          (clear_foot V ev sound clear (Proc p) t (subst (λ (q : ℕ). has_object (Proc q) F ≡ true) fits.actor_is (actor_foot V.table ev (present V))) k))))).part f.3)
 
-  foot_held : (u : ℕ) → has (Held u) F ≡ true → u ≡ s
+  foot_held : (u : ℕ) → has_object (Held u) F ≡ true → u ≡ s
   unfolding event_footprint
   foot_held u h = elim (has_either (Held u) (objects ev (present V)) (targets V.table (actor ev) (effect ev (present V)).sends) h) [
     | inl e ↦ fits.holds (present V) u e
-    | inr e ↦ absurd (both_ways (has (Held u) (targets V.table (actor ev) (effect ev (present V)).sends)) (targets_held V.table (actor ev) (effect ev (present V)).sends u) e)
+    | inr e ↦ absurd (both_ways (has_object (Held u) (targets V.table (actor ev) (effect ev (present V)).sends)) (targets_held V.table (actor ev) (effect ev (present V)).sends u) e)
   ]
 
   held_same : (u : ℕ) → Held u ≡ Held s → u ≡ s
@@ -428,25 +429,25 @@ module _ (V : View) (ev : Event) (sound : IsSound V) (clear : IsClear V ev) (s :
   pub within_sound : IsSound (next_by (Within s part) ev p V)
   within_sound = record {
     coherent = within_coherent;
-    owned_live = λ t o h. elim (touched_cases t s (has o (objects_reserved part s F)) (V.touched t o) h) [
+    owned_live = λ t o h. elim (reserved_cases t s (has_object o (objects_reserved part s F)) (V.reserved t o) h) [
       | inl a ↦ subst (λ (x : ℕ). is_live (table_after (Within s part) p V.table) x ≡ true) (sym a.0) grows.live
       | inr a ↦ grows.lives t (sound.owned_live t o a)
     ];
     single = within_single;
     own_procs = λ t q h. elim (grows.members t q h) [
-      | inl a ↦ touched_old t s (has (Proc q) (objects_reserved part s F)) (V.touched t (Proc q)) (sound.own_procs t q a)
-      | inr a ↦ subst (λ (x : ℕ). (next_by (Within s part) ev p V).touched x (Proc q) ≡ true) (sym a.0)
-          (touched_new s (has (Proc q) (objects_reserved part s F)) (V.touched s (Proc q)) (joins_taken q a.1).0)
+      | inl a ↦ reserved_old t s (has_object (Proc q) (objects_reserved part s F)) (V.reserved t (Proc q)) (sound.own_procs t q a)
+      | inr a ↦ subst (λ (x : ℕ). (next_by (Within s part) ev p V).reserved x (Proc q) ≡ true) (sym a.0)
+          (reserved_new s (has_object (Proc q) (objects_reserved part s F)) (V.reserved s (Proc q)) (joins_taken q a.1).0)
     ];
     own_held = λ t h. elim (grows.members t t h) [
-      | inl a ↦ touched_old t s (has (Held t) (objects_reserved part s F)) (V.touched t (Held t)) (sound.own_held t a)
-      | inr a ↦ subst (λ (x : ℕ). (next_by (Within s part) ev p V).touched x (Held x) ≡ true) (sym a.0)
+      | inl a ↦ reserved_old t s (has_object (Held t) (objects_reserved part s F)) (V.reserved t (Held t)) (sound.own_held t a)
+      | inr a ↦ subst (λ (x : ℕ). (next_by (Within s part) ev p V).reserved x (Held x) ≡ true) (sym a.0)
           (elim begins_held [
-            | inl b ↦ touched_old s s (has (Held s) (objects_reserved part s F)) (V.touched s (Held s)) (sound.own_held s b)
-            | inr b ↦ touched_new s (has (Held s) (objects_reserved part s F)) (V.touched s (Held s)) b
+            | inl b ↦ reserved_old s s (has_object (Held s) (objects_reserved part s F)) (V.reserved s (Held s)) (sound.own_held s b)
+            | inr b ↦ reserved_new s (has_object (Held s) (objects_reserved part s F)) (V.reserved s (Held s)) b
           ])
     ];
-    held_own = λ t u h. elim (touched_cases t s (has (Held u) (objects_reserved part s F)) (V.touched t (Held u)) h) [
+    held_own = λ t u h. elim (reserved_cases t s (has_object (Held u) (objects_reserved part s F)) (V.reserved t (Held u)) h) [
       | inl a ↦ a.0 ∙ sym (elim (taken_cases part s F (Held u) a.1) [ inl e ↦ held_same u e | inr e ↦ foot_held u e ])
       | inr a ↦ sound.held_own t u a
     ];
@@ -476,31 +477,31 @@ outside_sound V ev p sound clear out = record {
 
 -- what is left when the transaction of s is over
 module _ (V : View) (sound : IsSound V) (s : ℕ) where
-  over_touched : (t : ℕ) (o : Object) → (if t == s then false else V.touched t o) ≡ true → V.touched t o ≡ true
-  over_touched t o h = (not_left (t == s) (V.touched t o) h).1
+  over_reserved : (t : ℕ) (o : Object) → (if t == s then false else V.reserved t o) ≡ true → V.reserved t o ≡ true
+  over_reserved t o h = (not_left (t == s) (V.reserved t o) h).1
 
-  over_member : (t q : ℕ) → is_of t (unmarked s (V.table.marks q)) ≡ true → ((t == s) ≡ false) × (is_member_of V.table t q ≡ true)
+  over_member : (t q : ℕ) → is_of t (mark_unless_of s (V.table.marks q)) ≡ true → ((t == s) ≡ false) × (is_member_of V.table t q ≡ true)
   over_member t q h = not_left (t == s) (is_member_of V.table t q) (sym (of_unmarked t s (V.table.marks q)) ∙ h)
 
-  over_live : (t : ℕ) (o : Object) → (if t == s then false else V.touched t o) ≡ true → is_of t (unmarked s (V.table.marks t)) ≡ true
-  over_live t o h = let z = not_left (t == s) (V.touched t o) h in of_unmarked t s (V.table.marks t) ∙ rw z.0 (sound.owned_live t o z.1)
+  over_live : (t : ℕ) (o : Object) → (if t == s then false else V.reserved t o) ≡ true → is_of t (mark_unless_of s (V.table.marks t)) ≡ true
+  over_live t o h = let z = not_left (t == s) (V.reserved t o) h in of_unmarked t s (V.table.marks t) ∙ rw z.0 (sound.owned_live t o z.1)
 
-  over_procs : (t q : ℕ) → is_of t (unmarked s (V.table.marks q)) ≡ true → (if t == s then false else V.touched t (Proc q)) ≡ true
+  over_procs : (t q : ℕ) → is_of t (mark_unless_of s (V.table.marks q)) ≡ true → (if t == s then false else V.reserved t (Proc q)) ≡ true
   over_procs t q h = let z = over_member t q h in rw z.0 (sound.own_procs t q z.1)
 
-  over_held : (t : ℕ) → is_of t (unmarked s (V.table.marks t)) ≡ true → (if t == s then false else V.touched t (Held t)) ≡ true
+  over_held : (t : ℕ) → is_of t (mark_unless_of s (V.table.marks t)) ≡ true → (if t == s then false else V.reserved t (Held t)) ≡ true
   over_held t h = let z = over_member t t h in rw z.0 (sound.own_held t z.1)
 
 pub commits_sound : (V : View) (ev : Event) (p : ℕ) → IsSound V → IsClear V ev → (s : ℕ) → Fits (Commits s) ev p V → IsSound (next_by (Commits s) ev p V)
 commits_sound V ev p sound clear s fits = record {
-  coherent = λ X Y o same. quiet_after V ev sound clear (less_one s X) (less_one s Y) (commits_quiet V ev s fits X) (commits_quiet V ev s fits Y) o
-      (sound.coherent (less_one s X) (less_one s Y) o (λ t k. less_same s X Y t (λ e. same t (rw e k))));
+  coherent = λ X Y o same. quiet_after V ev sound clear (starters_without s X) (starters_without s Y) (commits_quiet V ev s fits X) (commits_quiet V ev s fits Y) o
+      (sound.coherent (starters_without s X) (starters_without s Y) o (λ t k. less_same s X Y t (λ e. same t (rw e k))));
   owned_live = over_live V sound s;
-  single = λ t u o h k. sound.single t u o (over_touched V sound s t o h) (over_touched V sound s u o k);
+  single = λ t u o h k. sound.single t u o (over_reserved V sound s t o h) (over_reserved V sound s u o k);
   own_procs = over_procs V sound s;
   own_held = over_held V sound s;
-  held_own = λ t u h. sound.held_own t u (over_touched V sound s t (Held u) h);
-  width = λ X. after_width ev (V.without (less_one s X)) ∙ sound.width (less_one s X);
+  held_own = λ t u h. sound.held_own t u (over_reserved V sound s t (Held u) h);
+  width = λ X. after_width ev (V.without (starters_without s X)) ∙ sound.width (starters_without s X);
   starter_runs = λ t h. let z = over_member V sound s t t h in
       starter_keeps Runs runs_kept (Commits s) V ev p sound clear fits t z.1 (eq_comm s t ∙ z.0) (sound.starter_runs t z.1);
   bounded = λ t q h. sound.bounded t q (over_member V sound s t q h).1;
@@ -508,28 +509,28 @@ commits_sound V ev p sound clear s fits = record {
 
 -- a note keeps agreement, where its process is the same
 note_keeps : (s : ℕ) (r : ℤ) (S R : State) → AgreeAt S R (Proc s) → (o : Object) → AgreeAt S R o → AgreeAt (after (Note s r) S) (after (Note s r) R) o
-unfolding effect objects answers has
+unfolding effect objects post_answers has_object
 note_keeps s r S R a o h =
     after_keeps (Note s r) S R (effect_same (Note s r) S R (λ q k. by q k (same_object q (Proc s)) refl)) refl o h
   where
-    by : (q : Object) → has q (Proc s ∷ []) ≡ true → (b : Bool) → same_object q (Proc s) ≡ b → AgreeAt S R q
+    by : (q : Object) → has_object q (Proc s ∷ []) ≡ true → (b : Bool) → same_object q (Proc s) ≡ b → AgreeAt S R q
     by q k true e = subst (AgreeAt S R) (sym (same_true q (Proc s) e)) a
     by q k false e = let z : false ≡ true = rw e at k in cc
 
 pub aborts_sound : (V : View) (r : ℤ) (p : ℕ) → IsSound V → (s k : ℕ) → is_live V.table s ≡ true → IsSound (next_by (Aborts s k) (Note s r) p V)
 aborts_sound V r p sound s k live = record {
   coherent = λ X Y o same.
-      let proc : AgreeAt (V.without (with_one s X)) (V.without (with_one s Y)) (Proc s) =
-      sound.coherent (with_one s X) (with_one s Y) (Proc s) (λ t z. with_same s X Y t (λ e.
+      let proc : AgreeAt (V.without (starters_with s X)) (V.without (starters_with s Y)) (Proc s) =
+      sound.coherent (starters_with s X) (starters_with s Y) (Proc s) (λ t z. with_same s X Y t (λ e.
       absurd (both_ways (t == s) e (eq-eqb t s (sound.single t s (Proc s) z (sound.own_procs s s live)))))) in
-      note_keeps s r (V.without (with_one s X)) (V.without (with_one s Y)) proc o
-      (sound.coherent (with_one s X) (with_one s Y) o (λ t z. with_same s X Y t (λ e. same t (rw e z))));
+      note_keeps s r (V.without (starters_with s X)) (V.without (starters_with s Y)) proc o
+      (sound.coherent (starters_with s X) (starters_with s Y) o (λ t z. with_same s X Y t (λ e. same t (rw e z))));
   owned_live = over_live V sound s;
-  single = λ t u o h z. sound.single t u o (over_touched V sound s t o h) (over_touched V sound s u o z);
+  single = λ t u o h z. sound.single t u o (over_reserved V sound s t o h) (over_reserved V sound s u o z);
   own_procs = over_procs V sound s;
   own_held = over_held V sound s;
-  held_own = λ t u h. sound.held_own t u (over_touched V sound s t (Held u) h);
-  width = λ X. after_width (Note s r) (V.without (with_one s X)) ∙ sound.width (with_one s X);
+  held_own = λ t u h. sound.held_own t u (over_reserved V sound s t (Held u) h);
+  width = λ X. after_width (Note s r) (V.without (starters_with s X)) ∙ sound.width (starters_with s X);
   starter_runs = λ t h. let z = over_member V sound s t t h in
       starter_keeps Runs runs_kept (Aborts s k) V (Note s r) p sound tt (live, (r, refl)) t z.1 (eq_comm s t ∙ z.0) (sound.starter_runs t z.1);
   bounded = λ t q h. sound.bounded t q (over_member V sound s t q h).1;

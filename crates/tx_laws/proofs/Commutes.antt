@@ -1,10 +1,10 @@
 -- Two events that name different objects do the same in either order.
 use Rattle.std.proofs.Common.{◌≡◌, true, false, List, [], ◌∷◌, ◌++◌, sym, ap, ap₂, ◌∙◌, subst, inl, inr}
 use Rattle.std.proofs.lemmas.Bool.{both_ways, cases_Bool}
-use Rattle.tx_model.specs.State.{State, Sending, Object, Proc, has}
-use Rattle.tx_model.specs.Effects.{Effect, before_sends, send_answers}
+use Rattle.tx_model.specs.State.{State, Sending, Object, Proc, has_object}
+use Rattle.tx_model.specs.Effects.{Effect, send_answers}
+use Rattle.tx_model.specs.Words.{before_sends, processes_of}
 use Rattle.tx_model.specs.Events.{Event, effect, objects, after, reply_of}
-use Rattle.tx_model.specs.History.{processes_of}
 use Rattle.tx_model.specs.StateLaws.{state_ext, AgreePart, AgreeAt, AgreeOn}
 use Rattle.tx_laws.specs.Fits.{IsIn}
 use Rattle.tx_laws.specs.Commuting.{named_by, AreApart}
@@ -17,19 +17,19 @@ use Rattle.tx_laws.proofs.StepView.{elsewhere}
 
 apart_sym : (one other : Event) (S : State) → AreApart one other S → AreApart other one S
 apart_sym one other S apart o h =
-    elim (cases_Bool (has o (named_by one S))) [
-      | inl e ↦ absurd (both_ways (has o (named_by other S)) (apart o e) h)
+    elim (cases_Bool (has_object o (named_by one S))) [
+      | inl e ↦ absurd (both_ways (has_object o (named_by other S)) (apart o e) h)
       | inr e ↦ e
     ]
 
 -- an event leaves alone what it does not name
-else_same : (ev : Event) (S : State) (o : Object) → has o (named_by ev S) ≡ false → AgreeAt (after ev S) S o
+else_same : (ev : Event) (S : State) (o : Object) → has_object o (named_by ev S) ≡ false → AgreeAt (after ev S) S o
 unfolding named_by
 else_same ev S o h = elsewhere ev S o h
 
-target_in : (ms : List Sending) (m : Sending) → IsIn m ms → has (Proc m.target) (processes_of ms) ≡ true
+target_in : (ms : List Sending) (m : Sending) → IsIn m ms → has_object (Proc m.target) (processes_of ms) ≡ true
 target_in [] m i = absurd i
-target_in (n ∷ ms) m (inl i) = subst (λ (x : Sending). has (Proc m.target) (Proc x.target ∷ processes_of ms) ≡ true) i (has_head (Proc m.target) (processes_of ms))
+target_in (n ∷ ms) m (inl i) = subst (λ (x : Sending). has_object (Proc m.target) (Proc x.target ∷ processes_of ms) ≡ true) i (has_head (Proc m.target) (processes_of ms))
 target_in (n ∷ ms) m (inr i) = has_tail (Proc m.target) (Proc n.target) (processes_of ms) (target_in ms m i)
 
 -- an event does the same in two states that agree at what it names
@@ -70,22 +70,22 @@ reply_apart one other S apart =
     sym (reply_same one S (after other S) (effect_named one S (after other S) a) (sent_named one S (after other S) a))
 
 -- at what the first event names, the second is as if it were not
-at_named : (one other : Event) (S : State) → AreApart one other S → (o : Object) → has o (named_by one S) ≡ true → AgreePart (after one (after other S)) (after other (after one S)) o
+at_named : (one other : Event) (S : State) → AreApart one other S → (o : Object) → has_object o (named_by one S) ≡ true → AgreePart (after one (after other S)) (after other (after one S)) o
 at_named one other S apart o h =
     let a : AgreeOn (named_by one S) S (after other S) = agree_after one other S apart in
     let b : AgreeOn (named_by other S) S (after one S) = agree_after other one S (apart_sym one other S apart) in
-    let quiet : has o (named_by other (after one S)) ≡ false = subst (λ (os : List Object). has o os ≡ false) (named_same other S (after one S) b) (apart o h) in
+    let quiet : has_object o (named_by other (after one S)) ≡ false = subst (λ (os : List Object). has_object o os ≡ false) (named_same other S (after one S) b) (apart o h) in
     part_trans (after one (after other S)) (after one S) (after other (after one S)) o
     (part_sym (after one S) (after one (after other S)) o
     (after_part one S (after other S) (effect_named one S (after other S) a) (sent_named one S (after other S) a) o (a o h).part))
     (part_sym (after other (after one S)) (after one S) o (else_same other (after one S) o quiet).part)
 
 -- elsewhere, the first is
-at_other : (one other : Event) (S : State) → AreApart one other S → (o : Object) → has o (named_by one S) ≡ false → AgreePart (after one (after other S)) (after other (after one S)) o
+at_other : (one other : Event) (S : State) → AreApart one other S → (o : Object) → has_object o (named_by one S) ≡ false → AgreePart (after one (after other S)) (after other (after one S)) o
 at_other one other S apart o h =
     let a : AgreeOn (named_by one S) S (after other S) = agree_after one other S apart in
     let b : AgreeOn (named_by other S) S (after one S) = agree_after other one S (apart_sym one other S apart) in
-    let quiet : has o (named_by one (after other S)) ≡ false = subst (λ (os : List Object). has o os ≡ false) (named_same one S (after other S) a) h in
+    let quiet : has_object o (named_by one (after other S)) ≡ false = subst (λ (os : List Object). has_object o os ≡ false) (named_same one S (after other S) a) h in
     part_trans (after one (after other S)) (after other S) (after other (after one S)) o
     (else_same one (after other S) o quiet).part
     (after_part other S (after one S) (effect_named other S (after one S) b) (sent_named other S (after one S) b) o
@@ -96,7 +96,7 @@ after_apart one other S apart =
     state_ext (after one (after other S)) (after other (after one S))
     (after_width one (after other S) ∙ after_width other S ∙ sym (after_width one S) ∙ sym (after_width other (after one S)))
     (λ o.
-    elim (cases_Bool (has o (named_by one S))) [
+    elim (cases_Bool (has_object o (named_by one S))) [
       | inl h ↦ at_named one other S apart o h
       | inr h ↦ at_other one other S apart o h
     ])

@@ -7,26 +7,27 @@ use Rattle.tx_base.specs.declared.steps.Call.{Call}
 use Rattle.tx_base.specs.declared.steps.Reply.TheVariants.{Done}
 use Rattle.tx_base.specs.declared.steps.Step.{Step}
 use Rattle.tx_base.specs.declared.steps.Step.TheVariants.{Call as Calls}
-use Rattle.tx_model.specs.Forms.{fails, posts as posts_of, effect_of, ◌or◌}
-use Rattle.tx_model.specs.Book.{sigqueue, sent_by}
+use Rattle.tx_model.specs.Forms.{fails, posts as posts_of, effect_of, ◌or◌, caller}
+use Rattle.tx_model.specs.Book.{sigqueue, sending_from, page_of_call}
 use Rattle.tx_base.specs.declared.errors.Errno.TheVariants.{NoSuchProcess}
 use Rattle.tx_model.specs.SignalSets.{kill_signo, is_realtime, with_one_more}
-use Rattle.tx_model.specs.State.{Process, State, Sending, written, is_between}
-use Rattle.tx_model.specs.Posts.{may_signal, is_quiet, has_room, with_queued, with_pending, received, post_answer, post, posts, answers}
-use Rattle.tx_model.specs.Effects.{Effect, AnswersPost, noted_if, send_answers, applied, concluding_reply}
-use Rattle.tx_model.specs.Calls.{MakesCall, call_effect, running_effect, effect_at}
+use Rattle.tx_model.specs.State.{Process, State, Sending, with_writes, is_between}
+use Rattle.tx_model.specs.Posts.{may_signal, is_quiet, has_room, target_after, post_answer, after_post, after_posts, post_answers}
+use Rattle.tx_model.specs.Effects.{Effect, AnswersPost, with_answer_if, send_answers, after_effect, concluding_reply}
+use Rattle.tx_model.specs.BookLaws.{runs_as}
+use Rattle.tx_model.specs.Words.{call_effect, kind_of, next_by, with_queued, with_pending}
 use Rattle.tx_model.specs.Events.{Event, Do, process_of, effect, after, reply_of}
-use Rattle.tx_model.specs.Membership.{is_live, Role, Outside, Ordinary, kind_of, role, event}
+use Rattle.tx_model.specs.Membership.{is_live, Role, Outside, Ordinary, role, event}
 use Rattle.tx_model.specs.History.{nobody, just}
-use Rattle.tx_model.specs.View.{View, present, has_pending, is_doomed, abort_status, role_on, event_on, next, next_by}
+use Rattle.tx_model.specs.View.{View, present, has_pending, is_doomed, abort_status, role_on, event_on, next}
 use Rattle.tx_model.specs.Answer.{is_running, refusal, plain_reply, accepted_reply, answer, IsAccepted}
 use Rattle.tx_laws.specs.Fits.{Fits, Passes, ends_it}
 use Rattle.tx_laws.specs.Sound.{IsSound}
 use Rattle.tx_laws.proofs.Coherence.{starter_keeps, quiet_effect, quiet_sent, outside_quiet}
-use Rattle.tx_laws.proofs.OfPages.{caller}
 use Rattle.tx_laws.proofs.KeptByPosts.{IsKept, concluded_keeps}
 use Rattle.tx_laws.proofs.StepView.{IsFitting, fitting}
 use Rattle.tx_laws.proofs.Taken.{IsTaken, taken, unless_accepted, unrefused}
+use Rattle.tx_laws.proofs.OfActs.{runs_some}
 
 -- SIGKILL is pending at the process
 abbrev Killed : Option Process → Type 0
@@ -49,11 +50,11 @@ killed_kept = record { posted = posted; noted = noted }
     by m q h true false true false = h
     by m q h true false false d = more_pending q.pending m.signo h
 
-    posted : (m : Sending) (x : Option Process) → Killed x → Killed (received m x)
+    posted : (m : Sending) (x : Option Process) → Killed x → Killed (target_after m x)
     posted m None h = h
     posted m (Some q) h = by m q h (may_signal m.from q.ids) (is_quiet m q) (is_realtime m.signo) (has_room q)
 
-    noted : (r : ℤ) (x : Option Process) → Killed x → Killed (noted_if r x)
+    noted : (r : ℤ) (x : Option Process) → Killed x → Killed (with_answer_if r x)
     noted r None h = h
     noted r (Some q) h = h
 
@@ -65,18 +66,10 @@ doom_stays V step s sound a live goes_on doomed =
     let f : IsFitting V step = fitting V step sound a in
     starter_keeps Killed killed_kept (role_on V step) V (event_on V step) (process_of step) sound f.passes f.fits s live goes_on doomed
 
-runs_some : (x : Option Process) → is_running x ≡ true → (me : Process) × (x ≡ Some me) × (me.status ≡ None)
-runs_some None h = cc
-runs_some (Some me) h = (me, refl, by me.status h)
-  where
-    by : (y : Option ℕ) → is_none y ≡ true → y ≡ None
-    by None k = refl
-    by (Some n) k = cc
-
 -- a running process that a SIGKILL is let through to has it pending
-killed_by : (me : Process) (s : ℕ) (value : ℤ) (x : Option Process) → is_running x ≡ true → s ≢ 1 → post_answer (sent_by me s 9 value) x ≡ pos 0 → Killed (received (sent_by me s 9 value) x)
+killed_by : (me : Process) (s : ℕ) (value : ℤ) (x : Option Process) → is_running x ≡ true → s ≢ 1 → post_answer (sending_from me s 9 value) x ≡ pos 0 → Killed (target_after (sending_from me s 9 value) x)
 killed_by me s value None run other h = cc
-killed_by me s value (Some q) run other h = by (may_signal (sent_by me s 9 value).from q.ids) h (s == 1) (ne_eqb s 1 other) (is_some q.status) (none q.status run)
+killed_by me s value (Some q) run other h = by (may_signal (sending_from me s 9 value).from q.ids) h (s == 1) (ne_eqb s 1 other) (is_some q.status) (none q.status run)
   where
     none : (y : Option ℕ) → is_none y ≡ true → is_some y ≡ false
     none None k = refl
@@ -93,26 +86,26 @@ posts_now p m = record { writes = []; sends = m ∷ []; conclusion = AnswersPost
 
 -- the effect of an outsider's SIGKILL
 kill_effect : (call : Call) (pid : Pid) (s : ℕ) (value : ℤ) (S : State) (me : Process) → S.procs pid.0 ≡ Some me → me.status ≡ None → is_between S.width s ≡ true
-    → call_effect None pid.0 call me S ≡ effect_of pid.0 me (sigqueue (pos s) (pos 9) value (caller None pid.0 me S)) → effect (Do (Calls pid call) None) S ≡ posts_now pid.0 (sent_by me s 9 value)
+    → call_effect None pid.0 call me S ≡ effect_of pid.0 me (sigqueue (pos s) (pos 9) value (caller None pid.0 me S)) → effect (Do (Calls pid call) None) S ≡ posts_now pid.0 (sending_from me s 9 value)
 unfolding effect
 kill_effect call pid s value S me e run there same =
-    ap (effect_at None pid.0 (MakesCall call) S) e ∙ ap (running_effect None pid.0 (MakesCall call) S me) run ∙ same
-    ∙ ap (λ (b : Bool). effect_of pid.0 me (((if b then Some s else None) or fails NoSuchProcess) λ target. posts_of (sent_by me target 9 value))) there
+    runs_as None pid.0 (page_of_call call) S me e run ∙ same
+    ∙ ap (λ (b : Bool). effect_of pid.0 me (((if b then Some s else None) or fails NoSuchProcess) λ target. posts_of (sending_from me target 9 value))) there
 
 -- the reply to a post, and what it makes of its target
 posts_reply : (ev : Event) (p : ℕ) (m : Sending) (S : State) → effect ev S ≡ posts_now p m → reply_of ev S ≡ Done (post_answer m (S.procs m.target))
-unfolding reply_of answers written
+unfolding reply_of post_answers with_writes
 posts_reply ev p m S e = ap (λ (f : Effect). concluding_reply f.conclusion f.sends (send_answers f S)) e
 
 posts_answers : (p : ℕ) (m : Sending) (S : State) → send_answers (posts_now p m) S ≡ post_answer m (S.procs m.target) ∷ []
-unfolding answers written
+unfolding post_answers with_writes
 posts_answers p m S = refl
 
-posts_killed : (ev : Event) (p : ℕ) (m : Sending) (S : State) → effect ev S ≡ posts_now p m → Killed (received m (S.procs m.target)) → Killed ((after ev S).procs m.target)
-unfolding after posts written
+posts_killed : (ev : Event) (p : ℕ) (m : Sending) (S : State) → effect ev S ≡ posts_now p m → Killed (target_after m (S.procs m.target)) → Killed ((after ev S).procs m.target)
+unfolding after after_posts with_writes
 posts_killed ev p m S e h =
-    subst (λ (f : Effect). Killed ((applied f (send_answers f S) S).procs m.target)) (sym e)
-    (concluded_keeps Killed killed_kept m.target (AnswersPost p) (send_answers (posts_now p m) S) (post m S) (rw (eq-eqb m.target m.target refl) h))
+    subst (λ (f : Effect). Killed ((after_effect f (send_answers f S) S).procs m.target)) (sym e)
+    (concluded_keeps Killed killed_kept m.target (AnswersPost p) (send_answers (posts_now p m) S) (after_post m S) (rw (eq-eqb m.target m.target refl) h))
 
 -- an outsider's call that sends SIGKILL to the starter of a live transaction, and is answered 0
 module _ (V : View) (pid : Pid) (s : ℕ) (call : Call) (value : ℤ) (kind : kind_of call ≡ Ordinary)
@@ -157,7 +150,7 @@ module _ (V : View) (pid : Pid) (s : ℕ) (call : Call) (value : ℤ) (kind : ki
 
       by : (me : Process) × ((present V).procs pid.0 ≡ Some me) × (me.status ≡ None) → Killed ((after ev W).procs s)
       by (me, here, run) =
-          let m : Sending = sent_by me s 9 value in
+          let m : Sending = sending_from me s 9 value in
           let now : effect ev (present V) ≡ posts_now pid.0 m = kill_effect call pid s value (present V) me here run
           (ap (λ (n : ℕ). is_between n s) (sound.width nobody) ∙ sound.bounded s s live) (sends me (present V)) in
           let quiet = outside_quiet V ev as_is.0 (just s) in

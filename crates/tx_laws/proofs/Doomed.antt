@@ -12,8 +12,9 @@ use Rattle.tx_base.specs.declared.steps.Step.{Step}
 use Rattle.tx_base.specs.declared.steps.Step.TheVariants.{Call as Calls, Deliver, KernelAbort}
 use Rattle.tx_model.specs.Events.{Event, process_of}
 use Rattle.tx_model.specs.Membership.{is_live, Progress, Role, Within}
-use Rattle.tx_model.specs.View.{View, present, is_doomed, role_on, event_on, next_by, next}
-use Rattle.tx_model.specs.Answer.{is_running, is_there, has_bad_number, has_number_in_use, is_doomed_at, unless_refused, accepted_reply, answer, IsAccepted}
+use Rattle.tx_model.specs.View.{View, present, is_doomed, role_on, event_on, next}
+use Rattle.tx_model.specs.Answer.{is_running, is_there, is_doomed_at, accepted_reply, answer, IsAccepted}
+use Rattle.tx_model.specs.Words.{unless_refused, has_bad_number, has_number_in_use, next_by}
 
 -- a step of a doomed transaction is refused, if not for a reason before that
 too_late : (there running number taken doomed : Bool) (rest : Option Refusal) (r : Reply) → doomed ≡ true

@@ -1,13 +1,12 @@
 -- An event changes nothing but its objects and its targets.
 use Rattle.std.proofs.Common.{◌≡◌, ℕ, Bool, true, false, List, [], ◌∷◌, ◌++◌, ℤ, Option, if◌then◌else◌, ◌==◌, refl, sym, ap, ◌∙◌, eqb-true}
 use Rattle.tx_base.specs.declared.steps.Step.{Step}
-use Rattle.tx_base.specs.declared.steps.Step.TheVariants.{Call as Calls, Deliver, KernelAbort}
-use Rattle.tx_model.specs.State.{Process, State, Sending, Object, Proc, Desc, Pipe, Held, Write, SetProc, SetDesc, SetPipe, SetHeld, write_one, written, has_parent, names_at, side_in, same_object, has}
+use Rattle.tx_base.specs.declared.steps.Step.TheVariants.{KernelAbort}
+use Rattle.tx_model.specs.State.{Process, State, Sending, Object, Proc, Desc, Pipe, Held, Write, SetProc, SetDesc, SetPipe, SetHeld, write_one, with_writes, has_parent, names_at, side_in, same_object, has_object}
 use Rattle.tx_model.specs.StateLaws.{AgreeAt}
-use Rattle.tx_model.specs.Posts.{received, post, posts}
-use Rattle.tx_model.specs.Effects.{Inside, Conclusion, Replies, AnswersPost, ListsFailed, Effect, noted_if, first_answer, concluded, send_answers}
-use Rattle.tx_model.specs.Calls.{MakesCall, TakesSignal}
-use Rattle.tx_model.specs.Events.{Event, Do, Note, Commit, step_effect, effect, step_objects, objects, after}
+use Rattle.tx_model.specs.Posts.{target_after, after_post, after_posts}
+use Rattle.tx_model.specs.Effects.{Inside, Conclusion, Replies, AnswersPost, ListsFailed, Effect, with_answer_if, first_answer, after_conclusion, send_answers}
+use Rattle.tx_model.specs.Events.{Event, Do, Note, Commit, process_of, page_of_step, objects_at, step_effect, effect, objects, after}
 use Rattle.tx_laws.proofs.Agree.{agree_refl, agree_trans, KeepsFamily, edited_at, received_keeps, noted_keeps}
 use Rattle.tx_laws.proofs.OfActs.{act_fits}
 use Rattle.tx_laws.proofs.Objects.{WriteFits, WritesFit, TargetsIn, ConclusionIn, Covers, has_head, has_tail, different, writes_append}
@@ -20,7 +19,7 @@ put_seen {A} {B} view f g k x e h q = by (q == k) (λ z. eqb-true q k z)
     by true z = e ∙ sym (ap (λ (m : ℕ). view (g m)) (z refl))
     by false z = h q
 
-write_else : (w : Write) (S T : State) (os : List Object) (o : Object) → WriteFits S os w → has o os ≡ false → AgreeAt T S o → AgreeAt (write_one w T) S o
+write_else : (w : Write) (S T : State) (os : List Object) (o : Object) → WriteFits S os w → has_object o os ≡ false → AgreeAt T S o → AgreeAt (write_one w T) S o
 write_else (SetProc k x) S T os (Proc n) f h a = record {
   width = a.width;
   part = rw (different (Proc n) (Proc k) os f.0 h) a.part;
@@ -50,8 +49,8 @@ write_else (SetHeld k x) S T os (Desc n) f h a = record { width = a.width; part 
 write_else (SetHeld k x) S T os (Pipe n) f h a = record { width = a.width; part = a.part; family = a.family }
 write_else (SetHeld k x) S T os (Held n) f h a = record { width = a.width; part = rw (different (Held n) (Held k) os f h) a.part; family = tt }
 
-pub written_else : (ws : List Write) (S T : State) (os : List Object) (o : Object) → WritesFit S os ws → has o os ≡ false → AgreeAt T S o → AgreeAt (written ws T) S o
-unfolding written
+pub written_else : (ws : List Write) (S T : State) (os : List Object) (o : Object) → WritesFit S os ws → has_object o os ≡ false → AgreeAt T S o → AgreeAt (with_writes ws T) S o
+unfolding with_writes
 written_else [] S T os o f h a = a
 written_else (w ∷ ws) S T os o f h a = written_else ws S (write_one w T) os o f.1 h (write_else w S T os o f.0 h a)
 
@@ -70,16 +69,16 @@ edit_else g k t S (Desc n) h = record {
 edit_else g k t S (Pipe n) h = record { width = refl; part = refl; family = λ d. refl }
 edit_else g k t S (Held n) h = record { width = refl; part = refl; family = tt }
 
-posts_else : (ms : List Sending) (S : State) (os : List Object) (o : Object) → TargetsIn ms os → has o os ≡ false → AgreeAt (posts ms S) S o
-unfolding posts
+posts_else : (ms : List Sending) (S : State) (os : List Object) (o : Object) → TargetsIn ms os → has_object o os ≡ false → AgreeAt (after_posts ms S) S o
+unfolding after_posts
 posts_else [] S os o i h = agree_refl S o
 posts_else (m ∷ ms) S os o i h =
-    agree_trans (posts ms (post m S)) (post m S) S o (posts_else ms (post m S) os o i.1 h)
-    (edit_else (received m) (received_keeps m) m.target S o (different o (Proc m.target) os i.0 h))
+    agree_trans (after_posts ms (after_post m S)) (after_post m S) S o (posts_else ms (after_post m S) os o i.1 h)
+    (edit_else (target_after m) (received_keeps m) m.target S o (different o (Proc m.target) os i.0 h))
 
-pub concluded_else : (c : Conclusion) (rs : List ℤ) (S : State) (os : List Object) (o : Object) → ConclusionIn c os → has o os ≡ false → AgreeAt (concluded c rs S) S o
+pub concluded_else : (c : Conclusion) (rs : List ℤ) (S : State) (os : List Object) (o : Object) → ConclusionIn c os → has_object o os ≡ false → AgreeAt (after_conclusion c rs S) S o
 concluded_else (Replies r) rs S os o i h = agree_refl S o
-concluded_else (AnswersPost p) rs S os o i h = edit_else (noted_if (first_answer rs)) (noted_keeps (first_answer rs)) p S o (different o (Proc p) os i h)
+concluded_else (AnswersPost p) rs S os o i h = edit_else (with_answer_if (first_answer rs)) (noted_keeps (first_answer rs)) p S o (different o (Proc p) os i h)
 concluded_else ListsFailed rs S os o i h = agree_refl S o
 
 -- the effect stays in these objects
@@ -88,24 +87,23 @@ pub record EffectFits (S : State) (os : List Object) (f : Effect) : Type 0 where
   pub sends : TargetsIn f.sends os
   pub conclusion : ConclusionIn f.conclusion os
 
-pub after_else : (ev : Event) (S : State) (os : List Object) (o : Object) → EffectFits S os (effect ev S) → has o os ≡ false → AgreeAt (after ev S) S o
+pub after_else : (ev : Event) (S : State) (os : List Object) (o : Object) → EffectFits S os (effect ev S) → has_object o os ≡ false → AgreeAt (after ev S) S o
 unfolding after
 after_else ev S os o i h =
     let f : Effect = effect ev S in
-    let R : State = written f.writes S in
-    agree_trans (concluded f.conclusion (send_answers f S) (posts f.sends R)) (posts f.sends R) S o
-    (concluded_else f.conclusion (send_answers f S) (posts f.sends R) os o i.conclusion h)
-    (agree_trans (posts f.sends R) R S o (posts_else f.sends R os o i.sends h) (written_else f.writes S S os o i.writes h (agree_refl S o)))
+    let R : State = with_writes f.writes S in
+    agree_trans (after_conclusion f.conclusion (send_answers f S) (after_posts f.sends R)) (after_posts f.sends R) S o
+    (concluded_else f.conclusion (send_answers f S) (after_posts f.sends R) os o i.conclusion h)
+    (agree_trans (after_posts f.sends R) R S o (posts_else f.sends R os o i.sends h) (written_else f.writes S S os o i.writes h (agree_refl S o)))
 
 targets_left : (xs ys : List Sending) (os : List Object) → TargetsIn (xs ++ ys) os → TargetsIn xs os
 targets_left [] ys os i = tt
 targets_left (x ∷ xs) ys os i = (i.0, targets_left xs ys os i.1)
 
-step_fits : (step : Step) (inside : Option Inside) (S : State) (os : List Object) → Covers os (step_objects step inside S)
+step_fits : (step : Step) (inside : Option Inside) (S : State) (os : List Object) → Covers os (objects_at inside (process_of step) (page_of_step step) S)
     → WritesFit S os (step_effect step inside S).writes × ConclusionIn (step_effect step inside S).conclusion os
-step_fits (Calls p call) inside S os c = act_fits inside p.0 (MakesCall call) S os c
-step_fits (Deliver p signo) inside S os c = act_fits inside p.0 (TakesSignal signo.0) S os c
 step_fits (KernelAbort s) inside S os c = (tt, tt)
+step_fits step inside S os c = act_fits inside (process_of step) step S os c
 
 pub event_fits : (ev : Event) (S : State) (os : List Object) → Covers os (objects ev S) → WritesFit S os (effect ev S).writes × ConclusionIn (effect ev S).conclusion os
 unfolding effect objects

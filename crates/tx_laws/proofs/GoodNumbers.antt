@@ -5,9 +5,10 @@ use Rattle.tx_base.specs.declared.steps.Reply.{Reply}
 use Rattle.tx_base.specs.declared.steps.Step.{Step}
 use Rattle.tx_base.specs.declared.steps.Step.TheVariants.{Call as Calls, Deliver, KernelAbort}
 use Rattle.tx_model.specs.Events.{Event}
-use Rattle.tx_model.specs.Membership.{Table, Role, Outside, Within, Commits, Aborts, Kind, Ordinary, Forking, Beginning, Leaving, Aborting, kind_of, kind_event, step_event, event_in}
+use Rattle.tx_model.specs.Membership.{Table, Role, Outside, Within, Commits, Aborts, Kind, Ordinary, Forking, Beginning, Leaving, Aborting, kind_event, step_event, event_in}
+use Rattle.tx_model.specs.Words.{kind_of, has_bad_number}
 use Rattle.tx_model.specs.View.{View, first_reply, role_on, event_on}
-use Rattle.tx_model.specs.Answer.{has_bad_number, refusal, accepted_reply, answer, IsAccepted}
+use Rattle.tx_model.specs.Answer.{refusal, accepted_reply, answer, IsAccepted}
 use Rattle.tx_laws.specs.WellFormed.{HasGoodNumbers}
 use Rattle.tx_laws.proofs.Taken.{unless_accepted, unrefused}
 

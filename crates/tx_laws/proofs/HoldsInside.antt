@@ -4,13 +4,14 @@ use Rattle.tx_base.specs.declared.steps.Call.{Call}
 use Rattle.tx_base.specs.declared.steps.Call.TheVariants as call
 use Rattle.tx_base.specs.declared.steps.Step.{Step}
 use Rattle.tx_base.specs.declared.steps.Step.TheVariants.{Call as Calls, Deliver, KernelAbort}
-use Rattle.tx_model.specs.State.{Process, State, Object, Proc, Held, same_object, has}
+use Rattle.tx_model.specs.State.{Process, State, Object, Proc, Held, same_object, has_object}
 use Rattle.tx_model.specs.Effects.{Inside}
 use Rattle.tx_model.specs.Descriptors.{open_in, desc_pipe_objects}
 use Rattle.tx_model.specs.Processes.{children_of, procs_of, held_objects, ending_objects}
 use Rattle.tx_model.specs.Deliveries.{delivered_value, ends_by}
-use Rattle.tx_model.specs.Calls.{call_objects, Act, MakesCall, TakesSignal, act_objects, objects_at, act_footprint}
-use Rattle.tx_model.specs.Events.{Event, Do, Note, Commit, step_objects, objects}
+use Rattle.tx_model.specs.Forms.{caller, ◌or◌}
+use Rattle.tx_model.specs.Words.{call_objects}
+use Rattle.tx_model.specs.Events.{Event, Do, Note, Commit, process_of, page_of_step, objects_at, objects}
 use Rattle.tx_laws.specs.Fits.{IsInsideOf, HoldsFor}
 use Rattle.tx_laws.proofs.Coherence.{or_true, has_either}
 use Rattle.tx_laws.proofs.Objects.{same_true, has_left}
@@ -20,21 +21,21 @@ use Rattle.tx_laws.proofs.OfActs.{act_holds}
 abbrev of_starter : ℕ → Inside
 of_starter s = record { starter = s; members = λ n. false; defers = false }
 
-has_nothing : (o : Object) → has o [] ≡ true → ⊥
-unfolding has
+has_nothing : (o : Object) → has_object o [] ≡ true → ⊥
+unfolding has_object
 has_nothing o h = cc
 
-at_tail : (o x : Object) (os ps : List Object) → (has o os ≡ true → has o ps ≡ true) → has o (x ∷ os) ≡ true → has o (x ∷ ps) ≡ true
-unfolding has
+at_tail : (o x : Object) (os ps : List Object) → (has_object o os ≡ true → has_object o ps ≡ true) → has_object o (x ∷ os) ≡ true → has_object o (x ∷ ps) ≡ true
+unfolding has_object
 at_tail o x os ps f h = by (same_object o x) h
   where
-    by : (b : Bool) → (if b then true else has o os) ≡ true → (if b then true else has o ps) ≡ true
+    by : (b : Bool) → (if b then true else has_object o os) ≡ true → (if b then true else has_object o ps) ≡ true
     by true k = refl
     by false k = f k
 
 -- what an act reads and writes outside, it reads and writes inside
 module _ (s p : ℕ) (me : Process) (S : State) (o : Object) where
-  ending_inside : has o (ending_objects None p me S) ≡ true → has o (ending_objects (Some (of_starter s)) p me S) ≡ true
+  ending_inside : has_object o (ending_objects (caller None p me S)) ≡ true → has_object o (ending_objects (caller (Some (of_starter s)) p me S)) ≡ true
   ending_inside h =
       let xs : List Object = desc_pipe_objects (open_in me.descriptors) S ++ procs_of (children_of p S) in
       elim (has_either o xs [] h) [
@@ -42,10 +43,10 @@ module _ (s p : ℕ) (me : Process) (S : State) (o : Object) where
         | inr a ↦ absurd (has_nothing o a)
       ]
 
-  call_inside : (c : Call) → has o (call_objects None c p me S) ≡ true → has o (call_objects (Some (of_starter s)) c p me S) ≡ true
+  call_inside : (c : Call) → has_object o (call_objects None c p me S) ≡ true → has_object o (call_objects (Some (of_starter s)) c p me S) ≡ true
   call_inside (call.Exit status) h = by (p == 1) h
     where
-      by : (b : Bool) → has o (if b then [] else ending_objects None p me S) ≡ true → has o (if b then [] else ending_objects (Some (of_starter s)) p me S) ≡ true
+      by : (b : Bool) → has_object o (if b then [] else ending_objects (caller None p me S)) ≡ true → has_object o (if b then [] else ending_objects (caller (Some (of_starter s)) p me S)) ≡ true
       by true k = k
       by false k = ending_inside k
   call_inside (call.Kill t signo) h = absurd (has_nothing o h)
@@ -56,46 +57,47 @@ module _ (s p : ℕ) (me : Process) (S : State) (o : Object) where
   ends_inside signo None = refl
   ends_inside signo (Some value) = refl
 
-  delivery_inside : (b c : Bool) → b ≡ c → has o (if b then ending_objects None p me S else []) ≡ true → has o (if c then ending_objects (Some (of_starter s)) p me S else []) ≡ true
+  delivery_inside : (b c : Bool) → b ≡ c → has_object o (if b then ending_objects (caller None p me S) else []) ≡ true → has_object o (if c then ending_objects (caller (Some (of_starter s)) p me S) else []) ≡ true
   delivery_inside true true e k = ending_inside k
   delivery_inside true false e k = cc
   delivery_inside false true e k = cc
   delivery_inside false false e k = k
 
-  act_inside : (act : Act) → has o (act_objects None p act me S) ≡ true → has o (act_objects (Some (of_starter s)) p act me S) ≡ true
-  act_inside (MakesCall c) h = call_inside c h
-  act_inside (TakesSignal signo) h =
-      delivery_inside (ends_by None signo me (delivered_value signo me)) (ends_by (Some (of_starter s)) signo me (delivered_value signo me)) (ends_inside signo (delivered_value signo me)) h
+  step_inside : (step : Step) → has_object o ((page_of_step step).names (caller None p me S)) ≡ true → has_object o ((page_of_step step).names (caller (Some (of_starter s)) p me S)) ≡ true
+  step_inside (Calls pid c) h = call_inside c h
+  step_inside (Deliver pid signo) h =
+      delivery_inside (ends_by None signo.0 me (delivered_value signo.0 me)) (ends_by (Some (of_starter s)) signo.0 me (delivered_value signo.0 me)) (ends_inside signo.0 (delivered_value signo.0 me)) h
+  step_inside (KernelAbort t) h = h
 
-at_inside : (s p : ℕ) (act : Act) (S : State) (o : Object) (x : Option Process) → has o (Proc p ∷ objects_at None p act S x) ≡ true → has o (Proc p ∷ objects_at (Some (of_starter s)) p act S x) ≡ true
-at_inside s p act S o None h = h
-at_inside s p act S o (Some me) h = at_tail o (Proc p) (act_objects None p act me S) (act_objects (Some (of_starter s)) p act me S) (act_inside s p me S o act) h
+at_inside : (s p : ℕ) (step : Step) (S : State) (o : Object) → has_object o (objects_at None p (page_of_step step) S) ≡ true → has_object o (objects_at (Some (of_starter s)) p (page_of_step step) S) ≡ true
+at_inside s p step S o = by (S.procs p)
+  where
+    named : Option Inside → Option Process → List Object
+    named inside x = Proc p ∷ ((x or []) λ me. (page_of_step step).names (caller inside p me S))
+
+    by : (x : Option Process) → has_object o (named None x) ≡ true → has_object o (named (Some (of_starter s)) x) ≡ true
+    by None h = h
+    by (Some me) h = at_tail o (Proc p) _ _ (step_inside s p me S o step) h
 
 -- outside of all transactions nothing held is named
-holds_outside : (p : ℕ) (act : Act) (S : State) (u : ℕ) → has (Held u) (act_footprint None p act S) ≡ true → ⊥
-holds_outside p act S u h =
-    let k : u ≡ suc u = act_holds (Some (of_starter (suc u))) p act (of_starter (suc u)) refl S u (at_inside (suc u) p act S (Held u) (S.procs p) h) in
+holds_outside : (p : ℕ) (step : Step) (S : State) (u : ℕ) → has_object (Held u) (objects_at None p (page_of_step step) S) ≡ true → ⊥
+holds_outside p step S u h =
+    let k : u ≡ suc u = act_holds (Some (of_starter (suc u))) p step (of_starter (suc u)) refl S u (at_inside (suc u) p step S (Held u) h) in
     omega arith
 
-act_held : (inside : Option Inside) (p : ℕ) (act : Act) (S : State) (u : ℕ) → has (Held u) (act_footprint inside p act S) ≡ true → IsInsideOf u inside
-act_held None p act S u h = holds_outside p act S u h
-act_held (Some i) p act S u h = sym (act_holds (Some i) p act i refl S u h)
-
-step_held : (step : Step) (inside : Option Inside) (S : State) (u : ℕ) → has (Held u) (step_objects step inside S) ≡ true → IsInsideOf u inside
-unfolding has
-step_held (Calls p call) inside S u h = act_held inside p.0 (MakesCall call) S u h
-step_held (Deliver p signo) inside S u h = act_held inside p.0 (TakesSignal signo.0) S u h
-step_held (KernelAbort s) inside S u h = cc
+step_held : (p : ℕ) (step : Step) (inside : Option Inside) (S : State) (u : ℕ) → has_object (Held u) (objects_at inside p (page_of_step step) S) ≡ true → IsInsideOf u inside
+step_held p step None S u h = holds_outside p step S u h
+step_held p step (Some i) S u h = sym (act_holds (Some i) p step i refl S u h)
 
 held_is : (u s : ℕ) → Held u ≡ Held s → u ≡ s
 held_is u s e = cc
 
 -- what a transaction holds is an object of an event that is made inside of it, or commits it, alone
-pub holds_own : (ev : Event) (S : State) (u : ℕ) → has (Held u) (objects ev S) ≡ true → HoldsFor u ev
-unfolding objects has
-holds_own (Do step inside) S u h = step_held step inside S u h
+pub holds_own : (ev : Event) (S : State) (u : ℕ) → has_object (Held u) (objects ev S) ≡ true → HoldsFor u ev
+unfolding objects has_object
+holds_own (Do step inside) S u h = step_held (process_of step) step inside S u h
 holds_own (Note p r) S u h = cc
-holds_own (Commit s ev) S u h = elim (or_true _ (has (Held u) (objects ev S)) h) [
+holds_own (Commit s ev) S u h = elim (or_true _ (has_object (Held u) (objects ev S)) h) [
   | inl e ↦ inl (held_is u s (same_true (Held u) (Held s) e))
   | inr e ↦ inr (holds_own ev S u e)
 ]

@@ -1,42 +1,41 @@
 -- Deliveries and sends leave a state well formed.
 use Rattle.std.proofs.Common.{◌≡◌, ◌≢◌, ℕ, suc, ◌+◌, ◌<◌, ◌≤◌, Bool, true, false, not, ◌^◌, List, [], ◌∷◌, ◌++◌, length, ℤ, pos, Option, Some, None, if◌then◌else◌, nat_lt, ◌==◌, bit_and, refl, sym, ap, ◌∙◌, subst, arith, length-append}
-use Rattle.std.proofs.lemmas.Bool.{ltb-true}
+use Rattle.std.proofs.lemmas.Bool.{ltb-true, not-false}
 use Rattle.std.proofs.lemmas.Nat.Bits.{bit_at-zero}
 use Rattle.tx_base.specs.declared.signals.SigSet.{SigSet}
-use Rattle.tx_base.specs.declared.steps.Refusal.TheVariants.{NotDeliverable, Deferred, FramesFull}
 use Rattle.tx_base.specs.declared.steps.Reply.TheVariants.{Done}
 use Rattle.tx_base.specs.declared.limits.TheConstants.{FRAMES}
-use Rattle.tx_model.specs.Numbers.{failing}
+use Rattle.tx_model.specs.Numbers.{error_answer}
 use Rattle.tx_model.specs.SignalSets.{is_realtime, is_in_set, without_one}
-use Rattle.tx_model.specs.State.{Process, State, Queued, Frame, written}
-use Rattle.tx_model.specs.Effects.{Inside, idle, own_effect}
-use Rattle.tx_model.specs.Forms.{effect_of}
+use Rattle.tx_model.specs.State.{Process, State, Queued, Frame, with_writes}
+use Rattle.tx_model.specs.Effects.{Inside}
+use Rattle.tx_model.specs.Words.{own_effect, delivery_effect}
+use Rattle.tx_model.specs.Forms.{effect_of, caller}
 use Rattle.tx_model.specs.Book.{sigqueue, closed_inside}
-use Rattle.tx_model.specs.Deliveries.{first_value, less_first, is_blocked, delivered_value, relieved, action_at, caught, killed_status, acts_on, is_deferred, delivers, delivery_effect}
-use Rattle.tx_model.specs.Signals.{disposition, Disposition, Ignored, Fatal, Caught}
+use Rattle.tx_model.specs.Deliveries.{first_value, without_first, is_blocked, delivered_value, without_delivered, at_catch_point, killed_status}
 use Rattle.tx_laws.specs.WellFormed.{AllSaved, IsFirst}
 use Rattle.tx_laws.proofs.KeepsFormParts.{IsArranged}
 use Rattle.tx_laws.proofs.KeepsFormOwn.{KeepsSizes, sizes_trans, less_of_none}
 use Rattle.tx_laws.proofs.KeepsFormNames.{KeepsForm, idle_form, noted_form, done_form, own_form}
 use Rattle.tx_laws.proofs.KeepsFormEnding.{held_form, ending_form}
-use Rattle.tx_model.specs.BookLaws.{sigqueue_lines}
+use Rattle.tx_model.specs.BookLaws.{sigqueue_lines, delivery_lines}
 
 -- a queue without an entry is shorter
-first_fewer : (signo : ℕ) (entries : List Queued) → length (less_first signo entries) ≤ length entries
-unfolding less_first
+first_fewer : (signo : ℕ) (entries : List Queued) → length (without_first signo entries) ≤ length entries
+unfolding without_first
 first_fewer signo [] = omega arith
 first_fewer signo (entry ∷ entries) = by (entry.signo == signo) (first_fewer signo entries)
   where
-    by : (b : Bool) → length (less_first signo entries) ≤ length entries → length (if b then entries else entry ∷ less_first signo entries) ≤ suc (length entries)
+    by : (b : Bool) → length (without_first signo entries) ≤ length entries → length (if b then entries else entry ∷ without_first signo entries) ≤ suc (length entries)
     by true h = omega arith
     by false h = omega arith
 
-relieved_sizes : (signo : ℕ) (me : Process) → KeepsSizes me (relieved signo me)
+relieved_sizes : (signo : ℕ) (me : Process) → KeepsSizes me (without_delivered signo me)
 relieved_sizes signo me = record {
   pending = λ h. pending (is_realtime signo) h;
-  queued = λ h. let fewer : length (relieved signo me).queued ≤ length me.queued = queue (is_realtime signo) in omega arith;
+  queued = λ h. let fewer : length (without_delivered signo me).queued ≤ length me.queued = queue (is_realtime signo) in omega arith;
   sizes = λ h.
-      let fewer : length (relieved signo me).queued ≤ length me.queued = queue (is_realtime signo) in
+      let fewer : length (without_delivered signo me).queued ≤ length me.queued = queue (is_realtime signo) in
       let most : length me.queued ≤ 16 = h.queued in
       record {
         slots = h.slots;
@@ -53,7 +52,7 @@ relieved_sizes signo me = record {
     pending true h = h
     pending false h = less_of_none me.pending (bit_and me.pending (2 ^ signo)) h
 
-    queue : (b : Bool) → length (if b then less_first signo me.queued else me.queued) ≤ length me.queued
+    queue : (b : Bool) → length (if b then without_first signo me.queued else me.queued) ≤ length me.queued
     queue true = first_fewer signo me.queued
     queue false = omega arith
 
@@ -61,7 +60,7 @@ saved_last : (frames : List Frame) (frame : Frame) → length frame.registers.sl
 saved_last [] frame e h = (e, tt)
 saved_last (x ∷ frames) frame e h = (h.0, saved_last frames frame e h.1)
 
-caught_sizes : (signo : ℕ) (value : ℤ) (point : ℕ) (mask : SigSet) (me : Process) → length me.frames < 4 → KeepsSizes me (caught signo value point mask me)
+caught_sizes : (signo : ℕ) (value : ℤ) (point : ℕ) (mask : SigSet) (me : Process) → length me.frames < 4 → KeepsSizes me (at_catch_point signo value point mask me)
 caught_sizes signo value point mask me room = record {
   pending = λ h. h;
   queued = λ h. h;
@@ -106,43 +105,29 @@ module _ (S : State) (p : ℕ) (me : Process) (e : S.procs p ≡ Some me) (runs 
       let no : None ≡ Some value = sym (none_delivered signo me first.pending first.queued) ∙ h in
       cc
 
-  relieved_form : (signo : ℕ) (r : ℤ) → KeepsForm S (own_effect p (record { process = relieved signo me; reply = Done r }))
+  relieved_form : (signo : ℕ) (r : ℤ) → KeepsForm S (own_effect p (record { process = without_delivered signo me; reply = Done r }))
   relieved_form signo r =
-      own_form S p me e w (record { process = relieved signo me; reply = Done r }) (record { parent = refl; descriptors = refl; status = refl }) (relieved_sizes signo me)
-
-  takes_form : (inside : Option Inside) (signo : ℕ) (value : ℤ) (what : Disposition) → p ≢ 1 → KeepsForm S (acts_on inside p signo value what (relieved signo me) S)
-  takes_form inside signo value Ignored ne = relieved_form signo me.registers.ret
-  takes_form inside signo value Fatal ne = ending_form S p (killed_status signo) me (relieved signo me) e runs w ne refl refl inside
-  takes_form inside signo value (Caught point mask) ne = by (nat_lt (length me.frames) FRAMES) refl
-    where
-      sized : nat_lt (length me.frames) FRAMES ≡ true → KeepsSizes me (caught signo value point mask (relieved signo me))
-      sized z =
-          sizes_trans me (relieved signo me) (caught signo value point mask (relieved signo me)) (relieved_sizes signo me)
-          (caught_sizes signo value point mask (relieved signo me) (ltb-true (length me.frames) 4 z))
-
-      by : (b : Bool) → nat_lt (length me.frames) FRAMES ≡ b
-          → KeepsForm S (if not b then idle FramesFull else own_effect p (record { process = caught signo value point mask (relieved signo me); reply = Done value }))
-      by true z =
-          own_form S p me e w (record { process = caught signo value point mask (relieved signo me); reply = Done value })
-          (record { parent = refl; descriptors = refl; status = refl }) (sized z)
-      by false z = idle_form S FramesFull w
-
-  delivers_form : (inside : Option Inside) (signo : ℕ) (value : Option ℤ) → delivered_value signo me ≡ value → KeepsForm S (delivers inside p signo me value S)
-  delivers_form inside signo None k = idle_form S NotDeliverable w
-  delivers_form inside signo (Some value) k = by (is_deferred inside signo)
-    where
-      by : (b : Bool) → KeepsForm S (if b then idle Deferred else acts_on inside p signo value (disposition signo (action_at signo me)) (relieved signo me) S)
-      by true = idle_form S Deferred w
-      by false = takes_form inside signo value (disposition signo (action_at signo me)) (other_than_first signo value k)
+      own_form S p me e w (record { process = without_delivered signo me; reply = Done r }) (record { parent = refl; descriptors = refl; status = refl }) (relieved_sizes signo me)
 
   pub delivery_form : (inside : Option Inside) (signo : ℕ) → KeepsForm S (delivery_effect inside p signo me S)
-  delivery_form inside signo = delivers_form inside signo (delivered_value signo me) refl
+  delivery_form inside signo =
+      delivery_lines (λ o. KeepsForm S (effect_of p me o)) (caller inside p me S) signo (λ why e. idle_form S why w)
+      (λ value d e. relieved_form signo me.registers.ret) (λ value d z. ending_form S p (killed_status signo) me (without_delivered signo me) e runs w (other_than_first signo value d) refl refl inside)
+      λ value point mask d e k room. caught_form signo value point mask room
+    where
+      caught_form : (signo : ℕ) (value : ℤ) (point : ℕ) (mask : SigSet) → not (nat_lt (length me.frames) FRAMES) ≡ false
+          → KeepsForm S (own_effect p (record { process = at_catch_point signo value point mask (without_delivered signo me); reply = Done value }))
+      caught_form signo value point mask room =
+          own_form S p me e w (record { process = at_catch_point signo value point mask (without_delivered signo me); reply = Done value })
+          (record { parent = refl; descriptors = refl; status = refl })
+          (sizes_trans me (without_delivered signo me) (at_catch_point signo value point mask (without_delivered signo me)) (relieved_sizes signo me)
+          (caught_sizes signo value point mask (without_delivered signo me) (ltb-true (length me.frames) 4 (not-false (nat_lt (length me.frames) FRAMES) room))))
 
   -- sends
   pub sigqueue_form : (inside : Option Inside) (t signo value : ℤ)
-      → KeepsForm S (effect_of p me (sigqueue t signo value (record { number = p; process = me; inside = inside; state = S })))
-  unfolding written
+      → KeepsForm S (effect_of p me (sigqueue t signo value (caller inside p me S)))
+  unfolding with_writes
   sigqueue_form inside t signo value =
-      sigqueue_lines (λ outcome. KeepsForm S (effect_of p me outcome)) (record { number = p; process = me; inside = inside; state = S }) (λ errno. done_form S p me e w (failing errno)) t signo value (done_form S p me e w closed_inside)
+      sigqueue_lines (λ outcome. KeepsForm S (effect_of p me outcome)) (caller inside p me S) (λ errno. done_form S p me e w (error_answer errno)) t signo value (done_form S p me e w closed_inside)
       (λ signo target known there outside. w)
       λ signo target i known there held some room. held_form _ i.starter _ (noted_form S p me e w (pos 0))

@@ -6,15 +6,17 @@ use Rattle.tx_base.specs.declared.steps.Call.{Call}
 use Rattle.tx_base.specs.declared.steps.Call.TheVariants as call
 use Rattle.tx_base.specs.declared.steps.Step.{Step}
 use Rattle.tx_base.specs.declared.steps.Step.TheVariants.{Call as Calls, Deliver, KernelAbort}
-use Rattle.tx_base.specs.declared.steps.Refusal.TheVariants.{NoProcess, NotRunning, NoTransaction}
-use Rattle.tx_model.specs.State.{Process, State, Sending, Object, Proc, Desc, Pipe, Held, SetProc, SetHeld, write_one, written, names_at, is_number, is_between, booted_process, booted}
-use Rattle.tx_model.specs.Posts.{has_room, may_signal, is_quiet, with_queued, with_pending, received, post, posts}
-use Rattle.tx_model.specs.Effects.{Inside, Effect, Conclusion, Replies, AnswersPost, ListsFailed, noted_if, first_answer, concluded, send_answers}
-use Rattle.tx_model.specs.Forms.{Outcome, effect_of}
+use Rattle.tx_base.specs.declared.steps.Refusal.TheVariants.{NoTransaction}
+use Rattle.tx_model.specs.State.{Process, State, Sending, Object, Proc, Desc, Pipe, Held, SetProc, SetHeld, write_one, with_writes, names_at, is_number, is_between, booted_process, boot_state}
+use Rattle.tx_model.specs.Posts.{has_room, may_signal, is_quiet, target_after, after_post, after_posts}
+use Rattle.tx_model.specs.Effects.{Inside, Effect, Conclusion, Replies, AnswersPost, ListsFailed, with_answer_if, first_answer, after_conclusion, send_answers}
+use Rattle.tx_model.specs.Forms.{Outcome, effect_of, caller}
 use Rattle.tx_model.specs.Book.{page_of_call}
-use Rattle.tx_model.specs.Calls.{call_effect, MakesCall, TakesSignal, running_effect, effect_at}
-use Rattle.tx_model.specs.Events.{Event, Do, Note, Commit, note_effect, step_effect, effect, after}
-use Rattle.tx_model.specs.Answer.{has_bad_number, is_running}
+use Rattle.tx_model.specs.BookLaws.{where_runs}
+use Rattle.tx_model.specs.Words.{call_effect, has_bad_number, note_effect, with_queued, with_pending}
+use Rattle.tx_model.specs.Deliveries.{delivery_page}
+use Rattle.tx_model.specs.Events.{Event, Do, Note, Commit, step_effect, effect, after}
+use Rattle.tx_model.specs.Answer.{is_running}
 use Rattle.tx_model.specs.SignalSets.{is_realtime}
 use Rattle.tx_model.specs.StateLaws.{put_cases, state_ext, AgreePart}
 use Rattle.tx_laws.specs.WellFormed.{HasSizes, IsPlaced, HasGoodNumbers}
@@ -27,7 +29,6 @@ use Rattle.tx_laws.proofs.KeepsFormProcesses.{fork_form, waitpid_form}
 use Rattle.tx_laws.proofs.KeepsFormEnding.{held_form, exit_form}
 use Rattle.tx_laws.proofs.KeepsFormDeliveries.{delivery_form, sigqueue_form}
 use Rattle.tx_laws.proofs.OwnPages.{StaysOwn, own_page, own_of}
-use Rattle.tx_laws.proofs.OfPages.{caller}
 
 -- what is put in where it is changes nothing
 same_written : (S : State) (t : ℕ) (x : Option Process) → S.procs t ≡ x → S ≡ write_one (SetProc t x) S
@@ -43,7 +44,7 @@ same_form : (S : State) (t : ℕ) (x : Option Process) → S.procs t ≡ x → I
 same_form S t x e w = subst (λ (T : State). IsArranged T) (same_written S t x e) w
 
 -- a note
-noted_if_form : (S : State) (p : ℕ) (r : ℤ) (x : Option Process) → S.procs p ≡ x → IsArranged S → IsArranged (write_one (SetProc p (noted_if r x)) S)
+noted_if_form : (S : State) (p : ℕ) (r : ℤ) (x : Option Process) → S.procs p ≡ x → IsArranged S → IsArranged (write_one (SetProc p (with_answer_if r x)) S)
 noted_if_form S p r None e w = same_form S p None e w
 noted_if_form S p r (Some q) e w = noted_form S p q e w r
 
@@ -97,7 +98,7 @@ module _ (S : State) (m : Sending) (q : Process) (e : S.procs m.target ≡ Some 
         };
       }
 
-  received_form : IsArranged (write_one (SetProc m.target (received m (Some q))) S)
+  received_form : IsArranged (write_one (SetProc m.target (target_after m (Some q))) S)
   received_form = by (may_signal m.from q.ids) (is_quiet m q) refl (is_realtime m.signo) (has_room q) refl
     where
       same : IsArranged (write_one (SetProc m.target (Some q)) S)
@@ -114,16 +115,16 @@ module _ (S : State) (m : Sending) (q : Process) (e : S.procs m.target ≡ Some 
       by true false h true false k = same
       by true false h false d k = pending_form (other h)
 
-pub post_form : (m : Sending) (S : State) (x : Option Process) → S.procs m.target ≡ x → IsArranged S → IsArranged (write_one (SetProc m.target (received m x)) S)
+pub post_form : (m : Sending) (S : State) (x : Option Process) → S.procs m.target ≡ x → IsArranged S → IsArranged (write_one (SetProc m.target (target_after m x)) S)
 post_form m S None e w = same_form S m.target None e w
 post_form m S (Some q) e w = received_form S m q e w
 
-posts_form : (ms : List Sending) (S : State) → IsArranged S → IsArranged (posts ms S)
-unfolding posts
+posts_form : (ms : List Sending) (S : State) → IsArranged S → IsArranged (after_posts ms S)
+unfolding after_posts
 posts_form [] S w = w
-posts_form (m ∷ ms) S w = posts_form ms (post m S) (post_form m S (S.procs m.target) refl w)
+posts_form (m ∷ ms) S w = posts_form ms (after_post m S) (post_form m S (S.procs m.target) refl w)
 
-concluded_form : (c : Conclusion) (rs : List ℤ) (S : State) → IsArranged S → IsArranged (concluded c rs S)
+concluded_form : (c : Conclusion) (rs : List ℤ) (S : State) → IsArranged S → IsArranged (after_conclusion c rs S)
 concluded_form (Replies r) rs S w = w
 concluded_form (AnswersPost p) rs S w = noted_if_form S p (first_answer rs) (S.procs p) refl w
 concluded_form ListsFailed rs S w = w
@@ -170,49 +171,32 @@ module _ (S : State) (inside : Option Inside) (p : Pid) (me : Process) (e : S.pr
   call_form (call.Sigqueue t signo value) h = sigqueue_form S p.0 me e runs w inside t signo value
   call_form c h = alone_form ((page_of_call c).outcome (caller inside p.0 me S)) (own_page (caller inside p.0 me S) c tt)
 
--- a step: a process that is not there or has ended does nothing
+-- a step
 module _ (S : State) (inside : Option Inside) (w : IsArranged S) where
-  running_call_form : (p : Pid) (c : Call) (me : Process) (status : Option ℕ) → S.procs p.0 ≡ Some me → me.status ≡ status → has_bad_number S.width (Calls p c) ≡ false
-      → KeepsForm S (running_effect inside p.0 (MakesCall c) S me status)
-  running_call_form p c me None e runs h = call_form S inside p me e runs w c h
-  running_call_form p c me (Some status) e runs h = idle_form S NotRunning w
-
-  running_delivery_form : (p : ℕ) (signo : ℕ) (me : Process) (status : Option ℕ) → S.procs p ≡ Some me → me.status ≡ status → KeepsForm S (running_effect inside p (TakesSignal signo) S me status)
-  running_delivery_form p signo me None e runs = delivery_form S p me e runs w inside signo
-  running_delivery_form p signo me (Some status) e runs = idle_form S NotRunning w
-
-  call_at_form : (p : Pid) (c : Call) (x : Option Process) → S.procs p.0 ≡ x → has_bad_number S.width (Calls p c) ≡ false → KeepsForm S (effect_at inside p.0 (MakesCall c) S x)
-  call_at_form p c None e h = idle_form S NoProcess w
-  call_at_form p c (Some me) e h = running_call_form p c me me.status e refl h
-
-  delivery_at_form : (p : ℕ) (signo : ℕ) (x : Option Process) → S.procs p ≡ x → KeepsForm S (effect_at inside p (TakesSignal signo) S x)
-  delivery_at_form p signo None e = idle_form S NoProcess w
-  delivery_at_form p signo (Some me) e = running_delivery_form p signo me me.status e refl
-
   step_form : (step : Step) → has_bad_number S.width step ≡ false → KeepsForm S (step_effect step inside S)
-  step_form (Calls p c) h = call_at_form p c (S.procs p.0) refl h
-  step_form (Deliver p signo) h = delivery_at_form p.0 signo.0 (S.procs p.0) refl
+  step_form (Calls p c) h = where_runs inside p.0 (page_of_call c) S (KeepsForm S) (λ why. idle_form S why w) (λ me here runs. call_form S inside p me here runs w c h)
+  step_form (Deliver p signo) h = where_runs inside p.0 (delivery_page signo.0) S (KeepsForm S) (λ why. idle_form S why w) (λ me here runs. delivery_form S p.0 me here runs w inside signo.0)
   step_form (KernelAbort s) h = idle_form S NoTransaction w
 
 note_form : (S : State) (p : ℕ) (r : ℤ) → IsArranged S → KeepsForm S (note_effect p r (S.procs p))
-unfolding written
+unfolding with_writes
 note_form S p r w = noted_if_form S p r (S.procs p) refl w
 
 -- the writes of an event
 event_form : (ev : Event) (S : State) → IsArranged S → HasGoodNumbers S.width ev → KeepsForm S (effect ev S)
-unfolding effect written
+unfolding effect with_writes
 event_form (Do step inside) S w h = step_form S inside w step h
 event_form (Note p r) S w h = note_form S p r w
 event_form (Commit s ev) S w h =
     subst (λ (T : State). IsArranged T) (sym (written_append (effect ev S).writes (SetHeld s [] ∷ []) S))
-    (held_form (written (effect ev S).writes S) s [] (event_form ev S w h))
+    (held_form (with_writes (effect ev S).writes S) s [] (event_form ev S w h))
 
 -- every event leaves a state well formed
 pub after_form : (ev : Event) (S : State) → IsArranged S → HasGoodNumbers S.width ev → IsArranged (after ev S)
 unfolding after
 after_form ev S w h =
     let f : Effect = effect ev S in
-    concluded_form f.conclusion (send_answers f S) (posts f.sends (written f.writes S)) (posts_form f.sends (written f.writes S) (event_form ev S w h))
+    concluded_form f.conclusion (send_answers f S) (after_posts f.sends (with_writes f.writes S)) (posts_form f.sends (with_writes f.writes S) (event_form ev S w h))
 
 -- no descriptor is open at the start
 abbrev no_descriptors : ℕ → List (Option ℕ)
@@ -230,7 +214,7 @@ module _ (width count : ℕ) (some : 1 ≤ count) (within : count ≤ width) whe
   first_there : is_between count 1 ≡ true
   first_there = let less : 0 < count = omega arith in lt-ltb 0 count less
 
-  at_first : (booted width count).procs 1 ≡ Some (booted_process 1)
+  at_first : (boot_state width count).procs 1 ≡ Some (booted_process 1)
   at_first = rw first_there refl
 
   in_width : (n : ℕ) → is_between count n ≡ true → is_between width n ≡ true
@@ -254,22 +238,22 @@ module _ (width count : ℕ) (some : 1 ≤ count) (within : count ≤ width) whe
   booted_sizes : (n : ℕ) → HasSizes (booted_process n)
   booted_sizes n = record { slots = refl; pages = refl; descriptors = refl; actions = refl; frames = omega arith; saved = tt; queued = omega arith }
 
-  booted_here : (n : ℕ) → is_between count n ≡ true → IsPlaced (booted width count) n (booted_process n)
+  booted_here : (n : ℕ) → is_between count n ≡ true → IsPlaced (boot_state width count) n (booted_process n)
   booted_here n h = record {
     number = in_width n h;
-    parent = λ ne. ap (λ (m : ℕ). is_running ((booted width count).procs m)) (first_parent n ne) ∙ ap is_running at_first;
+    parent = λ ne. ap (λ (m : ℕ). is_running ((boot_state width count).procs m)) (first_parent n ne) ∙ ap is_running at_first;
     other = other_parent n;
     sizes = booted_sizes n;
   }
 
-  booted_placed : (n : ℕ) (q : Process) → (booted width count).procs n ≡ Some q → IsPlaced (booted width count) n q
+  booted_placed : (n : ℕ) (q : Process) → (boot_state width count).procs n ≡ Some q → IsPlaced (boot_state width count) n q
   booted_placed n q h = by (is_between count n) refl h
     where
-      by : (b : Bool) → is_between count n ≡ b → (if b then Some (booted_process n) else None) ≡ Some q → IsPlaced (booted width count) n q
-      by true e k = let same : booted_process n ≡ q = cc in subst (λ (r : Process). IsPlaced (booted width count) n r) same (booted_here n e)
+      by : (b : Bool) → is_between count n ≡ b → (if b then Some (booted_process n) else None) ≡ Some q → IsPlaced (boot_state width count) n q
+      by true e k = let same : booted_process n ≡ q = cc in subst (λ (r : Process). IsPlaced (boot_state width count) n r) same (booted_here n e)
       by false e k = cc
 
-  none_named : (n f d : ℕ) → names_at d f ((booted width count).procs n) ≡ false
+  none_named : (n f d : ℕ) → names_at d f ((boot_state width count).procs n) ≡ false
   none_named n f d = by (is_between count n)
     where
       by : (b : Bool) → names_at d f (if b then Some (booted_process n) else None) ≡ false
@@ -277,11 +261,11 @@ module _ (width count : ℕ) (some : 1 ≤ count) (within : count ≤ width) whe
       by false = refl
 
   -- the state at the start
-  pub booted_form : IsArranged (booted width count)
+  pub booted_form : IsArranged (boot_state width count)
   booted_form = record {
     first = (booted_process 1, at_first, record { runs = refl; parent = refl; pending = refl; queued = refl });
     placed = booted_placed;
-    names = λ n f d h. absurd (both_ways (names_at d f ((booted width count).procs n)) (none_named n f d) h);
+    names = λ n f d h. absurd (both_ways (names_at d f ((boot_state width count).procs n)) (none_named n f d) h);
     named = λ d x h. cc;
     pipes = λ k bytes h. cc;
   }

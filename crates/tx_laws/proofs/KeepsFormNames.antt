@@ -3,12 +3,13 @@ use Rattle.std.proofs.Common.{◌≡◌, ℕ, zero, suc, ◌+◌, ◌<◌, ◌�
 use Rattle.std.proofs.lemmas.List.{length-set}
 use Rattle.tx_base.specs.declared.errors.Errno.{Errno}
 use Rattle.tx_base.specs.declared.steps.Refusal.{Refusal}
-use Rattle.tx_model.specs.Numbers.{failing}
-use Rattle.tx_model.specs.State.{Process, State, SetProc, write_one, written, is_number, names_at}
-use Rattle.tx_model.specs.Effects.{Effect, Inside, Own, idle, noted, own_effect, done}
-use Rattle.tx_model.specs.Forms.{Caller, Outcome, fails, effect_of}
-use Rattle.tx_model.specs.Book.{gives_up, dup, dup2, close}
-use Rattle.tx_model.specs.Descriptors.{named, descriptor, with_descriptor, first_free, listed, pipes_of, unnamed_go, endless_go}
+use Rattle.tx_model.specs.Numbers.{error_answer}
+use Rattle.tx_model.specs.State.{Process, State, SetProc, write_one, with_writes, is_number, names_at}
+use Rattle.tx_model.specs.Effects.{Effect, Inside, idle, with_answer}
+use Rattle.tx_model.specs.Words.{Own, own_effect, answer_effect}
+use Rattle.tx_model.specs.Forms.{Caller, Outcome, fails, effect_of, caller}
+use Rattle.tx_model.specs.Book.{release, dup, dup2, close}
+use Rattle.tx_model.specs.Descriptors.{description_named, descriptor, with_descriptor, first_free, option_list, pipes_of, description_removals, pipe_removals}
 use Rattle.tx_model.specs.StateLaws.{put_cases}
 use Rattle.tx_laws.proofs.InPlace.{KeepsPlace}
 use Rattle.tx_model.specs.BookLaws.{dup_lines, dup2_lines, close_lines}
@@ -18,23 +19,23 @@ use Rattle.tx_laws.proofs.KeepsFormReleased.{IsAmong, IsLoose, loosened, release
 
 -- the writes of the effect leave the state well formed
 abbrev pub KeepsForm : State → Effect → Type 0
-KeepsForm S f = IsArranged (written f.writes S)
+KeepsForm S f = IsArranged (with_writes f.writes S)
 
 pub idle_form : (S : State) (why : Refusal) → IsArranged S → KeepsForm S (idle why)
-unfolding written
+unfolding with_writes
 idle_form S why w = w
 
 -- the process in its place, with its answer
 module _ (S : State) (p : ℕ) (me : Process) (e : S.procs p ≡ Some me) (w : IsArranged S) where
-  pub noted_form : (r : ℤ) → IsArranged (write_one (SetProc p (Some (noted r me))) S)
-  noted_form r = form_edit S p me (noted r me) e (stays_from p me (noted r me) refl refl (plain me (noted r me) refl refl refl refl refl refl refl)) refl w
+  pub noted_form : (r : ℤ) → IsArranged (write_one (SetProc p (Some (with_answer r me))) S)
+  noted_form r = form_edit S p me (with_answer r me) e (stays_from p me (with_answer r me) refl refl (plain me (with_answer r me) refl refl refl refl refl refl refl)) refl w
 
-  pub done_form : (r : ℤ) → KeepsForm S (done p r me)
-  unfolding written
+  pub done_form : (r : ℤ) → KeepsForm S (answer_effect p r me)
+  unfolding with_writes
   done_form r = noted_form r
 
   pub own_form : (own : Own) → KeepsPlace me own.process → KeepsSizes me own.process → KeepsForm S (own_effect p own)
-  unfolding written
+  unfolding with_writes
   own_form own k s = form_edit S p me own.process e (stays_from p me own.process k.parent k.status s) k.descriptors w
 
 -- a name among the descriptors after one of them was replaced
@@ -72,7 +73,7 @@ free_place xs f h =
     let e : r.0 ≡ f = omega arith in
     subst (λ (i : ℕ). (slice_index_or xs i None ≡ None) × (i < length xs)) e (r.2, r.3)
 
-among_listed : (d : ℕ) (v : Option ℕ) → is_number d v ≡ true → IsAmong d (listed v)
+among_listed : (d : ℕ) (v : Option ℕ) → is_number d v ≡ true → IsAmong d (option_list v)
 among_listed d None h = cc
 among_listed d (Some x) h = inl (sym (eqb-true x d h))
 
@@ -115,13 +116,13 @@ module _ (S : State) (p : ℕ) (me new : Process) (e : S.procs p ≡ Some me) (r
 
 -- where nothing was given up, nothing goes
 loose_form : (T : State) → IsTabled T → IsLoose [] T → IsArranged T
-unfolding written unnamed_go endless_go pipes_of
+unfolding with_writes description_removals pipe_removals pipes_of
 loose_form T t l = released_form [] T t l
 
 -- one descriptor is replaced
 module _ (S : State) (p : ℕ) (me : Process) (e : S.procs p ≡ Some me) (runs : me.status ≡ None) (w : IsArranged S) (g : ℕ) (v : Option ℕ) (r : ℤ) where
   abbrev new : Process
-  new = noted r (with_descriptor g v me)
+  new = with_answer r (with_descriptor g v me)
 
   abbrev after : State
   after = write_one (SetProc p (Some new)) S
@@ -147,13 +148,13 @@ module _ (S : State) (p : ℕ) (me : Process) (e : S.procs p ≡ Some me) (runs 
 
   renamed_form : (ds : List ℕ) (inside : Option Inside) → ((d : ℕ) → is_number d v ≡ true → is_some (S.descs d) ≡ true)
       → ((d : ℕ) → is_number d (slice_index_or me.descriptors g None) ≡ true → IsAmong d ds)
-      → KeepsForm S (effect_of p me (gives_up ds r (with_descriptor g v me) (record { number = p; process = me; inside = inside; state = S })))
-  unfolding written
+      → KeepsForm S (effect_of p me (release ds r (with_descriptor g v me) (caller inside p me S)))
+  unfolding with_writes
   renamed_form ds inside now given = released_form ds after renamed_tabled (renamed_loose ds now given)
 
   -- the descriptor was free
-  free_form : slice_index_or me.descriptors g None ≡ None → ((d : ℕ) → is_number d v ≡ true → is_some (S.descs d) ≡ true) → KeepsForm S (done p r (with_descriptor g v me))
-  unfolding written
+  free_form : slice_index_or me.descriptors g None ≡ None → ((d : ℕ) → is_number d v ≡ true → is_some (S.descs d) ≡ true) → KeepsForm S (answer_effect p r (with_descriptor g v me))
+  unfolding with_writes
   free_form free now = loose_form after renamed_tabled (renamed_loose [] now never)
     where
       never : (d : ℕ) → is_number d (slice_index_or me.descriptors g None) ≡ true → ⊥
@@ -161,21 +162,21 @@ module _ (S : State) (p : ℕ) (me : Process) (e : S.procs p ≡ Some me) (runs 
 
 module _ (S : State) (p : ℕ) (me : Process) (inside : Option Inside) (e : S.procs p ≡ Some me) (runs : me.status ≡ None) (w : IsArranged S) where
   abbrev c : Caller
-  c = record { number = p; process = me; inside = inside; state = S }
+  c = caller inside p me S
 
   -- what holds of an outcome whose effect leaves the state well formed
   abbrev pub FormKept : Outcome → Type 0
   FormKept outcome = KeepsForm S (effect_of p me outcome)
 
   pub error_form : (errno : Errno) → FormKept (fails errno)
-  error_form errno = done_form S p me e w (failing errno)
+  error_form errno = done_form S p me e w (error_answer errno)
 
   -- what a descriptor names is there
-  named_there : (v : Option ℕ) (d : ℕ) → named me v ≡ Some d → is_some (S.descs d) ≡ true
+  named_there : (v : Option ℕ) (d : ℕ) → description_named me v ≡ Some d → is_some (S.descs d) ≡ true
   named_there None d h = cc
   named_there (Some f) d h = own_name S p me me e runs (linked_of S w) f d (ap (is_number d) h ∙ eq-eqb d d refl)
 
-  same_there : (v : Option ℕ) (d : ℕ) → named me v ≡ Some d → (x : ℕ) → (d == x) ≡ true → is_some (S.descs x) ≡ true
+  same_there : (v : Option ℕ) (d : ℕ) → description_named me v ≡ Some d → (x : ℕ) → (d == x) ≡ true → is_some (S.descs x) ≡ true
   same_there v d h x k = subst (λ (i : ℕ). is_some (S.descs i) ≡ true) (eqb-true d x k) (named_there v d h)
 
   pub dup_form : (f : ℤ) → FormKept (dup f c)
@@ -187,7 +188,7 @@ module _ (S : State) (p : ℕ) (me : Process) (inside : Option Inside) (e : S.pr
   dup2_form a b =
       dup2_lines FormKept c error_form a b (λ g. done_form S p me e w (pos g))
       λ f d g first h second other.
-      renamed_form S p me e runs w g (Some d) (pos g) (listed (named me (Some g))) inside (same_there (Some f) d h) (λ x k. among_listed x (named me (Some g)) k)
+      renamed_form S p me e runs w g (Some d) (pos g) (option_list (description_named me (Some g))) inside (same_there (Some f) d h) (λ x k. among_listed x (description_named me (Some g)) k)
 
   pub close_form : (a : ℤ) → FormKept (close a c)
   close_form a =

@@ -2,10 +2,10 @@
 use Rattle.std.proofs.Common.{◌≡◌, ℕ, zero, suc, ◌+◌, ◌-◌, ◌≤◌, Bool, true, false, List, [], ◌∷◌, length, take, ℤ, Option, Some, None, if◌then◌else◌, ◌==◌, slice_get, bit_and, ◌^◌, refl, sym, ap, ◌∙◌, subst, arith}
 use Rattle.std.proofs.lemmas.List.{length-set}
 use Rattle.tx_base.specs.declared.signals.Action.{Action}
-use Rattle.tx_model.specs.Memory.{Memory, stored, put_byte, put_bytes}
+use Rattle.tx_model.specs.Memory.{Memory, stored_memory, put_byte, put_bytes}
 use Rattle.tx_model.specs.State.{Process, Frame, Queued}
-use Rattle.tx_model.specs.Effects.{noted}
-use Rattle.tx_model.specs.Signals.{with_action, kept_action, discarded, queued_others, newest, restored}
+use Rattle.tx_model.specs.Effects.{with_answer}
+use Rattle.tx_model.specs.Signals.{with_action, maskable_action, without_signal, queued_others, newest_frame, with_frame}
 use Rattle.tx_laws.specs.WellFormed.{AllSaved, HasSizes}
 use Rattle.tx_laws.proofs.KeepsFormParts.{StaysPlaced}
 
@@ -38,8 +38,8 @@ plain me new pending queued frames slots pages descriptors actions = record {
 pub sizes_trans : (me now new : Process) → KeepsSizes me now → KeepsSizes now new → KeepsSizes me new
 sizes_trans me now new k l = record { pending = λ h. l.pending (k.pending h); queued = λ h. l.queued (k.queued h); sizes = λ h. l.sizes (k.sizes h) }
 
-pub noted_sizes : (r : ℤ) (me new : Process) → KeepsSizes me new → KeepsSizes me (noted r new)
-noted_sizes r me new k = sizes_trans me new (noted r new) k (plain new (noted r new) refl refl refl refl refl refl refl)
+pub noted_sizes : (r : ℤ) (me new : Process) → KeepsSizes me new → KeepsSizes me (with_answer r new)
+noted_sizes r me new k = sizes_trans me new (with_answer r new) k (plain new (with_answer r new) refl refl refl refl refl refl refl)
 
 -- what is discarded is fewer
 others_fewer : (signo : ℕ) (entries : List Queued) → length (queued_others signo entries) ≤ length entries
@@ -54,7 +54,7 @@ others_fewer signo (entry ∷ entries) = by (entry.signo == signo) (others_fewer
 pub less_of_none : (set other : ℕ) → set ≡ 0 → set - other ≡ 0
 less_of_none set other h = omega arith
 
-pub discarded_sizes : (signo : ℕ) (me : Process) → KeepsSizes me (discarded signo me)
+pub discarded_sizes : (signo : ℕ) (me : Process) → KeepsSizes me (without_signal signo me)
 discarded_sizes signo me =
     let fewer : length (queued_others signo me.queued) ≤ length me.queued = others_fewer signo me.queued in
     record {
@@ -72,7 +72,7 @@ discarded_sizes signo me =
     }
 
 pub action_sizes : (signo : ℕ) (action : Action) (me : Process) → KeepsSizes me (with_action signo action me)
-action_sizes signo action me = plain me _ refl refl refl refl refl refl (length-set me.actions signo (kept_action action))
+action_sizes signo action me = plain me _ refl refl refl refl refl refl (length-set me.actions signo (maskable_action action))
 
 -- what was saved has all slots
 saved_at : (frames : List Frame) (i : ℕ) (frame : Frame) → slice_get frames i ≡ Some frame → AllSaved frames → length frame.registers.slots ≡ 8
@@ -90,7 +90,7 @@ take_fewer zero frames = omega arith
 take_fewer (suc i) [] = omega arith
 take_fewer (suc i) (x ∷ frames) = let less : length (take i frames) ≤ length frames = take_fewer i frames in omega arith
 
-pub restored_sizes : (frame : Frame) (me : Process) → newest me.frames ≡ Some frame → KeepsSizes me (restored frame me)
+pub restored_sizes : (frame : Frame) (me : Process) → newest_frame me.frames ≡ Some frame → KeepsSizes me (with_frame frame me)
 restored_sizes frame me e = record {
   pending = λ h. h;
   queued = λ h. h;
@@ -113,6 +113,6 @@ put_paged : (memory : Memory) (address : ℕ) (bytes : List ℕ) → length (put
 put_paged memory address [] = refl
 put_paged memory address (byte ∷ bytes) = put_paged (put_byte memory address byte) (address + 1) bytes ∙ length-set memory _ _
 
-pub stored_paged : (memory : Memory) (address : Option ℕ) (bytes : List ℕ) → length (stored memory address bytes) ≡ length memory
+pub stored_paged : (memory : Memory) (address : Option ℕ) (bytes : List ℕ) → length (stored_memory memory address bytes) ≡ length memory
 stored_paged memory None bytes = refl
 stored_paged memory (Some address) bytes = put_paged memory address bytes

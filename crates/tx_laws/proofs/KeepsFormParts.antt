@@ -2,7 +2,8 @@
 use Rattle.std.proofs.Common.{◌≡◌, ◌≢◌, ℕ, zero, suc, ◌+◌, ◌<◌, ◌≤◌, ◌⊎◌, Bool, true, false, List, [], ◌∷◌, length, Option, Some, None, is_some, is_none, if◌then◌else◌, ◌==◌, slice_index_or, refl, sym, ap, ap₂, ◌∙◌, subst, inl, inr, eq-eqb, eqb-true, arith}
 use Rattle.std.proofs.lemmas.Bool.{both_ways, ltb-true}
 use Rattle.tx_model.specs.State.{Process, Side, Description, State, SetProc, put_at, write_one, is_number, names_at, side_in, is_between}
-use Rattle.tx_model.specs.Descriptors.{names_below, is_named_below, is_named, is_side, has_side_below, has_description}
+use Rattle.tx_model.specs.Descriptors.{is_named, is_side, has_description, some_below}
+use Rattle.tx_model.specs.Words.{names_below, is_named_below, has_side_below}
 use Rattle.tx_model.specs.Answer.{is_running}
 use Rattle.tx_model.specs.StateLaws.{put_cases}
 use Rattle.tx_laws.specs.WellFormed.{HasSizes, IsPlaced, IsFirst}
@@ -67,7 +68,7 @@ less_of n m h ne = omega arith
 
 -- the tests find a name that there is
 names_from : (d n f : ℕ) (x : Option Process) → f < n → names_at d f x ≡ true → names_below d n x ≡ true
-unfolding names_below
+unfolding some_below
 names_from d zero f x h e = absurd (omega arith)
 names_from d (suc n) f x h e = elim (same_or_other f n) [
   | inl z ↦ either_right (names_below d n x) (names_at d n x) (subst (λ (i : ℕ). names_at d i x ≡ true) z e)
@@ -75,12 +76,12 @@ names_from d (suc n) f x h e = elim (same_or_other f n) [
 ]
 
 names_found : (d n : ℕ) (x : Option Process) → names_below d n x ≡ true → (f : ℕ) × (names_at d f x ≡ true)
-unfolding names_below
+unfolding some_below
 names_found d zero x h = cc
 names_found d (suc n) x h = elim (either (names_below d n x) (names_at d n x) h) [ inl e ↦ names_found d n x e | inr e ↦ (n, e) ]
 
 named_from : (d m n : ℕ) (S : State) → n < m → names_below d 16 (S.procs n) ≡ true → is_named_below d m S ≡ true
-unfolding is_named_below
+unfolding some_below
 named_from d zero n S h e = absurd (omega arith)
 named_from d (suc m) n S h e = elim (same_or_other n m) [
   | inl z ↦ either_right (is_named_below d m S) (names_below d 16 (S.procs m)) (subst (λ (i : ℕ). names_below d 16 (S.procs i) ≡ true) z e)
@@ -88,7 +89,7 @@ named_from d (suc m) n S h e = elim (same_or_other n m) [
 ]
 
 named_found : (d m : ℕ) (S : State) → is_named_below d m S ≡ true → IsNamed d S
-unfolding is_named_below
+unfolding some_below
 named_found d zero S h = cc
 named_found d (suc m) S h = elim (either (is_named_below d m S) (names_below d 16 (S.procs m)) h) [
   | inl e ↦ named_found d m S e
@@ -136,7 +137,7 @@ abbrev any_side : Side → Bool
 any_side side = true
 
 end_from : (k m n : ℕ) (S : State) → n < m → is_side any_side (side_in k (S.descs n)) ≡ true → has_side_below any_side k m S ≡ true
-unfolding has_side_below
+unfolding some_below
 end_from k zero n S h e = absurd (omega arith)
 end_from k (suc m) n S h e = elim (same_or_other n m) [
   | inl z ↦
@@ -154,7 +155,7 @@ side_found k (Some y) h = by (y.pipe == k) refl h
     by false e l = cc
 
 end_found_below : (k m : ℕ) (S : State) → has_side_below any_side k m S ≡ true → IsEnd k S
-unfolding has_side_below
+unfolding some_below
 end_found_below k zero S h = cc
 end_found_below k (suc m) S h = elim (either (has_side_below any_side k m S) (is_side any_side (side_in k (S.descs m))) h) [
   | inl e ↦ end_found_below k m S e

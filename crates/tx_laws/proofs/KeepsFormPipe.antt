@@ -3,12 +3,13 @@ use Rattle.std.proofs.Common.{◌≡◌, ◌≢◌, ℕ, ◌<◌, ◌≤◌, tru
 use Rattle.std.proofs.lemmas.List.{length-set, get_or-set_same, get_or-set_other}
 use Rattle.tx_base.specs.declared.steps.Refusal.TheVariants.{NumberTaken}
 use Rattle.tx_base.specs.declared.limits.TheConstants.{PIPE_BYTES}
-use Rattle.tx_model.specs.Numbers.{failing}
-use Rattle.tx_model.specs.State.{Process, Side, ReadSide, WriteSide, Description, State, SetProc, SetDesc, SetPipe, put_at, write_one, written, is_number, names_at}
-use Rattle.tx_model.specs.Effects.{Inside, noted}
-use Rattle.tx_model.specs.Forms.{effect_of}
+use Rattle.tx_model.specs.Numbers.{error_answer}
+use Rattle.tx_model.specs.State.{Process, Side, ReadSide, WriteSide, Description, State, SetProc, SetDesc, SetPipe, put_at, write_one, with_writes, is_number, names_at}
+use Rattle.tx_model.specs.Effects.{Inside, with_answer}
+use Rattle.tx_model.specs.Forms.{effect_of, caller}
 use Rattle.tx_model.specs.Book.{pipe}
-use Rattle.tx_model.specs.Descriptors.{with_descriptor, with_two_slots}
+use Rattle.tx_model.specs.Descriptors.{with_descriptor}
+use Rattle.tx_model.specs.Words.{with_two_slots}
 use Rattle.tx_model.specs.StateLaws.{put_here, put_cases, put_there}
 use Rattle.tx_laws.proofs.KeepsFormParts.{IsArranged, IsTabled, IsNamed, IsEnd, IsLinked, names_at_of, form_from, tabled_of, linked_of, tabled_edit}
 use Rattle.tx_laws.proofs.KeepsFormOwn.{KeepsSizes, stays_from, plain}
@@ -37,7 +38,7 @@ module _ (S : State) (p q r w : ℕ) (me : Process) (inside : Option Inside) (e 
       (f_free : slice_index_or me.descriptors f None ≡ None) (f_in : f < length me.descriptors)
       (g_free : slice_index_or (slice_set me.descriptors f (Some r)) g None ≡ None) (g_in : g < length (slice_set me.descriptors f (Some r))) where
     abbrev new : Process
-    new = noted (pos 0) (with_two_slots f g (with_descriptor g (Some w) (with_descriptor f (Some r) me)))
+    new = with_answer (pos 0) (with_two_slots f g (with_descriptor g (Some w) (with_descriptor f (Some r) me)))
 
     abbrev side_at : Side → Description
     side_at side = record { pipe = q; side = side; nonblock = false }
@@ -184,10 +185,10 @@ module _ (S : State) (p q r w : ℕ) (me : Process) (inside : Option Inside) (e 
   both_free None None (Some z) h = cc
   both_free None None None h = (refl, refl)
 
-  pub pipe_form : KeepsForm S (effect_of p me (pipe q r w (record { number = p; process = me; inside = inside; state = S })))
-  unfolding written
+  pub pipe_form : KeepsForm S (effect_of p me (pipe q r w (caller inside p me S)))
+  unfolding with_writes
   pipe_form =
-      pipe_lines (λ outcome. KeepsForm S (effect_of p me outcome)) (record { number = p; process = me; inside = inside; state = S }) (λ errno. done_form S p me e form (failing errno)) q r w (idle_form S NumberTaken form)
+      pipe_lines (λ outcome. KeepsForm S (effect_of p me outcome)) (caller inside p me S) (λ errno. done_form S p me e form (error_answer errno)) q r w (idle_form S NumberTaken form)
       λ f g unused one two.
       let free = both_free (S.pipes q) (S.descs r) (S.descs w) unused in
       let first = free_place me.descriptors f one in

@@ -2,12 +2,13 @@
 use Rattle.std.proofs.Common.{[], ◌∷◌, ◌≡◌, ◌≢◌, ℕ, Bool, true, false, ℤ, pos, Option, Some, None, is_some, is_none, slice_index_or, refl, sym, ap, ◌∙◌, subst, inl, inr, eqb-true, arith}
 use Rattle.std.proofs.lemmas.List.{length-set}
 use Rattle.tx_base.specs.declared.steps.Refusal.TheVariants.{NumberTaken, Wait}
-use Rattle.tx_model.specs.Numbers.{failing}
-use Rattle.tx_model.specs.State.{Process, State, SetProc, write_one, written, is_number, names_at, is_between}
-use Rattle.tx_model.specs.Effects.{Inside, noted}
-use Rattle.tx_model.specs.Forms.{Caller, Outcome, changes, effect_of}
+use Rattle.tx_model.specs.Numbers.{error_answer}
+use Rattle.tx_model.specs.State.{Process, State, SetProc, write_one, with_writes, is_number, names_at, is_between}
+use Rattle.tx_model.specs.Effects.{Inside, with_answer}
+use Rattle.tx_model.specs.Forms.{Caller, Outcome, changes, effect_of, caller}
 use Rattle.tx_model.specs.Book.{fork, waitpid}
-use Rattle.tx_model.specs.Processes.{child_of, with_status}
+use Rattle.tx_model.specs.Processes.{child_of}
+use Rattle.tx_model.specs.Words.{with_status}
 use Rattle.tx_model.specs.Answer.{is_running}
 use Rattle.tx_model.specs.StateLaws.{put_here, put_cases, put_there}
 use Rattle.tx_laws.specs.WellFormed.{HasSizes, IsPlaced, IsFirst}
@@ -120,7 +121,7 @@ module _ (T : State) (t s : ℕ) (q : Process) (e : T.procs t ≡ Some q) (statu
 
 module _ (S : State) (p : ℕ) (me : Process) (inside : Option Inside) (e : S.procs p ≡ Some me) (runs : me.status ≡ None) (w : IsArranged S) where
   abbrev c : Caller
-  c = record { number = p; process = me; inside = inside; state = S }
+  c = caller inside p me S
 
   abbrev FormKept : Outcome → Type 0
   FormKept outcome = KeepsForm S (effect_of p me outcome)
@@ -138,29 +139,29 @@ module _ (S : State) (p : ℕ) (me : Process) (inside : Option Inside) (e : S.pr
   }
 
   grown_form : (child : ℕ) → is_between S.width child ≡ true → S.procs child ≡ None → FormKept (changes (pos child) me (SetProc child (Some (child_of p me)) ∷ []))
-  unfolding written
+  unfolding with_writes
   grown_form child number free =
-      add_form parent_now child (child_of p me) (put_there S.procs p (Some (noted (pos child) me)) child (λ z. apart (sym z)) ∙ free) (noted_form S p me e w (pos child)) number
-      (ap is_running (put_here S.procs p (Some (noted (pos child) me))) ∙ ap (λ (x : Option ℕ). is_none x) runs) apart (child_sizes (w.placed p me e).sizes)
+      add_form parent_now child (child_of p me) (put_there S.procs p (Some (with_answer (pos child) me)) child (λ z. apart (sym z)) ∙ free) (noted_form S p me e w (pos child)) number
+      (ap is_running (put_here S.procs p (Some (with_answer (pos child) me))) ∙ ap (λ (x : Option ℕ). is_none x) runs) apart (child_sizes (w.placed p me e).sizes)
       (own_name S p me me e runs (linked_of S w))
     where
       parent_now : State
-      parent_now = write_one (SetProc p (Some (noted (pos child) me))) S
+      parent_now = write_one (SetProc p (Some (with_answer (pos child) me))) S
 
       apart : p ≢ child
       apart z = let no : None ≡ Some me = sym (ap S.procs z ∙ free) ∙ e in cc
 
   pub fork_form : (child : ℕ) → is_between S.width child ≡ true → FormKept (fork child c)
   fork_form child number =
-      fork_lines FormKept c (λ errno. done_form S p me e w (failing errno)) child (λ taken. idle_form S NumberTaken w) λ free. grown_form child number (none_of (S.procs child) free)
+      fork_lines FormKept c (λ errno. done_form S p me e w (error_answer errno)) child (λ taken. idle_form S NumberTaken w) λ free. grown_form child number (none_of (S.procs child) free)
 
   -- waitpid
   pub waitpid_form : (t : ℤ) (nohang : Bool) → FormKept (waitpid t nohang c)
-  unfolding written
+  unfolding with_writes
   waitpid_form t nohang =
-      waitpid_lines FormKept c (λ errno. done_form S p me e w (failing errno)) t nohang (done_form S p me e w (pos 0)) (idle_form S Wait w)
+      waitpid_lines FormKept c (λ errno. done_form S p me e w (error_answer errno)) t nohang (done_form S p me e w (pos 0)) (idle_form S Wait w)
       λ child status q number there mine over.
-      let now : Process = noted (pos child) (with_status status me) in
+      let now : Process = with_answer (pos child) (with_status status me) in
       let sized = plain me now refl refl refl (length-set me.registers.slots 0 (pos status)) refl refl refl in
       let apart : child ≢ p = λ z. (w.placed child q there).other (eqb-true q.parent p mine ∙ sym z) in
       remove_form (write_one (SetProc p (Some now)) S) child status q (put_there S.procs p (Some now) child apart ∙ there) over

@@ -1,8 +1,8 @@
 -- What goes with names that were given up leaves a state well formed.
 use Rattle.std.proofs.Common.{◌≡◌, ◌≢◌, ℕ, ◌<◌, ◌≤◌, ◌⊎◌, Bool, true, false, List, [], ◌∷◌, ◌++◌, length, Option, Some, None, is_some, if◌then◌else◌, refl, sym, ap, ◌∙◌, subst, inl, inr}
 use Rattle.std.proofs.lemmas.Bool.{both_ways}
-use Rattle.tx_model.specs.State.{Process, Description, State, Write, SetDesc, SetPipe, put_at, write_one, written, names_at, is_between}
-use Rattle.tx_model.specs.Descriptors.{is_named, has_description, pipe_of, pipes_of, unnamed_go, endless_go, released}
+use Rattle.tx_model.specs.State.{Process, Description, State, Write, SetDesc, SetPipe, put_at, write_one, with_writes, names_at, is_between}
+use Rattle.tx_model.specs.Descriptors.{is_named, has_description, pipe_of, pipes_of, description_removals, pipe_removals, removals}
 use Rattle.tx_model.specs.Answer.{is_running}
 use Rattle.tx_model.specs.StateLaws.{put_here, put_cases, put_there}
 use Rattle.tx_laws.specs.WellFormed.{IsPlaced}
@@ -86,48 +86,48 @@ module _ {A : Type 0} (test : ℕ → Bool) where
   ]
 
 -- what the writes do to each map
-unnamed_descs : (ds : List ℕ) (T V : State) → (written (unnamed_go ds T) V).descs ≡ removed (λ d. is_named d T) ds V.descs
-unfolding written unnamed_go removed
+unnamed_descs : (ds : List ℕ) (T V : State) → (with_writes (description_removals ds T) V).descs ≡ removed (λ d. is_named d T) ds V.descs
+unfolding with_writes description_removals removed
 unnamed_descs [] T V = refl
 unnamed_descs (d ∷ ds) T V = by (is_named d T) (λ W. unnamed_descs ds T W)
   where
-    by : (b : Bool) → ((W : State) → (written (unnamed_go ds T) W).descs ≡ removed (λ d. is_named d T) ds W.descs)
-        → (written (if b then unnamed_go ds T else SetDesc d None ∷ unnamed_go ds T) V).descs ≡ removed (λ d. is_named d T) ds (if b then V.descs else put_at V.descs d None)
+    by : (b : Bool) → ((W : State) → (with_writes (description_removals ds T) W).descs ≡ removed (λ d. is_named d T) ds W.descs)
+        → (with_writes (if b then description_removals ds T else SetDesc d None ∷ description_removals ds T) V).descs ≡ removed (λ d. is_named d T) ds (if b then V.descs else put_at V.descs d None)
     by true k = k V
     by false k = k (write_one (SetDesc d None) V)
 
 unnamed_seen : {B : Type 0} (view : State → B) → ((d : ℕ) (W : State) → view (write_one (SetDesc d None) W) ≡ view W) → (ds : List ℕ) (T V : State)
-    → view (written (unnamed_go ds T) V) ≡ view V
-unfolding written unnamed_go
+    → view (with_writes (description_removals ds T) V) ≡ view V
+unfolding with_writes description_removals
 unnamed_seen {B} view h [] T V = refl
 unnamed_seen {B} view h (d ∷ ds) T V = by (is_named d T) (λ W. unnamed_seen view h ds T W)
   where
-    by : (b : Bool) → ((W : State) → view (written (unnamed_go ds T) W) ≡ view W) → view (written (if b then unnamed_go ds T else SetDesc d None ∷ unnamed_go ds T) V) ≡ view V
+    by : (b : Bool) → ((W : State) → view (with_writes (description_removals ds T) W) ≡ view W) → view (with_writes (if b then description_removals ds T else SetDesc d None ∷ description_removals ds T) V) ≡ view V
     by true k = k V
     by false k = k (write_one (SetDesc d None) V) ∙ h d V
 
-endless_pipes : (ks : List ℕ) (T V : State) → (written (endless_go ks T) V).pipes ≡ removed (λ k. has_description k T) ks V.pipes
-unfolding written endless_go removed
+endless_pipes : (ks : List ℕ) (T V : State) → (with_writes (pipe_removals ks T) V).pipes ≡ removed (λ k. has_description k T) ks V.pipes
+unfolding with_writes pipe_removals removed
 endless_pipes [] T V = refl
 endless_pipes (k ∷ ks) T V = by (has_description k T) (λ W. endless_pipes ks T W)
   where
-    by : (b : Bool) → ((W : State) → (written (endless_go ks T) W).pipes ≡ removed (λ k. has_description k T) ks W.pipes)
-        → (written (if b then endless_go ks T else SetPipe k None ∷ endless_go ks T) V).pipes ≡ removed (λ k. has_description k T) ks (if b then V.pipes else put_at V.pipes k None)
+    by : (b : Bool) → ((W : State) → (with_writes (pipe_removals ks T) W).pipes ≡ removed (λ k. has_description k T) ks W.pipes)
+        → (with_writes (if b then pipe_removals ks T else SetPipe k None ∷ pipe_removals ks T) V).pipes ≡ removed (λ k. has_description k T) ks (if b then V.pipes else put_at V.pipes k None)
     by true h = h V
     by false h = h (write_one (SetPipe k None) V)
 
 endless_seen : {B : Type 0} (view : State → B) → ((k : ℕ) (W : State) → view (write_one (SetPipe k None) W) ≡ view W) → (ks : List ℕ) (T V : State)
-    → view (written (endless_go ks T) V) ≡ view V
-unfolding written endless_go
+    → view (with_writes (pipe_removals ks T) V) ≡ view V
+unfolding with_writes pipe_removals
 endless_seen {B} view h [] T V = refl
 endless_seen {B} view h (k ∷ ks) T V = by (has_description k T) (λ W. endless_seen view h ks T W)
   where
-    by : (b : Bool) → ((W : State) → view (written (endless_go ks T) W) ≡ view W) → view (written (if b then endless_go ks T else SetPipe k None ∷ endless_go ks T) V) ≡ view V
+    by : (b : Bool) → ((W : State) → view (with_writes (pipe_removals ks T) W) ≡ view W) → view (with_writes (if b then pipe_removals ks T else SetPipe k None ∷ pipe_removals ks T) V) ≡ view V
     by true g = g V
     by false g = g (write_one (SetPipe k None) V) ∙ h k V
 
-pub written_append : (xs ys : List Write) (S : State) → written (xs ++ ys) S ≡ written ys (written xs S)
-unfolding written
+pub written_append : (xs ys : List Write) (S : State) → with_writes (xs ++ ys) S ≡ with_writes ys (with_writes xs S)
+unfolding with_writes
 written_append [] ys S = refl
 written_append (x ∷ xs) ys S = written_append xs ys (write_one x S)
 
@@ -179,10 +179,10 @@ pipe_among d x (c ∷ ds) T e (inr z) = by (T.descs c) (pipe_among d x ds T e z)
 -- what nothing names any more goes
 module _ (ds : List ℕ) (T : State) (t : IsTabled T) (l : IsLoose ds T) where
   abbrev fewer : State
-  fewer = written (unnamed_go ds T) T
+  fewer = with_writes (description_removals ds T) T
 
   abbrev rest : State
-  rest = written (endless_go (pipes_of ds T) fewer) fewer
+  rest = with_writes (pipe_removals (pipes_of ds T) fewer) fewer
 
   procs_stay : rest.procs ≡ T.procs
   procs_stay =
@@ -269,6 +269,6 @@ module _ (ds : List ℕ) (T : State) (t : IsTabled T) (l : IsLoose ds T) where
   rest_form : IsArranged rest
   rest_form = form_from rest (tabled_same T rest width_stays procs_stay t) (record { names = rest_names; named = rest_named; pipes = rest_pipes })
 
-  pub released_form : IsArranged (written (released ds T) T)
+  pub released_form : IsArranged (with_writes (removals ds T) T)
   released_form =
-      subst (λ (R : State). IsArranged R) (sym (written_append (unnamed_go ds T) (endless_go (pipes_of ds T) fewer) T)) rest_form
+      subst (λ (R : State). IsArranged R) (sym (written_append (description_removals ds T) (pipe_removals (pipes_of ds T) fewer) T)) rest_form

@@ -5,12 +5,12 @@ use Rattle.tx_base.specs.declared.errors.Errno.{Errno}
 use Rattle.tx_base.specs.declared.errors.Errno.TheVariants.{BrokenPipe}
 use Rattle.tx_base.specs.declared.steps.Refusal.TheVariants.{Wait}
 use Rattle.tx_base.specs.declared.limits.TheConstants.{PIPE_BYTES}
-use Rattle.tx_model.specs.Numbers.{failing}
-use Rattle.tx_model.specs.Memory.{Memory, address_of, stored, bytes_at, bytes_from}
-use Rattle.tx_model.specs.State.{Process, Side, Description, State, SetProc, SetDesc, SetPipe, put_at, write_one, written, names_at}
-use Rattle.tx_model.specs.Effects.{Inside, noted}
-use Rattle.tx_model.specs.Forms.{Caller, Outcome, fails, changes, effect_of}
-use Rattle.tx_model.specs.Book.{set_nonblock, read, write, description_at, of_side, described, end_at, bytes_in, is_read_side, is_write_side}
+use Rattle.tx_model.specs.Numbers.{error_answer}
+use Rattle.tx_model.specs.Memory.{Memory, address_of, stored_memory, bytes_at, bytes_from}
+use Rattle.tx_model.specs.State.{Process, Side, Description, State, SetProc, SetDesc, SetPipe, put_at, write_one, with_writes, names_at}
+use Rattle.tx_model.specs.Effects.{Inside, with_answer}
+use Rattle.tx_model.specs.Forms.{Caller, Outcome, fails, changes, effect_of, caller}
+use Rattle.tx_model.specs.Book.{set_nonblock, read, write, description_at, of_side, description_in, end_at, bytes_in, is_read_side, is_write_side}
 use Rattle.tx_model.specs.StateLaws.{put_cases}
 use Rattle.tx_laws.proofs.KeepsFormParts.{IsArranged, some_of, IsNamed, IsEnd, IsLinked, form_from, tabled_of, linked_of, form_edit}
 use Rattle.tx_laws.proofs.KeepsFormOwn.{stays_from, plain, stored_paged}
@@ -113,43 +113,43 @@ side_of test (Some y) x h = by (test y.side) h
     by true k = k
     by false k = cc
 
-described_at : (d : Option ℕ) (S : State) (x : Description) → described d S ≡ Some x → (n : ℕ) × (S.descs n ≡ Some x)
+described_at : (d : Option ℕ) (S : State) (x : Description) → description_in d S ≡ Some x → (n : ℕ) × (S.descs n ≡ Some x)
 described_at None S x h = cc
 described_at (Some d) S x h = (d, h)
 
 module _ (S : State) (p : ℕ) (me : Process) (inside : Option Inside) (e : S.procs p ≡ Some me) (w : IsArranged S) where
   abbrev c : Caller
-  c = record { number = p; process = me; inside = inside; state = S }
+  c = caller inside p me S
 
   abbrev FormKept : Outcome → Type 0
   FormKept outcome = KeepsForm S (effect_of p me outcome)
 
   error_form : (errno : Errno) → FormKept (fails errno)
-  error_form errno = done_form S p me e w (failing errno)
+  error_form errno = done_form S p me e w (error_answer errno)
 
   pub set_nonblock_form : (f : ℤ) (on : Bool) → FormKept (set_nonblock f on c)
-  unfolding written
+  unfolding with_writes
   set_nonblock_form f on =
       set_nonblock_lines FormKept c error_form f on
-      λ d x named there. desc_edit (write_one (SetProc p (Some (noted (pos 0) me))) S) d x (record x { nonblock = on }) there refl (noted_form S p me e w (pos 0))
+      λ d x named there. desc_edit (write_one (SetProc p (Some (with_answer (pos 0) me))) S) d x (record x { nonblock = on }) there refl (noted_form S p me e w (pos 0))
 
   -- and so is its pipe
   end_there : (test : Side → Bool) (f : ℤ) (end : Description) → end_at test f c ≡ Some end → (bytes : List ℕ) × (S.pipes end.pipe ≡ Some bytes)
   end_there test f end h =
-      let d = described_at (description_at f c) S end (side_of test (described (description_at f c) S) end h) in
+      let d = described_at (description_at f c) S end (side_of test (description_in (description_at f c) S) end h) in
       some_of (S.pipes end.pipe) (w.named d.0 end d.1).2
 
   module _ (k n : ℕ) (address : ℤ) where
     abbrev takes : List ℕ → Outcome
     takes held =
-        changes (pos (min n (length held))) (record me { memory = stored me.memory (address_of address) (take (min n (length held)) held) })
+        changes (pos (min n (length held))) (record me { memory = stored_memory me.memory (address_of address) (take (min n (length held)) held) })
         (SetPipe k (Some (drop (min n (length held)) held)) ∷ [])
 
     takes_form : (bytes : List ℕ) → S.pipes k ≡ Some bytes → FormKept (takes bytes)
-    unfolding written
+    unfolding with_writes
     takes_form bytes h =
         let m : ℕ = min n (length bytes) in
-        let now : Process = noted (pos m) (record me { memory = stored me.memory (address_of address) (take m bytes) }) in
+        let now : Process = with_answer (pos m) (record me { memory = stored_memory me.memory (address_of address) (take m bytes) }) in
         let sized = plain me now refl refl refl refl (stored_paged me.memory (address_of address) (take m bytes)) refl refl in
         let most : length bytes ≤ 512 = ((linked_of S w).pipes k bytes h).2 in
         let rest : length (drop m bytes) ≡ length bytes - m = length-drop m bytes in
@@ -160,14 +160,14 @@ module _ (S : State) (p : ℕ) (me : Process) (inside : Option Inside) (e : S.pr
     puts held = changes (pos n) me (SetPipe k (Some (held ++ bytes_at me.memory (address_of address) n)) ∷ [])
 
     puts_form : (bytes : List ℕ) → S.pipes k ≡ Some bytes → nat_lt PIPE_BYTES (length bytes + n) ≡ false → FormKept (puts bytes)
-    unfolding written
+    unfolding with_writes
     puts_form bytes h fits =
         let within : length bytes + n ≤ 512 = ltb-false 512 (length bytes + n) fits in
         let fewer : length (bytes_at me.memory (address_of address) n) ≤ n = taken_fewer me.memory (address_of address) n in
         let sum : length (bytes ++ bytes_at me.memory (address_of address) n) ≡ length bytes + length (bytes_at me.memory (address_of address) n) =
         length-append bytes (bytes_at me.memory (address_of address) n) in
         let room : length (bytes ++ bytes_at me.memory (address_of address) n) ≤ 512 = omega arith in
-        bytes_edit (write_one (SetProc p (Some (noted (pos n) me))) S) k bytes (bytes ++ bytes_at me.memory (address_of address) n) h room (noted_form S p me e w (pos n))
+        bytes_edit (write_one (SetProc p (Some (with_answer (pos n) me))) S) k bytes (bytes ++ bytes_at me.memory (address_of address) n) h room (noted_form S p me e w (pos n))
 
   pub read_form : (f address v : ℤ) → FormKept (read f address v c)
   read_form f address v =
@@ -178,7 +178,7 @@ module _ (S : State) (p : ℕ) (me : Process) (inside : Option Inside) (e : S.pr
 
   pub write_form : (f address v : ℤ) → FormKept (write f address v c)
   write_form f address v =
-      write_lines FormKept c error_form f address v (done_form S p me e w (pos 0)) (idle_form S Wait w) (done_form S p me e w (failing BrokenPipe))
+      write_lines FormKept c error_form f address v (done_form S p me e w (pos 0)) (idle_form S Wait w) (done_form S p me e w (error_answer BrokenPipe))
       λ end n h small good room.
       let bytes = end_there is_write_side f end h in
       subst (λ (y : Option (List ℕ)). nat_lt PIPE_BYTES (length (bytes_in y) + n) ≡ false → FormKept (puts end.pipe n address (bytes_in y))) (sym bytes.1)

@@ -1,10 +1,10 @@
 -- What a step inside a transaction leaves of it.
 use Rattle.std.proofs.Common.{◌≡◌, ◌≢◌, ℕ, ◌+◌, ◌-◌, ◌<◌, ◌≤◌, Bool, true, false, List, [], ◌∷◌, ◌++◌, length, Option, Some, None, is_some, refl, sym, ap, ◌∙◌, subst, inl, inr, arith}
 use Rattle.std.proofs.lemmas.Bool.{both_ways}
-use Rattle.tx_model.specs.State.{Process, State, Sender, Sending, written}
+use Rattle.tx_model.specs.State.{Process, State, Sender, Sending, with_writes}
 use Rattle.tx_model.specs.Effects.{Inside, Effect}
-use Rattle.tx_model.specs.Processes.{told_to}
-use Rattle.tx_model.specs.Book.{has_sender, sent_by_members}
+use Rattle.tx_model.specs.Processes.{child_notice}
+use Rattle.tx_model.specs.Book.{sender_count, member_sends}
 use Rattle.tx_model.specs.Membership.{Table, is_member_of, is_live, is_open_of}
 use Rattle.tx_model.specs.Answer.{is_running}
 use Rattle.tx_laws.specs.WellFormedTable.{sent_by_kernel, HasParentInside, HasParentOutside, IsTransaction}
@@ -14,26 +14,26 @@ use Rattle.tx_laws.proofs.Standings.{stand, running_same, some_same, parent_of, 
 use Rattle.tx_laws.proofs.Turns.{orphan_some, Same, SameBut, standing, IsOrphan, Told, NotLater, Later, Turn, Stays, Sends, Grows, Reaps, Ends}
 
 -- sends are counted one by one
-sent_push : (ms : List Sending) (m : Sending) → sent_by_members (ms ++ m ∷ []) ≡ sent_by_members ms + has_sender m.from
-unfolding sent_by_members
+sent_push : (ms : List Sending) (m : Sending) → member_sends (ms ++ m ∷ []) ≡ member_sends ms + sender_count m.from
+unfolding member_sends
 sent_push [] m = omega arith
-sent_push (x ∷ ms) m = let k : sent_by_members (ms ++ m ∷ []) ≡ sent_by_members ms + has_sender m.from = sent_push ms m in omega arith
+sent_push (x ∷ ms) m = let k : member_sends (ms ++ m ∷ []) ≡ member_sends ms + sender_count m.from = sent_push ms m in omega arith
 
-kernel_push : (ms : List Sending) (m : Sending) → sent_by_kernel (ms ++ m ∷ []) ≡ sent_by_kernel ms + (1 - has_sender m.from)
+kernel_push : (ms : List Sending) (m : Sending) → sent_by_kernel (ms ++ m ∷ []) ≡ sent_by_kernel ms + (1 - sender_count m.from)
 unfolding sent_by_kernel
 kernel_push [] m = omega arith
-kernel_push (x ∷ ms) m = let k : sent_by_kernel (ms ++ m ∷ []) ≡ sent_by_kernel ms + (1 - has_sender m.from) = kernel_push ms m in omega arith
+kernel_push (x ∷ ms) m = let k : sent_by_kernel (ms ++ m ∷ []) ≡ sent_by_kernel ms + (1 - sender_count m.from) = kernel_push ms m in omega arith
 
-one_sender : (x : Option Sender) → has_sender x ≤ 1
+one_sender : (x : Option Sender) → sender_count x ≤ 1
 one_sender None = omega arith
 one_sender (Some from) = omega arith
 
-pub sent_length : (ms : List Sending) → length ms ≡ sent_by_members ms + sent_by_kernel ms
-unfolding sent_by_members sent_by_kernel
+pub sent_length : (ms : List Sending) → length ms ≡ member_sends ms + sent_by_kernel ms
+unfolding member_sends sent_by_kernel
 sent_length [] = refl
 sent_length (m ∷ ms) =
-    let k : length ms ≡ sent_by_members ms + sent_by_kernel ms = sent_length ms in
-    let one : has_sender m.from ≤ 1 = one_sender m.from in
+    let k : length ms ≡ member_sends ms + sent_by_kernel ms = sent_length ms in
+    let one : sender_count m.from ≤ 1 = one_sender m.from in
     omega arith
 
 -- the starter of a step's transaction, and its members
@@ -51,13 +51,13 @@ module _ (t : Table) (S : State) (i : Inside) (p : ℕ) (mine : is_member_of t i
   s = i.starter
 
   -- a member's send is held
-  sends_kept : (new : Table) (T : State) → SameFor t new s → (m : Sending) → has_sender m.from ≡ 1 → sent_by_members (S.held s) < 32 → Same S T → T.held s ≡ S.held s ++ m ∷ []
+  sends_kept : (new : Table) (T : State) → SameFor t new s → (m : Sending) → sender_count m.from ≡ 1 → member_sends (S.held s) < 32 → Same S T → T.held s ≡ S.held s ++ m ∷ []
       → IsTransaction new T s
   sends_kept new T same m sender room stands held =
       let x : IsTransaction new (record { width = T.width; procs = T.procs; descs = T.descs; pipes = T.pipes; held = S.held }) s =
       transaction_same t new S (record { width = T.width; procs = T.procs; descs = T.descs; pipes = T.pipes; held = S.held }) s live same (λ n h. stands n) refl k in
-      let one : sent_by_members (T.held s) ≡ sent_by_members (S.held s) + has_sender m.from = ap sent_by_members held ∙ sent_push (S.held s) m in
-      let none : sent_by_kernel (T.held s) ≡ sent_by_kernel (S.held s) + (1 - has_sender m.from) = ap sent_by_kernel held ∙ kernel_push (S.held s) m in
+      let one : member_sends (T.held s) ≡ member_sends (S.held s) + sender_count m.from = ap member_sends held ∙ sent_push (S.held s) m in
+      let none : sent_by_kernel (T.held s) ≡ sent_by_kernel (S.held s) + (1 - sender_count m.from) = ap sent_by_kernel held ∙ kernel_push (S.held s) m in
       let once : sent_by_kernel (S.held s) ≤ 1 = k.told_once in
       record {
         starter = x.starter;
@@ -91,7 +91,7 @@ module _ (t : Table) (S : State) (i : Inside) (p : ℕ) (mine : is_member_of t i
           inside_same t new s (T.procs n) (S.procs n) (parent_same (T.procs n) (S.procs n) (stands n z)) stays (k.parents n (joins n z h) ne)
     ];
     outside = outside_same t new s (T.procs s) (S.procs s) (parent_same (T.procs s) (S.procs s) (stands s here)) apart k.outside;
-    sent = subst (λ (ms : List Sending). sent_by_members ms ≤ 32) (sym held) k.sent;
+    sent = subst (λ (ms : List Sending). member_sends ms ≤ 32) (sym held) k.sent;
     told_none = λ h. ap sent_by_kernel held ∙ k.told_none (sym (running_same (T.procs s) (S.procs s) (stands s here)) ∙ h);
     told_once = subst (λ (ms : List Sending). sent_by_kernel ms ≤ 1) (sym held) k.told_once;
   }
@@ -116,7 +116,7 @@ module _ (t : Table) (S : State) (i : Inside) (p : ℕ) (mine : is_member_of t i
       | inr z ↦ inside_same t new s (T.procs n) (S.procs n) (parent_same (T.procs n) (S.procs n) (stands n z)) (λ m y. same.members m ∙ y) (k.parents n (sym (same.members n) ∙ h) ne)
     ];
     outside = outside_same t new s (T.procs s) (S.procs s) (parent_same (T.procs s) (S.procs s) (stands s here)) (λ m e z. same.members m ∙ z) k.outside;
-    sent = subst (λ (ms : List Sending). sent_by_members ms ≤ 32) (sym held) k.sent;
+    sent = subst (λ (ms : List Sending). member_sends ms ≤ 32) (sym held) k.sent;
     told_none = λ h. ap sent_by_kernel held ∙ k.told_none (sym (running_same (T.procs s) (S.procs s) (stands s here)) ∙ h);
     told_once = subst (λ (ms : List Sending). sent_by_kernel ms ≤ 1) (sym held) k.told_once;
   }
@@ -149,7 +149,7 @@ module _ (t : Table) (S : State) (i : Inside) (p : ℕ) (mine : is_member_of t i
     ]
 
     -- what the processes are after it, where the transaction holds these sends
-    ends_with : sent_by_members (T.held s) ≤ 32 → (is_running (T.procs s) ≡ true → sent_by_kernel (T.held s) ≡ 0) → sent_by_kernel (T.held s) ≤ 1 → IsTransaction new T s
+    ends_with : member_sends (T.held s) ≤ 32 → (is_running (T.procs s) ≡ true → sent_by_kernel (T.held s) ≡ 0) → sent_by_kernel (T.held s) ≤ 1 → IsTransaction new T s
     ends_with sent none once = record {
       starter = elim (same_or_other s p) [
         | inl z ↦ ap (λ (m : ℕ). is_some (T.procs m)) z ∙ some_is (T.procs p) (record { parent = parent; runs = false }) now
@@ -188,33 +188,33 @@ module _ (t : Table) (S : State) (i : Inside) (p : ℕ) (mine : is_member_of t i
 
     ends_kept : Told (Some i) parent S T → IsTransaction new T s
     ends_kept (NotLater held) =
-        ends_with (subst (λ (ms : List Sending). sent_by_members ms ≤ 32) (sym (held s)) k.sent) (λ h. ap sent_by_kernel (held s) ∙ k.told_none (running_back h))
+        ends_with (subst (λ (ms : List Sending). member_sends ms ≤ 32) (sym (held s)) k.sent) (λ h. ap sent_by_kernel (held s) ∙ k.told_none (running_back h))
         (subst (λ (ms : List Sending). sent_by_kernel ms ≤ 1) (sym (held s)) k.told_once)
     ends_kept (Later j e out ne held) =
         let starts : s ≡ j.starter = ap starter_in e in
-        let more : T.held s ≡ S.held s ++ told_to parent ∷ [] =
-        ap T.held starts ∙ held.more ∙ ap (λ (n : ℕ). S.held n ++ told_to parent ∷ []) (sym starts) in
+        let more : T.held s ≡ S.held s ++ child_notice parent ∷ [] =
+        ap T.held starts ∙ held.more ∙ ap (λ (n : ℕ). S.held n ++ child_notice parent ∷ []) (sym starts) in
         let outer : is_member_of t s parent ≡ false = sym (members parent) ∙ ap (λ (x : Option Inside). member_in x parent) e ∙ out in
         let it : s ≡ p = starter_ends outer ne in
         let ran : is_running (S.procs s) ≡ true = ap (λ (m : ℕ). is_running (S.procs m)) it ∙ running_is (S.procs p) parent true was in
         let before : sent_by_kernel (S.held s) ≡ 0 = k.told_none ran in
-        let room : sent_by_members (S.held s) ≤ 32 = k.sent in
-        let count : sent_by_members (T.held s) ≡ sent_by_members (S.held s) + 0 = ap sent_by_members more ∙ sent_push (S.held s) (told_to parent) in
-        let told : sent_by_kernel (T.held s) ≡ sent_by_kernel (S.held s) + 1 = ap sent_by_kernel more ∙ kernel_push (S.held s) (told_to parent) in
+        let room : member_sends (S.held s) ≤ 32 = k.sent in
+        let count : member_sends (T.held s) ≡ member_sends (S.held s) + 0 = ap member_sends more ∙ sent_push (S.held s) (child_notice parent) in
+        let told : sent_by_kernel (T.held s) ≡ sent_by_kernel (S.held s) + 1 = ap sent_by_kernel more ∙ kernel_push (S.held s) (child_notice parent) in
         ends_with (omega arith)
         (λ h. absurd (both_ways (is_running (T.procs s)) (ap (λ (m : ℕ). is_running (T.procs m)) it ∙ running_is (T.procs p) parent false now) h)) (omega arith)
 
   -- whatever the step does, where a member that ends has ended its part
   pub own_kept : (new : Table) (f : Effect) → SameFor t new s → (concludes_ended f.conclusion ≡ true → is_open_of s (new.marks p) ≡ false) → Turn (Some i) p S f
-      → IsTransaction new (written f.writes S) s
-  own_kept new f same closed (Stays goes stands held) = transaction_same t new S (written f.writes S) s live same (λ n h. stands n) (held s) k
+      → IsTransaction new (with_writes f.writes S) s
+  own_kept new f same closed (Stays goes stands held) = transaction_same t new S (with_writes f.writes S) s live same (λ n h. stands n) (held s) k
   own_kept new f same closed (Sends goes j e m sender room stands held) =
       let starts : s ≡ j.starter = ap starter_in e in
-      sends_kept new (written f.writes S) same m sender (subst (λ (n : ℕ). sent_by_members (S.held n) < 32) (sym starts) room) stands
-      (ap (written f.writes S).held starts ∙ held.more ∙ ap (λ (n : ℕ). S.held n ++ m ∷ []) (sym starts))
+      sends_kept new (with_writes f.writes S) same m sender (subst (λ (n : ℕ). member_sends (S.held n) < 32) (sym starts) room) stands
+      (ap (with_writes f.writes S).held starts ∙ held.more ∙ ap (λ (n : ℕ). S.held n ++ m ∷ []) (sym starts))
   own_kept new f same closed (Grows goes c free child stands held) =
-      grows_kept new (written f.writes S) c free child stands (held s) (λ n h. same.members n ∙ h) (λ n ne h. sym (same.members n) ∙ h) (λ n ne. same.open_parts n)
+      grows_kept new (with_writes f.writes S) c free child stands (held s) (λ n h. same.members n ∙ h) (λ n ne h. sym (same.members n) ∙ h) (λ n ne. same.open_parts n)
       (λ n e h. same.members n ∙ h)
-  own_kept new f same closed (Reaps goes c was now stands held) = reaps_kept new (written f.writes S) same c was now stands (held s)
+  own_kept new f same closed (Reaps goes c was now stands held) = reaps_kept new (with_writes f.writes S) same c was now stands (held s)
   own_kept new f same closed (Ends concludes parent was now orphans sends told) =
-      ends_kept new (written f.writes S) same parent was now orphans (closed (ap concludes_ended concludes)) told
+      ends_kept new (with_writes f.writes S) same parent was now orphans (closed (ap concludes_ended concludes)) told

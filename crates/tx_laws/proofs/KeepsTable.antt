@@ -2,14 +2,15 @@
 use Rattle.std.proofs.Common.{◌≡◌, ◌≢◌, ℕ, Bool, true, false, [], ◌∷◌, ℤ, Option, Some, None, if◌then◌else◌, ◌==◌, refl, sym, ap, ◌∙◌, subst, inl, inr, eq-eqb, eqb-true}
 use Rattle.std.proofs.lemmas.Bool.{both_ways}
 use Rattle.tx_base.specs.declared.marks.Mark.{Mark}
-use Rattle.tx_model.specs.State.{State, Object, Proc, Held, SetHeld, put_at, write_one, written, has}
+use Rattle.tx_model.specs.State.{State, Object, Proc, Held, SetHeld, put_at, write_one, with_writes, has_object}
 use Rattle.tx_model.specs.StateLaws.{put_here, put_cases, put_there, AgreeAt}
 use Rattle.tx_model.specs.Effects.{Inside, Effect, send_answers}
-use Rattle.tx_model.specs.Posts.{posts}
+use Rattle.tx_model.specs.Posts.{after_posts}
 use Rattle.tx_model.specs.Events.{Event, Note, Commit, actor, effect, objects, after}
-use Rattle.tx_model.specs.Membership.{Table, is_of, is_member_of, is_live, is_open_of, Parks, Within, Commits, Aborts, parked, new_mark, unmarked, table_after}
-use Rattle.tx_model.specs.History.{nobody, just, with_one}
-use Rattle.tx_model.specs.View.{View, present, IsClear}
+use Rattle.tx_model.specs.Membership.{Table, is_of, is_member_of, is_live, is_open_of, Parks, Within, Commits, Aborts, parked_mark, new_mark, mark_unless_of, table_after}
+use Rattle.tx_model.specs.History.{nobody, just}
+use Rattle.tx_model.specs.View.{View, present}
+use Rattle.tx_model.specs.Words.{IsClear, starters_with}
 use Rattle.tx_laws.specs.Sound.{IsSound}
 use Rattle.tx_laws.specs.WellFormedTable.{IsTransaction, IsWellFormedWith}
 use Rattle.tx_laws.proofs.Agree.{agree_refl}
@@ -24,32 +25,32 @@ use Rattle.tx_laws.proofs.Turns.{Same, HoldsSame, Told, NotLater, Later, Turn, S
 use Rattle.tx_laws.proofs.KeepsOwn.{starter_in}
 
 -- posts and the conclusion change neither standing nor what is held
-pub after_stand : (ev : Event) (S : State) → Same (written (effect ev S).writes S) (after ev S)
+pub after_stand : (ev : Event) (S : State) → Same (with_writes (effect ev S).writes S) (after ev S)
 unfolding after
 after_stand ev S n =
     let f : Effect = effect ev S in
-    concluded_stand f.conclusion (send_answers f S) (posts f.sends (written f.writes S)) n ∙ posts_stand f.sends (written f.writes S) n
+    concluded_stand f.conclusion (send_answers f S) (after_posts f.sends (with_writes f.writes S)) n ∙ posts_stand f.sends (with_writes f.writes S) n
 
-pub after_holds : (ev : Event) (S : State) → HoldsSame (written (effect ev S).writes S) (after ev S)
+pub after_holds : (ev : Event) (S : State) → HoldsSame (with_writes (effect ev S).writes S) (after ev S)
 unfolding after
 after_holds ev S u =
     let f : Effect = effect ev S in
-    concluded_held f.conclusion (send_answers f S) (posts f.sends (written f.writes S)) u ∙ posts_held f.sends (written f.writes S) u
+    concluded_held f.conclusion (send_answers f S) (after_posts f.sends (with_writes f.writes S)) u ∙ posts_held f.sends (with_writes f.writes S) u
 
 -- a commit writes what its event writes, and nothing is held any more
-commit_writes : (s : ℕ) (ev : Event) (S : State) → written (effect (Commit s ev) S).writes S ≡ write_one (SetHeld s []) (written (effect ev S).writes S)
-unfolding effect written
+commit_writes : (s : ℕ) (ev : Event) (S : State) → with_writes (effect (Commit s ev) S).writes S ≡ write_one (SetHeld s []) (with_writes (effect ev S).writes S)
+unfolding effect with_writes
 commit_writes s ev S = written_append (effect ev S).writes (SetHeld s [] ∷ []) S
 
 pub commit_held : (s : ℕ) (ev : Event) (S : State) → (after (Commit s ev) S).held s ≡ []
-commit_held s ev S = after_holds (Commit s ev) S s ∙ ap (λ (T : State). T.held s) (commit_writes s ev S) ∙ put_here (written (effect ev S).writes S).held s []
+commit_held s ev S = after_holds (Commit s ev) S s ∙ ap (λ (T : State). T.held s) (commit_writes s ev S) ∙ put_here (with_writes (effect ev S).writes S).held s []
 
-pub commit_holds : (s : ℕ) (ev : Event) (S : State) (u : ℕ) → u ≢ s → (after (Commit s ev) S).held u ≡ (written (effect ev S).writes S).held u
+pub commit_holds : (s : ℕ) (ev : Event) (S : State) (u : ℕ) → u ≢ s → (after (Commit s ev) S).held u ≡ (with_writes (effect ev S).writes S).held u
 commit_holds s ev S u ne =
-    after_holds (Commit s ev) S u ∙ ap (λ (T : State). T.held u) (commit_writes s ev S) ∙ put_there (written (effect ev S).writes S).held s [] u ne
+    after_holds (Commit s ev) S u ∙ ap (λ (T : State). T.held u) (commit_writes s ev S) ∙ put_there (with_writes (effect ev S).writes S).held s [] u ne
 
 -- the writes of an event change none but its objects
-pub other_part : (ev : Event) (S : State) (o : Object) → has o (objects ev S) ≡ false → AgreeAt (written (effect ev S).writes S) S o
+pub other_part : (ev : Event) (S : State) (o : Object) → has_object o (objects ev S) ≡ false → AgreeAt (with_writes (effect ev S).writes S) S o
 other_part ev S o h = written_else (effect ev S).writes S S (objects ev S) o (event_fits ev S (objects ev S) (λ q k. k)).0 h (agree_refl S o)
 
 -- tables to other transactions
@@ -69,12 +70,12 @@ put_table t c x s same opens = record {
   ];
 }
 
-pub not_open : (s : ℕ) (x : Option Mark) → is_open_of s (parked x) ≡ false
+pub not_open : (s : ℕ) (x : Option Mark) → is_open_of s (parked_mark x) ≡ false
 not_open s None = refl
 not_open s (Some m) = refl
 
 pub parked_table : (t : Table) (p s u : ℕ) → SameFor t (table_after (Within u Parks) p t) s
-parked_table t p s u = put_table t p (parked (t.marks p)) s (of_parked s (t.marks p)) (λ h. absurd (both_ways (is_open_of s (parked (t.marks p))) (not_open s (t.marks p)) h))
+parked_table t p s u = put_table t p (parked_mark (t.marks p)) s (of_parked s (t.marks p)) (λ h. absurd (both_ways (is_open_of s (parked_mark (t.marks p))) (not_open s (t.marks p)) h))
 
 -- a new mark is of its transaction alone
 other_mark : (s u : ℕ) (defers : Bool) → u ≢ s → is_of u (Some (new_mark s defers)) ≡ false
@@ -85,13 +86,13 @@ new_table t c s u defers ne none =
     put_table t c (Some (new_mark s defers)) u (other_mark s u defers ne ∙ sym none)
     (λ h. absurd (both_ways (is_of u (Some (new_mark s defers))) (other_mark s u defers ne) (open_member u (Some (new_mark s defers)) h)))
 
-over_table : (t : Table) (s u : ℕ) → u ≢ s → SameFor t (record { width = t.width; marks = λ n. unmarked s (t.marks n) }) u
+over_table : (t : Table) (s u : ℕ) → u ≢ s → SameFor t (record { width = t.width; marks = λ n. mark_unless_of s (t.marks n) }) u
 over_table t s u ne = record { members = λ n. of_unmarked u s (t.marks n) ∙ rw other refl; open_parts = λ n. opens (t.marks n) }
   where
     other : (u == s) ≡ false
     other = false_unless (u == s) (λ h. ne (eqb-true u s h))
 
-    opens : (x : Option Mark) → is_open_of u (unmarked s x) ≡ true → is_open_of u x ≡ true
+    opens : (x : Option Mark) → is_open_of u (mark_unless_of s x) ≡ true → is_open_of u x ≡ true
     opens None h = h
     opens (Some m) h = by (m.starter.0 == s) h
       where
@@ -100,38 +101,38 @@ over_table t s u ne = record { members = λ n. of_unmarked u s (t.marks n) ∙ r
         by false z = z
 
 -- what a step leaves of the sends that others hold
-pub outside_holds : (p : ℕ) (S : State) (f : Effect) → Turn None p S f → HoldsSame S (written f.writes S)
+pub outside_holds : (p : ℕ) (S : State) (f : Effect) → Turn None p S f → HoldsSame S (with_writes f.writes S)
 outside_holds p S f (Stays goes stands held) = held
 outside_holds p S f (Sends goes j e m sender room stands held) = cc
 outside_holds p S f (Grows goes c free child stands held) = held
 outside_holds p S f (Reaps goes c was now stands held) = held
 outside_holds p S f (Ends concludes parent was now orphans sends told) = by told
   where
-    by : Told None parent S (written f.writes S) → HoldsSame S (written f.writes S)
+    by : Told None parent S (with_writes f.writes S) → HoldsSame S (with_writes f.writes S)
     by (NotLater held) = held
     by (Later j e out ne held) = cc
 
-pub inside_holds : (i : Inside) (p : ℕ) (S : State) (f : Effect) → Turn (Some i) p S f → (u : ℕ) → u ≢ i.starter → (written f.writes S).held u ≡ S.held u
+pub inside_holds : (i : Inside) (p : ℕ) (S : State) (f : Effect) → Turn (Some i) p S f → (u : ℕ) → u ≢ i.starter → (with_writes f.writes S).held u ≡ S.held u
 inside_holds i p S f (Stays goes stands held) u ne = held u
 inside_holds i p S f (Sends goes j e m sender room stands held) u ne = held.others u (λ z. ne (z ∙ sym (ap starter_in e)))
 inside_holds i p S f (Grows goes c free child stands held) u ne = held u
 inside_holds i p S f (Reaps goes c was now stands held) u ne = held u
 inside_holds i p S f (Ends concludes parent was now orphans sends told) u ne = by told
   where
-    by : Told (Some i) parent S (written f.writes S) → (written f.writes S).held u ≡ S.held u
+    by : Told (Some i) parent S (with_writes f.writes S) → (with_writes f.writes S).held u ≡ S.held u
     by (NotLater held) = held u
     by (Later j e out n held) = held.others u (λ z. ne (z ∙ sym (ap starter_in e)))
 
 -- the state after, as the writes leave it
-pub after_kept : (t : Table) (ev : Event) (S : State) (s : ℕ) → is_live t s ≡ true → IsTransaction t (written (effect ev S).writes S) s → IsTransaction t (after ev S) s
+pub after_kept : (t : Table) (ev : Event) (S : State) (s : ℕ) → is_live t s ≡ true → IsTransaction t (with_writes (effect ev S).writes S) s → IsTransaction t (after ev S) s
 after_kept t ev S s live k =
-    transaction_same t t (written (effect ev S).writes S) (after ev S) s live (same_table t s) (λ n h. after_stand ev S n) (after_holds ev S s) k
+    transaction_same t t (with_writes (effect ev S).writes S) (after ev S) s live (same_table t s) (λ n h. after_stand ev S n) (after_holds ev S s) k
 
 module _ (V : View) (sound : IsSound V) (kept : IsWellFormedWith V.table (present V)) where
-  -- what a transaction touched that the actor is no member of
-  pub untouched : (ev : Event) → IsClear V ev → (o : Object) (u : ℕ) → V.touched u o ≡ true → is_member_of V.table u (actor ev) ≡ false → has o (objects ev (present V)) ≡ false
-  untouched ev clear o u h out =
-      false_unless (has o (objects ev (present V)))
+  -- what a transaction reserved that the actor is no member of
+  pub unreserved : (ev : Event) → IsClear V ev → (o : Object) (u : ℕ) → V.reserved u o ≡ true → is_member_of V.table u (actor ev) ≡ false → has_object o (objects ev (present V)) ≡ false
+  unreserved ev clear o u h out =
+      false_unless (has_object o (objects ev (present V)))
       (λ k. both_ways (is_member_of V.table u (actor ev)) out (clear_foot V ev sound clear o u (objects_in V.table ev (present V) o k) h))
 
   -- the transaction of another
@@ -139,8 +140,8 @@ module _ (V : View) (sound : IsSound V) (kept : IsWellFormedWith V.table (presen
       → IsTransaction new (after ev (present V)) u
   other_kept ev clear new u live out same =
       transaction_same V.table new (present V) (after ev (present V)) u live same
-      (λ n h. after_stand ev (present V) n ∙ ap stand (other_part ev (present V) (Proc n) (untouched ev clear (Proc n) u (sound.own_procs u n h) out)).part)
-      (after_holds ev (present V) u ∙ (other_part ev (present V) (Held u) (untouched ev clear (Held u) u (sound.own_held u live) out)).part)
+      (λ n h. after_stand ev (present V) n ∙ ap stand (other_part ev (present V) (Proc n) (unreserved ev clear (Proc n) u (sound.own_procs u n h) out)).part)
+      (after_holds ev (present V) u ∙ (other_part ev (present V) (Held u) (unreserved ev clear (Held u) u (sound.own_held u live) out)).part)
       (kept.live u live)
 
   -- a step outside of all
@@ -172,8 +173,8 @@ module _ (V : View) (sound : IsSound V) (kept : IsWellFormedWith V.table (presen
 
   -- the step that commits it
   pub commits_formed : (ev : Event) (s : ℕ) → IsClear V (Commit s ev) → (p : ℕ) → is_member_of V.table s (actor (Commit s ev)) ≡ true
-      → ((u : ℕ) → u ≢ s → (written (effect ev (present V)).writes (present V)).held u ≡ (present V).held u)
-      → ((u p : ℕ) → is_of u (unmarked s (V.table.marks p)) ≡ true → is_of u (unmarked s (V.table.marks u)) ≡ true)
+      → ((u : ℕ) → u ≢ s → (with_writes (effect ev (present V)).writes (present V)).held u ≡ (present V).held u)
+      → ((u p : ℕ) → is_of u (mark_unless_of s (V.table.marks p)) ≡ true → is_of u (mark_unless_of s (V.table.marks u)) ≡ true)
       → IsWellFormedWith (table_after (Commits s) p V.table) (after (Commit s ev) (present V))
   commits_formed ev s clear p mine held members = record { live = live; members = members; others = others }
     where
@@ -199,33 +200,33 @@ module _ (V : View) (sound : IsSound V) (kept : IsWellFormedWith V.table (presen
 
   -- its abort
   pub aborts_formed : (s : ℕ) (r : ℤ) (p k : ℕ) → (V.without (just s)).held s ≡ []
-      → ((u p : ℕ) → is_of u (unmarked s (V.table.marks p)) ≡ true → is_of u (unmarked s (V.table.marks u)) ≡ true)
-      → IsWellFormedWith (table_after (Aborts s k) p V.table) (after (Note s r) (V.without (with_one s nobody)))
-  unfolding effect written
+      → ((u p : ℕ) → is_of u (mark_unless_of s (V.table.marks p)) ≡ true → is_of u (mark_unless_of s (V.table.marks u)) ≡ true)
+      → IsWellFormedWith (table_after (Aborts s k) p V.table) (after (Note s r) (V.without (starters_with s nobody)))
+  unfolding effect with_writes
   aborts_formed s r p k left members = record { live = live; members = members; others = others }
     where
       new : Table
       new = table_after (Aborts s k) p V.table
 
       R : State
-      R = V.without (with_one s nobody)
+      R = V.without (starters_with s nobody)
 
       gone : is_live new s ≡ false
       gone = of_unmarked s s (V.table.marks s) ∙ rw (eq-eqb s s refl) refl
 
-      other : (u : ℕ) → u ≢ s → with_one s nobody u ≡ false
+      other : (u : ℕ) → u ≢ s → starters_with s nobody u ≡ false
       other u ne = rw (false_unless (u == s) (λ h. ne (eqb-true u s h))) refl
 
       stands : (u : ℕ) → u ≢ s → (n : ℕ) → is_member_of V.table u n ≡ true → stand ((after (Note s r) R).procs n) ≡ stand ((present V).procs n)
       stands u ne n h =
           after_stand (Note s r) R n ∙ note_stand s r R n
-          ∙ ap stand (sound.coherent (with_one s nobody) nobody (Proc n) (λ v z.
-          subst (λ (m : ℕ). with_one s nobody m ≡ false) (sound.single u v (Proc n) (sound.own_procs u n h) z) (other u ne))).part
+          ∙ ap stand (sound.coherent (starters_with s nobody) nobody (Proc n) (λ v z.
+          subst (λ (m : ℕ). starters_with s nobody m ≡ false) (sound.single u v (Proc n) (sound.own_procs u n h) z) (other u ne))).part
 
       holds : (u : ℕ) → u ≢ s → (after (Note s r) R).held u ≡ (present V).held u
       holds u ne =
           after_holds (Note s r) R u
-          ∙ (sound.coherent (with_one s nobody) nobody (Held u) (λ v z. subst (λ (m : ℕ). with_one s nobody m ≡ false) (sym (sound.held_own v u z)) (other u ne))).part
+          ∙ (sound.coherent (starters_with s nobody) nobody (Held u) (λ v z. subst (λ (m : ℕ). starters_with s nobody m ≡ false) (sym (sound.held_own v u z)) (other u ne))).part
 
       live : (u : ℕ) → is_live new u ≡ true → IsTransaction new (after (Note s r) R) u
       live u h = elim (same_or_other u s) [
@@ -239,10 +240,10 @@ module _ (V : View) (sound : IsSound V) (kept : IsWellFormedWith V.table (presen
       others u h = elim (same_or_other u s) [
         | inl z ↦
             ap (after (Note s r) R).held z ∙ after_holds (Note s r) R s
-            ∙ (sound.coherent (with_one s nobody) (just s) (Held s) (λ v y. subst (λ (m : ℕ). with_one s nobody m ≡ just s m) (sym (sound.held_own v s y)) here)).part
+            ∙ (sound.coherent (starters_with s nobody) (just s) (Held s) (λ v y. subst (λ (m : ℕ). starters_with s nobody m ≡ just s m) (sym (sound.held_own v s y)) here)).part
             ∙ left
         | inr z ↦ holds u z ∙ kept.others u (sym ((over_table V.table s u z).members u) ∙ h)
       ]
         where
-          here : with_one s nobody s ≡ just s s
+          here : starters_with s nobody s ≡ just s s
           here = rw (eq-eqb s s refl) refl

@@ -3,15 +3,16 @@ use Rattle.std.proofs.Common.{◌≡◌, ◌≢◌, ℕ, ◌≤◌, Bool, true, 
 use Rattle.std.proofs.lemmas.Bool.{both_ways}
 use Rattle.tx_base.specs.declared.marks.Mark.{Mark}
 use Rattle.tx_base.specs.declared.steps.Step.{Step}
-use Rattle.tx_model.specs.State.{Process, State, Sending, Proc, written, has, is_between}
+use Rattle.tx_model.specs.State.{Process, State, Sending, Proc, with_writes, has_object, is_between}
 use Rattle.tx_model.specs.StateLaws.{put_here, put_cases, put_there}
 use Rattle.tx_model.specs.Effects.{Inside, Conclusion, Replies, AnswersPost, ListsFailed, concluding_reply}
 use Rattle.tx_model.specs.Numbers.{negative}
-use Rattle.tx_model.specs.Book.{sent_by_members}
+use Rattle.tx_model.specs.Book.{member_sends}
 use Rattle.tx_model.specs.Events.{Event, Do, Note, Commit, actor, effect, objects, after, reply_of}
-use Rattle.tx_model.specs.Membership.{Table, is_of, is_member_of, is_live, is_open_of, inside_by, Progress, Continues, Parks, Forks, Begins, Role, Outside, Within, Commits, Aborts, Kind, Ordinary, Forking, Beginning, Leaving, Aborting, says_ended, others_open, member_end_role, ordinary_role, called_by_status, kind_role, kind_event, event_in, parked, defers_in, new_mark, table_after}
-use Rattle.tx_model.specs.History.{Starters, nobody, just, less_one}
-use Rattle.tx_model.specs.View.{View, present, next_by}
+use Rattle.tx_model.specs.Membership.{Table, is_of, is_member_of, is_live, is_open_of, inside_by, Progress, Continues, Parks, Forks, Begins, Role, Outside, Within, Commits, Aborts, Kind, Ordinary, Forking, Beginning, Leaving, Aborting, says_ended, others_open, kind_event, event_in, parked_mark, defers_in, new_mark, table_after}
+use Rattle.tx_model.specs.Words.{member_end_role, ordinary_role, called_by_status, next_by, kind_role, starters_without}
+use Rattle.tx_model.specs.History.{Starters, nobody, just}
+use Rattle.tx_model.specs.View.{View, present}
 use Rattle.tx_model.specs.Answer.{is_running}
 use Rattle.tx_laws.specs.Sound.{IsSound}
 use Rattle.tx_laws.specs.Fits.{FitsWithin, Fits, Passes}
@@ -25,7 +26,7 @@ use Rattle.tx_laws.proofs.PlainWrites.{concludes_ended}
 use Rattle.tx_laws.proofs.Standings.{parent_of, outside_same, running_same, parent_same, SameFor, open_member, note_stand}
 use Rattle.tx_laws.proofs.Turns.{Same, Turn, Stays, GrowsBy}
 use Rattle.tx_laws.proofs.KeepsOwn.{grows_kept, own_kept}
-use Rattle.tx_laws.proofs.KeepsTable.{after_stand, after_holds, same_table, not_open, parked_table, new_table, outside_holds, inside_holds, after_kept, untouched, outside_formed, within_formed, commits_formed, aborts_formed}
+use Rattle.tx_laws.proofs.KeepsTable.{after_stand, after_holds, same_table, not_open, parked_table, new_table, outside_holds, inside_holds, after_kept, unreserved, outside_formed, within_formed, commits_formed, aborts_formed}
 
 -- what is so after a step with this role and event
 abbrev Formed : View → Role → Event → ℕ → Type 0
@@ -50,14 +51,14 @@ note_goes : (p : ℕ) (r : ℤ) (S : State) → concludes_ended (effect (Note p 
 unfolding effect
 note_goes p r S = refl
 
-less_nobody : (s : ℕ) → less_one s nobody ≡ nobody
+less_nobody : (s : ℕ) → starters_without s nobody ≡ nobody
 less_nobody s = λ i n. at n i
   where
     at_case : (b : Bool) → (if b then false else false) ≡ false
     at_case true = refl
     at_case false = refl
 
-    at : (n : ℕ) → less_one s nobody n ≡ nobody n
+    at : (n : ℕ) → starters_without s nobody n ≡ nobody n
     at n = at_case (n == s)
 
 module _ (V : View) (sound : IsSound V) (kept : IsWellFormedWith V.table (present V)) (form : IsWellFormed (present V)) where
@@ -95,10 +96,10 @@ module _ (V : View) (sound : IsSound V) (kept : IsWellFormedWith V.table (presen
 
     -- the transaction after the member's part has ended
     pub parked_own : (ev : Event) → Turn (Some inner) p (present V) (effect ev (present V))
-        → IsTransaction (table_after (Within s Parks) p V.table) (written (effect ev (present V)).writes (present V)) s
+        → IsTransaction (table_after (Within s Parks) p V.table) (with_writes (effect ev (present V)).writes (present V)) s
     parked_own ev turn =
         own_kept V.table (present V) inner p mine (λ n. refl) live (kept.live s live) (table_after (Within s Parks) p V.table) (effect ev (present V)) (parked_table V.table p s s)
-        (λ c. ap (is_open_of s) (put_here V.table.marks p (parked (V.table.marks p))) ∙ not_open s (V.table.marks p)) turn
+        (λ c. ap (is_open_of s) (put_here V.table.marks p (parked_mark (V.table.marks p))) ∙ not_open s (V.table.marks p)) turn
 
     parks_formed : (ev : Event) → Passes (Within s Parks) ev V → Fits (Within s Parks) ev p V → Turn (Some inner) p (present V) (effect ev (present V))
         → Formed V (Within s Parks) ev p
@@ -136,7 +137,7 @@ module _ (V : View) (sound : IsSound V) (kept : IsWellFormedWith V.table (presen
     forks_formed c ev passes fits g =
         within_formed V sound kept ev passes new s (within_mine ev s p (Forks c) fits) lives (members_after (Within s (Forks c)) ev p passes fits) others
         (after_kept new ev (present V) s lives
-        (grows_kept V.table (present V) inner p mine (λ n. refl) live (kept.live s live) new (written (effect ev (present V)).writes (present V)) c g.free g.child g.others (g.held s)
+        (grows_kept V.table (present V) inner p mine (λ n. refl) live (kept.live s live) new (with_writes (effect ev (present V)).writes (present V)) c g.free g.child g.others (g.held s)
         stays joins opens apart))
         (λ u ne. after_holds ev (present V) u ∙ g.held u)
       where
@@ -168,7 +169,7 @@ module _ (V : View) (sound : IsSound V) (kept : IsWellFormedWith V.table (presen
         unowned : (u : ℕ) → u ≢ s → is_member_of V.table u c ≡ false
         unowned u ne = false_unless (is_member_of V.table u c) (λ h.
             let out : is_member_of V.table u (actor ev) ≡ false = false_unless (is_member_of V.table u (actor ev)) (λ k. ne (within_mine ev s p (Forks c) fits u k)) in
-            both_ways (has (Proc c) (objects ev (present V))) (untouched V sound kept ev passes (Proc c) u (sound.own_procs u c h) out) fits.progress_fits.1)
+            both_ways (has_object (Proc c) (objects ev (present V))) (unreserved V sound kept ev passes (Proc c) u (sound.own_procs u c h) out) fits.progress_fits.1)
 
         others : (u : ℕ) → u ≢ s → SameFor V.table new u
         others u ne = new_table V.table c s u (defers_in (V.table.marks s)) ne (unowned u ne)
@@ -196,7 +197,7 @@ module _ (V : View) (sound : IsSound V) (kept : IsWellFormedWith V.table (presen
   begins_formed : (p : ℕ) (defers : Bool) → V.table.marks p ≡ None → is_running ((present V).procs p) ≡ true
       → Passes (Within p (Begins defers)) (Note p (pos 0)) V → Fits (Within p (Begins defers)) (Note p (pos 0)) p V
       → Turn None p (present V) (effect (Note p (pos 0)) (present V)) → Formed V (Within p (Begins defers)) (Note p (pos 0)) p
-  unfolding effect written sent_by_members sent_by_kernel
+  unfolding effect with_writes member_sends sent_by_kernel
   begins_formed p defers none runs passes fits turn =
       within_formed V sound kept ev passes new p (within_mine ev p p (Begins defers) fits) lives (members_after (Within p (Begins defers)) ev p passes fits) others own
       (λ u ne. after_holds ev (present V) u ∙ outside_holds p (present V) (effect ev (present V)) turn u)
@@ -244,7 +245,7 @@ module _ (V : View) (sound : IsSound V) (kept : IsWellFormedWith V.table (presen
         parents = λ n h ne. absurd (both_ways (is_member_of new p n) (alone n ne) h);
         outside = outside_same new new p ((after ev (present V)).procs p) ((present V).procs p) (parent_same ((after ev (present V)).procs p) ((present V).procs p) (stands p)) (λ n e h. h)
             (outer ((present V).procs p) refl);
-        sent = subst (λ (ms : List Sending). sent_by_members ms ≤ 32) (sym nothing) (omega arith);
+        sent = subst (λ (ms : List Sending). member_sends ms ≤ 32) (sym nothing) (omega arith);
         told_none = λ h. ap sent_by_kernel nothing;
         told_once = subst (λ (ms : List Sending). sent_by_kernel ms ≤ 1) (sym nothing) (omega arith);
       }
@@ -265,7 +266,7 @@ module _ (V : View) (sound : IsSound V) (kept : IsWellFormedWith V.table (presen
   ForksNow p step Aborting = Unit {0}
 
   pub note_turn : (inside : Option Inside) (p q : ℕ) (r : ℤ) → Turn inside p (present V) (effect (Note q r) (present V))
-  unfolding effect written
+  unfolding effect with_writes
   note_turn inside p q r = Stays refl (note_stand q r (present V)) (λ u. refl)
 
   pub kind_formed : (p : ℕ) (step : Step) → is_running ((present V).procs p) ≡ true → ((inside : Option Inside) → Turn inside p (present V) (effect (Do step inside) (present V)))

@@ -50,7 +50,7 @@ pub mod PartsElsewhere
 pub mod KeptByPosts
 pub mod DoomStays
 pub mod HoldsInside
-pub mod StepHolders
+pub mod StepsInWay
 pub mod PartsAnswers
 pub mod Standings
 pub mod Turns

@@ -5,7 +5,8 @@ use Rattle.tx_base.specs.declared.steps.Refusal.{Refusal}
 use Rattle.tx_base.specs.declared.steps.Reply.{Reply}
 use Rattle.tx_base.specs.declared.steps.Reply.TheVariants.{Done, Ended, Committed, Aborted, Out, No}
 use Rattle.tx_model.specs.State.{Process, Sending, Write}
-use Rattle.tx_model.specs.Effects.{Conclusion, Replies, AnswersPost, ListsFailed, Effect, Own, idle, own_effect, done, done_with}
+use Rattle.tx_model.specs.Effects.{Conclusion, Replies, AnswersPost, ListsFailed, Effect, idle}
+use Rattle.tx_model.specs.Words.{Own, own_effect, answer_effect, answer_effect_with}
 use Rattle.tx_model.specs.Membership.{says_ended}
 use Rattle.tx_laws.specs.Fits.{IsIn}
 
@@ -43,8 +44,8 @@ module _ (p : ℕ) where
   pub own_mild : (own : Own) → goes own.reply ≡ true → IsMild p (own_effect p own)
   own_mild own h = record { goes_on = h; sends = λ m k. absurd k }
 
-  pub done_mild : (r : ℤ) (me : Process) → IsMild p (done p r me)
+  pub done_mild : (r : ℤ) (me : Process) → IsMild p (answer_effect p r me)
   done_mild r me = own_mild _ refl
 
-  pub with_mild : (ws : List Write) (r : ℤ) (me : Process) → IsMild p (done_with ws p r me)
+  pub with_mild : (ws : List Write) (r : ℤ) (me : Process) → IsMild p (answer_effect_with ws p r me)
   with_mild ws r me = record { goes_on = refl; sends = λ m h. absurd h }

@@ -1,6 +1,6 @@
 -- Lists of objects, and writes that stay in them.
 use Rattle.std.proofs.Common.{◌≡◌, ◌≢◌, ℕ, Bool, true, false, List, [], ◌∷◌, ◌++◌, if◌then◌else◌, refl, ap, subst, eq-eqb, eqb-true}
-use Rattle.tx_model.specs.State.{State, Sending, Object, Proc, Desc, Pipe, Held, Write, SetProc, SetDesc, SetPipe, SetHeld, has_parent, names_at, side_in, same_object, has}
+use Rattle.tx_model.specs.State.{State, Sending, Object, Proc, Desc, Pipe, Held, Write, SetProc, SetDesc, SetPipe, SetHeld, has_parent, names_at, side_in, same_object, has_object}
 use Rattle.tx_model.specs.Effects.{Conclusion, Replies, AnswersPost, ListsFailed}
 
 pub same_refl : (o : Object) → same_object o o ≡ true
@@ -13,37 +13,37 @@ or_else : (b c : Bool) → c ≡ true → (if b then true else c) ≡ true
 or_else true c h = refl
 or_else false c h = h
 
-pub has_head : (o : Object) (os : List Object) → has o (o ∷ os) ≡ true
-unfolding has
+pub has_head : (o : Object) (os : List Object) → has_object o (o ∷ os) ≡ true
+unfolding has_object
 has_head o os = rw (same_refl o) refl
 
-pub has_tail : (o x : Object) (os : List Object) → has o os ≡ true → has o (x ∷ os) ≡ true
-unfolding has
-has_tail o x os h = or_else (same_object o x) (has o os) h
+pub has_tail : (o x : Object) (os : List Object) → has_object o os ≡ true → has_object o (x ∷ os) ≡ true
+unfolding has_object
+has_tail o x os h = or_else (same_object o x) (has_object o os) h
 
 -- an object of either of two lists is one of the two together
-pub has_left : (o : Object) (xs ys : List Object) → has o xs ≡ true → has o (xs ++ ys) ≡ true
-unfolding has
+pub has_left : (o : Object) (xs ys : List Object) → has_object o xs ≡ true → has_object o (xs ++ ys) ≡ true
+unfolding has_object
 has_left o [] ys h = cc
 has_left o (x ∷ xs) ys h = by (same_object o x) h (has_left o xs ys)
   where
-    by : (b : Bool) → (if b then true else has o xs) ≡ true → (has o xs ≡ true → has o (xs ++ ys) ≡ true) → (if b then true else has o (xs ++ ys)) ≡ true
+    by : (b : Bool) → (if b then true else has_object o xs) ≡ true → (has_object o xs ≡ true → has_object o (xs ++ ys) ≡ true) → (if b then true else has_object o (xs ++ ys)) ≡ true
     by true k rest = refl
     by false k rest = rest k
 
-pub has_right : (o : Object) (xs ys : List Object) → has o ys ≡ true → has o (xs ++ ys) ≡ true
+pub has_right : (o : Object) (xs ys : List Object) → has_object o ys ≡ true → has_object o (xs ++ ys) ≡ true
 has_right o [] ys h = h
 has_right o (x ∷ xs) ys h = has_tail o x (xs ++ ys) (has_right o xs ys h)
 
 -- the write is to one of the objects, and changes the family of no other object but process 1
 abbrev pub WriteFits : State → List Object → Write → Type 0
 WriteFits S os (SetProc k x) =
-    (has (Proc k) os ≡ true)
-    × ((n : ℕ) → n ≢ 1 → has (Proc n) os ≡ false → has_parent n x ≡ has_parent n (S.procs k))
-    × ((d f : ℕ) → has (Desc d) os ≡ false → names_at d f x ≡ names_at d f (S.procs k))
-WriteFits S os (SetDesc k x) = (has (Desc k) os ≡ true) × ((n : ℕ) → has (Pipe n) os ≡ false → side_in n x ≡ side_in n (S.descs k))
-WriteFits S os (SetPipe k x) = has (Pipe k) os ≡ true
-WriteFits S os (SetHeld k x) = has (Held k) os ≡ true
+    (has_object (Proc k) os ≡ true)
+    × ((n : ℕ) → n ≢ 1 → has_object (Proc n) os ≡ false → has_parent n x ≡ has_parent n (S.procs k))
+    × ((d f : ℕ) → has_object (Desc d) os ≡ false → names_at d f x ≡ names_at d f (S.procs k))
+WriteFits S os (SetDesc k x) = (has_object (Desc k) os ≡ true) × ((n : ℕ) → has_object (Pipe n) os ≡ false → side_in n x ≡ side_in n (S.descs k))
+WriteFits S os (SetPipe k x) = has_object (Pipe k) os ≡ true
+WriteFits S os (SetHeld k x) = has_object (Held k) os ≡ true
 
 abbrev pub WritesFit : State → List Object → List Write → Type 0
 WritesFit S os [] = Unit {0}
@@ -51,11 +51,11 @@ WritesFit S os (w ∷ ws) = WriteFits S os w × WritesFit S os ws
 
 abbrev pub TargetsIn : List Sending → List Object → Type 0
 TargetsIn [] os = Unit {0}
-TargetsIn (m ∷ ms) os = (has (Proc m.target) os ≡ true) × TargetsIn ms os
+TargetsIn (m ∷ ms) os = (has_object (Proc m.target) os ≡ true) × TargetsIn ms os
 
 abbrev pub ConclusionIn : Conclusion → List Object → Type 0
 ConclusionIn (Replies r) os = Unit {0}
-ConclusionIn (AnswersPost p) os = has (Proc p) os ≡ true
+ConclusionIn (AnswersPost p) os = has_object (Proc p) os ≡ true
 ConclusionIn ListsFailed os = Unit {0}
 
 pub same_true : (o x : Object) → same_object o x ≡ true → o ≡ x
@@ -77,16 +77,16 @@ same_true (Held n) (Pipe m) h = cc
 same_true (Held n) (Held m) h = ap Held (eqb-true n m h)
 
 -- an object of the list is none that is not
-pub different : (o x : Object) (os : List Object) → has x os ≡ true → has o os ≡ false → same_object o x ≡ false
+pub different : (o x : Object) (os : List Object) → has_object x os ≡ true → has_object o os ≡ false → same_object o x ≡ false
 different o x os h k = by (same_object o x) refl
   where
     by : (b : Bool) → same_object o x ≡ b → b ≡ false
-    by true e = let z : has x os ≡ false = subst (λ (y : Object). has y os ≡ false) (same_true o x e) k in cc
+    by true e = let z : has_object x os ≡ false = subst (λ (y : Object). has_object y os ≡ false) (same_true o x e) k in cc
     by false e = refl
 
 -- each object of the first list is one of the second
 abbrev pub Covers : List Object → List Object → Type 0
-Covers os xs = (o : Object) → has o xs ≡ true → has o os ≡ true
+Covers os xs = (o : Object) → has_object o xs ≡ true → has_object o os ≡ true
 
 pub writes_append : (S : State) (os : List Object) (xs ys : List Write) → WritesFit S os xs → WritesFit S os ys → WritesFit S os (xs ++ ys)
 writes_append S os [] ys f g = g

@@ -1,18 +1,25 @@
 -- Every call and every delivery, made by a process that runs or not.
-use Rattle.std.proofs.Common.{◌≡◌, ℕ, true, List, [], ◌∷◌, pos, Option, Some, None, refl, ap, ◌∙◌}
+use Rattle.std.proofs.Common.{◌≡◌, ℕ, true, List, [], ◌∷◌, pos, Option, Some, None, is_some, is_none, refl, ap, subst}
 use Rattle.tx_base.specs.declared.steps.Call.{Call}
 use Rattle.tx_base.specs.declared.steps.Call.TheVariants as call
-use Rattle.tx_model.specs.State.{Process, State, Sending, Object, Proc, Held, has}
+use Rattle.tx_model.specs.State.{Process, State, Sending, Object, Proc, Held, has_object}
 use Rattle.tx_model.specs.StateLaws.{AgreeOn}
-use Rattle.tx_model.specs.Effects.{Inside}
+use Rattle.tx_model.specs.Effects.{Inside, idle}
 use Rattle.tx_model.specs.Book.{page_of_call}
-use Rattle.tx_model.specs.Calls.{call_effect, call_objects, Act, MakesCall, TakesSignal, act_effect, act_objects, running_effect, effect_at, objects_at, act_footprint}
+use Rattle.tx_base.specs.declared.steps.Step.{Step}
+use Rattle.tx_base.specs.declared.steps.Step.TheVariants.{Call as Calls, Deliver, KernelAbort}
+use Rattle.tx_base.specs.declared.steps.Refusal.TheVariants.{NoProcess, NotRunning, NoTransaction}
+use Rattle.tx_model.specs.Forms.{caller, effect_of}
+use Rattle.tx_model.specs.Events.{page_of_step, effect_at, objects_at}
+use Rattle.tx_model.specs.Answer.{is_running}
+use Rattle.tx_model.specs.BookLaws.{names_as, where_runs, where_there}
+use Rattle.tx_model.specs.Words.{call_effect, call_objects}
 use Rattle.tx_laws.specs.Fits.{IsIn}
 use Rattle.tx_laws.proofs.Objects.{WritesFit, ConclusionIn, Covers, has_head}
 use Rattle.tx_laws.proofs.Owed.{IsLocal}
 use Rattle.tx_laws.proofs.Mild.{IsMild}
-use Rattle.tx_laws.proofs.InPlace.{held_nowhere}
-use Rattle.tx_laws.proofs.OfPages.{caller, page_local}
+use Rattle.tx_laws.proofs.InPlace.{held_nowhere, idle_local}
+use Rattle.tx_laws.proofs.OfPages.{page_local, or_same, when_same}
 use Rattle.tx_laws.proofs.OwnPages.{own_page, own_owed}
 use Rattle.tx_laws.proofs.OfDeliveries.{delivery_local}
 use Rattle.tx_laws.proofs.OfDescriptors.{dup_owes, dup_local, dup2_owes, dup2_local, close_owes, close_local, nonblock_owes, nonblock_local, pipe_owes, pipe_local}
@@ -57,69 +64,56 @@ call_mild inside p (call.Kill t signo) me S calm = absurd calm
 call_mild inside p (call.Sigqueue t signo value) me S calm = absurd calm
 call_mild inside p c me S calm = (own_owed p me S ((page_of_call c).outcome (caller inside p me S)) (own_page (caller inside p me S) c tt)).mild
 
--- what every call and every delivery owes
-act_local : (inside : Option Inside) (p : ℕ) (act : Act) (me : Process) → IsLocal inside p me (λ S. act_effect inside p act me S) (λ S. act_objects inside p act me S)
-act_local inside p (MakesCall c) me = call_local inside p c me
-act_local inside p (TakesSignal signo) me = delivery_local inside p signo me
+-- a process that runs is there
+pub runs_some : (x : Option Process) → is_running x ≡ true → (me : Process) × (x ≡ Some me) × (me.status ≡ None)
+runs_some None h = cc
+runs_some (Some me) h = (me, refl, by me.status h)
+  where
+    by : (y : Option ℕ) → is_none y ≡ true → y ≡ None
+    by None k = refl
+    by (Some n) k = cc
 
-module _ (inside : Option Inside) (p : ℕ) (act : Act) where
-  running_same : (S R : State) (me : Process) (status : Option ℕ) → AgreeOn (Proc p ∷ act_objects inside p act me S) S R
-      → running_effect inside p act S me status ≡ running_effect inside p act R me status
-  running_same S R me None a = (act_local inside p act me).same S R a
-  running_same S R me (Some status) a = refl
+-- what every step owes
+step_local : (inside : Option Inside) (p : ℕ) (step : Step) (me : Process)
+    → IsLocal inside p me (λ S. effect_of p me ((page_of_step step).outcome (caller inside p me S))) (λ S. (page_of_step step).names (caller inside p me S))
+step_local inside p (Calls pid c) me = call_local inside p c me
+step_local inside p (Deliver pid signo) me = delivery_local inside p signo.0 me
+step_local inside p (KernelAbort s) me = idle_local inside p me NoTransaction
 
-  at_same : (S R : State) (x : Option Process) → AgreeOn (Proc p ∷ objects_at inside p act S x) S R → effect_at inside p act S x ≡ effect_at inside p act R x
-  at_same S R None a = refl
-  at_same S R (Some me) a = running_same S R me me.status a
-
-  objects_same_at : (S R : State) (x : Option Process) → AgreeOn (Proc p ∷ objects_at inside p act S x) S R → objects_at inside p act S x ≡ objects_at inside p act R x
-  objects_same_at S R None a = refl
-  objects_same_at S R (Some me) a = (act_local inside p act me).foot S R a
-
-  -- an act does the same where two states agree at what it reads and writes
-  pub act_same : (S R : State) → AgreeOn (act_footprint inside p act S) S R → effect_at inside p act S (S.procs p) ≡ effect_at inside p act R (R.procs p)
-  act_same S R a = at_same S R (S.procs p) a ∙ ap (effect_at inside p act R) (a (Proc p) (has_head (Proc p) (objects_at inside p act S (S.procs p)))).part
+module _ (inside : Option Inside) (p : ℕ) (step : Step) where
+  -- a step does the same where two states agree at what it reads and writes
+  pub act_same : (S R : State) → AgreeOn (objects_at inside p (page_of_step step) S) S R
+      → effect_at inside p (page_of_step step) S ≡ effect_at inside p (page_of_step step) R
+  act_same S R a =
+      or_same (S.procs p) (R.procs p) (idle NoProcess) _ _ (a (Proc p) (has_head (Proc p) _)).part
+      λ me there. when_same (is_some me.status) (is_some me.status) (idle NotRunning) _ _ refl
+      λ runs. (step_local inside p step me).same S R (subst (λ (os : List Object). AgreeOn os S R) (names_as inside p (page_of_step step) S me there) a)
 
   -- and reads and writes the same
-  pub footprint_same : (S R : State) → AgreeOn (act_footprint inside p act S) S R → act_footprint inside p act S ≡ act_footprint inside p act R
+  pub footprint_same : (S R : State) → AgreeOn (objects_at inside p (page_of_step step) S) S R
+      → objects_at inside p (page_of_step step) S ≡ objects_at inside p (page_of_step step) R
   footprint_same S R a =
       ap (λ (os : List Object). Proc p ∷ os)
-      (objects_same_at S R (S.procs p) a ∙ ap (objects_at inside p act R) (a (Proc p) (has_head (Proc p) (objects_at inside p act S (S.procs p)))).part)
-
-  running_fits : (S : State) (all : List Object) (me : Process) (status : Option ℕ) → S.procs p ≡ Some me → Covers all (Proc p ∷ act_objects inside p act me S)
-      → WritesFit S all (running_effect inside p act S me status).writes × ConclusionIn (running_effect inside p act S me status).conclusion all
-  running_fits S all me None e c = (act_local inside p act me).fits S all e c
-  running_fits S all me (Some status) e c = (tt, tt)
-
-  at_fits : (S : State) (all : List Object) (x : Option Process) → S.procs p ≡ x → Covers all (Proc p ∷ objects_at inside p act S x)
-      → WritesFit S all (effect_at inside p act S x).writes × ConclusionIn (effect_at inside p act S x).conclusion all
-  at_fits S all None e c = (tt, tt)
-  at_fits S all (Some me) e c = running_fits S all me me.status e c
+      (or_same (S.procs p) (R.procs p) [] _ _ (a (Proc p) (has_head (Proc p) _)).part
+      λ me there. (step_local inside p step me).foot S R (subst (λ (os : List Object). AgreeOn os S R) (names_as inside p (page_of_step step) S me there) a))
 
   -- its writes stay in what it names
-  pub act_fits : (S : State) (all : List Object) → Covers all (act_footprint inside p act S)
-      → WritesFit S all (effect_at inside p act S (S.procs p)).writes × ConclusionIn (effect_at inside p act S (S.procs p)).conclusion all
-  act_fits S all c = at_fits S all (S.procs p) refl c
+  pub act_fits : (S : State) (all : List Object) → Covers all (objects_at inside p (page_of_step step) S)
+      → WritesFit S all (effect_at inside p (page_of_step step) S).writes × ConclusionIn (effect_at inside p (page_of_step step) S).conclusion all
+  act_fits S all c =
+      where_runs inside p (page_of_step step) S (λ f. WritesFit S all f.writes × ConclusionIn f.conclusion all) (λ why. (tt, tt))
+      λ me there runs. (step_local inside p step me).fits S all there (subst (Covers all) (names_as inside p (page_of_step step) S me there) c)
 
   module _ (i : Inside) (e : inside ≡ Some i) where
-    running_sends : (S : State) (me : Process) (status : Option ℕ) → i.members p ≡ true → (m : Sending) → IsIn m (running_effect inside p act S me status).sends
-        → i.members m.target ≡ true
-    running_sends S me None member m h = (act_local inside p act me).sends S i e member m h
-    running_sends S me (Some status) member m h = absurd h
-
-    at_sends : (S : State) (x : Option Process) → i.members p ≡ true → (m : Sending) → IsIn m (effect_at inside p act S x).sends → i.members m.target ≡ true
-    at_sends S None member m h = absurd h
-    at_sends S (Some me) member m h = running_sends S me me.status member m h
-
     -- a member sends to members
-    pub act_sends : (S : State) → i.members p ≡ true → (m : Sending) → IsIn m (effect_at inside p act S (S.procs p)).sends → i.members m.target ≡ true
-    act_sends S member m h = at_sends S (S.procs p) member m h
-
-    at_holds : (S : State) (x : Option Process) (u : ℕ) → has (Held u) (Proc p ∷ objects_at inside p act S x) ≡ true → u ≡ i.starter
-    unfolding has
-    at_holds S None u h = cc
-    at_holds S (Some me) u h = (act_local inside p act me).holds S i e u h
+    pub act_sends : (S : State) → i.members p ≡ true → (m : Sending) → IsIn m (effect_at inside p (page_of_step step) S).sends → i.members m.target ≡ true
+    act_sends S member m =
+        where_runs inside p (page_of_step step) S (λ f. IsIn m f.sends → i.members m.target ≡ true) (λ why h. absurd h)
+        λ me there runs h. (step_local inside p step me).sends S i e member m h
 
     -- and holds with its own transaction
-    pub act_holds : (S : State) (u : ℕ) → has (Held u) (act_footprint inside p act S) ≡ true → u ≡ i.starter
-    act_holds S u h = at_holds S (S.procs p) u h
+    pub act_holds : (S : State) (u : ℕ) → has_object (Held u) (objects_at inside p (page_of_step step) S) ≡ true → u ≡ i.starter
+    unfolding has_object
+    act_holds S u =
+        where_there inside p (page_of_step step) S (λ os. has_object (Held u) os ≡ true → u ≡ i.starter) (λ h. cc)
+        λ me there h. (step_local inside p step me).holds S i e u h

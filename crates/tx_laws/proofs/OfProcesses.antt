@@ -4,30 +4,31 @@ use Rattle.std.proofs.lemmas.Bool.{both_ways}
 use Rattle.tx_base.specs.declared.errors.Errno.TheVariants.{NotPermitted, NoChild}
 use Rattle.tx_base.specs.declared.steps.Refusal.TheVariants.{NumberTaken, Wait}
 use Rattle.tx_base.specs.declared.steps.Reply.TheVariants.{Ended}
-use Rattle.tx_model.specs.Numbers.{failing}
-use Rattle.tx_model.specs.State.{Process, State, Sending, Object, Proc, Desc, Held, Write, SetProc, SetHeld, write_one, has_parent, is_number, names_at, has}
+use Rattle.tx_model.specs.Numbers.{error_answer}
+use Rattle.tx_model.specs.State.{Process, State, Sending, Object, Proc, Desc, Held, Write, SetProc, SetHeld, write_one, has_parent, is_number, names_at, has_object}
 use Rattle.tx_model.specs.StateLaws.{AgreeAt, AgreeOn}
-use Rattle.tx_model.specs.Effects.{Inside, Replies, noted}
+use Rattle.tx_model.specs.Effects.{Inside, Replies, with_answer}
 use Rattle.tx_laws.specs.Fits.{IsIn}
-use Rattle.tx_model.specs.Descriptors.{open_in, pipes_of, released, desc_objects, pipe_list, desc_pipe_objects}
-use Rattle.tx_model.specs.Processes.{fork_objects, ended, children_below, children_of, with_parent, orphaned, told_to, NotTold, AtOnce, AtCommit, telling, told_at_once, told_at_commit, ending, procs_of, held_objects, ending_objects, exit_status, exit_objects, numbered, with_status, numbered_objects, waitpid_objects}
-use Rattle.tx_model.specs.Forms.{fails, refuses, does, effect_of, ◌when◌}
+use Rattle.tx_model.specs.Descriptors.{open_in, pipes_of, removals, desc_objects, desc_pipe_objects}
+use Rattle.tx_model.specs.Processes.{ended_process, children_below, children_of, with_parent, orphan_writes, child_notice, NotTold, AtOnce, AtCommit, parent_notice, notice_now, notice_held, ending, held_objects, ending_objects, exit_status, pid_of, procs_of}
+use Rattle.tx_model.specs.Words.{exit_objects, numbered_objects, fork_objects, waitpid_objects, pipe_list, with_status}
+use Rattle.tx_model.specs.Forms.{fails, refuses, does, effect_of, ◌when◌, caller}
 use Rattle.tx_model.specs.Book.{fork, exit, waitpid}
 use Rattle.tx_model.specs.BookLaws.{fork_lines, waitpid_lines}
 use Rattle.tx_laws.proofs.Objects.{WriteFits, WritesFit, Covers, has_head, has_tail, writes_append}
 use Rattle.tx_laws.proofs.Owed.{IsLocal}
 use Rattle.tx_laws.proofs.InPlace.{StaysIn, in_place, kept_fits, done_local}
-use Rattle.tx_laws.proofs.OfPages.{caller, none_there, or_same, when_same, Owes, answers_owes, fails_owes, refuses_owes, changes_owes, page_local}
+use Rattle.tx_laws.proofs.OfPages.{none_there, or_same, when_same, Owes, answers_owes, fails_owes, refuses_owes, changes_owes, page_local}
 use Rattle.tx_laws.proofs.Released.{lacks_both, agree_left, agree_right, agree_rest, ends_same, released_fits, released_after, descs_held, ends_held, covers_left, covers_right, covers_rest, covers_head}
 
 -- processes are nothing held
-procs_held : (u : ℕ) (qs : List ℕ) → has (Held u) (procs_of qs) ≡ false
-unfolding has
+procs_held : (u : ℕ) (qs : List ℕ) → has_object (Held u) (procs_of qs) ≡ false
+unfolding has_object
 procs_held u [] = refl
 procs_held u (q ∷ qs) = procs_held u qs
 
-pub held_own : (inside : Option Inside) (i : Inside) → inside ≡ Some i → (u : ℕ) → has (Held u) (held_objects inside) ≡ true → u ≡ i.starter
-unfolding has
+pub held_own : (inside : Option Inside) (i : Inside) → inside ≡ Some i → (u : ℕ) → has_object (Held u) (held_objects inside) ≡ true → u ≡ i.starter
+unfolding has_object
 held_own None i e u h = cc
 held_own (Some inside) i e u h = by (u == inside.starter) refl h
   where
@@ -39,19 +40,19 @@ held_own (Some inside) i e u h = by (u == inside.starter) refl h
     by false k l = cc
 
 -- a number of the list is none that is not in it
-other_number : (all : List Object) (p n : ℕ) → has (Proc p) all ≡ true → has (Proc n) all ≡ false → (p == n) ≡ false
+other_number : (all : List Object) (p n : ℕ) → has_object (Proc p) all ≡ true → has_object (Proc n) all ≡ false → (p == n) ≡ false
 other_number all p n h k = by (p == n) refl
   where
     by : (b : Bool) → (p == n) ≡ b → b ≡ false
-    by true e = absurd (both_ways (has (Proc n) all) k (subst (λ (m : ℕ). has (Proc m) all ≡ true) (eqb-true p n e) h))
+    by true e = absurd (both_ways (has_object (Proc n) all) k (subst (λ (m : ℕ). has_object (Proc m) all ≡ true) (eqb-true p n e) h))
     by false e = refl
 
 -- a child of p is none of another
-other_parent : (all : List Object) (p n q : ℕ) → has (Proc p) all ≡ true → has (Proc n) all ≡ false → (q == p) ≡ true → (q == n) ≡ false
+other_parent : (all : List Object) (p n q : ℕ) → has_object (Proc p) all ≡ true → has_object (Proc n) all ≡ false → (q == p) ≡ true → (q == n) ≡ false
 other_parent all p n q h k e = subst (λ (m : ℕ). (m == n) ≡ false) (sym (eqb-true q p e)) (other_number all p n h k)
 
-named_open : (d f : ℕ) (ds : List (Option ℕ)) → is_number d (slice_index_or ds f None) ≡ true → has (Desc d) (desc_objects (open_in ds)) ≡ true
-unfolding has open_in
+named_open : (d f : ℕ) (ds : List (Option ℕ)) → is_number d (slice_index_or ds f None) ≡ true → has_object (Desc d) (desc_objects (open_in ds)) ≡ true
+unfolding has_object open_in
 named_open d f [] h = cc
 named_open d zero (None ∷ ds) h = cc
 named_open d zero (Some x ∷ ds) h = rw (eq-eqb d x (sym (eqb-true x d h))) refl
@@ -59,16 +60,16 @@ named_open d (suc f) (None ∷ ds) h = named_open d f ds h
 named_open d (suc f) (Some x ∷ ds) h = has_tail (Desc d) (Desc x) (desc_objects (open_in ds)) (named_open d f ds h)
 
 -- a process names descriptions of its descriptors alone
-pub names_none : (all : List Object) (me : Process) (d f : ℕ) → Covers all (desc_objects (open_in me.descriptors)) → has (Desc d) all ≡ false → names_at d f (Some me) ≡ false
+pub names_none : (all : List Object) (me : Process) (d f : ℕ) → Covers all (desc_objects (open_in me.descriptors)) → has_object (Desc d) all ≡ false → names_at d f (Some me) ≡ false
 names_none all me d f c h = by (is_some me.status) (is_number d (slice_index_or me.descriptors f None)) refl
   where
     by : (b a : Bool) → is_number d (slice_index_or me.descriptors f None) ≡ a → (if b then false else a) ≡ false
     by true a e = refl
-    by false true e = absurd (both_ways (has (Desc d) all) h (c (Desc d) (named_open d f me.descriptors e)))
+    by false true e = absurd (both_ways (has_object (Desc d) all) h (c (Desc d) (named_open d f me.descriptors e)))
     by false false e = refl
 
 -- fork
-pub child_in : (c : ℕ) (me : Process) → has (Proc c) (fork_objects c me) ≡ true
+pub child_in : (c : ℕ) (me : Process) → has_object (Proc c) (fork_objects c me) ≡ true
 child_in c me = has_head (Proc c) (desc_objects (open_in me.descriptors))
 
 module _ (inside : Option Inside) (p child : ℕ) (me : Process) where
@@ -77,15 +78,15 @@ module _ (inside : Option Inside) (p child : ℕ) (me : Process) where
       fork_lines (λ o. Owes p me S (fork_objects child me) o) (caller inside p me S) (fails_owes p me S (fork_objects child me)) child (λ z. refuses_owes p me S (fork_objects child me) NumberTaken)
       λ free. changes_owes p me S (fork_objects child me) (pos child) me _ λ all e mine c.
       let k : S.procs child ≡ None = none_there (S.procs child) free in (
-        kept_fits p me S all e mine (noted (pos child) me) (in_place me _ refl refl refl),
+        kept_fits p me S all e mine (with_answer (pos child) me) (in_place me _ refl refl refl),
         (
           (c (Proc child) (child_in child me), λ n ne l. rw k (other_number all p n mine l), λ d f l. rw k (names_none all me d f (covers_rest all (Proc child) _ c) l)),
           tt,
         ),
       )
 
-  fork_held : (u : ℕ) → has (Held u) (fork_objects child me) ≡ false
-  unfolding has
+  fork_held : (u : ℕ) → has_object (Held u) (fork_objects child me) ≡ false
+  unfolding has_object
   fork_held u = descs_held u (open_in me.descriptors)
 
   pub fork_local : IsLocal inside p me (λ S. effect_of p me (fork child (caller inside p me S))) (λ S. fork_objects child me)
@@ -110,18 +111,18 @@ children_same p S R a = by (p == 1) refl
         children_below_same p (S.width + 1) S R (a.family (λ k. both_ways (p == 1) e (eq-eqb p 1 k)))
         ∙ ap (λ (w : ℕ). children_below p (w + 1) R) a.width
 
-orphaned_same : (qs : List ℕ) (S R : State) → AgreeOn (procs_of qs) S R → orphaned qs S ≡ orphaned qs R
-unfolding orphaned
+orphaned_same : (qs : List ℕ) (S R : State) → AgreeOn (procs_of qs) S R → orphan_writes qs S ≡ orphan_writes qs R
+unfolding orphan_writes
 orphaned_same [] S R a = refl
 orphaned_same (q ∷ qs) S R a =
     ap₂ (λ (x : Option Process) (ws : List Write). SetProc q (with_parent 1 x) ∷ ws) (a (Proc q) (has_head (Proc q) (procs_of qs))).part
     (orphaned_same qs S R (agree_rest (Proc q) (procs_of qs) S R a))
 
 -- a child gets parent 1, which changes the families of its parent and of process 1 alone
-orphan_fits : (p q : ℕ) (S : State) (all : List Object) → has (Proc p) all ≡ true → has (Proc q) all ≡ true → has_parent p (S.procs q) ≡ true → WriteFits S all (SetProc q (with_parent 1 (S.procs q)))
+orphan_fits : (p q : ℕ) (S : State) (all : List Object) → has_object (Proc p) all ≡ true → has_object (Proc q) all ≡ true → has_parent p (S.procs q) ≡ true → WriteFits S all (SetProc q (with_parent 1 (S.procs q)))
 orphan_fits p q S all h g e = (g, λ n ne l. parents n ne l (S.procs q) e, λ d f l. names d f (S.procs q))
   where
-    parents : (n : ℕ) → n ≢ 1 → has (Proc n) all ≡ false → (x : Option Process) → has_parent p x ≡ true → has_parent n (with_parent 1 x) ≡ has_parent n x
+    parents : (n : ℕ) → n ≢ 1 → has_object (Proc n) all ≡ false → (x : Option Process) → has_parent p x ≡ true → has_parent n (with_parent 1 x) ≡ has_parent n x
     parents n ne l None k = refl
     parents n ne l (Some c) k = by (1 == n) refl
       where
@@ -133,60 +134,60 @@ orphan_fits p q S all h g e = (g, λ n ne l. parents n ne l (S.procs q) e, λ d 
     names d f None = refl
     names d f (Some c) = refl
 
-orphans_below_fit : (p n : ℕ) (S : State) (all : List Object) → has (Proc p) all ≡ true → Covers all (procs_of (children_below p n S)) → WritesFit S all (orphaned (children_below p n S) S)
-unfolding children_below orphaned
+orphans_below_fit : (p n : ℕ) (S : State) (all : List Object) → has_object (Proc p) all ≡ true → Covers all (procs_of (children_below p n S)) → WritesFit S all (orphan_writes (children_below p n S) S)
+unfolding children_below orphan_writes
 orphans_below_fit p zero S all h c = tt
 orphans_below_fit p (suc q) S all h c = by (has_parent p (S.procs q)) refl c (orphans_below_fit p q S all h)
   where
     qs : List ℕ
     qs = children_below p q S
 
-    by : (b : Bool) → has_parent p (S.procs q) ≡ b → Covers all (procs_of (if b then q ∷ qs else qs)) → (Covers all (procs_of qs) → WritesFit S all (orphaned qs S))
-        → WritesFit S all (orphaned (if b then q ∷ qs else qs) S)
+    by : (b : Bool) → has_parent p (S.procs q) ≡ b → Covers all (procs_of (if b then q ∷ qs else qs)) → (Covers all (procs_of qs) → WritesFit S all (orphan_writes qs S))
+        → WritesFit S all (orphan_writes (if b then q ∷ qs else qs) S)
     by true e k rest = (orphan_fits p q S all h (covers_head all (Proc q) (procs_of qs) k) e, rest (covers_rest all (Proc q) (procs_of qs) k))
     by false e k rest = rest k
 
-orphans_fit : (p : ℕ) (S : State) (all : List Object) → has (Proc p) all ≡ true → Covers all (procs_of (children_of p S)) → WritesFit S all (orphaned (children_of p S) S)
-unfolding orphaned
+orphans_fit : (p : ℕ) (S : State) (all : List Object) → has_object (Proc p) all ≡ true → Covers all (procs_of (children_of p S)) → WritesFit S all (orphan_writes (children_of p S) S)
+unfolding orphan_writes
 orphans_fit p S all h c = by (p == 1) c
   where
-    by : (b : Bool) → Covers all (procs_of (if b then [] else children_below p (S.width + 1) S)) → WritesFit S all (orphaned (if b then [] else children_below p (S.width + 1) S) S)
+    by : (b : Bool) → Covers all (procs_of (if b then [] else children_below p (S.width + 1) S)) → WritesFit S all (orphan_writes (if b then [] else children_below p (S.width + 1) S) S)
     by true k = tt
     by false k = orphans_below_fit p (S.width + 1) S all h k
 
 -- what is told to the parent
 later_same : (inside : Option Inside) (parent : ℕ) (S R : State) → AgreeOn (held_objects inside) S R
-    → told_at_commit (telling inside parent) parent S ≡ told_at_commit (telling inside parent) parent R
+    → notice_held (parent_notice inside parent) parent S ≡ notice_held (parent_notice inside parent) parent R
 later_same None parent S R a = by (parent == 1)
   where
-    by : (b : Bool) → told_at_commit (if b then NotTold else AtOnce) parent S ≡ told_at_commit (if b then NotTold else AtOnce) parent R
+    by : (b : Bool) → notice_held (if b then NotTold else AtOnce) parent S ≡ notice_held (if b then NotTold else AtOnce) parent R
     by true = refl
     by false = refl
 later_same (Some inside) parent S R a = by (parent == 1) (inside.members parent)
   where
-    by : (b d : Bool) → told_at_commit (if b then NotTold else (if d then AtOnce else AtCommit inside.starter)) parent S
-        ≡ told_at_commit (if b then NotTold else (if d then AtOnce else AtCommit inside.starter)) parent R
+    by : (b d : Bool) → notice_held (if b then NotTold else (if d then AtOnce else AtCommit inside.starter)) parent S
+        ≡ notice_held (if b then NotTold else (if d then AtOnce else AtCommit inside.starter)) parent R
     by true d = refl
     by false true = refl
-    by false false = ap (λ (ms : List Sending). SetHeld inside.starter (ms ++ told_to parent ∷ []) ∷ []) (a (Held inside.starter) (has_head (Held inside.starter) [])).part
+    by false false = ap (λ (ms : List Sending). SetHeld inside.starter (ms ++ child_notice parent ∷ []) ∷ []) (a (Held inside.starter) (has_head (Held inside.starter) [])).part
 
-later_fits : (inside : Option Inside) (parent : ℕ) (S : State) (all : List Object) → Covers all (held_objects inside) → WritesFit S all (told_at_commit (telling inside parent) parent S)
+later_fits : (inside : Option Inside) (parent : ℕ) (S : State) (all : List Object) → Covers all (held_objects inside) → WritesFit S all (notice_held (parent_notice inside parent) parent S)
 later_fits None parent S all c = by (parent == 1)
   where
-    by : (b : Bool) → WritesFit S all (told_at_commit (if b then NotTold else AtOnce) parent S)
+    by : (b : Bool) → WritesFit S all (notice_held (if b then NotTold else AtOnce) parent S)
     by true = tt
     by false = tt
 later_fits (Some inside) parent S all c = by (parent == 1) (inside.members parent)
   where
-    by : (b d : Bool) → WritesFit S all (told_at_commit (if b then NotTold else (if d then AtOnce else AtCommit inside.starter)) parent S)
+    by : (b d : Bool) → WritesFit S all (notice_held (if b then NotTold else (if d then AtOnce else AtCommit inside.starter)) parent S)
     by true d = tt
     by false true = tt
     by false false = (covers_head all (Held inside.starter) [] c, tt)
 
-tells_members : (i : Inside) (parent : ℕ) (m : Sending) → IsIn m (told_at_once (telling (Some i) parent) parent) → i.members m.target ≡ true
+tells_members : (i : Inside) (parent : ℕ) (m : Sending) → IsIn m (notice_now (parent_notice (Some i) parent) parent) → i.members m.target ≡ true
 tells_members i parent m h = by (parent == 1) (i.members parent) refl h
   where
-    by : (b d : Bool) → i.members parent ≡ d → IsIn m (told_at_once (if b then NotTold else (if d then AtOnce else AtCommit i.starter)) parent) → i.members m.target ≡ true
+    by : (b d : Bool) → i.members parent ≡ d → IsIn m (notice_now (if b then NotTold else (if d then AtOnce else AtCommit i.starter)) parent) → i.members m.target ≡ true
     by true d e k = absurd k
     by false true e (inl k) = subst (λ (x : Sending). i.members x.target ≡ true) (sym k) e
     by false true e (inr k) = absurd k
@@ -200,16 +201,16 @@ module _ (inside : Option Inside) (p status : ℕ) (me now : Process) where
   children : State → List Object
   children S = procs_of (children_of p S)
 
-  ending_same : (S R : State) → AgreeOn (Proc p ∷ ending_objects inside p now S) S R → ending inside p status now S ≡ ending inside p status now R
+  ending_same : (S R : State) → AgreeOn (Proc p ∷ ending_objects (caller inside p now S)) S R → ending status (caller inside p now S) ≡ ending status (caller inside p now R)
   unfolding ends children
   ending_same S R a = λ i. record {
-    writes = SetProc p (Some (ended status now)) ∷ orphans i ++ released_after (open_in now.descriptors) p (Some (ended status now)) S R in_ends i ++ later_same inside now.parent S R in_held i;
-    sends = told_at_once (telling inside now.parent) now.parent;
+    writes = SetProc p (Some (ended_process status now)) ∷ orphans i ++ released_after (open_in now.descriptors) p (Some (ended_process status now)) S R in_ends i ++ later_same inside now.parent S R in_held i;
+    sends = notice_now (parent_notice inside now.parent) now.parent;
     conclusion = Replies Ended;
   }
     where
-      others : AgreeOn (ending_objects inside p now S) S R
-      others = agree_rest (Proc p) (ending_objects inside p now S) S R a
+      others : AgreeOn (ending_objects (caller inside p now S)) S R
+      others = agree_rest (Proc p) (ending_objects (caller inside p now S)) S R a
 
       in_both : AgreeOn (ends S ++ children S) S R
       in_both = agree_left (ends S ++ children S) (held_objects inside) S R others
@@ -220,27 +221,27 @@ module _ (inside : Option Inside) (p status : ℕ) (me now : Process) where
       in_ends : AgreeOn (ends S) S R
       in_ends = agree_left (ends S) (children S) S R in_both
 
-      orphans : orphaned (children_of p S) S ≡ orphaned (children_of p R) R
+      orphans : orphan_writes (children_of p S) S ≡ orphan_writes (children_of p R) R
       orphans =
           orphaned_same (children_of p S) S R (agree_right (ends S) (children S) S R in_both)
-          ∙ ap (λ (qs : List ℕ). orphaned qs R) (children_same p S R (a (Proc p) (has_head (Proc p) (ending_objects inside p now S))))
+          ∙ ap (λ (qs : List ℕ). orphan_writes qs R) (children_same p S R (a (Proc p) (has_head (Proc p) (ending_objects (caller inside p now S)))))
 
-  ending_foot : (S R : State) → AgreeOn (Proc p ∷ ending_objects inside p now S) S R → ending_objects inside p now S ≡ ending_objects inside p now R
+  ending_foot : (S R : State) → AgreeOn (Proc p ∷ ending_objects (caller inside p now S)) S R → ending_objects (caller inside p now S) ≡ ending_objects (caller inside p now R)
   unfolding ends children
   ending_foot S R a =
       ap₂ (λ (os : List Object) (qs : List ℕ). os ++ procs_of qs ++ held_objects inside)
       (ends_same (open_in now.descriptors) S R
-      (agree_left (ends S) (children S) S R (agree_left (ends S ++ children S) (held_objects inside) S R (agree_rest (Proc p) (ending_objects inside p now S) S R a))))
-      (children_same p S R (a (Proc p) (has_head (Proc p) (ending_objects inside p now S))))
+      (agree_left (ends S) (children S) S R (agree_left (ends S ++ children S) (held_objects inside) S R (agree_rest (Proc p) (ending_objects (caller inside p now S)) S R a))))
+      (children_same p S R (a (Proc p) (has_head (Proc p) (ending_objects (caller inside p now S)))))
 
-  ending_fits : now.parent ≡ me.parent → now.descriptors ≡ me.descriptors → (S : State) (all : List Object) → S.procs p ≡ Some me → Covers all (Proc p ∷ ending_objects inside p now S)
-      → StaysIn S all (ending inside p status now S)
+  ending_fits : now.parent ≡ me.parent → now.descriptors ≡ me.descriptors → (S : State) (all : List Object) → S.procs p ≡ Some me → Covers all (Proc p ∷ ending_objects (caller inside p now S))
+      → StaysIn S all (ending status (caller inside p now S))
   unfolding ends children
   ending_fits parent descriptors S all e c = (
     (
       goes,
-      writes_append S all (orphaned (children_of p S) S ++ released ds T) (told_at_commit (telling inside now.parent) now.parent S)
-          (writes_append S all (orphaned (children_of p S) S) (released ds T) (orphans_fit p S all mine in_children) (released_fits ds S T all refl in_ends))
+      writes_append S all (orphan_writes (children_of p S) S ++ removals ds T) (notice_held (parent_notice inside now.parent) now.parent S)
+          (writes_append S all (orphan_writes (children_of p S) S) (removals ds T) (orphans_fit p S all mine in_children) (released_fits ds S T all refl in_ends))
           (later_fits inside now.parent S all (covers_right all (ends S ++ children S) (held_objects inside) others)),
     ),
     tt,
@@ -250,13 +251,13 @@ module _ (inside : Option Inside) (p status : ℕ) (me now : Process) where
       ds = open_in now.descriptors
 
       T : State
-      T = write_one (SetProc p (Some (ended status now))) S
+      T = write_one (SetProc p (Some (ended_process status now))) S
 
-      mine : has (Proc p) all ≡ true
-      mine = covers_head all (Proc p) (ending_objects inside p now S) c
+      mine : has_object (Proc p) all ≡ true
+      mine = covers_head all (Proc p) (ending_objects (caller inside p now S)) c
 
-      others : Covers all (ending_objects inside p now S)
-      others = covers_rest all (Proc p) (ending_objects inside p now S) c
+      others : Covers all (ending_objects (caller inside p now S))
+      others = covers_rest all (Proc p) (ending_objects (caller inside p now S)) c
 
       in_both : Covers all (ends S ++ children S)
       in_both = covers_left all (ends S ++ children S) (held_objects inside) others
@@ -270,40 +271,40 @@ module _ (inside : Option Inside) (p status : ℕ) (me now : Process) where
       in_descs : Covers all (desc_objects (open_in me.descriptors))
       in_descs = subst (λ (fs : List (Option ℕ)). Covers all (desc_objects (open_in fs))) descriptors (covers_left all (desc_objects ds) (pipe_list (pipes_of ds S)) in_ends)
 
-      goes : WriteFits S all (SetProc p (Some (ended status now)))
+      goes : WriteFits S all (SetProc p (Some (ended_process status now)))
       goes = (mine, λ n ne l. rw e (ap (λ (m : ℕ). m == n) parent), λ d f l. rw e (sym (names_none all me d f in_descs l)))
 
-  ending_held : (S : State) (i : Inside) → inside ≡ Some i → (u : ℕ) → has (Held u) (ending_objects inside p now S) ≡ true → u ≡ i.starter
+  ending_held : (S : State) (i : Inside) → inside ≡ Some i → (u : ℕ) → has_object (Held u) (ending_objects (caller inside p now S)) ≡ true → u ≡ i.starter
   unfolding ends children
-  ending_held S i e u h = by (has (Held u) (held_objects inside)) refl
+  ending_held S i e u h = by (has_object (Held u) (held_objects inside)) refl
     where
-      both : has (Held u) (ends S ++ children S) ≡ false
+      both : has_object (Held u) (ends S ++ children S) ≡ false
       both = lacks_both (Held u) (ends S) (children S) (ends_held u (open_in now.descriptors) S) (procs_held u (children_of p S))
 
-      by : (b : Bool) → has (Held u) (held_objects inside) ≡ b → u ≡ i.starter
+      by : (b : Bool) → has_object (Held u) (held_objects inside) ≡ b → u ≡ i.starter
       by true k = held_own inside i e u k
-      by false k = absurd (both_ways (has (Held u) (ending_objects inside p now S)) (lacks_both (Held u) (ends S ++ children S) (held_objects inside) both k) h)
+      by false k = absurd (both_ways (has_object (Held u) (ending_objects (caller inside p now S))) (lacks_both (Held u) (ends S ++ children S) (held_objects inside) both k) h)
 
-  pub ending_local : now.parent ≡ me.parent → now.descriptors ≡ me.descriptors → IsLocal inside p me (λ S. ending inside p status now S) (λ S. ending_objects inside p now S)
+  pub ending_local : now.parent ≡ me.parent → now.descriptors ≡ me.descriptors → IsLocal inside p me (λ S. ending status (caller inside p now S)) (λ S. ending_objects (caller inside p now S))
   ending_local parent descriptors = record {
     same = ending_same;
     foot = ending_foot;
     fits = ending_fits parent descriptors;
-    sends = λ S i e k m h. tells_members i now.parent m (subst (λ (x : Option Inside). IsIn m (told_at_once (telling x now.parent) now.parent)) e h);
+    sends = λ S i e k m h. tells_members i now.parent m (subst (λ (x : Option Inside). IsIn m (notice_now (parent_notice x now.parent) now.parent)) e h);
     holds = ending_held;
   }
 
 -- exit
-pub exit_local : (inside : Option Inside) (p : ℕ) (v : ℤ) (me : Process) → IsLocal inside p me (λ S. effect_of p me (exit v (caller inside p me S))) (λ S. exit_objects inside p me S)
+pub exit_local : (inside : Option Inside) (p : ℕ) (v : ℤ) (me : Process) → IsLocal inside p me (λ S. effect_of p me (exit v (caller inside p me S))) (λ S. exit_objects (caller inside p me S))
 exit_local inside p v me = by (p == 1)
   where
-    by : (b : Bool) → IsLocal inside p me (λ S. effect_of p me ((fails NotPermitted when b) (does (ending inside p (exit_status v) me S)))) (λ S. if b then [] else ending_objects inside p me S)
-    by true = done_local inside p me (failing NotPermitted)
+    by : (b : Bool) → IsLocal inside p me (λ S. effect_of p me ((fails NotPermitted when b) (does (ending (exit_status v) (caller inside p me S))))) (λ S. if b then [] else ending_objects (caller inside p me S))
+    by true = done_local inside p me (error_answer NotPermitted)
     by false = ending_local inside p (exit_status v) me me refl refl
 
 -- waitpid
-numbered_held : (u : ℕ) (t : Option ℕ) → has (Held u) (numbered_objects t) ≡ false
-unfolding has
+numbered_held : (u : ℕ) (t : Option ℕ) → has_object (Held u) (numbered_objects t) ≡ false
+unfolding has_object
 numbered_held u None = refl
 numbered_held u (Some t) = refl
 
@@ -313,7 +314,7 @@ module _ (inside : Option Inside) (p : ℕ) (me : Process) (t : ℤ) (nohang : B
       let os : List Object = waitpid_objects t S in
       waitpid_lines (λ o. Owes p me S os o) (caller inside p me S) (fails_owes p me S os) t nohang (answers_owes p me S os (pos 0)) (refuses_owes p me S os Wait)
       λ child status q is there mine over. changes_owes p me S os (pos child) (with_status status me) _ λ all e h c. (
-        kept_fits p me S all e h (noted (pos child) (with_status status me)) (in_place me _ refl refl refl),
+        kept_fits p me S all e h (with_answer (pos child) (with_status status me)) (in_place me _ refl refl refl),
         (
           (
             covers_head all (Proc child) [] (subst (λ (x : Option ℕ). Covers all (numbered_objects x)) is c),
@@ -326,12 +327,12 @@ module _ (inside : Option Inside) (p : ℕ) (me : Process) (t : ℤ) (nohang : B
 
   waitpid_same : (S R : State) → AgreeOn (Proc p ∷ waitpid_objects t S) S R → waitpid t nohang (caller inside p me S) ≡ waitpid t nohang (caller inside p me R)
   waitpid_same S R a =
-      or_same (numbered S.width t) (numbered R.width t) (fails NoChild) _ _ (ap (λ (w : ℕ). numbered w t) (a (Proc p) (has_head (Proc p) (waitpid_objects t S))).width)
+      or_same (pid_of S.width t) (pid_of R.width t) (fails NoChild) _ _ (ap (λ (w : ℕ). pid_of w t) (a (Proc p) (has_head (Proc p) (waitpid_objects t S))).width)
       λ child e. or_same (S.procs child) (R.procs child) (fails NoChild) _ _
       (a (Proc child) (has_tail (Proc child) (Proc p) (waitpid_objects t S) (rw e (has_head (Proc child) [])))).part λ q z. refl
 
   pub waitpid_local : IsLocal inside p me (λ S. effect_of p me (waitpid t nohang (caller inside p me S))) (λ S. waitpid_objects t S)
   waitpid_local =
       page_local inside p me (waitpid t nohang) (λ S. waitpid_objects t S) waitpid_same
-      (λ S R a. ap (λ (w : ℕ). numbered_objects (numbered w t)) (a (Proc p) (has_head (Proc p) (waitpid_objects t S))).width)
-      (λ S u. numbered_held u (numbered S.width t)) waitpid_owes
+      (λ S R a. ap (λ (w : ℕ). numbered_objects (pid_of w t)) (a (Proc p) (has_head (Proc p) (waitpid_objects t S))).width)
+      (λ S u. numbered_held u (pid_of S.width t)) waitpid_owes

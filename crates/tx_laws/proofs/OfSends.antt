@@ -1,18 +1,18 @@
 -- What sends owe.
 use Rattle.std.proofs.Common.{◌≡◌, ℕ, Bool, true, false, List, [], ◌∷◌, ℤ, pos, Option, Some, None, if◌then◌else◌, refl, sym, ap, subst, inl, inr}
 use Rattle.tx_base.specs.declared.errors.Errno.TheVariants.{NoSuchProcess, InvalidArgument}
-use Rattle.tx_model.specs.Numbers.{failing}
-use Rattle.tx_model.specs.State.{Process, State, Sending, Object, Proc, Held, has}
+use Rattle.tx_model.specs.Numbers.{error_answer}
+use Rattle.tx_model.specs.State.{Process, State, Sending, Object, Proc, Held, has_object}
 use Rattle.tx_model.specs.StateLaws.{AgreeOn}
-use Rattle.tx_model.specs.Effects.{Inside, noted}
-use Rattle.tx_model.specs.Book.{closed_inside, sendable, sent_by, holder_of, sigqueue}
-use Rattle.tx_model.specs.Processes.{numbered, held_objects}
-use Rattle.tx_model.specs.Forms.{fails, posts, effect_of}
+use Rattle.tx_model.specs.Effects.{Inside, with_answer}
+use Rattle.tx_model.specs.Book.{closed_inside, sendable, sending_from, holder_of, sigqueue}
+use Rattle.tx_model.specs.Processes.{pid_of, held_objects}
+use Rattle.tx_model.specs.Forms.{fails, posts, effect_of, caller}
 use Rattle.tx_laws.specs.Fits.{IsIn}
 use Rattle.tx_model.specs.BookLaws.{sigqueue_lines}
 use Rattle.tx_laws.proofs.Objects.{Covers, has_head, has_tail}
 use Rattle.tx_laws.proofs.Owed.{IsLocal}
-use Rattle.tx_laws.proofs.OfPages.{caller, or_same}
+use Rattle.tx_laws.proofs.OfPages.{or_same}
 use Rattle.tx_laws.proofs.OfProcesses.{held_own}
 use Rattle.tx_laws.proofs.InPlace.{StaysIn, in_place, kept_fits, done_fits}
 
@@ -34,14 +34,14 @@ goes_inside target i e = by (i.members target) e
     by false h = cc
 
 module _ (inside : Option Inside) (p : ℕ) (me : Process) (t s value : ℤ) where
-  send_fits : (S : State) (all : List Object) → S.procs p ≡ Some me → has (Proc p) all ≡ true → Covers all (held_objects inside)
+  send_fits : (S : State) (all : List Object) → S.procs p ≡ Some me → has_object (Proc p) all ≡ true → Covers all (held_objects inside)
       → StaysIn S all (effect_of p me (sigqueue t s value (caller inside p me S)))
   send_fits S all e h c =
-      sigqueue_lines (λ o. StaysIn S all (effect_of p me o)) (caller inside p me S) (λ errno. done_fits p me S all e h (failing errno)) t s value (done_fits p me S all e h closed_inside)
+      sigqueue_lines (λ o. StaysIn S all (effect_of p me o)) (caller inside p me S) (λ errno. done_fits p me S all e h (error_answer errno)) t s value (done_fits p me S all e h closed_inside)
       (λ signo target a b out. (tt, h))
       λ signo target i a b is some room. (
         (
-          kept_fits p me S all e h (noted (pos 0) me) (in_place me _ refl refl refl),
+          kept_fits p me S all e h (with_answer (pos 0) me) (in_place me _ refl refl refl),
           (c (Held i.starter) (rw (holder_is target inside i is) (has_head (Held i.starter) [])), tt),
         ),
         tt,
@@ -59,8 +59,8 @@ module _ (inside : Option Inside) (p : ℕ) (me : Process) (t s value : ℤ) whe
   send_same : (S R : State) → AgreeOn (Proc p ∷ held_objects inside) S R → sigqueue t s value (caller inside p me S) ≡ sigqueue t s value (caller inside p me R)
   send_same S R a =
       or_same (sendable s) (sendable s) (fails InvalidArgument) _ _ refl
-      λ signo e. or_same (numbered S.width t) (numbered R.width t) (fails NoSuchProcess) _ _ (ap (λ (w : ℕ). numbered w t) (a (Proc p) (has_head (Proc p) (held_objects inside))).width)
-      λ target there. or_same (holder_of target inside) (holder_of target inside) (posts (sent_by me target signo value)) _ _ refl
+      λ signo e. or_same (pid_of S.width t) (pid_of R.width t) (fails NoSuchProcess) _ _ (ap (λ (w : ℕ). pid_of w t) (a (Proc p) (has_head (Proc p) (held_objects inside))).width)
+      λ target there. or_same (holder_of target inside) (holder_of target inside) (posts (sending_from me target signo value)) _ _ refl
       λ i is. let k = a (Held i.starter) (has_tail (Held i.starter) (Proc p) (held_objects inside) (rw (holder_is target inside i is) (has_head (Held i.starter) []))) in rw k.part refl
 
   pub send_local : IsLocal inside p me (λ S. effect_of p me (sigqueue t s value (caller inside p me S))) (λ S. held_objects inside)

@@ -14,10 +14,11 @@ use Rattle.tx_laws.proofs.OfPages.{Owes, answers_owes, fails_owes, own_owes, sta
 use Rattle.tx_base.specs.declared.limits.TheConstants.{CONSOLE_BYTES}
 use Rattle.tx_model.specs.Numbers.{below}
 use Rattle.std.proofs.lemmas.Bool.{lt-ltb}
-use Rattle.tx_model.specs.Book.{last_ret, page_of_call}
-use Rattle.tx_model.specs.Signals.{discarded, is_ignored, masked, with_action}
+use Rattle.tx_model.specs.Book.{page_of_call}
+use Rattle.tx_model.specs.Signals.{without_signal, changed_mask, with_action}
 use Rattle.tx_model.specs.State.{Ids, Process, State}
-use Rattle.tx_model.specs.Effects.{Own, answers_with, noted, own_effect}
+use Rattle.tx_model.specs.Effects.{with_answer}
+use Rattle.tx_model.specs.Words.{Own, answers_with, own_effect, last_ret, is_ignored}
 use Rattle.tx_model.specs.Forms.{Caller, Outcome, fails, answers, changes, stands, posts, refuses, does, effect_of}
 use Rattle.tx_laws.specs.WellFormed.{HasIdLimits, IsWholePage}
 use Rattle.tx_laws.proofs.InPlace.{KeepsPlace, in_place}
@@ -69,9 +70,9 @@ own_keeps me new place sizes limits = record { place = place; sizes = sizes; lim
 same_keeps : (me : Process) → KeepsOwn me me
 same_keeps me = own_keeps me me (in_place me me refl refl refl) (plain me me refl refl refl refl refl refl refl) (λ h. h)
 
-pub noted_keeps : (r : ℤ) (me q : Process) → KeepsOwn me q → KeepsOwn me (noted r q)
+pub noted_keeps : (r : ℤ) (me q : Process) → KeepsOwn me q → KeepsOwn me (with_answer r q)
 noted_keeps r me q k =
-    own_keeps me (noted r q) (in_place me (noted r q) k.place.parent k.place.descriptors k.place.status) (noted_sizes r me q k.sizes) (λ h. noted_limits r q (k.limits h))
+    own_keeps me (with_answer r q) (in_place me (with_answer r q) k.place.parent k.place.descriptors k.place.status) (noted_sizes r me q k.sizes) (λ h. noted_limits r q (k.limits h))
 
 module _ (c : Caller) where
   abbrev me : Process
@@ -89,11 +90,11 @@ module _ (c : Caller) where
   ids_keeps : (ids : Ids) → (HasIdLimits me.ids → HasIdLimits ids) → KeepsOwn me (record me { ids = ids })
   ids_keeps ids k = own_keeps me _ (in_place me _ refl refl refl) (plain me _ refl refl refl refl refl refl refl) (identified_limits me ids k)
 
-  acted_keeps : (signo : ℕ) (action : Action) (b : Bool) → KeepsSizes me (with_action signo action (if b then discarded signo me else me))
-  acted_keeps signo action true = sizes_trans me (discarded signo me) _ (discarded_sizes signo me) (action_sizes signo action (discarded signo me))
+  acted_keeps : (signo : ℕ) (action : Action) (b : Bool) → KeepsSizes me (with_action signo action (if b then without_signal signo me else me))
+  acted_keeps signo action true = sizes_trans me (without_signal signo me) _ (discarded_sizes signo me) (action_sizes signo action (without_signal signo me))
   acted_keeps signo action false = action_sizes signo action me
 
-  acted_place : (signo : ℕ) (action : Action) (b : Bool) → KeepsPlace me (with_action signo action (if b then discarded signo me else me))
+  acted_place : (signo : ℕ) (action : Action) (b : Bool) → KeepsPlace me (with_action signo action (if b then without_signal signo me else me))
   acted_place signo action true = in_place me _ refl refl refl
   acted_place signo action false = in_place me _ refl refl refl
 
@@ -107,8 +108,6 @@ module _ (c : Caller) where
       store_lines Owned c (λ e. tt) address bytes.items λ good.
       memory_keeps _ (stored_paged me.memory (address_of address) bytes.items) (stored_whole me.memory (address_of address) bytes.items)
   own_page (call.Load address) own = load_lines Owned c (λ e. tt) address λ byte e. tt
-  own_page call.Getpid own = tt
-  own_page call.Getppid own = tt
   own_page (call.Setuid v) own =
       setuid_lines Owned c (λ e. tt) v (λ u e any. ids_keeps _ (all_users u me.ids (id_limit v u e))) (λ u e one. ids_keeps _ (one_user u me.ids (id_limit v u e)))
   own_page (call.Seteuid v) own = seteuid_lines Owned c (λ e. tt) v λ u e. ids_keeps _ (one_user u me.ids (id_limit v u e))
@@ -119,8 +118,7 @@ module _ (c : Caller) where
       sigaction_lines Owned c (λ e. tt) s action λ signo e good.
       own_keeps me _ (acted_place signo action (is_ignored signo action)) (acted_keeps signo action (is_ignored signo action)) (acted_limits signo action me good)
   own_page (call.Sigprocmask how set) own =
-      own_keeps me _ (in_place me _ refl refl refl) (plain me _ refl refl refl refl refl refl refl) (masked_limits me (masked how (bits_of set) me.mask))
-  own_page call.Sigpending own = tt
+      own_keeps me _ (in_place me _ refl refl refl) (plain me _ refl refl refl refl refl refl refl) (masked_limits me (changed_mask how (bits_of set) me.mask))
   own_page call.Sigreturn own =
       sigreturn_lines Owned c (λ e. tt) λ frame e. (own_keeps me _ (in_place me _ refl refl refl) (restored_sizes frame me e) (restored_limits frame me e), refl)
   own_page (call.ConsoleWrite address v) own =
@@ -132,11 +130,20 @@ module _ (c : Caller) where
       keep_lines Owned c (λ e. tt) slot λ k e.
       own_keeps me _ (in_place me _ refl refl refl) (plain me _ refl refl refl (length-set me.registers.slots k (last_ret me)) refl refl refl)
       (λ h. registered me me.registers.point (last_ret me) (slice_set me.registers.slots k (last_ret me)) h.point h)
-  own_page call.SysXbegin own = tt
-  own_page call.SysXbeginDefer own = tt
-  own_page call.SysXend own = tt
-  own_page call.SysXabort own = tt
-  own_page asked own = absurd own
+  own_page (call.Fork child) own = absurd own
+  own_page (call.Exit status) own = absurd own
+  own_page (call.Waitpid t nohang) own = absurd own
+  own_page (call.Pipe q r w) own = absurd own
+  own_page (call.Dup f) own = absurd own
+  own_page (call.Dup2 f g) own = absurd own
+  own_page (call.Close f) own = absurd own
+  own_page (call.SetNonblock f on) own = absurd own
+  own_page (call.Read f address n) own = absurd own
+  own_page (call.Write f address n) own = absurd own
+  own_page (call.Kill t signo) own = absurd own
+  own_page (call.Sigqueue t signo value) own = absurd own
+  -- each other page answers at most
+  own_page asked own = tt
 
 -- what such an outcome is as an effect: of its own process alone
 pub own_of : (p : ℕ) (old : Process) (outcome : Outcome) → StaysOwn old outcome → (own : Own) × (effect_of p old outcome ≡ own_effect p own) × KeepsOwn old own.process × (goes own.reply ≡ true)

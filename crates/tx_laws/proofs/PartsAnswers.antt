@@ -2,13 +2,14 @@
 use Rattle.std.proofs.Common.{◌≡◌, ℕ, Bool, true, false, not, List, [], ◌∷◌, Option, Some, if◌then◌else◌, ◌==◌, refl, sym, ap, ap₂, ◌∙◌, eq-eqb, eqb-true}
 use Rattle.std.specs.Ordering.{int_eq}
 use Rattle.tx_model.specs.SignalSets.{kill_signo}
-use Rattle.tx_model.specs.State.{Process, State, Sending, Proc, has}
-use Rattle.tx_model.specs.Posts.{received, post_answer, post, answers}
-use Rattle.tx_model.specs.Effects.{Effect, before_sends, send_answers}
+use Rattle.tx_model.specs.State.{Process, State, Sending, Proc, has_object}
+use Rattle.tx_model.specs.Posts.{target_after, post_answer, after_post, post_answers}
+use Rattle.tx_model.specs.Effects.{Effect, send_answers}
+use Rattle.tx_model.specs.Words.{before_sends, is_blocking}
 use Rattle.tx_model.specs.Events.{Event, actor, effect, objects}
 use Rattle.tx_model.specs.Membership.{is_live, is_member_of}
 use Rattle.tx_model.specs.History.{just, event_footprint}
-use Rattle.tx_model.specs.View.{present, has_pending, is_doomed, meets, differs_at, has_two_answers, blocks, in_way, least, holder}
+use Rattle.tx_model.specs.View.{present, has_pending, is_doomed, some_object, differs_at, has_two_answers, in_way, least, starter_in_way}
 use Rattle.tx_laws.specs.Sound.{IsSound}
 use Rattle.tx_laws.specs.TwoParts.{TwoParts, in_set, is_owner, parts_without, parts_view}
 use Rattle.tx_laws.specs.TwoAnswers.{differs_by, owns_named, sends_differ, parts_in_way}
@@ -22,22 +23,22 @@ unfolding parts_view
 parts_present c = parts_nobody c
 
 -- a post to s, and one to another process
-post_here : (s : ℕ) (m : Sending) (S : State) → m.target ≡ s → (post m S).procs s ≡ received m (S.procs s)
-post_here s m S e = rw (eq-eqb s m.target (sym e)) (ap (λ (n : ℕ). received m (S.procs n)) e)
+post_here : (s : ℕ) (m : Sending) (S : State) → m.target ≡ s → (after_post m S).procs s ≡ target_after m (S.procs s)
+post_here s m S e = rw (eq-eqb s m.target (sym e)) (ap (λ (n : ℕ). target_after m (S.procs n)) e)
 
-post_there : (s : ℕ) (m : Sending) (S : State) → (m.target == s) ≡ false → (post m S).procs s ≡ S.procs s
+post_there : (s : ℕ) (m : Sending) (S : State) → (m.target == s) ≡ false → (after_post m S).procs s ≡ S.procs s
 post_there s m S ne = let e : (s == m.target) ≡ false = eq_comm s m.target ∙ ne in rw e refl
 
 -- whether the posts to s have other answers in the one state than in the other, the process s tells
-differs_posts : (s : ℕ) (ms : List Sending) (S R : State) → differs_at s ms (answers ms S) (answers ms R) ≡ differs_by s ms (S.procs s) (R.procs s)
-unfolding differs_at differs_by answers
+differs_posts : (s : ℕ) (ms : List Sending) (S R : State) → differs_at s ms (post_answers ms S) (post_answers ms R) ≡ differs_by s ms (S.procs s) (R.procs s)
+unfolding differs_at differs_by post_answers
 differs_posts s [] S R = refl
-differs_posts s (m ∷ ms) S R = by (m.target == s) refl (differs_posts s ms (post m S) (post m R))
+differs_posts s (m ∷ ms) S R = by (m.target == s) refl (differs_posts s ms (after_post m S) (after_post m R))
   where
-    by : (b : Bool) → (m.target == s) ≡ b → differs_at s ms (answers ms (post m S)) (answers ms (post m R)) ≡ differs_by s ms ((post m S).procs s) ((post m R).procs s) →
-        (if b then (if int_eq (post_answer m (S.procs m.target)) (post_answer m (R.procs m.target)) then differs_at s ms (answers ms (post m S)) (answers ms (post m R)) else true)
-        else differs_at s ms (answers ms (post m S)) (answers ms (post m R)))
-        ≡ (if b then (if int_eq (post_answer m (S.procs s)) (post_answer m (R.procs s)) then differs_by s ms (received m (S.procs s)) (received m (R.procs s)) else true)
+    by : (b : Bool) → (m.target == s) ≡ b → differs_at s ms (post_answers ms (after_post m S)) (post_answers ms (after_post m R)) ≡ differs_by s ms ((after_post m S).procs s) ((after_post m R).procs s) →
+        (if b then (if int_eq (post_answer m (S.procs m.target)) (post_answer m (R.procs m.target)) then differs_at s ms (post_answers ms (after_post m S)) (post_answers ms (after_post m R)) else true)
+        else differs_at s ms (post_answers ms (after_post m S)) (post_answers ms (after_post m R)))
+        ≡ (if b then (if int_eq (post_answer m (S.procs s)) (post_answer m (R.procs s)) then differs_by s ms (target_after m (S.procs s)) (target_after m (R.procs s)) else true)
         else differs_by s ms (S.procs s) (R.procs s))
     by true e rest =
         let here : m.target ≡ s = eqb-true m.target s e in
@@ -59,7 +60,7 @@ module _ (c : TwoParts) (sound : IsSound (parts_view c)) (s : ℕ) (live : is_li
   unfolding parts_view
   doomed_kept = ap (has_pending kill_signo) kept_starter
 
-  two_answers : (ev : Event) → has (Proc s) (objects ev c.now) ≡ false → has_two_answers (parts_view c) ev s ≡ sends_differ c ev s
+  two_answers : (ev : Event) → has_object (Proc s) (objects ev c.now) ≡ false → has_two_answers (parts_view c) ev s ≡ sends_differ c ev s
   unfolding parts_view
   two_answers ev out =
       let W : State = parts_without c (just s) in
@@ -69,7 +70,7 @@ module _ (c : TwoParts) (sound : IsSound (parts_view c)) (s : ℕ) (live : is_li
       ∙ ap₂ (λ (x y : Option Process). differs_by s f.sends x y) (writes_elsewhere ev c.now c.now (Proc s) out) (writes_elsewhere ev c.now W (Proc s) out ∙ kept_starter)
 
   -- an event that names nothing of the starter's does not name the starter
-  not_named : (ev : Event) → owns_named c ev s ≡ false → (b : Bool) → has (Proc s) (objects ev c.now) ≡ b → b ≡ false
+  not_named : (ev : Event) → owns_named c ev s ≡ false → (b : Bool) → has_object (Proc s) (objects ev c.now) ≡ b → b ≡ false
   not_named ev out true h =
       absurd (meets_not (event_footprint c.table ev c.now) (λ o. is_owner s (c.owner o)) (Proc s) (objects_in c.table ev c.now (Proc s) h) (is_owner_self s (c.owner (Proc s)) own) out)
   not_named ev out false h = refl
@@ -79,18 +80,18 @@ module _ (c : TwoParts) (sound : IsSound (parts_view c)) (s : ℕ) (live : is_li
     where
       by : (b : Bool) → owns_named c ev s ≡ b → (if b then true else has_two_answers (parts_view c) ev s) ≡ (if b then true else sends_differ c ev s)
       by true e = refl
-      by false e = two_answers ev (not_named ev e (has (Proc s) (objects ev c.now)) refl)
+      by false e = two_answers ev (not_named ev e (has_object (Proc s) (objects ev c.now)) refl)
 
-  blocks_parts : (ev : Event) (b : Bool) → blocks (not b) (parts_view c) ev s ≡ (if b then false else (if owns_named c ev s then true else sends_differ c ev s))
+  blocks_parts : (ev : Event) (b : Bool) → is_blocking (not b) (parts_view c) ev s ≡ (if b then false else (if owns_named c ev s then true else sends_differ c ev s))
   unfolding parts_view
   blocks_parts ev true = refl
   blocks_parts ev false =
-      ap (λ (S : State). if meets (event_footprint c.table ev S) (λ o. is_owner s (c.owner o)) then true else has_two_answers (parts_view c) ev s) (parts_nobody c) ∙ met ev
+      ap (λ (S : State). if some_object (event_footprint c.table ev S) (λ o. is_owner s (c.owner o)) then true else has_two_answers (parts_view c) ev s) (parts_nobody c) ∙ met ev
 
 pub doom_kept : (c : TwoParts) (s : ℕ) → IsSound (parts_view c) → is_live c.table s ≡ true → is_doomed (parts_view c) s ≡ has_pending kill_signo (c.kept.procs s)
 doom_kept c s sound live = doomed_kept c sound s live
 
-pub two_answers_parts : (c : TwoParts) (ev : Event) (s : ℕ) → IsSound (parts_view c) → is_live c.table s ≡ true → has (Proc s) (objects ev c.now) ≡ false
+pub two_answers_parts : (c : TwoParts) (ev : Event) (s : ℕ) → IsSound (parts_view c) → is_live c.table s ≡ true → has_object (Proc s) (objects ev c.now) ≡ false
     → has_two_answers (parts_view c) ev s ≡ sends_differ c ev s
 two_answers_parts c ev s sound live out = two_answers c sound s live ev out
 
@@ -99,11 +100,11 @@ pub in_way_parts : (c : TwoParts) (ev : Event) (s : ℕ) → IsSound (parts_view
 unfolding in_way parts_view
 in_way_parts c ev s sound = by (is_live c.table s) refl
   where
-    by : (b : Bool) → is_live c.table s ≡ b → blocks (if b then not (is_member_of c.table s (actor ev)) else false) (parts_view c) ev s
+    by : (b : Bool) → is_live c.table s ≡ b → is_blocking (if b then not (is_member_of c.table s (actor ev)) else false) (parts_view c) ev s
         ≡ (if b then (if is_member_of c.table s (actor ev) then false else (if owns_named c ev s then true else sends_differ c ev s)) else false)
     by true live = blocks_parts c sound s live ev (is_member_of c.table s (actor ev))
     by false live = refl
 
-pub holder_parts : (c : TwoParts) (ev : Event) → IsSound (parts_view c) → holder (parts_view c) ev ≡ least (parts_in_way c ev) c.table.width
+pub starter_in_way_parts : (c : TwoParts) (ev : Event) → IsSound (parts_view c) → starter_in_way (parts_view c) ev ≡ least (parts_in_way c ev) c.table.width
 unfolding parts_view
-holder_parts c ev sound = ap (λ (P : ℕ → Bool). least P c.table.width) (λ i s. in_way_parts c ev s sound i)
+starter_in_way_parts c ev sound = ap (λ (P : ℕ → Bool). least P c.table.width) (λ i s. in_way_parts c ev s sound i)

@@ -4,9 +4,9 @@ use Rattle.tx_base.specs.declared.steps.Call.{Call}
 use Rattle.tx_base.specs.declared.steps.Call.TheVariants as call
 use Rattle.tx_model.specs.State.{Process, State}
 use Rattle.tx_model.specs.Effects.{Inside}
-use Rattle.tx_model.specs.Forms.{Caller, Outcome, effect_of}
+use Rattle.tx_model.specs.Forms.{Caller, Outcome, effect_of, caller}
 use Rattle.tx_model.specs.Book.{page_of_call}
-use Rattle.tx_model.specs.Calls.{call_effect}
+use Rattle.tx_model.specs.Words.{call_effect}
 use Rattle.tx_laws.proofs.OwnPages.{StaysOwn, own_page, own_of}
 use Rattle.tx_laws.proofs.Mild.{goes_unended}
 use Rattle.tx_laws.proofs.PlainWrites.{IsPlain, own_plain, pipe_plain, dup_plain, dup2_plain, close_plain, set_nonblock_plain, read_plain, write_plain}
@@ -22,7 +22,7 @@ IsSpecial c = ⊥
 
 module _ (S : State) (p : ℕ) (me : Process) (inside : Option Inside) where
   abbrev c : Caller
-  c = record { number = p; process = me; inside = inside; state = S }
+  c = caller inside p me S
 
   -- a call that concerns its process alone
   alone_plain : (outcome : Outcome) → StaysOwn me outcome → IsPlain p me (effect_of p me outcome)

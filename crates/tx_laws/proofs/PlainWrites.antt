@@ -6,12 +6,13 @@ use Rattle.tx_base.specs.declared.errors.Errno.{Errno}
 use Rattle.tx_base.specs.declared.errors.Errno.TheVariants.{BrokenPipe}
 use Rattle.tx_base.specs.declared.steps.Refusal.{Refusal}
 use Rattle.tx_base.specs.declared.steps.Refusal.TheVariants.{NumberTaken, Wait}
-use Rattle.tx_model.specs.Numbers.{failing}
+use Rattle.tx_model.specs.Numbers.{error_answer}
 use Rattle.tx_model.specs.Memory.{address_of}
-use Rattle.tx_model.specs.State.{Process, Description, State, Write, SetProc, SetDesc, SetPipe, SetHeld, write_one, written}
-use Rattle.tx_model.specs.Effects.{Effect, Conclusion, Replies, AnswersPost, ListsFailed, Own, idle, noted, own_effect, done, done_with}
-use Rattle.tx_model.specs.Descriptors.{with_descriptor, is_named, has_description, pipes_of, unnamed_go, endless_go, released, with_two_slots}
-use Rattle.tx_model.specs.Book.{breaks, gives_up, pipe, dup, dup2, close, set_nonblock, read, write}
+use Rattle.tx_model.specs.State.{Process, Description, State, Write, SetProc, SetDesc, SetPipe, SetHeld, write_one, with_writes}
+use Rattle.tx_model.specs.Effects.{Effect, Conclusion, Replies, AnswersPost, ListsFailed, idle, with_answer}
+use Rattle.tx_model.specs.Words.{Own, own_effect, answer_effect, answer_effect_with, with_two_slots}
+use Rattle.tx_model.specs.Descriptors.{with_descriptor, is_named, has_description, pipes_of, description_removals, pipe_removals, removals}
+use Rattle.tx_model.specs.Book.{broken_pipe, release, pipe, dup, dup2, close, set_nonblock, read, write}
 use Rattle.tx_model.specs.Membership.{says_ended}
 use Rattle.tx_laws.specs.WellFormed.{IsSendable}
 use Rattle.tx_model.specs.Forms.{Caller, Outcome, fails, effect_of}
@@ -54,7 +55,7 @@ pub record IsPlain (p : ℕ) (me : Process) (f : Effect) : Type 0 where
 pub later_same : (me : Process) → IsLater me me
 later_same me = record { parent = refl; status = refl; limits = λ h. h }
 
-pub noted_later : (r : ℤ) (me q : Process) → IsLater me q → IsLater me (noted r q)
+pub noted_later : (r : ℤ) (me q : Process) → IsLater me q → IsLater me (with_answer r q)
 noted_later r me q k = record { parent = k.parent; status = k.status; limits = λ h. noted_limits r q (k.limits h) }
 
 module _ (p : ℕ) (me : Process) where
@@ -66,15 +67,15 @@ module _ (p : ℕ) (me : Process) where
   unfolding ArePlain
   own_plain own k r = record { writes = (record { number = refl; later = k }, tt); sends = All-nil IsSendable; goes_on = r }
 
-  pub done_with_plain : (ws : List Write) (r : ℤ) (q : Process) → ArePlain p me ws → IsLater me q → IsPlain p me (done_with ws p r q)
+  pub done_with_plain : (ws : List Write) (r : ℤ) (q : Process) → ArePlain p me ws → IsLater me q → IsPlain p me (answer_effect_with ws p r q)
   unfolding ArePlain
   done_with_plain ws r q h k = record { writes = (record { number = refl; later = noted_later r me q k }, h); sends = All-nil IsSendable; goes_on = refl }
 
-  pub done_plain : (r : ℤ) (q : Process) → IsLater me q → IsPlain p me (done p r q)
+  pub done_plain : (r : ℤ) (q : Process) → IsLater me q → IsPlain p me (answer_effect p r q)
   unfolding ArePlain
   done_plain r q k = record { writes = (record { number = refl; later = noted_later r me q k }, tt); sends = All-nil IsSendable; goes_on = refl }
 
-  pub same_plain : (r : ℤ) → IsPlain p me (done p r me)
+  pub same_plain : (r : ℤ) → IsPlain p me (answer_effect p r me)
   same_plain r = done_plain r me (later_same me)
 
   pub if_plain : (b : Bool) (f g : Effect) → IsPlain p me f → IsPlain p me g → IsPlain p me (if b then f else g)
@@ -86,28 +87,28 @@ module _ (p : ℕ) (me : Process) where
   plain_append [] vs h k = k
   plain_append (w ∷ ws) vs h k = (h.0, plain_append ws vs h.1 k)
 
-  unnamed_plain : (ds : List ℕ) (S : State) → ArePlain p me (unnamed_go ds S)
-  unfolding unnamed_go ArePlain
+  unnamed_plain : (ds : List ℕ) (S : State) → ArePlain p me (description_removals ds S)
+  unfolding description_removals ArePlain
   unnamed_plain [] S = tt
   unnamed_plain (d ∷ ds) S = by (is_named d S) (unnamed_plain ds S)
     where
-      by : (b : Bool) → ArePlain p me (unnamed_go ds S) → ArePlain p me (if b then unnamed_go ds S else SetDesc d None ∷ unnamed_go ds S)
+      by : (b : Bool) → ArePlain p me (description_removals ds S) → ArePlain p me (if b then description_removals ds S else SetDesc d None ∷ description_removals ds S)
       by true h = h
       by false h = (tt, h)
 
-  endless_plain : (ks : List ℕ) (S : State) → ArePlain p me (endless_go ks S)
-  unfolding endless_go ArePlain
+  endless_plain : (ks : List ℕ) (S : State) → ArePlain p me (pipe_removals ks S)
+  unfolding pipe_removals ArePlain
   endless_plain [] S = tt
   endless_plain (k ∷ ks) S = by (has_description k S) (endless_plain ks S)
     where
-      by : (b : Bool) → ArePlain p me (endless_go ks S) → ArePlain p me (if b then endless_go ks S else SetPipe k None ∷ endless_go ks S)
+      by : (b : Bool) → ArePlain p me (pipe_removals ks S) → ArePlain p me (if b then pipe_removals ks S else SetPipe k None ∷ pipe_removals ks S)
       by true h = h
       by false h = (tt, h)
 
-  pub released_plain : (ds : List ℕ) (S : State) → ArePlain p me (released ds S)
+  pub released_plain : (ds : List ℕ) (S : State) → ArePlain p me (removals ds S)
   released_plain ds S =
-      plain_append (unnamed_go ds S) (endless_go (pipes_of ds S) (written (unnamed_go ds S) S)) (unnamed_plain ds S)
-      (endless_plain (pipes_of ds S) (written (unnamed_go ds S) S))
+      plain_append (description_removals ds S) (pipe_removals (pipes_of ds S) (with_writes (description_removals ds S) S)) (unnamed_plain ds S)
+      (endless_plain (pipes_of ds S) (with_writes (description_removals ds S) S))
 
   -- descriptors
   described : (descriptors : List (Option ℕ)) → IsLater me (record me { descriptors = descriptors })
@@ -145,10 +146,10 @@ module _ (p : ℕ) (me : Process) where
   unfolding ArePlain
   one_pipe k x = (tt, tt)
 
-  breaks_plain : IsPlain p me (breaks p me)
+  breaks_plain : IsPlain p me (broken_pipe p me)
   unfolding ArePlain
   breaks_plain = record {
-    writes = (record { number = refl; later = noted_later (failing BrokenPipe) me me (later_same me) }, tt);
+    writes = (record { number = refl; later = noted_later (error_answer BrokenPipe) me me (later_same me) }, tt);
     sends = All-cons IsSendable _ [] (inr refl) (All-nil IsSendable);
     goes_on = refl;
   }
@@ -165,10 +166,10 @@ module _ (c : Caller) where
   Plain outcome = IsPlain p me (effect_of p me outcome)
 
   error_plain : (errno : Errno) → Plain (fails errno)
-  error_plain errno = same_plain p me (failing errno)
+  error_plain errno = same_plain p me (error_answer errno)
 
-  gives_up_plain : (ds : List ℕ) (r : ℤ) (q : Process) → IsLater me q → Plain (gives_up ds r q c)
-  gives_up_plain ds r q k = done_with_plain p me (released ds (write_one (SetProc p (Some (noted r q))) c.state)) r q (released_plain p me ds _) k
+  gives_up_plain : (ds : List ℕ) (r : ℤ) (q : Process) → IsLater me q → Plain (release ds r q c)
+  gives_up_plain ds r q k = done_with_plain p me (removals ds (write_one (SetProc p (Some (with_answer r q))) c.state)) r q (released_plain p me ds _) k
 
   pub pipe_plain : (q r w : ℕ) → Plain (pipe q r w c)
   pipe_plain q r w =

@@ -1,28 +1,25 @@
 -- Which calls and deliveries end their process, and what the transactions make of that.
-use Rattle.std.proofs.Common.{◌≡◌, ℕ, Bool, true, false, not, ℤ, pos, negsuc, Option, Some, None, if◌then◌else◌, ◌==◌, refl, sym, ap, ◌∙◌}
+use Rattle.std.proofs.Common.{◌≡◌, ℕ, Bool, true, false, not, ℤ, pos, negsuc, Option, Some, None, ◌==◌, refl, sym, ap, ◌∙◌}
 use Rattle.tx_base.specs.declared.marks.Mark.{Mark}
 use Rattle.tx_base.specs.declared.steps.Call.{Call}
 use Rattle.tx_base.specs.declared.steps.Call.TheVariants as call
 use Rattle.tx_base.specs.declared.steps.Reply.{Reply}
 use Rattle.tx_base.specs.declared.steps.Step.{Step}
 use Rattle.tx_base.specs.declared.steps.Step.TheVariants.{Call as Calls, Deliver, KernelAbort}
-use Rattle.tx_base.specs.declared.steps.Refusal.TheVariants.{Deferred, FramesFull}
-use Rattle.tx_base.specs.declared.steps.Reply.TheVariants.{Done}
 use Rattle.tx_base.specs.declared.errors.Errno.TheVariants.{NotPermitted}
-use Rattle.tx_model.specs.Forms.{fails, does, effect_of, ◌when◌}
+use Rattle.tx_model.specs.Forms.{caller, fails, does, effect_of, ◌when◌}
 use Rattle.tx_model.specs.Book.{sigqueue}
 use Rattle.tx_model.specs.State.{Process, State}
-use Rattle.tx_model.specs.Effects.{Inside, Conclusion, Replies, AnswersPost, ListsFailed, idle, own_effect}
+use Rattle.tx_model.specs.Effects.{Inside, Effect, Conclusion, Replies, AnswersPost, ListsFailed}
 use Rattle.tx_model.specs.Processes.{ending, exit_status}
-use Rattle.tx_model.specs.Signals.{Disposition, Ignored, Fatal, Caught, disposition}
-use Rattle.tx_model.specs.Deliveries.{action_at, acts_on, caught, delivered_value, delivers, ends_by, is_deferred, is_full, kills, relieved}
-use Rattle.tx_model.specs.Calls.{MakesCall, TakesSignal, call_effect, effect_at, running_effect}
+use Rattle.tx_model.specs.Deliveries.{delivered_value, ends_by, delivery_page}
+use Rattle.tx_model.specs.Book.{page_of_call}
 use Rattle.tx_model.specs.Events.{Do, Note, effect, reply_of}
-use Rattle.tx_model.specs.Membership.{Table, inside_by, Kind, Ordinary, Forking, Beginning, Leaving, Aborting, kind_of, says_ended, ordinary_role, kind_role, kind_event, Role, event_in}
+use Rattle.tx_model.specs.Membership.{Table, inside_by, Kind, Ordinary, Forking, Beginning, Leaving, Aborting, says_ended, kind_event, Role, event_in}
+use Rattle.tx_model.specs.Words.{ordinary_role, call_effect, delivery_effect, kind_of, kind_role}
 use Rattle.tx_model.specs.View.{View, present, first_reply}
-use Rattle.tx_model.specs.BookLaws.{sigqueue_lines}
+use Rattle.tx_model.specs.BookLaws.{sigqueue_lines, delivery_lines, where_runs, runs_as}
 use Rattle.tx_laws.proofs.OfActs.{call_mild}
-use Rattle.tx_laws.proofs.OfPages.{caller}
 use Rattle.tx_laws.specs.Endings.{is_exit, end_reply, ExitIsTold, ExitsSayEnd, OtherCallsSayNoEnd, DeliveriesSayEnd, StepIsToldByEnd, OtherCallIsTold, DeliveryIsTold}
 use Rattle.tx_laws.proofs.Mild.{GoesOn, goes_unended}
 use Rattle.tx_laws.proofs.KeepsView.{reply_ends}
@@ -47,58 +44,33 @@ module _ (inside : Option Inside) (p : ℕ) (me : Process) (S : State) where
   call_goes (call.Sigqueue t signo value) other = send_goes t signo value
   call_goes c other = goes_concludes (call_effect inside p c me S).conclusion (call_mild inside p c me S tt).goes_on
 
-  -- a signal that is no longer pending ends its process where it kills
-  acts_end : (signo : ℕ) (value : ℤ) (what : Disposition) (now : Process) → concludes_ended (acts_on inside p signo value what now S).conclusion ≡ kills what
-  acts_end signo value Ignored now = refl
-  acts_end signo value Fatal now = refl
-  acts_end signo value (Caught point mask) now = by (is_full now)
-    where
-      by : (b : Bool) → concludes_ended (if b then idle FramesFull else own_effect p (record { process = caught signo value point mask now; reply = Done value })).conclusion ≡ false
-      by true = refl
-      by false = refl
-
-  delivers_end : (signo : ℕ) (value : Option ℤ) → concludes_ended (delivers inside p signo me value S).conclusion ≡ ends_by inside signo me value
-  delivers_end signo None = refl
-  delivers_end signo (Some value) = by (is_deferred inside signo)
-    where
-      what : Disposition
-      what = disposition signo (action_at signo me)
-
-      by : (b : Bool) → concludes_ended (if b then idle Deferred else acts_on inside p signo value what (relieved signo me) S).conclusion ≡ (if b then false else kills what)
-      by true = refl
-      by false = acts_end signo value what (relieved signo me)
-
--- a call of a process that may not run, or may not be there
-call_at_goes : (inside : Option Inside) (p : ℕ) (c : Call) (S : State) → is_exit c ≡ false → (x : Option Process) → concludes_ended (effect_at inside p (MakesCall c) S x).conclusion ≡ false
-call_at_goes inside p c S other None = refl
-call_at_goes inside p c S other (Some me) = by me.status
-  where
-    by : (status : Option ℕ) → concludes_ended (running_effect inside p (MakesCall c) S me status).conclusion ≡ false
-    by None = call_goes inside p me S c other
-    by (Some n) = refl
+  delivery_ends : (signo : ℕ) → concludes_ended (delivery_effect inside p signo me S).conclusion ≡ ends_by inside signo me (delivered_value signo me)
+  delivery_ends signo =
+      delivery_lines (λ o. concludes_ended (effect_of p me o).conclusion ≡ ends_by inside signo me (delivered_value signo me)) (caller inside p me S) signo (λ why e. sym e)
+      (λ value d e. sym e) (λ value d e. sym e) (λ value point mask d e k room. sym e)
 
 -- the replies
 pub other_calls_say : OtherCallsSayNoEnd
 unfolding effect
-other_calls_say S pid c inside other = reply_ends (Do (Calls pid c) inside) S ∙ call_at_goes inside pid.0 c S other (S.procs pid.0)
+other_calls_say S pid c inside other =
+    reply_ends (Do (Calls pid c) inside) S
+    ∙ where_runs inside pid.0 (page_of_call c) S (λ f. concludes_ended f.conclusion ≡ false) (λ why. refl) (λ me here runs. call_goes inside pid.0 me S c other)
 
 pub deliveries_say : DeliveriesSayEnd
 unfolding effect
 deliveries_say S pid signo inside me here runs =
     reply_ends (Do (Deliver pid signo) inside) S
-    ∙ ap (λ (x : Option Process). concludes_ended (effect_at inside pid.0 (TakesSignal signo.0) S x).conclusion) here
-    ∙ ap (λ (status : Option ℕ). concludes_ended (running_effect inside pid.0 (TakesSignal signo.0) S me status).conclusion) runs
-    ∙ delivers_end inside pid.0 me S signo.0 (delivered_value signo.0 me)
+    ∙ ap (λ (f : Effect). concludes_ended f.conclusion) (runs_as inside pid.0 (delivery_page signo.0) S me here runs)
+    ∙ delivery_ends inside pid.0 me S signo.0
 
 pub exits_say : ExitsSayEnd
 unfolding effect
 exits_say S pid status inside me here runs =
     reply_ends (Do (Calls pid (call.Exit status)) inside) S
-    ∙ ap (λ (x : Option Process). concludes_ended (effect_at inside pid.0 (MakesCall (call.Exit status)) S x).conclusion) here
-    ∙ ap (λ (n : Option ℕ). concludes_ended (running_effect inside pid.0 (MakesCall (call.Exit status)) S me n).conclusion) runs
+    ∙ ap (λ (f : Effect). concludes_ended f.conclusion) (runs_as inside pid.0 (page_of_call (call.Exit status)) S me here runs)
     ∙ by (pid.0 == 1)
   where
-    by : (b : Bool) → concludes_ended (effect_of pid.0 me ((fails NotPermitted when b) (does (ending inside pid.0 (exit_status status) me S)))).conclusion ≡ not b
+    by : (b : Bool) → concludes_ended (effect_of pid.0 me ((fails NotPermitted when b) (does (ending (exit_status status) (caller inside pid.0 me S))))).conclusion ≡ not b
     by true = refl
     by false = refl
 

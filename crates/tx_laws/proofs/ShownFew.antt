@@ -5,25 +5,24 @@ use Rattle.tx_base.specs.declared.limits.TheConstants.{CONSOLE_BYTES}
 use Rattle.tx_base.specs.declared.steps.Call.{Call}
 use Rattle.tx_base.specs.declared.steps.Call.TheVariants as call
 use Rattle.tx_base.specs.declared.steps.Refusal.{Refusal}
-use Rattle.tx_base.specs.declared.steps.Refusal.TheVariants.{Deferred, FramesFull, NoTransaction}
+use Rattle.tx_base.specs.declared.steps.Refusal.TheVariants.{NoTransaction}
 use Rattle.tx_base.specs.declared.steps.Reply.{Reply}
 use Rattle.tx_base.specs.declared.steps.Reply.TheVariants.{Done, Ended, Committed, Aborted, Out, No}
 use Rattle.tx_base.specs.declared.steps.Step.{Step}
 use Rattle.tx_base.specs.declared.steps.Step.TheVariants.{Call as Calls, Deliver, KernelAbort}
-use Rattle.tx_model.specs.Forms.{effect_of}
+use Rattle.tx_model.specs.Forms.{caller, effect_of}
 use Rattle.tx_model.specs.Book.{sigqueue}
 use Rattle.tx_model.specs.State.{Process, State, Sending}
-use Rattle.tx_model.specs.Effects.{Inside, Effect, Conclusion, Replies, AnswersPost, ListsFailed, concluding_reply, send_answers, idle, own_effect}
-use Rattle.tx_model.specs.Signals.{Disposition, Ignored, Fatal, Caught, disposition}
-use Rattle.tx_model.specs.Deliveries.{action_at, acts_on, caught, delivered_value, delivers, is_deferred, is_full, relieved}
-use Rattle.tx_model.specs.Calls.{Act, MakesCall, TakesSignal, act_effect, call_effect, effect_at, running_effect}
-use Rattle.tx_model.specs.Events.{Event, Do, Note, Commit, effect, reply_of}
+use Rattle.tx_model.specs.Effects.{Inside, Effect, Conclusion, Replies, AnswersPost, ListsFailed, concluding_reply, send_answers}
+use Rattle.tx_model.specs.Words.{unless_refused, call_effect, delivery_effect}
+use Rattle.tx_model.specs.Deliveries.{delivery_page}
+use Rattle.tx_model.specs.Book.{page_of_call}
+use Rattle.tx_model.specs.Events.{Event, Do, Note, Commit, step_effect, effect, reply_of}
 use Rattle.tx_model.specs.Membership.{Role, Outside, Within, Commits, Aborts, is_live}
 use Rattle.tx_model.specs.View.{View, present, kernel_status, abort_status, role_on, event_on}
-use Rattle.tx_model.specs.Answer.{refusal, plain_reply, accepted_reply, unless_refused, answer}
-use Rattle.tx_model.specs.BookLaws.{exit_lines, sigqueue_lines}
+use Rattle.tx_model.specs.Answer.{refusal, plain_reply, accepted_reply, answer}
+use Rattle.tx_model.specs.BookLaws.{exit_lines, sigqueue_lines, delivery_lines, where_runs}
 use Rattle.tx_laws.proofs.OfActs.{call_mild}
-use Rattle.tx_laws.proofs.OfPages.{caller}
 use Rattle.tx_laws.specs.Shown.{ShowsFew}
 use Rattle.tx_laws.proofs.Mild.{GoesOn, IsMild, goes}
 
@@ -69,45 +68,19 @@ module _ (inside : Option Inside) (p : ℕ) (me : Process) (S : State) where
   call_few (call.Sigqueue t signo value) = send_few t signo value
   call_few c = mild_few _ (call_mild inside p c me S tt)
 
-  -- a delivery
-  acts_few : (signo : ℕ) (value : ℤ) (what : Disposition) (now : Process) → concludes_few (acts_on inside p signo value what now S).conclusion ≡ true
-  acts_few signo value Ignored now = refl
-  acts_few signo value Fatal now = refl
-  acts_few signo value (Caught point mask) now = by (is_full now)
-    where
-      by : (b : Bool) → concludes_few (if b then idle FramesFull else own_effect p (record { process = caught signo value point mask now; reply = Done value })).conclusion ≡ true
-      by true = refl
-      by false = refl
+  delivery_few : (signo : ℕ) → concludes_few (delivery_effect inside p signo me S).conclusion ≡ true
+  delivery_few signo =
+      delivery_lines (λ o. concludes_few (effect_of p me o).conclusion ≡ true) (caller inside p me S) signo (λ why e. refl)
+      (λ value d e. refl) (λ value d e. refl) (λ value point mask d e k room. refl)
 
-  delivers_few : (signo : ℕ) (value : Option ℤ) → concludes_few (delivers inside p signo me value S).conclusion ≡ true
-  delivers_few signo None = refl
-  delivers_few signo (Some value) = by (is_deferred inside signo)
-    where
-      what : Disposition
-      what = disposition signo (action_at signo me)
-
-      by : (b : Bool) → concludes_few (if b then idle Deferred else acts_on inside p signo value what (relieved signo me) S).conclusion ≡ true
-      by true = refl
-      by false = acts_few signo value what (relieved signo me)
-
-  act_few : (act : Act) → concludes_few (act_effect inside p act me S).conclusion ≡ true
-  act_few (MakesCall c) = call_few c
-  act_few (TakesSignal signo) = delivers_few signo (delivered_value signo me)
-
--- an act of a process that may not run, or may not be there
-act_at_few : (inside : Option Inside) (p : ℕ) (act : Act) (S : State) (x : Option Process) → concludes_few (effect_at inside p act S x).conclusion ≡ true
-act_at_few inside p act S None = refl
-act_at_few inside p act S (Some me) = by me.status
-  where
-    by : (status : Option ℕ) → concludes_few (running_effect inside p act S me status).conclusion ≡ true
-    by None = act_few inside p me S act
-    by (Some n) = refl
+step_few : (step : Step) (inside : Option Inside) (S : State) → concludes_few (step_effect step inside S).conclusion ≡ true
+step_few (Calls pid c) inside S = where_runs inside pid.0 (page_of_call c) S (λ f. concludes_few f.conclusion ≡ true) (λ why. refl) (λ me here runs. call_few inside pid.0 me S c)
+step_few (Deliver pid signo) inside S = where_runs inside pid.0 (delivery_page signo.0) S (λ f. concludes_few f.conclusion ≡ true) (λ why. refl) (λ me here runs. delivery_few inside pid.0 me S signo.0)
+step_few (KernelAbort s) inside S = refl
 
 event_few : (ev : Event) (S : State) → concludes_few (effect ev S).conclusion ≡ true
 unfolding effect
-event_few (Do (Calls pid c) inside) S = act_at_few inside pid.0 (MakesCall c) S (S.procs pid.0)
-event_few (Do (Deliver pid signo) inside) S = act_at_few inside pid.0 (TakesSignal signo.0) S (S.procs pid.0)
-event_few (Do (KernelAbort s) inside) S = refl
+event_few (Do step inside) S = step_few step inside S
 event_few (Note p r) S = refl
 event_few (Commit s ev) S = refl
 

@@ -2,11 +2,12 @@
 use Rattle.std.proofs.Common.{◌≡◌, ◌⊎◌, ℕ, ◌≤◌, Bool, true, false, List, [], ◌∷◌, ℤ, Option, Some, None, is_some, is_none, if◌then◌else◌, ◌==◌, refl, sym, ap, ◌∙◌, subst, inl, inr}
 use Rattle.tx_model.specs.State.{Process, State, Sending, SetProc, put_at, write_one}
 use Rattle.tx_model.specs.StateLaws.{put_cases}
-use Rattle.tx_model.specs.Posts.{has_room, may_signal, is_quiet, with_queued, with_pending, received, post, posts}
+use Rattle.tx_model.specs.Posts.{has_room, may_signal, is_quiet, target_after, after_post, after_posts}
+use Rattle.tx_model.specs.Words.{with_queued, with_pending}
 use Rattle.tx_model.specs.SignalSets.{is_realtime}
-use Rattle.tx_model.specs.Effects.{Conclusion, Replies, AnswersPost, ListsFailed, noted_if, first_answer, concluded}
+use Rattle.tx_model.specs.Effects.{Conclusion, Replies, AnswersPost, ListsFailed, with_answer_if, first_answer, after_conclusion}
 use Rattle.tx_base.specs.declared.marks.Mark.{Mark}
-use Rattle.tx_model.specs.Book.{sent_by_members}
+use Rattle.tx_model.specs.Book.{member_sends}
 use Rattle.tx_model.specs.Membership.{Table, is_of, is_member_of, is_live, is_open_of}
 use Rattle.tx_model.specs.Answer.{is_running}
 use Rattle.tx_laws.specs.WellFormedTable.{sent_by_kernel, HasParentInside, HasParentOutside, IsTransaction}
@@ -123,13 +124,13 @@ transaction_same t new S T s live same stands held k = record {
       let was : is_member_of t s p ≡ true = sym (same.members p) ∙ h in
       inside_same t new s (T.procs p) (S.procs p) (parent_same (T.procs p) (S.procs p) (stands p was)) (λ n z. same.members n ∙ z) (k.parents p was ne);
   outside = outside_same t new s (T.procs s) (S.procs s) (parent_same (T.procs s) (S.procs s) (stands s live)) (λ n e z. same.members n ∙ z) k.outside;
-  sent = subst (λ (ms : List Sending). sent_by_members ms ≤ 32) (sym held) k.sent;
+  sent = subst (λ (ms : List Sending). member_sends ms ≤ 32) (sym held) k.sent;
   told_none = λ h. ap sent_by_kernel held ∙ k.told_none (sym (running_same (T.procs s) (S.procs s) (stands s live)) ∙ h);
   told_once = subst (λ (ms : List Sending). sent_by_kernel ms ≤ 1) (sym held) k.told_once;
 }
 
 -- posts and conclusions change nothing of that
-received_stand : (m : Sending) (x : Option Process) → stand (received m x) ≡ stand x
+received_stand : (m : Sending) (x : Option Process) → stand (target_after m x) ≡ stand x
 received_stand m None = refl
 received_stand m (Some q) = by (may_signal m.from q.ids) (is_quiet m q) (is_realtime m.signo) (has_room q)
   where
@@ -146,29 +147,29 @@ put_stand f k v e n = elim (put_cases f k v n) [
   | inr z ↦ ap stand z.1
 ]
 
-pub posts_stand : (ms : List Sending) (S : State) (n : ℕ) → stand ((posts ms S).procs n) ≡ stand (S.procs n)
-unfolding posts
+pub posts_stand : (ms : List Sending) (S : State) (n : ℕ) → stand ((after_posts ms S).procs n) ≡ stand (S.procs n)
+unfolding after_posts
 posts_stand [] S n = refl
-posts_stand (m ∷ ms) S n = posts_stand ms (post m S) n ∙ put_stand S.procs m.target (received m (S.procs m.target)) (received_stand m (S.procs m.target)) n
+posts_stand (m ∷ ms) S n = posts_stand ms (after_post m S) n ∙ put_stand S.procs m.target (target_after m (S.procs m.target)) (received_stand m (S.procs m.target)) n
 
-pub posts_held : (ms : List Sending) (S : State) (u : ℕ) → (posts ms S).held u ≡ S.held u
-unfolding posts
+pub posts_held : (ms : List Sending) (S : State) (u : ℕ) → (after_posts ms S).held u ≡ S.held u
+unfolding after_posts
 posts_held [] S u = refl
-posts_held (m ∷ ms) S u = posts_held ms (post m S) u
+posts_held (m ∷ ms) S u = posts_held ms (after_post m S) u
 
-noted_stand : (r : ℤ) (x : Option Process) → stand (noted_if r x) ≡ stand x
+noted_stand : (r : ℤ) (x : Option Process) → stand (with_answer_if r x) ≡ stand x
 noted_stand r None = refl
 noted_stand r (Some q) = refl
 
-pub note_stand : (p : ℕ) (r : ℤ) (S : State) (n : ℕ) → stand ((write_one (SetProc p (noted_if r (S.procs p))) S).procs n) ≡ stand (S.procs n)
-note_stand p r S n = put_stand S.procs p (noted_if r (S.procs p)) (noted_stand r (S.procs p)) n
+pub note_stand : (p : ℕ) (r : ℤ) (S : State) (n : ℕ) → stand ((write_one (SetProc p (with_answer_if r (S.procs p))) S).procs n) ≡ stand (S.procs n)
+note_stand p r S n = put_stand S.procs p (with_answer_if r (S.procs p)) (noted_stand r (S.procs p)) n
 
-pub concluded_stand : (c : Conclusion) (rs : List ℤ) (S : State) (n : ℕ) → stand ((concluded c rs S).procs n) ≡ stand (S.procs n)
+pub concluded_stand : (c : Conclusion) (rs : List ℤ) (S : State) (n : ℕ) → stand ((after_conclusion c rs S).procs n) ≡ stand (S.procs n)
 concluded_stand (Replies r) rs S n = refl
 concluded_stand (AnswersPost p) rs S n = note_stand p (first_answer rs) S n
 concluded_stand ListsFailed rs S n = refl
 
-pub concluded_held : (c : Conclusion) (rs : List ℤ) (S : State) (u : ℕ) → (concluded c rs S).held u ≡ S.held u
+pub concluded_held : (c : Conclusion) (rs : List ℤ) (S : State) (u : ℕ) → (after_conclusion c rs S).held u ≡ S.held u
 concluded_held (Replies r) rs S u = refl
 concluded_held (AnswersPost p) rs S u = refl
 concluded_held ListsFailed rs S u = refl

@@ -6,9 +6,10 @@ use Rattle.tx_base.specs.declared.steps.Reply.TheVariants.{Done, Ended, Committe
 use Rattle.tx_base.specs.declared.steps.Step.{Step}
 use Rattle.tx_model.specs.State.{State}
 use Rattle.tx_model.specs.Events.{Event}
-use Rattle.tx_model.specs.History.{Starters, left_out_before, stays}
-use Rattle.tx_model.specs.Schedules.{recorded, history_of}
-use Rattle.tx_model.specs.View.{View, view, after_if, role_on, event_on, next}
+use Rattle.tx_model.specs.History.{Starters, left_out_before, is_left_in}
+use Rattle.tx_model.specs.Schedules.{history_with, history_of}
+use Rattle.tx_model.specs.View.{View, view, role_on, event_on, next}
+use Rattle.tx_model.specs.Words.{after_if}
 use Rattle.tx_model.specs.Answer.{answer, IsAccepted, Lawful}
 use Rattle.tx_laws.specs.Sound.{IsSound}
 use Rattle.tx_laws.specs.WellFormed.{IsWellFormed, HasGoodNumbers}
@@ -30,10 +31,10 @@ pub step_form : (V : View) (step : Step) → IsSound V → IsAccepted (answer V 
 unfolding next
 step_form V step sound a form X =
     let Y : Starters = left_out_before (role_on V step) X in
-    form_if (stays (role_on V step) X) (event_on V step) (V.without Y) (form Y)
+    form_if (is_left_in (role_on V step) X) (event_on V step) (V.without Y) (form Y)
     (subst (λ (n : ℕ). HasGoodNumbers n (event_on V step)) (sym (sound.width Y)) (event_numbers V step a))
 
-recorded_lawful : (S : State) (h : List Accepted) (step : Step) (r : Reply) → Lawful S h → answer (view S h) step ≡ r → Lawful S (recorded h step r)
+recorded_lawful : (S : State) (h : List Accepted) (step : Step) (r : Reply) → Lawful S h → answer (view S h) step ≡ r → Lawful S (history_with h step r)
 unfolding Lawful
 recorded_lawful S h step (No why) l e = l
 recorded_lawful S h step (Done r) l e = (l, e, tt)
@@ -48,4 +49,4 @@ unfolding history_of
 schedule_lawful S h [] l = l
 schedule_lawful S h (step ∷ steps) l =
     let r : Reply = answer (view S h) step in
-    schedule_lawful S (recorded h step r) steps (recorded_lawful S h step r l refl)
+    schedule_lawful S (history_with h step r) steps (recorded_lawful S h step r l refl)

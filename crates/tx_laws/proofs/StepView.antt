@@ -2,11 +2,11 @@
 use Rattle.std.proofs.Common.{◌≡◌, true, false, List, [], ◌∷◌, ◌++◌, refl, ap₂, subst}
 use Rattle.tx_base.specs.declared.steps.Step.{Step}
 use Rattle.tx_base.specs.declared.steps.Reply.{Reply}
-use Rattle.tx_model.specs.State.{State, Sending, Object, Proc, has}
+use Rattle.tx_model.specs.State.{State, Sending, Object, Proc, has_object}
 use Rattle.tx_model.specs.StateLaws.{AgreePart, AgreeAt}
 use Rattle.tx_model.specs.Events.{Event, process_of, effect, objects, after}
 use Rattle.tx_model.specs.Membership.{Role}
-use Rattle.tx_model.specs.History.{processes_of}
+use Rattle.tx_model.specs.Words.{processes_of}
 use Rattle.tx_model.specs.View.{View, role_on, event_on, next}
 use Rattle.tx_model.specs.Answer.{answer, IsAccepted}
 use Rattle.tx_laws.specs.Sound.{IsSound}
@@ -36,11 +36,11 @@ parts_step_view c step sound a =
     let f : IsFitting (parts_view c) step = fitting (parts_view c) step sound a in
     parts_next_view (role_on (parts_view c) step) (event_on (parts_view c) step) (process_of step) c sound f.passes f.fits
 
-targets_in : (ms : List Sending) (os : List Object) → ((o : Object) → has o (processes_of ms) ≡ true → has o os ≡ true) → TargetsIn ms os
+targets_in : (ms : List Sending) (os : List Object) → ((o : Object) → has_object o (processes_of ms) ≡ true → has_object o os ≡ true) → TargetsIn ms os
 targets_in [] os h = tt
 targets_in (m ∷ ms) os h = (h (Proc m.target) (has_head (Proc m.target) (processes_of ms)), targets_in ms os (λ o k. h o (has_tail o (Proc m.target) (processes_of ms) k)))
 
-pub elsewhere : (ev : Event) (S : State) (o : Object) → has o (objects ev S ++ processes_of (effect ev S).sends) ≡ false → AgreeAt (after ev S) S o
+pub elsewhere : (ev : Event) (S : State) (o : Object) → has_object o (objects ev S ++ processes_of (effect ev S).sends) ≡ false → AgreeAt (after ev S) S o
 elsewhere ev S o h =
     let os : List Object = objects ev S ++ processes_of (effect ev S).sends in
     after_else ev S os o
@@ -48,5 +48,5 @@ elsewhere ev S o h =
     (targets_in (effect ev S).sends os (λ q k. has_right q (objects ev S) (processes_of (effect ev S).sends) k))) h
 
 -- an event leaves every part alone but those of its objects and of the targets of its sends
-pub parts_elsewhere : (ev : Event) (S : State) (o : Object) → has o (objects ev S ++ processes_of (effect ev S).sends) ≡ false → AgreePart (after ev S) S o
+pub parts_elsewhere : (ev : Event) (S : State) (o : Object) → has_object o (objects ev S ++ processes_of (effect ev S).sends) ≡ false → AgreePart (after ev S) S o
 parts_elsewhere ev S o h = (elsewhere ev S o h).part

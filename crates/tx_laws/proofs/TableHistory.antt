@@ -1,5 +1,5 @@
 -- The live transactions of every lawful history are so.
-use Rattle.std.proofs.Common.{◌≡◌, ℕ, Bool, true, false, not, List, [], ◌∷◌, ℤ, Option, Some, None, is_none, ◌==◌, refl, sym, ap, ◌∙◌, subst, inl, inr, eq-eqb, eqb-true}
+use Rattle.std.proofs.Common.{◌≡◌, ℕ, Bool, true, false, not, List, [], ◌∷◌, ℤ, Option, Some, None, ◌==◌, refl, sym, ◌∙◌, subst, inl, inr, eq-eqb, eqb-true}
 use Rattle.std.proofs.lemmas.Bool.{both_ways, cases_Bool}
 use Rattle.tx_base.specs.declared.names.Pid.{Pid}
 use Rattle.tx_base.specs.declared.steps.Accepted.{Accepted}
@@ -8,15 +8,17 @@ use Rattle.tx_base.specs.declared.steps.Call.TheVariants as call
 use Rattle.tx_base.specs.declared.steps.Refusal.TheVariants.{NoProcess, NotRunning, BadNumber, NumberTaken}
 use Rattle.tx_base.specs.declared.steps.Step.{Step}
 use Rattle.tx_base.specs.declared.steps.Step.TheVariants.{Call as Calls, Deliver, KernelAbort}
-use Rattle.tx_model.specs.State.{Process, State, written, Object, Held, has, has_parent}
+use Rattle.tx_model.specs.State.{Process, State, with_writes, Object, Held, has_object, has_parent}
 use Rattle.tx_model.specs.Numbers.{negative}
 use Rattle.tx_model.specs.Effects.{Inside}
-use Rattle.tx_model.specs.Calls.{MakesCall, running_effect, effect_at}
-use Rattle.tx_model.specs.Events.{Event, Note, process_of, actor, effect, objects, after, run}
-use Rattle.tx_model.specs.Membership.{is_member_of, is_live, Role, Outside, Within, Commits, Aborts, Ordinary, kind_of, table_after}
-use Rattle.tx_model.specs.History.{Starters, nobody, just, with_one, less_one, table_of, survivors, without}
-use Rattle.tx_model.specs.View.{View, view, present, kernel_status, IsClear, after_if, role_on, event_on, next_by, next}
-use Rattle.tx_model.specs.Answer.{is_running, is_there, has_bad_number, has_number_in_use, refusal, accepted_reply, answer, IsAccepted, Lawful}
+use Rattle.tx_model.specs.Book.{page_of_call}
+use Rattle.tx_model.specs.Events.{Event, Note, process_of, actor, effect, objects, after, run, effect_at}
+use Rattle.tx_model.specs.Membership.{is_member_of, is_live, Role, Outside, Within, Commits, Aborts, Ordinary, table_after}
+use Rattle.tx_model.specs.BookLaws.{runs_as}
+use Rattle.tx_model.specs.Words.{kind_of, IsClear, after_if, has_bad_number, has_number_in_use, next_by, starters_with, starters_without}
+use Rattle.tx_model.specs.History.{Starters, nobody, just, table_of, survivors, without}
+use Rattle.tx_model.specs.View.{View, view, present, kernel_status, role_on, event_on, next}
+use Rattle.tx_model.specs.Answer.{is_running, is_there, refusal, accepted_reply, answer, IsAccepted, Lawful}
 use Rattle.tx_laws.specs.Sound.{IsSound}
 use Rattle.tx_laws.specs.Fits.{IsQuiet, Fits, Passes}
 use Rattle.tx_laws.specs.WellFormed.{IsWellFormed}
@@ -31,11 +33,12 @@ use Rattle.tx_laws.proofs.FormHistory.{history_form}
 use Rattle.tx_laws.proofs.WithinSets.{false_unless}
 use Rattle.tx_laws.proofs.OfPages.{none_there}
 use Rattle.tx_laws.proofs.Turns.{GrowsBy, step_turn, forks_by}
-use Rattle.tx_laws.proofs.KeepsTable.{after_holds, other_part, untouched}
+use Rattle.tx_laws.proofs.KeepsTable.{after_holds, other_part, unreserved}
 use Rattle.tx_laws.proofs.KeepsView.{ForksNow, kind_formed, aborts_by}
+use Rattle.tx_laws.proofs.OfActs.{runs_some}
 
 note_held : (p : ℕ) (r : ℤ) (S : State) (u : ℕ) → (after (Note p r) S).held u ≡ S.held u
-unfolding effect written
+unfolding effect with_writes
 note_held p r S u = after_holds (Note p r) S u
 
 -- a number that is chosen is free
@@ -57,21 +60,17 @@ not_own S p w = by (S.procs p) refl
 
 -- a process that runs and forks makes its child
 module _ (S : State) (w : IsWellFormed S) (inside : Option Inside) (p : ℕ) (child : Pid) (free : S.procs child.0 ≡ None) where
-  fork_running : (me : Process) (status : Option ℕ) → S.procs p ≡ Some me → me.status ≡ status → is_running (Some me) ≡ true
-      → GrowsBy p child.0 S (running_effect inside p (MakesCall (call.Fork child)) S me status)
-  fork_running me None e k h = forks_by inside S p me e k (not_own S p w) child.0 free
-  fork_running me (Some status) e k h = let no : false ≡ true = sym (ap (λ (x : Option ℕ). is_none x) k) ∙ h in cc
-
-  fork_grows : (x : Option Process) → S.procs p ≡ x → is_running x ≡ true → GrowsBy p child.0 S (effect_at inside p (MakesCall (call.Fork child)) S x)
-  fork_grows None e h = cc
-  fork_grows (Some me) e h = fork_running me me.status e refl h
+  fork_grows : is_running (S.procs p) ≡ true → GrowsBy p child.0 S (effect_at inside p (page_of_call (call.Fork child)) S)
+  fork_grows h =
+      let r = runs_some (S.procs p) h in
+      subst (GrowsBy p child.0 S) (sym (runs_as inside p (page_of_call (call.Fork child)) S r.0 r.1 r.2)) (forks_by inside S p r.0 r.1 r.2 (not_own S p w) child.0 free)
 
 module _ (V : View) (sound : IsSound V) (kept : IsWellFormedView V) (form : IsWellFormed (present V)) where
   forks_now : (pid : Pid) (c : Call) → is_running ((present V).procs pid.0) ≡ true → has_number_in_use (present V) (Calls pid c) ≡ false
       → ForksNow V sound kept.formed form pid.0 (Calls pid c) (kind_of c)
   unfolding effect
   forks_now pid (call.Fork child) runs free = λ inside.
-      fork_grows (present V) form inside pid.0 child (none_there ((present V).procs child.0) free) ((present V).procs pid.0) refl runs
+      fork_grows (present V) form inside pid.0 child (none_there ((present V).procs child.0) free) runs
   forks_now pid call.SysXbegin runs free = tt
   forks_now pid call.SysXbeginDefer runs free = tt
   forks_now pid call.SysXend runs free = tt
@@ -104,8 +103,8 @@ module _ (V : View) (sound : IsSound V) (kept : IsWellFormedView V) (form : IsWe
   quiet_held ev clear X quiet u live out =
       after_holds ev (V.without X) u
       ∙ (other_part ev (V.without X) (Held u)
-      (subst (λ (os : List Object). has (Held u) os ≡ false) (objects_same ev (present V) (V.without X) (quiet_objects V ev sound clear X quiet))
-      (untouched V sound kept.formed ev clear (Held u) u (sound.own_held u live) out))).part
+      (subst (λ (os : List Object). has_object (Held u) os ≡ false) (objects_same ev (present V) (V.without X) (quiet_objects V ev sound clear X quiet))
+      (unreserved V sound kept.formed ev clear (Held u) u (sound.own_held u live) out))).part
 
   -- two sets that leave out this number alike
   alike : (X Y : Starters) (u : ℕ) → X u ≡ Y u → (V.without X).held u ≡ (V.without Y).held u
@@ -122,8 +121,8 @@ module _ (V : View) (sound : IsSound V) (kept : IsWellFormedView V) (form : IsWe
       by : (b : Bool) → (s == u) ≡ b → (after_if (not b) ev (V.without (just u))).held u ≡ []
       by true e = kept.left u
       by false e =
-          let no : has (Held u) (objects ev (V.without (just u))) ≡ false =
-          false_unless (has (Held u) (objects ev (V.without (just u)))) (λ h. both_ways (s == u) e (eq-eqb s u (sym (fits.holds (V.without (just u)) u h)))) in
+          let no : has_object (Held u) (objects ev (V.without (just u))) ≡ false =
+          false_unless (has_object (Held u) (objects ev (V.without (just u)))) (λ h. both_ways (s == u) e (eq-eqb s u (sym (fits.holds (V.without (just u)) u h)))) in
           after_holds ev (V.without (just u)) u ∙ (other_part ev (V.without (just u)) (Held u) no).part ∙ kept.left u
   left_live (Commits s) ev p passes fits u live = by (u == s) refl
     where
@@ -135,16 +134,16 @@ module _ (V : View) (sound : IsSound V) (kept : IsWellFormedView V) (form : IsWe
           let was : is_live V.table u ≡ true = sym (of_unmarked u s (V.table.marks u) ∙ rw e refl) ∙ live in
           let out : is_member_of V.table u (actor ev) ≡ false =
           false_unless (is_member_of V.table u (actor ev)) (λ h. both_ways (u == s) e (eq-eqb u s (of_unique u s (V.table.marks (actor ev)) h fits))) in
-          let same : less_one s (just u) u ≡ just u u = rw e refl in
-          quiet_held ev passes (less_one s (just u)) (commits_quiet V ev s fits (just u)) u was out ∙ alike (less_one s (just u)) (just u) u same ∙ kept.left u
+          let same : starters_without s (just u) u ≡ just u u = rw e refl in
+          quiet_held ev passes (starters_without s (just u)) (commits_quiet V ev s fits (just u)) u was out ∙ alike (starters_without s (just u)) (just u) u same ∙ kept.left u
   left_live (Aborts s k) ev p passes fits u live =
-      subst (λ (x : Event). (after x (V.without (with_one s (just u)))).held u ≡ []) (sym fits.1.1) (note_left fits.1.0)
+      subst (λ (x : Event). (after x (V.without (starters_with s (just u)))).held u ≡ []) (sym fits.1.1) (note_left fits.1.0)
     where
-      same : with_one s (just u) u ≡ just u u
+      same : starters_with s (just u) u ≡ just u u
       same = elim (cases_Bool (u == s)) [ inl e ↦ rw (e, self u) refl | inr e ↦ rw e refl ]
 
-      note_left : (r : ℤ) → (after (Note s r) (V.without (with_one s (just u)))).held u ≡ []
-      note_left r = note_held s r (V.without (with_one s (just u))) u ∙ alike (with_one s (just u)) (just u) u same ∙ kept.left u
+      note_left : (r : ℤ) → (after (Note s r) (V.without (starters_with s (just u)))).held u ≡ []
+      note_left r = note_held s r (V.without (starters_with s (just u))) u ∙ alike (starters_with s (just u)) (just u) u same ∙ kept.left u
 
   left_by : (r : Role) (ev : Event) (p : ℕ) → Passes r ev V → Fits r ev p V → IsWellFormedWith (table_after r p V.table) (present (next_by r ev p V)) → (u : ℕ)
       → ((next_by r ev p V).without (just u)).held u ≡ []

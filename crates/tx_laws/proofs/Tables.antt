@@ -3,7 +3,7 @@ use Rattle.std.proofs.Common.{◌≡◌, ℕ, Bool, true, false, Option, Some, N
 use Rattle.std.proofs.lemmas.Bool.{both_ways, cases_Bool}
 use Rattle.tx_base.specs.declared.marks.Mark.{Mark}
 use Rattle.tx_model.specs.State.{put_at}
-use Rattle.tx_model.specs.Membership.{Table, is_of, is_member_of, is_live, Progress, Continues, Parks, Forks, Begins, Within, parked, defers_in, new_mark, unmarked, table_after}
+use Rattle.tx_model.specs.Membership.{Table, is_of, is_member_of, is_live, Progress, Continues, Parks, Forks, Begins, Within, parked_mark, defers_in, new_mark, mark_unless_of, table_after}
 
 -- two numbers compare alike in either order
 pub eq_comm : (s t : ℕ) → (s == t) ≡ (t == s)
@@ -20,11 +20,11 @@ of_unique s t (Some m) h k = sym (eqb-true m.starter.0 s h) ∙ eqb-true m.start
 pub of_none : (t : ℕ) (x : Option Mark) → x ≡ None → is_of t x ≡ false
 of_none t x h = rw h refl
 
-pub of_parked : (t : ℕ) (x : Option Mark) → is_of t (parked x) ≡ is_of t x
+pub of_parked : (t : ℕ) (x : Option Mark) → is_of t (parked_mark x) ≡ is_of t x
 of_parked t None = refl
 of_parked t (Some m) = refl
 
-pub of_unmarked : (t s : ℕ) (x : Option Mark) → is_of t (unmarked s x) ≡ (if t == s then false else is_of t x)
+pub of_unmarked : (t s : ℕ) (x : Option Mark) → is_of t (mark_unless_of s x) ≡ (if t == s then false else is_of t x)
 of_unmarked t s None = by (t == s)
   where
     by : (b : Bool) → false ≡ (if b then false else false)
@@ -79,10 +79,10 @@ put_lives t s c defers own u h = by (u == c) (λ e. eqb-true u c e)
 pub continues_grows : (t : Table) (s p : ℕ) → is_live t s ≡ true → Grows t s (table_after (Within s Continues) p t) (joins_by Continues p)
 continues_grows t s p live = record { members = λ u q h. inl h; lives = λ u h. h; live = live; width = refl }
 
-parked_at : (t : Table) (p u q : ℕ) → is_of u (put_at t.marks p (parked (t.marks p)) q) ≡ is_of u (t.marks q)
+parked_at : (t : Table) (p u q : ℕ) → is_of u (put_at t.marks p (parked_mark (t.marks p)) q) ≡ is_of u (t.marks q)
 parked_at t p u q = by (q == p) (λ e. eqb-true q p e)
   where
-    by : (b : Bool) → (b ≡ true → q ≡ p) → is_of u (if b then parked (t.marks p) else t.marks q) ≡ is_of u (t.marks q)
+    by : (b : Bool) → (b ≡ true → q ≡ p) → is_of u (if b then parked_mark (t.marks p) else t.marks q) ≡ is_of u (t.marks q)
     by true e = of_parked u (t.marks p) ∙ ap (λ (x : ℕ). is_of u (t.marks x)) (sym (e refl))
     by false e = refl
 

@@ -1,5 +1,5 @@
 -- An accepted step goes with what it is to the transactions.
-use Rattle.std.proofs.Common.{◌≡◌, ◌<◌, ◌≤◌, ℕ, zero, suc, Bool, true, false, not, ◌∷◌, ℤ, pos, negsuc, Option, Some, None, is_some, if◌then◌else◌, refl, sym, ap, ap₂, ◌∙◌, subst, inl, inr, eq-eqb, arith, ltb-true}
+use Rattle.std.proofs.Common.{◌≡◌, ◌<◌, ◌≤◌, ℕ, zero, suc, Bool, true, false, not, ℤ, pos, negsuc, Option, Some, None, is_some, if◌then◌else◌, refl, sym, ap, ap₂, ◌∙◌, subst, inl, inr, eq-eqb, arith, ltb-true, List}
 use Rattle.std.proofs.lemmas.Bool.{both_ways, not-false, cases_Bool, cases_eq}
 use Rattle.tx_base.specs.declared.marks.Mark.{Mark}
 use Rattle.tx_base.specs.declared.names.Pid.{Pid}
@@ -11,20 +11,21 @@ use Rattle.tx_base.specs.declared.steps.Reply.{Reply}
 use Rattle.tx_base.specs.declared.steps.Reply.TheVariants.{Aborted}
 use Rattle.tx_base.specs.declared.steps.Step.{Step}
 use Rattle.tx_base.specs.declared.steps.Step.TheVariants.{Call as Calls, Deliver, KernelAbort}
-use Rattle.tx_model.specs.State.{Process, State, Sending, Proc, Held, has, is_between}
+use Rattle.tx_model.specs.State.{State, Sending, Proc, Held, has_object, is_between, Object}
 use Rattle.tx_model.specs.Numbers.{negative}
 use Rattle.tx_model.specs.Effects.{Inside}
 use Rattle.tx_model.specs.Descriptors.{open_in, desc_objects}
-use Rattle.tx_model.specs.Processes.{fork_objects}
-use Rattle.tx_model.specs.Calls.{MakesCall, TakesSignal, objects_at}
-use Rattle.tx_model.specs.Events.{Event, Do, Note, Commit, process_of, actor, effect, objects, step_effect, step_objects, reply_of}
-use Rattle.tx_model.specs.Membership.{Table, is_member_of, is_live, inside_by, Progress, Continues, Parks, Forks, Begins, Role, Outside, Within, Commits, Aborts, Kind, Ordinary, Forking, Beginning, Leaving, Aborting, kind_of, says_ended, others_open, member_end_role, ordinary_role, called_by_status, kind_role, role, kind_event, step_event, event_in, event}
+use Rattle.tx_model.specs.Book.{page_of_call}
+use Rattle.tx_model.specs.BookLaws.{names_as}
+use Rattle.tx_model.specs.Words.{kind_of, member_end_role, ordinary_role, IsClear, unless_refused, fork_objects, called_by_status, has_bad_number, has_number_in_use, is_stopped_by_kill, busy, kind_role}
+use Rattle.tx_model.specs.Events.{Event, Do, Note, Commit, process_of, actor, effect, objects, step_effect, reply_of}
+use Rattle.tx_model.specs.Membership.{Table, is_member_of, is_live, inside_by, Progress, Continues, Parks, Forks, Begins, Role, Outside, Within, Commits, Aborts, Kind, Ordinary, Forking, Beginning, Leaving, Aborting, says_ended, others_open, role, kind_event, step_event, event_in, event}
 use Rattle.tx_model.specs.History.{is_other_starter}
-use Rattle.tx_model.specs.View.{View, present, kernel_status, abort_status, first_reply, role_on, event_on, in_way, least, holder, IsClear}
-use Rattle.tx_model.specs.Answer.{is_running, is_there, has_bad_number, has_number_in_use, is_doomed_at, is_parked, is_held_by_kill, busy, refusal, plain_reply, accepted_reply, unless_refused, answer, IsAccepted}
+use Rattle.tx_model.specs.View.{View, present, kernel_status, abort_status, first_reply, role_on, event_on, in_way, least, starter_in_way}
+use Rattle.tx_model.specs.Answer.{is_running, is_there, is_doomed_at, is_parked, refusal, plain_reply, accepted_reply, answer, IsAccepted}
 use Rattle.tx_laws.specs.Sound.{IsSound}
 use Rattle.tx_laws.proofs.Objects.{has_head, has_tail}
-use Rattle.tx_laws.proofs.OfActs.{act_sends, act_holds}
+use Rattle.tx_laws.proofs.OfActs.{act_sends, act_holds, runs_some}
 use Rattle.tx_laws.proofs.Tables.{of_unique, of_none}
 use Rattle.tx_laws.specs.Fits.{IsIn, ProgressFits, FitsWithin, Fits, Passes}
 
@@ -60,7 +61,7 @@ pub between_le : (limit n : ℕ) → is_between limit n ≡ true → n ≤ limit
 between_le limit zero h = omega arith
 between_le limit (suc n) h = let k : n < limit = ltb-true n limit h in omega arith
 
-pub clear_of : (V : View) (ev : Event) → IsSound V → holder V ev ≡ None → IsClear V ev
+pub clear_of : (V : View) (ev : Event) → IsSound V → starter_in_way V ev ≡ None → IsClear V ev
 clear_of V ev sound h s live = least_none (in_way V ev) V.table.width h s (between_le V.table.width s (sound.bounded s s live))
 
 pub if_none : (b : Bool) (why : Refusal) (rest : Option Refusal) → (if b then Some why else rest) ≡ None → (b ≡ false) × (rest ≡ None)
@@ -76,7 +77,7 @@ pub record IsUnrefused (V : View) (p : ℕ) (step : Step) : Type 0 where
   pub there : is_there V p ≡ true
   pub running : is_running ((present V).procs p) ≡ true
   pub number : has_bad_number V.table.width step ≡ false
-  pub clear : holder V (event_on V step) ≡ None
+  pub clear : starter_in_way V (event_on V step) ≡ None
 
 pub unrefused : (V : View) (p : ℕ) (step : Step) → refusal V p step ≡ None → IsUnrefused V p step
 unrefused V p step h =
@@ -86,8 +87,8 @@ unrefused V p step h =
     let d = if_none (has_number_in_use (present V) step) NumberTaken _ c.1 in
     let e = if_none (is_doomed_at V (V.table.marks p)) Doomed _ d.1 in
     let f = if_none (is_parked (V.table.marks p)) Parked _ e.1 in
-    let g = if_none (is_held_by_kill (present V) p step) KillPending _ f.1 in
-    record { there = not-false (is_there V p) a.0; running = not-false (is_running ((present V).procs p)) b.0; number = c.0; clear = busy_none (holder V (event_on V step)) g.1 }
+    let g = if_none (is_stopped_by_kill (present V) p step) KillPending _ f.1 in
+    record { there = not-false (is_there V p) a.0; running = not-false (is_running ((present V).procs p)) b.0; number = c.0; clear = busy_none (starter_in_way V (event_on V step)) g.1 }
 
 -- a member of the transaction is no live starter of another
 no_other : (t : Table) (s p n : ℕ) → is_member_of t s p ≡ true → is_member_of t s n ≡ true → is_other_starter t p n ≡ false
@@ -104,27 +105,20 @@ no_other t s p n mine theirs = by (is_live t n) refl
 record StaysWithin (V : View) (s p : ℕ) (ev : Event) : Type 0 where
   actor_is : actor ev ≡ p
   sends : (S : State) (m : Sending) → IsIn m (effect ev S).sends → is_other_starter V.table (actor ev) m.target ≡ false
-  holds : (S : State) (u : ℕ) → has (Held u) (objects ev S) ≡ true → u ≡ s
+  holds : (S : State) (u : ℕ) → has_object (Held u) (objects ev S) ≡ true → u ≡ s
 
 note_within : (V : View) (s p : ℕ) (r : ℤ) → StaysWithin V s p (Note p r)
-unfolding effect objects has
+unfolding effect objects has_object
 note_within V s p r = record { actor_is = refl; sends = λ S m i. absurd i; holds = λ S u h. cc }
 
 step_sends : (step : Step) (i : Inside) (S : State) → i.members (process_of step) ≡ true → (m : Sending) → IsIn m (step_effect step (Some i) S).sends → i.members m.target ≡ true
-step_sends (Calls p call) i S member m h = act_sends (Some i) p.0 (MakesCall call) i refl S member m h
-step_sends (Deliver p signo) i S member m h = act_sends (Some i) p.0 (TakesSignal signo.0) i refl S member m h
 step_sends (KernelAbort s) i S member m h = absurd h
+step_sends step i S member m h = act_sends (Some i) (process_of step) step i refl S member m h
 
 -- what a member sends at once goes to members
 pub do_sends : (step : Step) (i : Inside) (S : State) (m : Sending) → i.members (process_of step) ≡ true → IsIn m (effect (Do step (Some i)) S).sends → i.members m.target ≡ true
 unfolding effect
 do_sends step i S m member h = step_sends step i S member m h
-
-step_holds : (step : Step) (i : Inside) (S : State) (u : ℕ) → has (Held u) (step_objects step (Some i) S) ≡ true → u ≡ i.starter
-unfolding has
-step_holds (Calls p call) i S u h = act_holds (Some i) p.0 (MakesCall call) i refl S u h
-step_holds (Deliver p signo) i S u h = act_holds (Some i) p.0 (TakesSignal signo.0) i refl S u h
-step_holds (KernelAbort s) i S u h = cc
 
 within_fits : (V : View) (s p : ℕ) (part : Progress) (ev : Event) → StaysWithin V s p ev → ((t : ℕ) → is_member_of V.table t p ≡ true → t ≡ s) → ProgressFits V s p ev part → FitsWithin s part ev p V
 within_fits V s p part ev own mine f = record { actor_is = own.actor_is; mine = mine; progress_fits = f; sends = own.sends; holds = own.holds }
@@ -144,7 +138,7 @@ module _ (V : View) (p : ℕ) (m : Mark) (e : V.table.marks p ≡ Some m) where
         let mine : is_member_of V.table m.starter.0 (process_of step) ≡ true = subst (λ (q : ℕ). is_member_of V.table m.starter.0 q ≡ true) (sym is) member_is in
         no_other V.table m.starter.0 (process_of step) n.target mine
         (step_sends step (record { starter = m.starter.0; members = is_member_of V.table m.starter.0; defers = m.defers }) S mine n h);
-    holds = λ S u h. step_holds step (record { starter = m.starter.0; members = is_member_of V.table m.starter.0; defers = m.defers }) S u h;
+    holds = λ S u h. act_holds (inside_by V.table (Some m)) (process_of step) step (record { starter = m.starter.0; members = is_member_of V.table m.starter.0; defers = m.defers }) refl S u h;
   }
 
   ending_fits : (ev : Event) → StaysWithin V m.starter.0 p ev → (b : Bool) → Fits (member_end_role b m.starter.0) (event_in (member_end_role b m.starter.0) ev) p V
@@ -161,7 +155,7 @@ none_fits V p ev e is t = of_none t (V.table.marks (actor ev)) (ap V.table.marks
 -- where the step forks, the child is one of its objects, and has a good number
 abbrev ForksWell : View → Step → Kind → Type 0
 ForksWell V step Ordinary = Unit {0}
-ForksWell V step (Forking c) = ((inside : Option Inside) → has (Proc c) (objects (Do step inside) (present V)) ≡ true) × (is_between V.table.width c ≡ true)
+ForksWell V step (Forking c) = ((inside : Option Inside) → has_object (Proc c) (objects (Do step inside) (present V)) ≡ true) × (is_between V.table.width c ≡ true)
 ForksWell V step (Beginning defers) = Unit {0}
 ForksWell V step Leaving = Unit {0}
 ForksWell V step Aborting = Unit {0}
@@ -186,18 +180,14 @@ kind_fits V p step r is sound b run Aborting f None e = none_fits V p (Note p (n
 kind_fits V p step r is sound b run Aborting f (Some m) e =
     (sound.owned_live m.starter.0 (Proc p) (sound.own_procs m.starter.0 p (member_is V p m e)), (negative called_by_status, refl))
 
--- a process that runs and forks names its child
-running_forks : (inside : Option Inside) (p c : ℕ) (child : Pid) (S : State) (x : Option Process) → is_running x ≡ true → child.0 ≡ c
-    → has (Proc c) (Proc p ∷ objects_at inside p (MakesCall (Fork child)) S x) ≡ true
-running_forks inside p c child S None h e = cc
-running_forks inside p c child S (Some me) h e =
-    has_tail (Proc c) (Proc p) (fork_objects child.0 me) (subst (λ (n : ℕ). has (Proc n) (fork_objects child.0 me) ≡ true) e (has_head (Proc child.0) (desc_objects (open_in me.descriptors))))
-
 forks_well : (V : View) (pid : Pid) (call : Call) → is_running ((present V).procs pid.0) ≡ true → has_bad_number V.table.width (Calls pid call) ≡ false
     → ForksWell V (Calls pid call) (kind_of call)
 unfolding objects
 forks_well V pid (Fork child) h n = (
-  λ inside. running_forks inside pid.0 child.0 child (present V) ((present V).procs pid.0) h refl,
+  λ inside.
+      let r = runs_some ((present V).procs pid.0) h in
+      subst (λ (os : List Object). has_object (Proc child.0) os ≡ true) (sym (names_as inside pid.0 (page_of_call (Fork child)) (present V) r.0 r.1))
+      (has_tail (Proc child.0) (Proc pid.0) (fork_objects child.0 r.0) (has_head (Proc child.0) (desc_objects (open_in r.0.descriptors)))),
   not-false (is_between V.table.width child.0) n,
 )
 forks_well V pid SysXbegin h n = tt

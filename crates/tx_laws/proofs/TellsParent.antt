@@ -4,10 +4,10 @@ use Rattle.std.proofs.lemmas.Bool.{both_ways}
 use Rattle.tx_base.specs.declared.steps.Call.TheVariants as call
 use Rattle.tx_base.specs.declared.steps.Step.{Step}
 use Rattle.tx_base.specs.declared.steps.Step.TheVariants.{Call as Calls, Deliver, KernelAbort}
-use Rattle.tx_model.specs.State.{Process, State, Sending, written}
-use Rattle.tx_model.specs.Posts.{is_quiet, post_answer, answers}
+use Rattle.tx_model.specs.State.{Process, State, Sending, with_writes}
+use Rattle.tx_model.specs.Posts.{is_quiet, post_answer, post_answers}
 use Rattle.tx_model.specs.Effects.{Inside, Effect, failed_sends, send_answers}
-use Rattle.tx_model.specs.Processes.{Telling, NotTold, AtOnce, AtCommit, told_to, told_at_once, telling}
+use Rattle.tx_model.specs.Processes.{Notice, NotTold, AtOnce, AtCommit, child_notice, notice_now, parent_notice}
 use Rattle.tx_model.specs.Deliveries.{delivered_value, ends_by}
 use Rattle.tx_model.specs.Answer.{is_running}
 use Rattle.tx_model.specs.Events.{Do, process_of, effect, reply_of}
@@ -24,20 +24,20 @@ use Rattle.tx_laws.proofs.TableHistory.{not_own}
 use Rattle.tx_laws.proofs.Turns.{Turn, Stays, Sends, Grows, Reaps, Ends, orphan_some, step_turn}
 
 -- SIGCHLD is answered 0 by any process that is there
-told_answer : (parent : ℕ) (x : Option Process) → is_some x ≡ true → post_answer (told_to parent) x ≡ pos 0
+told_answer : (parent : ℕ) (x : Option Process) → is_some x ≡ true → post_answer (child_notice parent) x ≡ pos 0
 told_answer parent None h = cc
-told_answer parent (Some q) h = by (is_quiet (told_to parent) q)
+told_answer parent (Some q) h = by (is_quiet (child_notice parent) q)
   where
     by : (b : Bool) → (if b then pos 0 else pos 0) ≡ pos 0
     by true = refl
     by false = refl
 
 -- the parent is there when it is told
-told_reaches : (way : Telling) (parent : ℕ) (T : State) → is_some (T.procs parent) ≡ true
-    → failed_sends (told_at_once way parent) (answers (told_at_once way parent) T) ≡ []
-unfolding answers
+told_reaches : (way : Notice) (parent : ℕ) (T : State) → is_some (T.procs parent) ≡ true
+    → failed_sends (notice_now way parent) (post_answers (notice_now way parent) T) ≡ []
+unfolding post_answers
 told_reaches NotTold parent T there = refl
-told_reaches AtOnce parent T there = ap (λ (r : ℤ). failed_sends (told_to parent ∷ []) (r ∷ [])) (told_answer parent (T.procs parent) there)
+told_reaches AtOnce parent T there = ap (λ (r : ℤ). failed_sends (child_notice parent ∷ []) (r ∷ [])) (told_answer parent (T.procs parent) there)
 told_reaches (AtCommit s) parent T there = refl
 
 -- an effect that ends its process, which is not process 1
@@ -48,8 +48,8 @@ turn_answered inside p S me f form here ne ends (Sends goes i is m sender room s
 turn_answered inside p S me f form here ne ends (Grows goes c free child others held) = absurd (both_ways (concludes_ended f.conclusion) goes ends)
 turn_answered inside p S me f form here ne ends (Reaps goes t was now others held) = absurd (both_ways (concludes_ended f.conclusion) goes ends)
 turn_answered inside p S me f form here ne ends (Ends is parent was now others sends told) =
-    subst (λ (ms : List Sending). failed_sends ms (answers ms (written f.writes S)) ≡ []) (sym sends)
-    (told_reaches (telling inside parent) parent (written f.writes S) there)
+    subst (λ (ms : List Sending). failed_sends ms (post_answers ms (with_writes f.writes S)) ≡ []) (sym sends)
+    (told_reaches (parent_notice inside parent) parent (with_writes f.writes S) there)
   where
     same : me.parent ≡ parent
     same = let own : Some me.parent ≡ Some parent = sym (ap parent_of here) ∙ parent_is (S.procs p) parent true was in cc
@@ -57,9 +57,9 @@ turn_answered inside p S me f form here ne ends (Ends is parent was now others s
     apart : parent ≢ p
     apart z = (form.placed p me here).other (same ∙ z)
 
-    there : is_some ((written f.writes S).procs parent) ≡ true
+    there : is_some ((with_writes f.writes S).procs parent) ≡ true
     there =
-        orphan_some p (S.procs parent) ((written f.writes S).procs parent) (others parent apart)
+        orphan_some p (S.procs parent) ((with_writes f.writes S).procs parent) (others parent apart)
         (running_some (S.procs parent) (subst (λ (n : ℕ). is_running (S.procs n) ≡ true) same ((form.placed p me here).parent ne)))
 
 -- process 1 does not end

@@ -1,16 +1,17 @@
 -- A kernel of two parts an object has the view of its history.
 use Rattle.std.proofs.Common.{◌≡◌, ℕ, Bool, true, false, not, List, [], ℤ, Option, Some, None, is_none, if◌then◌else◌, ◌==◌, refl, sym, ap, ap₂, ◌∙◌, subst, inl, inr, ◌⊎◌, eq-eqb, eqb-true}
 use Rattle.std.proofs.lemmas.Bool.{both_ways, cases_Bool}
-use Rattle.tx_model.specs.State.{State, Object, Proc, Desc, Pipe, Held, has}
-use Rattle.tx_model.specs.Posts.{answers}
-use Rattle.tx_model.specs.Effects.{Effect, send_answers, applied}
-use Rattle.tx_model.specs.Events.{Event, Note, note_effect, effect, after, run}
+use Rattle.tx_model.specs.State.{State, Object, Proc, Desc, Pipe, Held, has_object}
+use Rattle.tx_model.specs.Posts.{post_answers}
+use Rattle.tx_model.specs.Effects.{Effect, send_answers, after_effect}
+use Rattle.tx_model.specs.Events.{Event, Note, effect, after, run}
 use Rattle.tx_model.specs.Membership.{Table, empty_table, is_member_of, is_live, Progress, Role, Outside, Within, Commits, Aborts, table_after}
-use Rattle.tx_model.specs.History.{Starters, survivors, without, table_of, touched_of, nobody, just, with_one, less_one, event_footprint, objects_reserved}
-use Rattle.tx_model.specs.View.{View, view, IsClear, after_if, next_by}
+use Rattle.tx_model.specs.History.{Starters, survivors, without, table_of, reserved_of, nobody, just, event_footprint, objects_reserved}
+use Rattle.tx_model.specs.View.{View, view}
+use Rattle.tx_model.specs.Words.{IsClear, after_if, next_by, note_effect, starters_with, starters_without}
 use Rattle.tx_model.specs.StateLaws.{state_ext, AgreePart}
 use Rattle.tx_laws.specs.Sound.{IsSound}
-use Rattle.tx_laws.specs.TwoParts.{TwoParts, in_set, is_owner, pick, parts_without, parts_view, freed, reserved, on_both, parts_next}
+use Rattle.tx_laws.specs.TwoParts.{TwoParts, in_set, is_owner, pick, parts_without, parts_view, freed, with_reserved, on_both, parts_next}
 use Rattle.tx_laws.proofs.Agree.{part_refl, part_sym, part_trans, applied_part, applied_width}
 use Rattle.tx_laws.proofs.Local.{after_width}
 use Rattle.tx_laws.proofs.Tables.{eq_comm}
@@ -40,7 +41,7 @@ pick_same P Q S R S' R' o e y n =
 pub after_part : (ev : Event) (S R : State) → effect ev S ≡ effect ev R → send_answers (effect ev S) S ≡ send_answers (effect ev R) R → (o : Object) → AgreePart S R o → AgreePart (after ev S) (after ev R) o
 unfolding after
 after_part ev S R e a o h =
-    subst (λ (x : Effect × List ℤ). AgreePart (applied (effect ev S) (send_answers (effect ev S) S) S) (applied x.0 x.1 R) o)
+    subst (λ (x : Effect × List ℤ). AgreePart (after_effect (effect ev S) (send_answers (effect ev S) S) S) (after_effect x.0 x.1 R) o)
     (ap₂ (λ (x : Effect) (y : List ℤ). (x, y)) e a) (applied_part (effect ev S) (send_answers (effect ev S) S) S R o h)
 
 in_nobody : (x : Option ℕ) → in_set nobody x ≡ false
@@ -74,18 +75,18 @@ both_sides c ev S owner table X Y e a w old now =
     let f : Effect = effect ev S in
     let rs : List ℤ = send_answers f S in
     let W : State = parts_without c X in
-    state_ext (parts_without (on_both ev S c owner table) Y) (applied f rs W) (applied_width f rs S ∙ w ∙ sym (applied_width f rs W)) (λ o.
+    state_ext (parts_without (on_both ev S c owner table) Y) (after_effect f rs W) (applied_width f rs S ∙ w ∙ sym (applied_width f rs W)) (λ o.
     elim (cases_Bool (in_set Y (owner o))) [
-      | inl h ↦ part_trans (parts_without (on_both ev S c owner table) Y) (applied f rs c.kept) (applied f rs W) o
-          (pick_true (λ o. in_set Y (owner o)) (applied f rs c.kept) (applied f rs S) o h)
+      | inl h ↦ part_trans (parts_without (on_both ev S c owner table) Y) (after_effect f rs c.kept) (after_effect f rs W) o
+          (pick_true (λ o. in_set Y (owner o)) (after_effect f rs c.kept) (after_effect f rs S) o h)
           (applied_part f rs c.kept W o (kept_at c X o (old o h)))
-      | inr h ↦ part_trans (parts_without (on_both ev S c owner table) Y) (applied f rs S) (applied f rs W) o
-          (pick_false (λ o. in_set Y (owner o)) (applied f rs c.kept) (applied f rs S) o h)
+      | inr h ↦ part_trans (parts_without (on_both ev S c owner table) Y) (after_effect f rs S) (after_effect f rs W) o
+          (pick_false (λ o. in_set Y (owner o)) (after_effect f rs c.kept) (after_effect f rs S) o h)
           (applied_part f rs S W o (now o h))
     ])
-    ∙ ap₂ (λ (g : Effect) (qs : List ℤ). applied g qs W) e a
+    ∙ ap₂ (λ (g : Effect) (qs : List ℤ). after_effect g qs W) e a
 
-freed_same : (s : ℕ) (X : Starters) (x : Option ℕ) → in_set X (freed s x) ≡ in_set (less_one s X) x
+freed_same : (s : ℕ) (X : Starters) (x : Option ℕ) → in_set X (freed s x) ≡ in_set (starters_without s X) x
 freed_same s X None = refl
 freed_same s X (Some t) = by (t == s)
   where
@@ -93,7 +94,7 @@ freed_same s X (Some t) = by (t == s)
     by true = refl
     by false = refl
 
-freed_with : (s : ℕ) (X : Starters) (x : Option ℕ) → in_set X (freed s x) ≡ true → in_set (with_one s X) x ≡ true
+freed_with : (s : ℕ) (X : Starters) (x : Option ℕ) → in_set X (freed s x) ≡ true → in_set (starters_with s X) x ≡ true
 freed_with s X None h = h
 freed_with s X (Some t) h = by (t == s) h
   where
@@ -101,7 +102,7 @@ freed_with s X (Some t) h = by (t == s) h
     by true k = refl
     by false k = k
 
-freed_just : (s : ℕ) (X : Starters) (x : Option ℕ) → in_set X (freed s x) ≡ false → in_set (just s) x ≡ in_set (with_one s X) x
+freed_just : (s : ℕ) (X : Starters) (x : Option ℕ) → in_set X (freed s x) ≡ false → in_set (just s) x ≡ in_set (starters_with s X) x
 freed_just s X None h = refl
 freed_just s X (Some t) h = by (t == s) h
   where
@@ -126,25 +127,25 @@ outside_view c ev p sound clear out X =
     both_sides c ev c.now c.owner (table_after Outside p c.table) X X (now_effect c ev sound clear X quiet) (now_sent c ev sound clear X quiet) refl (λ o h. h) (λ o h. now_at c X o h)
 
 commits_view : (c : TwoParts) (ev : Event) (s p : ℕ) → IsSound (parts_view c) → IsClear (parts_view c) ev → Fits (Commits s) ev p (parts_view c) → (X : Starters)
-    → parts_without (on_both ev c.now c (λ o. freed s (c.owner o)) (table_after (Commits s) p c.table)) X ≡ after ev (parts_without c (less_one s X))
+    → parts_without (on_both ev c.now c (λ o. freed s (c.owner o)) (table_after (Commits s) p c.table)) X ≡ after ev (parts_without c (starters_without s X))
 commits_view c ev s p sound clear mine X =
-    let quiet : IsQuiet (parts_view c) ev (less_one s X) = commits_quiet (parts_view c) ev s mine X in
-    both_sides c ev c.now (λ o. freed s (c.owner o)) (table_after (Commits s) p c.table) (less_one s X) X
-    (now_effect c ev sound clear (less_one s X) quiet) (now_sent c ev sound clear (less_one s X) quiet) refl
-    (λ o h. sym (freed_same s X (c.owner o)) ∙ h) (λ o h. now_at c (less_one s X) o (sym (freed_same s X (c.owner o)) ∙ h))
+    let quiet : IsQuiet (parts_view c) ev (starters_without s X) = commits_quiet (parts_view c) ev s mine X in
+    both_sides c ev c.now (λ o. freed s (c.owner o)) (table_after (Commits s) p c.table) (starters_without s X) X
+    (now_effect c ev sound clear (starters_without s X) quiet) (now_sent c ev sound clear (starters_without s X) quiet) refl
+    (λ o h. sym (freed_same s X (c.owner o)) ∙ h) (λ o h. now_at c (starters_without s X) o (sym (freed_same s X (c.owner o)) ∙ h))
 
 aborts_view : (c : TwoParts) (r : ℤ) (s k p : ℕ) → IsSound (parts_view c) → is_live c.table s ≡ true → (X : Starters)
-    → parts_without (on_both (Note s r) (parts_without c (just s)) c (λ o. freed s (c.owner o)) (table_after (Aborts s k) p c.table)) X ≡ after (Note s r) (parts_without c (with_one s X))
-unfolding effect answers parts_view
+    → parts_without (on_both (Note s r) (parts_without c (just s)) c (λ o. freed s (c.owner o)) (table_after (Aborts s k) p c.table)) X ≡ after (Note s r) (parts_without c (starters_with s X))
+unfolding effect post_answers parts_view
 aborts_view c r s k p sound live X =
     let own : c.owner (Proc s) ≡ Some s = owner_true s (c.owner (Proc s)) (sound.own_procs s s live) in
-    let mine : in_set (just s) (c.owner (Proc s)) ≡ in_set (with_one s X) (c.owner (Proc s)) = rw own (rw (eq-eqb s s refl) refl) in
-    let e : (parts_without c (just s)).procs s ≡ (parts_without c (with_one s X)).procs s =
-    pick_same (λ o. in_set (just s) (c.owner o)) (λ o. in_set (with_one s X) (c.owner o)) c.kept c.now c.kept c.now (Proc s) mine (λ _. refl) (λ _. refl) in
-    both_sides c (Note s r) (parts_without c (just s)) (λ o. freed s (c.owner o)) (table_after (Aborts s k) p c.table) (with_one s X) X
+    let mine : in_set (just s) (c.owner (Proc s)) ≡ in_set (starters_with s X) (c.owner (Proc s)) = rw own (rw (eq-eqb s s refl) refl) in
+    let e : (parts_without c (just s)).procs s ≡ (parts_without c (starters_with s X)).procs s =
+    pick_same (λ o. in_set (just s) (c.owner o)) (λ o. in_set (starters_with s X) (c.owner o)) c.kept c.now c.kept c.now (Proc s) mine (λ _. refl) (λ _. refl) in
+    both_sides c (Note s r) (parts_without c (just s)) (λ o. freed s (c.owner o)) (table_after (Aborts s k) p c.table) (starters_with s X) X
     (ap (note_effect s r) e) refl refl
     (λ o h. freed_with s X (c.owner o) h)
-    (λ o h. pick_same (λ o. in_set (just s) (c.owner o)) (λ o. in_set (with_one s X) (c.owner o)) c.kept c.now c.kept c.now o (freed_just s X (c.owner o) h) (λ _. part_refl c.kept o) (λ _. part_refl c.now o))
+    (λ o h. pick_same (λ o. in_set (just s) (c.owner o)) (λ o. in_set (starters_with s X) (c.owner o)) c.kept c.now c.kept c.now o (freed_just s X (c.owner o) h) (λ _. part_refl c.kept o) (λ _. part_refl c.now o))
 
 -- a step inside a transaction
 module _ (c : TwoParts) (ev : Event) (s : ℕ) (part : Progress) (p : ℕ) (sound : IsSound (parts_view c)) (clear : IsClear (parts_view c) ev) (fits : FitsWithin s part ev p (parts_view c)) where
@@ -152,48 +153,48 @@ module _ (c : TwoParts) (ev : Event) (s : ℕ) (part : Progress) (p : ℕ) (soun
   G = objects_reserved part s (event_footprint c.table ev c.now)
 
   abbrev next_parts : TwoParts
-  next_parts = reserved s (objects_reserved part s (event_footprint c.table ev c.now)) ev (table_after (Within s part) p c.table) c
+  next_parts = with_reserved s (objects_reserved part s (event_footprint c.table ev c.now)) ev (table_after (Within s part) p c.table) c
 
   foot_now : event_footprint c.table ev (parts_without c nobody) ≡ event_footprint c.table ev c.now
   foot_now = ap (event_footprint c.table ev) (parts_nobody c)
 
   -- of what is taken, the transaction alone owns anything
-  pub own_taken : (o : Object) (t : ℕ) → has o (objects_reserved part s (event_footprint c.table ev c.now)) ≡ true → c.owner o ≡ Some t → t ≡ s
+  pub own_taken : (o : Object) (t : ℕ) → has_object o (objects_reserved part s (event_footprint c.table ev c.now)) ≡ true → c.owner o ≡ Some t → t ≡ s
   unfolding parts_view
   own_taken o t h k =
-      taken_mine (parts_view c) ev sound clear s part p fits o t (subst (λ (F : List Object). has o (objects_reserved part s F) ≡ true) (sym foot_now) h) (is_owner_self t (c.owner o) k)
+      taken_mine (parts_view c) ev sound clear s part p fits o t (subst (λ (F : List Object). has_object o (objects_reserved part s F) ≡ true) (sym foot_now) h) (is_owner_self t (c.owner o) k)
 
-  foot_out : (o : Object) → has o G ≡ false → has o (event_footprint c.table ev (parts_without c nobody)) ≡ false
-  foot_out o h = subst (λ (F : List Object). has o F ≡ false) (sym foot_now) (by (has o (event_footprint c.table ev c.now)) refl)
+  foot_out : (o : Object) → has_object o G ≡ false → has_object o (event_footprint c.table ev (parts_without c nobody)) ≡ false
+  foot_out o h = subst (λ (F : List Object). has_object o F ≡ false) (sym foot_now) (by (has_object o (event_footprint c.table ev c.now)) refl)
     where
-      by : (b : Bool) → has o (event_footprint c.table ev c.now) ≡ b → b ≡ false
-      by true e = absurd (both_ways (has o G) h (taken_foot part s (event_footprint c.table ev c.now) o e))
+      by : (b : Bool) → has_object o (event_footprint c.table ev c.now) ≡ b → b ≡ false
+      by true e = absurd (both_ways (has_object o G) h (taken_foot part s (event_footprint c.table ev c.now) o e))
       by false e = refl
 
   -- nothing changes outside of what is taken
-  else_without : (X : Starters) → X s ≡ false → (o : Object) → has o G ≡ false → AgreePart (after ev (parts_without c X)) (parts_without c X) o
+  else_without : (X : Starters) → X s ≡ false → (o : Object) → has_object o G ≡ false → AgreePart (after ev (parts_without c X)) (parts_without c X) o
   unfolding parts_view
   else_without X x o h = (within_else (parts_view c) ev sound clear s part p fits X x o (foot_out o h)).part
 
-  pub else_now : (o : Object) → has o (objects_reserved part s (event_footprint c.table ev c.now)) ≡ false → AgreePart (after ev c.now) c.now o
+  pub else_now : (o : Object) → has_object o (objects_reserved part s (event_footprint c.table ev c.now)) ≡ false → AgreePart (after ev c.now) c.now o
   else_now o h = subst (λ (S : State). AgreePart (after ev S) S o) (parts_nobody c) (else_without nobody refl o h)
 
   quiet_of : (X : Starters) → X s ≡ false → IsQuiet (parts_view c) ev X
   quiet_of X x t h = subst (λ (u : ℕ). X u ≡ false) (sym (fits.mine t (subst (λ (q : ℕ). is_member_of (parts_view c).table t q ≡ true) fits.actor_is h))) x
 
   module _ (X : Starters) where
-    own_set : (o : Object) → has o G ≡ true → (b : Bool) → X s ≡ b → (x : Option ℕ) → c.owner o ≡ x → (x ≡ None) ⊎ (in_set X x ≡ b)
+    own_set : (o : Object) → has_object o G ≡ true → (b : Bool) → X s ≡ b → (x : Option ℕ) → c.owner o ≡ x → (x ≡ None) ⊎ (in_set X x ≡ b)
     own_set o h b e None k = inl refl
     own_set o h b e (Some t) k = inr (subst (λ (y : ℕ). X y ≡ b) (sym (own_taken o t h k)) e)
 
-    not_set : (o : Object) → has o G ≡ true → X s ≡ false → in_set X (c.owner o) ≡ false
+    not_set : (o : Object) → has_object o G ≡ true → X s ≡ false → in_set X (c.owner o) ≡ false
     not_set o h e = elim (own_set o h false e (c.owner o) refl) [ inl n ↦ rw n refl | inr n ↦ n ]
 
-    kept_old : (o : Object) → (if has o G then is_none (c.owner o) else false) ≡ false → AgreePart next_parts.kept c.kept o
-    kept_old o h = pick_false (λ o. if has o G then is_none (c.owner o) else false) c.now c.kept o h
+    kept_old : (o : Object) → (if has_object o G then is_none (c.owner o) else false) ≡ false → AgreePart next_parts.kept c.kept o
+    kept_old o h = pick_false (λ o. if has_object o G then is_none (c.owner o) else false) c.now c.kept o h
 
-    kept_new : (o : Object) → (if has o G then is_none (c.owner o) else false) ≡ true → AgreePart next_parts.kept c.now o
-    kept_new o h = pick_true (λ o. if has o G then is_none (c.owner o) else false) c.now c.kept o h
+    kept_new : (o : Object) → (if has_object o G then is_none (c.owner o) else false) ≡ true → AgreePart next_parts.kept c.now o
+    kept_new o h = pick_true (λ o. if has_object o G then is_none (c.owner o) else false) c.now c.kept o h
 
     is_kept : (o : Object) → in_set X (next_parts.owner o) ≡ true → AgreePart (parts_without next_parts X) next_parts.kept o
     is_kept o h = pick_true (λ o. in_set X (next_parts.owner o)) next_parts.kept next_parts.now o h
@@ -203,23 +204,23 @@ module _ (c : TwoParts) (ev : Event) (s : ℕ) (part : Progress) (p : ℕ) (soun
     is_now o h = pick_false (λ o. in_set X (next_parts.owner o)) next_parts.kept next_parts.now o h
 
     left_out : X s ≡ true → (o : Object) → AgreePart (parts_without next_parts X) (parts_without c X) o
-    left_out x o = by (has o G) refl (c.owner o) refl
+    left_out x o = by (has_object o G) refl (c.owner o) refl
       where
         W : State
         W = parts_without next_parts X
 
-        out : has o G ≡ false → (b : Bool) → in_set X (c.owner o) ≡ b → AgreePart W (parts_without c X) o
+        out : has_object o G ≡ false → (b : Bool) → in_set X (c.owner o) ≡ b → AgreePart W (parts_without c X) o
         out h true b = part_trans W next_parts.kept (parts_without c X) o (is_kept o (rw h b)) (part_trans next_parts.kept c.kept (parts_without c X) o (kept_old o (rw h refl)) (kept_at c X o b))
         out h false b = part_trans W (after ev c.now) (parts_without c X) o (is_now o (rw h b)) (part_trans (after ev c.now) c.now (parts_without c X) o (else_now o h) (now_at c X o b))
 
-        by : (b : Bool) → has o G ≡ b → (y : Option ℕ) → c.owner o ≡ y → AgreePart W (parts_without c X) o
+        by : (b : Bool) → has_object o G ≡ b → (y : Option ℕ) → c.owner o ≡ y → AgreePart W (parts_without c X) o
         by true h None k = part_trans W next_parts.kept (parts_without c X) o (is_kept o (rw h x)) (part_trans next_parts.kept c.now (parts_without c X) o (kept_new o (rw (h, k) refl)) (now_at c X o (rw k refl)))
         by true h (Some t) k = part_trans W next_parts.kept (parts_without c X) o (is_kept o (rw h x)) (part_trans next_parts.kept c.kept (parts_without c X) o (kept_old o (rw (h, k) refl))
             (kept_at c X o (rw k (subst (λ (y : ℕ). X y ≡ true) (sym (own_taken o t h k)) x))))
         by false h y k = out h (in_set X (c.owner o)) refl
 
     with_step : X s ≡ false → (o : Object) → AgreePart (parts_without next_parts X) (after ev (parts_without c X)) o
-    with_step x o = by (has o G) refl (in_set X (c.owner o)) refl
+    with_step x o = by (has_object o G) refl (in_set X (c.owner o)) refl
       where
         W : State
         W = parts_without next_parts X
@@ -227,7 +228,7 @@ module _ (c : TwoParts) (ev : Event) (s : ℕ) (part : Progress) (p : ℕ) (soun
         along : in_set X (c.owner o) ≡ false → AgreePart (after ev c.now) (after ev (parts_without c X)) o
         along h = after_part ev c.now (parts_without c X) (now_effect c ev sound clear X (quiet_of X x)) (now_sent c ev sound clear X (quiet_of X x)) o (now_at c X o h)
 
-        by : (b : Bool) → has o G ≡ b → (d : Bool) → in_set X (c.owner o) ≡ d → AgreePart W (after ev (parts_without c X)) o
+        by : (b : Bool) → has_object o G ≡ b → (d : Bool) → in_set X (c.owner o) ≡ d → AgreePart W (after ev (parts_without c X)) o
         by true h d k = part_trans W (after ev c.now) (after ev (parts_without c X)) o (is_now o (rw h x)) (along (not_set o h x))
         by false h false k = part_trans W (after ev c.now) (after ev (parts_without c X)) o (is_now o (rw h k)) (along k)
         by false h true k =
@@ -247,7 +248,7 @@ same_choice : (b c : Bool) → c ≡ (if b then c else c)
 same_choice true c = refl
 same_choice false c = refl
 
--- the touched objects after a step
+-- the reserved objects after a step
 owner_reserved : (s t : ℕ) (h : Bool) (x : Option ℕ) → (h ≡ true → (u : ℕ) → x ≡ Some u → u ≡ s)
     → is_owner t (if h then Some s else x) ≡ (if t == s then (if h then true else is_owner t x) else is_owner t x)
 owner_reserved s t false x own = same_choice (t == s) (is_owner t x)
@@ -278,8 +279,8 @@ owner_freed s t (Some u) = elim (cases_Bool (u == t)) [
     other true e = refl
     other false e = e
 
-pub view_ext : (V U : View) → ((X : Starters) → V.without X ≡ U.without X) → V.table ≡ U.table → ((s : ℕ) (o : Object) → V.touched s o ≡ U.touched s o) → V ≡ U
-view_ext V U w l t = λ i. record { without = λ X. w X i; table = l i; touched = λ s o. t s o i }
+pub view_ext : (V U : View) → ((X : Starters) → V.without X ≡ U.without X) → V.table ≡ U.table → ((s : ℕ) (o : Object) → V.reserved s o ≡ U.reserved s o) → V ≡ U
+view_ext V U w l t = λ i. record { without = λ X. w X i; table = l i; reserved = λ s o. t s o i }
 
 -- the kernel's next two parts have the next view, in every role
 pub parts_next_view : (r : Role) (ev : Event) (p : ℕ) (c : TwoParts) → IsSound (parts_view c) → Passes r ev (parts_view c) → Fits r ev p (parts_view c) → parts_view (parts_next r ev p c) ≡ next_by r ev p (parts_view c)
@@ -288,8 +289,8 @@ parts_next_view Outside ev p c sound clear fits =
     view_ext (parts_view (parts_next Outside ev p c)) (next_by Outside ev p (parts_view c)) (outside_view c ev p sound clear fits) refl (λ s o. refl)
 parts_next_view (Within s part) ev p c sound clear fits =
     view_ext (parts_view (parts_next (Within s part) ev p c)) (next_by (Within s part) ev p (parts_view c)) (within_view c ev s part p sound clear fits) refl
-    (λ t o. owner_reserved s t (has o (objects_reserved part s (event_footprint c.table ev c.now))) (c.owner o) (λ h u k. own_taken c ev s part p sound clear fits o u h k)
-    ∙ ap (λ (F : List Object). if t == s then (if has o (objects_reserved part s F) then true else is_owner t (c.owner o)) else is_owner t (c.owner o)) (sym (foot_now c ev s part p sound clear fits)))
+    (λ t o. owner_reserved s t (has_object o (objects_reserved part s (event_footprint c.table ev c.now))) (c.owner o) (λ h u k. own_taken c ev s part p sound clear fits o u h k)
+    ∙ ap (λ (F : List Object). if t == s then (if has_object o (objects_reserved part s F) then true else is_owner t (c.owner o)) else is_owner t (c.owner o)) (sym (foot_now c ev s part p sound clear fits)))
 parts_next_view (Commits s) ev p c sound clear fits =
     view_ext (parts_view (parts_next (Commits s) ev p c)) (next_by (Commits s) ev p (parts_view c)) (commits_view c ev s p sound clear fits) refl (λ t o. owner_freed s t (c.owner o))
 parts_next_view (Aborts s k) ev p c sound clear fits =
@@ -313,7 +314,7 @@ same_view c d width now owner kept table =
 
 -- a kernel in which nobody owns anything has the view of the empty history of its state
 pub parts_start : (S : State) (c : TwoParts) → c.now ≡ S → ((o : Object) → c.owner o ≡ None) → c.table ≡ empty_table S.width → parts_view c ≡ view S []
-unfolding parts_view view without survivors run table_of touched_of
+unfolding parts_view view without survivors run table_of reserved_of
 parts_start S c now free table =
     view_ext (parts_view c) (view S [])
     (λ X. state_ext (parts_without c X) c.now refl (λ o. pick_false (λ o. in_set X (c.owner o)) c.kept c.now o (ap (in_set X) (free o))) ∙ now)

@@ -9,13 +9,14 @@ use Rattle.tx_base.specs.declared.steps.Reply.TheVariants.{Ended, Committed, Abo
 use Rattle.tx_base.specs.declared.steps.Refusal.TheVariants.{NoTransaction}
 use Rattle.tx_base.specs.declared.steps.Step.{Step}
 use Rattle.tx_base.specs.declared.steps.Step.TheVariants.{Call as Calls, Deliver, KernelAbort}
-use Rattle.tx_model.specs.State.{Process, State, Sending, SetHeld, written, is_between}
-use Rattle.tx_model.specs.Posts.{is_quiet, post_answer, answers}
+use Rattle.tx_model.specs.State.{Process, State, Sending, SetHeld, with_writes, is_between}
+use Rattle.tx_model.specs.Posts.{is_quiet, post_answer, post_answers}
 use Rattle.tx_model.specs.Effects.{Inside, Conclusion, Replies, concluding_reply, send_answers, failed_sends}
-use Rattle.tx_model.specs.Processes.{told_to, NotTold, AtOnce, AtCommit, telling, told_at_once}
-use Rattle.tx_model.specs.Book.{sent_by_members}
+use Rattle.tx_model.specs.Processes.{child_notice, NotTold, AtOnce, AtCommit, parent_notice, notice_now}
+use Rattle.tx_model.specs.Book.{member_sends}
 use Rattle.tx_model.specs.Events.{Event, Do, Note, Commit, effect, reply_of}
-use Rattle.tx_model.specs.Membership.{is_member_of, is_live, inside_by, Parks, Within, Kind, Ordinary, Forking, Beginning, Leaving, Aborting, kind_of, says_ended, others_open, member_end_role, ordinary_role, kind_role, kind_event, event_in, table_after}
+use Rattle.tx_model.specs.Membership.{is_member_of, is_live, inside_by, Parks, Within, Kind, Ordinary, Forking, Beginning, Leaving, Aborting, says_ended, others_open, kind_event, event_in, table_after}
+use Rattle.tx_model.specs.Words.{member_end_role, ordinary_role, kind_of, kind_role}
 use Rattle.tx_model.specs.View.{View, view, present, kernel_status, abort_status}
 use Rattle.tx_model.specs.Answer.{is_running, refusal, plain_reply, accepted_reply, answer, Lawful}
 use Rattle.tx_laws.specs.Sound.{IsSound}
@@ -57,16 +58,16 @@ failed_fewer (m ∷ ms) (pos n ∷ rs) = let k : length (failed_sends ms rs) ≤
 failed_fewer (m ∷ ms) (negsuc n ∷ rs) = let k : length (failed_sends ms rs) ≤ length ms = failed_fewer ms rs in omega arith
 
 -- the kernel's own signal reaches a process that is there
-told_answer : (parent : ℕ) (x : Option Process) → is_some x ≡ true → post_answer (told_to parent) x ≡ pos 0
+told_answer : (parent : ℕ) (x : Option Process) → is_some x ≡ true → post_answer (child_notice parent) x ≡ pos 0
 told_answer parent None h = cc
-told_answer parent (Some q) h = by (is_quiet (told_to parent) q)
+told_answer parent (Some q) h = by (is_quiet (child_notice parent) q)
   where
     by : (b : Bool) → (if b then pos 0 else pos 0) ≡ pos 0
     by true = refl
     by false = refl
 
-failed_told : (parent : ℕ) (ms : List Sending) (X : State) → is_some (X.procs parent) ≡ true → length (failed_sends (told_to parent ∷ ms) (answers (told_to parent ∷ ms) X)) ≤ length ms
-unfolding answers
+failed_told : (parent : ℕ) (ms : List Sending) (X : State) → is_some (X.procs parent) ≡ true → length (failed_sends (child_notice parent ∷ ms) (post_answers (child_notice parent ∷ ms) X)) ≤ length ms
+unfolding post_answers
 failed_told parent ms X h = rw (told_answer parent (X.procs parent) h) (failed_fewer ms _)
 
 -- what a reply lists
@@ -76,8 +77,8 @@ items_in r = []
 
 -- what a commit lists
 listed_by : (s : ℕ) (ev : Event) (S : State) (u : List Missed) → reply_of (Commit s ev) S ≡ Committed (record { items = u })
-    → u ≡ failed_sends ((effect ev S).sends ++ (written (effect ev S).writes S).held s)
-    (answers ((effect ev S).sends ++ (written (effect ev S).writes S).held s) (written ((effect ev S).writes ++ SetHeld s [] ∷ []) S))
+    → u ≡ failed_sends ((effect ev S).sends ++ (with_writes (effect ev S).writes S).held s)
+    (post_answers ((effect ev S).sends ++ (with_writes (effect ev S).writes S).held s) (with_writes ((effect ev S).writes ++ SetHeld s [] ∷ []) S))
 unfolding reply_of effect
 listed_by s ev S u h = sym (ap items_in h)
 
@@ -89,20 +90,20 @@ module _ (V : View) (sound : IsSound V) (kept : IsWellFormedView V) (form : IsWe
   S = present V
 
   -- what it holds as it commits
-  few_held : (ev : Event) → Turn (Some (inner V sound kept.formed form p m e)) p S (effect ev S) → length ((written (effect ev S).writes S).held s) ≤ 33
+  few_held : (ev : Event) → Turn (Some (inner V sound kept.formed form p m e)) p S (effect ev S) → length ((with_writes (effect ev S).writes S).held s) ≤ 33
   few_held ev turn =
-      let k : IsTransaction (table_after (Within s Parks) p V.table) (written (effect ev S).writes S) s = parked_own V sound kept.formed form p m e ev turn in
-      let sent : sent_by_members ((written (effect ev S).writes S).held s) ≤ 32 = k.sent in
-      let told : sent_by_kernel ((written (effect ev S).writes S).held s) ≤ 1 = k.told_once in
-      let all : length ((written (effect ev S).writes S).held s) ≡ sent_by_members ((written (effect ev S).writes S).held s) + sent_by_kernel ((written (effect ev S).writes S).held s) =
-      sent_length ((written (effect ev S).writes S).held s) in
+      let k : IsTransaction (table_after (Within s Parks) p V.table) (with_writes (effect ev S).writes S) s = parked_own V sound kept.formed form p m e ev turn in
+      let sent : member_sends ((with_writes (effect ev S).writes S).held s) ≤ 32 = k.sent in
+      let told : sent_by_kernel ((with_writes (effect ev S).writes S).held s) ≤ 1 = k.told_once in
+      let all : length ((with_writes (effect ev S).writes S).held s) ≡ member_sends ((with_writes (effect ev S).writes S).held s) + sent_by_kernel ((with_writes (effect ev S).writes S).held s) =
+      sent_length ((with_writes (effect ev S).writes S).held s) in
       omega arith
 
   -- where it posts nothing itself
   none_sent : (ev : Event) (u : List Missed) → (effect ev S).sends ≡ [] → reply_of (Commit s ev) S ≡ Committed (record { items = u })
       → Turn (Some (inner V sound kept.formed form p m e)) p S (effect ev S) → length u ≤ 33
   none_sent ev u none h turn =
-      let ms : List Sending = (written (effect ev S).writes S).held s in
+      let ms : List Sending = (with_writes (effect ev S).writes S).held s in
       let few : length ms ≤ 33 = few_held ev turn in
       let list : length u ≤ length ((effect ev S).sends ++ ms) =
       subst (λ (xs : List Missed). length xs ≤ length ((effect ev S).sends ++ ms)) (sym (listed_by s ev S u h)) (failed_fewer ((effect ev S).sends ++ ms) _) in
@@ -110,17 +111,17 @@ module _ (V : View) (sound : IsSound V) (kept : IsWellFormedView V) (form : IsWe
       omega arith
 
   -- where it tells a parent that is a member, the parent is there
-  told_sent : (ev : Event) (u : List Missed) (parent : ℕ) → (effect ev S).sends ≡ told_to parent ∷ [] → is_some ((written (effect ev S).writes S).procs parent) ≡ true
+  told_sent : (ev : Event) (u : List Missed) (parent : ℕ) → (effect ev S).sends ≡ child_notice parent ∷ [] → is_some ((with_writes (effect ev S).writes S).procs parent) ≡ true
       → reply_of (Commit s ev) S ≡ Committed (record { items = u }) → Turn (Some (inner V sound kept.formed form p m e)) p S (effect ev S) → length u ≤ 33
-  unfolding written
+  unfolding with_writes
   told_sent ev u parent one there h turn =
-      let T : State = written (effect ev S).writes S in
+      let T : State = with_writes (effect ev S).writes S in
       let few : length (T.held s) ≤ 33 = few_held ev turn in
-      let after_all : State = written ((effect ev S).writes ++ SetHeld s [] ∷ []) S in
+      let after_all : State = with_writes ((effect ev S).writes ++ SetHeld s [] ∷ []) S in
       let here : is_some (after_all.procs parent) ≡ true =
       ap (λ (X : State). is_some (X.procs parent)) (written_append (effect ev S).writes (SetHeld s [] ∷ []) S) ∙ there in
-      let list : u ≡ failed_sends (told_to parent ∷ T.held s) (answers (told_to parent ∷ T.held s) after_all) =
-      listed_by s ev S u h ∙ ap (λ (xs : List Sending). failed_sends (xs ++ T.held s) (answers (xs ++ T.held s) after_all)) one in
+      let list : u ≡ failed_sends (child_notice parent ∷ T.held s) (post_answers (child_notice parent ∷ T.held s) after_all) =
+      listed_by s ev S u h ∙ ap (λ (xs : List Sending). failed_sends (xs ++ T.held s) (post_answers (xs ++ T.held s) after_all)) one in
       let fewer : length u ≤ length (T.held s) =
       subst (λ (xs : List Missed). length xs ≤ length (T.held s)) (sym list) (failed_told parent (T.held s) after_all here) in
       omega arith
@@ -145,16 +146,16 @@ module _ (V : View) (sound : IsSound V) (kept : IsWellFormedView V) (form : IsWe
           (λ z. placed.other (is ∙ z), running_some (S.procs parent) (ap (λ (n : ℕ). is_running (S.procs n)) (sym is) ∙ placed.parent (not_first me k is)))
 
   ends_few : (ev : Event) (u : List Missed) → reply_of (Commit s ev) S ≡ Committed (record { items = u }) → Turn (Some (inner V sound kept.formed form p m e)) p S (effect ev S)
-      → (parent : ℕ) → stand (S.procs p) ≡ standing parent true → ((n : ℕ) → n ≢ p → IsOrphan p (S.procs n) ((written (effect ev S).writes S).procs n))
-      → (effect ev S).sends ≡ told_at_once (telling (Some (inner V sound kept.formed form p m e)) parent) parent → length u ≤ 33
+      → (parent : ℕ) → stand (S.procs p) ≡ standing parent true → ((n : ℕ) → n ≢ p → IsOrphan p (S.procs n) ((with_writes (effect ev S).writes S).procs n))
+      → (effect ev S).sends ≡ notice_now (parent_notice (Some (inner V sound kept.formed form p m e)) parent) parent → length u ≤ 33
   ends_few ev u h turn parent was orphans sends = by (parent == 1) (is_member_of V.table s parent) refl sends
     where
       by : (a b : Bool) → is_member_of V.table s parent ≡ b
-          → (effect ev S).sends ≡ told_at_once (if a then NotTold else (if b then AtOnce else AtCommit s)) parent → length u ≤ 33
+          → (effect ev S).sends ≡ notice_now (if a then NotTold else (if b then AtOnce else AtCommit s)) parent → length u ≤ 33
       by true b k z = none_sent ev u z h turn
       by false true k z =
           let there = parent_there parent was k in
-          told_sent ev u parent z (orphan_some p (S.procs parent) ((written (effect ev S).writes S).procs parent) (orphans parent there.0) there.1) h turn
+          told_sent ev u parent z (orphan_some p (S.procs parent) ((with_writes (effect ev S).writes S).procs parent) (orphans parent there.0) there.1) h turn
       by false false k z = none_sent ev u z h turn
 
   -- a member's end that commits

@@ -1,6 +1,6 @@
 -- Every event leaves what processes have within its limits, and what transactions hold known signals, to process numbers
 -- that there are.
-use Rattle.std.proofs.Common.{◌≡◌, ◌≢◌, ◌⊎◌, ℕ, zero, suc, Bool, true, false, ◌||◌, ◌^◌, List, [], ◌∷◌, ◌++◌, ℤ, pos, negsuc, Option, Some, None, is_some, if◌then◌else◌, ◌==◌, slice_index_or, slice_set, refl, sym, ap, ◌∙◌, subst, inl, inr, eq-eqb, arith}
+use Rattle.std.proofs.Common.{◌≡◌, ◌≢◌, ◌⊎◌, ℕ, zero, suc, Bool, true, false, ◌||◌, ◌^◌, List, [], ◌∷◌, ◌++◌, ℤ, pos, negsuc, Option, Some, None, is_some, if◌then◌else◌, ◌==◌, slice_index_or, slice_set, refl, sym, ap, ◌∙◌, subst, inl, inr, eq-eqb, arith, replicate}
 use Rattle.std.specs.Prelude.{All}
 use Rattle.std.proofs.lemmas.Bool.{both_ways}
 use Rattle.std.proofs.lemmas.List.Elements.{All-nil, All-cons, All-head, All-tail, All-push, All-append, All-replicate}
@@ -14,21 +14,22 @@ use Rattle.tx_base.specs.declared.steps.Call.TheVariants as call
 use Rattle.tx_base.specs.declared.steps.Step.{Step}
 use Rattle.tx_base.specs.declared.steps.Step.TheVariants.{Call as Calls, Deliver, KernelAbort}
 use Rattle.tx_base.specs.declared.steps.Refusal.{Refusal}
-use Rattle.tx_base.specs.declared.steps.Refusal.TheVariants.{NoProcess, NotRunning, NoTransaction, NumberTaken, Wait, NotDeliverable, Deferred, FramesFull}
+use Rattle.tx_base.specs.declared.steps.Refusal.TheVariants.{NoTransaction, NumberTaken, Wait}
 use Rattle.tx_base.specs.declared.steps.Reply.TheVariants.{Done}
-use Rattle.tx_model.specs.Numbers.{failing}
+use Rattle.tx_base.specs.declared.limits.TheConstants.{SIGNALS}
+use Rattle.tx_model.specs.Numbers.{error_answer}
 use Rattle.tx_model.specs.Memory.{no_memory}
 use Rattle.tx_model.specs.SignalSets.{standard_signals, kill_signo, child_signo, is_one_of, is_realtime, is_known, is_in_set, without_one}
-use Rattle.tx_model.specs.State.{Process, State, Queued, Sending, Write, SetProc, SetDesc, SetPipe, SetHeld, put_at, write_one, written, usual_actions, booted_process, booted, is_between}
-use Rattle.tx_model.specs.Posts.{has_room, may_signal, is_quiet, with_queued, with_pending, received, post, posts as all_posted}
-use Rattle.tx_model.specs.Effects.{Inside, Effect, Conclusion, Replies, AnswersPost, ListsFailed, idle, noted_if, own_effect, first_answer, concluded, send_answers}
-use Rattle.tx_model.specs.Book.{closed_inside, sendable, sent_by, fork, exit, waitpid, sigqueue}
-use Rattle.tx_model.specs.Signals.{known, Disposition, Ignored, Fatal, Caught, disposition}
-use Rattle.tx_model.specs.Descriptors.{open_in, released}
-use Rattle.tx_model.specs.Processes.{child_of, ended, children_of, with_parent, orphaned, told_to, Telling, NotTold, AtOnce, AtCommit, telling, told_at_once, told_at_commit, ending, exit_status, numbered, with_status}
-use Rattle.tx_model.specs.Deliveries.{first_value, less_first, is_blocked, delivered_value, relieved, action_at, caught, is_full, killed_status, acts_on, is_deferred, delivers, delivery_effect}
-use Rattle.tx_model.specs.Forms.{Caller, Outcome, fails, posts, effect_of}
-use Rattle.tx_model.specs.Calls.{call_effect, MakesCall, TakesSignal, running_effect, effect_at}
+use Rattle.tx_model.specs.State.{Process, State, Queued, Sending, Write, SetProc, SetDesc, SetPipe, SetHeld, put_at, write_one, with_writes, booted_process, boot_state, is_between}
+use Rattle.tx_model.specs.Posts.{has_room, may_signal, is_quiet, target_after, after_post, after_posts as all_posted}
+use Rattle.tx_model.specs.Effects.{Inside, Effect, Conclusion, Replies, AnswersPost, ListsFailed, idle, with_answer_if, first_answer, after_conclusion, send_answers}
+use Rattle.tx_model.specs.Words.{own_effect, delivery_effect, call_effect, with_queued, with_pending, with_status}
+use Rattle.tx_model.specs.Book.{closed_inside, sendable, sending_from, fork, exit, waitpid, sigqueue, page_of_call}
+use Rattle.tx_model.specs.Signals.{known_signal, Ignored, Fatal, Caught, disposition}
+use Rattle.tx_model.specs.Descriptors.{open_in, removals}
+use Rattle.tx_model.specs.Processes.{child_of, ended_process, children_of, with_parent, orphan_writes, child_notice, Notice, NotTold, AtOnce, AtCommit, parent_notice, notice_now, notice_held, ending, exit_status, pid_of}
+use Rattle.tx_model.specs.Deliveries.{first_value, without_first, is_blocked, delivered_value, without_delivered, action_at, at_catch_point, killed_status, delivery_page}
+use Rattle.tx_model.specs.Forms.{Outcome, fails, posts, effect_of, caller}
 use Rattle.tx_model.specs.Events.{Event, Do, Note, Commit, step_effect, effect, after}
 use Rattle.tx_laws.specs.WellFormed.{IsWholePage, IsMask, HasFrameLimits, HasActionLimits, HasCatchLimits, IsRealtimeEntry, IsHeldSending, IsSendable, HasIdLimits, HasLimits}
 use Rattle.tx_model.specs.StateLaws.{put_cases}
@@ -40,7 +41,7 @@ use Rattle.tx_laws.proofs.WithinSets.{either_true, in_one_more, in_less, empty_s
 use Rattle.tx_laws.proofs.WithinOwn.{KeepsLimits, next_within, noted_limits, slotted}
 use Rattle.tx_laws.proofs.PlainWrites.{IsPlainWrite, ArePlain, IsPlain, idle_plain, own_plain, same_plain, released_plain}
 use Rattle.tx_laws.proofs.PlainCalls.{IsSpecial, call_plain}
-use Rattle.tx_model.specs.BookLaws.{fork_lines, exit_lines, waitpid_lines, sigqueue_lines}
+use Rattle.tx_model.specs.BookLaws.{fork_lines, exit_lines, waitpid_lines, sigqueue_lines, where_runs, delivery_lines}
 
 -- the limits of a state: those of its processes, and those of what is held
 pub record IsWithin (S : State) : Type 0 where
@@ -89,8 +90,8 @@ write_within (SetHeld n ms) S h w = record { limits = w.limits; held = held }
       | inr z ↦ subst (All (IsHeldSending S.width)) (sym z.1) (w.held s)
     ]
 
-pub written_within : (ws : List Write) (S : State) → AreFine S.width ws → IsWithin S → IsWithin (written ws S)
-unfolding written AreFine
+pub written_within : (ws : List Write) (S : State) → AreFine S.width ws → IsWithin S → IsWithin (with_writes ws S)
+unfolding with_writes AreFine
 written_within [] S h w = w
 written_within (x ∷ ws) S h w =
     written_within ws (write_one x S) (subst (λ (width : ℕ). AreFine width ws) (sym (write_width x S)) h.1) (write_within x S h.0 w)
@@ -141,7 +142,7 @@ child_limits p me h = record {
 }
 
 -- a process with nothing
-bare_limits : (q : Process) → q.registers.point ≡ 0 → q.memory ≡ no_memory → HasIdLimits q.ids → q.mask ≡ 0 → q.actions ≡ usual_actions → q.pending ≡ 0 → q.queued ≡ []
+bare_limits : (q : Process) → q.registers.point ≡ 0 → q.memory ≡ no_memory → HasIdLimits q.ids → q.mask ≡ 0 → q.actions ≡ replicate SIGNALS Usual → q.pending ≡ 0 → q.queued ≡ []
     → q.frames ≡ [] → HasLimits q
 bare_limits q point memory ids mask actions pending queued frames = record {
   point = omega arith;
@@ -155,8 +156,8 @@ bare_limits q point memory ids mask actions pending queued frames = record {
   frames = subst (All HasFrameLimits) (sym frames) (All-nil HasFrameLimits);
 }
 
-ended_limits : (status : ℕ) (me : Process) → KeepsLimits me (ended status me)
-ended_limits status me h = bare_limits (ended status me) refl refl h.ids refl refl refl refl refl
+ended_limits : (status : ℕ) (me : Process) → KeepsLimits me (ended_process status me)
+ended_limits status me h = bare_limits (ended_process status me) refl refl h.ids refl refl refl refl refl
 
 booted_limits : (n : ℕ) → HasLimits (booted_process n)
 booted_limits n =
@@ -186,7 +187,7 @@ adopted_limits n (Some q) h = record {
   frames = h.frames;
 }
 
-told_known : (parent : ℕ) → IsSendable (told_to parent)
+told_known : (parent : ℕ) → IsSendable (child_notice parent)
 told_known parent = inr refl
 
 module _ (S : State) (p : ℕ) (me : Process) (here : S.procs p ≡ Some me) (runs : me.status ≡ None) (a : IsArranged S) (w : IsWithin S) (l : HasLimits me) where
@@ -204,67 +205,64 @@ module _ (S : State) (p : ℕ) (me : Process) (here : S.procs p ≡ Some me) (ru
   statused : (status : ℕ) → KeepsLimits me (with_status status me)
   statused status = slotted me (slice_set me.registers.slots 0 (pos status))
 
-  abbrev caller : Option Inside → Caller
-  caller inside = record { number = p; process = me; inside = inside; state = S }
-
   abbrev Fine : Outcome → Type 0
   Fine outcome = IsFine S.width (effect_of p me outcome)
 
   error_fine : (errno : Errno) → Fine (fails errno)
-  error_fine errno = plainly _ (same_plain p me (failing errno))
+  error_fine errno = plainly _ (same_plain p me (error_answer errno))
 
-  fork_fine : (inside : Option Inside) (child : ℕ) → Fine (fork child (caller inside))
+  fork_fine : (inside : Option Inside) (child : ℕ) → Fine (fork child (caller inside p me S))
   fork_fine inside child =
-      fork_lines Fine (caller inside) error_fine child (λ taken. plainly _ (idle_plain p me NumberTaken))
+      fork_lines Fine (caller inside p me S) error_fine child (λ taken. plainly _ (idle_plain p me NumberTaken))
       λ free. record { writes = fine_two S.width _ _ (noted_limits (pos child) me l) (child_limits p me l); sends = no_sends }
 
-  waitpid_fine : (inside : Option Inside) (t : ℤ) (nohang : Bool) → Fine (waitpid t nohang (caller inside))
+  waitpid_fine : (inside : Option Inside) (t : ℤ) (nohang : Bool) → Fine (waitpid t nohang (caller inside p me S))
   waitpid_fine inside t nohang =
-      waitpid_lines Fine (caller inside) error_fine t nohang (plainly _ (same_plain p me (pos 0))) (plainly _ (idle_plain p me Wait))
+      waitpid_lines Fine (caller inside p me S) error_fine t nohang (plainly _ (same_plain p me (pos 0))) (plainly _ (idle_plain p me Wait))
       λ child status q number there mine over. record { writes = fine_two S.width _ _ (noted_limits (pos child) (with_status status me) (statused status l)) tt; sends = no_sends }
 
-  orphaned_fine : (qs : List ℕ) → AreFine S.width (orphaned qs S)
-  unfolding orphaned AreFine
+  orphaned_fine : (qs : List ℕ) → AreFine S.width (orphan_writes qs S)
+  unfolding orphan_writes AreFine
   orphaned_fine [] = tt
   orphaned_fine (q ∷ qs) = (adopted_limits 1 (S.procs q) (limits_if S w q (S.procs q) refl), orphaned_fine qs)
 
-  later_fine : (telling : Telling) (parent : ℕ) → is_between S.width parent ≡ true → AreFine S.width (told_at_commit telling parent S)
+  later_fine : (parent_notice : Notice) (parent : ℕ) → is_between S.width parent ≡ true → AreFine S.width (notice_held parent_notice parent S)
   unfolding AreFine
   later_fine NotTold parent number = tt
   later_fine AtOnce parent number = tt
   later_fine (AtCommit s) parent number =
-      (All-push (IsHeldSending S.width) (S.held s) (told_to parent) (w.held s) (record { known = refl; target = number }), tt)
+      (All-push (IsHeldSending S.width) (S.held s) (child_notice parent) (w.held s) (record { known = refl; target = number }), tt)
 
-  tells_fine : (telling : Telling) (parent : ℕ) → All IsSendable (told_at_once telling parent)
+  tells_fine : (parent_notice : Notice) (parent : ℕ) → All IsSendable (notice_now parent_notice parent)
   tells_fine NotTold parent = no_sends
-  tells_fine AtOnce parent = All-cons IsSendable (told_to parent) [] (told_known parent) no_sends
+  tells_fine AtOnce parent = All-cons IsSendable (child_notice parent) [] (told_known parent) no_sends
   tells_fine (AtCommit s) parent = no_sends
 
   abbrev gone : Process → Process → List Write
-  gone now left = released (open_in now.descriptors) (write_one (SetProc p (Some left)) S)
+  gone now left = removals (open_in now.descriptors) (write_one (SetProc p (Some left)) S)
 
   -- the process that ends, in the place of the one before
   ending_fine : (inside : Option Inside) (status : ℕ) (now : Process) → is_between S.width now.parent ≡ true → HasLimits now
-      → IsFine S.width (ending inside p status now S)
+      → IsFine S.width (ending status (caller inside p now S))
   unfolding AreFine
   ending_fine inside status now number k = record {
     writes = (
       ended_limits status now k,
-      fine_append S.width (orphaned (children_of p S) S ++ gone now (ended status now)) (told_at_commit (telling inside now.parent) now.parent S)
-          (fine_append S.width (orphaned (children_of p S) S) (gone now (ended status now)) (orphaned_fine (children_of p S))
-          (plain_writes S.width p me l (gone now (ended status now)) (released_plain p me (open_in now.descriptors) (write_one (SetProc p (Some (ended status now))) S))))
-          (later_fine (telling inside now.parent) now.parent number),
+      fine_append S.width (orphan_writes (children_of p S) S ++ gone now (ended_process status now)) (notice_held (parent_notice inside now.parent) now.parent S)
+          (fine_append S.width (orphan_writes (children_of p S) S) (gone now (ended_process status now)) (orphaned_fine (children_of p S))
+          (plain_writes S.width p me l (gone now (ended_process status now)) (released_plain p me (open_in now.descriptors) (write_one (SetProc p (Some (ended_process status now))) S))))
+          (later_fine (parent_notice inside now.parent) now.parent number),
     );
-    sends = tells_fine (telling inside now.parent) now.parent;
+    sends = tells_fine (parent_notice inside now.parent) now.parent;
   }
 
-  exit_fine : (inside : Option Inside) (v : ℤ) → Fine (exit v (caller inside))
+  exit_fine : (inside : Option Inside) (v : ℤ) → Fine (exit v (caller inside p me S))
   exit_fine inside v =
-      exit_lines Fine (caller inside) error_fine v
+      exit_lines Fine (caller inside p me S) error_fine v
       λ other. ending_fine inside (exit_status v) me (parent_number (λ y. both_ways (p == 1) other (eq-eqb p 1 y))) l
 
   -- sends
-  known_is : (v : ℤ) (n : ℕ) → known v ≡ Some n → is_known n ≡ true
+  known_is : (v : ℤ) (n : ℕ) → known_signal v ≡ Some n → is_known n ≡ true
   known_is (pos m) n e = by (is_known m) refl e
     where
       by : (b : Bool) → is_known m ≡ b → (if b then Some m else None) ≡ Some n → is_known n ≡ true
@@ -277,7 +275,7 @@ module _ (S : State) (p : ℕ) (me : Process) (here : S.procs p ≡ Some me) (ru
   sendable_is (pos (suc m)) n e = inr (known_is (pos (suc m)) n e)
   sendable_is (negsuc m) n e = cc
 
-  numbered_is : (n : ℤ) (t : ℕ) → numbered S.width n ≡ Some t → is_between S.width t ≡ true
+  numbered_is : (n : ℤ) (t : ℕ) → pid_of S.width n ≡ Some t → is_between S.width t ≡ true
   numbered_is (pos m) t e = by (is_between S.width m) refl e
     where
       by : (b : Bool) → is_between S.width m ≡ b → (if b then Some m else None) ≡ Some t → is_between S.width t ≡ true
@@ -289,13 +287,13 @@ module _ (S : State) (p : ℕ) (me : Process) (here : S.procs p ≡ Some me) (ru
   unfolding AreFine
   posted_fine m k = record { writes = tt; sends = All-cons IsSendable m [] k no_sends }
 
-  sigqueue_fine : (inside : Option Inside) (t signo value : ℤ) → Fine (sigqueue t signo value (caller inside))
+  sigqueue_fine : (inside : Option Inside) (t signo value : ℤ) → Fine (sigqueue t signo value (caller inside p me S))
   sigqueue_fine inside t s value =
-      sigqueue_lines Fine (caller inside) error_fine t s value (plainly _ (same_plain p me closed_inside))
-      (λ signo target known there outside. posted_fine (sent_by me target signo value) (sendable_is s signo known))
-      λ signo target i known there held some room. record {
-        writes = fine_two S.width _ _ (noted_limits (pos 0) me l) (All-push (IsHeldSending S.width) (S.held i.starter) (sent_by me target signo value) (w.held i.starter)
-            (record { known = loud signo some (sendable_is s signo known); target = numbered_is t target there }));
+      sigqueue_lines Fine (caller inside p me S) error_fine t s value (plainly _ (same_plain p me closed_inside))
+      (λ signo target known_signal there outside. posted_fine (sending_from me target signo value) (sendable_is s signo known_signal))
+      λ signo target i known_signal there held some room. record {
+        writes = fine_two S.width _ _ (noted_limits (pos 0) me l) (All-push (IsHeldSending S.width) (S.held i.starter) (sending_from me target signo value) (w.held i.starter)
+            (record { known = loud signo some (sendable_is s signo known_signal); target = numbered_is t target there }));
         sends = no_sends;
       }
     where
@@ -303,16 +301,16 @@ module _ (S : State) (p : ℕ) (me : Process) (here : S.procs p ≡ Some me) (ru
       loud signo some k = elim k [ inl e ↦ absurd (both_ways (signo == 0) some (eq-eqb signo 0 e)) | inr e ↦ e ]
 
   -- deliveries
-  fewer_queued : (signo : ℕ) (entries : List Queued) → All IsRealtimeEntry entries → All IsRealtimeEntry (less_first signo entries)
-  unfolding less_first
+  fewer_queued : (signo : ℕ) (entries : List Queued) → All IsRealtimeEntry entries → All IsRealtimeEntry (without_first signo entries)
+  unfolding without_first
   fewer_queued signo [] h = h
   fewer_queued signo (entry ∷ entries) h = by (entry.signo == signo) (fewer_queued signo entries (All-tail IsRealtimeEntry entry entries h))
     where
-      by : (b : Bool) → All IsRealtimeEntry (less_first signo entries) → All IsRealtimeEntry (if b then entries else entry ∷ less_first signo entries)
+      by : (b : Bool) → All IsRealtimeEntry (without_first signo entries) → All IsRealtimeEntry (if b then entries else entry ∷ without_first signo entries)
       by true k = All-tail IsRealtimeEntry entry entries h
-      by false k = All-cons IsRealtimeEntry entry (less_first signo entries) (All-head IsRealtimeEntry entry entries h) k
+      by false k = All-cons IsRealtimeEntry entry (without_first signo entries) (All-head IsRealtimeEntry entry entries h) k
 
-  relieved_limits : (signo : ℕ) → KeepsLimits me (relieved signo me)
+  relieved_limits : (signo : ℕ) → KeepsLimits me (without_delivered signo me)
   relieved_limits signo h = record {
     point = h.point;
     pages = h.pages;
@@ -329,7 +327,7 @@ module _ (S : State) (p : ℕ) (me : Process) (here : S.procs p ≡ Some me) (ru
       pending true n k = h.pending n k
       pending false n k = h.pending n (in_less me.pending (2 ^ signo) n k).0
 
-      queue : (b : Bool) → All IsRealtimeEntry (if b then less_first signo me.queued else me.queued)
+      queue : (b : Bool) → All IsRealtimeEntry (if b then without_first signo me.queued else me.queued)
       queue true = fewer_queued signo me.queued h.queued
       queue false = h.queued
 
@@ -345,9 +343,9 @@ module _ (S : State) (p : ℕ) (me : Process) (here : S.procs p ≡ Some me) (ru
       by false false y false z k = cc
 
   caught_limits : (signo : ℕ) (value : ℤ) (point : ℕ) (mask : SigSet) → is_known signo ≡ true → signo ≢ kill_signo → HasCatchLimits point mask
-      → KeepsLimits me (caught signo value point mask (relieved signo me))
+      → KeepsLimits me (at_catch_point signo value point mask (without_delivered signo me))
   caught_limits signo value point mask right other k h =
-      let now : HasLimits (relieved signo me) = relieved_limits signo h in
+      let now : HasLimits (without_delivered signo me) = relieved_limits signo h in
       record {
         point = k.point;
         pages = now.pages;
@@ -369,8 +367,8 @@ module _ (S : State) (p : ℕ) (me : Process) (here : S.procs p ≡ Some me) (ru
   not_killed : (signo point : ℕ) (mask : SigSet) → action_at signo me ≡ Catch point mask → signo ≢ kill_signo
   not_killed signo point mask e z = let no : Usual ≡ Catch point mask = sym l.kill ∙ ap (λ (n : ℕ). action_at n me) (sym z) ∙ e in cc
 
-  relieved_plain : (signo : ℕ) (r : ℤ) → IsPlain p me (own_effect p (record { process = relieved signo me; reply = Done r }))
-  relieved_plain signo r = own_plain p me (record { process = relieved signo me; reply = Done r }) (record { parent = refl; status = refl; limits = relieved_limits signo }) refl
+  relieved_plain : (signo : ℕ) (r : ℤ) → IsPlain p me (own_effect p (record { process = without_delivered signo me; reply = Done r }))
+  relieved_plain signo r = own_plain p me (record { process = without_delivered signo me; reply = Done r }) (record { parent = refl; status = refl; limits = relieved_limits signo }) refl
 
   disposed : (signo : ℕ) (action : Action) (point : ℕ) (mask : SigSet) → disposition signo action ≡ Caught point mask → action ≡ Catch point mask
   disposed signo Usual point mask e = by (signo == child_signo) e
@@ -381,35 +379,20 @@ module _ (S : State) (p : ℕ) (me : Process) (here : S.procs p ≡ Some me) (ru
   disposed signo Ignore point mask e = cc
   disposed signo (Catch to blocked) point mask e = cc
 
-  acts_on_fine : (inside : Option Inside) (signo : ℕ) (value : ℤ) (x : Disposition) → disposition signo (action_at signo me) ≡ x → is_known signo ≡ true → p ≢ 1
-      → IsFine S.width (acts_on inside p signo value x (relieved signo me) S)
-  acts_on_fine inside signo value Ignored e right ne = plainly _ (relieved_plain signo me.registers.ret)
-  acts_on_fine inside signo value Fatal e right ne = ending_fine inside (killed_status signo) (relieved signo me) (parent_number ne) (relieved_limits signo l)
-  acts_on_fine inside signo value (Caught point mask) e right ne = by (is_full (relieved signo me))
-    where
-      catches : action_at signo me ≡ Catch point mask
-      catches = disposed signo (action_at signo me) point mask e
-
-      small : HasCatchLimits point mask
-      small = subst HasActionLimits catches (action_limits me.actions signo l.actions)
-
-      by : (b : Bool) → IsFine S.width (if b then idle FramesFull else own_effect p (record { process = caught signo value point mask (relieved signo me); reply = Done value }))
-      by true = plainly _ (idle_plain p me FramesFull)
-      by false = plainly _ (own_plain p me (record { process = caught signo value point mask (relieved signo me); reply = Done value })
-          (record { parent = refl; status = refl; limits = caught_limits signo value point mask right (not_killed signo point mask catches) small }) refl)
-
-  delivers_fine : (inside : Option Inside) (signo : ℕ) (value : Option ℤ) → delivered_value signo me ≡ value → IsFine S.width (delivers inside p signo me value S)
-  delivers_fine inside signo None e = plainly _ (idle_plain p me NotDeliverable)
-  delivers_fine inside signo (Some value) e = by (is_deferred inside signo)
-    where
-      by : (b : Bool) → IsFine S.width (if b then idle Deferred else acts_on inside p signo value (disposition signo (action_at signo me)) (relieved signo me) S)
-      by true = plainly _ (idle_plain p me Deferred)
-      by false =
-          acts_on_fine inside signo value (disposition signo (action_at signo me)) refl (delivered_known signo value e)
-          (other_than_first S p me here runs a signo value e)
+  caught_fine : (signo : ℕ) (value : ℤ) (point : ℕ) (mask : SigSet) → delivered_value signo me ≡ Some value → disposition signo (action_at signo me) ≡ Caught point mask
+      → IsFine S.width (own_effect p (record { process = at_catch_point signo value point mask (without_delivered signo me); reply = Done value }))
+  caught_fine signo value point mask d e =
+      let catches : action_at signo me ≡ Catch point mask = disposed signo (action_at signo me) point mask e in
+      let small : HasCatchLimits point mask = subst HasActionLimits catches (action_limits me.actions signo l.actions) in
+      plainly _ (own_plain p me (record { process = at_catch_point signo value point mask (without_delivered signo me); reply = Done value })
+      (record { parent = refl; status = refl; limits = caught_limits signo value point mask (delivered_known signo value d) (not_killed signo point mask catches) small }) refl)
 
   delivery_fine : (inside : Option Inside) (signo : ℕ) → IsFine S.width (delivery_effect inside p signo me S)
-  delivery_fine inside signo = delivers_fine inside signo (delivered_value signo me) refl
+  delivery_fine inside signo =
+      delivery_lines (λ o. IsFine S.width (effect_of p me o)) (caller inside p me S) signo (λ why e. plainly _ (idle_plain p me why))
+      (λ value d e. plainly _ (relieved_plain signo me.registers.ret))
+      (λ value d e. ending_fine inside (killed_status signo) (without_delivered signo me) (parent_number (other_than_first S p me here runs a signo value d)) (relieved_limits signo l))
+      λ value point mask d e k room. caught_fine signo value point mask d k
 
   special_fine : (inside : Option Inside) (c : Call) → IsSpecial c → IsFine S.width (call_effect inside p c me S)
   special_fine inside (call.Fork child) h = fork_fine inside child.0
@@ -428,30 +411,15 @@ idle_fine width why = record { writes = tt; sends = no_sends }
 
 -- steps and events
 module _ (S : State) (inside : Option Inside) (a : IsArranged S) (w : IsWithin S) where
-  running_call_fine : (p : ℕ) (c : Call) (me : Process) (status : Option ℕ) → S.procs p ≡ Some me → me.status ≡ status → HasLimits me
-      → IsFine S.width (running_effect inside p (MakesCall c) S me status)
-  running_call_fine p c me None here runs l = call_fine S p me here runs a w l inside c
-  running_call_fine p c me (Some status) here runs l = idle_fine S.width NotRunning
-
-  running_delivery_fine : (p signo : ℕ) (me : Process) (status : Option ℕ) → S.procs p ≡ Some me → me.status ≡ status → HasLimits me
-      → IsFine S.width (running_effect inside p (TakesSignal signo) S me status)
-  running_delivery_fine p signo me None here runs l = delivery_fine S p me here runs a w l inside signo
-  running_delivery_fine p signo me (Some status) here runs l = idle_fine S.width NotRunning
-
-  call_at_fine : (p : ℕ) (c : Call) (x : Option Process) → S.procs p ≡ x → HasLimitsIf x → IsFine S.width (effect_at inside p (MakesCall c) S x)
-  call_at_fine p c None here l = idle_fine S.width NoProcess
-  call_at_fine p c (Some me) here l = running_call_fine p c me me.status here refl l
-
-  delivery_at_fine : (p signo : ℕ) (x : Option Process) → S.procs p ≡ x → HasLimitsIf x → IsFine S.width (effect_at inside p (TakesSignal signo) S x)
-  delivery_at_fine p signo None here l = idle_fine S.width NoProcess
-  delivery_at_fine p signo (Some me) here l = running_delivery_fine p signo me me.status here refl l
+  limits_of : (p : ℕ) (me : Process) → S.procs p ≡ Some me → HasLimits me
+  limits_of p me here = limits_if S w p (Some me) here
 
   step_fine : (step : Step) → IsFine S.width (step_effect step inside S)
-  step_fine (Calls p c) = call_at_fine p.0 c (S.procs p.0) refl (limits_if S w p.0 (S.procs p.0) refl)
-  step_fine (Deliver p signo) = delivery_at_fine p.0 signo.0 (S.procs p.0) refl (limits_if S w p.0 (S.procs p.0) refl)
+  step_fine (Calls p c) = where_runs inside p.0 (page_of_call c) S (IsFine S.width) (idle_fine S.width) (λ me here runs. call_fine S p.0 me here runs a w (limits_of p.0 me here) inside c)
+  step_fine (Deliver p signo) = where_runs inside p.0 (delivery_page signo.0) S (IsFine S.width) (idle_fine S.width) (λ me here runs. delivery_fine S p.0 me here runs a w (limits_of p.0 me here) inside signo.0)
   step_fine (KernelAbort s) = idle_fine S.width NoTransaction
 
-noted_if_limits : (r : ℤ) (x : Option Process) → HasLimitsIf x → HasLimitsIf (noted_if r x)
+noted_if_limits : (r : ℤ) (x : Option Process) → HasLimitsIf x → HasLimitsIf (with_answer_if r x)
 noted_if_limits r None h = tt
 noted_if_limits r (Some q) h = noted_limits r q h
 
@@ -464,14 +432,14 @@ event_fine (Do step inside) S a w = step_fine S inside a w step
 event_fine (Note p r) S a w = record { writes = fine_one S.width _ (noted_if_limits r (S.procs p) (limits_if S w p (S.procs p) refl)); sends = no_sends }
 event_fine (Commit s ev) S a w =
     let k : IsFine S.width (effect ev S) = event_fine ev S a w in
-    let after_writes : IsWithin (written (effect ev S).writes S) = written_within (effect ev S).writes S k.writes w in
+    let after_writes : IsWithin (with_writes (effect ev S).writes S) = written_within (effect ev S).writes S k.writes w in
     record {
       writes = fine_append S.width (effect ev S).writes (SetHeld s [] ∷ []) k.writes (fine_one S.width _ (All-nil (IsHeldSending S.width)));
-      sends = All-append IsSendable (effect ev S).sends ((written (effect ev S).writes S).held s) k.sends (known_sendable _ _ (after_writes.held s));
+      sends = All-append IsSendable (effect ev S).sends ((with_writes (effect ev S).writes S).held s) k.sends (known_sendable _ _ (after_writes.held s));
     }
 
 -- posts
-received_limits : (m : Sending) (x : Option Process) → IsSendable m → HasLimitsIf x → HasLimitsIf (received m x)
+received_limits : (m : Sending) (x : Option Process) → IsSendable m → HasLimitsIf x → HasLimitsIf (target_after m x)
 received_limits m None k h = tt
 received_limits m (Some q) k h = by (may_signal m.from q.ids) (is_quiet m q) refl (is_realtime m.signo) refl (has_room q)
   where
@@ -526,20 +494,20 @@ received_limits m (Some q) k h = by (may_signal m.from q.ids) (is_quiet m q) ref
     by true false e true f false = h
     by true false e false f d = with_one (loud e) f
 
-pub post_within : (m : Sending) (S : State) → IsSendable m → IsWithin S → IsWithin (post m S)
+pub post_within : (m : Sending) (S : State) → IsSendable m → IsWithin S → IsWithin (after_post m S)
 post_within m S k w =
-    write_within (SetProc m.target (received m (S.procs m.target))) S
+    write_within (SetProc m.target (target_after m (S.procs m.target))) S
     (received_limits m (S.procs m.target) k (limits_if S w m.target (S.procs m.target) refl)) w
 
 posts_within : (ms : List Sending) (S : State) → All IsSendable ms → IsWithin S → IsWithin (all_posted ms S)
 unfolding all_posted
 posts_within [] S h w = w
-posts_within (m ∷ ms) S h w = posts_within ms (post m S) (All-tail IsSendable m ms h) (post_within m S (All-head IsSendable m ms h) w)
+posts_within (m ∷ ms) S h w = posts_within ms (after_post m S) (All-tail IsSendable m ms h) (post_within m S (All-head IsSendable m ms h) w)
 
-concluded_within : (c : Conclusion) (rs : List ℤ) (S : State) → IsWithin S → IsWithin (concluded c rs S)
+concluded_within : (c : Conclusion) (rs : List ℤ) (S : State) → IsWithin S → IsWithin (after_conclusion c rs S)
 concluded_within (Replies r) rs S w = w
 concluded_within (AnswersPost p) rs S w =
-    write_within (SetProc p (noted_if (first_answer rs) (S.procs p))) S (noted_if_limits (first_answer rs) (S.procs p) (limits_if S w p (S.procs p) refl)) w
+    write_within (SetProc p (with_answer_if (first_answer rs) (S.procs p))) S (noted_if_limits (first_answer rs) (S.procs p) (limits_if S w p (S.procs p) refl)) w
 concluded_within ListsFailed rs S w = w
 
 -- every event keeps the limits
@@ -548,14 +516,14 @@ unfolding after
 after_within ev S a w =
     let f : Effect = effect ev S in
     let k : IsFine S.width f = event_fine ev S a w in
-    concluded_within f.conclusion (send_answers f S) (all_posted f.sends (written f.writes S))
-    (posts_within f.sends (written f.writes S) k.sends (written_within f.writes S k.writes w))
+    concluded_within f.conclusion (send_answers f S) (all_posted f.sends (with_writes f.writes S))
+    (posts_within f.sends (with_writes f.writes S) k.sends (written_within f.writes S k.writes w))
 
 -- the state at the start
-pub booted_within : (width count : ℕ) → IsWithin (booted width count)
+pub booted_within : (width count : ℕ) → IsWithin (boot_state width count)
 booted_within width count = record { limits = limits; held = λ s. All-nil (IsHeldSending width) }
   where
-    limits : (n : ℕ) (q : Process) → (booted width count).procs n ≡ Some q → HasLimits q
+    limits : (n : ℕ) (q : Process) → (boot_state width count).procs n ≡ Some q → HasLimits q
     limits n q h = by (is_between count n) h
       where
         by : (b : Bool) → (if b then Some (booted_process n) else None) ≡ Some q → HasLimits q

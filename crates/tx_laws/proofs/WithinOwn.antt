@@ -9,12 +9,13 @@ use Rattle.tx_base.specs.declared.signals.Action.{Action}
 use Rattle.tx_base.specs.declared.signals.Action.TheVariants.{Usual, Ignore, Catch}
 use Rattle.tx_base.specs.declared.limits.TheConstants.{PAGE_BYTES, LAST_ID, LAST_POINT}
 use Rattle.tx_model.specs.Numbers.{below}
-use Rattle.tx_model.specs.Memory.{Memory, PageView, page_at, with_byte, put_byte, put_bytes, stored}
+use Rattle.tx_model.specs.Memory.{Memory, PageView, page_at, with_byte, put_byte, put_bytes, stored_memory}
 use Rattle.tx_model.specs.State.{Ids, Process, Frame, Queued}
-use Rattle.tx_model.specs.Effects.{next_point, noted}
-use Rattle.tx_model.specs.Book.{id_of, with_user, with_group, with_all_users, with_all_groups}
+use Rattle.tx_model.specs.Effects.{next_point, with_answer}
+use Rattle.tx_model.specs.Book.{id_of}
+use Rattle.tx_model.specs.Words.{with_user, with_group, with_all_users, with_all_groups, is_ignored}
 use Rattle.tx_model.specs.SignalSets.{kill_signo, maskable}
-use Rattle.tx_model.specs.Signals.{is_bad_action, is_ignored, with_action, kept_action, discarded, queued_others, newest, restored}
+use Rattle.tx_model.specs.Signals.{is_bad_action, with_action, maskable_action, without_signal, queued_others, newest_frame, with_frame}
 use Rattle.tx_laws.specs.WellFormed.{IsWholePage, HasIdLimits, HasFrameLimits, HasActionLimits, IsRealtimeEntry, HasLimits}
 use Rattle.tx_laws.proofs.WithinSets.{in_less, maskable_mask}
 
@@ -31,7 +32,7 @@ next_within point h = by (nat_lt point LAST_POINT) refl
     by false e = h
 
 -- the process with an answer
-pub noted_limits : (r : ℤ) (me : Process) → KeepsLimits me (noted r me)
+pub noted_limits : (r : ℤ) (me : Process) → KeepsLimits me (with_answer r me)
 noted_limits r me h = record {
   point = next_within me.registers.point h.point;
   pages = h.pages;
@@ -131,7 +132,7 @@ pub not_over : (point : ℕ) → nat_lt LAST_POINT point ≡ false → point ≤
 not_over point e = ltb-false LAST_POINT point e
 
 -- signals
-pub discarded_limits : (signo : ℕ) (me : Process) → KeepsLimits me (discarded signo me)
+pub discarded_limits : (signo : ℕ) (me : Process) → KeepsLimits me (without_signal signo me)
 discarded_limits signo me h = record {
   point = h.point;
   pages = h.pages;
@@ -152,7 +153,7 @@ discarded_limits signo me h = record {
         by true l = l
         by false l = All-cons IsRealtimeEntry entry (queued_others signo entries) (All-head IsRealtimeEntry entry entries k) l
 
-kept_limits : (action : Action) → is_bad_action action ≡ false → HasActionLimits (kept_action action)
+kept_limits : (action : Action) → is_bad_action action ≡ false → HasActionLimits (maskable_action action)
 kept_limits Usual e = tt
 kept_limits Ignore e = tt
 kept_limits (Catch point mask) e = record { point = not_over point e; mask = maskable_mask (bits_of mask) }
@@ -163,8 +164,8 @@ action_limits signo action me other good h = record {
   pages = h.pages;
   ids = h.ids;
   mask = h.mask;
-  actions = All-set HasActionLimits me.actions signo (kept_action action) (kept_limits action good) h.actions;
-  kill = get_or-set_other me.actions signo kill_signo (kept_action action) Usual (λ z. other (sym z)) ∙ h.kill;
+  actions = All-set HasActionLimits me.actions signo (maskable_action action) (kept_limits action good) h.actions;
+  kill = get_or-set_other me.actions signo kill_signo (maskable_action action) Usual (λ z. other (sym z)) ∙ h.kill;
   pending = h.pending;
   queued = h.queued;
   frames = h.frames;
@@ -176,14 +177,14 @@ neither false true h = cc
 neither false false h = (refl, refl)
 
 pub acted_limits : (signo : ℕ) (action : Action) (me : Process) → (signo == kill_signo || is_bad_action action) ≡ false
-    → KeepsLimits me (with_action signo action (if is_ignored signo action then discarded signo me else me))
+    → KeepsLimits me (with_action signo action (if is_ignored signo action then without_signal signo me else me))
 acted_limits signo action me e = by (is_ignored signo action)
   where
     good : (signo ≡ kill_signo → ⊥) × (is_bad_action action ≡ false)
     good = let r = neither (signo == kill_signo) (is_bad_action action) e in (λ z. both_ways (signo == kill_signo) r.0 (eq-eqb signo kill_signo z), r.1)
 
-    by : (b : Bool) → KeepsLimits me (with_action signo action (if b then discarded signo me else me))
-    by true h = action_limits signo action (discarded signo me) good.0 good.1 (discarded_limits signo me h)
+    by : (b : Bool) → KeepsLimits me (with_action signo action (if b then without_signal signo me else me))
+    by true h = action_limits signo action (without_signal signo me) good.0 good.1 (discarded_limits signo me h)
     by false h = action_limits signo action me good.0 good.1 h
 
 pub masked_limits : (me : Process) (set : ℕ) → KeepsLimits me (record me { mask = maskable set })
@@ -205,7 +206,7 @@ found_all {X} P [] i x e h = cc
 found_all {X} P (y ∷ xs) zero x e h = let same : y ≡ x = cc in subst P same (All-head P y xs h)
 found_all {X} P (y ∷ xs) (suc i) x e h = found_all P xs i x e (All-tail P y xs h)
 
-pub restored_limits : (frame : Frame) (me : Process) → newest me.frames ≡ Some frame → KeepsLimits me (restored frame me)
+pub restored_limits : (frame : Frame) (me : Process) → newest_frame me.frames ≡ Some frame → KeepsLimits me (with_frame frame me)
 restored_limits frame me e h =
     let saved : HasFrameLimits frame = found_all HasFrameLimits me.frames (length me.frames - 1) frame e h.frames in
     record {
@@ -249,6 +250,6 @@ put_whole memory address (byte ∷ bytes) h =
     put_whole (put_byte memory address byte) (address + 1) bytes
     (All-set IsWholePage memory (address / PAGE_BYTES) _ (byte_whole (address % PAGE_BYTES) byte (page_at memory (address / PAGE_BYTES)) (whole_at memory (address / PAGE_BYTES) h)) h)
 
-pub stored_whole : (memory : Memory) (address : Option ℕ) (bytes : List ℕ) → All IsWholePage memory → All IsWholePage (stored memory address bytes)
+pub stored_whole : (memory : Memory) (address : Option ℕ) (bytes : List ℕ) → All IsWholePage memory → All IsWholePage (stored_memory memory address bytes)
 stored_whole memory None bytes h = h
 stored_whole memory (Some address) bytes h = put_whole memory address bytes h

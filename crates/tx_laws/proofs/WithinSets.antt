@@ -5,7 +5,7 @@ use Rattle.std.specs.Int.Bits.{bit_xor, xor_add_and}
 use Rattle.std.proofs.lemmas.Bool.{both_ways}
 use Rattle.std.proofs.lemmas.Nat.{and_le_l}
 use Rattle.std.proofs.lemmas.Nat.Bits.{bit_at-lt, bit_at_and, bit_at_or, bit_at_xor, bit_at-pow_same, bit_at-pow_other, bit_at-zero, same_from_bits}
-use Rattle.tx_model.specs.SignalSets.{standard_signals, realtime_signals, kill_signo, is_one_of, is_realtime, is_known, is_in_set, with_one_more, less, set_of, maskable}
+use Rattle.tx_model.specs.SignalSets.{standard_signals, realtime_signals, kill_signo, is_one_of, is_realtime, is_known, is_in_set, with_one_more, set_difference, set_of, maskable}
 use Rattle.tx_laws.specs.WellFormed.{IsMask}
 
 -- a set by its bits
@@ -36,7 +36,7 @@ part_of_part set other = same_from_bits (bit_and set (bit_and set other)) (bit_a
     bit_at_and set (bit_and set other) i ∙ ap (λ (b : ℕ). min (bit_at set i) b) (bit_at_and set other i)
     ∙ min_below (bit_at set i) (bit_at other i) ∙ sym (bit_at_and set other i))
 
-less_xor : (set other : ℕ) → less set other ≡ bit_xor set (bit_and set other)
+less_xor : (set other : ℕ) → set_difference set other ≡ bit_xor set (bit_and set other)
 less_xor set other =
     let sum : bit_xor set (bit_and set other) + bit_and set (bit_and set other) * 2 ≡ set + bit_and set other = xor_add_and set (bit_and set other) in
     let part : bit_and set (bit_and set other) ≡ bit_and set other = part_of_part set other in
@@ -47,10 +47,10 @@ only_one : (a b : ℕ) → a < 2 → b < 2 → (a + min a b) % 2 ≡ 1 → (a �
 only_one a b h k e = (omega arith, omega arith)
 
 -- what is in a difference is in the first set, and not in the second
-pub in_less : (set other signo : ℕ) → is_in_set (less set other) signo ≡ true → (is_in_set set signo ≡ true) × (bit_at other signo ≡ 0)
+pub in_less : (set other signo : ℕ) → is_in_set (set_difference set other) signo ≡ true → (is_in_set set signo ≡ true) × (bit_at other signo ≡ 0)
 in_less set other signo h =
-    let bit : bit_at (less set other) signo ≡ 1 = bit_in (less set other) signo h in
-    let mixed : bit_at (less set other) signo ≡ (bit_at set signo + min (bit_at set signo) (bit_at other signo)) % 2 =
+    let bit : bit_at (set_difference set other) signo ≡ 1 = bit_in (set_difference set other) signo h in
+    let mixed : bit_at (set_difference set other) signo ≡ (bit_at set signo + min (bit_at set signo) (bit_at other signo)) % 2 =
     ap (λ (n : ℕ). bit_at n signo) (less_xor set other) ∙ bit_at_xor set (bit_and set other) signo
     ∙ ap (λ (b : ℕ). (bit_at set signo + b) % 2) (bit_at_and set other signo) in
     let r = only_one (bit_at set signo) (bit_at other signo) (bit_at-lt set signo) (bit_at-lt other signo) (sym mixed ∙ bit) in

@@ -1,11 +1,12 @@
 -- How an event goes with what its step is to the transactions. Own rules.
 use Rattle.std.specs.Prelude.{◌≡◌, ℕ, Bool, true, false, List, [], ◌∷◌, ◌⊎◌, ℤ, Option, Some, None, ◌==◌}
-use Rattle.tx_model.specs.State.{State, Sending, Proc, Held, has, is_between}
+use Rattle.tx_model.specs.State.{State, Sending, Proc, Held, has_object, is_between}
 use Rattle.tx_model.specs.Effects.{Inside}
 use Rattle.tx_model.specs.Events.{Event, Do, Note, Commit, actor, effect, objects}
 use Rattle.tx_model.specs.Membership.{is_member_of, is_live, Progress, Continues, Parks, Forks, Begins, Role, Outside, Within, Commits, Aborts}
 use Rattle.tx_model.specs.History.{Starters, is_other_starter}
-use Rattle.tx_model.specs.View.{View, present, IsClear}
+use Rattle.tx_model.specs.View.{View, present}
+use Rattle.tx_model.specs.Words.{IsClear}
 use Rattle.tx_model.specs.Answer.{is_running}
 
 -- the sending is one of the list
@@ -17,7 +18,7 @@ IsIn n (m ∷ ms) = (n ≡ m) ⊎ IsIn n ms
 abbrev pub ProgressFits : View → ℕ → ℕ → Event → Progress → Type 0
 ProgressFits V s p ev Continues = is_member_of V.table s p ≡ true
 ProgressFits V s p ev Parks = is_member_of V.table s p ≡ true
-ProgressFits V s p ev (Forks c) = (is_member_of V.table s p ≡ true) × (has (Proc c) (objects ev (present V)) ≡ true) × (is_between V.table.width c ≡ true)
+ProgressFits V s p ev (Forks c) = (is_member_of V.table s p ≡ true) × (has_object (Proc c) (objects ev (present V)) ≡ true) × (is_between V.table.width c ≡ true)
 ProgressFits V s p ev (Begins defers) = (s ≡ p) × (V.table.marks p ≡ None) × (is_between V.table.width p ≡ true) × (is_running ((present V).procs p) ≡ true)
 
 -- the event is of a member of the transaction, or of its starter to be; it posts among the members, and holds with its own
@@ -26,7 +27,7 @@ pub record FitsWithin (s : ℕ) (part : Progress) (ev : Event) (p : ℕ) (V : Vi
   pub mine : (t : ℕ) → is_member_of V.table t p ≡ true → t ≡ s
   pub progress_fits : ProgressFits V s p ev part
   pub sends : (S : State) (m : Sending) → IsIn m (effect ev S).sends → is_other_starter V.table (actor ev) m.target ≡ false
-  pub holds : (S : State) (u : ℕ) → has (Held u) (objects ev S) ≡ true → u ≡ s
+  pub holds : (S : State) (u : ℕ) → has_object (Held u) (objects ev S) ≡ true → u ≡ s
 
 -- how the event goes with the role
 abbrev pub Fits : Role → Event → ℕ → View → Type 0

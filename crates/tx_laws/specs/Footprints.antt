@@ -2,12 +2,13 @@
 use Rattle.std.specs.Prelude.{◌≡◌, ℕ, Bool, true, false, None, if◌then◌else◌}
 use Rattle.tx_base.specs.declared.steps.Step.{Step}
 use Rattle.tx_base.specs.declared.steps.Step.TheVariants.{Call as Calls, Deliver, KernelAbort}
-use Rattle.tx_model.specs.State.{State, Object, Proc, Desc, Pipe, Held, has}
+use Rattle.tx_model.specs.State.{State, Object, Proc, Desc, Pipe, Held, has_object}
 use Rattle.tx_model.specs.Events.{Event, actor, process_of}
 use Rattle.tx_model.specs.Membership.{Table, is_member_of, is_live, Role, Outside, Within, Commits, Aborts}
 use Rattle.tx_model.specs.History.{event_footprint}
 use Rattle.tx_model.specs.Footprints.{footprint}
-use Rattle.tx_model.specs.View.{View, present, role_on, event_on, meets, has_two_answers, least, holder, IsClear}
+use Rattle.tx_model.specs.View.{View, present, role_on, event_on, some_object, has_two_answers, least, starter_in_way}
+use Rattle.tx_model.specs.Words.{IsClear}
 use Rattle.tx_model.specs.Answer.{is_running}
 use Rattle.tx_laws.specs.Sound.{IsSound}
 
@@ -28,11 +29,11 @@ is_abort (Aborts s status) = true
 abbrev pub FootprintIsOfEvent : Type 0
 FootprintIsOfEvent =
     (view : View) (step : Step) (object : Object) → is_running ((present view).procs (process_of step)) ≡ true → is_abort (role_on view step) ≡ false
-    → is_shared object ≡ true → has object (footprint view.table step (present view)) ≡ has object (event_footprint view.table (event_on view step) (present view))
+    → is_shared object ≡ true → has_object object (footprint view.table step (present view)) ≡ has_object object (event_footprint view.table (event_on view step) (present view))
 
 -- what a transaction holds is in the footprint of no step
 abbrev pub FootprintIsShared : Type 0
-FootprintIsShared = (table : Table) (step : Step) (state : State) (starter : ℕ) → has (Held starter) (footprint table step state) ≡ false
+FootprintIsShared = (table : Table) (step : Step) (state : State) (starter : ℕ) → has_object (Held starter) (footprint table step state) ≡ false
 
 -- whether the step is a call or a delivery: nobody is ever in the way of the kernel's abort
 abbrev pub is_asked : Step → Bool
@@ -45,19 +46,19 @@ abbrev pub is_in_way : View → Step → ℕ → Bool
 is_in_way view step s =
     if is_live view.table s
     then (if is_member_of view.table s (process_of step) then false
-    else (if meets (footprint view.table step (present view)) (view.touched s) then true else has_two_answers view (event_on view step) s))
+    else (if some_object (footprint view.table step (present view)) (view.reserved s) then true else has_two_answers view (event_on view step) s))
     else false
 
--- the holder that a busy step names is the least starter that is in its way
-abbrev pub HolderIsOfStep : Type 0
-HolderIsOfStep = (view : View) (step : Step) → IsSound view → is_asked step ≡ true → is_running ((present view).procs (process_of step)) ≡ true →
-    holder view (event_on view step) ≡ least (is_in_way view step) view.table.width
+-- a busy step names the least starter that is in its way
+abbrev pub StarterInWayIsOfStep : Type 0
+StarterInWayIsOfStep = (view : View) (step : Step) → IsSound view → is_asked step ≡ true → is_running ((present view).procs (process_of step)) ≡ true →
+    starter_in_way view (event_on view step) ≡ least (is_in_way view step) view.table.width
 
--- where no holder is named, nobody is in the way
-abbrev pub NoHolderIsClear : Type 0
-NoHolderIsClear = (view : View) (event : Event) → IsSound view → holder view event ≡ None → IsClear view event
+-- where none is named, nobody is in the way
+abbrev pub NoStarterIsClear : Type 0
+NoStarterIsClear = (view : View) (event : Event) → IsSound view → starter_in_way view event ≡ None → IsClear view event
 
--- where nobody is in the way, whoever touched what the event names has its process as a member
+-- where nobody is in the way, whoever reserved what the event names has its process as a member
 abbrev pub ClearIsOfMembers : Type 0
 ClearIsOfMembers = (view : View) (event : Event) (object : Object) (starter : ℕ) → IsSound view → IsClear view event →
-    has object (event_footprint view.table event (present view)) ≡ true → view.touched starter object ≡ true → is_member_of view.table starter (actor event) ≡ true
+    has_object object (event_footprint view.table event (present view)) ≡ true → view.reserved starter object ≡ true → is_member_of view.table starter (actor event) ≡ true

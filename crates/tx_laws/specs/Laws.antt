@@ -2,13 +2,14 @@
 use Rattle.std.specs.Prelude.{◌≡◌, ◌≤◌, ℕ, All, List, [], ◌∷◌, ◌++◌}
 use Rattle.tx_base.specs.declared.steps.Accepted.{Accepted}
 use Rattle.tx_base.specs.declared.steps.Step.{Step}
-use Rattle.tx_model.specs.Posts.{post}
-use Rattle.tx_model.specs.State.{Sending, State, booted}
+use Rattle.tx_model.specs.Posts.{after_post}
+use Rattle.tx_model.specs.State.{Sending, State, boot_state}
 use Rattle.tx_model.specs.Events.{Event, after, process_of}
 use Rattle.tx_model.specs.History.{Starters, survivors}
 use Rattle.tx_model.specs.Membership.{Role}
 use Rattle.tx_model.specs.Schedules.{history_of}
-use Rattle.tx_model.specs.View.{View, view, next, next_by, role_on, event_on}
+use Rattle.tx_model.specs.View.{View, view, next, role_on, event_on}
+use Rattle.tx_model.specs.Words.{next_by}
 use Rattle.tx_model.specs.Answer.{answer, IsAccepted, Lawful, Agreement}
 use Rattle.tx_laws.specs.Fits.{Fits, Passes}
 use Rattle.tx_laws.specs.Places.{survivors_by_place}
@@ -48,7 +49,7 @@ AcceptedStepsFit = (view : View) (step : Step) → IsSound view → IsAccepted (
 
 -- a booted state is well formed
 abbrev pub BootedIsWellFormed : Type 0
-BootedIsWellFormed = (width count : ℕ) → 1 ≤ count → count ≤ width → IsWellFormed (booted width count)
+BootedIsWellFormed = (width count : ℕ) → 1 ≤ count → count ≤ width → IsWellFormed (boot_state width count)
 
 -- an event with numbers in range leaves a well-formed state so
 abbrev pub EventKeepsForm : Type 0
@@ -56,7 +57,7 @@ EventKeepsForm = (event : Event) (state : State) → IsWellFormed state → HasG
 
 -- a post of a signal that may be on its way leaves a well-formed state so
 abbrev pub PostKeepsForm : Type 0
-PostKeepsForm = (sending : Sending) (state : State) → IsSendable sending → IsWellFormed state → IsWellFormed (post sending state)
+PostKeepsForm = (sending : Sending) (state : State) → IsSendable sending → IsWellFormed state → IsWellFormed (after_post sending state)
 
 -- a well-formed state is so too where other known signals are held
 abbrev pub HeldKeepsForm : Type 0

@@ -1,12 +1,12 @@
 -- The laws of single events: what they depend on, what they change, and which of them commute. Own rules.
 use Rattle.std.specs.Prelude.{◌≡◌, ℕ, ℤ, List, Some, true, false, ◌++◌}
 use Rattle.tx_base.specs.declared.steps.Step.{Step}
-use Rattle.tx_model.specs.State.{State, Sending, Object, Proc, Held, has}
+use Rattle.tx_model.specs.State.{State, Sending, Object, Proc, Held, has_object}
 use Rattle.tx_model.specs.StateLaws.{AgreePart, AgreeAt, AgreeOn}
-use Rattle.tx_model.specs.Posts.{posts}
-use Rattle.tx_model.specs.Effects.{Inside, before_sends, applied}
+use Rattle.tx_model.specs.Posts.{after_posts}
+use Rattle.tx_model.specs.Effects.{Inside, after_effect}
+use Rattle.tx_model.specs.Words.{before_sends, processes_of}
 use Rattle.tx_model.specs.Events.{Event, Do, process_of, actor, effect, objects, after, reply_of}
-use Rattle.tx_model.specs.History.{processes_of}
 use Rattle.tx_laws.specs.Commuting.{AreApart}
 use Rattle.tx_laws.specs.Fits.{IsIn, HoldsFor}
 
@@ -16,7 +16,7 @@ EffectIsLocal = (event : Event) (one other : State) → AgreeOn (objects event o
 
 -- who makes an event is one of its objects
 abbrev pub ActorIsObject : Type 0
-ActorIsObject = (event : Event) (state : State) → has (Proc (actor event)) (objects event state) ≡ true
+ActorIsObject = (event : Event) (state : State) → has_object (Proc (actor event)) (objects event state) ≡ true
 
 -- states that agree at an event's objects have the same objects of it
 abbrev pub ObjectsAreLocal : Type 0
@@ -30,26 +30,26 @@ ReplyIsLocal = (event : Event) (one other : State) →
 -- an event changes nothing but its objects and the targets of its sends
 abbrev pub ElsewhereIsSame : Type 0
 ElsewhereIsSame = (event : Event) (state : State) (object : Object) →
-    has object (objects event state ++ processes_of (effect event state).sends) ≡ false → AgreeAt (after event state) state object
+    has_object object (objects event state ++ processes_of (effect event state).sends) ≡ false → AgreeAt (after event state) state object
 
 -- an event leaves the part of every other object as it was
 abbrev pub OtherPartsStay : Type 0
 OtherPartsStay = (event : Event) (state : State) (object : Object) →
-    has object (objects event state ++ processes_of (effect event state).sends) ≡ false → AgreePart (after event state) state object
+    has_object object (objects event state ++ processes_of (effect event state).sends) ≡ false → AgreePart (after event state) state object
 
 -- the writes of an event leave, in any state, the part of everything that is no object of it as it was
 abbrev pub WritesStayInObjects : Type 0
 WritesStayInObjects = (event : Event) (state other : State) (object : Object) →
-    has object (objects event state) ≡ false → AgreePart (before_sends (effect event state) other) other object
+    has_object object (objects event state) ≡ false → AgreePart (before_sends (effect event state) other) other object
 
 -- at what is no object of it an event does nothing but post its sends, in whatever state it is made
 abbrev pub OthersGetSendsAlone : Type 0
 OthersGetSendsAlone = (event : Event) (state other : State) (answers : List ℤ) (object : Object) →
-    has object (objects event state) ≡ false → AgreePart (applied (effect event state) answers other) (posts (effect event state).sends other) object
+    has_object object (objects event state) ≡ false → AgreePart (after_effect (effect event state) answers other) (after_posts (effect event state).sends other) object
 
 -- what a transaction holds is an object of those events alone that are made inside of it, or commit it
 abbrev pub HoldsForItsOwn : Type 0
-HoldsForItsOwn = (event : Event) (state : State) (starter : ℕ) → has (Held starter) (objects event state) ≡ true → HoldsFor starter event
+HoldsForItsOwn = (event : Event) (state : State) (starter : ℕ) → has_object (Held starter) (objects event state) ≡ true → HoldsFor starter event
 
 -- what a member of a transaction sends at once goes to members
 abbrev pub MembersSendToMembers : Type 0

@@ -6,7 +6,8 @@ use Rattle.tx_model.specs.StateLaws.{AgreeAt, AgreeOn}
 use Rattle.tx_model.specs.Effects.{send_answers}
 use Rattle.tx_model.specs.Events.{Event, process_of, effect, objects, after}
 use Rattle.tx_model.specs.History.{Starters, role_in, event_of}
-use Rattle.tx_model.specs.View.{View, view, present, IsClear}
+use Rattle.tx_model.specs.View.{View, view, present}
+use Rattle.tx_model.specs.Words.{IsClear}
 use Rattle.tx_model.specs.Answer.{Lawful, AgreesWithout}
 use Rattle.tx_laws.specs.Fits.{Fits, Passes, IsQuiet}
 use Rattle.tx_laws.specs.Sound.{IsSound}

@@ -2,11 +2,12 @@
 use Rattle.std.specs.Prelude.{◌≡◌, ℕ, true, false, [], Some, None}
 use Rattle.tx_base.specs.declared.steps.Step.{Step}
 use Rattle.tx_model.specs.SignalSets.{kill_signo}
-use Rattle.tx_model.specs.State.{State, Object, Proc, has}
+use Rattle.tx_model.specs.State.{State, Object, Proc, has_object}
 use Rattle.tx_model.specs.StateLaws.{AgreePart}
 use Rattle.tx_model.specs.Events.{Event, process_of, objects}
 use Rattle.tx_model.specs.Membership.{Role, is_live, empty_table}
-use Rattle.tx_model.specs.View.{view, present, has_pending, is_doomed, has_two_answers, in_way, least, holder, next, next_by, role_on, event_on}
+use Rattle.tx_model.specs.View.{view, present, has_pending, is_doomed, has_two_answers, in_way, least, starter_in_way, next, role_on, event_on}
+use Rattle.tx_model.specs.Words.{next_by}
 use Rattle.tx_model.specs.Answer.{answer, IsAccepted}
 use Rattle.tx_laws.specs.Fits.{Fits, Passes}
 use Rattle.tx_laws.specs.Sound.{IsSound}
@@ -51,14 +52,14 @@ DoomIsKept = (kernel : TwoParts) (starter : ℕ) → IsSound (parts_view kernel)
 -- sends to it
 abbrev pub TwoAnswersAreOfStarter : Type 0
 TwoAnswersAreOfStarter = (kernel : TwoParts) (event : Event) (starter : ℕ) → IsSound (parts_view kernel) → is_live kernel.table starter ≡ true →
-    has (Proc starter) (objects event kernel.now) ≡ false → has_two_answers (parts_view kernel) event starter ≡ sends_differ kernel event starter
+    has_object (Proc starter) (objects event kernel.now) ≡ false → has_two_answers (parts_view kernel) event starter ≡ sends_differ kernel event starter
 
 -- who is in the way of an event, the two parts, the owners and the table tell
 abbrev pub InWayIsOfParts : Type 0
 InWayIsOfParts = (kernel : TwoParts) (event : Event) (starter : ℕ) → IsSound (parts_view kernel) →
     in_way (parts_view kernel) event starter ≡ parts_in_way kernel event starter
 
--- the holder is the least of those that these tell to be in the way
-abbrev pub HolderIsOfParts : Type 0
-HolderIsOfParts = (kernel : TwoParts) (event : Event) → IsSound (parts_view kernel) →
-    holder (parts_view kernel) event ≡ least (parts_in_way kernel event) kernel.table.width
+-- a busy step names the least of those that these tell to be in the way
+abbrev pub StarterInWayIsOfParts : Type 0
+StarterInWayIsOfParts = (kernel : TwoParts) (event : Event) → IsSound (parts_view kernel) →
+    starter_in_way (parts_view kernel) event ≡ least (parts_in_way kernel event) kernel.table.width

@@ -56,40 +56,9 @@ moved_history S s later e h = later ++ moved_to S s e h
 
 -- the call looks at the signals of its process, whatever it answers
 abbrev pub call_looks : Call → Bool
-call_looks (call.Map page) = false
-call_looks (call.Unmap page) = false
-call_looks (call.Protect page writable) = false
-call_looks (call.Store address bytes) = false
-call_looks (call.Load address) = false
-call_looks (call.Fork child) = false
-call_looks (call.Exit status) = false
-call_looks (call.Waitpid t nohang) = false
-call_looks call.Getpid = false
-call_looks call.Getppid = false
-call_looks (call.Setuid u) = false
-call_looks (call.Seteuid u) = false
-call_looks (call.Setgid g) = false
-call_looks (call.Setegid g) = false
-call_looks (call.Pipe q r w) = false
-call_looks (call.Dup f) = false
-call_looks (call.Dup2 f g) = false
-call_looks (call.Close f) = false
-call_looks (call.SetNonblock f on) = false
-call_looks (call.Read f address n) = false
-call_looks (call.Write f address n) = false
-call_looks (call.Kill t signo) = false
-call_looks (call.Sigqueue t signo value) = false
 call_looks (call.Sigaction signo action) = true
-call_looks (call.Sigprocmask how set) = false
 call_looks call.Sigpending = true
-call_looks call.Sigreturn = false
-call_looks (call.ConsoleWrite address n) = false
-call_looks (call.Jump point when) = false
-call_looks (call.Keep slot) = false
-call_looks call.SysXbegin = false
-call_looks call.SysXbeginDefer = false
-call_looks call.SysXend = false
-call_looks call.SysXabort = false
+call_looks c = false
 
 -- the step looks at the signals of its process: it is such a call, or a delivery
 abbrev pub looks_at_signals : Step → Bool

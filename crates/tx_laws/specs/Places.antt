@@ -4,7 +4,8 @@ use Rattle.tx_base.specs.declared.steps.Accepted.{Accepted}
 use Rattle.tx_model.specs.State.{State}
 use Rattle.tx_model.specs.Events.{Event}
 use Rattle.tx_model.specs.Membership.{Role, Outside, Within, Commits, Aborts}
-use Rattle.tx_model.specs.History.{Starters, role_in, event_of, placed}
+use Rattle.tx_model.specs.History.{Starters, role_in, event_of}
+use Rattle.tx_model.specs.Words.{event_if}
 
 -- what becomes of a transaction
 pub data Fate : Type 0 where
@@ -37,4 +38,4 @@ is_left_out X later (Aborts s status) = false
 unfoldable pub survivors_by_place : State → Starters → List Role → List Accepted → List Event
 survivors_by_place S X later [] = []
 survivors_by_place S X later (e ∷ h) =
-    placed (not (is_left_out X later (role_in S e h))) (event_of S e h) (survivors_by_place S X (role_in S e h ∷ later) h)
+    event_if (not (is_left_out X later (role_in S e h))) (event_of S e h) (survivors_by_place S X (role_in S e h ∷ later) h)

@@ -2,11 +2,11 @@
 use Rattle.std.specs.Prelude.{ℕ, Bool, true, false, List, [], ◌∷◌, Option, if◌then◌else◌, ◌==◌}
 use Rattle.std.specs.Ordering.{int_eq}
 use Rattle.tx_model.specs.State.{Process, Sending}
-use Rattle.tx_model.specs.Posts.{received, post_answer}
+use Rattle.tx_model.specs.Posts.{target_after, post_answer}
 use Rattle.tx_model.specs.Events.{Event, actor, effect}
 use Rattle.tx_model.specs.Membership.{is_live, is_member_of}
 use Rattle.tx_model.specs.History.{event_footprint}
-use Rattle.tx_model.specs.View.{meets}
+use Rattle.tx_model.specs.View.{some_object}
 use Rattle.tx_laws.specs.TwoParts.{TwoParts, is_owner}
 
 -- whether a send to process s is answered otherwise by the one process than by the other, one send after another
@@ -14,12 +14,12 @@ unfoldable pub differs_by : ℕ → List Sending → Option Process → Option P
 differs_by s [] one other = false
 differs_by s (m ∷ ms) one other =
     if m.target == s
-    then (if int_eq (post_answer m one) (post_answer m other) then differs_by s ms (received m one) (received m other) else true)
+    then (if int_eq (post_answer m one) (post_answer m other) then differs_by s ms (target_after m one) (target_after m other) else true)
     else differs_by s ms one other
 
 -- whether s owns something that the event names
 abbrev pub owns_named : TwoParts → Event → ℕ → Bool
-owns_named c ev s = meets (event_footprint c.table ev c.now) (λ o. is_owner s (c.owner o))
+owns_named c ev s = some_object (event_footprint c.table ev c.now) (λ o. is_owner s (c.owner o))
 
 -- whether a send of the event to s is answered otherwise by its process as it is kept than as it is now
 abbrev pub sends_differ : TwoParts → Event → ℕ → Bool

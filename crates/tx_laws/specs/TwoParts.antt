@@ -1,8 +1,8 @@
 -- A kernel that keeps two parts and one owner for each object: the part as it is, and the part as it
 -- would be without its owner's transaction. Own rules.
 use Rattle.std.specs.Prelude.{ℕ, Bool, false, List, Option, Some, None, is_none, if◌then◌else◌, ◌==◌}
-use Rattle.tx_model.specs.State.{State, Object, Proc, Desc, Pipe, Held, has}
-use Rattle.tx_model.specs.Effects.{send_answers, applied}
+use Rattle.tx_model.specs.State.{State, Object, Proc, Desc, Pipe, Held, has_object}
+use Rattle.tx_model.specs.Effects.{send_answers, after_effect}
 use Rattle.tx_model.specs.Events.{Event, effect}
 use Rattle.tx_model.specs.Membership.{Table, Role, Outside, Within, Commits, Aborts, table_after}
 use Rattle.tx_model.specs.History.{Starters, just, event_footprint, objects_reserved}
@@ -37,7 +37,7 @@ abbrev pub parts_without : TwoParts → Starters → State
 parts_without c X = pick (λ o. in_set X (c.owner o)) c.kept c.now
 
 unfoldable pub parts_view : TwoParts → View
-parts_view c = record { without = parts_without c; table = c.table; touched = λ s o. is_owner s (c.owner o) }
+parts_view c = record { without = parts_without c; table = c.table; reserved = λ s o. is_owner s (c.owner o) }
 
 abbrev pub freed : ℕ → Option ℕ → Option ℕ
 freed s None = None
@@ -45,14 +45,14 @@ freed s (Some t) = if t == s then None else Some t
 
 -- the event as it is made on a state
 abbrev pub made : Event → State → State → State
-made ev S R = applied (effect ev S) (send_answers (effect ev S) S) R
+made ev S R = after_effect (effect ev S) (send_answers (effect ev S) S) R
 
 -- every object of the list is the starter's from now on, and is kept as it is now if nobody owned it
-abbrev pub reserved : ℕ → List Object → Event → Table → TwoParts → TwoParts
-reserved s F ev table c = record {
+abbrev pub with_reserved : ℕ → List Object → Event → Table → TwoParts → TwoParts
+with_reserved s F ev table c = record {
   now = made ev c.now c.now;
-  kept = pick (λ o. if has o F then is_none (c.owner o) else false) c.now c.kept;
-  owner = λ o. if has o F then Some s else c.owner o;
+  kept = pick (λ o. if has_object o F then is_none (c.owner o) else false) c.now c.kept;
+  owner = λ o. if has_object o F then Some s else c.owner o;
   table = table;
 }
 
@@ -63,6 +63,6 @@ on_both ev S c owner table = record { now = made ev S S; kept = made ev S c.kept
 -- the kernel after a step of process p that is so to the transactions
 unfoldable pub parts_next : Role → Event → ℕ → TwoParts → TwoParts
 parts_next Outside ev p c = on_both ev c.now c c.owner (table_after Outside p c.table)
-parts_next (Within s part) ev p c = reserved s (objects_reserved part s (event_footprint c.table ev c.now)) ev (table_after (Within s part) p c.table) c
+parts_next (Within s part) ev p c = with_reserved s (objects_reserved part s (event_footprint c.table ev c.now)) ev (table_after (Within s part) p c.table) c
 parts_next (Commits s) ev p c = on_both ev c.now c (λ o. freed s (c.owner o)) (table_after (Commits s) p c.table)
 parts_next (Aborts s status) ev p c = on_both ev (parts_without c (just s)) c (λ o. freed s (c.owner o)) (table_after (Aborts s status) p c.table)

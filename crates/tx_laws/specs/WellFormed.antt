@@ -11,7 +11,8 @@ use Rattle.tx_model.specs.State.{Ids, Process, Frame, Queued, Sending, Descripti
 use Rattle.tx_model.specs.Deliveries.{action_at}
 use Rattle.tx_model.specs.Descriptors.{is_named, has_description}
 use Rattle.tx_model.specs.Events.{Event, Do, Note, Commit}
-use Rattle.tx_model.specs.Answer.{has_bad_number, is_running}
+use Rattle.tx_model.specs.Answer.{is_running}
+use Rattle.tx_model.specs.Words.{has_bad_number}
 
 -- each frame has all slots
 abbrev pub AllSaved : List Frame → Type 0

@@ -2,7 +2,7 @@
 use Rattle.std.specs.Prelude.{◌≡◌, ◌≢◌, ◌⊎◌, ℕ, ◌+◌, ◌-◌, ◌≤◌, true, false, List, [], ◌∷◌, Option, Some, None, is_some}
 use Rattle.tx_base.specs.declared.limits.TheConstants.{HELD_SENDS}
 use Rattle.tx_model.specs.State.{Process, Sending, State}
-use Rattle.tx_model.specs.Book.{has_sender, sent_by_members}
+use Rattle.tx_model.specs.Book.{sender_count, member_sends}
 use Rattle.tx_model.specs.Membership.{Table, is_member_of, is_live, is_open_of}
 use Rattle.tx_model.specs.History.{just}
 use Rattle.tx_model.specs.View.{View, present}
@@ -11,7 +11,7 @@ use Rattle.tx_model.specs.Answer.{is_running}
 -- how many of the sends have no sender: they are the kernel's own
 unfoldable pub sent_by_kernel : List Sending → ℕ
 sent_by_kernel [] = 0
-sent_by_kernel (m ∷ ms) = 1 - has_sender m.from + sent_by_kernel ms
+sent_by_kernel (m ∷ ms) = 1 - sender_count m.from + sent_by_kernel ms
 
 -- the parent of the process, if it is there, is process 1 or a member of the transaction of s
 abbrev pub HasParentInside : Table → ℕ → Option Process → Type 0
@@ -31,7 +31,7 @@ pub record IsTransaction (t : Table) (S : State) (s : ℕ) : Type 0 where
   pub open_parts : (p : ℕ) → is_open_of s (t.marks p) ≡ true → is_running (S.procs p) ≡ true
   pub parents : (p : ℕ) → is_member_of t s p ≡ true → p ≢ s → HasParentInside t s (S.procs p)
   pub outside : HasParentOutside t s (S.procs s)
-  pub sent : sent_by_members (S.held s) ≤ HELD_SENDS
+  pub sent : member_sends (S.held s) ≤ HELD_SENDS
   pub told_none : is_running (S.procs s) ≡ true → sent_by_kernel (S.held s) ≡ 0
   pub told_once : sent_by_kernel (S.held s) ≤ 1
 

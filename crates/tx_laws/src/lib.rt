@@ -10,7 +10,7 @@ ghost use Rattle.tx_base.specs.declared.names.Missed.{Missed};
 ghost use Rattle.tx_base.specs.declared.steps.Step.{Step};
 ghost use Rattle.tx_model.specs.Answer.{Lawful, answer};
 ghost use Rattle.tx_model.specs.History.{Starters, without, nobody, table_of};
-ghost use Rattle.tx_model.specs.State.{State, booted};
+ghost use Rattle.tx_model.specs.State.{State, boot_state};
 ghost use Rattle.tx_model.specs.View.{view};
 ghost use Rattle.tx_laws.specs.Laws.{PrefixesAgree, SurvivorsAreByPlace, LawfulViewIsNext, LawfulViewIsSound, StartIsSound, NextIsSound, AcceptedStepsFit, RolesKeepSound, NextIsWellFormed, BootedIsWellFormed, EventKeepsForm, PostKeepsForm, HeldKeepsForm, SchedulesAreLawful};
 ghost use Rattle.tx_laws.specs.LawsOfOthers.{HistoriesAgree, EntriesFit, ObjectsOfOthersApart, AnswersWithoutOthers, SameEventKeeps};
@@ -18,9 +18,9 @@ ghost use Rattle.tx_laws.specs.LawsOfDoom.{DoomedCallsAreRefused, DoomedDeliveri
 ghost use Rattle.tx_laws.specs.Endings.{ExitIsTold, ExitsSayEnd, OtherCallsSayNoEnd, DeliveriesSayEnd, EndingsAreAnswered, StepIsToldByEnd, OtherCallIsTold, DeliveryIsTold};
 ghost use Rattle.tx_laws.specs.Shown.{ShowsFew};
 ghost use Rattle.tx_laws.specs.LawsOfEvents.{ActorIsObject, EffectIsLocal, ObjectsAreLocal, ReplyIsLocal, ElsewhereIsSame, OtherPartsStay, WritesStayInObjects, OthersGetSendsAlone, HoldsForItsOwn, MembersSendToMembers, StatesCommute, RepliesCommute};
-ghost use Rattle.tx_laws.specs.LawsOfParts.{StartHasItsView, SamePartsSameView, PartsFollowRole, PartsFollowStep, PresentIsNow, DoomIsKept, TwoAnswersAreOfStarter, InWayIsOfParts, HolderIsOfParts};
+ghost use Rattle.tx_laws.specs.LawsOfParts.{StartHasItsView, SamePartsSameView, PartsFollowRole, PartsFollowStep, PresentIsNow, DoomIsKept, TwoAnswersAreOfStarter, InWayIsOfParts, StarterInWayIsOfParts};
 ghost use Rattle.tx_laws.specs.WellFormed.{IsWellFormed};
-ghost use Rattle.tx_laws.specs.Footprints.{ClearIsOfMembers, FootprintIsOfEvent, FootprintIsShared, HolderIsOfStep, NoHolderIsClear};
+ghost use Rattle.tx_laws.specs.Footprints.{ClearIsOfMembers, FootprintIsOfEvent, FootprintIsShared, StarterInWayIsOfStep, NoStarterIsClear};
 ghost use Rattle.tx_laws.specs.WellFormedTable.{HoldsNothing, IsWellFormedWith};
 ghost use Rattle.tx_laws.specs.LawsOfTable.{EmptyViewIsWellFormed, NextViewIsWellFormed, ViewsListEnough};
 
@@ -55,7 +55,7 @@ pub fn survivors_by_places()
 {}
 
 /// The view of a lawful history is the next view of that of the entries before its last, and
-/// is sound: it depends at each object on those transactions alone that touched it.
+/// is sound: it depends at each object on those transactions alone that reserved it.
 pub fn next_view()
     ensures history { LawfulViewIsNext }
     ensures sound { LawfulViewIsSound }
@@ -89,13 +89,13 @@ pub fn two_parts()
 /// transaction is doomed if SIGKILL is pending at its starter as that is kept. The transaction of a live
 /// starter is in the way of an event of a process that is no member of it, if the starter owns something
 /// that the event names, or if one of the event's sends to the starter is answered otherwise by its
-/// process as it is kept than as it is now. The holder is the least of those in the way.
+/// process as it is kept than as it is now. A busy step names the least starter in its way.
 pub fn answers_of_parts()
     ensures present { PresentIsNow }
     ensures doom { DoomIsKept }
     ensures two_answers { TwoAnswersAreOfStarter }
     ensures in_way { InWayIsOfParts }
-    ensures holder { HolderIsOfParts }
+    ensures starter_in_way { StarterInWayIsOfParts }
 {}
 
 /// Locality: what an event does, and which objects it has, is a function of its objects, their families
@@ -123,14 +123,14 @@ pub fn inside()
 
 /// Footprints: of a step of a process that runs, which is no abort, the footprint is what its
 /// event names, and the targets of what the event posts. What a transaction holds is left out. The
-/// holder that a busy call or delivery names is the least starter that is in its way by its own footprint,
-/// an abort by a member included. Where none is named nobody is in the way, and then whoever touched what
+/// starter that a busy call or delivery names is the least one that is in its way by its own footprint,
+/// an abort by a member included. Where none is named nobody is in the way, and then whoever reserved what
 /// the event names has its process as a member.
 pub fn footprints()
     ensures of_event { FootprintIsOfEvent }
-    ensures holder { HolderIsOfStep }
+    ensures starter_in_way { StarterInWayIsOfStep }
     ensures shared { FootprintIsShared }
-    ensures clear { NoHolderIsClear }
+    ensures clear { NoStarterIsClear }
     ensures members { ClearIsOfMembers }
 {}
 
@@ -198,7 +198,7 @@ pub fn well_formed()
 /// each member but the starter is a member too or process 1, that of the starter is none, and what
 /// is held is within its limit. So what a commit lists fits its reply. The same step by step.
 pub fn well_formed_table()
-    ensures booted { (width count : ℕ) → HoldsNothing (booted width count) }
+    ensures booted { (width count : ℕ) → HoldsNothing (boot_state width count) }
     ensures start { EmptyViewIsWellFormed }
     ensures step { NextViewIsWellFormed }
     ensures listed { ViewsListEnough }

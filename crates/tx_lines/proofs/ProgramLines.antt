@@ -8,14 +8,15 @@ use Rattle.std.specs.List.{list_all}
 use Rattle.std.specs.Prelude.{pos}
 use Rattle.arrayvec.specs.ArrayVec.{ArrayVec}
 use Rattle.tx_base.specs.declared.steps.Call.{Call}
-use Rattle.tx_lines.specs.Arguments.{arguments_of, name_of, word_of, Argument, Number, Point, Word}
-use Rattle.tx_lines.specs.Calls.{FitsCall}
-use Rattle.tx_lines.specs.Instructions.{instruction_text, is_letter, is_name, is_name_byte, joined, kind_of, label_spelling, may_be, plain_as, plain_text, plain_word, slot_spelling, spelled_word, spelled_words, spelling_of, words_of, AreSpelled, IsInstruction, IsSpelled}
+use Rattle.tx_lines.specs.Arguments.{word_of, Argument, Number, Point, FitsArgument}
+use Rattle.tx_lines.specs.Calls.{name_of, program_arguments, FitsCall}
+use Rattle.tx_lines.specs.Instructions.{instruction_text, is_letter, is_name, is_name_byte, kind_of, label_spelling, may_be, plain_as, plain_text, plain_word, slot_spelling, spelled_word, spelled_words, spelling_of, words_of, AreSpelled, IsInstruction, IsSpelled, MayAllBe}
 use Rattle.tx_lines.specs.declared.instructions.Instruction.{Instruction}
 use Rattle.tx_lines.specs.declared.instructions.Spelling.{Spelling}
 use Rattle.tx_lines.specs.declared.instructions.Spelling.TheVariants.{Plain, Slot, Label}
+use Rattle.tx_lines.specs.Words.{joined}
 use Rattle.tx_lines.specs.declared.read.header.Version.{Version}
-use Rattle.tx_lines.proofs.CallWords.{few_arguments, good_arguments, other_name, plain_name, AreGood, FitsArgument, IsGood}
+use Rattle.tx_lines.proofs.CallWords.{few_arguments, good_arguments, other_name, plain_name, AreGood, IsGood}
 use Rattle.tx_lines.proofs.FirstWord.{parts_at-free, parts_at-word, IsFree}
 use Rattle.tx_lines.proofs.LineWords.{words_split, words_whole}
 use Rattle.tx_lines.proofs.Spelled.{mag_small}
@@ -130,7 +131,7 @@ told (byte ∷ bytes) =
 -- a word that stands for an argument, and may do so, spells it
 word_sound : (word : List ℕ) (argument : Argument) → IsGood argument → plain_word word ≡ word_of argument → may_be (spelling_of word) (kind_of argument) ≡ true →
     IsSpelled (spelling_of word) argument × (spelled_word (spelling_of word) argument ≡ word)
-unfolding Told FitsArgument
+unfolding Told
 word_sound word argument good same may = by (spelling_of word) argument good.fits (told word) same may
   where
     by : (s : Spelling) (a : Argument) → FitsArgument a → Told s word → plain_as s word ≡ word_of a → may_be s (kind_of a) ≡ true → IsSpelled s a × (spelled_word s a ≡ word)
@@ -138,17 +139,15 @@ word_sound word argument good same may = by (spelling_of word) argument good.fit
     by (Slot slot) (Number number) fits told same may =
         let zero_number : number ≡ pos 0 = sym (signed_decimal_injective (pos 0) number (omega arith) (mag_small number fits) (decimal_digit 0 (omega arith) ∙ same)) in
         ((told.0, ap Number zero_number), sym told.1)
-    by (Slot slot) (Point point) fits told same may = absurd (both_ways false refl may)
-    by (Slot slot) (Word w) fits told same may = absurd (both_ways false refl may)
-    by (Label name) (Number number) fits told same may = absurd (both_ways false refl may)
+    by (Slot slot) a fits told same may = absurd (both_ways false refl may)
     by (Label name) (Point point) fits told same may =
         let zero_point : point ≡ 0 = sym (decimal_injective 0 point (omega arith) (omega (arith, fits)) (decimal_digit 0 (omega arith) ∙ same)) in
         ((told.0, ap Point zero_point), sym told.1)
-    by (Label name) (Word w) fits told same may = absurd (both_ways false refl may)
+    by (Label name) a fits told same may = absurd (both_ways false refl may)
 
 -- so do words one by one
 pub words_sound : (words : List (List ℕ)) (arguments : List Argument) → AreGood arguments → map plain_word words ≡ map word_of arguments
-    → ((place : ℕ) (spelling : Spelling) (argument : Argument) → slice_get (map spelling_of words) place ≡ Some spelling → slice_get arguments place ≡ Some argument → may_be spelling (kind_of argument) ≡ true)
+    → MayAllBe (map spelling_of words) arguments
     → AreSpelled (map spelling_of words) arguments × (spelled_words (map spelling_of words) arguments ≡ words)
 unfolding AreGood
 words_sound [] [] good same may = (tt, refl)
@@ -263,26 +262,26 @@ may_all (s ∷ spellings) (a ∷ arguments) spelled good (suc place) spelling ar
 
 -- a line whose words stand for those of a call spells the call
 pub record LineSpells (line : List ℕ) (c : Call) (spellings : List Spelling) : Type 0 where
-  pub text : line ≡ joined (name_of c) (spelled_words spellings (arguments_of c))
-  pub spelled : AreSpelled spellings (arguments_of c)
+  pub text : line ≡ joined (name_of c) (spelled_words spellings (program_arguments c))
+  pub spelled : AreSpelled spellings (program_arguments c)
 
 pub line_found : (line text : List ℕ) (c : Call) (spellings : List Spelling) → FitsCall c → text ≡ joined (words_of line).0 (map plain_word (words_of line).1) → text ≡ plain_text c
     → spellings ≡ map spelling_of (words_of line).1
-    → ((place : ℕ) (spelling : Spelling) (argument : Argument) → slice_get spellings place ≡ Some spelling → slice_get (arguments_of c) place ≡ Some argument → may_be spelling (kind_of argument) ≡ true)
+    → MayAllBe spellings (program_arguments c)
     → LineSpells line c spellings
 line_found line text c spellings fits put read spelled may =
     let words : List ℕ × List (List ℕ) = words_of line in
     let free = words_free line in
     let good = good_arguments c fits in
     let left : words_of text ≡ (words.0, map plain_word words.1) = ap words_of put ∙ words_joined words.0 (map plain_word words.1) free.0 (plain_free words.1 free.1) in
-    let right : words_of text ≡ (name_of c, map word_of (arguments_of c)) = ap words_of read ∙ words_joined (name_of c) (map word_of (arguments_of c)) (plain_name c).space (good_free (arguments_of c) good) in
+    let right : words_of text ≡ (name_of c, map word_of (program_arguments c)) = ap words_of read ∙ words_joined (name_of c) (map word_of (program_arguments c)) (plain_name c).space (good_free (program_arguments c) good) in
     let pair = sym left ∙ right in
     let name : words.0 ≡ name_of c = ap (λ (ws : List ℕ × List (List ℕ)). ws.0) pair in
-    let plains : map plain_word words.1 ≡ map word_of (arguments_of c) = ap (λ (ws : List ℕ × List (List ℕ)). ws.1) pair in
-    let sound = words_sound words.1 (arguments_of c) good plains (λ place spelling argument at. may place spelling argument (ap (λ (ss : List Spelling). slice_get ss place) spelled ∙ at)) in
+    let plains : map plain_word words.1 ≡ map word_of (program_arguments c) = ap (λ (ws : List ℕ × List (List ℕ)). ws.1) pair in
+    let sound = words_sound words.1 (program_arguments c) good plains (λ place spelling argument at. may place spelling argument (ap (λ (ss : List Spelling). slice_get ss place) spelled ∙ at)) in
     record {
-      text = sym (joined_words line) ∙ ap (λ (w : List ℕ). joined w words.1) name ∙ ap (joined (name_of c)) (sym sound.1 ∙ ap (λ (ss : List Spelling). spelled_words ss (arguments_of c)) (sym spelled));
-      spelled = subst (λ (ss : List Spelling). AreSpelled ss (arguments_of c)) (sym spelled) sound.0;
+      text = sym (joined_words line) ∙ ap (λ (w : List ℕ). joined w words.1) name ∙ ap (joined (name_of c)) (sym sound.1 ∙ ap (λ (ss : List Spelling). spelled_words ss (program_arguments c)) (sym spelled));
+      spelled = subst (λ (ss : List Spelling). AreSpelled ss (program_arguments c)) (sym spelled) sound.0;
     }
 
 -- what is read of a line that spells an instruction
@@ -290,27 +289,27 @@ pub record LineReads (version : Version) (line : List ℕ) (i : Instruction) : T
   pub few : length (words_of line).1 ≤ 4
   pub text : joined (words_of line).0 (map plain_word (words_of line).1) ≡ plain_text i.call
   pub spellings : map spelling_of (words_of line).1 ≡ i.spellings.items
-  pub count : length i.spellings.items ≤ length (arguments_of i.call)
-  pub may : (place : ℕ) (spelling : Spelling) (argument : Argument) → slice_get i.spellings.items place ≡ Some spelling → slice_get (arguments_of i.call) place ≡ Some argument → may_be spelling (kind_of argument) ≡ true
+  pub count : length i.spellings.items ≤ length (program_arguments i.call)
+  pub may : MayAllBe i.spellings.items (program_arguments i.call)
 
 pub line_reads : (version : Version) (line : List ℕ) (i : Instruction) → IsInstruction version i → line ≡ instruction_text i → LineReads version line i
 line_reads version line i is e =
     let good = good_arguments i.call is.fits in
-    let all = spell_all i.spellings.items (arguments_of i.call) is.spelled good in
-    let words : words_of line ≡ (name_of i.call, spelled_words i.spellings.items (arguments_of i.call)) =
-    ap words_of e ∙ words_joined (name_of i.call) (spelled_words i.spellings.items (arguments_of i.call)) (plain_name i.call).space all.free in
+    let all = spell_all i.spellings.items (program_arguments i.call) is.spelled good in
+    let words : words_of line ≡ (name_of i.call, spelled_words i.spellings.items (program_arguments i.call)) =
+    ap words_of e ∙ words_joined (name_of i.call) (spelled_words i.spellings.items (program_arguments i.call)) (plain_name i.call).space all.free in
     record {
       few = rw words (omega (arith, all.count, few_arguments i.call));
       text = rw words (ap (joined (name_of i.call)) all.plain);
       spellings = rw words all.same;
       count = omega (arith, all.spelled_count);
-      may = may_all i.spellings.items (arguments_of i.call) is.spelled good;
+      may = may_all i.spellings.items (program_arguments i.call) is.spelled good;
     }
 
 -- what is read may be spelled so
 pub record MayBeRead (spellings : List Spelling) (c : Call) : Type 0 where
-  pub count : length spellings ≤ length (arguments_of c)
-  pub may : (place : ℕ) (spelling : Spelling) (argument : Argument) → slice_get spellings place ≡ Some spelling → slice_get (arguments_of c) place ≡ Some argument → may_be spelling (kind_of argument) ≡ true
+  pub count : length spellings ≤ length (program_arguments c)
+  pub may : MayAllBe spellings (program_arguments c)
 
 pub may_be_read : (version : Version) (line : List ℕ) (i : Instruction) (spellings : List Spelling) (c : Call) → LineReads version line i → spellings ≡ map spelling_of (words_of line).1 → c ≡ i.call → MayBeRead spellings c
 may_be_read version line i spellings c reads put same = rw (put, same, reads.spellings) (record { count = reads.count; may = reads.may })
@@ -326,9 +325,9 @@ same_instruction i spellings c spelled same =
 pub no_label : (version : Version) (i : Instruction) (rest : List ℕ) → IsInstruction version i → instruction_text i ≡ codes "label " ++ rest → ⊥
 no_label version i rest is e =
     let good = good_arguments i.call is.fits in
-    let all = spell_all i.spellings.items (arguments_of i.call) is.spelled good in
-    let words : words_of (instruction_text i) ≡ (name_of i.call, spelled_words i.spellings.items (arguments_of i.call)) =
-    words_joined (name_of i.call) (spelled_words i.spellings.items (arguments_of i.call)) (plain_name i.call).space all.free in
+    let all = spell_all i.spellings.items (program_arguments i.call) is.spelled good in
+    let words : words_of (instruction_text i) ≡ (name_of i.call, spelled_words i.spellings.items (program_arguments i.call)) =
+    words_joined (name_of i.call) (spelled_words i.spellings.items (program_arguments i.call)) (plain_name i.call).space all.free in
     let front : (words_of (codes "label " ++ rest)).0 ≡ codes "label" = refl in
     let same : name_of i.call ≡ codes "label" = ap (λ (ws : List ℕ × List (List ℕ)). ws.0) (sym words ∙ ap words_of e) ∙ front in
     other_name i.call same

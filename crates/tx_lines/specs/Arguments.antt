@@ -1,101 +1,51 @@
--- The words of a call: its name, and its arguments.
-use Rattle.std.specs.Prelude.{ℕ, ℤ, List, [], ◌∷◌, codes}
+-- The arguments of a call: what each is, its word, and whether a text can hold it.
+use Rattle.std.specs.Prelude.{ℕ, ℤ, ◌<◌, ◌≤◌, ◌^◌, Bool, true, false, List, [], ◌∷◌, length, map, FitsSigned}
+use Rattle.std.specs.Int.{w64}
 use Rattle.std.specs.Fmt.{decimal, signed_decimal}
-use Rattle.hex.specs.Hex.{encode_lower}
-use Rattle.tx_base.specs.declared.signals.Action.{Action}
-use Rattle.tx_base.specs.declared.signals.Action.TheVariants.{Usual, Ignore, Catch}
-use Rattle.tx_base.specs.declared.steps.Call.{Call}
-use Rattle.tx_base.specs.declared.steps.Call.TheVariants as call
-use Rattle.tx_base.specs.declared.steps.When.{When}
-use Rattle.tx_base.specs.declared.steps.When.TheVariants.{Always, IfRet}
-use Rattle.tx_lines.specs.Calls.{access_text, how_text, switch_text, waiting_text}
+use Rattle.hex.specs.Hex.{IsBytes, encode_lower}
+use Rattle.tx_base.specs.declared.signals.SigSet.{SigSet}
+use Rattle.tx_lines.specs.ListedSets.{FitsSet}
 use Rattle.tx_lines.specs.Sets.{set_text}
+use Rattle.tx_lines.specs.Words.{joined}
 
--- an argument: a number, which a program may take from a slot; a point, which a program names by a label; or another word
+-- an argument: a number, which a program may take from a slot; a point, which a program names by a label; a number below a limit that is chosen as
+-- the call is made, so that a program leaves it out; one of a few words; bytes; or a set of signals
 pub data Argument : Type 0 where
   Number : ℤ → Argument
   Point : ℕ → Argument
+  Chosen : ℕ → ℕ → Argument
   Word : List ℕ → Argument
+  Bytes : List ℕ → Argument
+  Signals : SigSet → Argument
 
 -- the word of an argument
 abbrev pub word_of : Argument → List ℕ
 word_of (Number number) = signed_decimal number
 word_of (Point point) = decimal point
+word_of (Chosen limit number) = decimal number
 word_of (Word word) = word
+word_of (Bytes bytes) = encode_lower bytes
+word_of (Signals set) = set_text set
 
--- what is done about a signal
-abbrev pub action_arguments : Action → List Argument
-action_arguments Usual = Word (codes "default") ∷ []
-action_arguments Ignore = Word (codes "ignore") ∷ []
-action_arguments (Catch point mask) = Word (codes "catch") ∷ Point point ∷ Word (set_text mask) ∷ []
+-- an argument is one that a text can hold
+abbrev pub FitsArgument : Argument → Type 0
+FitsArgument (Number number) = FitsSigned w64 number
+FitsArgument (Point point) = point < 2 ^ 32
+FitsArgument (Chosen limit number) = number < limit
+FitsArgument (Word word) = Unit {0}
+FitsArgument (Bytes bytes) = IsBytes bytes × (0 < length bytes) × (length bytes ≤ 64)
+FitsArgument (Signals set) = FitsSet set
 
--- when a jump is made
-abbrev pub when_arguments : When → List Argument
-when_arguments Always = Word (codes "always") ∷ []
-when_arguments (IfRet ret) = Word (codes "if") ∷ Number ret ∷ []
+-- so are all
+abbrev pub AllFit : List Argument → Type 0
+AllFit [] = Unit {0}
+AllFit (argument ∷ arguments) = FitsArgument argument × AllFit arguments
 
--- the first word of a call
-abbrev pub name_of : Call → List ℕ
-name_of (call.Map page) = codes "map"
-name_of (call.Unmap page) = codes "unmap"
-name_of (call.Protect page writable) = codes "protect"
-name_of (call.Store address bytes) = codes "store"
-name_of (call.Load address) = codes "load"
-name_of (call.Fork child) = codes "fork"
-name_of (call.Exit status) = codes "exit"
-name_of (call.Waitpid target nohang) = codes "waitpid"
-name_of call.Getpid = codes "getpid"
-name_of call.Getppid = codes "getppid"
-name_of (call.Setuid id) = codes "setuid"
-name_of (call.Seteuid id) = codes "seteuid"
-name_of (call.Setgid id) = codes "setgid"
-name_of (call.Setegid id) = codes "setegid"
-name_of (call.Pipe pipe read write) = codes "pipe"
-name_of (call.Dup fd) = codes "dup"
-name_of (call.Dup2 from to) = codes "dup2"
-name_of (call.Close fd) = codes "close"
-name_of (call.SetNonblock fd on) = codes "set_nonblock"
-name_of (call.Read fd address count) = codes "read"
-name_of (call.Write fd address count) = codes "write"
-name_of (call.Kill target signo) = codes "kill"
-name_of (call.Sigqueue target signo value) = codes "sigqueue"
-name_of (call.Sigaction signo action) = codes "sigaction"
-name_of (call.Sigprocmask how set) = codes "sigprocmask"
-name_of call.Sigpending = codes "sigpending"
-name_of call.Sigreturn = codes "sigreturn"
-name_of (call.ConsoleWrite address count) = codes "console_write"
-name_of (call.Jump point when) = codes "jump"
-name_of (call.Keep slot) = codes "keep"
-name_of call.SysXbegin = codes "sys_xbegin"
-name_of call.SysXbeginDefer = codes "sys_xbegin"
-name_of call.SysXend = codes "sys_xend"
-name_of call.SysXabort = codes "sys_xabort"
+-- whether a program spells an argument
+abbrev pub is_spelled : Argument → Bool
+is_spelled (Chosen limit number) = false
+is_spelled _ = true
 
--- the arguments of a call of a program; those of a fork and of a pipe are chosen as it is made
-abbrev pub arguments_of : Call → List Argument
-arguments_of (call.Map page) = Number page ∷ []
-arguments_of (call.Unmap page) = Number page ∷ []
-arguments_of (call.Protect page writable) = Number page ∷ Word (access_text writable) ∷ []
-arguments_of (call.Store address bytes) = Number address ∷ Word (encode_lower bytes.items) ∷ []
-arguments_of (call.Load address) = Number address ∷ []
-arguments_of (call.Exit status) = Number status ∷ []
-arguments_of (call.Waitpid target nohang) = Number target ∷ Word (waiting_text nohang) ∷ []
-arguments_of (call.Setuid id) = Number id ∷ []
-arguments_of (call.Seteuid id) = Number id ∷ []
-arguments_of (call.Setgid id) = Number id ∷ []
-arguments_of (call.Setegid id) = Number id ∷ []
-arguments_of (call.Dup fd) = Number fd ∷ []
-arguments_of (call.Dup2 from to) = Number from ∷ Number to ∷ []
-arguments_of (call.Close fd) = Number fd ∷ []
-arguments_of (call.SetNonblock fd on) = Number fd ∷ Word (switch_text on) ∷ []
-arguments_of (call.Read fd address count) = Number fd ∷ Number address ∷ Number count ∷ []
-arguments_of (call.Write fd address count) = Number fd ∷ Number address ∷ Number count ∷ []
-arguments_of (call.Kill target signo) = Number target ∷ Number signo ∷ []
-arguments_of (call.Sigqueue target signo value) = Number target ∷ Number signo ∷ Number value ∷ []
-arguments_of (call.Sigaction signo action) = Number signo ∷ action_arguments action
-arguments_of (call.Sigprocmask how set) = Word (how_text how) ∷ Word (set_text set) ∷ []
-arguments_of (call.ConsoleWrite address count) = Number address ∷ Number count ∷ []
-arguments_of (call.Jump point when) = Point point ∷ when_arguments when
-arguments_of (call.Keep slot) = Number slot ∷ []
-arguments_of call.SysXbeginDefer = Word (codes "defer") ∷ []
-arguments_of _ = []
+-- a name and its arguments, with a space before each
+abbrev pub text_of : List ℕ × List Argument → List ℕ
+text_of parts = joined parts.0 (map word_of parts.1)

@@ -1,23 +1,18 @@
 -- The lines of a program: instructions and labels, one spelling each.
-use Rattle.std.specs.Prelude.{◌≡◌, ℕ, pos, ◌-◌, ◌<◌, Bool, true, false, ◌&&◌, ◌||◌, List, [], ◌∷◌, ◌++◌, length, slice_index, nat_eq, nat_le, codes, map, if◌then◌else◌}
+use Rattle.std.specs.Prelude.{◌≡◌, ℕ, pos, ◌-◌, ◌<◌, Bool, true, false, not, ◌&&◌, ◌||◌, List, [], ◌∷◌, length, slice_get, slice_index, nat_eq, nat_le, codes, if◌then◌else◌, Some}
 use Rattle.std.specs.Fmt.{decimal}
 use Rattle.std.specs.List.{list_all}
 use Rattle.tx_base.specs.declared.steps.Call.{Call}
-use Rattle.tx_base.specs.declared.steps.Call.TheVariants as call
-use Rattle.tx_lines.specs.Arguments.{arguments_of, name_of, word_of, Argument}
-use Rattle.tx_lines.specs.Calls.{FitsCall}
+use Rattle.tx_lines.specs.Arguments.{is_spelled, text_of, word_of, Argument}
+use Rattle.tx_lines.specs.Calls.{arguments_of, name_of, program_arguments, FitsCall}
 use Rattle.tx_lines.specs.Lines.{IsCallOf}
+use Rattle.tx_lines.specs.Words.{joined}
 use Rattle.tx_lines.specs.declared.instructions.Instruction.{Instruction}
 use Rattle.tx_lines.specs.declared.instructions.Kind.{Kind}
 use Rattle.tx_lines.specs.declared.instructions.Kind.TheVariants as kinds
 use Rattle.tx_lines.specs.declared.instructions.Spelling.{Spelling}
 use Rattle.tx_lines.specs.declared.instructions.Spelling.TheVariants.{Plain, Slot, Label}
 use Rattle.tx_lines.specs.declared.read.header.Version.{Version}
-
--- a first word, and others with a space before each
-abbrev pub joined : List ℕ → List (List ℕ) → List ℕ
-joined word [] = word
-joined word (next ∷ words) = word ++ 32 ∷ joined next words
 
 -- whether a byte is a lower-case letter
 abbrev pub is_letter : ℕ → Bool
@@ -45,13 +40,13 @@ spelled_words _ _ = []
 
 -- the spelling of an instruction, without the line's end
 abbrev pub instruction_text : Instruction → List ℕ
-instruction_text instruction = joined (name_of instruction.call) (spelled_words instruction.spellings.items (arguments_of instruction.call))
+instruction_text instruction = joined (name_of instruction.call) (spelled_words instruction.spellings.items (program_arguments instruction.call))
 
 -- what an argument is
 abbrev pub kind_of : Argument → Kind
 kind_of (Argument.Number number) = kinds.Number
 kind_of (Argument.Point point) = kinds.Point
-kind_of (Argument.Word word) = kinds.Word
+kind_of _ = kinds.Word
 
 -- whether an argument may be spelled so: a number by a slot, and a point by a label alone
 abbrev pub may_be : Spelling → Kind → Bool
@@ -65,6 +60,11 @@ may_be (Label name) kinds.Number = false
 may_be (Label name) kinds.Point = true
 may_be (Label name) kinds.Word = false
 
+-- each argument may be spelled so, where both are there
+abbrev pub MayAllBe : List Spelling → List Argument → Type 0
+MayAllBe spellings arguments = (place : ℕ) (spelling : Spelling) (argument : Argument) → slice_get spellings place ≡ Some spelling
+    → slice_get arguments place ≡ Some argument → may_be spelling (kind_of argument) ≡ true
+
 -- an argument is spelled so in a text; what stands for it until it is known is 0
 abbrev pub IsSpelled : Spelling → Argument → Type 0
 IsSpelled Plain argument = may_be Plain (kind_of argument) ≡ true
@@ -77,18 +77,21 @@ AreSpelled [] [] = Unit {0}
 AreSpelled (spelling ∷ spellings) (argument ∷ arguments) = IsSpelled spelling argument × AreSpelled spellings arguments
 AreSpelled _ _ = ⊥
 
--- a fork and a pipe stand with the numbers 0, until these are chosen
+-- what is chosen stands as 0 until it is
+abbrev pub AreLater : List Argument → Type 0
+AreLater [] = Unit {0}
+AreLater (Argument.Chosen limit number ∷ arguments) = (number ≡ 0) × AreLater arguments
+AreLater (argument ∷ arguments) = AreLater arguments
+
 abbrev pub ChoosesLater : Call → Type 0
-ChoosesLater (call.Fork child) = child.0 ≡ 0
-ChoosesLater (call.Pipe pipe read write) = (pipe.0 ≡ 0) × (read.0 ≡ 0) × (write.0 ≡ 0)
-ChoosesLater _ = Unit {0}
+ChoosesLater c = AreLater (arguments_of c)
 
 -- a text of that version can hold the instruction
 pub record IsInstruction (version : Version) (instruction : Instruction) : Type 0 where
   pub fits : FitsCall instruction.call
   pub of : IsCallOf version instruction.call
   pub chooses : ChoosesLater instruction.call
-  pub spelled : AreSpelled instruction.spellings.items (arguments_of instruction.call)
+  pub spelled : AreSpelled instruction.spellings.items (program_arguments instruction.call)
 
 -- how a word of a text is to be read
 abbrev pub slot_spelling : ℕ → Spelling
@@ -121,13 +124,11 @@ words_of (byte ∷ bytes) = if nat_eq byte 32 then ([], (words_of bytes).0 ∷ (
 
 -- the words of a call, with 0 for what is not yet known
 abbrev pub plain_text : Call → List ℕ
-plain_text c = joined (name_of c) (map word_of (arguments_of c))
+plain_text c = text_of (name_of c, program_arguments c)
 
 -- whether a call chooses numbers that are free as it is made
 abbrev pub chooses_numbers : Call → Bool
-chooses_numbers (call.Fork child) = true
-chooses_numbers (call.Pipe pipe read write) = true
-chooses_numbers _ = false
+chooses_numbers c = not (list_all is_spelled (arguments_of c))
 
 -- what the argument at a place is: of a call whose first is a number and whose others are words, of a jump, and of a sigaction
 abbrev pub kind_of_first : ℕ → Kind

@@ -1,11 +1,11 @@
 pub mod Bytes
 pub mod Lists
+pub mod ListLaws
 pub mod Sets
 pub mod Arguments
 pub mod Calls
 pub mod Ends
 pub mod Filled
-pub mod Groups
 pub mod Instructions
 pub mod Lines
 pub mod Over

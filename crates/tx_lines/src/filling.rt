@@ -1,6 +1,7 @@
 //! Puts what slots hold into the instructions of a program.
 ghost use Rattle.std.specs.Prelude.{◌≡◌};
-ghost use Rattle.tx_lines.specs.Filled.{filled, number_at, with_numbers};
+ghost use Rattle.tx_lines.specs.Calls.{arguments_of, with_numbers};
+ghost use Rattle.tx_lines.specs.Filled.{filled, filled_arguments, number_at};
 
 use crate::instructions::{Instruction, Spelling};
 use tx_base::{Call, When};
@@ -16,7 +17,8 @@ impl Instruction {
     /// The call that the instruction makes in a process whose slots hold these numbers. It takes no
     /// memory. The numbers of a new child, and of a new pipe and its descriptions, stay as they are.
     pub fn filled(&self, slots: &[i64; 8]) -> Call
-        ensures { result ≡ filled slots.now self.now }
+        ensures call { result ≡ filled slots.now self.now }
+        ensures arguments { arguments_of result ≡ filled_arguments slots.now self.now }
     {
         let numbers = Numbers {
             slots,

@@ -13,10 +13,10 @@ use Rattle.tx_live.proofs.Outsides.{same_content}
 use Rattle.tx_live.specs.Content.{content_of, held_in, now_of, owner_at, own_held, txn_of, view_of, IsShaped}
 use Rattle.tx_live.specs.declared.content.BoxedTxn.{BoxedTxn}
 use Rattle.tx_live.specs.declared.content.Content.{Content}
-use Rattle.tx_model.specs.State.{Object, Proc, Desc, Pipe, Held, State, booted}
+use Rattle.tx_model.specs.State.{Object, Proc, Desc, Pipe, Held, State, boot_state}
 use Rattle.tx_model.specs.View.{view}
 use Rattle.tx_reserve.specs.Reservations.{owner_of}
-use Rattle.tx_txn.specs.Content.{start_content, two_parts_of, IsKept, Content as TheContent}
+use Rattle.tx_txn.specs.Content.{start_content, two_parts_of, IsKept, LogKernel}
 use Rattle.tx_txn.specs.Laws.{StartContentHasItsView, StartContentIsKept}
 
 same_in : {B : Type 0} (w n : ℕ) (x : B) → get_or (replicate w x) n x ≡ x
@@ -28,7 +28,7 @@ none_at : {A : Type 0} (slots : List (Option A)) (w n : ℕ) → slots ≡ repli
 none_at slots w zero h = refl
 none_at {A} slots w (suc n) h = ap (λ (xs : List (Option A)). get_or xs n None) h ∙ same_in w n None
 
-module _ (k : Content) (width count : ℕ) (state : state_of (λ starter. []) k.parts ≡ booted width count)
+module _ (k : Content) (width count : ℕ) (state : state_of (λ starter. []) k.parts ≡ boot_state width count)
     (marks : k.marks ≡ replicate width None) (txns : k.txns ≡ replicate width None) (owners : (o : Object) → owner_of k.owners o ≡ None) where
   no_txn : (n : ℕ) → slot_at k.txns n ≡ None
   no_txn n = none_at k.txns width n txns
@@ -36,7 +36,7 @@ module _ (k : Content) (width count : ℕ) (state : state_of (λ starter. []) k.
   sized : length k.parts.procs ≡ width
   sized = ap (λ (S : State). S.width) state
 
-  now_is : now_of k ≡ booted width count
+  now_is : now_of k ≡ boot_state width count
   now_is = (λ j. state_of (λ n. ap held_in (no_txn n) j) k.parts) ∙ state
 
   pub owner_none : (o : Object) → owner_at k o ≡ None
@@ -45,16 +45,16 @@ module _ (k : Content) (width count : ℕ) (state : state_of (λ starter. []) k.
   owner_none (Pipe n) = owners (Pipe n)
   owner_none (Held n) = ap (own_held n) (no_txn n)
 
-  content_is : content_of k ≡ start_content (booted width count)
-  content_is = same_content (content_of k) (start_content (booted width count)) now_is (λ n. ap (option_map txn_of) (no_txn n)) owner_none
+  content_is : content_of k ≡ start_content (boot_state width count)
+  content_is = same_content (content_of k) (start_content (boot_state width count)) now_is (λ n. ap (option_map txn_of) (no_txn n)) owner_none
       (λ j. record { width = (ap length marks ∙ length-replicate width None) j; marks = λ n. none_at k.marks width n marks j })
 
   pub booted_kept : StartContentIsKept → IsKept (content_of k)
-  booted_kept start = subst IsKept (sym content_is) (start (booted width count) (λ s. refl))
+  booted_kept start = subst IsKept (sym content_is) (start (boot_state width count) (λ s. refl))
 
-  pub booted_view : StartContentHasItsView → view_of k ≡ view (booted width count) []
+  pub booted_view : StartContentHasItsView → view_of k ≡ view (boot_state width count) []
   unfolding view_of
-  booted_view start = ap (λ (c : TheContent). parts_view (two_parts_of c)) content_is ∙ start (booted width count)
+  booted_view start = ap (λ (c : LogKernel). parts_view (two_parts_of c)) content_is ∙ start (boot_state width count)
 
   pub booted_shaped : width ≤ 256 → HaveAllPlaces k.parts → CountsAgree k.parts → length k.owners ≡ 352 → IsShaped k
   booted_shaped few places counts long = record {

@@ -49,11 +49,11 @@ use Rattle.tx_live.specs.declared.content.Content.{Content}
 use Rattle.tx_live.specs.declared.inverse.Inverse.TheVariants.{Committed}
 use Rattle.tx_model.specs.Effects.{Inside as InsideOf, failed_sends}
 use Rattle.tx_model.specs.Events.{Commit, Event, actor, effect, objects, reply_of}
-use Rattle.tx_model.specs.History.{processes_of}
-use Rattle.tx_model.specs.Membership.{Commits, is_of, unmarked}
-use Rattle.tx_model.specs.Posts.{answers}
-use Rattle.tx_model.specs.Book.{sent_by_members}
-use Rattle.tx_model.specs.State.{Object, Proc, Desc, Pipe, Held, Sending, SetHeld, State, has, same_object, write_one}
+use Rattle.tx_model.specs.Words.{processes_of}
+use Rattle.tx_model.specs.Membership.{Commits, is_of, mark_unless_of}
+use Rattle.tx_model.specs.Posts.{post_answers}
+use Rattle.tx_model.specs.Book.{member_sends}
+use Rattle.tx_model.specs.State.{Object, Proc, Desc, Pipe, Held, Sending, SetHeld, State, has_object, same_object, write_one}
 use Rattle.tx_reserve.specs.Objects.{is_in}
 use Rattle.tx_reserve.specs.Reservations.{owner_of, unless}
 use Rattle.tx_txn.specs.Content.{IsKept, Txn as TheTxn}
@@ -131,7 +131,7 @@ module _ (laws : LiveLaws) (old new : Content) (middle : Parts) (between : List 
   holds = ap held_in there
 
   counts : CountsHeld (Some made_in.inside) (held_of old)
-  counts = ap (λ (n : ℕ). sent_by_members (held_of old n)) inside_s ∙ ap sent_by_members holds ∙ sym made_in.held
+  counts = ap (λ (n : ℕ). member_sends (held_of old n)) inside_s ∙ ap member_sends holds ∙ sym made_in.held
 
   sendings_are : stepped.outbox.sendings ≡ t0.outbox.sendings ++ handed_out last.planned.sends
   sendings_are = ap (λ (h : HeldSends). h.sendings) made_in.outbox
@@ -187,9 +187,9 @@ module _ (laws : LiveLaws) (old new : Content) (middle : Parts) (between : List 
       IsEnd event S → AreAnswered event S → reply_of (Commit s event) S ≡ Says (record { items = missed_in after.outbox.sendings after.outbox.posts })
   answers_event sent all outbox end own = commit_lists s event S end own ∙ ap (λ (xs : List Missed). Says (record { items = xs })) list
     where
-      list : failed_sends ((made event S S).held s) (answers ((made event S S).held s) (write_one (SetHeld s []) (made event S S))) ≡ missed_in after.outbox.sendings after.outbox.posts
+      list : failed_sends ((made event S S).held s) (post_answers ((made event S S).held s) (write_one (SetHeld s []) (made event S S))) ≡ missed_in after.outbox.sendings after.outbox.posts
       list =
-          (λ j. failed_sends (held_is j) (answers (held_is j) (sym before j)))
+          (λ j. failed_sends (held_is j) (post_answers (held_is j) (sym before j)))
           ∙ ap (failed_sends (map sending_of stepped.outbox.sendings)) (sym (all.answered held_last))
           ∙ sym (missed_are middle new.parts between new.txns stepped.outbox.sendings led.outbox.posts all)
           ∙ (λ j. missed_in (sym (ap (λ (h : HeldSends). h.sendings) outbox ∙ sent) j) (sym outbox j).posts)
@@ -204,7 +204,7 @@ module _ (laws : LiveLaws) (old new : Content) (middle : Parts) (between : List 
 
   module _ (emptied : between ≡ with_slot old.txns s None) (sent : led.outbox.sendings ≡ stepped.outbox.sendings) (led_rest : led ≡ record stepped { outbox = led.outbox })
       (all : PostsAll middle new.parts between new.txns stepped.outbox.sendings led.outbox.posts)
-      (marks : (n : ℕ) → slot_at new.marks n ≡ unmarked led.starter.0 (slot_at old.marks n)) (marks_long : length new.marks ≡ length old.marks)
+      (marks : (n : ℕ) → slot_at new.marks n ≡ mark_unless_of led.starter.0 (slot_at old.marks n)) (marks_long : length new.marks ≡ length old.marks)
       (owners : (o : Object) → owner_of new.owners o ≡ (if is_in led.objects o then None else owner_of old.owners o)) (sized : length new.owners ≡ 352)
       (rest : after ≡ record led { members = after.members })
       (unowned : IsUnowned old (Some s) event) (end : IsEnd event S) (member : is_of s (slot_at old.marks (actor event)) ≡ true) where
@@ -246,7 +246,7 @@ module _ (laws : LiveLaws) (old new : Content) (middle : Parts) (between : List 
         ∙ sym (commit_made s event S end)
       where
         posts_of : List Sending → State → State
-        posts_of = Rattle.tx_model.specs.Posts.posts
+        posts_of = Rattle.tx_model.specs.Posts.after_posts
 
     sends_are : (effect (Commit s event) S).sends ≡ sent_at_once last.planned.sends ++ ms
     sends_are = commit_sends s event S end ∙ (λ j. (makes.gives (held_of old) counts).sent j ++ held_is j)
@@ -329,11 +329,11 @@ module _ (laws : LiveLaws) (old new : Content) (middle : Parts) (between : List 
     counts_new : CountsAgree new.parts
     counts_new = all.counts makes.counts
 
-    apart : (n : ℕ) → (n == s) ≡ false → (o : Object) → is_shared o ≡ true → owner_at old o ≡ Some n → has o (objects (Commit s event) S) ≡ false
-    unfolding objects has
-    apart n differs o shared own = by o shared own (has o (objects event S)) refl
+    apart : (n : ℕ) → (n == s) ≡ false → (o : Object) → is_shared o ≡ true → owner_at old o ≡ Some n → has_object o (objects (Commit s event) S) ≡ false
+    unfolding objects has_object
+    apart n differs o shared own = by o shared own (has_object o (objects event S)) refl
       where
-        free : (o : Object) → owner_at old o ≡ Some n → (h : Bool) → has o (objects event S) ≡ h → h ≡ false
+        free : (o : Object) → owner_at old o ≡ Some n → (h : Bool) → has_object o (objects event S) ≡ h → h ≡ false
         free o own true e = absurd (taken (n == s) refl (sym (ap (unless (Some s)) own) ∙ unowned o e))
           where
             taken : (b : Bool) → (n == s) ≡ b → (if b then None else Some n) ≡ None → ⊥
@@ -341,7 +341,7 @@ module _ (laws : LiveLaws) (old new : Content) (middle : Parts) (between : List 
             taken false z h = cc
         free o own false e = refl
 
-        by : (o : Object) → is_shared o ≡ true → owner_at old o ≡ Some n → (h : Bool) → has o (objects event S) ≡ h → (if same_object o (Held s) then true else h) ≡ false
+        by : (o : Object) → is_shared o ≡ true → owner_at old o ≡ Some n → (h : Bool) → has_object o (objects event S) ≡ h → (if same_object o (Held s) then true else h) ≡ false
         by (Proc p) shared own h e = free (Proc p) own h e
         by (Desc p) shared own h e = free (Desc p) own h e
         by (Pipe p) shared own h e = free (Pipe p) own h e
@@ -470,7 +470,7 @@ module _ (laws : LiveLaws) (old new : Content) (middle : Parts) (between : List 
   -- the same of the event as the content tells it
   pub commit_done : between ≡ with_slot old.txns s None → led.outbox.sendings ≡ stepped.outbox.sendings → led ≡ record stepped { outbox = led.outbox } →
       PostsAll middle new.parts between new.txns stepped.outbox.sendings led.outbox.posts →
-      ((n : ℕ) → slot_at new.marks n ≡ unmarked led.starter.0 (slot_at old.marks n)) → length new.marks ≡ length old.marks →
+      ((n : ℕ) → slot_at new.marks n ≡ mark_unless_of led.starter.0 (slot_at old.marks n)) → length new.marks ≡ length old.marks →
       ((o : Object) → owner_of new.owners o ≡ (if is_in led.objects o then None else owner_of old.owners o)) → length new.owners ≡ 352 → after ≡ record led { members = after.members } →
       IsSomeAnd after.members (λ members. (n : ℕ) → is_in members.joined (Proc n) ≡ is_of led.starter.0 (slot_at old.marks n)) →
       IsSomeAnd after.members (λ members. (n : ℕ) → is_in members.ended (Proc n) ≡ ended_of led.starter.0 (slot_at old.marks n)) →

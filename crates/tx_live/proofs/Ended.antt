@@ -14,7 +14,7 @@ use Rattle.tx_live.specs.Content.{owner_at, own_held, IsShaped, IsTxn}
 use Rattle.tx_live.specs.Inverses.{Revives}
 use Rattle.tx_live.specs.declared.content.BoxedTxn.{BoxedTxn}
 use Rattle.tx_live.specs.declared.content.Content.{Content}
-use Rattle.tx_model.specs.Membership.{is_of, unmarked}
+use Rattle.tx_model.specs.Membership.{is_of, mark_unless_of}
 use Rattle.tx_model.specs.State.{Object, Proc, Desc, Pipe, Held}
 use Rattle.tx_reserve.specs.Objects.{is_in}
 use Rattle.tx_reserve.specs.Reservations.{owner_of}
@@ -23,7 +23,7 @@ use Rattle.tx_txn.specs.declared.members.Members.{Members}
 use Rattle.tx_txn.specs.declared.txn.Txn.{Txn}
 
 -- a mark of another transaction stays
-unmarked_of : (s n : ℕ) (x : Option Mark) → n ≢ s → is_of n (unmarked s x) ≡ is_of n x
+unmarked_of : (s n : ℕ) (x : Option Mark) → n ≢ s → is_of n (mark_unless_of s x) ≡ is_of n x
 unmarked_of s n None apart = refl
 unmarked_of s n (Some m) apart = by (m.starter.0 == s) (m.starter.0 == n) refl refl
   where
@@ -32,7 +32,7 @@ unmarked_of s n (Some m) apart = by (m.starter.0 == s) (m.starter.0 == n) refl r
     by true false e f = refl
     by false b e f = f
 
-unmarked_was : (s : ℕ) (x : Option Mark) (m : Mark) → unmarked s x ≡ Some m → x ≡ Some m
+unmarked_was : (s : ℕ) (x : Option Mark) (m : Mark) → mark_unless_of s x ≡ Some m → x ≡ Some m
 unmarked_was s None m e = cc
 unmarked_was s (Some k) m e = by (k.starter.0 == s) e
   where
@@ -42,7 +42,7 @@ unmarked_was s (Some k) m e = by (k.starter.0 == s) e
 
 -- the mark of a member, from who joined and who ended
 mark_again : (s : ℕ) (starter : Pid) (members : Members) (n : ℕ) (defers : Bool) (x : Option Mark) → starter.0 ≡ s → is_in members.joined (Proc n) ≡ is_of s x → is_in members.ended (Proc n) ≡ ended_of s x →
-    DefersSo s defers x → x ≡ (if is_in members.joined (Proc n) then Some (mark_of starter members n defers) else unmarked s x)
+    DefersSo s defers x → x ≡ (if is_in members.joined (Proc n) then Some (mark_of starter members n defers) else mark_unless_of s x)
 mark_again s starter members n defers None is joined ended so = sym (ap (λ (b : Bool). if b then Some (mark_of starter members n defers) else None) joined)
 mark_again s starter members n defers (Some m) is joined ended so = by (m.starter.0 == s) refl joined ended ∙ refl
   where
@@ -86,7 +86,7 @@ is_covered k s txn t is was = subst (λ (n : ℕ). IsCovered n k.marks txn.objec
 -- a transaction in the slot of s, before it ends and after
 module _ (old new : Content) (s : ℕ) (boxed : BoxedTxn) (led after : Txn) (shaped : IsShaped old) (there : slot_at old.txns s ≡ Some boxed)
     (starter_led : led.starter ≡ boxed.txn.value.starter) (objects_led : led.objects ≡ boxed.txn.value.objects) (defers_led : led.defers ≡ boxed.txn.value.defers)
-    (marks : (n : ℕ) → slot_at new.marks n ≡ unmarked led.starter.0 (slot_at old.marks n)) (marks_long : length new.marks ≡ length old.marks)
+    (marks : (n : ℕ) → slot_at new.marks n ≡ mark_unless_of led.starter.0 (slot_at old.marks n)) (marks_long : length new.marks ≡ length old.marks)
     (owners : (o : Object) → owner_of new.owners o ≡ (if is_in led.objects o then None else owner_of old.owners o)) (rest : after ≡ record led { members = after.members }) where
   was : IsTxn old s boxed.txn.value
   was = shaped.each s boxed there
@@ -97,8 +97,8 @@ module _ (old new : Content) (s : ℕ) (boxed : BoxedTxn) (led after : Txn) (sha
   pub after_s : after.starter.0 ≡ s
   after_s = ap (λ (t : Txn). t.starter.0) rest ∙ led_s
 
-  pub unmarks : (n : ℕ) → slot_at new.marks n ≡ unmarked s (slot_at old.marks n)
-  unmarks n = marks n ∙ ap (λ (k : ℕ). unmarked k (slot_at old.marks n)) led_s
+  pub unmarks : (n : ℕ) → slot_at new.marks n ≡ mark_unless_of s (slot_at old.marks n)
+  unmarks n = marks n ∙ ap (λ (k : ℕ). mark_unless_of k (slot_at old.marks n)) led_s
 
   objects_are : (o : Object) → is_in led.objects o ≡ is_owner s (owner_of old.owners o)
   objects_are o = ap (λ os. is_in os o) objects_led ∙ was.objects o

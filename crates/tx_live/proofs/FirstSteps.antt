@@ -33,9 +33,10 @@ use Rattle.tx_live.specs.declared.content.Content.{Content}
 use Rattle.tx_live.specs.declared.inverse.Inverse.TheVariants.{Begun}
 use Rattle.tx_base.specs.declared.steps.Reply.TheVariants.{Done}
 use Rattle.tx_model.specs.Events.{Event, Note, effect, objects, reply_of}
-use Rattle.tx_model.specs.History.{event_footprint, processes_of, targets}
+use Rattle.tx_model.specs.History.{event_footprint, targets}
+use Rattle.tx_model.specs.Words.{processes_of}
 use Rattle.tx_model.specs.Membership.{Begins, Within, is_of, new_mark}
-use Rattle.tx_model.specs.State.{Object, Proc, Desc, Pipe, Held, State, has, is_between}
+use Rattle.tx_model.specs.State.{Object, Proc, Desc, Pipe, Held, State, has_object, is_between}
 use Rattle.tx_proc.specs.Processes.{process_in}
 use Rattle.tx_proc.specs.declared.proc.Proc.{Proc as TheProc}
 use Rattle.tx_reserve.specs.Reservations.{owner_of}
@@ -57,7 +58,7 @@ only_is s n small = by (n == s) refl
     by false e = refl
 
 among_more : (o : Object) (os : List Object) (changes : List Change) → AreAmong os changes → AreAmong (o ∷ os) changes
-unfolding has
+unfolding has_object
 among_more o os [] among = tt
 among_more o os (change ∷ changes) among = (by _ among.0, among_more o os changes among.1)
   where
@@ -148,7 +149,7 @@ module _ (laws : LiveLaws) (old new : Content) (pid : Pid) (defers : Bool) (boxe
   owns o = starts.owns o ∙ ap (λ (p : Pid). if is_only p.0 o then Some p.0 else owner_of old.owners o) begun.starter
 
   owners_same : (o : Object) → owner_at new o ≡ (next_content (Within s (Begins defers)) event s (newest_first makes.kept) (content_of old)).owner o
-  unfolding next_content event_footprint has targets effect objects
+  unfolding next_content event_footprint has_object targets effect objects
   owners_same (Proc n) = owns (Proc n) ∙ ap (λ (b : Bool). if b then Some s else owner_of old.owners (Proc n)) (only_is s n small ∙ by (n == s))
     where
       by : (b : Bool) → b ≡ (if b then true else false)
@@ -231,7 +232,7 @@ module _ (laws : LiveLaws) (old new : Content) (pid : Pid) (defers : Bool) (boxe
       defers_at p m false e at is = absurd (both_ways (is_of s (slot_at old.marks p)) (alone.members p) (ap (is_of s) at ∙ eq-eqb m.starter.0 s is))
 
   stays : (n : ℕ) (b : BoxedTxn) → (n == s) ≡ false → slot_at old.txns n ≡ Some b → Stays old new n b.txn.value
-  unfolding objects has
+  unfolding objects has_object
   stays n b apart at = record {
     sizes = sizes_new;
     members = λ p. ap (is_of n) (mark_slots p) ∙ same_of p (p == s) refl;
@@ -266,7 +267,7 @@ module _ (laws : LiveLaws) (old new : Content) (pid : Pid) (defers : Bool) (boxe
       owned_at (Held p) true e = cc
       owned_at o false e = refl
 
-      unnamed : (o : Object) → is_shared o ≡ true → owner_at old o ≡ Some n → has o (objects event S) ≡ false
+      unnamed : (o : Object) → is_shared o ≡ true → owner_at old o ≡ Some n → has_object o (objects event S) ≡ false
       unnamed (Proc p) shared own = by (p == s) refl
         where
           by : (x : Bool) → (p == s) ≡ x → (if x then true else false) ≡ false

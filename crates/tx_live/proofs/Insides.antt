@@ -41,10 +41,11 @@ use Rattle.tx_live.specs.declared.marking.Progress.{Progress}
 use Rattle.tx_live.specs.declared.marking.Progress.TheVariants.{Continues, Parks, Forks}
 use Rattle.tx_model.specs.Effects.{Inside as InsideOf}
 use Rattle.tx_model.specs.Events.{Event, actor, effect, objects, reply_of}
-use Rattle.tx_model.specs.History.{event_footprint, objects_reserved, processes_of, targets, is_other_starter}
-use Rattle.tx_model.specs.Membership.{Within, is_of, marks_after, new_mark, parked, defers_in, Table}
-use Rattle.tx_model.specs.Book.{sent_by_members}
-use Rattle.tx_model.specs.State.{Object, Proc, Desc, Pipe, Held, Sending, State, has, same_object}
+use Rattle.tx_model.specs.History.{event_footprint, objects_reserved, targets, is_other_starter}
+use Rattle.tx_model.specs.Words.{processes_of}
+use Rattle.tx_model.specs.Membership.{Within, is_of, marks_after, new_mark, parked_mark, defers_in, Table}
+use Rattle.tx_model.specs.Book.{member_sends}
+use Rattle.tx_model.specs.State.{Object, Proc, Desc, Pipe, Held, Sending, State, has_object, same_object}
 use Rattle.tx_reserve.specs.Objects.{is_in}
 use Rattle.tx_reserve.specs.Reservations.{owner_of, unless}
 use Rattle.tx_reserve.specs.declared.objects.Objects.{Objects}
@@ -114,21 +115,21 @@ held_now inside (AtCommit m) held s n before is was =
     (ap (λ (xs : List Sending). if n == s then xs else held n) (ap (λ (xs : List Sending). xs ++ sending_of m ∷ []) was ∙ sym (map_append sending_of before (m ∷ []))))
 
 -- no process is the place of held sends
-targets_hold_none : (t : Table) (p n : ℕ) (ms : List Sending) → has (Held n) (targets t p ms) ≡ false
-unfolding targets has
+targets_hold_none : (t : Table) (p n : ℕ) (ms : List Sending) → has_object (Held n) (targets t p ms) ≡ false
+unfolding targets has_object
 targets_hold_none t p n [] = refl
 targets_hold_none t p n (m ∷ ms) = by (is_other_starter t p m.target) (targets_hold_none t p n ms)
   where
-    by : (b : Bool) → has (Held n) (targets t p ms) ≡ false → has (Held n) (if b then targets t p ms else Proc m.target ∷ targets t p ms) ≡ false
+    by : (b : Bool) → has_object (Held n) (targets t p ms) ≡ false → has_object (Held n) (if b then targets t p ms else Proc m.target ∷ targets t p ms) ≡ false
     by true rest = rest
     by false rest = rest
 
-has_either : (o : Object) (xs ys : List Object) → has o ys ≡ false → has o (xs ++ ys) ≡ has o xs
-unfolding has
+has_either : (o : Object) (xs ys : List Object) → has_object o ys ≡ false → has_object o (xs ++ ys) ≡ has_object o xs
+unfolding has_object
 has_either o [] ys none = none
 has_either o (x ∷ xs) ys none = by (same_object o x) (has_either o xs ys none)
   where
-    by : (b : Bool) → has o (xs ++ ys) ≡ has o xs → (if b then true else has o (xs ++ ys)) ≡ (if b then true else has o xs)
+    by : (b : Bool) → has_object o (xs ++ ys) ≡ has_object o xs → (if b then true else has_object o (xs ++ ys)) ≡ (if b then true else has_object o xs)
     by true rest = refl
     by false rest = rest
 
@@ -178,11 +179,11 @@ others_after s n (Some t) true apart free = by (s == n) (t == n) refl refl
 abbrev KeepsOf : ℕ → Option Mark → Option Mark → Type 0
 KeepsOf n old new = is_of n new ≡ is_of n old
 
-parked_of : (n : ℕ) (x : Option Mark) → is_of n (parked x) ≡ is_of n x
+parked_of : (n : ℕ) (x : Option Mark) → is_of n (parked_mark x) ≡ is_of n x
 parked_of n None = refl
 parked_of n (Some m) = refl
 
-parked_defers : (n : ℕ) (defers : Bool) (x : Option Mark) → DefersSo n defers x → DefersSo n defers (parked x)
+parked_defers : (n : ℕ) (defers : Bool) (x : Option Mark) → DefersSo n defers x → DefersSo n defers (parked_mark x)
 parked_defers n defers None so m e is = cc
 parked_defers n defers (Some was) so m e is = told (so was refl) m e is
   where
@@ -206,12 +207,12 @@ defers_live : (s : ℕ) (defers : Bool) (x : Option Mark) → is_of s x ≡ true
 defers_live s defers None live so = cc
 defers_live s defers (Some m) live so = so m refl (eqb-true m.starter.0 s live)
 
-has_first : (o : Object) (xs ys : List Object) → has o xs ≡ true → has o (xs ++ ys) ≡ true
-unfolding has
+has_first : (o : Object) (xs ys : List Object) → has_object o xs ≡ true → has_object o (xs ++ ys) ≡ true
+unfolding has_object
 has_first o [] ys h = cc
 has_first o (x ∷ xs) ys h = by (same_object o x) (has_first o xs ys) h
   where
-    by : (b : Bool) → (has o xs ≡ true → has o (xs ++ ys) ≡ true) → (if b then true else has o xs) ≡ true → (if b then true else has o (xs ++ ys)) ≡ true
+    by : (b : Bool) → (has_object o xs ≡ true → has_object o (xs ++ ys) ≡ true) → (if b then true else has_object o xs) ≡ true → (if b then true else has_object o (xs ++ ys)) ≡ true
     by true rest e = refl
     by false rest e = rest e
 
@@ -275,7 +276,7 @@ module _ (laws : LiveLaws) (old new : Content) (pid starter : Pid) (act : Act) (
   holds = ap held_in there
 
   counts : CountsHeld (Some made_in.inside) (held_of old)
-  counts = ap (λ (n : ℕ). sent_by_members (held_of old n)) inside_s ∙ ap sent_by_members holds ∙ sym made_in.held
+  counts = ap (λ (n : ℕ). member_sends (held_of old n)) inside_s ∙ ap member_sends holds ∙ sym made_in.held
 
   bounds : (1 ≤ s) × (s ≤ length old.txns)
   bounds = slot_there old.txns s boxed there
@@ -324,33 +325,33 @@ module _ (laws : LiveLaws) (old new : Content) (pid starter : Pid) (act : Act) (
     | inr e ↦ rw e refl
   ]
 
-  owner_part : (o : Object) → is_in footprint o ≡ has o (event_footprint (table_at old.marks) event S) → owner_of new.owners o ≡ (if has o (event_footprint (table_at old.marks) event S) then Some s else owner_of old.owners o)
+  owner_part : (o : Object) → is_in footprint o ≡ has_object o (event_footprint (table_at old.marks) event S) → owner_of new.owners o ≡ (if has_object o (event_footprint (table_at old.marks) event S) then Some s else owner_of old.owners o)
   owner_part o same = steps.owns o ∙ (λ j. if same j then Some (middle_starter j) else owner_of old.owners o)
     where
       middle_starter : steps.middle.starter.0 ≡ s
       middle_starter = ap (λ (t : Txn). t.starter.0) made_in.rest ∙ was.starter
 
-  footprint_at : (o : Object) → is_shared o ≡ true → is_in footprint o ≡ has o (event_footprint (table_at old.marks) event S)
-  footprint_at o shared = is_footprint o shared ∙ ap (λ (ev : Event). has o (event_footprint (table_at old.marks) ev S)) event_is
+  footprint_at : (o : Object) → is_shared o ≡ true → is_in footprint o ≡ has_object o (event_footprint (table_at old.marks) event S)
+  footprint_at o shared = is_footprint o shared ∙ ap (λ (ev : Event). has_object o (event_footprint (table_at old.marks) ev S)) event_is
 
-  reserved_same : (o : Object) → has o (objects_reserved (part_of progress) s (event_footprint (table_at old.marks) event S)) ≡ has o (event_footprint (table_at old.marks) event S)
+  reserved_same : (o : Object) → has_object o (objects_reserved (part_of progress) s (event_footprint (table_at old.marks) event S)) ≡ has_object o (event_footprint (table_at old.marks) event S)
   reserved_same o = by progress
     where
-      by : (p : Progress) → has o (objects_reserved (part_of p) s (event_footprint (table_at old.marks) event S)) ≡ has o (event_footprint (table_at old.marks) event S)
+      by : (p : Progress) → has_object o (objects_reserved (part_of p) s (event_footprint (table_at old.marks) event S)) ≡ has_object o (event_footprint (table_at old.marks) event S)
       by Continues = refl
       by Parks = refl
       by (Forks c) = refl
 
   -- the owners after it
-  owner_next : (o : Object) → is_shared o ≡ true → owner_of new.owners o ≡ (if has o (objects_reserved (part_of progress) s (event_footprint (table_at old.marks) event S)) then Some s else owner_of old.owners o)
+  owner_next : (o : Object) → is_shared o ≡ true → owner_of new.owners o ≡ (if has_object o (objects_reserved (part_of progress) s (event_footprint (table_at old.marks) event S)) then Some s else owner_of old.owners o)
   owner_next o shared = owner_part o (footprint_at o shared) ∙ ap (λ (b : Bool). if b then Some s else owner_of old.owners o) (sym (reserved_same o))
 
   module _ (fits : FitsWithin s (part_of progress) event pid.0 (view_of old)) where
-    held_own : (n : ℕ) → own_held n (slot_at new.txns n) ≡ (if has (Held n) (objects_reserved (part_of progress) s (event_footprint (table_at old.marks) event S)) then Some s else own_held n (slot_at old.txns n))
+    held_own : (n : ℕ) → own_held n (slot_at new.txns n) ≡ (if has_object (Held n) (objects_reserved (part_of progress) s (event_footprint (table_at old.marks) event S)) then Some s else own_held n (slot_at old.txns n))
     unfolding event_footprint
     held_own n = ap (own_held n) (slots n) ∙ elim (cases_Bool (n == s)) [
       | inl e ↦ rw e (same_starter n (eqb-true n s e)
-          (has (Held n) (objects_reserved (part_of progress) s (event_footprint (table_at old.marks) event S))) (slot_at old.txns n) (ap (slot_at old.txns) (eqb-true n s e) ∙ there))
+          (has_object (Held n) (objects_reserved (part_of progress) s (event_footprint (table_at old.marks) event S))) (slot_at old.txns n) (ap (slot_at old.txns) (eqb-true n s e) ∙ there))
       | inr e ↦ rw e (sym (ap (λ (b : Bool). if b then Some s else own_held n (slot_at old.txns n))
           (reserved_same (Held n) ∙ has_either (Held n) (objects event S) (targets (table_at old.marks) (actor event) (effect event S).sends) (targets_hold_none (table_at old.marks) (actor event) n (effect event S).sends)
           ∙ apart n e)))
@@ -360,8 +361,8 @@ module _ (laws : LiveLaws) (old new : Content) (pid starter : Pid) (act : Act) (
         same_starter n is true x at = ap Some is
         same_starter n is false x at = sym (ap (own_held n) at)
 
-        apart : (n : ℕ) → (n == s) ≡ false → has (Held n) (objects event S) ≡ false
-        apart n e = elim (cases_Bool (has (Held n) (objects event S))) [
+        apart : (n : ℕ) → (n == s) ≡ false → has_object (Held n) (objects event S) ≡ false
+        apart n e = elim (cases_Bool (has_object (Held n) (objects event S))) [
           | inl h ↦ absurd (both_ways (n == s) e (eq-eqb n s (fits.holds S n h)))
           | inr h ↦ h
         ]
@@ -442,7 +443,7 @@ module _ (laws : LiveLaws) (old new : Content) (pid starter : Pid) (act : Act) (
         by Continues e f = cc
         by Parks e f = cc
         by (Forks d) e f =
-            let named : has (Proc d.0) (objects event S) ≡ true = subst (λ (z : State). has (Proc d.0) (objects event z) ≡ true) (laws.present _) f.progress_fits.1 in
+            let named : has_object (Proc d.0) (objects event S) ≡ true = subst (λ (z : State). has_object (Proc d.0) (objects event z) ≡ true) (laws.present _) f.progress_fits.1 in
             subst (λ (p : Pid). is_in footprint (Proc p.0) ≡ true) (ap child_in e)
             (footprint_at (Proc d.0) refl ∙ has_first (Proc d.0) (objects event S) (targets (table_at old.marks) (actor event) (effect event S).sends) named)
           where
@@ -456,8 +457,8 @@ module _ (laws : LiveLaws) (old new : Content) (pid starter : Pid) (act : Act) (
         (is_of s (slot_at old.marks p) ≡ true) ⊎ (is_in footprint (Proc p) ≡ true)
     member_before Continues e p of = inl of
     member_before Parks e p of = inl (elim (cases_Bool (p == pid.0)) [
-      | inl z ↦ ap (λ (k : ℕ). is_of s (slot_at old.marks k)) (eqb-true p pid.0 z) ∙ sym (parked_of s (slot_at old.marks pid.0)) ∙ sym (ap (λ (b : Bool). is_of s (if b then parked (slot_at old.marks pid.0) else slot_at old.marks p)) z) ∙ of
-      | inr z ↦ sym (ap (λ (b : Bool). is_of s (if b then parked (slot_at old.marks pid.0) else slot_at old.marks p)) z) ∙ of
+      | inl z ↦ ap (λ (k : ℕ). is_of s (slot_at old.marks k)) (eqb-true p pid.0 z) ∙ sym (parked_of s (slot_at old.marks pid.0)) ∙ sym (ap (λ (b : Bool). is_of s (if b then parked_mark (slot_at old.marks pid.0) else slot_at old.marks p)) z) ∙ of
+      | inr z ↦ sym (ap (λ (b : Bool). is_of s (if b then parked_mark (slot_at old.marks pid.0) else slot_at old.marks p)) z) ∙ of
     ])
     member_before (Forks c) e p of = elim (cases_Bool (p == c.0)) [
       | inl z ↦ inr (subst (λ (k : ℕ). is_in footprint (Proc k) ≡ true) (sym (eqb-true p c.0 z)) (joins_fresh c e))
@@ -497,7 +498,7 @@ module _ (laws : LiveLaws) (old new : Content) (pid starter : Pid) (act : Act) (
       members = λ p. ap (is_of n) (marks p) ∙ members_same progress refl p;
       defers = λ d so p m e is. marks_defer n d so (λ c forks m e z. absurd (differs (sym z ∙ sym (ap (starter_in m) e)))) p m (sym (marks p) ∙ e) is;
       owns = λ o. ap (is_owner n) (owns o) ∙ others_after s n (owner_of old.owners o) (is_in footprint o) differs (free o);
-      counts = counts_stay laws old new shaped kept_old event kept makes.named makes.back among now_same makes.counts n b at (λ o shared own. unnamed o shared own (has o (objects event S)) refl);
+      counts = counts_stay laws old new shaped kept_old event kept makes.named makes.back among now_same makes.counts n b at (λ o shared own. unnamed o shared own (has_object o (objects event S)) refl);
     }
       where
         other : IsTxn old n b.txn.value
@@ -536,7 +537,7 @@ module _ (laws : LiveLaws) (old new : Content) (pid starter : Pid) (act : Act) (
         owned (Pipe p) shared own = own
         owned (Held p) shared own = cc
 
-        unnamed : (o : Object) → is_shared o ≡ true → owner_at old o ≡ Some n → (x : Bool) → has o (objects event S) ≡ x → x ≡ false
+        unnamed : (o : Object) → is_shared o ≡ true → owner_at old o ≡ Some n → (x : Bool) → has_object o (objects event S) ≡ x → x ≡ false
         unnamed o shared own true e = absurd (differs (not_free s n (owner_of old.owners o) (owned o shared own)
             (free o (footprint_at o shared ∙ has_first o (objects event S) (targets (table_at old.marks) (actor event) (effect event S).sends) e))))
         unnamed o shared own false e = refl

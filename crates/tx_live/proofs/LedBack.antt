@@ -26,11 +26,11 @@ use Rattle.tx_live.specs.Made.{IsMade}
 use Rattle.tx_live.specs.declared.content.BoxedTxn.{BoxedTxn}
 use Rattle.tx_live.specs.declared.content.Content.{Content}
 use Rattle.tx_live.specs.declared.inverse.Inverse.TheVariants.{Aborted}
-use Rattle.tx_model.specs.Effects.{noted_if}
+use Rattle.tx_model.specs.Effects.{with_answer_if}
 use Rattle.tx_model.specs.Events.{Note, effect}
-use Rattle.tx_model.specs.Membership.{Aborts, is_of, unmarked}
-use Rattle.tx_model.specs.State.{Object, Proc, Desc, Pipe, Held, Process, SetProc, State, same_object, write_one, written}
-use Rattle.tx_model.specs.Posts.{posts}
+use Rattle.tx_model.specs.Membership.{Aborts, is_of, mark_unless_of}
+use Rattle.tx_model.specs.State.{Object, Proc, Desc, Pipe, Held, Process, SetProc, State, same_object, write_one, with_writes}
+use Rattle.tx_model.specs.Posts.{after_posts}
 use Rattle.tx_proc.specs.Parts.{edited_once, pending_in}
 use Rattle.tx_proc.specs.Processes.{process_in, revised}
 use Rattle.tx_proc.specs.declared.part.Answer.{Answer as TheAnswer}
@@ -47,16 +47,16 @@ use Rattle.tx_txn.specs.declared.members.Members.{Members}
 use Rattle.tx_txn.specs.declared.txn.Txn.{Txn}
 
 -- a process that is given an answer from where it stands
-noted_slot : (ret : ℤ) (x : Option TheProc) → option_map (λ me. revised (Answer (answered_from (standing x) ret)) me) (process_in x) ≡ noted_if ret (process_in x)
+noted_slot : (ret : ℤ) (x : Option TheProc) → option_map (λ me. revised (Answer (answered_from (standing x) ret)) me) (process_in x) ≡ with_answer_if ret (process_in x)
 noted_slot ret None = refl
 noted_slot ret (Some proc) = refl
 
 -- the note, made on a state whose process stands so
 note_made : (S : State) (pid : Pid) (ret : ℤ) (x : Option TheProc) → S.procs pid.0 ≡ process_in x →
     changed (standing_at pid (answered_from (standing x) ret)) S ≡ made (Note pid.0 ret) S S
-unfolding effect written posts
+unfolding effect with_writes after_posts
 note_made S pid ret x is = ap (λ (q : Option Process). write_one (SetProc pid.0 q) S)
-    (ap (option_map (λ me. revised (Answer (answered_from (standing x) ret)) me)) is ∙ noted_slot ret x ∙ ap (noted_if ret) (sym is))
+    (ap (option_map (λ me. revised (Answer (answered_from (standing x) ret)) me)) is ∙ noted_slot ret x ∙ ap (with_answer_if ret) (sym is))
 
 -- the answer and what is pending do not count
 counting_noted : (pending : PendingView) (answer : TheAnswer) (x : Option TheProc) →
@@ -108,7 +108,7 @@ named_newest o log named = elim (elsewhere_or o log) [
 module _ (laws : LiveLaws) (old new : Content) (starter : Pid) (ret : ℤ) (boxed : BoxedTxn) (led after : Txn) (stood : TheAnswer)
     (shaped : IsShaped old) (kept_old : IsKept (content_of old)) (there : slot_at old.txns starter.0 ≡ Some boxed)
     (back : IsLedBack old.parts new.parts ret boxed.txn.value led stood)
-    (marks : (n : ℕ) → slot_at new.marks n ≡ unmarked led.starter.0 (slot_at old.marks n)) (marks_long : length new.marks ≡ length old.marks)
+    (marks : (n : ℕ) → slot_at new.marks n ≡ mark_unless_of led.starter.0 (slot_at old.marks n)) (marks_long : length new.marks ≡ length old.marks)
     (owners : (o : Object) → owner_of new.owners o ≡ (if is_in led.objects o then None else owner_of old.owners o)) (sized : length new.owners ≡ 352)
     (rest : after ≡ record led { members = after.members }) (txns : new.txns ≡ with_slot old.txns starter.0 None) where
   abbrev s : ℕ
@@ -277,8 +277,8 @@ module _ (laws : LiveLaws) (old new : Content) (starter : Pid) (ret : ℤ) (boxe
           of (Some x) = x
 
       -- what its log names the other log does not
-      untouched : (o : Object) → is_named o (newest_first b.txn.value.log) ≡ true → AreElsewhere o t0.log
-      untouched o named = elim (elsewhere_or o t0.log) [
+      unreserved : (o : Object) → is_named o (newest_first b.txn.value.log) ≡ true → AreElsewhere o t0.log
+      unreserved o named = elim (elsewhere_or o t0.log) [
         | inl none ↦ none
         | inr some ↦ absurd (differs (some_same (sym (owned_named laws old new shaped kept_old n b at o named) ∙ owned_named laws old new shaped kept_old s boxed there o some)))
       ]
@@ -286,13 +286,13 @@ module _ (laws : LiveLaws) (old new : Content) (starter : Pid) (ret : ℤ) (boxe
       procs : (p : ℕ) → AreElsewhere (Proc p) b.txn.value.log ⊎ (counting (slot_at old.parts.procs p) ≡ counting (slot_at new.parts.procs p))
       procs p = elim (elsewhere_or (Proc p) b.txn.value.log) [
         | inl none ↦ inl none
-        | inr some ↦ inr (ap counting (sym ((laws.elsewhere old.parts t0.log was.named).0 p (untouched (Proc p) some))) ∙ counting_new p)
+        | inr some ↦ inr (ap counting (sym ((laws.elsewhere old.parts t0.log was.named).0 p (unreserved (Proc p) some))) ∙ counting_new p)
       ]
 
       descs : (d : ℕ) → AreElsewhere (Desc d) b.txn.value.log ⊎ (opened_at old.parts.descs d ≡ opened_at new.parts.descs d)
       descs d = elim (elsewhere_or (Desc d) b.txn.value.log) [
         | inl none ↦ inl none
-        | inr some ↦ inr (sym ((laws.elsewhere old.parts t0.log was.named).1 d (untouched (Desc d) some)) ∙ ap (λ ds. opened_at ds d) (sym descs_new))
+        | inr some ↦ inr (sym ((laws.elsewhere old.parts t0.log was.named).1 d (unreserved (Desc d) some)) ∙ ap (λ ds. opened_at ds d) (sym descs_new))
       ]
 
   each_after : (n : ℕ) (b : BoxedTxn) → slot_at new.txns n ≡ Some b → IsTxn new n b.txn.value

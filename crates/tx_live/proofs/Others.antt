@@ -20,9 +20,9 @@ use Rattle.tx_live.specs.Made.{posted_at}
 use Rattle.tx_live.specs.declared.content.BoxedTxn.{BoxedTxn}
 use Rattle.tx_live.specs.declared.content.Content.{Content}
 use Rattle.tx_model.specs.Events.{Event, effect, objects}
-use Rattle.tx_model.specs.History.{processes_of}
+use Rattle.tx_model.specs.Words.{processes_of}
 use Rattle.tx_model.specs.Membership.{is_of}
-use Rattle.tx_model.specs.State.{Object, Proc, Desc, Pipe, Held, Process, Sending, State, has, same_object}
+use Rattle.tx_model.specs.State.{Object, Proc, Desc, Pipe, Held, Process, Sending, State, has_object, same_object}
 use Rattle.tx_proc.specs.Processes.{process_in}
 use Rattle.tx_proc.specs.declared.proc.Proc.{Proc as TheProc}
 use Rattle.tx_reserve.specs.Reservations.{owner_of}
@@ -119,28 +119,28 @@ elsewhere_or o (change ∷ log) = by (same_object o (object_of change)) refl (el
     by false e (inr some) = inr (front (newest_first log) change some)
 
 -- what is among objects is no description that is not
-desc_among : (d : ℕ) (os : List Object) (changes : List Change) → AreAmong os changes → has (Desc d) os ≡ false → AreElsewhere (Desc d) changes
+desc_among : (d : ℕ) (os : List Object) (changes : List Change) → AreAmong os changes → has_object (Desc d) os ≡ false → AreElsewhere (Desc d) changes
 desc_among d os [] among none = tt
 desc_among d os (change ∷ changes) among none = (by (object_of change) among.0, desc_among d os changes among.1 none)
   where
-    by : (x : Object) → has x os ≡ true → same_object (Desc d) x ≡ false
+    by : (x : Object) → has_object x os ≡ true → same_object (Desc d) x ≡ false
     by (Proc n) h = refl
     by (Desc n) h = elim (cases_Bool (d == n)) [
-      | inl e ↦ absurd (both_ways (has (Desc d) os) none (subst (λ (k : ℕ). has (Desc k) os ≡ true) (sym (eqb-true d n e)) h))
+      | inl e ↦ absurd (both_ways (has_object (Desc d) os) none (subst (λ (k : ℕ). has_object (Desc k) os ≡ true) (sym (eqb-true d n e)) h))
       | inr e ↦ e
     ]
     by (Pipe n) h = refl
     by (Held n) h = refl
 
 -- what sends go to is no description
-desc_named : (d : ℕ) (os : List Object) (ms : List Sending) → has (Desc d) os ≡ false → has (Desc d) (os ++ processes_of ms) ≡ false
-unfolding has
+desc_named : (d : ℕ) (os : List Object) (ms : List Sending) → has_object (Desc d) os ≡ false → has_object (Desc d) (os ++ processes_of ms) ≡ false
+unfolding has_object
 desc_named d [] [] none = refl
 desc_named d [] (m ∷ ms) none = desc_named d [] ms none
 desc_named d (x ∷ os) ms none = by (same_object (Desc d) x) none (desc_named d os ms)
   where
-    by : (b : Bool) → (if b then true else has (Desc d) os) ≡ false → (has (Desc d) os ≡ false → has (Desc d) (os ++ processes_of ms) ≡ false) →
-        (if b then true else has (Desc d) (os ++ processes_of ms)) ≡ false
+    by : (b : Bool) → (if b then true else has_object (Desc d) os) ≡ false → (has_object (Desc d) os ≡ false → has_object (Desc d) (os ++ processes_of ms) ≡ false) →
+        (if b then true else has_object (Desc d) (os ++ processes_of ms)) ≡ false
     by true e rest = cc
     by false e rest = rest e
 
@@ -152,7 +152,7 @@ module _ (laws : LiveLaws) (old new : Content) (shaped : IsShaped old) (kept : I
   -- the counts of names are right without a transaction, of which an event names nothing, after the event too
   pub counts_stay : (event : Event) (changes : List Change) → AreNamed new.parts changes → undone new.parts changes ≡ old.parts → AreAmong (named_by event (now_of old)) changes →
       now_of new ≡ made event (now_of old) (now_of old) → CountsAgree new.parts →
-      (n : ℕ) (b : BoxedTxn) → slot_at old.txns n ≡ Some b → ((o : Object) → is_shared o ≡ true → owner_at old o ≡ Some n → has o (objects event (now_of old)) ≡ false) → CountsAgree (undone new.parts b.txn.value.log)
+      (n : ℕ) (b : BoxedTxn) → slot_at old.txns n ≡ Some b → ((o : Object) → is_shared o ≡ true → owner_at old o ≡ Some n → has_object o (objects event (now_of old)) ≡ false) → CountsAgree (undone new.parts b.txn.value.log)
   unfolding named_by
   counts_stay event changes named back among now counts n b at apart =
       laws.led_back old.parts new.parts b.txn.value.log sizes was.named procs descs shaped.counts counts was.counts

@@ -27,11 +27,11 @@ use Rattle.tx_live.specs.declared.content.Content.{Content}
 use Rattle.tx_live.specs.declared.inverse.Inverse.TheVariants.{Outside as OutsideBack}
 use Rattle.tx_live.specs.declared.kept_posts.KeptPost.{KeptPost}
 use Rattle.tx_model.specs.Events.{Event, effect, objects, reply_of}
-use Rattle.tx_model.specs.History.{processes_of}
+use Rattle.tx_model.specs.Words.{processes_of}
 use Rattle.tx_model.specs.Membership.{Outside, is_of}
-use Rattle.tx_model.specs.State.{Object, Proc, Desc, Pipe, Held, Sending, has}
+use Rattle.tx_model.specs.State.{Object, Proc, Desc, Pipe, Held, Sending, has_object}
 use Rattle.tx_reserve.specs.Reservations.{owner_of, unless}
-use Rattle.tx_txn.specs.Content.{Content as TheContent, IsKept}
+use Rattle.tx_txn.specs.Content.{LogKernel, IsKept}
 use Rattle.tx_txn.specs.Marks.{table_at}
 use Rattle.tx_txn.specs.Steps.{next_content, posted}
 
@@ -67,7 +67,7 @@ owners_posted old new ms owners posts (Pipe n) = ap (λ os. owner_of os (Pipe n)
 owners_posted old new ms owners posts (Held n) = ap (own_held n) (posts.each n) ∙ own_same n ms (slot_at old.txns n)
 
 -- contents are the same where all that they have is
-pub same_content : (one other : TheContent) → one.now ≡ other.now → ((n : ℕ) → one.txns n ≡ other.txns n) → ((o : Object) → one.owner o ≡ other.owner o) → one.table ≡ other.table → one ≡ other
+pub same_content : (one other : LogKernel) → one.now ≡ other.now → ((n : ℕ) → one.txns n ≡ other.txns n) → ((o : Object) → one.owner o ≡ other.owner o) → one.table ≡ other.table → one ≡ other
 same_content one other now txns owners table = λ j. record { now = now j; txns = λ n. txns n j; owner = λ o. owners o j; table = table j }
 
 pub outside_made : LiveLaws → (old new : Content) (pid : Pid) (event : Event) (plan log : List Change) (planned : Planned) (post : Option KeptPost) → IsShaped old → IsKept (content_of old) → IsUnowned old None event →
@@ -133,10 +133,10 @@ outside_made laws old new pid event plan log planned post shaped kept unowned ma
       members = λ p. ap (is_of n) (same_marks p);
       defers = λ d so p m at. so p m (sym (same_marks p) ∙ at);
       owns = λ o. ap (λ os. is_owner n (owner_of os o)) owners;
-      counts = counts_stay laws old new shaped kept event log named back among now (subst CountsAgree (sym parts) makes.counts) n b there (λ o shared own. by o own (has o (objects event (now_of old))) refl);
+      counts = counts_stay laws old new shaped kept event log named back among now (subst CountsAgree (sym parts) makes.counts) n b there (λ o shared own. by o own (has_object o (objects event (now_of old))) refl);
     }
       where
-        by : (o : Object) → owner_at old o ≡ Some n → (h : Bool) → has o (objects event (now_of old)) ≡ h → h ≡ false
+        by : (o : Object) → owner_at old o ≡ Some n → (h : Bool) → has_object o (objects event (now_of old)) ≡ h → h ≡ false
         by o own true e = absurd (apart (sym (ap (unless None) own) ∙ unowned o e))
           where
             apart : Some n ≡ None → ⊥

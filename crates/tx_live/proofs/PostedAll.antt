@@ -18,38 +18,38 @@ use Rattle.tx_live.specs.Laws.{LiveLaws}
 use Rattle.tx_live.specs.Made.{posted_at, PostsKept}
 use Rattle.tx_live.specs.declared.content.BoxedTxn.{BoxedTxn}
 use Rattle.tx_live.specs.declared.kept_posts.KeptPost.{KeptPost}
-use Rattle.tx_model.specs.History.{processes_of}
-use Rattle.tx_model.specs.Posts.{answers, post, post_answer, posts}
-use Rattle.tx_model.specs.State.{Object, Proc, Sending as TheSending, has, same_object}
+use Rattle.tx_model.specs.Words.{processes_of}
+use Rattle.tx_model.specs.Posts.{post_answers, after_post, post_answer, after_posts}
+use Rattle.tx_model.specs.State.{Object, Proc, Sending as TheSending, has_object, same_object}
 use Rattle.tx_signal.specs.Parts.{answer_of}
 use Rattle.tx_txn.specs.Faces.{pending_by}
 use Rattle.tx_txn.specs.declared.outbox.HeldPost.{HeldPost}
 
 -- changes of the first objects, or of more, are of all of them
 pub among_front : (os more : List Object) (changes : List Change) → AreAmong os changes → AreAmong (os ++ more) changes
-unfolding has
+unfolding has_object
 among_front os more [] among = tt
 among_front os more (change ∷ changes) among = (by os among.0, among_front os more changes among.1)
   where
-    by : (os : List Object) → has (object_of change) os ≡ true → has (object_of change) (os ++ more) ≡ true
+    by : (os : List Object) → has_object (object_of change) os ≡ true → has_object (object_of change) (os ++ more) ≡ true
     by [] h = cc
     by (o ∷ os) h = either (same_object (object_of change) o) (by os) h
       where
-        either : (b : Bool) → (has (object_of change) os ≡ true → has (object_of change) (os ++ more) ≡ true) → (if b then true else has (object_of change) os) ≡ true →
-            (if b then true else has (object_of change) (os ++ more)) ≡ true
+        either : (b : Bool) → (has_object (object_of change) os ≡ true → has_object (object_of change) (os ++ more) ≡ true) → (if b then true else has_object (object_of change) os) ≡ true →
+            (if b then true else has_object (object_of change) (os ++ more)) ≡ true
         either true rest e = refl
         either false rest e = rest e
 
 pub among_behind : (os more : List Object) (changes : List Change) → AreAmong more changes → AreAmong (os ++ more) changes
-unfolding has
+unfolding has_object
 among_behind os more [] among = tt
 among_behind os more (change ∷ changes) among = (by os, among_behind os more changes among.1)
   where
-    by : (os : List Object) → has (object_of change) (os ++ more) ≡ true
+    by : (os : List Object) → has_object (object_of change) (os ++ more) ≡ true
     by [] = among.0
     by (o ∷ os) = either (same_object (object_of change) o) (by os)
       where
-        either : (b : Bool) → has (object_of change) (os ++ more) ≡ true → (if b then true else has (object_of change) (os ++ more)) ≡ true
+        either : (b : Bool) → has_object (object_of change) (os ++ more) ≡ true → (if b then true else has_object (object_of change) (os ++ more)) ≡ true
         either true rest = refl
         either false rest = rest
 
@@ -59,7 +59,7 @@ among_both os (change ∷ front) behind first last = (first.0, among_both os fro
 
 -- nothing is posted
 pub posts_none : (parts : Parts) (txns : List (Option BoxedTxn)) → PostsAll parts parts txns txns [] []
-unfolding posts answers pending_by
+unfolding after_posts post_answers pending_by
 posts_none parts txns = record {
   long = refl;
   state = λ held. refl;
@@ -81,11 +81,11 @@ posts_none parts txns = record {
 -- the first one is posted, and then the others
 pub posts_next : LiveLaws → (before middle after : Parts) (old between new : List (Option BoxedTxn)) (m : Sending) (ms : List Sending) (one : HeldPost) (rest : List HeldPost) →
     PostsAll before middle old between (m ∷ []) (one ∷ []) → PostsAll middle after between new ms rest → PostsAll before after old new (m ∷ ms) (one ∷ rest)
-unfolding posts answers pending_by
+unfolding after_posts post_answers pending_by
 posts_next laws before middle after old between new m ms one rest first last = record {
   long = ap suc last.long;
-  state = λ held. last.state held ∙ ap (posts (map sending_of ms)) (first.state held);
-  answered = λ held. λ j. heads (first.answered held) j ∷ (last.answered held ∙ ap (answers (map sending_of ms)) (first.state held)) j;
+  state = λ held. last.state held ∙ ap (after_posts (map sending_of ms)) (first.state held);
+  answered = λ held. λ j. heads (first.answered held) j ∷ (last.answered held ∙ ap (post_answers (map sending_of ms)) (first.state held)) j;
   back = laws.undone after (listed_change one.change) (post_changes rest) ∙ ap (λ (P : Parts). undone P (listed_change one.change)) last.back ∙ ap (undone middle) (sym (no_more (listed_change one.change))) ∙ first.back;
   named = laws.named after (listed_change one.change) (post_changes rest)
       (subst (λ (z : Sizes). AreWithin z (listed_change one.change)) (ap sizes_of (sym last.back) ∙ laws.sizes_back after (post_changes rest)) (subst (AreNamed middle) (no_more (listed_change one.change)) first.named)) last.named;
@@ -117,9 +117,9 @@ posts_next laws before middle after old between new m ms one rest first last = r
     twice n None = refl
     twice n (Some boxed) = refl
 
-    starter : (post : Option KeptPost) → HasStarter between post → HasStarter new post
+    starter : (after_post : Option KeptPost) → HasStarter between after_post → HasStarter new after_post
     starter None h = tt
-    starter (Some post) h = (h.0, subst (λ (k : ℕ). post.starter.0 ≤ k) (sym last.kept.width) h.1)
+    starter (Some after_post) h = (h.0, subst (λ (k : ℕ). after_post.starter.0 ≤ k) (sym last.kept.width) h.1)
 
 -- each signal's number is below 64
 pub signal_at : (ms : List Sending) (i : ℕ) (d : Sending) → i < length ms → HaveSignals (map sending_of ms) → (slice_index_or ms i d).signo.0 < 64
@@ -128,19 +128,19 @@ signal_at (m ∷ ms) zero d few all = all.0
 signal_at (m ∷ ms) (suc i) d few all = signal_at ms i d (omega (arith, few)) all.1
 
 -- what takes a post to what is kept back, from its target and the rest
-target_same : (m : Sending) (post : Option KeptPost) → IfSome post (λ post. post.starter ≡ m.target) → kept_post m (option_map (λ post. post.unpost) post) ≡ post
+target_same : (m : Sending) (after_post : Option KeptPost) → IfSome after_post (λ after_post. after_post.starter ≡ m.target) → kept_post m (option_map (λ after_post. after_post.unpost) after_post) ≡ after_post
 target_same m None is = refl
-target_same m (Some post) is = λ j. Some (record { starter = sym is j; unpost = post.unpost })
+target_same m (Some after_post) is = λ j. Some (record { starter = sym is j; unpost = after_post.unpost })
 
 -- one is posted
 pub posts_one : (before after : Parts) (old new : List (Option BoxedTxn)) (m : Sending) (made : HeldPost) (kept : Option KeptPost) →
     ((held : ℕ → List TheSending) → answer_of made.answer ≡ post_answer (sending_of m) ((state_of held before).procs m.target.0)) →
-    ((held : ℕ → List TheSending) → state_of held after ≡ post (sending_of m) (state_of held before)) →
+    ((held : ℕ → List TheSending) → state_of held after ≡ after_post (sending_of m) (state_of held before)) →
     undone after (listed_change made.change) ≡ before → AreNamed after (listed_change made.change) → AreAmong (Proc m.target.0 ∷ []) (listed_change made.change) →
     (CountsAgree before → CountsAgree after) → (HaveAllPlaces before → HaveAllPlaces after) →
-    PostsKept old new (sending_of m ∷ []) → unposted_in kept new ≡ old → HasStarter new kept → IfSome kept (λ post. post.starter ≡ m.target) → made.kept ≡ option_map (λ post. post.unpost) kept →
+    PostsKept old new (sending_of m ∷ []) → unposted_in kept new ≡ old → HasStarter new kept → IfSome kept (λ after_post. after_post.starter ≡ m.target) → made.kept ≡ option_map (λ after_post. after_post.unpost) kept →
     PostsAll before after old new (m ∷ []) (made ∷ [])
-unfolding posts answers
+unfolding after_posts post_answers
 posts_one before after old new m made kept answer state back named among counts places posted unpost starter target is = record {
   long = refl;
   state = state;
@@ -164,22 +164,22 @@ posts_one before after old new m made kept answer state back named among counts 
 
 -- what is left to post, if all but the first few are posted
 abbrev pub Ahead : Parts → List (Option BoxedTxn) → List Sending → List HeldPost → ℕ → Parts → List (Option BoxedTxn) → Type 0
-Ahead before old sendings posts place now txns =
-    (after : Parts) (new : List (Option BoxedTxn)) (rest : List HeldPost) → PostsAll now after txns new (drop place sendings) rest → PostsAll before after old new sendings (take place posts ++ rest)
+Ahead before old sendings after_posts place now txns =
+    (after : Parts) (new : List (Option BoxedTxn)) (rest : List HeldPost) → PostsAll now after txns new (drop place sendings) rest → PostsAll before after old new sendings (take place after_posts ++ rest)
 
-pub posts_ahead : LiveLaws → (before now next : Parts) (old txns others : List (Option BoxedTxn)) (sendings : List Sending) (posts : List HeldPost) (place : ℕ) (d : Sending) (made : HeldPost) →
-    place < length sendings → length posts ≡ length sendings → Ahead before old sendings posts place now txns → PostsAll now next txns others (slice_index_or sendings place d ∷ []) (made ∷ []) →
-    Ahead before old sendings (slice_set posts place made) (place + 1) next others
-posts_ahead laws before now next old txns others sendings posts place d made few long ahead one after new rest all =
+pub posts_ahead : LiveLaws → (before now next : Parts) (old txns others : List (Option BoxedTxn)) (sendings : List Sending) (after_posts : List HeldPost) (place : ℕ) (d : Sending) (made : HeldPost) →
+    place < length sendings → length after_posts ≡ length sendings → Ahead before old sendings after_posts place now txns → PostsAll now next txns others (slice_index_or sendings place d ∷ []) (made ∷ []) →
+    Ahead before old sendings (slice_set after_posts place made) (place + 1) next others
+posts_ahead laws before now next old txns others sendings after_posts place d made few long ahead one after new rest all =
     subst (PostsAll before after old new sendings)
-    (sym (ap (λ (ps : List HeldPost). ps ++ rest) (take_more_set posts place made (subst (λ (n : ℕ). place < n) (sym long) few)) ∙ append_assoc (take place posts) (made ∷ []) rest))
+    (sym (ap (λ (ps : List HeldPost). ps ++ rest) (take_more_set after_posts place made (subst (λ (n : ℕ). place < n) (sym long) few)) ∙ append_assoc (take place after_posts) (made ∷ []) rest))
     (ahead after new (made ∷ rest) (subst (λ (ms : List Sending). PostsAll now after txns new ms (made ∷ rest)) (sym (drop_more sendings place d few))
     (posts_next laws now next after txns others new (slice_index_or sendings place d) (drop (place + 1) sendings) made rest one all)))
 
-pub posts_over : (before now : Parts) (old txns : List (Option BoxedTxn)) (sendings : List Sending) (posts : List HeldPost) (place : ℕ) → length sendings ≤ place → length posts ≡ length sendings →
-    Ahead before old sendings posts place now txns → PostsAll before now old txns sendings posts
-posts_over before now old txns sendings posts place all long ahead =
-    subst (PostsAll before now old txns sendings) (no_more (take place posts) ∙ take_all place posts (subst (λ (n : ℕ). n ≤ place) (sym long) all))
+pub posts_over : (before now : Parts) (old txns : List (Option BoxedTxn)) (sendings : List Sending) (after_posts : List HeldPost) (place : ℕ) → length sendings ≤ place → length after_posts ≡ length sendings →
+    Ahead before old sendings after_posts place now txns → PostsAll before now old txns sendings after_posts
+posts_over before now old txns sendings after_posts place all long ahead =
+    subst (PostsAll before now old txns sendings) (no_more (take place after_posts) ∙ take_all place after_posts (subst (λ (n : ℕ). n ≤ place) (sym long) all))
     (ahead now txns [] (subst (λ (ms : List Sending). PostsAll now now txns txns ms []) (sym (drop_all place sendings all)) (posts_none now txns)))
   where
     no_more : (xs : List HeldPost) → xs ++ [] ≡ xs

@@ -9,7 +9,7 @@ use Rattle.tx_kernel.specs.Plans.{sending_of}
 use Rattle.tx_live.specs.HeldPosts.{answers_in, PostsAll}
 use Rattle.tx_live.specs.declared.content.BoxedTxn.{BoxedTxn}
 use Rattle.tx_model.specs.Effects.{failed_sends, first_answer}
-use Rattle.tx_model.specs.Posts.{answers, has_room, is_quiet, is_realtime, may_signal, post, post_answer}
+use Rattle.tx_model.specs.Posts.{post_answers, has_room, is_quiet, is_realtime, may_signal, after_post, post_answer}
 use Rattle.tx_model.specs.State.{Process, Sending, State}
 use Rattle.tx_signal.specs.Parts.{answer_of}
 use Rattle.tx_txn.specs.Outboxes.{missed_in, with_missed}
@@ -46,14 +46,14 @@ missed_one m (Err InvalidArgument) ms rs rest known e = cc
 missed_one m (Err TooManyDescriptors) ms rs rest known e = cc
 missed_one m (Err BrokenPipe) ms rs rest known e = cc
 
-missed_answered : (ms : List TheSending) (made : List HeldPost) (S : State) → answers_in made ≡ answers (map sending_of ms) S → missed_in ms made ≡ failed_sends (map sending_of ms) (answers_in made)
-unfolding answers
+missed_answered : (ms : List TheSending) (made : List HeldPost) (S : State) → answers_in made ≡ post_answers (map sending_of ms) S → missed_in ms made ≡ failed_sends (map sending_of ms) (answers_in made)
+unfolding post_answers
 missed_answered [] made S e = refl
 missed_answered (m ∷ ms) [] S e = refl
 missed_answered (m ∷ ms) (one ∷ made) S e =
     missed_one m one.answer ms (answers_in made) (missed_in ms made)
     (ap (λ (rs : List ℤ). is_of_post (first_answer rs)) e ∙ posts_answer (sending_of m) (S.procs m.target.0))
-    (missed_answered ms made (post (sending_of m) S) (ap (λ (rs : List ℤ). drop 1 rs) e))
+    (missed_answered ms made (after_post (sending_of m) S) (ap (λ (rs : List ℤ). drop 1 rs) e))
 
 -- what was posted lists what the definitions do
 pub missed_are : (before after : Parts) (old new : List (Option BoxedTxn)) (sendings : List TheSending) (made : List HeldPost) → PostsAll before after old new sendings made →

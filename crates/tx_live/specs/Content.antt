@@ -16,7 +16,7 @@ use Rattle.tx_model.specs.State.{State, Object, Proc, Desc, Pipe, Held, Sending}
 use Rattle.tx_model.specs.View.{View}
 use Rattle.tx_reserve.specs.Objects.{is_in}
 use Rattle.tx_reserve.specs.Reservations.{owner_of}
-use Rattle.tx_txn.specs.Content.{Content as TheContent, Txn as TheTxn, two_parts_of}
+use Rattle.tx_txn.specs.Content.{LogKernel, Txn as TheTxn, two_parts_of}
 use Rattle.tx_txn.specs.Logs.{newest_first}
 use Rattle.tx_txn.specs.Marks.{table_at}
 use Rattle.tx_txn.specs.Outboxes.{unmade}
@@ -49,7 +49,7 @@ owner_at k (Desc n) = owner_of k.owners (Desc n)
 owner_at k (Pipe n) = owner_of k.owners (Pipe n)
 owner_at k (Held n) = own_held n (slot_at k.txns n)
 
-abbrev pub content_of : Content → TheContent
+abbrev pub content_of : Content → LogKernel
 content_of k = record { now = now_of k; txns = λ n. option_map txn_of (slot_at k.txns n); owner = owner_at k; table = table_at k.marks }
 
 -- the view that the machine has

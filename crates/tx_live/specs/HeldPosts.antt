@@ -10,10 +10,10 @@ use Rattle.tx_kernel.specs.Plans.{sending_of, AreAmong}
 use Rattle.tx_live.specs.Inverses.{post_changes, unposted_all, HaveStarters}
 use Rattle.tx_live.specs.Made.{PostsKept}
 use Rattle.tx_live.specs.declared.content.BoxedTxn.{BoxedTxn}
-use Rattle.tx_model.specs.History.{processes_of}
+use Rattle.tx_model.specs.Words.{processes_of}
 use Rattle.tx_model.specs.Membership.{says_ended}
 use Rattle.tx_model.specs.Events.{Event, Do, Note, Commit, reply_of}
-use Rattle.tx_model.specs.Posts.{answers, posts}
+use Rattle.tx_model.specs.Posts.{post_answers, after_posts}
 use Rattle.tx_model.specs.State.{Sending as TheSending, State}
 use Rattle.tx_signal.specs.Parts.{answer_of}
 use Rattle.tx_txn.specs.declared.outbox.HeldPost.{HeldPost}
@@ -36,8 +36,8 @@ answers_in posts = map (λ post. answer_of post.answer) posts
 -- the sends were posted, one after another, and each post came to this
 pub record PostsAll (before after : Parts) (old new : List (Option BoxedTxn)) (sendings : List Sending) (made : List HeldPost) : Type 0 where
   pub long : length made ≡ length sendings
-  pub state : (held : ℕ → List TheSending) → state_of held after ≡ posts (map sending_of sendings) (state_of held before)
-  pub answered : (held : ℕ → List TheSending) → answers_in made ≡ answers (map sending_of sendings) (state_of held before)
+  pub state : (held : ℕ → List TheSending) → state_of held after ≡ after_posts (map sending_of sendings) (state_of held before)
+  pub answered : (held : ℕ → List TheSending) → answers_in made ≡ post_answers (map sending_of sendings) (state_of held before)
   pub back : undone after (post_changes made) ≡ before
   pub named : AreNamed after (post_changes made)
   pub among : AreAmong (processes_of (map sending_of sendings)) (post_changes made)

@@ -20,8 +20,8 @@ use Rattle.tx_live.specs.declared.inside.Stepped.{Stepped}
 use Rattle.tx_model.specs.Effects.{Inside as TheInside}
 use Rattle.tx_model.specs.Events.{Event}
 use Rattle.tx_model.specs.History.{event_footprint}
-use Rattle.tx_model.specs.Book.{sent_by_members}
-use Rattle.tx_model.specs.State.{Object, has}
+use Rattle.tx_model.specs.Book.{member_sends}
+use Rattle.tx_model.specs.State.{Object, has_object}
 use Rattle.tx_reserve.specs.Objects.{is_in}
 use Rattle.tx_reserve.specs.Reservations.{owner_of, unless}
 use Rattle.tx_reserve.specs.declared.objects.Objects.{Objects}
@@ -37,7 +37,7 @@ inside_in k starter = option_map (λ boxed. inside_at boxed.txn.value k.marks) (
 
 -- the set is the footprint of the event
 abbrev pub IsFootprint : Content → Event → Objects → Type 0
-IsFootprint k event footprint = (o : Object) → is_shared o ≡ true → is_in footprint o ≡ has o (event_footprint (table_at k.marks) event (now_of k))
+IsFootprint k event footprint = (o : Object) → is_shared o ≡ true → is_in footprint o ≡ has_object o (event_footprint (table_at k.marks) event (now_of k))
 
 -- no other transaction owns anything of it
 abbrev pub IsFree : Content → ℕ → Objects → Type 0
@@ -64,7 +64,7 @@ is_handed_out (AtCommit m) = true
 pub record MakesIn (before after : Parts) (marks : List (Option Mark)) (pid : Pid) (act : Act) (old new : Txn) (planned : Planned) : Type 0 where
   pub inside : Inside
   pub is : transaction_of inside ≡ inside_at old marks
-  pub held : inside.held ≡ sent_by_members (map sending_of old.outbox.sendings)
+  pub held : inside.held ≡ member_sends (map sending_of old.outbox.sendings)
   pub makes : Makes before pid (Some inside) (event_of (Some (inside_at old marks)) pid act) old.log new.log after planned
   pub outbox : new.outbox ≡ record { sendings = old.outbox.sendings ++ handed_out planned.sends; posts = old.outbox.posts ++ unmade_of planned.sends }
   pub rest : new ≡ record old { log = new.log; outbox = new.outbox }

@@ -21,7 +21,7 @@ use Rattle.tx_live.specs.declared.content.Content.{Content}
 use Rattle.tx_live.specs.declared.inverse.Inverse.{Inverse}
 use Rattle.tx_model.specs.Events.{Event, objects, reply_of}
 use Rattle.tx_model.specs.Membership.{Role, Outside, Within, Commits, Aborts}
-use Rattle.tx_model.specs.State.{Object, Sending, has}
+use Rattle.tx_model.specs.State.{Object, Sending, has_object}
 use Rattle.tx_proc.specs.Processes.{process_in}
 use Rattle.tx_proc.specs.declared.proc.Proc.{Proc}
 use Rattle.tx_txn.specs.Faces.{pending_after, pending_by, running}
@@ -29,7 +29,7 @@ use Rattle.tx_txn.specs.Steps.{next_content, Logs}
 
 -- nobody but this one owns anything that the event reads and writes
 abbrev pub IsUnowned : Content → Option ℕ → Event → Type 0
-IsUnowned k own event = (o : Object) → has o (objects event (now_of k)) ≡ true → unless own (owner_at k o) ≡ None
+IsUnowned k own event = (o : Object) → has_object o (objects event (now_of k)) ≡ true → unless own (owner_at k o) ≡ None
 
 -- the process is there and runs
 abbrev pub IsRunning : Option Proc → Type 0

@@ -5,7 +5,7 @@ ghost use Rattle.tx_live.specs.Begins.{IsAlone};
 ghost use Rattle.tx_live.specs.Content.{content_of, view_of, IsShaped};
 ghost use Rattle.tx_live.specs.Made.{IsUnowned};
 ghost use Rattle.tx_model.specs.Events.{Event};
-ghost use Rattle.tx_model.specs.State.{booted};
+ghost use Rattle.tx_model.specs.State.{boot_state};
 ghost use Rattle.tx_model.specs.View.{view};
 ghost use Rattle.tx_txn.specs.Content.{IsKept};
 
@@ -33,7 +33,7 @@ impl Content {
         ensures alone { IfOk result (λ content. (s : ℕ) → IsAlone content s) }
         ensures unowned { IfOk result (λ content. (own : Option ℕ) (event : Event) → IsUnowned content own event) }
         ensures kept { IfOk result (λ content. IsKept (content_of content)) }
-        ensures view { IfOk result (λ content. view_of content ≡ view (booted width count) []) }
+        ensures view { IfOk result (λ content. view_of content ≡ view (boot_state width count) []) }
         ensures processes { IfOk result (λ content. length content.parts.procs ≡ width) }
     {
         laws();

@@ -3,7 +3,7 @@ ghost use Rattle.std.specs.Prelude.{◌≡◌, ℕ, ◌≤◌, length, Some};
 ghost use Rattle.tx_base.specs.Slots.{slot_at, with_slot};
 ghost use Rattle.tx_live.specs.Inverses.{remarked, HasMark};
 ghost use Rattle.tx_live.specs.Progresses.{part_of, HasChild};
-ghost use Rattle.tx_model.specs.Membership.{defers_in, marks_after, new_mark, parked, Within};
+ghost use Rattle.tx_model.specs.Membership.{defers_in, marks_after, new_mark, parked_mark, Within};
 
 use tx_base::{Mark, Pid, Slots};
 
@@ -63,7 +63,7 @@ fn swap_mark(marks: &mut Slots<Mark>, pid: Pid, mark: Option<Mark>) -> Marked
 
 /// The mark of a member whose part has ended.
 fn parked(marks: &Slots<Mark>, pid: Pid) -> Option<Mark>
-    ensures { result ≡ parked (slot_at marks.now pid.0) }
+    ensures { result ≡ parked_mark (slot_at marks.now pid.0) }
 {
     let mut mark = marks.get(pid).copied()?;
     mark.ended = true;

@@ -9,7 +9,7 @@ use Rattle.tx_base.specs.declared.steps.Step.TheVariants.{Call as Calls, Deliver
 use Rattle.tx_model.specs.State.{Process, State, Sending, Object, Proc}
 use Rattle.tx_model.specs.Effects.{Inside}
 use Rattle.tx_model.specs.Descriptors.{open_in, desc_pipe_objects}
-use Rattle.tx_model.specs.Processes.{children_of, told_to, procs_of, numbered}
+use Rattle.tx_model.specs.Processes.{children_of, child_notice, pid_of, procs_of}
 use Rattle.tx_model.specs.Book.{page_of_call, sendable}
 use Rattle.tx_model.specs.Deliveries.{delivered_value, ends_by}
 use Rattle.tx_model.specs.Membership.{Table, inside_by, others_open}
@@ -40,7 +40,7 @@ commit_row t p more S = commit_row_of t p (t.marks p) more S
 
 -- what the end of the process hands out for the commit
 abbrev pub told_for_later : Table → ℕ → ℕ → List Sending
-told_for_later t p parent = if parent == 1 then [] else (if is_for_later (inside_by t (t.marks p)) parent then told_to parent ∷ [] else [])
+told_for_later t p parent = if parent == 1 then [] else (if is_for_later (inside_by t (t.marks p)) parent then child_notice parent ∷ [] else [])
 
 -- an end of the process: what its descriptors name, its children, its parent, and what is posted where it commits
 abbrev pub ending_row : Table → ℕ → Process → State → List Object
@@ -53,8 +53,8 @@ ending_row t p me S =
 -- what a call names beside its process
 abbrev pub call_row : Table → ℕ → Call → Process → State → List Object
 call_row t p (call.Exit status) me S = if p == 1 then [] else ending_row t p me S
-call_row t p (call.Kill n signo) me S = send_row t p (numbered S.width n) (sendable signo)
-call_row t p (call.Sigqueue n signo value) me S = send_row t p (numbered S.width n) (sendable signo)
+call_row t p (call.Kill n signo) me S = send_row t p (pid_of S.width n) (sendable signo)
+call_row t p (call.Sigqueue n signo value) me S = send_row t p (pid_of S.width n) (sendable signo)
 call_row t p call.SysXend me S = commit_row t p [] S
 call_row t p c me S = (page_of_call c).names (record { number = p; process = me; inside = inside_by t (t.marks p); state = S })
 

@@ -7,7 +7,7 @@ use Rattle.tx_model.specs.View.{View, present, least}
 
 -- whether the object is reserved by a live transaction that the process is no member of
 abbrev pub is_reserved_from : View → ℕ → Object → Bool
-is_reserved_from V p o = is_some (least (λ s. is_live V.table s && (not (is_member_of V.table s p) && V.touched s o)) V.table.width)
+is_reserved_from V p o = is_some (least (λ s. is_live V.table s && (not (is_member_of V.table s p) && V.reserved s o)) V.table.width)
 
 abbrev pub is_free_process : View → ℕ → ℕ → Bool
 is_free_process V p n = is_between V.table.width n && (is_none ((present V).procs n) && not (is_reserved_from V p (Proc n)))

@@ -7,13 +7,12 @@ pub mod Memory
 pub mod State
 pub mod Posts
 pub mod Effects
+pub mod Forms
 pub mod Signals
 pub mod Descriptors
 pub mod Processes
-pub mod Forms
 pub mod Book
 pub mod Deliveries
-pub mod Calls
 pub mod Events
 pub mod Membership
 pub mod History
@@ -23,6 +22,7 @@ pub mod Schedules
 -- What the other promises add: the footprint of a step, and the numbers that are free.
 pub mod Footprints
 pub mod FreeNumbers
--- First laws, for the proofs above. Nothing here has to be believed.
+-- Words and first laws, for the contracts and proofs above. Nothing here has to be believed.
+pub mod Words
 pub mod StateLaws
 pub mod BookLaws

@@ -10,5 +10,5 @@ negative zero = pos 0
 negative (suc n) = negsuc n
 
 -- an error as an answer
-abbrev pub failing : Errno → ℤ
-failing errno = negative (error_number errno)
+abbrev pub error_answer : Errno → ℤ
+error_answer errno = negative (error_number errno)

@@ -1,47 +1,29 @@
 -- Children, the end of a process, and the wait for it (POSIX.1-2017, XSH, fork(), _exit() and waitpid()).
-use Rattle.std.specs.Prelude.{ℕ, zero, suc, ◌+◌, ◌-◌, ◌%◌, List, [], ◌∷◌, ◌++◌, ℤ, pos, negsuc, Option, Some, None, if◌then◌else◌, ◌==◌, replicate, slice_set}
-use Rattle.tx_base.specs.declared.limits.TheConstants.{DESCRIPTORS}
+use Rattle.std.specs.Prelude.{ℕ, zero, suc, ◌+◌, ◌-◌, ◌%◌, List, [], ◌∷◌, ◌++◌, ℤ, pos, negsuc, Option, Some, None, map, if◌then◌else◌, ◌==◌}
 use Rattle.tx_base.specs.declared.steps.Reply.TheVariants.{Ended}
-use Rattle.tx_model.specs.Memory.{no_memory}
 use Rattle.tx_model.specs.SignalSets.{child_signo}
-use Rattle.tx_model.specs.State.{Process, State, Sending, Object, Proc, Held, Write, SetProc, SetHeld, write_one, has_parent, first_registers, usual_actions, is_between}
+use Rattle.tx_model.specs.State.{Process, State, Sending, Object, Proc, Held, Write, SetProc, SetHeld, write_one, has_parent, bare_process, is_between}
 use Rattle.tx_model.specs.Effects.{Inside, Effect, Replies, next_point}
-use Rattle.tx_model.specs.Descriptors.{open_in, released, desc_objects, desc_pipe_objects}
+use Rattle.tx_model.specs.Forms.{Caller, ◌or◌, ◌>>=◌, ◌when◌, ◌>>◌}
+use Rattle.tx_model.specs.Descriptors.{open_in, removals, desc_pipe_objects}
 
--- the child: pending signals apart, a copy of its parent, with the answer 0 at the point after the call
+-- a copy of its parent, pending signals apart, with the answer 0 at the point after the call
 abbrev pub child_of : ℕ → Process → Process
 child_of p me = record me {
-  registers = record { point = next_point me.registers.point; ret = pos 0; slots = me.registers.slots };
+  registers = record me.registers { point = next_point me.registers.point; ret = pos 0 };
   parent = p;
   pending = 0;
   queued = [];
 }
 
-abbrev pub fork_objects : ℕ → Process → List Object
-fork_objects c me = Proc c ∷ desc_objects (open_in me.descriptors)
+abbrev pub ended_process : ℕ → Process → Process
+ended_process status me = bare_process me.parent (Some status) me.ids
 
--- an ended process has its parent, its ids and its status, and nothing else
-abbrev pub ended : ℕ → Process → Process
-ended status me = record {
-  registers = first_registers;
-  parent = me.parent;
-  status = Some status;
-  ids = me.ids;
-  memory = no_memory;
-  descriptors = replicate DESCRIPTORS None;
-  mask = 0;
-  actions = usual_actions;
-  pending = 0;
-  queued = [];
-  frames = [];
-}
-
--- the children of p up to a number
 unfoldable pub children_below : ℕ → ℕ → State → List ℕ
 children_below p zero S = []
 children_below p (suc q) S = if has_parent p (S.procs q) then q ∷ children_below p q S else children_below p q S
 
--- the children of a process; those of process 1 are nobody's concern
+-- those of process 1 are nobody's concern
 abbrev pub children_of : ℕ → State → List ℕ
 children_of p S = if p == 1 then [] else children_below p (S.width + 1) S
 
@@ -49,81 +31,64 @@ abbrev pub with_parent : ℕ → Option Process → Option Process
 with_parent n None = None
 with_parent n (Some q) = Some (record q { parent = n })
 
--- the processes get parent 1
-unfoldable pub orphaned : List ℕ → State → List Write
-orphaned [] S = []
-orphaned (q ∷ qs) S = SetProc q (with_parent 1 (S.procs q)) ∷ orphaned qs S
+unfoldable pub orphan_writes : List ℕ → State → List Write
+orphan_writes [] S = []
+orphan_writes (q ∷ qs) S = SetProc q (with_parent 1 (S.procs q)) ∷ orphan_writes qs S
 
--- SIGCHLD with the value 0, the kernel's own signal
-abbrev pub told_to : ℕ → Sending
-told_to parent = record { target = parent; signo = child_signo; value = pos 0; from = None }
+abbrev pub child_notice : ℕ → Sending
+child_notice parent = record { target = parent; signo = child_signo; value = pos 0; from = None }
 
 -- how the parent of a process that ends is told
-pub data Telling : Type 0 where
-  NotTold : Telling
-  AtOnce : Telling
-  -- when the transaction of the starter commits
-  AtCommit : ℕ → Telling
-
-abbrev pub telling_by : Option Inside → ℕ → Telling
-telling_by None parent = AtOnce
-telling_by (Some inside) parent = if inside.members parent then AtOnce else AtCommit inside.starter
+pub data Notice : Type 0 where
+  NotTold : Notice
+  AtOnce : Notice
+  -- when the transaction of this starter commits
+  AtCommit : ℕ → Notice
 
 -- process 1 is not told; a parent that is no member is told at the commit
-abbrev pub telling : Option Inside → ℕ → Telling
-telling inside parent = if parent == 1 then NotTold else telling_by inside parent
+abbrev pub parent_notice : Option Inside → ℕ → Notice
+parent_notice inside parent = do
+  NotTold when parent == 1
+  transaction ← inside or AtOnce
+  AtOnce when transaction.members parent
+  AtCommit transaction.starter
 
-abbrev pub told_at_once : Telling → ℕ → List Sending
-told_at_once AtOnce parent = told_to parent ∷ []
-told_at_once telling parent = []
+abbrev pub notice_now : Notice → ℕ → List Sending
+notice_now AtOnce parent = child_notice parent ∷ []
+notice_now parent_notice parent = []
 
-abbrev pub told_at_commit : Telling → ℕ → State → List Write
-told_at_commit (AtCommit s) parent S = SetHeld s (S.held s ++ told_to parent ∷ []) ∷ []
-told_at_commit telling parent S = []
+abbrev pub notice_held : Notice → ℕ → State → List Write
+notice_held (AtCommit s) parent S = SetHeld s (S.held s ++ child_notice parent ∷ []) ∷ []
+notice_held parent_notice parent S = []
 
--- the end of a process, by its exit or by a signal: its children get parent 1, its descriptors are closed, and its parent is told
-abbrev pub ending : Option Inside → ℕ → ℕ → Process → State → Effect
-ending inside p status me S = record {
-  writes = SetProc p (Some (ended status me))
-      ∷ orphaned (children_of p S) S
-      ++ released (open_in me.descriptors) (write_one (SetProc p (Some (ended status me))) S)
-      ++ told_at_commit (telling inside me.parent) me.parent S;
-  sends = told_at_once (telling inside me.parent) me.parent;
-  conclusion = Replies Ended;
-}
+-- the children get parent 1, the descriptors are closed, and the parent is told
+abbrev pub ending : ℕ → Caller → Effect
+ending status c =
+    let parent = c.process.parent in
+    let gone = SetProc c.number (Some (ended_process status c.process)) in
+    record {
+      writes = gone
+          ∷ orphan_writes (children_of c.number c.state) c.state
+          ++ removals (open_in c.process.descriptors) (write_one gone c.state)
+          ++ notice_held (parent_notice c.inside parent) parent c.state;
+      sends = notice_now (parent_notice c.inside parent) parent;
+      conclusion = Replies Ended;
+    }
 
 abbrev pub procs_of : List ℕ → List Object
-procs_of [] = []
-procs_of (q ∷ qs) = Proc q ∷ procs_of qs
+procs_of = map Proc
 
 abbrev pub held_objects : Option Inside → List Object
 held_objects None = []
 held_objects (Some inside) = Held inside.starter ∷ []
 
-abbrev pub ending_objects : Option Inside → ℕ → Process → State → List Object
-ending_objects inside p me S = desc_pipe_objects (open_in me.descriptors) S ++ procs_of (children_of p S) ++ held_objects inside
+abbrev pub ending_objects : Caller → List Object
+ending_objects c = desc_pipe_objects (open_in c.process.descriptors) c.state ++ procs_of (children_of c.number c.state) ++ held_objects c.inside
 
--- the status modulo 256
 abbrev pub exit_status : ℤ → ℕ
 exit_status (pos n) = n % 256
 exit_status (negsuc n) = 255 - n % 256
 
-abbrev pub exit_objects : Option Inside → ℕ → Process → State → List Object
-exit_objects inside p me S = if p == 1 then [] else ending_objects inside p me S
-
--- a process number that a program computed: 1 to the width
-abbrev pub numbered : ℕ → ℤ → Option ℕ
-numbered width (pos n) = if is_between width n then Some n else None
-numbered width (negsuc n) = None
-
-abbrev pub with_status : ℕ → Process → Process
-with_status status me = record me {
-  registers = record { point = me.registers.point; ret = me.registers.ret; slots = slice_set me.registers.slots 0 (pos status) };
-}
-
-abbrev pub numbered_objects : Option ℕ → List Object
-numbered_objects None = []
-numbered_objects (Some t) = Proc t ∷ []
-
-abbrev pub waitpid_objects : ℤ → State → List Object
-waitpid_objects t S = numbered_objects (numbered S.width t)
+abbrev pub pid_of : ℕ → ℤ → Option ℕ
+pid_of width (pos n) = if is_between width n then Some n else None
+pid_of width (negsuc n) = None

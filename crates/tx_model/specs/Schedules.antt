@@ -8,17 +8,17 @@ use Rattle.tx_model.specs.State.{State}
 use Rattle.tx_model.specs.View.{view}
 use Rattle.tx_model.specs.Answer.{answer}
 
--- the history with the step, if it was accepted
-abbrev pub recorded : List Accepted → Step → Reply → List Accepted
-recorded h step (No why) = h
-recorded h step reply = record { step = step; reply = reply } ∷ h
+-- if it was accepted
+abbrev pub history_with : List Accepted → Step → Reply → List Accepted
+history_with h step (No why) = h
+history_with h step reply = record { step = step; reply = reply } ∷ h
 
--- the history of a schedule that follows one, from a start state
-unfoldable pub history_of : State → List Accepted → List Step → List Accepted
-history_of S h [] = h
-history_of S h (step ∷ steps) = history_of S (recorded h step (answer (view S h) step)) steps
+module _ (S : State) where
+  -- of a schedule that follows a history
+  unfoldable pub history_of : List Accepted → List Step → List Accepted
+  history_of h [] = h
+  history_of h (step ∷ steps) = history_of (history_with h step (answer (view S h) step)) steps
 
--- the answers to its steps in turn
-unfoldable pub answers_of : State → List Accepted → List Step → List Reply
-answers_of S h [] = []
-answers_of S h (step ∷ steps) = answer (view S h) step ∷ answers_of S (recorded h step (answer (view S h) step)) steps
+  unfoldable pub answers_of : List Accepted → List Step → List Reply
+  answers_of h [] = []
+  answers_of h (step ∷ steps) = answer (view S h) step ∷ answers_of (history_with h step (answer (view S h) step)) steps

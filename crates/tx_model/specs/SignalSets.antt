@@ -8,7 +8,6 @@ use Rattle.tx_base.specs.declared.signals.TheConstants.{SIGKILL, SIGPIPE, SIGCHL
 abbrev pub standard_signals : List ℕ
 standard_signals = 1 ∷ 2 ∷ 3 ∷ 6 ∷ 9 ∷ 10 ∷ 12 ∷ 13 ∷ 14 ∷ 15 ∷ 17 ∷ []
 
--- the realtime signals
 abbrev pub realtime_signals : List ℕ
 realtime_signals = 32 ∷ 33 ∷ 34 ∷ 35 ∷ 36 ∷ 37 ∷ 38 ∷ 39 ∷ []
 
@@ -26,7 +25,7 @@ is_one_of [] n = false
 is_one_of (m ∷ ms) n = m == n || is_one_of ms n
 
 abbrev pub is_realtime : ℕ → Bool
-is_realtime signo = is_one_of realtime_signals signo
+is_realtime = is_one_of realtime_signals
 
 abbrev pub is_known : ℕ → Bool
 is_known signo = is_one_of standard_signals signo || is_realtime signo
@@ -38,11 +37,11 @@ abbrev pub with_one_more : ℕ → ℕ → ℕ
 with_one_more set signo = bit_or set (2 ^ signo)
 
 -- the signals of the first set that are not in the second
-abbrev pub less : ℕ → ℕ → ℕ
-less set other = set - bit_and set other
+abbrev pub set_difference : ℕ → ℕ → ℕ
+set_difference set other = set - bit_and set other
 
 abbrev pub without_one : ℕ → ℕ → ℕ
-without_one set signo = less set (2 ^ signo)
+without_one set signo = set_difference set (2 ^ signo)
 
 abbrev pub set_of : List ℕ → ℕ
 set_of [] = 0

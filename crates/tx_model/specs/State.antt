@@ -6,8 +6,7 @@ use Rattle.tx_base.specs.declared.signals.Action.{Action}
 use Rattle.tx_base.specs.declared.signals.Action.TheVariants.{Usual}
 use Rattle.tx_model.specs.Memory.{Memory, no_memory}
 
--- the real, effective and saved ids of the user and of the group (POSIX.1-2017, XBD, Real User ID,
--- Effective User ID and Saved Set-User-ID, and the same of the group)
+-- POSIX.1-2017, XBD, Real User ID, Effective User ID and Saved Set-User-ID, and the same of the group
 pub record Ids : Type 0 where
   pub real_user : ℕ
   pub effective_user : ℕ
@@ -16,7 +15,7 @@ pub record Ids : Type 0 where
   pub effective_group : ℕ
   pub saved_group : ℕ
 
--- a realtime signal in the queue, with its value
+-- a realtime signal in the queue
 pub record Queued : Type 0 where
   pub signo : ℕ
   pub value : ℤ
@@ -26,22 +25,22 @@ pub record Frame : Type 0 where
   pub registers : Regs
   pub mask : ℕ
 
--- a process. A set of signals is a number: the bit of signal n is 2 ^ n
+-- a set of signals is a number: the bit of signal n is 2 ^ n
 pub record Process : Type 0 where
   pub registers : Regs
   pub parent : ℕ
-  -- nothing while it runs; else the status that it ended with
+  -- nothing while it runs
   pub status : Option ℕ
   pub ids : Ids
   pub memory : Memory
-  -- the description that each descriptor names, of numbers 0 to 15
+  -- the description that each of 0 to 15 names
   pub descriptors : List (Option ℕ)
   pub mask : ℕ
-  -- what is done about each signal, of numbers 0 to 39
+  -- for signals 0 to 39
   pub actions : List Action
   pub pending : ℕ
   pub queued : List Queued
-  -- what each caught signal saved, the oldest first
+  -- the oldest first
   pub frames : List Frame
 
 pub data Side : Type 0 where
@@ -54,27 +53,26 @@ pub record Description : Type 0 where
   pub side : Side
   pub nonblock : Bool
 
--- the real and effective user id of a sender, at the call
+-- the user ids of a sender, at the call
 pub record Sender : Type 0 where
   pub real : ℕ
   pub effective : ℕ
 
--- a signal on its way; the kernel's own have no sender
+-- a signal on its way; the kernel's own is from nobody
 pub record Sending : Type 0 where
   pub target : ℕ
   pub signo : ℕ
   pub value : ℤ
   pub from : Option Sender
 
--- processes, descriptions and pipes by number; and what the members of each live transaction have
--- handed out so far, by its starter. A description is there while a descriptor names it, a pipe
--- while a description does; nothing is counted
+-- a description is there while a descriptor names it, a pipe while a description does; nothing is counted
 pub record State : Type 0 where
   -- the greatest process number: 64, or 256 on a wide machine
   pub width : ℕ
   pub procs : ℕ → Option Process
   pub descs : ℕ → Option Description
   pub pipes : ℕ → Option (List ℕ)
+  -- what the members of a live transaction have handed out so far, by its starter
   pub held : ℕ → List Sending
 
 -- what steps name and transactions reserve
@@ -82,10 +80,9 @@ pub data Object : Type 0 where
   Proc : ℕ → Object
   Desc : ℕ → Object
   Pipe : ℕ → Object
-  -- what the transaction of the starter holds
+  -- what the transaction of this starter holds
   Held : ℕ → Object
 
--- what is put in the place of an object
 pub data Write : Type 0 where
   SetProc : ℕ → Option Process → Write
   SetDesc : ℕ → Option Description → Write
@@ -96,16 +93,15 @@ abbrev pub put_at : {A : Type 0} → (ℕ → A) → ℕ → A → ℕ → A
 put_at f k v n = if n == k then v else f n
 
 abbrev pub write_one : Write → State → State
-write_one (SetProc n x) S = record { width = S.width; procs = put_at S.procs n x; descs = S.descs; pipes = S.pipes; held = S.held }
-write_one (SetDesc n x) S = record { width = S.width; procs = S.procs; descs = put_at S.descs n x; pipes = S.pipes; held = S.held }
-write_one (SetPipe n x) S = record { width = S.width; procs = S.procs; descs = S.descs; pipes = put_at S.pipes n x; held = S.held }
-write_one (SetHeld n x) S = record { width = S.width; procs = S.procs; descs = S.descs; pipes = S.pipes; held = put_at S.held n x }
+write_one (SetProc n x) S = record S { procs = put_at S.procs n x }
+write_one (SetDesc n x) S = record S { descs = put_at S.descs n x }
+write_one (SetPipe n x) S = record S { pipes = put_at S.pipes n x }
+write_one (SetHeld n x) S = record S { held = put_at S.held n x }
 
-unfoldable pub written : List Write → State → State
-written [] S = S
-written (w ∷ ws) S = written ws (write_one w S)
+unfoldable pub with_writes : List Write → State → State
+with_writes [] S = S
+with_writes (w ∷ ws) S = with_writes ws (write_one w S)
 
--- whether this is a child of process p
 abbrev pub has_parent : ℕ → Option Process → Bool
 has_parent p None = false
 has_parent p (Some q) = q.parent == p
@@ -114,12 +110,12 @@ abbrev pub is_number : ℕ → Option ℕ → Bool
 is_number n None = false
 is_number n (Some m) = m == n
 
--- whether the process's descriptor f names description d; one that has ended names nothing
+-- whether its descriptor f names description d; a process that has ended names nothing
 abbrev pub names_at : ℕ → ℕ → Option Process → Bool
 names_at d f None = false
 names_at d f (Some q) = if is_some q.status then false else is_number d (slice_index_or q.descriptors f None)
 
--- the side of pipe k that this description is, if it is one of that pipe
+-- the side of pipe k that the description is
 abbrev pub side_in : ℕ → Option Description → Option Side
 side_in k None = None
 side_in k (Some d) = if d.pipe == k then Some d.side else None
@@ -131,9 +127,9 @@ same_object (Pipe n) (Pipe m) = n == m
 same_object (Held n) (Held m) = n == m
 same_object one other = false
 
-unfoldable pub has : Object → List Object → Bool
-has o [] = false
-has o (x ∷ xs) = if same_object o x then true else has o xs
+unfoldable pub has_object : Object → List Object → Bool
+has_object o [] = false
+has_object o (x ∷ xs) = if same_object o x then true else has_object o xs
 
 abbrev pub root_ids : Ids
 root_ids = record { real_user = 0; effective_user = 0; saved_user = 0; real_group = 0; effective_group = 0; saved_group = 0 }
@@ -141,34 +137,36 @@ root_ids = record { real_user = 0; effective_user = 0; saved_user = 0; real_grou
 abbrev pub first_registers : Regs
 first_registers = record { point = 0; ret = pos 0; slots = replicate SLOTS (pos 0) }
 
--- the usual action for each signal, of numbers 0 to 39
-abbrev pub usual_actions : List Action
-usual_actions = replicate SIGNALS Usual
-
--- process 1 is the parent of the others, and has none itself
-abbrev pub booted_process : ℕ → Process
-booted_process n = record {
+-- a process with nothing else
+abbrev pub bare_process : ℕ → Option ℕ → Ids → Process
+bare_process parent status ids = record {
   registers = first_registers;
-  parent = if n == 1 then 0 else 1;
-  status = None;
-  ids = root_ids;
+  parent = parent;
+  status = status;
+  ids = ids;
   memory = no_memory;
   descriptors = replicate DESCRIPTORS None;
   mask = 0;
-  actions = usual_actions;
+  actions = replicate SIGNALS Usual;
   pending = 0;
   queued = [];
   frames = [];
 }
 
--- whether a number lies in 1 to the limit
+-- process 1 is the parent of the others, and has none itself
+abbrev pub booted_process : ℕ → Process
+booted_process n = bare_process (if n == 1 then 0 else 1) None root_ids
+
+abbrev pub with_slots : List ℤ → Process → Process
+with_slots slots me = record me { registers = record me.registers { slots = slots } }
+
+-- in 1 to the limit
 abbrev pub is_between : ℕ → ℕ → Bool
 is_between limit zero = false
 is_between limit (suc n) = nat_lt n limit
 
--- processes 1 to count run at point 0, and there is nothing else
-abbrev pub booted : ℕ → ℕ → State
-booted width count = record {
+abbrev pub boot_state : ℕ → ℕ → State
+boot_state width count = record {
   width = width;
   procs = λ n. if is_between count n then Some (booted_process n) else None;
   descs = λ n. None;

@@ -3,7 +3,7 @@
 use Rattle.std.specs.Prelude.{◌≡◌, ◌≢◌, ℕ, Bool, true, false, List, ◌⊎◌, ◌==◌, if◌then◌else◌}
 use Rattle.std.proofs.Common.{refl, inl, inr, eq-eqb, eqb-true}
 use Rattle.std.proofs.lemmas.Bool.{both_ways}
-use Rattle.tx_model.specs.State.{State, Object, Proc, Desc, Pipe, Held, put_at, has, has_parent, names_at, side_in}
+use Rattle.tx_model.specs.State.{State, Object, Proc, Desc, Pipe, Held, put_at, has_object, has_parent, names_at, side_in}
 
 -- the two states have the same at the object
 abbrev pub AgreePart : State → State → Object → Type 0
@@ -28,7 +28,7 @@ pub record AgreeAt (S R : State) (o : Object) : Type 0 where
 
 -- the two states are the same at each of the objects
 abbrev pub AgreeOn : List Object → State → State → Type 0
-AgreeOn os S R = (o : Object) → has o os ≡ true → AgreeAt S R o
+AgreeOn os S R = (o : Object) → has_object o os ≡ true → AgreeAt S R o
 
 -- what is put in a place is there
 pub put_here : {A : Type 0} (f : ℕ → A) (k : ℕ) (v : A) → put_at f k v k ≡ v

@@ -5,7 +5,8 @@ use Rattle.tx_base.specs.declared.steps.Reply.{Reply}
 use Rattle.tx_base.specs.declared.steps.Step.{Step}
 use Rattle.tx_base.specs.declared.steps.Step.TheVariants.{Call as Calls, Deliver, KernelAbort}
 use Rattle.tx_model.specs.Events.{Event, process_of}
-use Rattle.tx_model.specs.Membership.{Table, is_of, is_open_of, others_open, inside_by, Kind, Ordinary, Forking, Beginning, Leaving, Aborting, kind_of, says_ended, member_end_role, member_end, ordinary_role, kind_role, role, kind_event, event_in, event}
+use Rattle.tx_model.specs.Membership.{Table, is_of, is_open_of, others_open, inside_by, Kind, Ordinary, Forking, Beginning, Leaving, Aborting, says_ended, member_end, role, kind_event, event_in, event}
+use Rattle.tx_model.specs.Words.{member_end_role, ordinary_role, kind_of, kind_role}
 
 -- the two tables have the same members of the transaction of u, and the same of them have not ended their part
 pub record AlikeFor (u : ℕ) (t v : Table) : Type 0 where

@@ -3,11 +3,12 @@ use Rattle.std.proofs.Common.{◌≡◌, ◌≤◌, ℕ, true, false, not, List,
 use Rattle.tx_base.specs.declared.steps.Accepted.{Accepted}
 use Rattle.tx_base.specs.declared.steps.Step.{Step}
 use Rattle.tx_base.specs.declared.steps.Step.TheVariants.{Call as Calls, Deliver, KernelAbort}
-use Rattle.tx_model.specs.State.{State, Proc, booted}
+use Rattle.tx_model.specs.State.{State, Proc, boot_state}
 use Rattle.tx_model.specs.Events.{Event, process_of, actor, after, reply_of, run}
 use Rattle.tx_model.specs.Membership.{Table, Role, Commits, is_live, is_member_of, role, event, table_after}
-use Rattle.tx_model.specs.History.{Starters, nobody, just, less_one, table_of, role_in, event_of, left_out_before, stays, without}
-use Rattle.tx_model.specs.View.{view, after_if, abort_status}
+use Rattle.tx_model.specs.History.{Starters, nobody, just, table_of, role_in, event_of, left_out_before, is_left_in, without}
+use Rattle.tx_model.specs.View.{view, abort_status}
+use Rattle.tx_model.specs.Words.{after_if, starters_without}
 use Rattle.tx_model.specs.Answer.{plain_reply, Lawful, AgreesWithout}
 use Rattle.tx_laws.specs.Fits.{Fits}
 use Rattle.tx_laws.specs.OneMoment.{parted, moved_to, is_silent, is_one_moment, tells_moment}
@@ -40,7 +41,7 @@ own_agree S s [] B own X kept replies others = others
 own_agree S s (e ∷ L) B own X kept replies others =
     let k : ℕ = abort_status (view S (L ++ B)) e.step in
     let ev : Event = event_of S e (L ++ B) in (
-      subst (λ (r : Role). stays r X ≡ true → e.reply ≡ plain_reply k r ev (without S (left_out_before r X) (L ++ B))) (sym own.0.1)
+      subst (λ (r : Role). is_left_in r X ≡ true → e.reply ≡ plain_reply k r ev (without S (left_out_before r X) (L ++ B))) (sym own.0.1)
           (λ stay. replies.0 ∙ ap (reply_of ev) (sym (own_left S s L B own.1 X kept))),
       subst (λ (r : Role). AgreesWithout S (left_out_before r X) (L ++ B)) (sym own.0.1) (own_agree S s L B own.1 X kept replies.1 others),
     )
@@ -78,9 +79,9 @@ module _ (laws : MomentLaws) (S : State) (form : IsWellFormed S) (nothing : Hold
   same_event : event_of S e (own ++ others) ≡ event_of S e h
   same_event = ap (λ (t : Table). event t e.step e.reply) put.table
 
-  committed : (k : List Accepted) → role_in S e k ≡ Commits s → (X : Starters) → without S X (e ∷ k) ≡ after (event_of S e k) (without S (less_one s X) k)
+  committed : (k : List Accepted) → role_in S e k ≡ Commits s → (X : Starters) → without S X (e ∷ k) ≡ after (event_of S e k) (without S (starters_without s X) k)
   committed k is X =
-      without_more S e k X ∙ ap (λ (r : Role). after_if (stays r X) (event_of S e k) (without S (left_out_before r X) k)) is
+      without_more S e k X ∙ ap (λ (r : Role). after_if (is_left_in r X) (event_of S e k) (without S (left_out_before r X) k)) is
 
   commit_same : LeavesSame S (moved_to S s e h) (e ∷ h)
   unfolding table_of AgreesWithout
@@ -88,14 +89,14 @@ module _ (laws : MomentLaws) (S : State) (form : IsWellFormed S) (nothing : Hold
     table = ap (λ (t : Table). table_after (role t e.step e.reply) (process_of e.step) t) put.table;
     states = λ X.
         committed (own ++ others) same_role X
-        ∙ ap₂ (λ (ev : Event) (Q : State). after ev Q) same_event (together (less_one s X) (less_self s X))
+        ∙ ap₂ (λ (ev : Event) (Q : State). after ev Q) same_event (together (starters_without s X) (less_self s X))
         ∙ sym (committed h commits X);
     agree = λ X. (
-      subst (λ (r : Role). stays r X ≡ true → e.reply ≡ plain_reply (abort_status (view S (own ++ others)) e.step) r (event_of S e (own ++ others)) (without S (left_out_before r X) (own ++ others))) (sym same_role)
+      subst (λ (r : Role). is_left_in r X ≡ true → e.reply ≡ plain_reply (abort_status (view S (own ++ others)) e.step) r (event_of S e (own ++ others)) (without S (left_out_before r X) (own ++ others))) (sym same_role)
           (λ stay.
-          subst (λ (r : Role). stays r X ≡ true → e.reply ≡ plain_reply (abort_status (view S h) e.step) r (event_of S e h) (without S (left_out_before r X) h)) commits (laws.agree S (e ∷ h) lawful X).0 refl
-          ∙ ap₂ (λ (ev : Event) (Q : State). reply_of ev Q) (sym same_event) (sym (together (less_one s X) (less_self s X)))),
-      subst (λ (r : Role). AgreesWithout S (left_out_before r X) (own ++ others)) (sym same_role) (together_agree (less_one s X) (less_self s X)),
+          subst (λ (r : Role). is_left_in r X ≡ true → e.reply ≡ plain_reply (abort_status (view S h) e.step) r (event_of S e h) (without S (left_out_before r X) h)) commits (laws.agree S (e ∷ h) lawful X).0 refl
+          ∙ ap₂ (λ (ev : Event) (Q : State). reply_of ev Q) (sym same_event) (sym (together (starters_without s X) (less_self s X)))),
+      subst (λ (r : Role). AgreesWithout S (left_out_before r X) (own ++ others)) (sym same_role) (together_agree (starters_without s X) (less_self s X)),
     );
   }
 
@@ -117,10 +118,10 @@ follow laws S (e ∷ later) one other lawful same =
       table = ap (λ (t : Table). table_after (role t e.step e.reply) (process_of e.step) t) before.table;
       states = λ X.
           without_more S e (later ++ one) X
-          ∙ (λ i. after_if (stays (role_is i) X) (event_is i) (before.states (left_out_before (role_is i) X) i))
+          ∙ (λ i. after_if (is_left_in (role_is i) X) (event_is i) (before.states (left_out_before (role_is i) X) i))
           ∙ sym (without_more S e (later ++ other) X);
       agree = λ X. (
-        subst (λ (r : Role). stays r X ≡ true → e.reply ≡ plain_reply (abort_status (view S (later ++ one)) e.step) r (event_of S e (later ++ one)) (without S (left_out_before r X) (later ++ one))) (sym role_is)
+        subst (λ (r : Role). is_left_in r X ≡ true → e.reply ≡ plain_reply (abort_status (view S (later ++ one)) e.step) r (event_of S e (later ++ one)) (without S (left_out_before r X) (later ++ one))) (sym role_is)
             (λ stay.
             (laws.agree S (e ∷ later ++ other) lawful X).0 stay
             ∙ sym (λ i. plain_reply (same_status S (later ++ one) (later ++ other) before.states e.step i) (role_in S e (later ++ other)) (event_is i)
@@ -141,8 +142,8 @@ moments laws start later last earlier s form nothing lawful commits one =
     record { state = same.states; table = same.table; replies = same.agree nobody }
 
 -- the booted state is well formed and holds nothing, so its histories have moments
-pub booted_moments : MomentLaws → ((width count : ℕ) → 1 ≤ count → count ≤ width → IsWellFormed (booted width count)) → ((width count : ℕ) → HoldsNothing (booted width count)) → BootedHistoriesHaveMoments
+pub booted_moments : MomentLaws → ((width count : ℕ) → 1 ≤ count → count ≤ width → IsWellFormed (boot_state width count)) → ((width count : ℕ) → HoldsNothing (boot_state width count)) → BootedHistoriesHaveMoments
 unfolding HasMoments
 booted_moments laws formed nothing width count low high history lawful later last earlier s split commits one =
-    moments laws (booted width count) later last earlier s (formed width count low high) (nothing width count)
-    (subst (λ (h : List Accepted). Lawful (booted width count) h) split lawful) commits one
+    moments laws (boot_state width count) later last earlier s (formed width count low high) (nothing width count)
+    (subst (λ (h : List Accepted). Lawful (boot_state width count) h) split lawful) commits one

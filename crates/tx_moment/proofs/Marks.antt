@@ -6,12 +6,13 @@ use Rattle.tx_base.specs.declared.steps.Reply.{Reply}
 use Rattle.tx_base.specs.declared.steps.Step.{Step}
 use Rattle.tx_base.specs.declared.steps.Step.TheVariants.{Call as Calls, Deliver, KernelAbort}
 use Rattle.tx_model.specs.Events.{process_of}
-use Rattle.tx_model.specs.Membership.{Table, is_of, others_open, Progress, Continues, Parks, Forks, Begins, Within, Aborts, Kind, Ordinary, Forking, Beginning, Leaving, Aborting, kind_of, says_ended, member_end_role, ordinary_role, kind_role, role, unmarked}
+use Rattle.tx_model.specs.Membership.{Table, is_of, others_open, Progress, Continues, Parks, Forks, Begins, Within, Aborts, Kind, Ordinary, Forking, Beginning, Leaving, Aborting, says_ended, role, mark_unless_of}
+use Rattle.tx_model.specs.Words.{member_end_role, ordinary_role, kind_of, kind_role}
 use Rattle.tx_laws.specs.OneMoment.{is_step_of}
 
 -- the table without the marks of the transaction of s
 abbrev pub without_marks : ℕ → Table → Table
-without_marks s t = record { width = t.width; marks = λ n. unmarked s (t.marks n) }
+without_marks s t = record { width = t.width; marks = λ n. mark_unless_of s (t.marks n) }
 
 within_starter : {s u : ℕ} {a b : Progress} → Within u a ≡ Within s b → u ≡ s
 within_starter h = cc

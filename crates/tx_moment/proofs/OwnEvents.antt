@@ -1,6 +1,6 @@
 -- The events of one transaction, made one after another, and an event of another that is made before them or after them.
 use Rattle.std.proofs.Common.{◌≡◌, ℕ, Bool, true, false, List, [], ◌∷◌, ◌⊎◌, is_some}
-use Rattle.tx_model.specs.State.{State, Sending, Object, Proc, has}
+use Rattle.tx_model.specs.State.{State, Sending, Object, Proc, has_object}
 use Rattle.tx_model.specs.Effects.{send_answers}
 use Rattle.tx_model.specs.Events.{Event, effect, objects, after, reply_of, run}
 use Rattle.tx_model.specs.Answer.{is_running}
@@ -11,7 +11,7 @@ use Rattle.tx_moment.specs.Unseen.{overlooks}
 -- an event of the transaction of s, made on a state: what it names is the transaction's, by a test; it sends to what is the transaction's, and nothing to s;
 -- and s is there and looks at none of its signals
 pub record IsOwnEvent (T : Object → Bool) (s : ℕ) (ev : Event) (R : State) : Type 0 where
-  pub names : (o : Object) → has o (objects ev R) ≡ true → T o ≡ true
+  pub names : (o : Object) → has_object o (objects ev R) ≡ true → T o ≡ true
   pub sends : (m : Sending) → IsIn m (effect ev R).sends → T (Proc m.target) ≡ true
   pub unsent : is_sent_to s (effect ev R).sends ≡ false
   pub overlooks : overlooks s ev ≡ true
@@ -32,7 +32,7 @@ SameReplies (ev ∷ evs) one other = (reply_of ev (run one evs) ≡ reply_of ev 
 pub record IsOfAnother (T : Object → Bool) (s : ℕ) (b : Event) (evs : List Event) (Q : State) : Type 0 where
   pub starter : T (Proc s) ≡ true
   pub runs : is_running (Q.procs s) ≡ true
-  pub names : (o : Object) → has o (objects b Q) ≡ true → T o ≡ false
+  pub names : (o : Object) → has_object o (objects b Q) ≡ true → T o ≡ false
   pub sends : (m : Sending) → IsIn m (effect b Q).sends → (m.target ≡ s) ⊎ (T (Proc m.target) ≡ false)
   pub same : effect b Q ≡ effect b (run Q evs)
   pub answers : send_answers (effect b Q) Q ≡ send_answers (effect b (run Q evs)) (run Q evs)

@@ -8,7 +8,7 @@ use Rattle.tx_base.specs.declared.steps.Step.{Step}
 use Rattle.tx_model.specs.State.{State, put_at}
 use Rattle.tx_model.specs.StateLaws.{put_cases}
 use Rattle.tx_model.specs.Events.{Event, process_of}
-use Rattle.tx_model.specs.Membership.{Table, is_of, is_open_of, Progress, Continues, Parks, Forks, Begins, Role, Within, role, event, parked, defers_in, new_mark, table_after}
+use Rattle.tx_model.specs.Membership.{Table, is_of, is_open_of, Progress, Continues, Parks, Forks, Begins, Role, Within, role, event, parked_mark, defers_in, new_mark, table_after}
 use Rattle.tx_model.specs.History.{table_of, role_in, event_of}
 use Rattle.tx_laws.proofs.Tables.{of_parked}
 use Rattle.tx_moment.proofs.Alike.{AlikeFor, step_alike}
@@ -108,8 +108,8 @@ module _ (s : ℕ) (t v : Table) (same : SameOwn s t v) where
   pub own_after : (p : ℕ) (part : Progress) → ActorFits s p (t.marks p) part → SameOwn s (table_after (Within s part) p t) (table_after (Within s part) p v)
   own_after p Continues fits = same
   own_after p Parks fits =
-      subst (λ (m : Option Mark). SameOwn s (table_after (Within s Parks) p t) (record { width = v.width; marks = put_at v.marks p (parked m) }))
-      (same.mark p fits) (put_same p (parked (t.marks p)))
+      subst (λ (m : Option Mark). SameOwn s (table_after (Within s Parks) p t) (record { width = v.width; marks = put_at v.marks p (parked_mark m) }))
+      (same.mark p fits) (put_same p (parked_mark (t.marks p)))
   own_after p (Forks c) fits =
       subst (λ (m : Option Mark). SameOwn s (table_after (Within s (Forks c)) p t) (record { width = v.width; marks = put_at v.marks c (Some (new_mark s (defers_in m))) }))
       same.starter (put_same c (Some (new_mark s (defers_in (t.marks s)))))
@@ -127,7 +127,7 @@ self s = eq-eqb s s refl
 
 pub rest_after : (s : ℕ) (t v : Table) (p : ℕ) (part : Progress) → ActorFits s p (t.marks p) part → SameRest s t v → SameRest s (table_after (Within s part) p t) v
 rest_after s t v p Continues fits rest = rest
-rest_after s t v p Parks fits rest = rest_put s t v p (parked (t.marks p)) (of_parked s (t.marks p) ∙ fits) rest
+rest_after s t v p Parks fits rest = rest_put s t v p (parked_mark (t.marks p)) (of_parked s (t.marks p) ∙ fits) rest
 rest_after s t v p (Forks c) fits rest = rest_put s t v c (Some (new_mark s (defers_in (t.marks s)))) (self s) rest
 rest_after s t v p (Begins defers) fits rest = rest_put s t v s (Some (new_mark s defers)) (self s) rest
 

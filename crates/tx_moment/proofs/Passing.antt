@@ -1,12 +1,12 @@
 -- An event of another may be made before the events of a transaction as well as after them.
 use Rattle.std.proofs.Common.{◌≡◌, ◌≢◌, ℕ, Bool, true, false, List, [], ◌∷◌, ◌++◌, Some, None, is_some, refl, sym, ap, ◌∙◌, subst, inl, inr}
 use Rattle.std.proofs.lemmas.Bool.{both_ways, cases_Bool, false_from_ne_true, true_from_ne_false}
-use Rattle.tx_model.specs.State.{Process, State, Sending, Object, Proc, same_object, has}
+use Rattle.tx_model.specs.State.{Process, State, Sending, Object, Proc, same_object, has_object}
 use Rattle.tx_model.specs.StateLaws.{state_ext, AgreePart, AgreeAt, AgreeOn}
-use Rattle.tx_model.specs.Posts.{posts, answers}
-use Rattle.tx_model.specs.Effects.{Effect, before_sends, send_answers, applied}
+use Rattle.tx_model.specs.Posts.{after_posts, post_answers}
+use Rattle.tx_model.specs.Effects.{Effect, send_answers, after_effect}
+use Rattle.tx_model.specs.Words.{before_sends, processes_of}
 use Rattle.tx_model.specs.Events.{Event, effect, objects, after, reply_of, run}
-use Rattle.tx_model.specs.History.{processes_of}
 use Rattle.tx_model.specs.Answer.{is_running}
 use Rattle.tx_laws.specs.Fits.{IsIn}
 use Rattle.tx_laws.specs.OneMoment.{is_sent_to}
@@ -26,8 +26,8 @@ told_apart : (T : Object → Bool) (o x : Object) → T o ≢ T x → same_objec
 told_apart T o x ne = false_from_ne_true (same_object o x) (λ e. ne (ap T (same_true o x e)))
 
 -- what differs from each target is none of the processes that the sends go to
-sent_nowhere : (o : Object) (ms : List Sending) → ((m : Sending) → IsIn m ms → same_object o (Proc m.target) ≡ false) → has o (processes_of ms) ≡ false
-unfolding has
+sent_nowhere : (o : Object) (ms : List Sending) → ((m : Sending) → IsIn m ms → same_object o (Proc m.target) ≡ false) → has_object o (processes_of ms) ≡ false
+unfolding has_object
 sent_nowhere o [] h = refl
 sent_nowhere o (m ∷ ms) h = rw (h m (inl refl)) (sent_nowhere o ms (λ n i. h n (inr i)))
 
@@ -40,14 +40,14 @@ record GoesAlong (T : Object → Bool) (s : ℕ) (g : Signals) (evs : List Event
 module _ (laws : EventLaws) (T : Object → Bool) (s : ℕ) where
   -- an event of the transaction
   module _ (ev : Event) (S : State) (own : IsOwnEvent T s ev S) where
-    unnamed : (o : Object) → T o ≡ false → has o (objects ev S ++ processes_of (effect ev S).sends) ≡ false
+    unnamed : (o : Object) → T o ≡ false → has_object o (objects ev S ++ processes_of (effect ev S).sends) ≡ false
     unnamed o h =
         lacks_both o (objects ev S) (processes_of (effect ev S).sends)
-        (false_from_ne_true (has o (objects ev S)) (λ k. both_ways (T o) h (own.names o k)))
+        (false_from_ne_true (has_object o (objects ev S)) (λ k. both_ways (T o) h (own.names o k)))
         (sent_nowhere o (effect ev S).sends (λ m i. told_apart T o (Proc m.target) (λ z. both_ways (T o) h (z ∙ own.sends m i))))
 
-    named : (o : Object) → has o (objects ev S ++ processes_of (effect ev S).sends) ≡ true → T o ≡ true
-    named o h = true_from_ne_false (T o) (λ k. both_ways (has o (objects ev S ++ processes_of (effect ev S).sends)) (unnamed o k) h)
+    named : (o : Object) → has_object o (objects ev S ++ processes_of (effect ev S).sends) ≡ true → T o ≡ true
+    named o h = true_from_ne_false (T o) (λ k. both_ways (has_object o (objects ev S ++ processes_of (effect ev S).sends)) (unnamed o k) h)
 
     leaves : LeavesSignals s ev S
     leaves = record { there = own.there; overlooks = own.overlooks; unsent = own.unsent }
@@ -57,7 +57,7 @@ module _ (laws : EventLaws) (T : Object → Bool) (s : ℕ) where
     own_unseen g =
         let sent : (effect ev (with_signals s g S)).sends ≡ (effect ev S).sends = (laws.unseen_replies ev S s g leaves).0 in
         record {
-          names = λ o h. own.names o (subst (λ (os : List Object). has o os ≡ true) (laws.unseen_objects ev S s g leaves) h);
+          names = λ o h. own.names o (subst (λ (os : List Object). has_object o os ≡ true) (laws.unseen_objects ev S s g leaves) h);
           sends = λ m i. own.sends m (subst (IsIn m) sent i);
           unsent = ap (is_sent_to s) sent ∙ own.unsent;
           overlooks = own.overlooks;
@@ -86,7 +86,7 @@ module _ (laws : EventLaws) (T : Object → Bool) (s : ℕ) where
 
     own_agrees : IsOwnEvent T s ev R
     own_agrees = record {
-      names = λ o h. own.names o (subst (λ (os : List Object). has o os ≡ true) (sym (laws.objects ev S R on_objects)) h);
+      names = λ o h. own.names o (subst (λ (os : List Object). has_object o os ≡ true) (sym (laws.objects ev S R on_objects)) h);
       sends = λ m i. own.sends m (subst (λ (f : Effect). IsIn m f.sends) (sym effect_agrees) i);
       unsent = ap (λ (f : Effect). is_sent_to s f.sends) (sym effect_agrees) ∙ own.unsent;
       overlooks = own.overlooks;
@@ -124,8 +124,8 @@ module _ (laws : EventLaws) (T : Object → Bool) (s : ℕ) where
 
   -- the event of another
   module _ (b : Event) (evs : List Event) (Q : State) (own : AreOwnEvents T s evs Q) (other : IsOfAnother T s b evs Q) where
-    outside : (o : Object) → T o ≡ true → has o (objects b Q) ≡ false
-    outside o h = false_from_ne_true (has o (objects b Q)) (λ k. both_ways (T o) (other.names o k) h)
+    outside : (o : Object) → T o ≡ true → has_object o (objects b Q) ≡ false
+    outside o h = false_from_ne_true (has_object o (objects b Q)) (λ k. both_ways (T o) (other.names o k) h)
 
     unsent : (o : Object) → T o ≡ true → same_object o (Proc s) ≡ false → (m : Sending) → IsIn m (effect b Q).sends → same_object o (Proc m.target) ≡ false
     unsent o h ne m i =
@@ -135,15 +135,15 @@ module _ (laws : EventLaws) (T : Object → Bool) (s : ℕ) where
         ]
 
     -- what is the transaction's gets its posts alone, before the transaction's events and after them
-    gets_before : (o : Object) → T o ≡ true → AgreePart (after b Q) (posts (effect b Q).sends Q) o
+    gets_before : (o : Object) → T o ≡ true → AgreePart (after b Q) (after_posts (effect b Q).sends Q) o
     unfolding after
     gets_before o h = laws.sends b Q Q (send_answers (effect b Q) Q) o (outside o h)
 
-    gets_after : (o : Object) → T o ≡ true → AgreePart (after b (run Q evs)) (posts (effect b Q).sends (run Q evs)) o
+    gets_after : (o : Object) → T o ≡ true → AgreePart (after b (run Q evs)) (after_posts (effect b Q).sends (run Q evs)) o
     unfolding after
     gets_after o h =
         let N : State = run Q evs in
-        subst (λ (f : Effect). AgreePart (applied f (send_answers f N) N) (posts (effect b Q).sends N) o) other.same (laws.sends b Q N (send_answers (effect b Q) N) o (outside o h))
+        subst (λ (f : Effect). AgreePart (after_effect f (send_answers f N) N) (after_posts (effect b Q).sends N) o) other.same (laws.sends b Q N (send_answers (effect b Q) N) o (outside o h))
 
     -- s runs as x, and has the signals g after the event
     module _ (x : Process) (is_x : Q.procs s ≡ Some x) (runs : x.status ≡ None) (g : Signals) (sent : (after b Q).procs s ≡ Some (signalled g x)) where
@@ -169,7 +169,7 @@ module _ (laws : EventLaws) (T : Object → Bool) (s : ℕ) where
       along = goes_along g Q (after b Q) other.starter at_first evs own
 
       -- s still runs after the transaction's events, with the signals of x, and gets the same posts
-      starter_runs : (y : Process) → (run Q evs).procs s ≡ Some y → y.status ≡ None → resignalled_if g ((run Q evs).procs s) ≡ (posts (effect b Q).sends (run Q evs)).procs s
+      starter_runs : (y : Process) → (run Q evs).procs s ≡ Some y → y.status ≡ None → resignalled_if g ((run Q evs).procs s) ≡ (after_posts (effect b Q).sends (run Q evs)).procs s
       starter_runs y is_y y_runs =
           let N : State = run Q evs in
           let f : Effect = effect b Q in
@@ -179,7 +179,7 @@ module _ (laws : EventLaws) (T : Object → Bool) (s : ℕ) where
           let kept : with_signals s first N ≡ N = run_leaves first Q (with_signals_same s first Q fixed) evs own in
           let now : N.procs s ≡ Some (signalled first y) =
           ap (λ (S : State). S.procs s) (sym kept) ∙ with_signals_here s first N ∙ ap (resignalled_if first) is_y ∙ ap Some (resignalled_runs first y y_runs) in
-          let alike : answers f.sends (before_sends f Q) ≡ answers f.sends (before_sends f N) = other.answers ∙ ap (λ (h : Effect). send_answers h N) (sym other.same) in
+          let alike : post_answers f.sends (before_sends f Q) ≡ post_answers f.sends (before_sends f N) = other.answers ∙ ap (λ (h : Effect). send_answers h N) (sym other.same) in
           let p = posts_alike s x y runs y_runs f.sends first (before_sends f Q) (before_sends f N) (unwritten Q ∙ is_x) (unwritten N ∙ now) alike in
           let both : Some (signalled g x) ≡ Some (signalled p.0 x) =
           sym sent ∙ gets_before (Proc s) other.starter ∙ sym (posts_part f.sends (before_sends f Q) Q (Proc s) (unwritten Q)) ∙ p.1.0 in
@@ -190,7 +190,7 @@ module _ (laws : EventLaws) (T : Object → Bool) (s : ℕ) where
           ∙ sym p.1.1
           ∙ posts_part f.sends (before_sends f N) N (Proc s) (unwritten N)
 
-      starter_gets : resignalled_if g ((run Q evs).procs s) ≡ (posts (effect b Q).sends (run Q evs)).procs s
+      starter_gets : resignalled_if g ((run Q evs).procs s) ≡ (after_posts (effect b Q).sends (run Q evs)).procs s
       starter_gets =
           let N : State = run Q evs in
           elim (cases_Bool (is_running (N.procs s))) [
@@ -199,20 +199,20 @@ module _ (laws : EventLaws) (T : Object → Bool) (s : ℕ) where
           ]
 
       -- what is the transaction's is the same in either order
-      inner : (o : Object) → T o ≡ true → AgreePart (with_signals s g (run Q evs)) (posts (effect b Q).sends (run Q evs)) o
+      inner : (o : Object) → T o ≡ true → AgreePart (with_signals s g (run Q evs)) (after_posts (effect b Q).sends (run Q evs)) o
       inner o h =
           let N : State = run Q evs in
           let sends : List Sending = (effect b Q).sends in
           elim (cases_Bool (same_object o (Proc s))) [
-            | inl e ↦ subst (λ (z : Object). AgreePart (with_signals s g N) (posts sends N) z) (sym (same_true o (Proc s) e)) (with_signals_here s g N ∙ starter_gets)
-            | inr e ↦ part_trans (with_signals s g N) N (posts sends N) o (with_signals_apart s g N o e) (part_sym (posts sends N) N o (posts_apart sends N o (unsent o h e)))
+            | inl e ↦ subst (λ (z : Object). AgreePart (with_signals s g N) (after_posts sends N) z) (sym (same_true o (Proc s) e)) (with_signals_here s g N ∙ starter_gets)
+            | inr e ↦ part_trans (with_signals s g N) N (after_posts sends N) o (with_signals_apart s g N o e) (part_sym (after_posts sends N) N o (posts_apart sends N o (unsent o h e)))
           ]
 
       inside_same : (o : Object) → T o ≡ true → AgreePart (run (after b Q) evs) (after b (run Q evs)) o
       inside_same o h =
           let N : State = run Q evs in
           let A : State = run (after b Q) evs in
-          let P : State = posts (effect b Q).sends N in
+          let P : State = after_posts (effect b Q).sends N in
           part_trans A (with_signals s g N) (after b N) o
           (part_sym (with_signals s g N) A o (along.agree o h).part)
           (part_trans (with_signals s g N) P (after b N) o (inner o h) (part_sym (after b N) P o (gets_after o h)))

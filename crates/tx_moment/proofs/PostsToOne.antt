@@ -4,7 +4,7 @@ use Rattle.tx_base.specs.declared.limits.TheConstants.{QUEUED}
 use Rattle.tx_model.specs.SignalSets.{is_realtime, with_one_more}
 use Rattle.tx_model.specs.State.{Process, Sending, State, Object, Proc, Desc, Pipe, Held, same_object}
 use Rattle.tx_model.specs.StateLaws.{AgreePart}
-use Rattle.tx_model.specs.Posts.{may_signal, is_quiet, with_signal, room_answer, post_answer, received, post, posts, answers}
+use Rattle.tx_model.specs.Posts.{may_signal, is_quiet, with_signal, room_answer, post_answer, target_after, after_post, after_posts, post_answers}
 use Rattle.tx_model.specs.Answer.{is_running}
 use Rattle.tx_laws.specs.Fits.{IsIn}
 use Rattle.tx_laws.proofs.Agree.{part_refl, part_trans}
@@ -59,7 +59,7 @@ permitted m q = by (is_quiet m q) (is_realtime m.signo) (nat_lt (length q.queued
 -- two processes that run, and have the same signals pending, have the same again after posts that are answered alike
 module _ (s : ℕ) (x y : Process) (x_runs : x.status ≡ None) (y_runs : y.status ≡ None) where
   received_alike : (m : Sending) (g : Signals) → post_answer m (Some (signalled g x)) ≡ post_answer m (Some (signalled g y)) →
-      (h : Signals) × ((received m (Some (signalled g x)) ≡ Some (signalled h x)) × (received m (Some (signalled g y)) ≡ Some (signalled h y)))
+      (h : Signals) × ((target_after m (Some (signalled g x)) ≡ Some (signalled h x)) × (target_after m (Some (signalled g y)) ≡ Some (signalled h y)))
   received_alike m g = by (may_signal m.from x.ids) (may_signal m.from y.ids)
     where
       through : Process → Process
@@ -74,33 +74,33 @@ module _ (s : ℕ) (x y : Process) (x_runs : x.status ≡ None) (y_runs : y.stat
 
   post_alike : (m : Sending) (g : Signals) (S R : State) → S.procs s ≡ Some (signalled g x) → R.procs s ≡ Some (signalled g y) →
       post_answer m (S.procs m.target) ≡ post_answer m (R.procs m.target) →
-      (h : Signals) × (((post m S).procs s ≡ Some (signalled h x)) × ((post m R).procs s ≡ Some (signalled h y)))
+      (h : Signals) × (((after_post m S).procs s ≡ Some (signalled h x)) × ((after_post m R).procs s ≡ Some (signalled h y)))
   post_alike m g S R one other same = by (s == m.target) (λ e. eqb-true s m.target e)
     where
-      at_target : s ≡ m.target → (h : Signals) × ((received m (S.procs m.target) ≡ Some (signalled h x)) × (received m (R.procs m.target) ≡ Some (signalled h y)))
+      at_target : s ≡ m.target → (h : Signals) × ((target_after m (S.procs m.target) ≡ Some (signalled h x)) × (target_after m (R.procs m.target) ≡ Some (signalled h y)))
       at_target e =
           let one' : S.procs m.target ≡ Some (signalled g x) = ap S.procs (sym e) ∙ one in
           let other' : R.procs m.target ≡ Some (signalled g y) = ap R.procs (sym e) ∙ other in
           let r = received_alike m g (ap (post_answer m) (sym one') ∙ same ∙ ap (post_answer m) other') in
-          (r.0, (ap (received m) one' ∙ r.1.0, ap (received m) other' ∙ r.1.1))
+          (r.0, (ap (target_after m) one' ∙ r.1.0, ap (target_after m) other' ∙ r.1.1))
 
       by : (b : Bool) → (b ≡ true → s ≡ m.target) →
-          (h : Signals) × (((if b then received m (S.procs m.target) else S.procs s) ≡ Some (signalled h x)) × ((if b then received m (R.procs m.target) else R.procs s) ≡ Some (signalled h y)))
+          (h : Signals) × (((if b then target_after m (S.procs m.target) else S.procs s) ≡ Some (signalled h x)) × ((if b then target_after m (R.procs m.target) else R.procs s) ≡ Some (signalled h y)))
       by true e = at_target (e refl)
       by false e = (g, (one, other))
 
-  pub posts_alike : (ms : List Sending) (g : Signals) (S R : State) → S.procs s ≡ Some (signalled g x) → R.procs s ≡ Some (signalled g y) → answers ms S ≡ answers ms R →
-      (h : Signals) × (((posts ms S).procs s ≡ Some (signalled h x)) × ((posts ms R).procs s ≡ Some (signalled h y)))
-  unfolding posts answers
+  pub posts_alike : (ms : List Sending) (g : Signals) (S R : State) → S.procs s ≡ Some (signalled g x) → R.procs s ≡ Some (signalled g y) → post_answers ms S ≡ post_answers ms R →
+      (h : Signals) × (((after_posts ms S).procs s ≡ Some (signalled h x)) × ((after_posts ms R).procs s ≡ Some (signalled h y)))
+  unfolding after_posts post_answers
   posts_alike [] g S R one other same = (g, (one, other))
   posts_alike (m ∷ ms) g S R one other same =
       let first : post_answer m (S.procs m.target) ≡ post_answer m (R.procs m.target) = cc in
-      let rest : answers ms (post m S) ≡ answers ms (post m R) = cc in
+      let rest : post_answers ms (after_post m S) ≡ post_answers ms (after_post m R) = cc in
       let p = post_alike m g S R one other first in
-      posts_alike ms p.0 (post m S) (post m R) p.1.0 p.1.1 rest
+      posts_alike ms p.0 (after_post m S) (after_post m R) p.1.0 p.1.1 rest
 
 -- a process that has ended, or is not there, stays as it is
-received_still : (m : Sending) (x : Option Process) → is_running x ≡ false → received m x ≡ x
+received_still : (m : Sending) (x : Option Process) → is_running x ≡ false → target_after m x ≡ x
 received_still m None h = refl
 received_still m (Some q) h = by (may_signal m.from q.ids) (m.signo == 0) (m.target == 1) (is_some q.status) (ended q.status h)
   where
@@ -115,28 +115,28 @@ received_still m (Some q) h = by (may_signal m.from q.ids) (m.signo == 0) (m.tar
     by true false false true e = refl
     by true false false false e = cc
 
-post_still : (m : Sending) (S : State) (n : ℕ) → is_running (S.procs n) ≡ false → (post m S).procs n ≡ S.procs n
+post_still : (m : Sending) (S : State) (n : ℕ) → is_running (S.procs n) ≡ false → (after_post m S).procs n ≡ S.procs n
 post_still m S n h = by (n == m.target) (λ e. eqb-true n m.target e)
   where
-    by : (b : Bool) → (b ≡ true → n ≡ m.target) → (if b then received m (S.procs m.target) else S.procs n) ≡ S.procs n
-    by true e = ap (λ (k : ℕ). received m (S.procs k)) (sym (e refl)) ∙ received_still m (S.procs n) h
+    by : (b : Bool) → (b ≡ true → n ≡ m.target) → (if b then target_after m (S.procs m.target) else S.procs n) ≡ S.procs n
+    by true e = ap (λ (k : ℕ). target_after m (S.procs k)) (sym (e refl)) ∙ received_still m (S.procs n) h
     by false e = refl
 
-pub posts_still : (ms : List Sending) (S : State) (n : ℕ) → is_running (S.procs n) ≡ false → (posts ms S).procs n ≡ S.procs n
-unfolding posts
+pub posts_still : (ms : List Sending) (S : State) (n : ℕ) → is_running (S.procs n) ≡ false → (after_posts ms S).procs n ≡ S.procs n
+unfolding after_posts
 posts_still [] S n h = refl
 posts_still (m ∷ ms) S n h =
-    let e : (post m S).procs n ≡ S.procs n = post_still m S n h in
-    posts_still ms (post m S) n (ap is_running e ∙ h) ∙ e
+    let e : (after_post m S).procs n ≡ S.procs n = post_still m S n h in
+    posts_still ms (after_post m S) n (ap is_running e ∙ h) ∙ e
 
 -- what no post goes to stays as it is
-post_apart : (m : Sending) (S : State) (o : Object) → same_object o (Proc m.target) ≡ false → AgreePart (post m S) S o
+post_apart : (m : Sending) (S : State) (o : Object) → same_object o (Proc m.target) ≡ false → AgreePart (after_post m S) S o
 post_apart m S (Proc n) h = rw h refl
 post_apart m S (Desc n) h = refl
 post_apart m S (Pipe n) h = refl
 post_apart m S (Held n) h = refl
 
-pub posts_apart : (ms : List Sending) (S : State) (o : Object) → ((m : Sending) → IsIn m ms → same_object o (Proc m.target) ≡ false) → AgreePart (posts ms S) S o
-unfolding posts
+pub posts_apart : (ms : List Sending) (S : State) (o : Object) → ((m : Sending) → IsIn m ms → same_object o (Proc m.target) ≡ false) → AgreePart (after_posts ms S) S o
+unfolding after_posts
 posts_apart [] S o h = part_refl S o
-posts_apart (m ∷ ms) S o h = part_trans (posts ms (post m S)) (post m S) S o (posts_apart ms (post m S) o (λ n i. h n (inr i))) (post_apart m S o (h m (inl refl)))
+posts_apart (m ∷ ms) S o h = part_trans (after_posts ms (after_post m S)) (after_post m S) S o (posts_apart ms (after_post m S) o (λ n i. h n (inr i))) (post_apart m S o (h m (inl refl)))

@@ -5,17 +5,18 @@ use Rattle.tx_base.specs.declared.marks.Mark.{Mark}
 use Rattle.tx_base.specs.declared.steps.Accepted.{Accepted}
 use Rattle.tx_base.specs.declared.steps.Step.{Step}
 use Rattle.tx_base.specs.declared.steps.Step.TheVariants.{Call as Calls, Deliver, KernelAbort}
-use Rattle.tx_model.specs.State.{State, Object, Proc, has}
+use Rattle.tx_model.specs.State.{State, Object, Proc, has_object}
 use Rattle.tx_model.specs.StateLaws.{put_cases}
 use Rattle.tx_model.specs.Events.{Event, process_of, after, reply_of, run}
-use Rattle.tx_model.specs.Membership.{Table, is_of, is_live, Progress, Continues, Parks, Forks, Begins, Role, Outside, Within, Commits, Aborts, new_mark, unmarked, marks_after, table_after, role, event, parked, defers_in, status_in}
-use Rattle.tx_model.specs.History.{Starters, nobody, just, with_one, table_of, role_in, event_of, left_out_before, stays, placed, survivors, without, event_footprint, objects_reserved, touched_of, touched_after}
-use Rattle.tx_model.specs.View.{view, after_if, abort_status, kernel_status, has_pending}
+use Rattle.tx_model.specs.Membership.{Table, is_of, is_live, Progress, Continues, Parks, Forks, Begins, Role, Outside, Within, Commits, Aborts, new_mark, mark_unless_of, marks_after, table_after, role, event, parked_mark, defers_in, status_in}
+use Rattle.tx_model.specs.History.{Starters, nobody, just, table_of, role_in, event_of, left_out_before, is_left_in, survivors, without, event_footprint, objects_reserved, reserved_of, reserved_after}
+use Rattle.tx_model.specs.Words.{event_if, after_if, starters_with}
+use Rattle.tx_model.specs.View.{view, abort_status, kernel_status, has_pending}
 use Rattle.tx_model.specs.SignalSets.{kill_signo}
 use Rattle.tx_base.specs.declared.limits.TheConstants.{ABORTED_BY_KERNEL, ABORTED_DOOMED}
 use Rattle.tx_model.specs.Answer.{plain_reply, Lawful, AgreesWithout}
 use Rattle.tx_laws.specs.OneMoment.{is_step_of}
-use Rattle.tx_laws.proofs.Coherence.{touched_old}
+use Rattle.tx_laws.proofs.Coherence.{reserved_old}
 use Rattle.tx_laws.specs.WellFormed.{IsWellFormed}
 use Rattle.tx_laws.specs.WellFormedTable.{HoldsNothing}
 use Rattle.tx_laws.proofs.Tables.{eq_comm, of_parked, of_unmarked}
@@ -41,46 +42,46 @@ pub record IsPut (S : State) (s : ℕ) (own others h : List Accepted) : Type 0 w
   pub table : table_of S (own ++ others) ≡ table_of S h
   pub lacks : LacksMarks s (table_of S others)
   pub own_run : IsOwnRun S s own others
-  pub others_left : (X : Starters) → X s ≡ false → without S X others ≡ without S (with_one s X) h
-  pub left : (X : Starters) → X s ≡ false → run (without S (with_one s X) h) (events_over S own others) ≡ without S X h
-  pub events : (X : Starters) → X s ≡ false → AreOwnEvents (touched_of S h s) s (events_over S own others) (without S (with_one s X) h)
-  pub replies : (X : Starters) → X s ≡ false → OwnReplies own (events_over S own others) (without S (with_one s X) h)
+  pub others_left : (X : Starters) → X s ≡ false → without S X others ≡ without S (starters_with s X) h
+  pub left : (X : Starters) → X s ≡ false → run (without S (starters_with s X) h) (events_over S own others) ≡ without S X h
+  pub events : (X : Starters) → X s ≡ false → AreOwnEvents (reserved_of S h s) s (events_over S own others) (without S (starters_with s X) h)
+  pub replies : (X : Starters) → X s ≡ false → OwnReplies own (events_over S own others) (without S (starters_with s X) h)
   pub others_agree : (X : Starters) → X s ≡ false → AgreesWithout S X others
 
-run_placed : (S : State) (b : Bool) (ev : Event) (evs : List Event) → run S (placed b ev evs) ≡ after_if b ev (run S evs)
+run_placed : (S : State) (b : Bool) (ev : Event) (evs : List Event) → run S (event_if b ev evs) ≡ after_if b ev (run S evs)
 unfolding run
 run_placed S true ev evs = refl
 run_placed S false ev evs = refl
 
 -- the state without some, after one more entry
 pub without_more : (S : State) (e : Accepted) (h : List Accepted) (X : Starters) →
-    without S X (e ∷ h) ≡ after_if (stays (role_in S e h) X) (event_of S e h) (without S (left_out_before (role_in S e h) X) h)
+    without S X (e ∷ h) ≡ after_if (is_left_in (role_in S e h) X) (event_of S e h) (without S (left_out_before (role_in S e h) X) h)
 unfolding without survivors
-without_more S e h X = run_placed S (stays (role_in S e h) X) (event_of S e h) (survivors S (left_out_before (role_in S e h) X) h)
+without_more S e h X = run_placed S (is_left_in (role_in S e h) X) (event_of S e h) (survivors S (left_out_before (role_in S e h) X) h)
 
-with_self : (s : ℕ) (X : Starters) → with_one s X s ≡ true
+with_self : (s : ℕ) (X : Starters) → starters_with s X s ≡ true
 with_self s X = rw (eq-eqb s s refl) refl
 
 -- a step of the transaction leaves the state without it as it is
-pub own_unseen : (S : State) (s : ℕ) (e : Accepted) (h : List Accepted) (part : Progress) → role_in S e h ≡ Within s part → (X : Starters) → without S (with_one s X) (e ∷ h) ≡ without S (with_one s X) h
+pub own_unseen : (S : State) (s : ℕ) (e : Accepted) (h : List Accepted) (part : Progress) → role_in S e h ≡ Within s part → (X : Starters) → without S (starters_with s X) (e ∷ h) ≡ without S (starters_with s X) h
 own_unseen S s e h part is X =
-    without_more S e h (with_one s X)
-    ∙ ap (λ (r : Role). after_if (stays r (with_one s X)) (event_of S e h) (without S (left_out_before r (with_one s X)) h)) is
-    ∙ ap (λ (b : Bool). after_if (not b) (event_of S e h) (without S (with_one s X) h)) (with_self s X)
+    without_more S e h (starters_with s X)
+    ∙ ap (λ (r : Role). after_if (is_left_in r (starters_with s X)) (event_of S e h) (without S (left_out_before r (starters_with s X)) h)) is
+    ∙ ap (λ (b : Bool). after_if (not b) (event_of S e h) (without S (starters_with s X) h)) (with_self s X)
 
 -- and is made in a state with it
 pub own_made : (S : State) (s : ℕ) (e : Accepted) (h : List Accepted) (part : Progress) → role_in S e h ≡ Within s part → (X : Starters) → X s ≡ false → without S X (e ∷ h) ≡ after (event_of S e h) (without S X h)
 own_made S s e h part is X kept =
     without_more S e h X
-    ∙ ap (λ (r : Role). after_if (stays r X) (event_of S e h) (without S (left_out_before r X) h)) is
+    ∙ ap (λ (r : Role). after_if (is_left_in r X) (event_of S e h) (without S (left_out_before r X) h)) is
     ∙ ap (λ (b : Bool). after_if (not b) (event_of S e h) (without S X h)) kept
 
--- what was touched stays touched by a step within the transaction
-touched_more : (S : State) (s : ℕ) (e : Accepted) (h : List Accepted) (part : Progress) → role_in S e h ≡ Within s part → (o : Object) → touched_of S h s o ≡ true → touched_of S (e ∷ h) s o ≡ true
-unfolding touched_of
-touched_more S s e h part is o t =
-    subst (λ (r : Role). touched_after r (event_footprint (table_of S h) (event_of S e h) (without S nobody h)) (touched_of S h) s o ≡ true) (sym is)
-    (touched_old s s (has o (objects_reserved part s (event_footprint (table_of S h) (event_of S e h) (without S nobody h)))) (touched_of S h s o) t)
+-- what was reserved stays reserved by a step within the transaction
+reserved_more : (S : State) (s : ℕ) (e : Accepted) (h : List Accepted) (part : Progress) → role_in S e h ≡ Within s part → (o : Object) → reserved_of S h s o ≡ true → reserved_of S (e ∷ h) s o ≡ true
+unfolding reserved_of
+reserved_more S s e h part is o t =
+    subst (λ (r : Role). reserved_after r (event_footprint (table_of S h) (event_of S e h) (without S nobody h)) (reserved_of S h) s o ≡ true) (sym is)
+    (reserved_old s s (has_object o (objects_reserved part s (event_footprint (table_of S h) (event_of S e h) (without S nobody h)))) (reserved_of S h s o) t)
 
 -- events of the transaction by one test are so by a wider one
 more_events : (T U : Object → Bool) (s : ℕ) → ((o : Object) → T o ≡ true → U o ≡ true) → (evs : List Event) (Q : State) → AreOwnEvents T s evs Q → AreOwnEvents U s evs Q
@@ -105,33 +106,33 @@ same_replies (e ∷ L) [] Q R own same = absurd own
 same_replies (e ∷ L) (ev ∷ evs) Q R own same = (own.0 ∙ same.0, same_replies L evs Q R own.1 same.1)
 
 -- a step within the transaction leaves the marks of others
-rest_kept : (s p : ℕ) (t : Table) (part : Progress) → ActorFits s p (t.marks p) part → IsFree s part t → (n : ℕ) → unmarked s (marks_after (Within s part) p t.marks n) ≡ unmarked s (t.marks n)
+rest_kept : (s p : ℕ) (t : Table) (part : Progress) → ActorFits s p (t.marks p) part → IsFree s part t → (n : ℕ) → mark_unless_of s (marks_after (Within s part) p t.marks n) ≡ mark_unless_of s (t.marks n)
 rest_kept s p t Continues fits free n = refl
-rest_kept s p t Parks fits free n = elim (put_cases t.marks p (parked (t.marks p)) n) [
+rest_kept s p t Parks fits free n = elim (put_cases t.marks p (parked_mark (t.marks p)) n) [
   | inl e ↦
-      ap (unmarked s) e.1 ∙ unmarked_own s (parked (t.marks p)) (of_parked s (t.marks p) ∙ fits)
+      ap (mark_unless_of s) e.1 ∙ unmarked_own s (parked_mark (t.marks p)) (of_parked s (t.marks p) ∙ fits)
       ∙ sym (unmarked_own s (t.marks n) (subst (λ (k : ℕ). is_of s (t.marks k) ≡ true) (sym e.0) fits))
-  | inr e ↦ ap (unmarked s) e.1
+  | inr e ↦ ap (mark_unless_of s) e.1
 ]
 rest_kept s p t (Forks c) fits free n = elim (put_cases t.marks c (Some (new_mark s (defers_in (t.marks s)))) n) [
   | inl e ↦
-      ap (unmarked s) e.1 ∙ unmarked_own s (Some (new_mark s (defers_in (t.marks s)))) (self s)
-      ∙ sym (subst (λ (k : ℕ). unmarked s (t.marks k) ≡ None) (sym e.0) free)
-  | inr e ↦ ap (unmarked s) e.1
+      ap (mark_unless_of s) e.1 ∙ unmarked_own s (Some (new_mark s (defers_in (t.marks s)))) (self s)
+      ∙ sym (subst (λ (k : ℕ). mark_unless_of s (t.marks k) ≡ None) (sym e.0) free)
+  | inr e ↦ ap (mark_unless_of s) e.1
 ]
 rest_kept s p t (Begins defers) fits free n = elim (put_cases t.marks s (Some (new_mark s defers)) n) [
   | inl e ↦
-      ap (unmarked s) e.1 ∙ unmarked_own s (Some (new_mark s defers)) (self s)
-      ∙ sym (ap (unmarked s) (subst (λ (k : ℕ). t.marks k ≡ None) (fits.0 ∙ sym e.0) (none_there (t.marks p) fits.1)))
-  | inr e ↦ ap (unmarked s) e.1
+      ap (mark_unless_of s) e.1 ∙ unmarked_own s (Some (new_mark s defers)) (self s)
+      ∙ sym (ap (mark_unless_of s) (subst (λ (k : ℕ). t.marks k ≡ None) (fits.0 ∙ sym e.0) (none_there (t.marks p) fits.1)))
+  | inr e ↦ ap (mark_unless_of s) e.1
 ]
 
--- what was touched stays touched by a step of another
-touched_by : (r : Role) (F : List Object) (touched : ℕ → Object → Bool) (s : ℕ) (o : Object) → is_step_of s r ≡ false → touched s o ≡ true → touched_after r F touched s o ≡ true
-touched_by Outside F touched s o other k = k
-touched_by (Within u part) F touched s o other k = rw (eq_comm s u ∙ other) k
-touched_by (Commits u) F touched s o other k = rw (eq_comm s u ∙ other) k
-touched_by (Aborts u status) F touched s o other k = rw (eq_comm s u ∙ other) k
+-- what was reserved stays reserved by a step of another
+reserved_by : (r : Role) (F : List Object) (reserved : ℕ → Object → Bool) (s : ℕ) (o : Object) → is_step_of s r ≡ false → reserved s o ≡ true → reserved_after r F reserved s o ≡ true
+reserved_by Outside F reserved s o other k = k
+reserved_by (Within u part) F reserved s o other k = rw (eq_comm s u ∙ other) k
+reserved_by (Commits u) F reserved s o other k = rw (eq_comm s u ∙ other) k
+reserved_by (Aborts u status) F reserved s o other k = rw (eq_comm s u ∙ other) k
 
 -- the status of the kernel's abort, by the starter without its transaction
 pub same_kernel : (S : State) (one two : List Accepted) (u : ℕ) → (without S (just u) one).procs u ≡ (without S (just u) two).procs u → kernel_status (view S one) u ≡ kernel_status (view S two) u
@@ -150,7 +151,7 @@ module _ (laws : MomentLaws) (S : State) (form : IsWellFormed S) (nothing : Hold
     abbrev evs : List Event
     evs = events_over S own others
 
-    aside : (X : Starters) → without S (with_one s X) h ≡ without S (with_one s X) (e ∷ h)
+    aside : (X : Starters) → without S (starters_with s X) h ≡ without S (starters_with s X) (e ∷ h)
     aside X = sym (own_unseen S s e h part is X)
 
     own_others_table : table_of S others ≡ without_marks s (table_of S (e ∷ h))
@@ -167,23 +168,23 @@ module _ (laws : MomentLaws) (S : State) (form : IsWellFormed S) (nothing : Hold
     unfolding table_of
     own_table = ap (λ (t : Table). table_after (role t e.step e.reply) (process_of e.step) t) put.table
 
-    own_left : (X : Starters) → X s ≡ false → run (without S (with_one s X) (e ∷ h)) (events_over S (e ∷ own) others) ≡ without S X (e ∷ h)
+    own_left : (X : Starters) → X s ≡ false → run (without S (starters_with s X) (e ∷ h)) (events_over S (e ∷ own) others) ≡ without S X (e ∷ h)
     unfolding run events_over
     own_left X kept =
         ap₂ (λ (ev : Event) (Q : State). after ev (run Q evs)) same_event (sym (aside X))
         ∙ ap (after (event_of S e h)) (put.left X kept) ∙ sym (own_made S s e h part is X kept)
 
-    own_events : (X : Starters) → X s ≡ false → AreOwnEvents (touched_of S (e ∷ h) s) s (events_over S (e ∷ own) others) (without S (with_one s X) (e ∷ h))
+    own_events : (X : Starters) → X s ≡ false → AreOwnEvents (reserved_of S (e ∷ h) s) s (events_over S (e ∷ own) others) (without S (starters_with s X) (e ∷ h))
     unfolding AreOwnEvents events_over
     own_events X kept =
-        let T : Object → Bool = touched_of S (e ∷ h) s in
-        let here : IsOwnEvent T s (event_of S e h) (run (without S (with_one s X) h) evs) =
+        let T : Object → Bool = reserved_of S (e ∷ h) s in
+        let here : IsOwnEvent T s (event_of S e h) (run (without S (starters_with s X) h) evs) =
         subst (λ (Q : State). IsOwnEvent T s (event_of S e h) Q) (sym (put.left X kept)) (own_step_event laws S form nothing s e h lawful part is X kept quiet) in
-        let before : AreOwnEvents T s evs (without S (with_one s X) h) = more_events (touched_of S h s) T s (touched_more S s e h part is) evs (without S (with_one s X) h) (put.events X kept) in
+        let before : AreOwnEvents T s evs (without S (starters_with s X) h) = more_events (reserved_of S h s) T s (reserved_more S s e h part is) evs (without S (starters_with s X) h) (put.events X kept) in
         subst (λ (Q : State). IsOwnEvent T s (event_of S e (own ++ others)) (run Q evs) × AreOwnEvents T s evs Q) (aside X)
-        (subst (λ (ev : Event). IsOwnEvent T s ev (run (without S (with_one s X) h) evs)) (sym same_event) here, before)
+        (subst (λ (ev : Event). IsOwnEvent T s ev (run (without S (starters_with s X) h) evs)) (sym same_event) here, before)
 
-    own_replies : (X : Starters) → X s ≡ false → OwnReplies (e ∷ own) (events_over S (e ∷ own) others) (without S (with_one s X) (e ∷ h))
+    own_replies : (X : Starters) → X s ≡ false → OwnReplies (e ∷ own) (events_over S (e ∷ own) others) (without S (starters_with s X) (e ∷ h))
     unfolding OwnReplies events_over
     own_replies X kept =
         subst (λ (Q : State). (e.reply ≡ reply_of (event_of S e (own ++ others)) (run Q evs)) × OwnReplies own evs Q) (aside X)
@@ -274,61 +275,61 @@ module _ (laws : MomentLaws) (S : State) (form : IsWellFormed S) (nothing : Hold
     now_table : table_of S (own ++ e ∷ others) ≡ table_of S (e ∷ h)
     now_table = λ i. record { width = width_same i; marks = λ n. mark_same n i }
 
-    step_aside : (X : Starters) → without S (with_one s X) (e ∷ h) ≡ after_if (stays r X) ev (without S (with_one s (left_out_before r X)) h)
+    step_aside : (X : Starters) → without S (starters_with s X) (e ∷ h) ≡ after_if (is_left_in r X) ev (without S (starters_with s (left_out_before r X)) h)
     step_aside X =
-        without_more S e h (with_one s X)
+        without_more S e h (starters_with s X)
         ∙ ap₂ (λ (b : Bool) (Y : Starters). after_if b ev (without S Y h)) (stays_with s r X other) (left_out_with s r X other)
 
-    now_others_left : (X : Starters) → X s ≡ false → without S X (e ∷ others) ≡ without S (with_one s X) (e ∷ h)
+    now_others_left : (X : Starters) → X s ≡ false → without S X (e ∷ others) ≡ without S (starters_with s X) (e ∷ h)
     now_others_left X kept =
         without_more S e others X
-        ∙ ap₂ (λ (x : Role) (y : Event). after_if (stays x X) y (without S (left_out_before x X) others)) same_step.0 same_step.1
-        ∙ ap (after_if (stays r X) ev) (put.others_left (left_out_before r X) (still_in s r X other kept))
+        ∙ ap₂ (λ (x : Role) (y : Event). after_if (is_left_in x X) y (without S (left_out_before x X) others)) same_step.0 same_step.1
+        ∙ ap (after_if (is_left_in r X) ev) (put.others_left (left_out_before r X) (still_in s r X other kept))
         ∙ sym (step_aside X)
 
-    passed : (X : Starters) → X s ≡ false → stays r X ≡ true → PassesOwn (touched_of S h s) s ev passed_by (without S (with_one s (left_out_before r X)) h)
+    passed : (X : Starters) → X s ≡ false → is_left_in r X ≡ true → PassesOwn (reserved_of S h s) s ev passed_by (without S (starters_with s (left_out_before r X)) h)
     passed X kept stay =
         let Y : Starters = left_out_before r X in
         let y : Y s ≡ false = still_in s r X other kept in
-        passes_own laws.events (touched_of S h s) s ev passed_by (without S (with_one s Y) h) (put.events Y y)
+        passes_own laws.events (reserved_of S h s) s ev passed_by (without S (starters_with s Y) h) (put.events Y y)
         (passes laws S s e h lawful live other X stay passed_by (put.left Y y))
 
-    by_stay : (X : Starters) (P : State → State → Type 0) → (stays r X ≡ true → P (after ev (without S (with_one s (left_out_before r X)) h)) (after ev (without S (left_out_before r X) h)))
-        → (stays r X ≡ false → P (without S (with_one s (left_out_before r X)) h) (without S (left_out_before r X) h)) → P (without S (with_one s X) (e ∷ h)) (without S X (e ∷ h))
+    by_stay : (X : Starters) (P : State → State → Type 0) → (is_left_in r X ≡ true → P (after ev (without S (starters_with s (left_out_before r X)) h)) (after ev (without S (left_out_before r X) h)))
+        → (is_left_in r X ≡ false → P (without S (starters_with s (left_out_before r X)) h) (without S (left_out_before r X) h)) → P (without S (starters_with s X) (e ∷ h)) (without S X (e ∷ h))
     by_stay X P made left =
         subst (λ (Q : State). P Q (without S X (e ∷ h))) (sym (step_aside X))
-        (subst (λ (Q : State). P (after_if (stays r X) ev (without S (with_one s (left_out_before r X)) h)) Q) (sym (without_more S e h X)) (by (stays r X) refl))
+        (subst (λ (Q : State). P (after_if (is_left_in r X) ev (without S (starters_with s (left_out_before r X)) h)) Q) (sym (without_more S e h X)) (by (is_left_in r X) refl))
       where
-        by : (b : Bool) → stays r X ≡ b → P (after_if b ev (without S (with_one s (left_out_before r X)) h)) (after_if b ev (without S (left_out_before r X) h))
+        by : (b : Bool) → is_left_in r X ≡ b → P (after_if b ev (without S (starters_with s (left_out_before r X)) h)) (after_if b ev (without S (left_out_before r X) h))
         by true k = made k
         by false k = left k
 
-    now_left : (X : Starters) → X s ≡ false → run (without S (with_one s X) (e ∷ h)) (events_over S own (e ∷ others)) ≡ without S X (e ∷ h)
+    now_left : (X : Starters) → X s ≡ false → run (without S (starters_with s X) (e ∷ h)) (events_over S own (e ∷ others)) ≡ without S X (e ∷ h)
     now_left X kept =
         let Y : Starters = left_out_before r X in
         let y : Y s ≡ false = still_in s r X other kept in
-        ap (run (without S (with_one s X) (e ∷ h))) (sym moved.events)
+        ap (run (without S (starters_with s X) (e ∷ h))) (sym moved.events)
         ∙ by_stay X (λ Q R. run Q passed_by ≡ R) (λ stay. (passed X kept stay).state ∙ ap (after ev) (put.left Y y)) (λ stay. put.left Y y)
 
-    touched_kept : (o : Object) → touched_of S h s o ≡ true → touched_of S (e ∷ h) s o ≡ true
-    unfolding touched_of
-    touched_kept o k = touched_by r (event_footprint (table_of S h) ev (without S nobody h)) (touched_of S h) s o other k
+    reserved_kept : (o : Object) → reserved_of S h s o ≡ true → reserved_of S (e ∷ h) s o ≡ true
+    unfolding reserved_of
+    reserved_kept o k = reserved_by r (event_footprint (table_of S h) ev (without S nobody h)) (reserved_of S h) s o other k
 
-    now_events : (X : Starters) → X s ≡ false → AreOwnEvents (touched_of S (e ∷ h) s) s (events_over S own (e ∷ others)) (without S (with_one s X) (e ∷ h))
+    now_events : (X : Starters) → X s ≡ false → AreOwnEvents (reserved_of S (e ∷ h) s) s (events_over S own (e ∷ others)) (without S (starters_with s X) (e ∷ h))
     now_events X kept =
         let Y : Starters = left_out_before r X in
         let y : Y s ≡ false = still_in s r X other kept in
-        let were : AreOwnEvents (touched_of S h s) s passed_by (without S (with_one s X) (e ∷ h)) =
-        by_stay X (λ Q R. AreOwnEvents (touched_of S h s) s passed_by Q) (λ stay. (passed X kept stay).own) (λ stay. put.events Y y) in
-        subst (λ (evs : List Event). AreOwnEvents (touched_of S (e ∷ h) s) s evs (without S (with_one s X) (e ∷ h))) moved.events
-        (more_events (touched_of S h s) (touched_of S (e ∷ h) s) s touched_kept passed_by (without S (with_one s X) (e ∷ h)) were)
+        let were : AreOwnEvents (reserved_of S h s) s passed_by (without S (starters_with s X) (e ∷ h)) =
+        by_stay X (λ Q R. AreOwnEvents (reserved_of S h s) s passed_by Q) (λ stay. (passed X kept stay).own) (λ stay. put.events Y y) in
+        subst (λ (evs : List Event). AreOwnEvents (reserved_of S (e ∷ h) s) s evs (without S (starters_with s X) (e ∷ h))) moved.events
+        (more_events (reserved_of S h s) (reserved_of S (e ∷ h) s) s reserved_kept passed_by (without S (starters_with s X) (e ∷ h)) were)
 
-    now_replies : (X : Starters) → X s ≡ false → OwnReplies own (events_over S own (e ∷ others)) (without S (with_one s X) (e ∷ h))
+    now_replies : (X : Starters) → X s ≡ false → OwnReplies own (events_over S own (e ∷ others)) (without S (starters_with s X) (e ∷ h))
     now_replies X kept =
         let Y : Starters = left_out_before r X in
         let y : Y s ≡ false = still_in s r X other kept in
-        subst (λ (evs : List Event). OwnReplies own evs (without S (with_one s X) (e ∷ h))) moved.events
-        (by_stay X (λ Q R. OwnReplies own passed_by Q) (λ stay. same_replies own passed_by (without S (with_one s Y) h) (after ev (without S (with_one s Y) h)) (put.replies Y y) (passed X kept stay).replies)
+        subst (λ (evs : List Event). OwnReplies own evs (without S (starters_with s X) (e ∷ h))) moved.events
+        (by_stay X (λ Q R. OwnReplies own passed_by Q) (λ stay. same_replies own passed_by (without S (starters_with s Y) h) (after ev (without S (starters_with s Y) h)) (put.replies Y y) (passed X kept stay).replies)
         (λ stay. put.replies Y y))
 
     -- whether another transaction is doomed is the same among the others alone
@@ -353,9 +354,9 @@ module _ (laws : MomentLaws) (S : State) (form : IsWellFormed S) (nothing : Hold
     now_agree X kept =
         let Y : Starters = left_out_before r X in
         let y : Y s ≡ false = still_in s r X other kept in (
-          subst (λ (x : Role). stays x X ≡ true → e.reply ≡ plain_reply (abort_status (view S others) e.step) x (event_of S e others) (without S (left_out_before x X) others)) (sym same_step.0)
+          subst (λ (x : Role). is_left_in x X ≡ true → e.reply ≡ plain_reply (abort_status (view S others) e.step) x (event_of S e others) (without S (left_out_before x X) others)) (sym same_step.0)
               (λ stay.
-              (laws.agree S (e ∷ h) lawful (with_one s X)).0 (stays_with s r X other ∙ stay)
+              (laws.agree S (e ∷ h) lawful (starters_with s X)).0 (stays_with s r X other ∙ stay)
               ∙ ap (λ (Z : Starters). plain_reply (abort_status (view S h) e.step) r ev (without S Z h)) (left_out_with s r X other)
               ∙ ap (λ (Q : State). plain_reply (abort_status (view S h) e.step) r ev Q) (sym (put.others_left Y y))
               ∙ ap₂ (λ (k : ℕ) (x : Event). plain_reply k r x (without S Y others)) (sym same_status) (sym same_step.1)),

@@ -1,9 +1,9 @@
 -- Other signals pending at one process, carried through writes, posts and conclusions.
 use Rattle.std.proofs.Common.{◌≡◌, ℕ, Bool, true, false, ◌||◌, List, [], ◌∷◌, ℤ, Option, Some, None, is_some, if◌then◌else◌, ◌==◌, refl, sym, ap, ap₂, ◌∙◌, eqb-true}
-use Rattle.tx_model.specs.State.{Process, State, Sending, Object, Proc, Desc, Pipe, Held, Write, SetProc, SetDesc, SetPipe, SetHeld, write_one, written}
+use Rattle.tx_model.specs.State.{Process, State, Sending, Object, Proc, Desc, Pipe, Held, Write, SetProc, SetDesc, SetPipe, SetHeld, write_one, with_writes}
 use Rattle.tx_model.specs.StateLaws.{state_ext, AgreePart}
-use Rattle.tx_model.specs.Posts.{received, post_answer, post, posts, answers}
-use Rattle.tx_model.specs.Effects.{Conclusion, Replies, AnswersPost, ListsFailed, Effect, noted, noted_if, first_answer, concluded, send_answers, applied}
+use Rattle.tx_model.specs.Posts.{target_after, post_answer, after_post, after_posts, post_answers}
+use Rattle.tx_model.specs.Effects.{Conclusion, Replies, AnswersPost, ListsFailed, Effect, with_answer, with_answer_if, first_answer, after_conclusion, send_answers, after_effect}
 use Rattle.tx_laws.specs.OneMoment.{is_sent_to}
 use Rattle.tx_moment.specs.Unseen.{Signals, resignalled_if, with_signals}
 
@@ -39,12 +39,12 @@ module _ (s : ℕ) (g : Signals) where
       by true = ap (SetProc n) (h (S.procs n))
       by false = refl
 
-  pub noted_resigned : (r : ℤ) (x : Option Process) → noted_if r (resignalled_if g x) ≡ resignalled_if g (noted_if r x)
+  pub noted_resigned : (r : ℤ) (x : Option Process) → with_answer_if r (resignalled_if g x) ≡ resignalled_if g (with_answer_if r x)
   noted_resigned r None = refl
   noted_resigned r (Some q) = by (is_some q.status)
     where
-      by : (b : Bool) → Some (noted r (if b then q else record q { pending = g.pending; queued = g.queued }))
-          ≡ Some (if b then noted r q else record (noted r q) { pending = g.pending; queued = g.queued })
+      by : (b : Bool) → Some (with_answer r (if b then q else record q { pending = g.pending; queued = g.queued }))
+          ≡ Some (if b then with_answer r q else record (with_answer r q) { pending = g.pending; queued = g.queued })
       by true = refl
       by false = refl
 
@@ -67,16 +67,16 @@ module _ (s : ℕ) (g : Signals) where
   write_resigned (SetPipe n x) S = refl
   write_resigned (SetHeld n x) S = refl
 
-  pub written_resigned : (ws : List Write) (S : State) → written (resigned_all s g ws) (with_signals s g S) ≡ with_signals s g (written ws S)
-  unfolding written
+  pub written_resigned : (ws : List Write) (S : State) → with_writes (resigned_all s g ws) (with_signals s g S) ≡ with_signals s g (with_writes ws S)
+  unfolding with_writes
   written_resigned [] S = refl
-  written_resigned (w ∷ ws) S = ap (written (resigned_all s g ws)) (write_resigned w S) ∙ written_resigned ws (write_one w S)
+  written_resigned (w ∷ ws) S = ap (with_writes (resigned_all s g ws)) (write_resigned w S) ∙ written_resigned ws (write_one w S)
 
   -- a post to another process
-  other_post : (m : Sending) (S : State) → (m.target == s) ≡ false → post m (with_signals s g S) ≡ with_signals s g (post m S)
+  other_post : (m : Sending) (S : State) → (m.target == s) ≡ false → after_post m (with_signals s g S) ≡ with_signals s g (after_post m S)
   other_post m S e =
-      let x : Option Process = received m (S.procs m.target) in
-      ap (λ (b : Bool). write_one (SetProc m.target (received m (if b then resignalled_if g (S.procs s) else S.procs m.target))) (with_signals s g S)) e
+      let x : Option Process = target_after m (S.procs m.target) in
+      ap (λ (b : Bool). write_one (SetProc m.target (target_after m (if b then resignalled_if g (S.procs s) else S.procs m.target))) (with_signals s g S)) e
       ∙ ap (λ (b : Bool). write_one (SetProc m.target (if b then resignalled_if g x else x)) (with_signals s g S)) (sym e)
       ∙ write_resigned (SetProc m.target x) S
 
@@ -91,40 +91,40 @@ module _ (s : ℕ) (g : Signals) where
   not_rest true b h = cc
   not_rest false b h = h
 
-  posts_resigned : (ms : List Sending) (S : State) → is_sent_to s ms ≡ false → posts ms (with_signals s g S) ≡ with_signals s g (posts ms S)
-  unfolding posts is_sent_to
+  posts_resigned : (ms : List Sending) (S : State) → is_sent_to s ms ≡ false → after_posts ms (with_signals s g S) ≡ with_signals s g (after_posts ms S)
+  unfolding after_posts is_sent_to
   posts_resigned [] S h = refl
   posts_resigned (m ∷ ms) S h =
-      ap (posts ms) (other_post m S (not_head (m.target == s) (is_sent_to s ms) h)) ∙ posts_resigned ms (post m S) (not_rest (m.target == s) (is_sent_to s ms) h)
+      ap (after_posts ms) (other_post m S (not_head (m.target == s) (is_sent_to s ms) h)) ∙ posts_resigned ms (after_post m S) (not_rest (m.target == s) (is_sent_to s ms) h)
 
-  answers_resigned : (ms : List Sending) (S : State) → is_sent_to s ms ≡ false → answers ms (with_signals s g S) ≡ answers ms S
-  unfolding answers is_sent_to
+  answers_resigned : (ms : List Sending) (S : State) → is_sent_to s ms ≡ false → post_answers ms (with_signals s g S) ≡ post_answers ms S
+  unfolding post_answers is_sent_to
   answers_resigned [] S h = refl
   answers_resigned (m ∷ ms) S h =
       let e : (m.target == s) ≡ false = not_head (m.target == s) (is_sent_to s ms) h in
       ap₂ (λ (r : ℤ) (rs : List ℤ). r ∷ rs) (other_answer m S e)
-      (ap (answers ms) (other_post m S e) ∙ answers_resigned ms (post m S) (not_rest (m.target == s) (is_sent_to s ms) h))
+      (ap (post_answers ms) (other_post m S e) ∙ answers_resigned ms (after_post m S) (not_rest (m.target == s) (is_sent_to s ms) h))
 
-  concluded_resigned : (c : Conclusion) (rs : List ℤ) (S : State) → concluded c rs (with_signals s g S) ≡ with_signals s g (concluded c rs S)
+  concluded_resigned : (c : Conclusion) (rs : List ℤ) (S : State) → after_conclusion c rs (with_signals s g S) ≡ with_signals s g (after_conclusion c rs S)
   concluded_resigned (Replies r) rs S = refl
   concluded_resigned (AnswersPost p) rs S =
-      ap (λ (w : Write). write_one w (with_signals s g S)) (edit_resigned (noted_if (first_answer rs)) (noted_resigned (first_answer rs)) S p)
-      ∙ write_resigned (SetProc p (noted_if (first_answer rs) (S.procs p))) S
+      ap (λ (w : Write). write_one w (with_signals s g S)) (edit_resigned (with_answer_if (first_answer rs)) (noted_resigned (first_answer rs)) S p)
+      ∙ write_resigned (SetProc p (with_answer_if (first_answer rs) (S.procs p))) S
   concluded_resigned ListsFailed rs S = refl
 
   pub send_answers_resigned : (f : Effect) (S : State) → is_sent_to s f.sends ≡ false → send_answers (resigned s g f) (with_signals s g S) ≡ send_answers f S
-  send_answers_resigned f S h = ap (answers f.sends) (written_resigned f.writes S) ∙ answers_resigned f.sends (written f.writes S) h
+  send_answers_resigned f S h = ap (post_answers f.sends) (written_resigned f.writes S) ∙ answers_resigned f.sends (with_writes f.writes S) h
 
-  applied_resigned : (f : Effect) (rs : List ℤ) (S : State) → is_sent_to s f.sends ≡ false → applied (resigned s g f) rs (with_signals s g S) ≡ with_signals s g (applied f rs S)
+  applied_resigned : (f : Effect) (rs : List ℤ) (S : State) → is_sent_to s f.sends ≡ false → after_effect (resigned s g f) rs (with_signals s g S) ≡ with_signals s g (after_effect f rs S)
   applied_resigned f rs S h =
-      ap (λ (X : State). concluded f.conclusion rs (posts f.sends X)) (written_resigned f.writes S)
-      ∙ ap (concluded f.conclusion rs) (posts_resigned f.sends (written f.writes S) h)
-      ∙ concluded_resigned f.conclusion rs (posts f.sends (written f.writes S))
+      ap (λ (X : State). after_conclusion f.conclusion rs (after_posts f.sends X)) (written_resigned f.writes S)
+      ∙ ap (after_conclusion f.conclusion rs) (posts_resigned f.sends (with_writes f.writes S) h)
+      ∙ concluded_resigned f.conclusion rs (after_posts f.sends (with_writes f.writes S))
 
   -- the state after an effect that is the same with these signals, and the answers to its posts
   pub effect_resigned : (f h : Effect) (S : State) → h ≡ resigned s g f → is_sent_to s f.sends ≡ false →
-      applied h (send_answers h (with_signals s g S)) (with_signals s g S) ≡ with_signals s g (applied f (send_answers f S) S)
+      after_effect h (send_answers h (with_signals s g S)) (with_signals s g S) ≡ with_signals s g (after_effect f (send_answers f S) S)
   effect_resigned f h S e k =
-      ap (λ (x : Effect). applied x (send_answers x (with_signals s g S)) (with_signals s g S)) e
-      ∙ ap (λ (rs : List ℤ). applied (resigned s g f) rs (with_signals s g S)) (send_answers_resigned f S k)
+      ap (λ (x : Effect). after_effect x (send_answers x (with_signals s g S)) (with_signals s g S)) e
+      ∙ ap (λ (rs : List ℤ). after_effect (resigned s g f) rs (with_signals s g S)) (send_answers_resigned f S k)
       ∙ applied_resigned f (send_answers f S) S k

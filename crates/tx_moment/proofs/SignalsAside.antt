@@ -1,9 +1,9 @@
 -- Other signals pending at one process change no other part and no family. Nor does an event change the family of anything but its objects.
 use Rattle.std.proofs.Common.{◌≡◌, ℕ, Bool, true, false, List, [], ◌∷◌, ℤ, Option, Some, None, is_some, if◌then◌else◌, ◌==◌, refl, sym, ap, ◌∙◌, eqb-true}
-use Rattle.tx_model.specs.State.{Process, Sending, State, Object, Proc, Desc, Pipe, Held, written, put_at, has_parent, names_at, same_object, has}
+use Rattle.tx_model.specs.State.{Process, Sending, State, Object, Proc, Desc, Pipe, Held, with_writes, put_at, has_parent, names_at, same_object, has_object}
 use Rattle.tx_model.specs.StateLaws.{put_here, state_ext, AgreePart, AgreeFamily}
-use Rattle.tx_model.specs.Posts.{received, post, posts}
-use Rattle.tx_model.specs.Effects.{Conclusion, Replies, AnswersPost, ListsFailed, Effect, noted_if, first_answer, concluded, send_answers}
+use Rattle.tx_model.specs.Posts.{target_after, after_post, after_posts}
+use Rattle.tx_model.specs.Effects.{Conclusion, Replies, AnswersPost, ListsFailed, Effect, with_answer_if, first_answer, after_conclusion, send_answers}
 use Rattle.tx_model.specs.Events.{Event, effect, objects, after}
 use Rattle.tx_model.specs.Answer.{is_running}
 use Rattle.tx_laws.proofs.Agree.{agree_refl, KeepsFamily, edited_at, received_keeps, noted_keeps}
@@ -26,23 +26,23 @@ edited_family edit k t S R (Desc n) h = λ q f. edit_seen (names_at n f) edit t 
 edited_family edit k t S R (Pipe n) h = h
 edited_family edit k t S R (Held n) h = tt
 
-posts_family : (ms : List Sending) (S R : State) (o : Object) → AgreeFamily S R o → AgreeFamily (posts ms S) R o
-unfolding posts
+posts_family : (ms : List Sending) (S R : State) (o : Object) → AgreeFamily S R o → AgreeFamily (after_posts ms S) R o
+unfolding after_posts
 posts_family [] S R o h = h
-posts_family (m ∷ ms) S R o h = posts_family ms (post m S) R o (edited_family (received m) (received_keeps m) m.target S R o h)
+posts_family (m ∷ ms) S R o h = posts_family ms (after_post m S) R o (edited_family (target_after m) (received_keeps m) m.target S R o h)
 
-concluded_family : (c : Conclusion) (rs : List ℤ) (S R : State) (o : Object) → AgreeFamily S R o → AgreeFamily (concluded c rs S) R o
+concluded_family : (c : Conclusion) (rs : List ℤ) (S R : State) (o : Object) → AgreeFamily S R o → AgreeFamily (after_conclusion c rs S) R o
 concluded_family (Replies r) rs S R o h = h
-concluded_family (AnswersPost p) rs S R o h = edited_family (noted_if (first_answer rs)) (noted_keeps (first_answer rs)) p S R o h
+concluded_family (AnswersPost p) rs S R o h = edited_family (with_answer_if (first_answer rs)) (noted_keeps (first_answer rs)) p S R o h
 concluded_family ListsFailed rs S R o h = h
 
 -- an event changes the family of none but its objects
-pub after_family : (ev : Event) (S : State) (o : Object) → has o (objects ev S) ≡ false → AgreeFamily (after ev S) S o
+pub after_family : (ev : Event) (S : State) (o : Object) → has_object o (objects ev S) ≡ false → AgreeFamily (after ev S) S o
 unfolding after
 after_family ev S o h =
     let f : Effect = effect ev S in
-    let R : State = written f.writes S in
-    concluded_family f.conclusion (send_answers f S) (posts f.sends R) S o
+    let R : State = with_writes f.writes S in
+    concluded_family f.conclusion (send_answers f S) (after_posts f.sends R) S o
     (posts_family f.sends R S o (written_else f.writes S S (objects ev S) o (event_fits ev S (objects ev S) (λ q k. k)).0 h (agree_refl S o)).family)
 
 resignalled_keeps : (g : Signals) → KeepsFamily (resignalled_if g)

@@ -5,8 +5,9 @@ use Rattle.tx_base.specs.declared.steps.Accepted.{Accepted}
 use Rattle.tx_model.specs.State.{State, Object}
 use Rattle.tx_model.specs.StateLaws.{put_cases, state_ext, AgreePart}
 use Rattle.tx_model.specs.Events.{process_of, run}
-use Rattle.tx_model.specs.Membership.{Table, is_of, is_live, is_member_of, Progress, Continues, Parks, Forks, Begins, Role, Outside, Within, Commits, Aborts, parked, defers_in, new_mark, unmarked, marks_after}
-use Rattle.tx_model.specs.History.{Starters, with_one, table_of, role_in, event_of, without}
+use Rattle.tx_model.specs.Membership.{Table, is_of, is_live, is_member_of, Progress, Continues, Parks, Forks, Begins, Role, Outside, Within, Commits, Aborts, parked_mark, defers_in, new_mark, mark_unless_of, marks_after}
+use Rattle.tx_model.specs.History.{Starters, table_of, role_in, event_of, without}
+use Rattle.tx_model.specs.Words.{starters_with}
 use Rattle.tx_model.specs.View.{View, view}
 use Rattle.tx_model.specs.Answer.{Lawful}
 use Rattle.tx_laws.specs.Fits.{Fits, FitsWithin, ProgressFits}
@@ -37,14 +38,14 @@ begin_role s (Aborts u status) h = cc
 own_role : (s p : ℕ) (t : Table) (r : Role) → is_step_of s r ≡ true → is_of s (marks_after r p t.marks s) ≡ true → (part : Progress) × (r ≡ Within s part)
 own_role s p t Outside h live = cc
 own_role s p t (Within u part) h live = (part, ap (λ (n : ℕ). Within n part) (eqb-true u s h))
-own_role s p t (Commits u) h live = absurd (both_ways (is_of s (unmarked u (t.marks s))) (of_unmarked s u (t.marks s) ∙ rw (eq-eqb s u (sym (eqb-true u s h))) refl) live)
-own_role s p t (Aborts u status) h live = absurd (both_ways (is_of s (unmarked u (t.marks s))) (of_unmarked s u (t.marks s) ∙ rw (eq-eqb s u (sym (eqb-true u s h))) refl) live)
+own_role s p t (Commits u) h live = absurd (both_ways (is_of s (mark_unless_of u (t.marks s))) (of_unmarked s u (t.marks s) ∙ rw (eq-eqb s u (sym (eqb-true u s h))) refl) live)
+own_role s p t (Aborts u status) h live = absurd (both_ways (is_of s (mark_unless_of u (t.marks s))) (of_unmarked s u (t.marks s) ∙ rw (eq-eqb s u (sym (eqb-true u s h))) refl) live)
 
 -- a step of another makes no transaction of s live
 live_before : (s p : ℕ) (t : Table) (r : Role) → is_step_of s r ≡ false → is_of s (marks_after r p t.marks s) ≡ true → is_of s (t.marks s) ≡ true
 live_before s p t Outside h live = live
 live_before s p t (Within u Continues) h live = live
-live_before s p t (Within u Parks) h live = elim (put_cases t.marks p (parked (t.marks p)) s) [
+live_before s p t (Within u Parks) h live = elim (put_cases t.marks p (parked_mark (t.marks p)) s) [
   | inl e ↦ ap (λ (n : ℕ). is_of s (t.marks n)) e.0 ∙ sym (of_parked s (t.marks p)) ∙ sym (ap (is_of s) e.1) ∙ live
   | inr e ↦ sym (ap (is_of s) e.1) ∙ live
 ]
@@ -73,24 +74,24 @@ both false y h = cc
 
 module _ (laws : MomentLaws) (S : State) (form : IsWellFormed S) (nothing : HoldsNothing S) (s : ℕ) where
   -- where s is live in no transaction, nothing is its
-  untouched_at : (V : View) → IsSound V → is_live V.table s ≡ false → (X : Starters) (o : Object) → AgreePart (V.without X) (V.without (with_one s X)) o
-  untouched_at V sound gone X o = (sound.coherent X (with_one s X) o (λ u k. spared u k)).part
+  unreserved_at : (V : View) → IsSound V → is_live V.table s ≡ false → (X : Starters) (o : Object) → AgreePart (V.without X) (V.without (starters_with s X)) o
+  unreserved_at V sound gone X o = (sound.coherent X (starters_with s X) o (λ u k. spared u k)).part
     where
-      apart : (u : ℕ) → V.touched u o ≡ true → (u == s) ≡ false
+      apart : (u : ℕ) → V.reserved u o ≡ true → (u == s) ≡ false
       apart u k = unless (u == s) (λ same. both_ways (is_live V.table s) gone (subst (λ (n : ℕ). is_live V.table n ≡ true) (eqb-true u s same) (sound.owned_live u o k)))
 
-      spared : (u : ℕ) → V.touched u o ≡ true → X u ≡ with_one s X u
+      spared : (u : ℕ) → V.reserved u o ≡ true → X u ≡ starters_with s X u
       spared u k = rw (apart u k) refl
 
   module _ (h : List Accepted) (lawful : Lawful S h) (unmarked_s : (table_of S h).marks s ≡ None) where
     gone : is_live (table_of S h) s ≡ false
     gone = of_none s ((table_of S h).marks s) unmarked_s
 
-    same_without : (X : Starters) → without S X h ≡ without S (with_one s X) h
+    same_without : (X : Starters) → without S X h ≡ without S (starters_with s X) h
     unfolding view
     same_without X =
         let sound : IsSound (view S h) = laws.sound S h lawful in
-        state_ext (without S X h) (without S (with_one s X) h) (sound.width X ∙ sym (sound.width (with_one s X))) (untouched_at (view S h) sound gone X)
+        state_ext (without S X h) (without S (starters_with s X) h) (sound.width X ∙ sym (sound.width (starters_with s X))) (unreserved_at (view S h) sound gone X)
 
     none_of : (n : ℕ) → is_of s ((table_of S h).marks n) ≡ false
     unfolding view

@@ -5,20 +5,21 @@ use Rattle.tx_base.specs.declared.steps.Accepted.{Accepted}
 use Rattle.tx_base.specs.declared.steps.Reply.{Reply}
 use Rattle.tx_base.specs.declared.steps.Step.{Step}
 use Rattle.tx_base.specs.declared.steps.Step.TheVariants.{Call as Calls, Deliver, KernelAbort}
-use Rattle.tx_model.specs.State.{Process, State, Sending, Object, Proc, has}
+use Rattle.tx_model.specs.State.{Process, State, Sending, Object, Proc, has_object}
 use Rattle.tx_model.specs.StateLaws.{AgreeOn}
 use Rattle.tx_model.specs.Effects.{Effect}
 use Rattle.tx_model.specs.Events.{Event, Note, process_of, actor, effect, objects, reply_of}
-use Rattle.tx_model.specs.Membership.{Table, is_of, is_member_of, is_live, unmarked, others_open, Progress, Continues, Parks, Forks, Begins, Role, Within, Kind, Ordinary, Forking, Beginning, Leaving, Aborting, kind_of, says_ended, member_end_role, ordinary_role, kind_role, role, kind_event, step_event, event, event_in}
-use Rattle.tx_model.specs.History.{Starters, nobody, targets, event_footprint, objects_reserved, touched_after, table_of, role_in, event_of, left_out_before, stays, without, touched_of}
-use Rattle.tx_model.specs.View.{View, view, present, IsClear, abort_status}
+use Rattle.tx_model.specs.Membership.{Table, is_of, is_member_of, is_live, mark_unless_of, others_open, Progress, Continues, Parks, Forks, Begins, Role, Within, Kind, Ordinary, Forking, Beginning, Leaving, Aborting, says_ended, role, kind_event, step_event, event, event_in}
+use Rattle.tx_model.specs.Words.{member_end_role, ordinary_role, kind_of, IsClear, kind_role}
+use Rattle.tx_model.specs.History.{Starters, nobody, targets, event_footprint, objects_reserved, reserved_after, table_of, role_in, event_of, left_out_before, is_left_in, without, reserved_of}
+use Rattle.tx_model.specs.View.{View, view, present, abort_status}
 use Rattle.tx_model.specs.Answer.{is_running, plain_reply, Lawful, AgreesWithout}
 use Rattle.tx_laws.specs.Fits.{IsIn, IsQuiet, ProgressFits, FitsWithin, Fits, Passes}
 use Rattle.tx_laws.specs.OneMoment.{looks_at_signals, is_sent_to, tells_moment}
 use Rattle.tx_laws.specs.Sound.{IsSound}
 use Rattle.tx_laws.specs.WellFormed.{IsWellFormed}
 use Rattle.tx_laws.specs.WellFormedTable.{HoldsNothing}
-use Rattle.tx_laws.proofs.Coherence.{clear_foot, in_targets, objects_in, touched_new, taken_foot}
+use Rattle.tx_laws.proofs.Coherence.{clear_foot, in_targets, objects_in, reserved_new, taken_foot}
 use Rattle.tx_laws.proofs.Objects.{has_right}
 use Rattle.tx_laws.proofs.Local.{actor_in}
 use Rattle.tx_moment.specs.Laws.{MomentLaws}
@@ -112,11 +113,11 @@ module _ (laws : MomentLaws) (V : View) (ev : Event) (s p : ℕ) (part : Progres
   same_effect = laws.events.effects ev (present V) (V.without X) same_objects
 
   -- what the event names is in its footprint
-  named : (o : Object) → has o (objects ev (V.without X)) ≡ true → has o (event_footprint V.table ev (present V)) ≡ true
+  named : (o : Object) → has_object o (objects ev (V.without X)) ≡ true → has_object o (event_footprint V.table ev (present V)) ≡ true
   named o h =
-      objects_in V.table ev (present V) o (subst (λ (os : List Object). has o os ≡ true) (sym (laws.events.objects ev (present V) (V.without X) same_objects)) h)
+      objects_in V.table ev (present V) o (subst (λ (os : List Object). has_object o os ≡ true) (sym (laws.events.objects ev (present V) (V.without X) same_objects)) h)
 
-  targeted : (m : Sending) → IsIn m (effect ev (V.without X)).sends → has (Proc m.target) (event_footprint V.table ev (present V)) ≡ true
+  targeted : (m : Sending) → IsIn m (effect ev (V.without X)).sends → has_object (Proc m.target) (event_footprint V.table ev (present V)) ≡ true
   unfolding event_footprint
   targeted m i =
       let i : IsIn m (effect ev (present V)).sends = subst (λ (f : Effect). IsIn m f.sends) (sym same_effect) i in
@@ -126,7 +127,7 @@ module _ (laws : MomentLaws) (V : View) (ev : Event) (s p : ℕ) (part : Progres
   -- the starter is there, as it is in the state
   live_there : is_live V.table s ≡ true → is_some ((present V).procs s) ≡ true → is_some ((V.without X).procs s) ≡ true
   live_there live there =
-      let mine : V.touched s (Proc s) ≡ true = sound.own_procs s s live in
+      let mine : V.reserved s (Proc s) ≡ true = sound.own_procs s s live in
       subst (λ x. is_some x ≡ true) (sound.coherent nobody X (Proc s) (λ u k. sym (subst (λ (n : ℕ). X n ≡ false) (sound.single s u (Proc s) mine k) kept))).part there
 
   first_there : s ≡ p → is_running ((present V).procs p) ≡ true → is_some ((V.without X).procs s) ≡ true
@@ -147,7 +148,7 @@ module _ (laws : MomentLaws) (V : View) (ev : Event) (s p : ℕ) (part : Progres
       by (Forks c) h = live_there (member_live h.0) (there (member_live h.0))
       by (Begins defers) h = first_there h.0 h.3
 
-  pub own_event : (T : Object → Bool) → ((o : Object) → has o (event_footprint V.table ev (present V)) ≡ true → T o ≡ true) → overlooks s ev ≡ true
+  pub own_event : (T : Object → Bool) → ((o : Object) → has_object o (event_footprint V.table ev (present V)) ≡ true → T o ≡ true) → overlooks s ev ≡ true
       → is_sent_to s (effect ev (present V)).sends ≡ false → (is_live V.table s ≡ true → is_some ((present V).procs s) ≡ true) → IsOwnEvent T s ev (V.without X)
   own_event T in_T looks unsent there = record {
     names = λ o h. in_T o (named o h);
@@ -161,10 +162,10 @@ module _ (laws : MomentLaws) (V : View) (ev : Event) (s p : ℕ) (part : Progres
 abbrev pub IsFree : ℕ → Progress → Table → Type 0
 IsFree s Continues t = Unit {0}
 IsFree s Parks t = Unit {0}
-IsFree s (Forks c) t = unmarked s (t.marks c) ≡ None
+IsFree s (Forks c) t = mark_unless_of s (t.marks c) ≡ None
 IsFree s (Begins defers) t = Unit {0}
 
-unmarked_by : (s : ℕ) (m : Option Mark) → ((u : ℕ) → is_of u m ≡ true → u ≡ s) → unmarked s m ≡ None
+unmarked_by : (s : ℕ) (m : Option Mark) → ((u : ℕ) → is_of u m ≡ true → u ≡ s) → mark_unless_of s m ≡ None
 unmarked_by s None only = refl
 unmarked_by s (Some m) only = rw (eq-eqb m.starter.0 s (only m.starter.0 (eq-eqb m.starter.0 m.starter.0 refl))) refl
 
@@ -190,19 +191,19 @@ module _ (laws : MomentLaws) (S : State) (form : IsWellFormed S) (nothing : Hold
       free_by (view S h) (event_of S e h) s (process_of e.step) part (laws.sound S h lawful.0) (subst (λ (r : Role). Passes r (event_of S e h) (view S h)) is fit.0)
       (subst (λ (r : Role). Fits r (event_of S e h) (process_of e.step) (view S h)) is fit.1)
 
-  in_touched : (o : Object) → has o (event_footprint (table_of S h) (event_of S e h) (without S nobody h)) ≡ true → touched_of S (e ∷ h) s o ≡ true
-  unfolding touched_of
-  in_touched o k =
+  in_reserved : (o : Object) → has_object o (event_footprint (table_of S h) (event_of S e h) (without S nobody h)) ≡ true → reserved_of S (e ∷ h) s o ≡ true
+  unfolding reserved_of
+  in_reserved o k =
       let F : List Object = event_footprint (table_of S h) (event_of S e h) (without S nobody h) in
-      subst (λ (r : Role). touched_after r F (touched_of S h) s o ≡ true) (sym is) (touched_new s (has o (objects_reserved part s F)) (touched_of S h s o) (taken_foot part s F o k))
+      subst (λ (r : Role). reserved_after r F (reserved_of S h) s o ≡ true) (sym is) (reserved_new s (has_object o (objects_reserved part s F)) (reserved_of S h s o) (taken_foot part s F o k))
 
-  pub own_step_event : (X : Starters) → X s ≡ false → TellsNothing S s e h → IsOwnEvent (touched_of S (e ∷ h) s) s (event_of S e h) (without S X h)
+  pub own_step_event : (X : Starters) → X s ≡ false → TellsNothing S s e h → IsOwnEvent (reserved_of S (e ∷ h) s) s (event_of S e h) (without S X h)
   unfolding view Lawful
   own_step_event X kept quiet =
       let fit = laws.fit S e h lawful in
       let passes : IsClear (view S h) (event_of S e h) = subst (λ (r : Role). Passes r (event_of S e h) (view S h)) is fit.0 in
       let fits : FitsWithin s part (event_of S e h) (process_of e.step) (view S h) = subst (λ (r : Role). Fits r (event_of S e h) (process_of e.step) (view S h)) is fit.1 in
-      own_event laws (view S h) (event_of S e h) s (process_of e.step) part (laws.sound S h lawful.0) passes fits X kept (touched_of S (e ∷ h) s) in_touched quiet.overlooks quiet.unsent
+      own_event laws (view S h) (event_of S e h) s (process_of e.step) part (laws.sound S h lawful.0) passes fits X kept (reserved_of S (e ∷ h) s) in_reserved quiet.overlooks quiet.unsent
       (λ live. ((laws.table S h form nothing lawful.0).live s live).starter)
 
   -- its reply is that of its event
@@ -210,4 +211,4 @@ module _ (laws : MomentLaws) (S : State) (form : IsWellFormed S) (nothing : Hold
   unfolding AgreesWithout
   own_step_reply X kept =
       let k : ℕ = abort_status (view S h) e.step in
-      subst (λ (r : Role). stays r X ≡ true → e.reply ≡ plain_reply k r (event_of S e h) (without S (left_out_before r X) h)) is (laws.agree S (e ∷ h) lawful X).0 (ap not kept)
+      subst (λ (r : Role). is_left_in r X ≡ true → e.reply ≡ plain_reply k r (event_of S e h) (without S (left_out_before r X) h)) is (laws.agree S (e ∷ h) lawful X).0 (ap not kept)

@@ -1,9 +1,10 @@
 -- What is read of processes apart from their signals is the same, whatever is pending at one of them.
 use Rattle.std.proofs.Common.{◌≡◌, ℕ, zero, suc, ◌+◌, Bool, true, false, List, [], ◌∷◌, ◌++◌, Option, Some, None, is_some, if◌then◌else◌, ◌==◌, refl, sym, ap, ap₂, ◌∙◌}
 use Rattle.tx_base.specs.declared.limits.TheConstants.{DESCRIPTORS, DESCRIPTIONS}
-use Rattle.tx_model.specs.State.{Process, Side, State, Write, SetProc, SetDesc, SetPipe, write_one, written, has_parent, names_at, side_in}
-use Rattle.tx_model.specs.Descriptors.{names_below, is_named_below, is_named, is_side, has_side_below, has_description, pipe_of, pipes_of, unnamed_go, endless_go, released}
-use Rattle.tx_model.specs.Processes.{ended, children_below, children_of, with_parent, orphaned}
+use Rattle.tx_model.specs.State.{Process, Side, State, Write, SetProc, SetDesc, SetPipe, write_one, with_writes, has_parent, names_at, side_in}
+use Rattle.tx_model.specs.Descriptors.{is_named, is_side, has_description, pipe_of, pipes_of, description_removals, pipe_removals, removals, some_below}
+use Rattle.tx_model.specs.Words.{names_below, is_named_below, has_side_below}
+use Rattle.tx_model.specs.Processes.{ended_process, children_below, children_of, with_parent, orphan_writes}
 use Rattle.tx_moment.specs.Unseen.{Signals, resignalled_if, with_signals}
 use Rattle.tx_moment.proofs.Resigned.{resign, resigned_all, seen, edit_resigned, write_resigned, written_resigned}
 
@@ -33,18 +34,18 @@ module _ (s : ℕ) (g : Signals) where
       by false = refl
 
   names_below_viewed : (d f : ℕ) (x : Option Process) → names_below d f (resignalled_if g x) ≡ names_below d f x
-  unfolding names_below
+  unfolding some_below
   names_below_viewed d zero x = refl
   names_below_viewed d (suc f) x = ap₂ (λ (a b : Bool). if a then true else b) (names_below_viewed d f x) (names_viewed d f x)
 
   is_named_below_unseen : (d n : ℕ) (S : State) → is_named_below d n (with_signals s g S) ≡ is_named_below d n S
-  unfolding is_named_below
+  unfolding some_below
   is_named_below_unseen d zero S = refl
   is_named_below_unseen d (suc q) S =
       ap₂ (λ (a b : Bool). if a then true else b) (is_named_below_unseen d q S) (viewed (names_below d DESCRIPTORS) (names_below_viewed d DESCRIPTORS) S q)
 
   pub has_side_unseen : (test : Side → Bool) (k d : ℕ) (S : State) → has_side_below test k d (with_signals s g S) ≡ has_side_below test k d S
-  unfolding has_side_below
+  unfolding some_below
   has_side_unseen test k zero S = refl
   has_side_unseen test k (suc d) S = ap (λ (a : Bool). if a then true else is_side test (side_in k (S.descs d))) (has_side_unseen test k d S)
 
@@ -63,14 +64,14 @@ module _ (s : ℕ) (g : Signals) where
   children_unseen p S = ap (λ (qs : List ℕ). if p == 1 then [] else qs) (children_below_unseen p (S.width + 1) S)
 
   -- the same descriptions and pipes go
-  unnamed_unseen : (ds : List ℕ) (S : State) → unnamed_go ds (with_signals s g S) ≡ unnamed_go ds S
-  unfolding unnamed_go
+  unnamed_unseen : (ds : List ℕ) (S : State) → description_removals ds (with_signals s g S) ≡ description_removals ds S
+  unfolding description_removals
   unnamed_unseen [] S = refl
   unnamed_unseen (d ∷ ds) S =
       ap₂ (λ (b : Bool) (ws : List Write). if b then ws else SetDesc d None ∷ ws) (is_named_below_unseen d (S.width + 1) S) (unnamed_unseen ds S)
 
-  endless_unseen : (ks : List ℕ) (S : State) → endless_go ks (with_signals s g S) ≡ endless_go ks S
-  unfolding endless_go
+  endless_unseen : (ks : List ℕ) (S : State) → pipe_removals ks (with_signals s g S) ≡ pipe_removals ks S
+  unfolding pipe_removals
   endless_unseen [] S = refl
   endless_unseen (k ∷ ks) S =
       ap₂ (λ (b : Bool) (ws : List Write). if b then ws else SetPipe k None ∷ ws) (has_side_unseen (λ side. true) k DESCRIPTIONS S) (endless_unseen ks S)
@@ -80,46 +81,46 @@ module _ (s : ℕ) (g : Signals) where
   resigned_append [] ys = refl
   resigned_append (x ∷ xs) ys = ap (λ (ws : List Write). resign s g x ∷ ws) (resigned_append xs ys)
 
-  unnamed_kept : (ds : List ℕ) (S : State) → resigned_all s g (unnamed_go ds S) ≡ unnamed_go ds S
-  unfolding unnamed_go
+  unnamed_kept : (ds : List ℕ) (S : State) → resigned_all s g (description_removals ds S) ≡ description_removals ds S
+  unfolding description_removals
   unnamed_kept [] S = refl
   unnamed_kept (d ∷ ds) S = by (is_named d S) (unnamed_kept ds S)
     where
-      by : (b : Bool) → resigned_all s g (unnamed_go ds S) ≡ unnamed_go ds S → resigned_all s g (if b then unnamed_go ds S else SetDesc d None ∷ unnamed_go ds S) ≡ (if b then unnamed_go ds S else SetDesc d None ∷ unnamed_go ds S)
+      by : (b : Bool) → resigned_all s g (description_removals ds S) ≡ description_removals ds S → resigned_all s g (if b then description_removals ds S else SetDesc d None ∷ description_removals ds S) ≡ (if b then description_removals ds S else SetDesc d None ∷ description_removals ds S)
       by true h = h
       by false h = ap (λ (ws : List Write). SetDesc d None ∷ ws) h
 
-  endless_kept : (ks : List ℕ) (S : State) → resigned_all s g (endless_go ks S) ≡ endless_go ks S
-  unfolding endless_go
+  endless_kept : (ks : List ℕ) (S : State) → resigned_all s g (pipe_removals ks S) ≡ pipe_removals ks S
+  unfolding pipe_removals
   endless_kept [] S = refl
   endless_kept (k ∷ ks) S = by (has_description k S) (endless_kept ks S)
     where
-      by : (b : Bool) → resigned_all s g (endless_go ks S) ≡ endless_go ks S → resigned_all s g (if b then endless_go ks S else SetPipe k None ∷ endless_go ks S) ≡ (if b then endless_go ks S else SetPipe k None ∷ endless_go ks S)
+      by : (b : Bool) → resigned_all s g (pipe_removals ks S) ≡ pipe_removals ks S → resigned_all s g (if b then pipe_removals ks S else SetPipe k None ∷ pipe_removals ks S) ≡ (if b then pipe_removals ks S else SetPipe k None ∷ pipe_removals ks S)
       by true h = h
       by false h = ap (λ (ws : List Write). SetPipe k None ∷ ws) h
 
-  released_kept : (ds : List ℕ) (S : State) → resigned_all s g (released ds S) ≡ released ds S
+  released_kept : (ds : List ℕ) (S : State) → resigned_all s g (removals ds S) ≡ removals ds S
   released_kept ds S =
-      let ws : List Write = unnamed_go ds S in
-      let es : List Write = endless_go (pipes_of ds S) (written ws S) in
-      resigned_append ws es ∙ ap₂ (λ (xs ys : List Write). xs ++ ys) (unnamed_kept ds S) (endless_kept (pipes_of ds S) (written ws S))
+      let ws : List Write = description_removals ds S in
+      let es : List Write = pipe_removals (pipes_of ds S) (with_writes ws S) in
+      resigned_append ws es ∙ ap₂ (λ (xs ys : List Write). xs ++ ys) (unnamed_kept ds S) (endless_kept (pipes_of ds S) (with_writes ws S))
 
-  released_unseen : (ds : List ℕ) (S : State) → released ds (with_signals s g S) ≡ released ds S
+  released_unseen : (ds : List ℕ) (S : State) → removals ds (with_signals s g S) ≡ removals ds S
   released_unseen ds S =
-      let ws : List Write = unnamed_go ds S in
+      let ws : List Write = description_removals ds S in
       let ks : List ℕ = pipes_of ds S in
-      let gone : written ws (with_signals s g S) ≡ with_signals s g (written ws S) =
-      ap (λ (vs : List Write). written vs (with_signals s g S)) (sym (unnamed_kept ds S)) ∙ written_resigned s g ws S in
-      ap₂ (λ (vs : List Write) (ls : List ℕ). vs ++ endless_go ls (written vs (with_signals s g S))) (unnamed_unseen ds S) (pipes_unseen ds S)
-      ∙ ap (λ (X : State). ws ++ endless_go ks X) gone
-      ∙ ap (λ (es : List Write). ws ++ es) (endless_unseen ks (written ws S))
+      let gone : with_writes ws (with_signals s g S) ≡ with_signals s g (with_writes ws S) =
+      ap (λ (vs : List Write). with_writes vs (with_signals s g S)) (sym (unnamed_kept ds S)) ∙ written_resigned s g ws S in
+      ap₂ (λ (vs : List Write) (ls : List ℕ). vs ++ pipe_removals ls (with_writes vs (with_signals s g S))) (unnamed_unseen ds S) (pipes_unseen ds S)
+      ∙ ap (λ (X : State). ws ++ pipe_removals ks X) gone
+      ∙ ap (λ (es : List Write). ws ++ es) (endless_unseen ks (with_writes ws S))
 
   -- what goes after process p was written
   pub released_after : (ds : List ℕ) (p : ℕ) (x y : Option Process) (S : State) → SetProc p y ≡ resign s g (SetProc p x) →
-      released ds (write_one (SetProc p y) (with_signals s g S)) ≡ resigned_all s g (released ds (write_one (SetProc p x) S))
+      removals ds (write_one (SetProc p y) (with_signals s g S)) ≡ resigned_all s g (removals ds (write_one (SetProc p x) S))
   released_after ds p x y S e =
-      ap (λ (w : Write). released ds (write_one w (with_signals s g S))) e
-      ∙ ap (released ds) (write_resigned s g (SetProc p x) S)
+      ap (λ (w : Write). removals ds (write_one w (with_signals s g S))) e
+      ∙ ap (removals ds) (write_resigned s g (SetProc p x) S)
       ∙ released_unseen ds (write_one (SetProc p x) S)
       ∙ sym (released_kept ds (write_one (SetProc p x) S))
 
@@ -132,15 +133,15 @@ module _ (s : ℕ) (g : Signals) where
       by true = refl
       by false = refl
 
-  pub orphaned_resigned : (qs : List ℕ) (S : State) → orphaned qs (with_signals s g S) ≡ resigned_all s g (orphaned qs S)
-  unfolding orphaned
+  pub orphaned_resigned : (qs : List ℕ) (S : State) → orphan_writes qs (with_signals s g S) ≡ resigned_all s g (orphan_writes qs S)
+  unfolding orphan_writes
   orphaned_resigned [] S = refl
   orphaned_resigned (q ∷ qs) S = ap₂ (λ (w : Write) (ws : List Write). w ∷ ws) (edit_resigned s g (with_parent 1) orphan_viewed S q) (orphaned_resigned qs S)
 
   -- an ended process is left
-  pub ended_resigned : (p status : ℕ) (me : Process) → SetProc p (Some (ended status me)) ≡ resign s g (SetProc p (Some (ended status me)))
+  pub ended_resigned : (p status : ℕ) (me : Process) → SetProc p (Some (ended_process status me)) ≡ resign s g (SetProc p (Some (ended_process status me)))
   ended_resigned p status me = by (p == s)
     where
-      by : (b : Bool) → SetProc p (Some (ended status me)) ≡ SetProc p (if b then Some (ended status me) else Some (ended status me))
+      by : (b : Bool) → SetProc p (Some (ended_process status me)) ≡ SetProc p (if b then Some (ended_process status me) else Some (ended_process status me))
       by true = refl
       by false = refl

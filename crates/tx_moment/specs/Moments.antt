@@ -1,7 +1,7 @@
 -- What a commit is that may count as one moment. Own rules.
 use Rattle.std.specs.Prelude.{◌≡◌, ◌≤◌, ℕ, true, List, ◌∷◌, ◌++◌}
 use Rattle.tx_base.specs.declared.steps.Accepted.{Accepted}
-use Rattle.tx_model.specs.State.{State, booted}
+use Rattle.tx_model.specs.State.{State, boot_state}
 use Rattle.tx_model.specs.Membership.{Commits}
 use Rattle.tx_model.specs.History.{Starters, role_in, table_of, without}
 use Rattle.tx_model.specs.Answer.{Lawful, Agreement}
@@ -31,7 +31,7 @@ HasMoments start history = (later : List Accepted) (last : Accepted) (earlier : 
 
 -- it is so of every lawful history from a booted state
 abbrev pub BootedHistoriesHaveMoments : Type 0
-BootedHistoriesHaveMoments = (width count : ℕ) → 1 ≤ count → count ≤ width → (history : List Accepted) → Lawful (booted width count) history → HasMoments (booted width count) history
+BootedHistoriesHaveMoments = (width count : ℕ) → 1 ≤ count → count ≤ width → (history : List Accepted) → Lawful (boot_state width count) history → HasMoments (boot_state width count) history
 
 -- the steps of a transaction and the others are the steps of the history, each in their order
 abbrev pub PartsAreShuffled : Type 0

@@ -3,7 +3,7 @@ use Rattle.std.specs.Prelude.{◌≡◌, ◌<◌, ℕ, true, false, List, [], �
 use Rattle.tx_base.specs.declared.errors.Errno.TheVariants.{BadAddress, InvalidArgument}
 use Rattle.tx_model.specs.Book.{with_memory}
 use Rattle.tx_model.specs.Forms.{Caller, Outcome, Rule, changes, fails}
-use Rattle.tx_model.specs.Memory.{Memory, below, is_mapped, is_good, loaded, bytes_at}
+use Rattle.tx_model.specs.Memory.{Memory, below, is_mapped, is_good, loaded_byte, bytes_at}
 use Rattle.tx_pages.specs.declared.errors.PageError.{PageError}
 use Rattle.tx_pages.specs.declared.errors.PageError.TheVariants.{Invalid, Fault, NoMemory}
 use Rattle.tx_pages.specs.declared.plans.NewPage.{NewPage}
@@ -24,8 +24,8 @@ Remembers (Err NoMemory) memory rule c = IsChange (rule c)
 
 -- the byte at an address
 abbrev pub Loads : Memory → ℤ → Result ℕ PageError → Type 0
-Loads memory address (Ok byte) = loaded memory (below 1024 address) ≡ Some byte
-Loads memory address (Err Fault) = loaded memory (below 1024 address) ≡ None
+Loads memory address (Ok byte) = loaded_byte memory (below 1024 address) ≡ Some byte
+Loads memory address (Err Fault) = loaded_byte memory (below 1024 address) ≡ None
 Loads memory address (Err NoMemory) = ⊥
 Loads memory address (Err Invalid) = ⊥
 

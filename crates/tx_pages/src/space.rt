@@ -4,7 +4,8 @@ ghost use Rattle.std.specs.Option.{option_copied};
 ghost use Rattle.std.specs.Prelude.{◌≡◌, ◌≢◌, ◌<◌, ◌≤◌, ◌+◌, ◌/◌, IfOk, IfErr, OnErr, length, slice_set};
 ghost use Rattle.tx_model.specs.Book.{map, unmap, protect, store};
 ghost use Rattle.tx_model.specs.Forms.{Caller};
-ghost use Rattle.tx_model.specs.Memory.{no_memory, page_at, all_good, loaded, bytes_from, put_bytes, is_good, byte_or_zero};
+ghost use Rattle.tx_model.specs.Memory.{no_memory, page_at, all_good, loaded_byte, bytes_from, put_bytes, is_good};
+ghost use Rattle.tx_model.specs.Words.{byte_or_zero};
 ghost use Rattle.tx_pages.specs.Access.{test_of};
 ghost use Rattle.tx_pages.specs.Frames.{written};
 ghost use Rattle.tx_pages.specs.Outcomes.{Remembers, Loads, Takes, with_new, with_all_new, with_pages, AreNumbered};
@@ -384,7 +385,7 @@ impl Space {
     /// The byte at an address, 0 where its page is not mapped.
     fn byte_at(&self, address: usize) -> u8
         requires { address < 1024 }
-        ensures { result ≡ byte_or_zero (loaded self.now (Some address)) }
+        ensures { result ≡ byte_or_zero (loaded_byte self.now (Some address)) }
     {
         match &self.pages[address / PAGE_BYTES] {
             Some(page) => page.bytes()[address % PAGE_BYTES],

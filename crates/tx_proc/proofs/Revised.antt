@@ -3,22 +3,12 @@ use Rattle.std.proofs.Common.{◌≡◌, Option, Some, None, option_map, ap, ref
 use Rattle.tx_proc.specs.Parts.{edited_once}
 use Rattle.tx_proc.specs.Processes.{process_of, process_in, revised}
 use Rattle.tx_proc.specs.declared.part.Part.{Part}
-use Rattle.tx_proc.specs.declared.part.Part.TheVariants.{Answer, Register, Parent, Status, Cred, Page, Descriptor, Mask, Action, Pending, Queued, Frame}
+use Rattle.tx_proc.specs.declared.part.Part.TheVariants.{Answer}
 use Rattle.tx_proc.specs.declared.proc.Proc.{Proc}
 
 pub revised_of : (proc : Proc) (part : Part) → process_of (edited_once proc part) ≡ revised part (process_of proc)
 revised_of proc (Answer answer) = refl
-revised_of proc (Register kept) = refl
-revised_of proc (Parent parent) = refl
-revised_of proc (Status status) = refl
-revised_of proc (Cred cred) = refl
-revised_of proc (Page number page) = refl
-revised_of proc (Descriptor number name) = refl
-revised_of proc (Mask mask) = refl
-revised_of proc (Action signo action) = refl
-revised_of proc (Pending set) = refl
-revised_of proc (Queued place entry) = refl
-revised_of proc (Frame frame) = refl
+revised_of proc part = refl
 
 pub revised_in : (slot : Option Proc) (part : Part) → process_in (option_map (λ proc. edited_once proc part) slot) ≡ option_map (λ me. revised part me) (process_in slot)
 revised_in None part = refl

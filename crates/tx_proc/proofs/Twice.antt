@@ -16,7 +16,7 @@ use Rattle.tx_proc.proofs.Names.{desc_same, number_back}
 use Rattle.tx_proc.specs.Laws.{is_same_part, IsSized}
 use Rattle.tx_proc.specs.Parts.{edited_once, part_of, desc_in, queue_swapped, queue_given, frames_swapped, frame_given, HasPlace}
 use Rattle.tx_proc.specs.declared.part.Part.{Part}
-use Rattle.tx_proc.specs.declared.part.Part.TheVariants.{Answer, Register, Parent, Status, Cred, Page, Descriptor, Mask, Action, Pending, Queued, Frame}
+use Rattle.tx_proc.specs.declared.part.Part.TheVariants.{Answer, Register, Page, Descriptor, Action, Queued, Frame}
 use Rattle.tx_proc.specs.declared.proc.Proc.{Proc}
 use Rattle.tx_signal.specs.Entries.{entry_swapped}
 
@@ -134,62 +134,28 @@ part_twice proc part sized below = refl
 pub nothing_else : (proc : Proc) (part other : Part) → is_same_part part other ≡ false → part_of (edited_once proc part) other ≡ part_of proc other
 nothing_else proc (Page number page) (Page k new) apart =
     ap (Page k) (get_or-set_other proc.space number k page None (λ same. eqb-false number k apart (sym same)))
-nothing_else proc (Page number page) other apart = refl
 nothing_else proc (Descriptor number name) (Descriptor k new) apart =
     ap (λ (x : Option ℕ). Descriptor k (desc_in x)) (get_or-set_other proc.descriptors number k (number_in name) None (λ same. eqb-false number k apart (sym same)))
-nothing_else proc (Descriptor number name) other apart = refl
 nothing_else proc (Action signo action) (Action k new) apart =
     ap (Action k) (get_or-set_other proc.actions signo.0 k.0 action new (λ same. eqb-false signo.0 k.0 apart (sym same)))
-nothing_else proc (Action signo action) other apart = refl
-nothing_else proc (Answer answer) (Answer new) apart = cc
-nothing_else proc (Answer answer) other apart = refl
 nothing_else proc (Register kept) (Register new) apart =
     ap (λ (v : ℤ). Register (record new { value = v })) (get_or-set_other proc.regs.slots kept.number new.number kept.value new.value (λ same. eqb-false kept.number new.number apart (sym same)))
-nothing_else proc (Register kept) other apart = refl
-nothing_else proc (Parent parent) (Parent new) apart = cc
-nothing_else proc (Parent parent) other apart = refl
-nothing_else proc (Status status) (Status new) apart = cc
-nothing_else proc (Status status) other apart = refl
-nothing_else proc (Cred cred) (Cred new) apart = cc
-nothing_else proc (Cred cred) other apart = refl
-nothing_else proc (Mask mask) (Mask new) apart = cc
-nothing_else proc (Mask mask) other apart = refl
-nothing_else proc (Pending set) (Pending new) apart = cc
-nothing_else proc (Pending set) other apart = refl
-nothing_else proc (Queued place entry) (Queued other new) apart = cc
-nothing_else proc (Queued place entry) other apart = refl
-nothing_else proc (Frame frame) (Frame new) apart = cc
-nothing_else proc (Frame frame) other apart = refl
+-- two others are the same, or have nothing of one another
+nothing_else proc part (Answer new) apart = cc
+nothing_else proc part other apart = cc
 
 pub commute : (proc : Proc) (part other : Part) → is_same_part part other ≡ false → edited_once (edited_once proc part) other ≡ edited_once (edited_once proc other) part
 commute proc (Page number page) (Page k new) apart =
     ap (λ (space : List (Option PageView)). record proc { space = space }) (set_comm proc.space number k page new (eqb-false number k apart))
-commute proc (Page number page) other apart = refl
 commute proc (Descriptor number name) (Descriptor k new) apart =
     ap (λ (descriptors : List (Option ℕ)). record proc { descriptors = descriptors }) (set_comm proc.descriptors number k (number_in name) (number_in new) (eqb-false number k apart))
-commute proc (Descriptor number name) other apart = refl
 commute proc (Action signo action) (Action k new) apart =
     ap (λ (actions : List Act). record proc { actions = actions }) (set_comm proc.actions signo.0 k.0 action new (eqb-false signo.0 k.0 apart))
-commute proc (Action signo action) other apart = refl
-commute proc (Answer answer) (Answer new) apart = cc
-commute proc (Answer answer) other apart = refl
 commute proc (Register kept) (Register new) apart =
     ap (λ (slots : List ℤ). record proc { regs = record proc.regs { slots = slots } }) (set_comm proc.regs.slots kept.number new.number kept.value new.value (eqb-false kept.number new.number apart))
-commute proc (Register kept) other apart = refl
-commute proc (Parent parent) (Parent new) apart = cc
-commute proc (Parent parent) other apart = refl
-commute proc (Status status) (Status new) apart = cc
-commute proc (Status status) other apart = refl
-commute proc (Cred cred) (Cred new) apart = cc
-commute proc (Cred cred) other apart = refl
-commute proc (Mask mask) (Mask new) apart = cc
-commute proc (Mask mask) other apart = refl
-commute proc (Pending set) (Pending new) apart = cc
-commute proc (Pending set) other apart = refl
-commute proc (Queued place entry) (Queued other new) apart = cc
-commute proc (Queued place entry) other apart = refl
-commute proc (Frame frame) (Frame new) apart = cc
-commute proc (Frame frame) other apart = refl
+-- two others are the same, or have nothing of one another
+commute proc part (Answer new) apart = cc
+commute proc part other apart = cc
 
 -- an exchanged part has the same number
 pub place_of_part : (proc : Proc) (part : Part) → HasPlace part → HasPlace (part_of proc part)
@@ -200,14 +166,6 @@ place_of_part proc part place = tt
 
 -- a process still has a place for each number
 pub still_sized : (proc : Proc) (part : Part) → IsSized proc → IsSized (edited_once proc part)
-still_sized proc (Answer answer) sized = record { slots = sized.slots; pages = sized.pages; descriptors = sized.descriptors; actions = sized.actions }
-still_sized proc (Parent parent) sized = record { slots = sized.slots; pages = sized.pages; descriptors = sized.descriptors; actions = sized.actions }
-still_sized proc (Status status) sized = record { slots = sized.slots; pages = sized.pages; descriptors = sized.descriptors; actions = sized.actions }
-still_sized proc (Cred cred) sized = record { slots = sized.slots; pages = sized.pages; descriptors = sized.descriptors; actions = sized.actions }
-still_sized proc (Mask mask) sized = record { slots = sized.slots; pages = sized.pages; descriptors = sized.descriptors; actions = sized.actions }
-still_sized proc (Pending set) sized = record { slots = sized.slots; pages = sized.pages; descriptors = sized.descriptors; actions = sized.actions }
-still_sized proc (Queued place entry) sized = record { slots = sized.slots; pages = sized.pages; descriptors = sized.descriptors; actions = sized.actions }
-still_sized proc (Frame frame) sized = record { slots = sized.slots; pages = sized.pages; descriptors = sized.descriptors; actions = sized.actions }
 still_sized proc (Register kept) sized =
     record { slots = length-set proc.regs.slots kept.number kept.value ∙ sized.slots; pages = sized.pages; descriptors = sized.descriptors; actions = sized.actions }
 still_sized proc (Page number page) sized =
@@ -216,3 +174,4 @@ still_sized proc (Descriptor number name) sized =
     record { slots = sized.slots; pages = sized.pages; descriptors = length-set proc.descriptors number (number_in name) ∙ sized.descriptors; actions = sized.actions }
 still_sized proc (Action signo action) sized =
     record { slots = sized.slots; pages = sized.pages; descriptors = sized.descriptors; actions = length-set proc.actions signo.0 action ∙ sized.actions }
+still_sized proc part sized = record { slots = sized.slots; pages = sized.pages; descriptors = sized.descriptors; actions = sized.actions }

@@ -5,7 +5,7 @@ use Rattle.tx_base.specs.declared.names.DescNo.{DescNo}
 use Rattle.tx_base.specs.declared.limits.TheConstants.{QUEUED, FRAMES}
 use Rattle.tx_desc.specs.Places.{number_in}
 use Rattle.tx_model.specs.Memory.{page_at}
-use Rattle.tx_model.specs.Signals.{newest}
+use Rattle.tx_model.specs.Signals.{newest_frame}
 use Rattle.tx_model.specs.State.{Queued as Entry, Frame as Saved}
 use Rattle.tx_proc.specs.declared.part.Part.{Part}
 use Rattle.tx_proc.specs.declared.part.Part.TheVariants.{Answer, Register, Parent, Status, Cred, Page, Descriptor, Mask, Action, Pending, Queued, Frame}
@@ -29,7 +29,7 @@ frames_swapped (Some frame) frames = if nat_lt (length frames) FRAMES then frame
 
 -- the frame that was taken out, or none where one was put in
 abbrev pub frame_given : Option Saved → List Saved → Option Saved
-frame_given None frames = if nat_lt FRAMES (length frames) then None else newest frames
+frame_given None frames = if nat_lt FRAMES (length frames) then None else newest_frame frames
 frame_given (Some frame) frames = if nat_lt (length frames) FRAMES then None else Some frame
 
 -- the description of a number, as the code names it

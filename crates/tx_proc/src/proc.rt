@@ -31,7 +31,7 @@ pub struct Proc {
 
 impl Proc {
     ghost use Rattle.tx_proc.specs.Processes.{process_of};
-    ghost use Rattle.tx_model.specs.Processes.{child_of, ended};
+    ghost use Rattle.tx_model.specs.Processes.{child_of, ended_process};
 
     /// A process as it is at the start: it runs at point 0 with all ids 0, and has nothing else.
     /// Process 1 has no parent, and is the parent of the others. Own rule.
@@ -87,7 +87,7 @@ impl Proc {
     /// What is left of the process once it has ended with this status: its parent, its ids and the
     /// status (POSIX.1-2017, XSH, _exit()).
     pub fn ended(&self, status: u16) -> Proc
-        ensures { process_of result ≡ ended status (process_of self.now) }
+        ensures { process_of result ≡ ended_process status (process_of self.now) }
     {
         Proc {
             parent: self.parent,

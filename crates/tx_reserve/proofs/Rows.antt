@@ -10,23 +10,24 @@ use Rattle.tx_change.specs.declared.parts.Parts.{Parts}
 use Rattle.tx_kernel.proofs.Childless.{no_children}
 use Rattle.tx_kernel.specs.Plans.{sending_of}
 use Rattle.tx_model.specs.Footprints.{commit_row_of, is_for_later, send_row, target_row, told_for_later}
-use Rattle.tx_model.specs.Descriptors.{desc_objects, desc_pipe_objects, descriptor, dup2_objects, listed, named, open_in, other_than, pipe_list, pipe_of, pipes_of}
+use Rattle.tx_model.specs.Descriptors.{desc_objects, desc_pipe_objects, descriptor, option_list, description_named, open_in, other_than, pipe_of, pipes_of}
+use Rattle.tx_model.specs.Words.{dup2_objects, pipe_list, numbered_objects}
 use Rattle.tx_model.specs.History.{is_other_starter, targets}
 use Rattle.tx_model.specs.Membership.{Table, inside_by}
-use Rattle.tx_model.specs.Processes.{children_below, children_of, numbered_objects, procs_of}
-use Rattle.tx_model.specs.State.{Process, State, Sending, Object, Proc, Desc, Pipe, has, has_parent, same_object}
+use Rattle.tx_model.specs.Processes.{children_below, children_of, procs_of}
+use Rattle.tx_model.specs.State.{Process, State, Sending, Object, Proc, Desc, Pipe, has_object, has_parent, same_object}
 use Rattle.tx_proc.specs.Children.{child_count}
 use Rattle.tx_reserve.specs.Footprints.{Adds, GoesBy, IsSetOf}
 use Rattle.tx_reserve.specs.Objects.{is_in, is_small}
 use Rattle.tx_reserve.specs.declared.objects.Objects.{Objects}
 use Rattle.tx_reserve.proofs.Members.{in_small, own_test}
 
-pub has-append : (o : Object) (xs ys : List Object) → has o (xs ++ ys) ≡ (if has o xs then true else has o ys)
-unfolding has
+pub has-append : (o : Object) (xs ys : List Object) → has_object o (xs ++ ys) ≡ (if has_object o xs then true else has_object o ys)
+unfolding has_object
 has-append o [] ys = refl
 has-append o (x ∷ xs) ys = by (has-append o xs ys) (same_object o x)
   where
-    by : has o (xs ++ ys) ≡ (if has o xs then true else has o ys) → (b : Bool) → (if b then true else has o (xs ++ ys)) ≡ (if (if b then true else has o xs) then true else has o ys)
+    by : has_object o (xs ++ ys) ≡ (if has_object o xs then true else has_object o ys) → (b : Bool) → (if b then true else has_object o (xs ++ ys)) ≡ (if (if b then true else has_object o xs) then true else has_object o ys)
     by rest true = refl
     by rest false = rest
 
@@ -46,11 +47,11 @@ one_test false true small = refl
 one_test false false small = refl
 
 pub adds_none : (set : Objects) → Adds set set []
-unfolding has
+unfolding has_object
 adds_none set = record { each = λ o. none_test (is_in set o) (is_small o) }
 
 pub adds_one : (before after : Objects) (x : Object) → ((o : Object) → is_in after o ≡ (if same_object o x then is_small o else is_in before o)) → Adds before after (x ∷ [])
-unfolding has
+unfolding has_object
 adds_one before after x put = record {
   each = λ o. put o ∙ by o (same_object o x);
 }
@@ -61,8 +62,8 @@ adds_one before after x put = record {
 
 pub adds_both : {before between after : Objects} (xs ys : List Object) → Adds before between xs → Adds between after ys → Adds before after (xs ++ ys)
 adds_both {before} {between} {after} xs ys first second = record {
-  each = λ o. second.each o ∙ ap (λ (t : Bool). if t then true else (if is_small o then has o ys else false)) (first.each o)
-      ∙ both_test (is_in before o) (is_small o) (has o xs) (has o ys)
+  each = λ o. second.each o ∙ ap (λ (t : Bool). if t then true else (if is_small o then has_object o ys else false)) (first.each o)
+      ∙ both_test (is_in before o) (is_small o) (has_object o xs) (has_object o ys)
       ∙ ap (λ (t : Bool). if is_in before o then true else (if is_small o then t else false)) (sym (has-append o xs ys));
 }
 
@@ -95,16 +96,16 @@ swap_test false true false d = refl
 swap_test false false c d = refl
 
 -- the descriptions and pipes of two lists of descriptions are those of both
-pub has_two : (o : Object) (xs ys : List ℕ) (S : State) → has o (desc_pipe_objects (xs ++ ys) S) ≡ (if has o (desc_pipe_objects xs S) then true else has o (desc_pipe_objects ys S))
+pub has_two : (o : Object) (xs ys : List ℕ) (S : State) → has_object o (desc_pipe_objects (xs ++ ys) S) ≡ (if has_object o (desc_pipe_objects xs S) then true else has_object o (desc_pipe_objects ys S))
 has_two o xs ys S =
     has-append o (desc_objects (xs ++ ys)) (pipe_list (pipes_of (xs ++ ys) S))
-    ∙ ap₂ (λ (s t : Bool). if s then true else t) (ap (has o) (descs-append xs ys) ∙ has-append o (desc_objects xs) (desc_objects ys))
-    (ap (λ (ks : List ℕ). has o (pipe_list ks)) (pipes_of-append xs ys S) ∙ ap (has o) (pipes-append (pipes_of xs S) (pipes_of ys S)) ∙ has-append o (pipe_list (pipes_of xs S)) (pipe_list (pipes_of ys S)))
-    ∙ swap_test (has o (desc_objects xs)) (has o (desc_objects ys)) (has o (pipe_list (pipes_of xs S))) (has o (pipe_list (pipes_of ys S)))
+    ∙ ap₂ (λ (s t : Bool). if s then true else t) (ap (has_object o) (descs-append xs ys) ∙ has-append o (desc_objects xs) (desc_objects ys))
+    (ap (λ (ks : List ℕ). has_object o (pipe_list ks)) (pipes_of-append xs ys S) ∙ ap (has_object o) (pipes-append (pipes_of xs S) (pipes_of ys S)) ∙ has-append o (pipe_list (pipes_of xs S)) (pipe_list (pipes_of ys S)))
+    ∙ swap_test (has_object o (desc_objects xs)) (has_object o (desc_objects ys)) (has_object o (pipe_list (pipes_of xs S))) (has_object o (pipe_list (pipes_of ys S)))
     ∙ ap₂ (λ (s t : Bool). if s then true else t) (sym (has-append o (desc_objects xs) (pipe_list (pipes_of xs S)))) (sym (has-append o (desc_objects ys) (pipe_list (pipes_of ys S))))
 
 -- what has the same objects is added as well
-pub adds_alike : {before after : Objects} (xs ys : List Object) → ((o : Object) → has o xs ≡ has o ys) → Adds before after xs → Adds before after ys
+pub adds_alike : {before after : Objects} (xs ys : List Object) → ((o : Object) → has_object o xs ≡ has_object o ys) → Adds before after xs → Adds before after ys
 adds_alike {before} {after} xs ys alike adds = record {
   each = λ o. adds.each o ∙ ap (λ (t : Bool). if is_in before o then true else (if is_small o then t else false)) (alike o);
 }
@@ -152,7 +153,7 @@ last_test false false = refl
 -- one more process number, of a child or not
 pub children_more : {before between after : Objects} (p q next : ℕ) (S : State) → next ≡ suc q → Adds before between (procs_of (children_below p q S))
     → Adds between after (if has_parent p (S.procs q) then Proc q ∷ [] else []) → Adds before after (procs_of (children_below p next S))
-unfolding children_below has
+unfolding children_below has_object
 children_more {before} {between} {after} p q next S is first second =
     let below = procs_of (children_below p q S) in
     adds_same (procs_of (children_below p (suc q) S)) (procs_of (children_below p next S)) (ap (λ (n : ℕ). procs_of (children_below p n S)) (sym is))
@@ -160,10 +161,10 @@ children_more {before} {between} {after} p q next S is first second =
     (λ o. has-append o below (if has_parent p (S.procs q) then Proc q ∷ [] else []) ∙ by o (has_parent p (S.procs q)))
     (adds_both below (if has_parent p (S.procs q) then Proc q ∷ [] else []) first second))
   where
-    by : (o : Object) (b : Bool) → (if has o (procs_of (children_below p q S)) then true else has o (if b then Proc q ∷ [] else []))
-        ≡ has o (procs_of (if b then q ∷ children_below p q S else children_below p q S))
-    by o true = last_test (has o (procs_of (children_below p q S))) (same_object o (Proc q))
-    by o false = own_test (has o (procs_of (children_below p q S)))
+    by : (o : Object) (b : Bool) → (if has_object o (procs_of (children_below p q S)) then true else has_object o (if b then Proc q ∷ [] else []))
+        ≡ has_object o (procs_of (if b then q ∷ children_below p q S else children_below p q S))
+    by o true = last_test (has_object o (procs_of (children_below p q S))) (same_object o (Proc q))
+    by o false = own_test (has_object o (procs_of (children_below p q S)))
 
 -- a choice of rows
 pub adds_unless : {before after : Objects} (b : Bool) (xs : List Object) → b ≡ false → Adds before after xs → Adds before after (if b then [] else xs)
@@ -201,18 +202,18 @@ pub desc_alone : {before after : Objects} (S : State) (d : ℕ) → pipe_of (S.d
 unfolding pipes_of
 desc_alone {before} {after} S d is adds = adds_same (Desc d ∷ []) (desc_pipe_objects (d ∷ []) S) (ap (λ (ks : List ℕ). Desc d ∷ pipe_list (ks ++ [])) (sym is)) adds
 
-open_one : (x : Option ℕ) → listed x ≡ open_in (x ∷ [])
+open_one : (x : Option ℕ) → option_list x ≡ open_in (x ∷ [])
 unfolding open_in
 open_one None = refl
 open_one (Some d) = refl
 
 -- one more descriptor of a process, and all of them
 pub one_more : {before between after : Objects} (descriptors : List (Option ℕ)) (i : ℕ) (x : Option ℕ) → i < length descriptors → x ≡ get_or descriptors i None
-    → Adds before between (desc_objects (open_in (take i descriptors))) → Adds between after (desc_objects (listed x)) → Adds before after (desc_objects (open_in (take (i + 1) descriptors)))
+    → Adds before between (desc_objects (open_in (take i descriptors))) → Adds between after (desc_objects (option_list x)) → Adds before after (desc_objects (open_in (take (i + 1) descriptors)))
 one_more {before} {between} {after} descriptors i x within is first second =
     adds_same (desc_objects (open_in (take i descriptors ++ x ∷ []))) (desc_objects (open_in (take (i + 1) descriptors)))
     (ap (λ (y : Option ℕ). desc_objects (open_in (take i descriptors ++ y ∷ []))) is ∙ ap (λ (ds : List (Option ℕ)). desc_objects (open_in ds)) (sym (take_more descriptors i None within)))
-    (adds_named (take i descriptors) x first (adds_same (desc_objects (listed x)) (desc_objects (open_in (x ∷ []))) (ap desc_objects (open_one x)) second))
+    (adds_named (take i descriptors) x first (adds_same (desc_objects (option_list x)) (desc_objects (open_in (x ∷ []))) (ap desc_objects (open_one x)) second))
 
 pub all_open : {before after : Objects} (descriptors : List (Option ℕ)) (i : ℕ) → length descriptors ≤ i → Adds before after (desc_objects (open_in (take i descriptors)))
     → Adds before after (desc_objects (open_in descriptors))
@@ -220,13 +221,13 @@ all_open {before} {after} descriptors i past adds =
     adds_same (desc_objects (open_in (take i descriptors))) (desc_objects (open_in descriptors)) (ap (λ (ds : List (Option ℕ)). desc_objects (open_in ds)) (take_all i descriptors past)) adds
 
 pub one_more_pipe : {before between after : Objects} (descriptors : List (Option ℕ)) (i : ℕ) (x : Option ℕ) (S : State) → i < length descriptors → x ≡ get_or descriptors i None
-    → Adds before between (desc_pipe_objects (open_in (take i descriptors)) S) → Adds between after (desc_pipe_objects (listed x) S)
+    → Adds before between (desc_pipe_objects (open_in (take i descriptors)) S) → Adds between after (desc_pipe_objects (option_list x) S)
     → Adds before after (desc_pipe_objects (open_in (take (i + 1) descriptors)) S)
 one_more_pipe {before} {between} {after} descriptors i x S within is first second =
     adds_same (desc_pipe_objects (open_in (take i descriptors ++ x ∷ [])) S) (desc_pipe_objects (open_in (take (i + 1) descriptors)) S)
     (ap (λ (y : Option ℕ). desc_pipe_objects (open_in (take i descriptors ++ y ∷ [])) S) is
     ∙ ap (λ (ds : List (Option ℕ)). desc_pipe_objects (open_in ds) S) (sym (take_more descriptors i None within)))
-    (adds_open (take i descriptors) x S first (adds_same (desc_pipe_objects (listed x) S) (desc_pipe_objects (open_in (x ∷ [])) S) (ap (λ (ds : List ℕ). desc_pipe_objects ds S) (open_one x)) second))
+    (adds_open (take i descriptors) x S first (adds_same (desc_pipe_objects (option_list x) S) (desc_pipe_objects (open_in (x ∷ [])) S) (ap (λ (ds : List ℕ). desc_pipe_objects ds S) (open_one x)) second))
 
 pub all_open_pipes : {before after : Objects} (descriptors : List (Option ℕ)) (i : ℕ) (S : State) → length descriptors ≤ i → Adds before after (desc_pipe_objects (open_in (take i descriptors)) S)
     → Adds before after (desc_pipe_objects (open_in descriptors) S)
@@ -306,16 +307,16 @@ other_same : (f : Option ℕ) (me : Process) → [] ≡ other_than f f me
 other_same None me = refl
 other_same (Some f) me = rw (eq-eqb f f refl) refl
 
-pub dup2_same : {before after : Objects} (f g : ℤ) (me : Process) (S : State) → f ≡ g → Adds before after (desc_objects (listed (named me (descriptor f))))
+pub dup2_same : {before after : Objects} (f g : ℤ) (me : Process) (S : State) → f ≡ g → Adds before after (desc_objects (option_list (description_named me (descriptor f))))
     → Adds before after (dup2_objects (descriptor f) (descriptor g) me S)
 unfolding pipes_of
 dup2_same {before} {after} f g me S is adds =
-    let front = desc_objects (listed (named me (descriptor f))) in
+    let front = desc_objects (option_list (description_named me (descriptor f))) in
     adds_same (front ++ []) (dup2_objects (descriptor f) (descriptor g) me S)
     (ap (λ (ds : List ℕ). front ++ desc_pipe_objects ds S) (other_same (descriptor f) me) ∙ ap (λ (x : ℤ). front ++ desc_pipe_objects (other_than (descriptor f) (descriptor x) me) S) is)
     (adds_both front [] adds (adds_none after))
 
-other_by : (f g : Option ℕ) (me : Process) → ((n : ℕ) → f ≡ Some n → g ≡ Some n → ⊥) → listed (named me g) ≡ other_than f g me
+other_by : (f g : Option ℕ) (me : Process) → ((n : ℕ) → f ≡ Some n → g ≡ Some n → ⊥) → option_list (description_named me g) ≡ other_than f g me
 other_by None g me differ = refl
 other_by (Some f) None me differ = refl
 other_by (Some f) (Some g) me differ = rw (ne_eqb f g (λ e. differ f refl (ap Some (sym e)))) refl
@@ -327,11 +328,11 @@ named_by (pos m) n e = elim (cases_Bool (nat_lt m 16)) [
 ]
 named_by (negsuc m) n e = cc
 
-pub dup2_other : {before between after : Objects} (f g : ℤ) (me : Process) (S : State) → (f ≡ g → ⊥) → Adds before between (desc_objects (listed (named me (descriptor f))))
-    → Adds between after (desc_pipe_objects (listed (named me (descriptor g))) S) → Adds before after (dup2_objects (descriptor f) (descriptor g) me S)
+pub dup2_other : {before between after : Objects} (f g : ℤ) (me : Process) (S : State) → (f ≡ g → ⊥) → Adds before between (desc_objects (option_list (description_named me (descriptor f))))
+    → Adds between after (desc_pipe_objects (option_list (description_named me (descriptor g))) S) → Adds before after (dup2_objects (descriptor f) (descriptor g) me S)
 dup2_other {before} {between} {after} f g me S differ first second =
-    adds_both (desc_objects (listed (named me (descriptor f)))) (desc_pipe_objects (other_than (descriptor f) (descriptor g) me) S) first
-    (adds_same (desc_pipe_objects (listed (named me (descriptor g))) S) (desc_pipe_objects (other_than (descriptor f) (descriptor g) me) S)
+    adds_both (desc_objects (option_list (description_named me (descriptor f)))) (desc_pipe_objects (other_than (descriptor f) (descriptor g) me) S) first
+    (adds_same (desc_pipe_objects (option_list (description_named me (descriptor g))) S) (desc_pipe_objects (other_than (descriptor f) (descriptor g) me) S)
     (ap (λ (ds : List ℕ). desc_pipe_objects ds S) (other_by (descriptor f) (descriptor g) me (λ n x y. differ (named_by f n x ∙ sym (named_by g n y))))) second)
 
 pub waits_one : {before after : Objects} (n : Option ℕ) (k : ℕ) → Some k ≡ n → Adds before after (Proc k ∷ []) → Adds before after (numbered_objects n)

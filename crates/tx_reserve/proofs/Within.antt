@@ -9,29 +9,30 @@ use Rattle.tx_base.specs.declared.steps.Call.{Call}
 use Rattle.tx_base.specs.declared.steps.Call.TheVariants as call
 use Rattle.tx_base.specs.declared.steps.Step.TheVariants.{Call as Calls, Deliver, KernelAbort}
 use Rattle.tx_laws.specs.WellFormed.{IsFirst, IsHeldSending, IsWellFormed}
-use Rattle.tx_model.specs.Answer.{chosen_in, is_bad_choice, is_running}
+use Rattle.tx_model.specs.Answer.{is_bad_choice, is_running}
+use Rattle.tx_model.specs.Words.{chosen_in, pipe_list, numbered_objects}
 use Rattle.tx_model.specs.Deliveries.{delivered_value, ends_by, first_value, is_blocked}
-use Rattle.tx_model.specs.Descriptors.{desc_objects, desc_pipe_objects, descriptor, listed, named, open_in, other_than, pipe_list, pipe_of, pipes_of}
+use Rattle.tx_model.specs.Descriptors.{desc_objects, desc_pipe_objects, descriptor, option_list, description_named, open_in, other_than, pipe_of, pipes_of}
 use Rattle.tx_model.specs.Effects.{Inside}
 use Rattle.tx_model.specs.Footprints.{call_row, call_row_at, commit_row_of, delivery_row, delivery_row_at, ending_row, footprint, is_for_later, send_row, target_row, told_for_later}
 use Rattle.tx_model.specs.History.{is_other_starter, targets}
 use Rattle.tx_model.specs.Membership.{Table, inside_by, others_open}
-use Rattle.tx_model.specs.Processes.{children_below, children_of, numbered, procs_of, numbered_objects, told_to}
+use Rattle.tx_model.specs.Processes.{children_below, children_of, pid_of, procs_of, child_notice}
 use Rattle.tx_model.specs.Book.{sendable}
-use Rattle.tx_model.specs.State.{Description, Object, is_number, Proc, Desc, Pipe, Held, Process, Queued, Sending, State, has, has_parent, is_between, names_at, same_object}
+use Rattle.tx_model.specs.State.{Description, Object, is_number, Proc, Desc, Pipe, Held, Process, Queued, Sending, State, has_object, has_parent, is_between, names_at, same_object}
 use Rattle.tx_reserve.specs.Laws.{FootprintIsWithin, WithinIsSmall, is_within}
 use Rattle.tx_reserve.proofs.Members.{no_bit, same_is}
 use Rattle.tx_reserve.proofs.Rows.{has-append, has_two}
 
 record Within (width : ℕ) (xs : List Object) : Type 0 where
-  pub each : (o : Object) → has o xs ≡ true → is_within width o ≡ true
+  pub each : (o : Object) → has_object o xs ≡ true → is_within width o ≡ true
 
 none : (width : ℕ) → Within width []
-unfolding has
+unfolding has_object
 none width = record { each = λ o there. absurd (both_ways false refl there) }
 
 one : (width : ℕ) (x : Object) → is_within width x ≡ true → Within width (x ∷ [])
-unfolding has
+unfolding has_object
 one width x inside = record {
   each = λ o there. elim (cases_Bool (same_object o x)) [
     | inl e ↦ ap (is_within width) (same_is o x e) ∙ inside
@@ -39,9 +40,9 @@ one width x inside = record {
   ];
 }
 
-either : (width : ℕ) (xs ys zs : List Object) → ((o : Object) → has o zs ≡ (if has o xs then true else has o ys)) → Within width xs → Within width ys → Within width zs
+either : (width : ℕ) (xs ys zs : List Object) → ((o : Object) → has_object o zs ≡ (if has_object o xs then true else has_object o ys)) → Within width xs → Within width ys → Within width zs
 either width xs ys zs split first second = record {
-  each = λ o there. elim (cases_Bool (has o xs)) [
+  each = λ o there. elim (cases_Bool (has_object o xs)) [
     | inl e ↦ first.each o e
     | inr e ↦ second.each o (rw e at (sym (split o) ∙ there))
   ];
@@ -103,23 +104,23 @@ names_in S p me formed there runs = record {
     by f d None runs e = rw e (eq-eqb d d refl)
     by f d (Some status) runs e = absurd (both_ways false refl runs)
 
-listed_within : (S : State) (n : Option ℕ) → ((d : ℕ) → n ≡ Some d → DescIn S d) → Within S.width (desc_pipe_objects (listed n) S)
+listed_within : (S : State) (n : Option ℕ) → ((d : ℕ) → n ≡ Some d → DescIn S d) → Within S.width (desc_pipe_objects (option_list n) S)
 unfolding pipes_of
 listed_within S None each = none S.width
 listed_within S (Some d) each = desc_within S d (each d refl)
 
-named_in : (S : State) (me : Process) → Names S me → (f : Option ℕ) (d : ℕ) → named me f ≡ Some d → DescIn S d
+named_in : (S : State) (me : Process) → Names S me → (f : Option ℕ) (d : ℕ) → description_named me f ≡ Some d → DescIn S d
 named_in S me names None d e = absurd (nothing d e)
   where
     nothing : (d : ℕ) → None ≡ Some d → ⊥
     nothing d e = cc
 named_in S me names (Some f) d e = names.each f d e
 
-fd_within : (S : State) (me : Process) → Names S me → (f : Option ℕ) → Within S.width (desc_pipe_objects (listed (named me f)) S)
-fd_within S me names f = listed_within S (named me f) (named_in S me names f)
+fd_within : (S : State) (me : Process) → Names S me → (f : Option ℕ) → Within S.width (desc_pipe_objects (option_list (description_named me f)) S)
+fd_within S me names f = listed_within S (description_named me f) (named_in S me names f)
 
-fd_desc_within : (S : State) (me : Process) → Names S me → (f : Option ℕ) → Within S.width (desc_objects (listed (named me f)))
-fd_desc_within S me names f = front (desc_objects (listed (named me f))) (pipe_list (pipes_of (listed (named me f)) S)) (fd_within S me names f)
+fd_desc_within : (S : State) (me : Process) → Names S me → (f : Option ℕ) → Within S.width (desc_objects (option_list (description_named me f)))
+fd_desc_within S me names f = front (desc_objects (option_list (description_named me f))) (pipe_list (pipes_of (option_list (description_named me f)) S)) (fd_within S me names f)
 
 other_within : (S : State) (me : Process) → Names S me → (f g : Option ℕ) → Within S.width (desc_pipe_objects (other_than f g me) S)
 unfolding pipes_of
@@ -127,7 +128,7 @@ other_within S me names None g = fd_within S me names g
 other_within S me names (Some f) None = none S.width
 other_within S me names (Some f) (Some g) = by (f == g)
   where
-    by : (b : Bool) → Within S.width (desc_pipe_objects (if b then [] else listed (named me (Some g))) S)
+    by : (b : Bool) → Within S.width (desc_pipe_objects (if b then [] else option_list (description_named me (Some g))) S)
     by true = none S.width
     by false = fd_within S me names (Some g)
 
@@ -157,7 +158,7 @@ children_within S p (suc q) formed = by (has_parent p (S.procs q)) refl (childre
     by true e rest = both (Proc q ∷ []) (procs_of (children_below p q S)) (one S.width (Proc q) (child_within S p q formed e)) rest
     by false e rest = rest
 
-numbered_within : (width : ℕ) (n : ℤ) (t : ℕ) → numbered width n ≡ Some t → is_between width t ≡ true
+numbered_within : (width : ℕ) (n : ℤ) (t : ℕ) → pid_of width n ≡ Some t → is_between width t ≡ true
 numbered_within width (pos n) t e = by (is_between width n) refl e
   where
     by : (b : Bool) → is_between width n ≡ b → (if b then Some n else None) ≡ Some t → is_between width t ≡ true
@@ -212,7 +213,7 @@ commit_within t p (Some m) more S formed inside =
 told_within : (t : Table) (p parent width : ℕ) → is_between width parent ≡ true → TargetsWithin width (told_for_later t p parent)
 told_within t p parent width inside = by (parent == 1) (is_for_later (inside_by t (t.marks p)) parent)
   where
-    by : (b c : Bool) → TargetsWithin width (if b then [] else (if c then told_to parent ∷ [] else []))
+    by : (b c : Bool) → TargetsWithin width (if b then [] else (if c then child_notice parent ∷ [] else []))
     by true c = tt
     by false true = (inside, tt)
     by false false = tt
@@ -246,21 +247,21 @@ call_within t p (call.Fork child) me S formed there names good =
     (front (desc_objects (open_in me.descriptors)) (pipe_list (pipes_of (open_in me.descriptors) S)) (open_within S me.descriptors names.each))
 call_within t p (call.Exit status) me S formed there names good =
     unless (p == 1) (ending_row t p me S) (λ e. ending_within t p me S formed names (parent_within S p me formed there (eqb-false p 1 e)))
-call_within t p (call.Waitpid n nohang) me S formed there names good = waits_within S.width (numbered S.width n) (numbered_within S.width n)
+call_within t p (call.Waitpid n nohang) me S formed there names good = waits_within S.width (pid_of S.width n) (numbered_within S.width n)
 call_within t p (call.Pipe q r w) me S formed there names good =
     let numbers = pipe_numbers q.0 r.0 w.0 good in
     both (Pipe q.0 ∷ []) (Desc r.0 ∷ Desc w.0 ∷ []) (one S.width (Pipe q.0) numbers.0)
     (both (Desc r.0 ∷ []) (Desc w.0 ∷ []) (one S.width (Desc r.0) numbers.1) (one S.width (Desc w.0) numbers.2))
 call_within t p (call.Dup f) me S formed there names good = fd_desc_within S me names (descriptor f)
 call_within t p (call.Dup2 f g) me S formed there names good =
-    both (desc_objects (listed (named me (descriptor f)))) (desc_pipe_objects (other_than (descriptor f) (descriptor g) me) S) (fd_desc_within S me names (descriptor f))
+    both (desc_objects (option_list (description_named me (descriptor f)))) (desc_pipe_objects (other_than (descriptor f) (descriptor g) me) S) (fd_desc_within S me names (descriptor f))
     (other_within S me names (descriptor f) (descriptor g))
 call_within t p (call.Close f) me S formed there names good = fd_within S me names (descriptor f)
 call_within t p (call.SetNonblock f on) me S formed there names good = fd_desc_within S me names (descriptor f)
 call_within t p (call.Read f address n) me S formed there names good = fd_within S me names (descriptor f)
 call_within t p (call.Write f address n) me S formed there names good = fd_within S me names (descriptor f)
-call_within t p (call.Kill n signo) me S formed there names good = send_within t p S.width (numbered S.width n) (sendable signo) (numbered_within S.width n)
-call_within t p (call.Sigqueue n signo value) me S formed there names good = send_within t p S.width (numbered S.width n) (sendable signo) (numbered_within S.width n)
+call_within t p (call.Kill n signo) me S formed there names good = send_within t p S.width (pid_of S.width n) (sendable signo) (numbered_within S.width n)
+call_within t p (call.Sigqueue n signo value) me S formed there names good = send_within t p S.width (pid_of S.width n) (sendable signo) (numbered_within S.width n)
 call_within t p call.SysXend me S formed there names good = commit_within t p (t.marks p) [] S formed tt
 call_within t p c me S formed there names good = none S.width
 

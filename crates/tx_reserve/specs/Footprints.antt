@@ -8,7 +8,7 @@ use Rattle.tx_kernel.specs.Actors.{inside_of}
 use Rattle.tx_kernel.specs.Plans.{sending_of}
 use Rattle.tx_kernel.specs.declared.actor.Actor.{Actor}
 use Rattle.tx_model.specs.Membership.{Table, inside_by, others_open}
-use Rattle.tx_model.specs.State.{Object, Sending as TheSending, has}
+use Rattle.tx_model.specs.State.{Object, Sending as TheSending, has_object}
 use Rattle.tx_reserve.specs.Objects.{is_in, is_small}
 use Rattle.tx_reserve.specs.declared.objects.Objects.{Objects}
 
@@ -36,8 +36,8 @@ GoesWith actor marks last held = GoesBy (table_at actor marks) actor.pid.0 (slot
 
 -- the set has these objects, those of numbers that there may not be left out
 pub record IsSetOf (objects : Objects) (these : List Object) : Type 0 where
-  pub each : (o : Object) → is_in objects o ≡ (if is_small o then has o these else false)
+  pub each : (o : Object) → is_in objects o ≡ (if is_small o then has_object o these else false)
 
 -- these objects were put into the set
 pub record Adds (before after : Objects) (these : List Object) : Type 0 where
-  pub each : (o : Object) → is_in after o ≡ (if is_in before o then true else (if is_small o then has o these else false))
+  pub each : (o : Object) → is_in after o ≡ (if is_in before o then true else (if is_small o then has_object o these else false))

@@ -2,11 +2,12 @@
 use Rattle.std.specs.Prelude.{◌≡◌, ◌≤◌, ℕ, Bool, true, false, List, Option, length, nat_lt}
 use Rattle.tx_base.specs.declared.steps.Step.{Step}
 use Rattle.tx_laws.specs.WellFormed.{IsWellFormed}
-use Rattle.tx_model.specs.Answer.{has_bad_number, is_running}
+use Rattle.tx_model.specs.Answer.{is_running}
+use Rattle.tx_model.specs.Words.{has_bad_number}
 use Rattle.tx_model.specs.Events.{process_of}
 use Rattle.tx_model.specs.Footprints.{footprint}
 use Rattle.tx_model.specs.Membership.{Table}
-use Rattle.tx_model.specs.State.{Object, Proc, Desc, Pipe, Held, State, has, is_between}
+use Rattle.tx_model.specs.State.{Object, Proc, Desc, Pipe, Held, State, has_object, is_between}
 use Rattle.tx_base.specs.declared.names.Pid.{Pid}
 use Rattle.tx_reserve.specs.Objects.{is_small}
 use Rattle.tx_reserve.specs.Reservations.{owner_of}
@@ -23,7 +24,7 @@ is_within width (Held s) = false
 abbrev pub FootprintIsWithin : Type 0
 FootprintIsWithin =
     (t : Table) (step : Step) (S : State) (o : Object) → IsWellFormed S → is_running (S.procs (process_of step)) ≡ true → has_bad_number S.width step ≡ false
-    → has o (footprint t step S) ≡ true → is_within S.width o ≡ true
+    → has_object o (footprint t step S) ≡ true → is_within S.width o ≡ true
 
 -- such an object is one that a set may have, where there are at most 256 process numbers
 abbrev pub WithinIsSmall : Type 0

@@ -7,11 +7,12 @@ ghost use Rattle.tx_change.specs.States.{state_of};
 ghost use Rattle.tx_desc.specs.Places.{number_in};
 ghost use Rattle.tx_kernel.specs.Actors.{IsActor, inside_of, me_of};
 ghost use Rattle.tx_kernel.specs.Plans.{sending_of};
-ghost use Rattle.tx_model.specs.Descriptors.{desc_objects, desc_pipe_objects, descriptor, dup2_objects, listed, named, open_in, pipe_objects};
+ghost use Rattle.tx_model.specs.Descriptors.{desc_objects, desc_pipe_objects, descriptor, option_list, description_named, open_in};
+ghost use Rattle.tx_model.specs.Words.{dup2_objects, pipe_objects, fork_objects, waitpid_objects};
 ghost use Rattle.tx_model.specs.Footprints.{call_row, commit_row, delivery_row, ending_row, footprint, is_for_later, send_row, target_row, told_for_later};
 ghost use Rattle.tx_model.specs.History.{is_other_starter, targets};
 ghost use Rattle.tx_model.specs.Membership.{is_of};
-ghost use Rattle.tx_model.specs.Processes.{children_of, fork_objects, numbered, procs_of, waitpid_objects};
+ghost use Rattle.tx_model.specs.Processes.{children_of, pid_of, procs_of};
 ghost use Rattle.tx_model.specs.Book.{sendable};
 ghost use Rattle.tx_model.specs.State.{Object as TheObject, Proc, Sending as TheSending, has_parent};
 ghost use Rattle.tx_reserve.specs.Footprints.{Adds, GoesWith, IsInside, IsSetOf, table_at};
@@ -169,7 +170,7 @@ fn add_dup2(actor: &Actor, fd: i64, other: i64, set: &mut Objects)
 fn add_send(actor: &Actor, marks: &Slots<Mark>, target: i64, signo: i64, set: &mut Objects)
     requires actor { IsActor actor.now }
     requires inside { IsInside actor.now marks.now }
-    ensures { Adds set.old set.new (send_row (table_at actor.now marks.now) actor.now.pid.0 (numbered (length actor.now.parts.now.procs) target) (sendable signo)) }
+    ensures { Adds set.old set.new (send_row (table_at actor.now marks.now) actor.now.pid.0 (pid_of (length actor.now.parts.now.procs) target) (sendable signo)) }
 {
     let Some(target) = actor.numbered(target) else {
         return;
@@ -255,14 +256,14 @@ fn add_sends(actor: &Actor, marks: &Slots<Mark>, sends: &[Sending], set: &mut Ob
 
 /// The description that a descriptor of the process names, of a number that a program computed.
 fn description(actor: &Actor, fd: i64) -> Option<DescNo>
-    ensures { number_in result ≡ named (me_of actor.now) (descriptor fd) }
+    ensures { number_in result ≡ description_named (me_of actor.now) (descriptor fd) }
 {
     actor.proc.descriptors.look(fd).ok()
 }
 
 /// Puts a description, if there is one, into a set.
 fn add_desc(number: Option<DescNo>, set: &mut Objects)
-    ensures { Adds set.old set.new (desc_objects (listed (number_in number))) }
+    ensures { Adds set.old set.new (desc_objects (option_list (number_in number))) }
 {
     if let Some(number) = number {
         set.insert(Object::Desc(number));
@@ -271,7 +272,7 @@ fn add_desc(number: Option<DescNo>, set: &mut Objects)
 
 /// Puts a description, if there is one, and its pipe into a set.
 fn add_desc_and_pipe(actor: &Actor, number: Option<DescNo>, set: &mut Objects)
-    ensures { (held : ℕ → List TheSending) → Adds set.old set.new (desc_pipe_objects (listed (number_in number)) (state_of held actor.now.parts.now)) }
+    ensures { (held : ℕ → List TheSending) → Adds set.old set.new (desc_pipe_objects (option_list (number_in number)) (state_of held actor.now.parts.now)) }
 {
     let Some(number) = number else {
         return;

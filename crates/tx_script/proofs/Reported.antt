@@ -11,7 +11,7 @@ use Rattle.tx_live.specs.Content.{view_of}
 use Rattle.tx_core.specs.Runs.{IsAfter}
 use Rattle.tx_live.specs.declared.content.Content.{Content}
 use Rattle.tx_model.specs.Answer.{answer, IsAccepted, Lawful}
-use Rattle.tx_model.specs.Schedules.{recorded, answers_of, history_of}
+use Rattle.tx_model.specs.Schedules.{history_with, answers_of, history_of}
 use Rattle.tx_model.specs.State.{State}
 use Rattle.tx_model.specs.View.{View, view}
 use Rattle.tx_script.specs.Report.{line_text, lines_text}
@@ -27,17 +27,17 @@ pub record RepliesSoFar (start : State) (earlier : List Accepted) (steps : List 
 -- one step more
 pub one_reply_more : (start : State) (earlier : List Accepted) (steps : List Step) (before : List ℕ) (old new : Content) (text more : List ℕ) (number : ℕ) (step : Step) (left : List Step) (reply : Reply)
     → RepliesSoFar start earlier steps before old text number (step ∷ left) → reply ≡ answer (view_of old) step
-    → ((history : List Accepted) → IsAfter start history old → IsAfter start (recorded history step reply) new)
+    → ((history : List Accepted) → IsAfter start history old → IsAfter start (history_with history step reply) new)
     → more ≡ text ++ line_text number reply → RepliesSoFar start earlier steps before new more (number + 1) left
 unfolding history_of answers_of
 one_reply_more start earlier steps before old new text more number step left reply so replied made put =
     let h : List Accepted = so.history in
     let same : answer (view start h) step ≡ reply = sym (replied ∙ ap (λ (V : View). answer V step) so.after.view) in
-    let rest : Reply → List ℕ = λ r. lines_text (number + 1) (answers_of start (recorded h step r) left) in
+    let rest : Reply → List ℕ = λ r. lines_text (number + 1) (answers_of start (history_with h step r) left) in
     record {
-      history = recorded h step reply;
+      history = history_with h step reply;
       after = made h so.after;
-      leads = so.leads ∙ ap (λ (r : Reply). history_of start (recorded h step r) left) same;
+      leads = so.leads ∙ ap (λ (r : Reply). history_of start (history_with h step r) left) same;
       lines = so.lines
           ∙ ap (λ (r : Reply). text ++ (line_text number r ++ rest r)) same
           ∙ sym (append_assoc text (line_text number reply) (rest reply))
@@ -65,7 +65,7 @@ unless_accepted reply (Some inverse) yields refused = absurd (refused (yields re
 
 -- the machine after a step: where it was accepted its entry is the last, and where it was refused nothing has changed
 pub after_reply : {A : Type 0} (start : State) (earlier : List Accepted) (step : Step) (reply : Reply) (made : Option A) (old new : Content) → IsAfter start earlier old → (IsSome made → IsAccepted reply) → (IsNone made → new ≡ old)
-    → (IsAccepted reply → Lawful start (record { step = step; reply = reply } ∷ earlier) × (view_of new ≡ view start (record { step = step; reply = reply } ∷ earlier))) → IsAfter start (recorded earlier step reply) new
+    → (IsAccepted reply → Lawful start (record { step = step; reply = reply } ∷ earlier) × (view_of new ≡ view start (record { step = step; reply = reply } ∷ earlier))) → IsAfter start (history_with earlier step reply) new
 after_reply start earlier step (No why) made old new so yields same along = subst (IsAfter start earlier) (sym (same (unless_accepted (No why) made yields (λ accepted. accepted)))) so
 after_reply start earlier step (Done ret) made old new so yields same along = record { lawful = (along tt).0; view = (along tt).1 }
 after_reply start earlier step Ended made old new so yields same along = record { lawful = (along tt).0; view = (along tt).1 }

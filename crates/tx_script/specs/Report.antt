@@ -4,7 +4,7 @@ use Rattle.std.specs.Fmt.{decimal}
 use Rattle.tx_base.specs.declared.steps.Reply.{Reply}
 use Rattle.tx_base.specs.declared.steps.Step.{Step}
 use Rattle.tx_model.specs.Schedules.{answers_of, history_of}
-use Rattle.tx_model.specs.State.{State, booted}
+use Rattle.tx_model.specs.State.{State, boot_state}
 use Rattle.tx_model.specs.View.{View, view}
 use Rattle.tx_lines.specs.declared.read.header.Header.{Header}
 use Rattle.tx_lines.specs.Lines.{most_of}
@@ -13,7 +13,7 @@ use Rattle.tx_text.specs.State.{state_text}
 
 -- the state at the start
 abbrev pub start_state : Header → State
-start_state header = booted (most_of header.version) header.count
+start_state header = boot_state (most_of header.version) header.count
 
 -- the view at the start
 abbrev pub start_of : Header → View

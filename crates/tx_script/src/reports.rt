@@ -4,7 +4,7 @@ ghost use Rattle.tx_base.specs.declared.steps.Accepted.{Accepted};
 ghost use Rattle.tx_live.specs.Content.{view_of};
 ghost use Rattle.tx_core.specs.Runs.{IsAfter};
 ghost use Rattle.tx_model.specs.Answer.{answer};
-ghost use Rattle.tx_model.specs.Schedules.{recorded, answers_of, history_of};
+ghost use Rattle.tx_model.specs.Schedules.{history_with, answers_of, history_of};
 ghost use Rattle.tx_model.specs.State.{State};
 ghost use Rattle.tx_lines.specs.Lines.{FitsHeader};
 ghost use Rattle.tx_script.specs.Report.{line_text, lines_text, report_text, start_of};
@@ -75,7 +75,7 @@ fn make_step(
 ) -> Result<(), Fault>
     ensures answer { OnOk result (reply.new ≡ answer (view_of machine.old) step.now) }
     ensures after { OnOk result ((start : State) (earlier : List Accepted) → IsAfter start earlier machine.old →
-        IsAfter start (recorded earlier step.now reply.new) machine.new) }
+        IsAfter start (history_with earlier step.now reply.new) machine.new) }
     ensures fault { IfErr result (λ fault. fault ≡ NoMemory) }
 {
     let inverse = machine.step_into(alloc, step, reply);

@@ -4,7 +4,7 @@ ghost use Rattle.tx_journal.specs.Entries.{history_of};
 ghost use Rattle.tx_journal.specs.Moved.{moved_at};
 ghost use Rattle.tx_journal.specs.Sessions.{position_of, start_of, IsAtEnd, SameBoot, SameJournal};
 ghost use Rattle.tx_model.specs.Answer.{answer};
-ghost use Rattle.tx_model.specs.Schedules.{recorded, history_of as history_after};
+ghost use Rattle.tx_model.specs.Schedules.{history_with, history_of as history_after};
 ghost use Rattle.tx_model.specs.View.{view};
 ghost use Rattle.tx_script.specs.Debug.{answers_at, command_answer, moved_text, position_after, position_text, told_text, view_at, walk_answers};
 ghost use Rattle.tx_lines.specs.Lines.{FitsHeader};
@@ -68,7 +68,7 @@ fn make_steps(alloc: Global, session: &mut Session, steps: &[Step]) -> Result<()
 /// Makes a step at the end of the journal.
 fn make_step(alloc: Global, session: &mut Session, step: &Step) -> Result<(), Fault>
     requires { IsAtEnd session.old }
-    ensures history { OnOk result (history_of session.new.entries ≡ recorded (history_of session.old.entries) step.now (answer (view (start_of session.old) (history_of session.old.entries)) step.now)) }
+    ensures history { OnOk result (history_of session.new.entries ≡ history_with (history_of session.old.entries) step.now (answer (view (start_of session.old) (history_of session.old.entries)) step.now)) }
     ensures boot { SameBoot session.new session.old }
     ensures at_end { IsAtEnd session.new }
     ensures fault { IfErr result (λ fault. fault ≡ NoMemory) }

@@ -9,7 +9,7 @@ use Rattle.std.specs.Int.Bits.{or_zero_r}
 use borrow.Author.Tests.{ltb-true, ltb-false}
 use Rattle.std.proofs.lemmas.Option.{slice_get-get_or, slice_get_past}
 use Rattle.std.proofs.lemmas.Nat.Bits.{same_from_bits, bit_at_or}
-use Rattle.tx_model.specs.Deliveries.{first_value, less_first, has_lower, is_blocked, relieved}
+use Rattle.tx_model.specs.Deliveries.{first_value, without_first, has_lower, is_blocked, without_delivered}
 use Rattle.tx_model.specs.SignalSets.{is_in_set, is_realtime}
 use Rattle.tx_model.specs.Signals.{queued_signals, queued_others}
 use Rattle.tx_model.specs.State.{Process, Queued}
@@ -26,8 +26,8 @@ remove_step true entry entries rest n same = refl
 remove_step false entry entries rest n same = rw (one-add n) (ap (λ (xs : List Queued). entry ∷ xs) same)
 
 -- without the first entry of the signal, or as it is where there is none
-remove-first : (signo : ℕ) (queue : List Queued) → remove queue (position_or_len (is_of signo) queue) ≡ less_first signo queue
-unfolding less_first
+remove-first : (signo : ℕ) (queue : List Queued) → remove queue (position_or_len (is_of signo) queue) ≡ without_first signo queue
+unfolding without_first
 remove-first signo [] = refl
 remove-first signo (entry ∷ entries) = remove_step (is_of signo entry) entry entries _ _ (remove-first signo entries)
 
@@ -47,12 +47,12 @@ first_of signo [] = refl
 first_of signo (entry ∷ entries) = first_step (is_of signo entry) signo entry entries _ _ refl (first_of signo entries)
 
 -- at the place of the first entry, if there is one
-swapped_when : (signo place : ℕ) (queue : List Queued) (b : Bool) → nat_lt place (length queue) ≡ b → remove queue place ≡ less_first signo queue
-    → IfSome (cond b (Some place) None) (λ place. entry_swapped place None queue ≡ less_first signo queue)
+swapped_when : (signo place : ℕ) (queue : List Queued) (b : Bool) → nat_lt place (length queue) ≡ b → remove queue place ≡ without_first signo queue
+    → IfSome (cond b (Some place) None) (λ place. entry_swapped place None queue ≡ without_first signo queue)
 swapped_when signo place queue true there same = rw there same
 swapped_when signo place queue false there same = tt
 
-pub place-swapped : (signo : ℕ) (queue : List Queued) → IfSome (place_of signo queue) (λ place. entry_swapped place None queue ≡ less_first signo queue)
+pub place-swapped : (signo : ℕ) (queue : List Queued) → IfSome (place_of signo queue) (λ place. entry_swapped place None queue ≡ without_first signo queue)
 place-swapped signo queue = swapped_when signo _ queue _ refl (remove-first signo queue)
 
 none_when : (signo place : ℕ) (queue : List Queued) (value : Option ℤ) (b : Bool) → nat_lt place (length queue) ≡ b → IsFirst signo value (slice_get queue place) → IfNone (cond b (Some place) None) (value ≡ None)
@@ -65,11 +65,11 @@ place-none signo queue = none_when signo _ queue _ _ refl (first_of signo queue)
 remove_past : (queue : List Queued) (place : ℕ) → length queue ≤ place → queue ≡ remove queue place
 remove_past queue place past = grind (arith, common_steps)
 
-left_when : (signo place : ℕ) (queue : List Queued) (b : Bool) → nat_lt place (length queue) ≡ b → remove queue place ≡ less_first signo queue → IfNone (cond b (Some place) None) (queue ≡ less_first signo queue)
+left_when : (signo place : ℕ) (queue : List Queued) (b : Bool) → nat_lt place (length queue) ≡ b → remove queue place ≡ without_first signo queue → IfNone (cond b (Some place) None) (queue ≡ without_first signo queue)
 left_when signo place queue true there same = tt
 left_when signo place queue false there same = remove_past queue place (ltb-false place (length queue) there) ∙ same
 
-pub place-left : (signo : ℕ) (queue : List Queued) → IfNone (place_of signo queue) (queue ≡ less_first signo queue)
+pub place-left : (signo : ℕ) (queue : List Queued) → IfNone (place_of signo queue) (queue ≡ without_first signo queue)
 place-left signo queue = left_when signo _ queue _ refl (remove-first signo queue)
 
 some_first : (signo : ℕ) (value : Option ℤ) (found : Option Queued) → is_some found ≡ true → IsFirst signo value found → IsSomeAnd found (λ entry. (entry.signo ≡ signo) × (value ≡ Some entry.value))
@@ -141,23 +141,23 @@ blocked-realtime signo mask me realtime free same low lower = rw (same, free, re
 
 -- a standard signal that is not pending leaves nothing
 pub relieved-absent : (signo : ℕ) (view : PendingView) (me : Process) → is_realtime signo ≡ false → is_in_set view.standard signo ≡ false
-    → with_pending_part view me ≡ relieved signo (with_pending_part view me)
+    → with_pending_part view me ≡ without_delivered signo (with_pending_part view me)
 relieved-absent signo view me standard absent =
     rw standard (ap (λ (n : ℕ). record me { pending = n; queued = view.queued }) (without_one-absent view.standard signo absent))
 
 -- to take the first entry of the signal out leaves the other signals' entries
-others_step : (b : Bool) (signo : ℕ) (entry : Queued) (entries : List Queued) → eqb entry.signo signo ≡ b → queued_others signo (less_first signo entries) ≡ queued_others signo entries
-    → queued_others signo (cond b entries (entry ∷ less_first signo entries)) ≡ cond b (queued_others signo entries) (entry ∷ queued_others signo entries)
+others_step : (b : Bool) (signo : ℕ) (entry : Queued) (entries : List Queued) → eqb entry.signo signo ≡ b → queued_others signo (without_first signo entries) ≡ queued_others signo entries
+    → queued_others signo (cond b entries (entry ∷ without_first signo entries)) ≡ cond b (queued_others signo entries) (entry ∷ queued_others signo entries)
 others_step true signo entry entries is rest = refl
 others_step false signo entry entries is rest = rw is (ap (λ (xs : List Queued). entry ∷ xs) rest)
 
-others_less : (signo : ℕ) (queue : List Queued) → queued_others signo (less_first signo queue) ≡ queued_others signo queue
-unfolding less_first
+others_less : (signo : ℕ) (queue : List Queued) → queued_others signo (without_first signo queue) ≡ queued_others signo queue
+unfolding without_first
 others_less signo [] = refl
 others_less signo (entry ∷ entries) = others_step (eqb entry.signo signo) signo entry entries refl (others_less signo entries)
 
-less_when : (signo : ℕ) (queue : List Queued) (found : Option ℕ) (place : ℕ) → found ≡ Some place → IfSome found (λ place. entry_swapped place None queue ≡ less_first signo queue)
-    → entry_swapped place None queue ≡ less_first signo queue
+less_when : (signo : ℕ) (queue : List Queued) (found : Option ℕ) (place : ℕ) → found ≡ Some place → IfSome found (λ place. entry_swapped place None queue ≡ without_first signo queue)
+    → entry_swapped place None queue ≡ without_first signo queue
 less_when signo queue found place is same = rw is at same
 
 pub discard-one : (signo place : ℕ) (queue : List Queued) → place_of signo queue ≡ Some place → queued_others signo (entry_swapped place None queue) ≡ queued_others signo queue

@@ -4,7 +4,7 @@ use Rattle.std.specs.Int.{bit_at}
 use Rattle.std.proofs.lemmas.Nat.{and-not, and_comm, and_le_l}
 use Rattle.std.proofs.lemmas.Nat.Bits.{and_pow, bit_at-lt, bit_at_above}
 use Rattle.bitflags.specs.Sets.{without}
-use Rattle.tx_model.specs.SignalSets.{is_in_set, less, without_one, maskable}
+use Rattle.tx_model.specs.SignalSets.{is_in_set, set_difference, without_one, maskable}
 
 scaled : (b p : ℕ) → b < 2 → 0 < p → eqb (b * p) p ≡ eqb b 1
 scaled b p small positive = grind arith
@@ -22,7 +22,7 @@ pub not_in_set : (set signo : ℕ) → set < 2 ^ 64 → 64 ≤ signo → false �
 not_in_set set signo fits above = sym (ap (λ b. eqb b 1) (bit_at_above set 64 signo fits above))
 
 -- the bits that are left, as a difference
-pub without-less : (set other : ℕ) → set < 2 ^ 64 → other < 2 ^ 64 → without 64 set other ≡ less set other
+pub without-less : (set other : ℕ) → set < 2 ^ 64 → other < 2 ^ 64 → without 64 set other ≡ set_difference set other
 without-less set other fits others =
     let parts = and-not 64 other set others fits in
     let turned = and_comm set (2 ^ 64 - 1 - other) in

@@ -4,7 +4,7 @@ use Rattle.tx_base.specs.declared.errors.Errno.{Errno}
 use Rattle.tx_base.specs.declared.errors.Errno.TheVariants.{TryAgain}
 use Rattle.tx_base.specs.declared.signals.Action.{Action}
 use Rattle.tx_base.specs.declared.limits.TheConstants.{QUEUED}
-use Rattle.tx_model.specs.Numbers.{failing}
+use Rattle.tx_model.specs.Numbers.{error_answer}
 use Rattle.tx_model.specs.Posts.{is_realtime}
 use Rattle.tx_model.specs.State.{Process, Queued, Frame, Sender, Sending, booted_process}
 
@@ -50,4 +50,4 @@ post_result signo view =
 -- the answer of a call that gives nothing but an error
 abbrev pub answer_of : Result (Unit {0}) Errno → ℤ
 answer_of (Ok _) = pos 0
-answer_of (Err errno) = failing errno
+answer_of (Err errno) = error_answer errno

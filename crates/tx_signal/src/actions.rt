@@ -1,7 +1,8 @@
 //! What a process does about each signal.
 ghost use Rattle.std.specs.Prelude.{◌≡◌, length, replicate, slice_index_or, slice_set};
-ghost use Rattle.tx_model.specs.Deliveries.{action_at, is_fatal};
-ghost use Rattle.tx_model.specs.Signals.{is_bad_action, is_ignored, kept_action};
+ghost use Rattle.tx_model.specs.Deliveries.{action_at};
+ghost use Rattle.tx_model.specs.Words.{is_fatal, is_ignored};
+ghost use Rattle.tx_model.specs.Signals.{is_bad_action, maskable_action};
 ghost use Rattle.tx_model.specs.State.{Process};
 ghost use Rattle.tx_signal.specs.Parts.{with_actions};
 
@@ -59,7 +60,7 @@ impl Actions {
     /// Sets the action of a signal, as it is kept: its mask drops SIGKILL and the numbers that are
     /// not known. A number over 39 changes nothing. POSIX.1-2017, XSH, sigaction().
     pub fn set(&mut self, signo: Signo, action: Action)
-        ensures { self.new ≡ slice_set self.old signo.0 (kept_action action) }
+        ensures { self.new ≡ slice_set self.old signo.0 (maskable_action action) }
     {
         if (signo.0 as usize) < SIGNALS {
             self.actions[signo.0 as usize] = kept(action);
@@ -141,7 +142,7 @@ pub fn is_bad(action: Action) -> bool
 /// The action as it is kept: its mask holds neither SIGKILL nor a number that is not known. Own
 /// rule.
 pub fn kept(action: Action) -> Action
-    ensures { result ≡ kept_action action }
+    ensures { result ≡ maskable_action action }
 {
     match action {
         Action::Usual => Action::Usual,

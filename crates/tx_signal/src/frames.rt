@@ -1,8 +1,8 @@
 //! What caught signals saved.
 ghost use Rattle.std.specs.Bool.{OnTrue, OnFalse};
 ghost use Rattle.std.specs.Prelude.{◌≡◌, ◌<◌, ◌≤◌, ◌-◌, ◌↔◌, ◌++◌, ◌∷◌, [], IsTrue, length, slice_get, take};
-ghost use Rattle.tx_model.specs.Deliveries.{is_full};
-ghost use Rattle.tx_model.specs.Signals.{newest};
+ghost use Rattle.tx_model.specs.Words.{is_full};
+ghost use Rattle.tx_model.specs.Signals.{newest_frame};
 ghost use Rattle.tx_model.specs.State.{Process};
 ghost use Rattle.tx_signal.specs.Parts.{with_frames};
 ghost use Rattle.tx_base.specs.declared.limits.TheConstants.{FRAMES};
@@ -93,7 +93,7 @@ impl Frames {
 
     /// The newest, if there is one: what sigreturn goes back to. Own rule.
     pub fn newest(&self) -> Option<Frame>
-        ensures { result ≡ newest self.now }
+        ensures { result ≡ newest_frame self.now }
     {
         self.frames.as_slice().last().copied()
     }
@@ -125,7 +125,7 @@ impl Frames {
 
     /// Takes the newest one, if there is one. Own rule, of sigreturn.
     pub fn pop(&mut self) -> Option<Frame>
-        ensures newest { result ≡ newest self.old }
+        ensures newest { result ≡ newest_frame self.old }
         ensures rest { self.new ≡ take (length self.old - 1) self.old }
     {
         self.frames.pop()

@@ -3,9 +3,10 @@
 ghost use Rattle.std.specs.Prelude.{◌≡◌, ◌<◌, ◌≤◌, ℕ, ℤ, false, List, length, Option, None, Some, slice_index_or, slice_set};
 ghost use Rattle.tx_base.specs.declared.signals.Action.{Action};
 ghost use Rattle.tx_base.specs.declared.limits.TheConstants.{QUEUED};
-ghost use Rattle.tx_model.specs.Deliveries.{delivered_value, relieved};
-ghost use Rattle.tx_model.specs.Signals.{discarded, kept_action, queued_others, with_action};
-ghost use Rattle.tx_model.specs.Posts.{is_quiet, room_answer, with_queued};
+ghost use Rattle.tx_model.specs.Deliveries.{delivered_value, without_delivered};
+ghost use Rattle.tx_model.specs.Signals.{without_signal, maskable_action, queued_others, with_action};
+ghost use Rattle.tx_model.specs.Posts.{is_quiet, room_answer};
+ghost use Rattle.tx_model.specs.Words.{with_queued};
 ghost use Rattle.tx_model.specs.State.{Process, Queued, Sender};
 ghost use Rattle.tx_signal.specs.Entries.{entry_given, entry_swapped, place_of};
 ghost use Rattle.tx_signal.specs.Parts.{PendingView, alone, answer_of, pending_of, post_result, sending_of, with_actions, with_pending_part};
@@ -64,11 +65,11 @@ pub fn post_answers()
 /// process with the same pending: its other parts stay, and count for nothing but the mask.
 pub fn pending_suffices()
     ensures taken { (signo : ℕ) (view : PendingView) (me : Process) →
-        relieved signo (with_pending_part view me)
-        ≡ with_pending_part (pending_of (relieved signo (alone view))) me }
+        without_delivered signo (with_pending_part view me)
+        ≡ with_pending_part (pending_of (without_delivered signo (alone view))) me }
     ensures discarded { (signo : ℕ) (view : PendingView) (me : Process) →
-        discarded signo (with_pending_part view me)
-        ≡ with_pending_part (pending_of (discarded signo (alone view))) me }
+        without_signal signo (with_pending_part view me)
+        ≡ with_pending_part (pending_of (without_signal signo (alone view))) me }
     ensures delivered { (signo : ℕ) (view : PendingView) (me other : Process) →
         me.mask ≡ other.mask →
         delivered_value signo (with_pending_part view me)
@@ -79,7 +80,7 @@ pub fn pending_suffices()
 pub fn set_is_with_action()
     ensures { (signo : ℕ) (action : Action) (actions : List Action) (me : Process) →
         with_action signo action (with_actions actions me)
-        ≡ with_actions (slice_set actions signo (kept_action action)) me }
+        ≡ with_actions (slice_set actions signo (maskable_action action)) me }
 {}
 
 /// Every occurrence of a signal is discarded one after another: to take the first one out leaves the

@@ -2,9 +2,9 @@
 ghost use Rattle.std.specs.Prelude.{◌≡◌, ℕ, ◌<◌, ◌≤◌, ◌↔◌, ◌++◌, ◌∷◌, [], IsTrue, IfSome, IfNone, IsSomeAnd, OnErr, Some, None, Option, is_some, length};
 ghost use Rattle.std.specs.List.{list_any};
 ghost use Rattle.tx_base.specs.Signals.{bits_of};
-ghost use Rattle.tx_model.specs.Deliveries.{delivered_value, first_value, is_blocked, less_first, pending_value, relieved};
+ghost use Rattle.tx_model.specs.Deliveries.{delivered_value, first_value, is_blocked, without_first, pending_value, without_delivered};
 ghost use Rattle.tx_model.specs.Posts.{has_room, with_signal};
-ghost use Rattle.tx_model.specs.Signals.{discarded, pending_signals, queued_others, queued_signals};
+ghost use Rattle.tx_model.specs.Signals.{without_signal, pending_signals, queued_others, queued_signals};
 ghost use Rattle.tx_model.specs.State.{Process, Queued as Entry, Sender};
 ghost use Rattle.tx_signal.specs.Entries.{IsFirstOf, entry_given, entry_swapped, is_lower, place_of};
 ghost use Rattle.tx_signal.specs.Parts.{alone, pending_of, post_result, sending_of, with_pending_part, with_pending_under};
@@ -112,7 +112,7 @@ impl Pending {
     pub fn take(&mut self, signo: Signo) -> Option<i64>
         ensures value { (me : Process) →
             result ≡ pending_value signo.0 (with_pending_part self.old me) }
-        ensures taken { self.new ≡ pending_of (relieved signo.0 (alone self.old)) }
+        ensures taken { self.new ≡ pending_of (without_delivered signo.0 (alone self.old)) }
         ensures unchanged { IfNone result (self.new ≡ self.old) }
     {
         if is_realtime(signo) {
@@ -129,7 +129,7 @@ impl Pending {
     /// Discards every occurrence of the signal. POSIX.1-2017, XSH, Signal Actions, of an action
     /// that ignores it.
     pub fn discard(&mut self, signo: Signo)
-        ensures { self.new ≡ pending_of (discarded signo.0 (alone self.old)) }
+        ensures { self.new ≡ pending_of (without_signal signo.0 (alone self.old)) }
     {
         self.standard = without(self.standard, signo);
         self.queued = others(self.queued.as_slice(), signo);
@@ -191,12 +191,12 @@ impl Pending {
     pub fn place_of(&self, signo: Signo) -> Option<usize>
         ensures place { result ≡ place_of signo.0 self.now.queued }
         ensures first { IfSome result (λ place.
-            entry_swapped place None self.now.queued ≡ less_first signo.0 self.now.queued) }
+            entry_swapped place None self.now.queued ≡ without_first signo.0 self.now.queued) }
         ensures entry { IfSome result (λ place.
             IsSomeAnd (entry_given place None self.now.queued) (IsFirstOf signo.0 self.now.queued)) }
         ensures none { IfNone result (first_value signo.0 self.now.queued ≡ None) }
         ensures pending { is_some result ≡ is_some (first_value signo.0 self.now.queued) }
-        ensures left { IfNone result (self.now.queued ≡ less_first signo.0 self.now.queued) }
+        ensures left { IfNone result (self.now.queued ≡ without_first signo.0 self.now.queued) }
     {
         first_place(self.queued.as_slice(), signo)
     }

@@ -3,7 +3,7 @@ ghost use Rattle.std.specs.Prelude.{◌≡◌, ◌<◌, ◌≤◌, ◌^◌, IfSo
 ghost use Rattle.std.specs.Bool.{OnTrue};
 ghost use Rattle.tx_base.specs.Signals.{bits_of};
 ghost use Rattle.tx_model.specs.SignalSets.{is_in_set, is_known, is_realtime, maskable, with_one_more, without_one};
-ghost use Rattle.tx_model.specs.Signals.{known, masked};
+ghost use Rattle.tx_model.specs.Signals.{known_signal, changed_mask};
 ghost use Rattle.tx_signal.specs.Numbers.{number_of};
 
 use bitflags::Flags;
@@ -63,7 +63,7 @@ pub fn is_known(signo: Signo) -> bool
 
 /// The signal that a program computed, where there is such a one. Own rule.
 pub fn known(number: i64) -> Option<Signo>
-    ensures number { option_map number_of result ≡ known number }
+    ensures number { option_map number_of result ≡ known_signal number }
     ensures high { IfSome result (λ signo. signo.0 < 40) }
 {
     let signo = Signo(u8::try_from(number).ok()?);
@@ -80,7 +80,7 @@ pub fn maskable(set: SigSet) -> SigSet
 
 /// The mask as it is changed by the set. POSIX.1-2017, XSH, sigprocmask().
 pub fn masked(how: How, set: SigSet, mask: SigSet) -> SigSet
-    ensures { bits_of result ≡ maskable (masked how (bits_of set) (bits_of mask)) }
+    ensures { bits_of result ≡ maskable (changed_mask how (bits_of set) (bits_of mask)) }
 {
     maskable(match how {
         How::Block => mask.union(set),

@@ -4,7 +4,7 @@ use Rattle.tx_base.specs.Slots.{slot_at}
 use Rattle.tx_base.specs.declared.marks.Mark.{Mark}
 use Rattle.tx_step.proofs.MetObjects.{same_is}
 use Rattle.tx_step.proofs.Refusals.{between}
-use Rattle.tx_step.specs.Holder.{IsOfMember, starter_in}
+use Rattle.tx_step.specs.InWay.{IsOfMember, starter_in}
 use Rattle.tx_live.proofs.KeptPosted.{slot_there}
 use Rattle.tx_live.specs.Content.{now_of, IsShaped}
 use Rattle.tx_live.specs.Insides.{IsFootprint}
@@ -12,7 +12,7 @@ use Rattle.tx_live.specs.declared.content.Content.{Content}
 use Rattle.tx_model.specs.Events.{Note, effect, objects}
 use Rattle.tx_model.specs.History.{event_footprint, targets}
 use Rattle.tx_model.specs.Membership.{is_live, is_of}
-use Rattle.tx_model.specs.State.{Object, Proc, has, is_between, same_object}
+use Rattle.tx_model.specs.State.{Object, Proc, has_object, is_between, same_object}
 use Rattle.tx_reserve.specs.Footprints.{IsSetOf}
 use Rattle.tx_reserve.specs.Objects.{is_small}
 use Rattle.tx_reserve.specs.declared.objects.Objects.{Objects}
@@ -25,13 +25,13 @@ starter_there k s (Some m) at live shaped =
     let few : length k.marks ≤ 256 = subst (λ (w : ℕ). w ≤ 256) (sym shaped.marks) shaped.few in
     between 256 s bounds.0 (omega (arith, bounds.1, few))
 
-note_names : (k : Content) (s : ℕ) (r : ℤ) (o : Object) → has o (event_footprint (table_at k.marks) (Note s r) (now_of k)) ≡ (if same_object o (Proc s) then true else false)
-unfolding event_footprint objects effect targets has
+note_names : (k : Content) (s : ℕ) (r : ℤ) (o : Object) → has_object o (event_footprint (table_at k.marks) (Note s r) (now_of k)) ≡ (if same_object o (Proc s) then true else false)
+unfolding event_footprint objects effect targets has_object
 note_names k s r o = refl
 
 -- the set of the starter alone is what the note names
 pub note_footprint : (k : Content) (s : ℕ) (r : ℤ) (set : Objects) → IsShaped k → is_live (table_at k.marks) s ≡ true → IsSetOf set (Proc s ∷ []) → IsFootprint k (Note s r) set
-unfolding has
+unfolding has_object
 note_footprint k s r set shaped live is o shared = is.each o ∙ by (same_object o (Proc s)) refl ∙ sym (note_names k s r o)
   where
     none : (b : Bool) → (if b then false else false) ≡ false
@@ -48,7 +48,7 @@ starter_self s (Some m) h = ap Some (sym (eqb-true m.starter.0 s h))
 
 -- the starter is a member of its own transaction
 pub note_member : (k : Content) (s : ℕ) (r : ℤ) → is_live (table_at k.marks) s ≡ true → IsOfMember k (Some s) (Note s r)
-unfolding objects has
+unfolding objects has_object
 note_member k s r live = record { member = starter_self s (slot_at k.marks s) live; holds = λ u h. cc }
 
 -- the note sends nothing

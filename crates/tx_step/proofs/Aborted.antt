@@ -18,7 +18,8 @@ use Rattle.tx_live.specs.declared.content.Content.{Content}
 use Rattle.tx_live.specs.declared.inverse.Inverse.{Inverse}
 use Rattle.tx_model.specs.Answer.{answer}
 use Rattle.tx_model.specs.Events.{Note, process_of}
-use Rattle.tx_model.specs.Membership.{Kind, Ordinary, Forking, Beginning, Leaving, Aborting, Role, Outside, Within, Commits, Aborts, Table, called_by_status, event_in, is_live, is_of, kind_event, kind_of, kind_role, member_end_role, ordinary_role, others_open, says_ended}
+use Rattle.tx_model.specs.Membership.{Kind, Ordinary, Forking, Beginning, Leaving, Aborting, Role, Outside, Within, Commits, Aborts, Table, event_in, is_live, is_of, kind_event, others_open, says_ended}
+use Rattle.tx_model.specs.Words.{called_by_status, kind_of, kind_role, member_end_role, ordinary_role}
 use Rattle.tx_model.specs.Numbers.{negative}
 use Rattle.tx_model.specs.SignalSets.{is_in_set, kill_signo}
 use Rattle.tx_model.specs.View.{View, event_on, first_reply, is_doomed, kernel_status, role_on}

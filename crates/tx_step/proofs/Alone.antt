@@ -20,12 +20,13 @@ use Rattle.tx_live.specs.declared.inverse.Inverse.{Inverse}
 use Rattle.tx_model.specs.Answer.{answer, IsAccepted}
 use Rattle.tx_model.specs.Events.{Note, effect, objects, reply_of}
 use Rattle.tx_model.specs.History.{event_footprint, targets}
-use Rattle.tx_model.specs.Membership.{Kind, Ordinary, Forking, Beginning, Leaving, Aborting, Role, Outside, Within, Commits, Aborts, Begins, Continues, Parks, Forks, Table, event_in, is_live, is_of, kind_event, kind_of, kind_role, member_end_role, ordinary_role, others_open, says_ended}
+use Rattle.tx_model.specs.Membership.{Kind, Ordinary, Forking, Beginning, Leaving, Aborting, Role, Outside, Within, Commits, Aborts, Begins, Continues, Parks, Forks, Table, event_in, is_live, is_of, kind_event, others_open, says_ended}
+use Rattle.tx_model.specs.Words.{kind_of, kind_role, member_end_role, ordinary_role, is_blocking, IsClear}
 use Rattle.tx_model.specs.State.{Object, Proc, Desc, Pipe, Held}
-use Rattle.tx_model.specs.View.{View, blocks, event_on, first_reply, has_two_answers, in_way, meets, role_on, IsClear}
+use Rattle.tx_model.specs.View.{View, event_on, first_reply, has_two_answers, in_way, some_object, role_on}
 use Rattle.tx_reserve.specs.Reservations.{owner_of}
 use Rattle.tx_step.proofs.RefusedSteps.{refused_late}
-use Rattle.tx_step.proofs.Taken.{answered, fitting, process_asked, runs_seen, sound, stepped, touched_own}
+use Rattle.tx_step.proofs.Taken.{answered, fitting, process_asked, runs_seen, sound, stepped, reserved_own}
 use Rattle.tx_step.specs.Asks.{step_of}
 use Rattle.tx_step.specs.Laws.{StepLaws}
 use Rattle.tx_step.specs.Steps.{IsRefused, IsStep}
@@ -80,12 +81,12 @@ begun_told V pid (Delivery signo) s defers is =
     let told = kind_begins V.table pid.0 (Deliver pid signo) Ordinary (first_reply V (Deliver pid signo)) (V.table.marks pid.0) (ap begins is) in
     (told.0, ap (λ (r : Role). event_in r (kind_event V.table pid.0 (Deliver pid signo) Ordinary (V.table.marks pid.0))) is ∙ told.1)
 
--- who touched a process that is in no transaction is in the way of the note to it
-in_way_of_note : (V : View) (p t : ℕ) (r : ℤ) → is_live V.table t ≡ true → V.table.marks p ≡ None → V.touched t (Proc p) ≡ true → in_way V (Note p r) t ≡ true
-unfolding in_way event_footprint objects effect targets meets
-in_way_of_note V p t r live none touched =
-    (λ j. blocks (if live j then not (is_of t (none j)) else false) V (Note p r) t)
-    ∙ ap (λ (b : Bool). if (if b then true else false) then true else has_two_answers V (Note p r) t) touched
+-- who reserved a process that is in no transaction is in the way of the note to it
+in_way_of_note : (V : View) (p t : ℕ) (r : ℤ) → is_live V.table t ≡ true → V.table.marks p ≡ None → V.reserved t (Proc p) ≡ true → in_way V (Note p r) t ≡ true
+unfolding in_way event_footprint objects effect targets some_object
+in_way_of_note V p t r live none reserved =
+    (λ j. is_blocking (if live j then not (is_of t (none j)) else false) V (Note p r) t)
+    ∙ ap (λ (b : Bool). if (if b then true else false) then true else has_two_answers V (Note p r) t) reserved
 
 module _ (laws : StepLaws) (k : Content) (is : IsContent k) (pid : Pid) (asked : Asked) (defers : Bool) (through : IsLetThrough k pid asked (the.Begins defers)) where
   told : (slot_at k.marks pid.0 ≡ None) × (event_on (view_of k) (step_of pid asked) ≡ Note pid.0 (pos 0))
@@ -109,9 +110,9 @@ module _ (laws : StepLaws) (k : Content) (is : IsContent k) (pid : Pid) (asked :
   unfolding view_of parts_view
   owner_none None e = refl
   owner_none (Some t) e =
-      let touched : (view_of k).touched t (Proc pid.0) ≡ true = touched_own laws k is t (Proc pid.0) e in
-      let live : is_live (view_of k).table t ≡ true = (sound laws k is).owned_live t (Proc pid.0) touched in
-      absurd (both_ways (in_way (view_of k) (Note pid.0 (pos 0)) t) (clear t live) (in_way_of_note (view_of k) pid.0 t (pos 0) live told.0 touched))
+      let reserved : (view_of k).reserved t (Proc pid.0) ≡ true = reserved_own laws k is t (Proc pid.0) e in
+      let live : is_live (view_of k).table t ≡ true = (sound laws k is).owned_live t (Proc pid.0) reserved in
+      absurd (both_ways (in_way (view_of k) (Note pid.0 (pos 0)) t) (clear t live) (in_way_of_note (view_of k) pid.0 t (pos 0) live told.0 reserved))
 
   owns_none : (o : Object) → is_owner pid.0 (owner_at k o) ≡ false
   unfolding view_of parts_view

@@ -11,8 +11,9 @@ use Rattle.tx_live.specs.declared.content.Content.{Content}
 use Rattle.tx_model.specs.Events.{Event, Commit, actor, effect, objects}
 use Rattle.tx_model.specs.History.{event_footprint, targets}
 use Rattle.tx_model.specs.Membership.{is_of}
-use Rattle.tx_model.specs.State.{Object, Proc, Desc, Pipe, Held, State, has, same_object}
-use Rattle.tx_model.specs.View.{holder, present, IsClear}
+use Rattle.tx_model.specs.State.{Object, Proc, Desc, Pipe, Held, State, has_object, same_object}
+use Rattle.tx_model.specs.View.{starter_in_way, present}
+use Rattle.tx_model.specs.Words.{IsClear}
 use Rattle.tx_reserve.specs.Objects.{has_place, is_in, is_small, place_of}
 use Rattle.tx_reserve.specs.Reservations.{owner_of, unless}
 use Rattle.tx_reserve.specs.declared.objects.Objects.{Objects}
@@ -21,26 +22,26 @@ use Rattle.tx_txn.specs.Content.{two_parts_of}
 use Rattle.tx_txn.specs.Marks.{table_at}
 
 -- an object of a list is one of the list with more behind it
-pub has_before : (o : Object) (xs ys : List Object) → has o xs ≡ true → has o (xs ++ ys) ≡ true
-unfolding has
+pub has_before : (o : Object) (xs ys : List Object) → has_object o xs ≡ true → has_object o (xs ++ ys) ≡ true
+unfolding has_object
 has_before o [] ys h = cc
 has_before o (x ∷ xs) ys h = by (same_object o x) h (has_before o xs ys)
   where
-    by : (b : Bool) → (if b then true else has o xs) ≡ true → (has o xs ≡ true → has o (xs ++ ys) ≡ true) → (if b then true else has o (xs ++ ys)) ≡ true
+    by : (b : Bool) → (if b then true else has_object o xs) ≡ true → (has_object o xs ≡ true → has_object o (xs ++ ys) ≡ true) → (if b then true else has_object o (xs ++ ys)) ≡ true
     by true h rest = refl
     by false h rest = rest h
 
 -- what an event reads or writes it names
-pub named_too : (k : Content) (ev : Event) (S : State) (o : Object) → has o (objects ev S) ≡ true → has o (event_footprint (table_at k.marks) ev S) ≡ true
+pub named_too : (k : Content) (ev : Event) (S : State) (o : Object) → has_object o (objects ev S) ≡ true → has_object o (event_footprint (table_at k.marks) ev S) ≡ true
 unfolding event_footprint
 named_too k ev S o h = has_before o (objects ev S) (targets (table_at k.marks) (actor ev) (effect ev S).sends) h
 
 -- what is read or written before a commit is so by it too
-pub commits_too : (s : ℕ) (ev : Event) (S : State) (o : Object) → has o (objects ev S) ≡ true → has o (objects (Commit s ev) S) ≡ true
-unfolding objects has
+pub commits_too : (s : ℕ) (ev : Event) (S : State) (o : Object) → has_object o (objects ev S) ≡ true → has_object o (objects (Commit s ev) S) ≡ true
+unfolding objects has_object
 commits_too s ev S o h = by (same_object o (Held s))
   where
-    by : (b : Bool) → (if b then true else has o (objects ev S)) ≡ true
+    by : (b : Bool) → (if b then true else has_object o (objects ev S)) ≡ true
     by true = refl
     by false = h
 
@@ -71,7 +72,7 @@ shared_owner k (Desc n) h = refl
 shared_owner k (Pipe n) h = refl
 shared_owner k (Held n) h = cc
 
-module _ (laws : StepLaws) (k : Content) (is : IsContent k) (E : Event) (clear : holder (view_of k) E ≡ None) where
+module _ (laws : StepLaws) (k : Content) (is : IsContent k) (E : Event) (clear : starter_in_way (view_of k) E ≡ None) where
   pub now_seen : present (view_of k) ≡ now_of k
   unfolding view_of
   now_seen = laws.present (two_parts_of (content_of k))
@@ -81,15 +82,15 @@ module _ (laws : StepLaws) (k : Content) (is : IsContent k) (E : Event) (clear :
   is_clear = laws.clear (view_of k) E is.kept.sound clear
 
   -- who owns what the event names has its actor as a member
-  owner_member : (o : Object) (t : ℕ) → has o (event_footprint (table_at k.marks) E (now_of k)) ≡ true → owner_at k o ≡ Some t → is_of t (slot_at k.marks (actor E)) ≡ true
+  owner_member : (o : Object) (t : ℕ) → has_object o (event_footprint (table_at k.marks) E (now_of k)) ≡ true → owner_at k o ≡ Some t → is_of t (slot_at k.marks (actor E)) ≡ true
   unfolding view_of parts_view
   owner_member o t there owned =
       laws.members (view_of k) E o t is.kept.sound is_clear
-      (ap (λ (S : State). has o (event_footprint (table_at k.marks) E S)) now_seen ∙ there)
+      (ap (λ (S : State). has_object o (event_footprint (table_at k.marks) E S)) now_seen ∙ there)
       (ap (is_owner t) owned ∙ eq-eqb t t refl)
 
   -- where the actor is in no transaction, nobody owns what its event names
-  pub unowned_none : slot_at k.marks (actor E) ≡ None → (o : Object) → has o (event_footprint (table_at k.marks) E (now_of k)) ≡ true → unless None (owner_at k o) ≡ None
+  pub unowned_none : slot_at k.marks (actor E) ≡ None → (o : Object) → has_object o (event_footprint (table_at k.marks) E (now_of k)) ≡ true → unless None (owner_at k o) ≡ None
   unowned_none free o there = by (owner_at k o) refl
     where
       by : (x : Option ℕ) → owner_at k o ≡ x → unless None x ≡ None
@@ -98,7 +99,7 @@ module _ (laws : StepLaws) (k : Content) (is : IsContent k) (E : Event) (clear :
 
   -- where it is a member, its transaction alone may
   pub unowned_own : (s : ℕ) (m : Mark) → slot_at k.marks (actor E) ≡ Some m → m.starter.0 ≡ s →
-      (o : Object) → has o (event_footprint (table_at k.marks) E (now_of k)) ≡ true → unless (Some s) (owner_at k o) ≡ None
+      (o : Object) → has_object o (event_footprint (table_at k.marks) E (now_of k)) ≡ true → unless (Some s) (owner_at k o) ≡ None
   unowned_own s m at starter o there = by (owner_at k o) refl
     where
       by : (x : Option ℕ) → owner_at k o ≡ x → unless (Some s) x ≡ None

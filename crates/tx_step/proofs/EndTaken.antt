@@ -21,13 +21,14 @@ use Rattle.tx_live.specs.Insides.{inside_in}
 use Rattle.tx_live.specs.Made.{IsMade, IsUnowned}
 use Rattle.tx_live.specs.declared.content.Content.{Content}
 use Rattle.tx_live.specs.declared.inverse.Inverse.{Inverse}
-use Rattle.tx_model.specs.Answer.{has_bad_number, is_running}
+use Rattle.tx_model.specs.Answer.{is_running}
+use Rattle.tx_model.specs.Words.{has_bad_number}
 use Rattle.tx_model.specs.Effects.{Inside}
 use Rattle.tx_model.specs.Events.{Event, Do, Commit, after, effect, process_of, reply_of}
 use Rattle.tx_model.specs.History.{nobody}
 use Rattle.tx_model.specs.Membership.{Role, Commits, Table, Kind, Ordinary, Forking, Beginning, Leaving, Aborting, kind_event, step_event}
 use Rattle.tx_model.specs.State.{Process, Sending, State}
-use Rattle.tx_model.specs.View.{event_on, first_reply, holder}
+use Rattle.tx_model.specs.View.{event_on, first_reply, starter_in_way}
 use Rattle.tx_base.specs.declared.steps.Reply.TheVariants as reply
 use Rattle.tx_step.proofs.Clear.{commits_too, named_too, unowned_own}
 use Rattle.tx_step.proofs.KnownLow.{known_low}
@@ -113,7 +114,7 @@ module _ (laws : StepLaws) (k : Content) (is : IsContent k) (pid starter : Pid) 
     pub unowned : IsUnowned k (Some starter.0) (event_of (inside_in k starter) pid act)
     unowned o there =
         let E : Event = Commit starter.0 (event_of (inside_in k starter) pid act) in
-        unowned_own laws k is E (ap (holder (view_of k)) (sym event_is) ∙ through.clear) starter.0 told.0.m
+        unowned_own laws k is E (ap (starter_in_way (view_of k)) (sym event_is) ∙ through.clear) starter.0 told.0.m
         (ap (slot_at k.marks) (asked_actor (inside_in k starter) pid act) ∙ told.0.is) told.0.starter o
         (named_too k E (now_of k) o (commits_too starter.0 (event_of (inside_in k starter) pid act) (now_of k) o there))
 

@@ -8,7 +8,7 @@ use Rattle.tx_step.proofs.Leasts.{IsLeastThat, among, either, least_found, least
 use Rattle.tx_step.proofs.MetObjects.{held_named, meets_some, some_meets}
 use Rattle.tx_step.proofs.TwoFaces.{differ_target}
 use Rattle.tx_step.specs.Faces.{is_target, starter_differs}
-use Rattle.tx_step.specs.Holder.{IsOfMember, gives_two_answers, two_answers_in, least_target, starter_in}
+use Rattle.tx_step.specs.InWay.{IsOfMember, gives_two_answers, two_answers_in, least_target, starter_in}
 use Rattle.tx_laws.specs.Footprints.{is_shared}
 use Rattle.tx_laws.specs.TwoParts.{is_owner, parts_view}
 use Rattle.tx_live.specs.Content.{content_of, now_of, owner_at, own_held, txn_of, view_of}
@@ -18,14 +18,14 @@ use Rattle.tx_live.specs.declared.content.Content.{Content}
 use Rattle.tx_model.specs.Events.{Event, actor, effect}
 use Rattle.tx_model.specs.History.{event_footprint}
 use Rattle.tx_model.specs.Membership.{is_live, is_of}
-use Rattle.tx_model.specs.State.{Object, Proc, Desc, Pipe, Held, Sending, has, is_between}
-use Rattle.tx_model.specs.View.{holder, meets}
+use Rattle.tx_model.specs.State.{Object, Proc, Desc, Pipe, Held, Sending, has_object, is_between}
+use Rattle.tx_model.specs.View.{starter_in_way, some_object}
 use Rattle.tx_proc.specs.Processes.{process_in}
 use Rattle.tx_reserve.specs.Objects.{has_place, is_in, is_small, place_of}
 use Rattle.tx_reserve.specs.Reservations.{IsLeast, lesser_of, owner_of, unless}
 use Rattle.tx_reserve.specs.declared.objects.Objects.{Objects}
 use Rattle.tx_txn.specs.Content.{IsKept, stands_in_way, starter_differs as starter_differs_in}
-use Rattle.tx_txn.specs.Laws.{HolderIsOfFaces}
+use Rattle.tx_txn.specs.Laws.{StarterInWayIsOfFaces}
 use Rattle.tx_txn.specs.Marks.{table_at}
 
 owner_is : (s : ℕ) (x : Option ℕ) → is_owner s x ≡ true → x ≡ Some s
@@ -130,9 +130,9 @@ module _ (k : Content) (kept : IsKept (content_of k)) (own : Option ℕ) (footpr
 
   -- whether s, which is not the own one, owns something that the event names
   abbrev owns : ℕ → Bool
-  owns s = if is_owner s own then false else meets named (owned_by s)
+  owns s = if is_owner s own then false else some_object named (owned_by s)
 
-  shared_one : (s : ℕ) (o : Object) → is_shared o ≡ true → has o named ≡ true →
+  shared_one : (s : ℕ) (o : Object) → is_shared o ≡ true → has_object o named ≡ true →
       is_owner s (owner_at k o) ≡ true → is_owner s own ≡ false → OwnsOne own k.owners footprint s
   shared_one s o shared there owned other = record {
     at = o;
@@ -140,7 +140,7 @@ module _ (k : Content) (kept : IsKept (content_of k)) (own : Option ℕ) (footpr
     owned = ap (unless own) (sym (shared_owner k o shared) ∙ owner_is s (owner_at k o) owned) ∙ unless_other own s other;
   }
 
-  one_of : (s : ℕ) (o : Object) → has o named ≡ true →
+  one_of : (s : ℕ) (o : Object) → has_object o named ≡ true →
       is_owner s (owner_at k o) ≡ true → is_owner s own ≡ false → OwnsOne own k.owners footprint s
   one_of s (Proc n) there owned other = shared_one s (Proc n) refl there owned other
   one_of s (Desc n) there owned other = shared_one s (Desc n) refl there owned other
@@ -152,7 +152,7 @@ module _ (k : Content) (kept : IsKept (content_of k)) (own : Option ℕ) (footpr
 
   owned_one : (s : ℕ) → owns s ≡ true → OwnsOne own k.owners footprint s
   owned_one s h =
-      let both = other_first (is_owner s own) (meets named (owned_by s)) h in
+      let both = other_first (is_owner s own) (some_object named (owned_by s)) h in
       let one = meets_some named (owned_by s) both.1 in
       one_of s one.at one.named one.passes both.0
 
@@ -206,8 +206,8 @@ module _ (k : Content) (kept : IsKept (content_of k)) (own : Option ℕ) (footpr
       by None e = let none : owns s ≡ false = dead_owns_none s e in rw none (nothing (is_target s ms))
       by (Some boxed) e =
           let member = member_same own s (slot_at k.marks (actor event)) mine.member in
-          ap (λ (b : Bool). if b then false else (if meets named (owned_by s) then true else starter_differs_in (content_of k) event s (txn_of boxed))) member
-          ∙ chosen (is_owner s own) (meets named (owned_by s)) (starter_differs_in (content_of k) event s (txn_of boxed))
+          ap (λ (b : Bool). if b then false else (if some_object named (owned_by s) then true else starter_differs_in (content_of k) event s (txn_of boxed))) member
+          ∙ chosen (is_owner s own) (some_object named (owned_by s)) (starter_differs_in (content_of k) event s (txn_of boxed))
           (starter_differs s ms (process_in (slot_at k.parts.procs s)) boxed.txn.value.kept) (is_target s ms)
           (ap (λ (all : List Sending). starter_differs s all (process_in (slot_at k.parts.procs s)) boxed.txn.value.kept) sends)
           (differ_target s ms _ _ _ _)
@@ -222,11 +222,11 @@ module _ (k : Content) (kept : IsKept (content_of k)) (own : Option ℕ) (footpr
           let live : is_live (table_at k.marks) s ≡ true = sym (kept.live s) ∙ ap (λ (slot : Option BoxedTxn). is_some (option_map txn_of slot)) e in
           within (length k.marks) s (bounded k kept s live)
 
-  -- the holder is the lesser of the least owner and the least target at which a send has two answers
-  pub holder_is : HolderIsOfFaces → (a b : Option ℕ) → IsLeast (is_in footprint) (λ o. unless own (owner_of k.owners o)) a → b ≡ least_target (gives_two_answers k own ms) ms →
-      lesser_of a b ≡ holder (view_of k) event
+  -- the starter in the way is the lesser of the least owner and the least target at which a send has two answers
+  pub starter_in_way_is : StarterInWayIsOfFaces → (a b : Option ℕ) → IsLeast (is_in footprint) (λ o. unless own (owner_of k.owners o)) a → b ≡ least_target (gives_two_answers k own ms) ms →
+      lesser_of a b ≡ starter_in_way (view_of k) event
   unfolding view_of
-  holder_is law a b owner target =
+  starter_in_way_is law a b owner target =
       least_found (λ s. stands_in_way (content_of k) event s ((content_of k).txns s)) (length k.marks) (lesser_of a b)
       (least_same (either owns (among (gives_two_answers k own ms) ms)) (λ s. stands_in_way (content_of k) event s ((content_of k).txns s)) (lesser_of a b) (λ n. sym (way_is n))
       (lesser_least owns (among (gives_two_answers k own ms) ms) a b (owners_least a owner) (subst (IsLeastThat (among (gives_two_answers k own ms) ms)) (sym target) (targets_least (gives_two_answers k own ms) ms))))

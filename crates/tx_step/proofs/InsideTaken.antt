@@ -18,11 +18,11 @@ use Rattle.tx_live.specs.Progresses.{part_of, HasChild}
 use Rattle.tx_live.specs.declared.content.Content.{Content}
 use Rattle.tx_live.specs.declared.inverse.Inverse.{Inverse}
 use Rattle.tx_live.specs.declared.marking.Progress.{Progress}
-use Rattle.tx_model.specs.Answer.{has_bad_number}
+use Rattle.tx_model.specs.Words.{has_bad_number}
 use Rattle.tx_model.specs.Effects.{Inside}
 use Rattle.tx_model.specs.Events.{Event}
 use Rattle.tx_model.specs.Membership.{inside_by, Role, Within}
-use Rattle.tx_model.specs.View.{event_on, first_reply, holder}
+use Rattle.tx_model.specs.View.{event_on, first_reply, starter_in_way}
 use Rattle.tx_reserve.specs.declared.objects.Objects.{Objects}
 use Rattle.tx_step.proofs.Clear.{free_own}
 use Rattle.tx_step.proofs.Members.{has_child, live_at, live_there, LiveAt}
@@ -69,7 +69,7 @@ module _ (laws : StepLaws) (k : Content) (is : IsContent k) (pid starter : Pid) 
     -- no other transaction owns anything of it
     pub free : (footprint : Objects) → IsFootprint k (event_on (view_of k) (step_of pid asked)) footprint → IsFree k starter.0 footprint
     free footprint is_footprint =
-        free_own laws k is (event_of (inside_in k starter) pid act) (ap (holder (view_of k)) (sym event_is) ∙ through.clear) starter.0 told.0.m
+        free_own laws k is (event_of (inside_in k starter) pid act) (ap (starter_in_way (view_of k)) (sym event_is) ∙ through.clear) starter.0 told.0.m
         (ap (slot_at k.marks) (asked_actor (inside_in k starter) pid act) ∙ told.0.is) told.0.starter footprint (footprint_is footprint is_footprint)
 
     -- once it is made it is a step

@@ -9,7 +9,6 @@ use Rattle.tx_base.specs.declared.steps.Refusal.TheVariants.{NoMemory}
 use Rattle.tx_base.specs.declared.steps.Reply.TheVariants.{No}
 use Rattle.tx_base.specs.declared.steps.Step.TheVariants.{Call as Calls, Deliver}
 use Rattle.tx_change.specs.States.{state_of}
-use Rattle.tx_step.proofs.StepSends.{done_as}
 use Rattle.tx_step.specs.Late.{TellsRule}
 use Rattle.tx_step.specs.Ways.{IsOwnActor}
 use Rattle.tx_kernel.specs.Actors.{CountsHeld, inside_of, me_of}
@@ -18,12 +17,14 @@ use Rattle.tx_kernel.specs.declared.actor.Actor.{Actor}
 use Rattle.tx_live.specs.Content.{held_of, now_of}
 use Rattle.tx_live.specs.declared.content.Content.{Content}
 use Rattle.tx_model.specs.Answer.{IsAccepted}
-use Rattle.tx_model.specs.Calls.{call_effect, MakesCall, TakesSignal}
-use Rattle.tx_model.specs.Deliveries.{delivery_effect}
+use Rattle.tx_model.specs.Words.{call_effect, delivery_effect}
 use Rattle.tx_model.specs.Effects.{Effect, Inside, concluding_reply, idle, send_answers}
 use Rattle.tx_model.specs.Events.{Event, Do, Note, effect, reply_of}
 use Rattle.tx_model.specs.Membership.{inside_by}
 use Rattle.tx_model.specs.State.{Process, Sending, State}
+use Rattle.tx_model.specs.Book.{page_of_call}
+use Rattle.tx_model.specs.Deliveries.{delivery_page}
+use Rattle.tx_model.specs.BookLaws.{runs_as}
 use Rattle.tx_proc.specs.Processes.{process_in}
 use Rattle.tx_txn.specs.Marks.{table_at}
 
@@ -63,7 +64,7 @@ module _ (k : Content) (pid : Pid) (actor : Actor) (own : IsOwnActor k pid actor
       IfSome found (λ why. why ≢ NoMemory) → TellsRule (Do (Calls pid called) inside) (now_of k) found
   unfolding effect
   call_told called found =
-      told_by (λ inside p me S. call_effect inside p called me S) (Do (Calls pid called) inside) (done_as inside pid.0 (MakesCall called) (now_of k) (me_of actor) there own.is.runs) found
+      told_by (λ inside p me S. call_effect inside p called me S) (Do (Calls pid called) inside) (runs_as inside pid.0 (page_of_call called) (now_of k) (me_of actor) there own.is.runs) found
 
   pub delivery_told : (signo : Signo) (found : Option Refusal) →
       IfSome found (λ why. (held : ℕ → List Sending) → CountsHeld actor.inside held → delivery_effect (inside_of actor.inside) actor.pid.0 signo.0 (me_of actor) (state_of held actor.parts.now) ≡ idle why) →
@@ -71,7 +72,7 @@ module _ (k : Content) (pid : Pid) (actor : Actor) (own : IsOwnActor k pid actor
       IfSome found (λ why. why ≢ NoMemory) → TellsRule (Do (Deliver pid signo) inside) (now_of k) found
   unfolding effect
   delivery_told signo found =
-      told_by (λ inside p me S. delivery_effect inside p signo.0 me S) (Do (Deliver pid signo) inside) (done_as inside pid.0 (TakesSignal signo.0) (now_of k) (me_of actor) there own.is.runs) found
+      told_by (λ inside p me S. delivery_effect inside p signo.0 me S) (Do (Deliver pid signo) inside) (runs_as inside pid.0 (delivery_page signo.0) (now_of k) (me_of actor) there own.is.runs) found
 
 -- an answer is made
 pub note_told : (p : ℕ) (ret : ℤ) (S : State) → TellsRule (Note p ret) S None

@@ -2,7 +2,7 @@
 use Rattle.std.proofs.Common.{◌≡◌, ℕ, zero, suc, ◌≤◌, Bool, true, false, List, [], ◌∷◌, Option, Some, None, ◌⊎◌, if◌then◌else◌, ◌==◌, nat_lt, refl, sym, ap, ◌∙◌, subst, inl, inr, arith, eq-eqb, eqb-true, ltb-true}
 use Rattle.std.proofs.lemmas.Bool.{both_ways, cases_Bool, cases_eq, ltb-false}
 use Rattle.tx_step.specs.Faces.{is_target}
-use Rattle.tx_step.specs.Holder.{least_with, passing}
+use Rattle.tx_step.specs.InWay.{least_with, passing}
 use Rattle.tx_model.specs.State.{Sending}
 use Rattle.tx_model.specs.View.{least}
 use Rattle.tx_reserve.specs.Reservations.{lesser_of}

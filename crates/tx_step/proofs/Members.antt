@@ -15,8 +15,9 @@ use Rattle.tx_live.specs.declared.content.BoxedTxn.{BoxedTxn}
 use Rattle.tx_live.specs.declared.content.Content.{Content}
 use Rattle.tx_live.specs.declared.marking.Progress.{Progress as TheProgress}
 use Rattle.tx_live.specs.declared.marking.Progress.TheVariants as the
-use Rattle.tx_model.specs.Answer.{Choice, ChoosesProcess, chosen_in, has_bad_number, is_bad_choice}
-use Rattle.tx_model.specs.Membership.{Table, Within, Forks, Kind, Ordinary, Forking, Beginning, Leaving, Aborting, inside_by, is_live, is_of, kind_of, kind_role, member_end_role, ordinary_role, others_open, says_ended}
+use Rattle.tx_model.specs.Answer.{Choice, ChoosesProcess, is_bad_choice}
+use Rattle.tx_model.specs.Words.{chosen_in, has_bad_number, kind_of, kind_role, member_end_role, ordinary_role}
+use Rattle.tx_model.specs.Membership.{Table, Within, Forks, Kind, Ordinary, Forking, Beginning, Leaving, Aborting, inside_by, is_live, is_of, others_open, says_ended}
 use Rattle.tx_model.specs.State.{is_between}
 use Rattle.tx_step.proofs.Told.{OfMember}
 use Rattle.tx_step.specs.Asks.{kind_asked, step_of}

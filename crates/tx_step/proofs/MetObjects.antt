@@ -4,13 +4,13 @@ use Rattle.std.proofs.lemmas.Bool.{both_ways}
 use Rattle.tx_model.specs.Events.{Event, actor, effect, objects}
 use Rattle.tx_model.specs.History.{event_footprint, is_other_starter, targets}
 use Rattle.tx_model.specs.Membership.{Table}
-use Rattle.tx_model.specs.State.{Object, Proc, Desc, Pipe, Held, Sending, State, has, same_object}
-use Rattle.tx_model.specs.View.{meets}
+use Rattle.tx_model.specs.State.{Object, Proc, Desc, Pipe, Held, Sending, State, has_object, same_object}
+use Rattle.tx_model.specs.View.{some_object}
 
 -- an object of the list passes the test
 pub record Meets (os : List Object) (P : Object → Bool) : Type 0 where
   pub at : Object
-  pub named : has at os ≡ true
+  pub named : has_object at os ≡ true
   pub passes : P at ≡ true
 
 pub same_self : (o : Object) → same_object o o ≡ true
@@ -37,65 +37,65 @@ same_is (Held n) (Desc m) h = cc
 same_is (Held n) (Pipe m) h = cc
 same_is (Held n) (Held m) h = ap Held (eqb-true n m h)
 
-has_more : (o x : Object) (os : List Object) → has o os ≡ true → has o (x ∷ os) ≡ true
-unfolding has
+has_more : (o x : Object) (os : List Object) → has_object o os ≡ true → has_object o (x ∷ os) ≡ true
+unfolding has_object
 has_more o x os h = by (same_object o x)
   where
-    by : (b : Bool) → (if b then true else has o os) ≡ true
+    by : (b : Bool) → (if b then true else has_object o os) ≡ true
     by true = refl
     by false = h
 
-has_first : (o : Object) (os : List Object) → has o (o ∷ os) ≡ true
-unfolding has
+has_first : (o : Object) (os : List Object) → has_object o (o ∷ os) ≡ true
+unfolding has_object
 has_first o os = rw (same_self o) refl
 
 -- a list that meets a test has an object that passes it
-pub meets_some : (os : List Object) (P : Object → Bool) → meets os P ≡ true → Meets os P
-unfolding meets
+pub meets_some : (os : List Object) (P : Object → Bool) → some_object os P ≡ true → Meets os P
+unfolding some_object
 meets_some [] P h = cc
 meets_some (x ∷ xs) P h = by (P x) refl h (meets_some xs P)
   where
-    by : (b : Bool) → P x ≡ b → (if b then true else meets xs P) ≡ true → (meets xs P ≡ true → Meets xs P) → Meets (x ∷ xs) P
+    by : (b : Bool) → P x ≡ b → (if b then true else some_object xs P) ≡ true → (some_object xs P ≡ true → Meets xs P) → Meets (x ∷ xs) P
     by true e k rest = record { at = x; named = has_first x xs; passes = e }
     by false e k rest = let m = rest k in record { at = m.at; named = has_more m.at x xs m.named; passes = m.passes }
 
-pub some_meets : (os : List Object) (P : Object → Bool) (o : Object) → has o os ≡ true → P o ≡ true → meets os P ≡ true
-unfolding has meets
+pub some_meets : (os : List Object) (P : Object → Bool) (o : Object) → has_object o os ≡ true → P o ≡ true → some_object os P ≡ true
+unfolding has_object some_object
 some_meets [] P o there passes = cc
 some_meets (x ∷ xs) P o there passes = by (same_object o x) refl there (λ rest. some_meets xs P o rest passes)
   where
-    later : (b : Bool) → meets xs P ≡ true → (if b then true else meets xs P) ≡ true
+    later : (b : Bool) → some_object xs P ≡ true → (if b then true else some_object xs P) ≡ true
     later true h = refl
     later false h = h
 
-    by : (b : Bool) → same_object o x ≡ b → (if b then true else has o xs) ≡ true → (has o xs ≡ true → meets xs P ≡ true) → (if P x then true else meets xs P) ≡ true
+    by : (b : Bool) → same_object o x ≡ b → (if b then true else has_object o xs) ≡ true → (has_object o xs ≡ true → some_object xs P ≡ true) → (if P x then true else some_object xs P) ≡ true
     by true e h rest = let here : P x ≡ true = ap P (sym (same_is o x e)) ∙ passes in rw here refl
     by false e h rest = later (P x) (rest h)
 
 -- what transactions hold is no target of a send
-targets_lack : (t : Table) (p s : ℕ) (ms : List Sending) → has (Held s) (targets t p ms) ≡ false
-unfolding targets has
+targets_lack : (t : Table) (p s : ℕ) (ms : List Sending) → has_object (Held s) (targets t p ms) ≡ false
+unfolding targets has_object
 targets_lack t p s [] = refl
 targets_lack t p s (m ∷ ms) = by (is_other_starter t p m.target) (targets_lack t p s ms)
   where
-    by : (b : Bool) → has (Held s) (targets t p ms) ≡ false → has (Held s) (if b then targets t p ms else Proc m.target ∷ targets t p ms) ≡ false
+    by : (b : Bool) → has_object (Held s) (targets t p ms) ≡ false → has_object (Held s) (if b then targets t p ms else Proc m.target ∷ targets t p ms) ≡ false
     by true h = h
     by false h = h
 
-has_either : (o : Object) (xs ys : List Object) → has o (xs ++ ys) ≡ true → (has o xs ≡ true) ⊎ (has o ys ≡ true)
-unfolding has
+has_either : (o : Object) (xs ys : List Object) → has_object o (xs ++ ys) ≡ true → (has_object o xs ≡ true) ⊎ (has_object o ys ≡ true)
+unfolding has_object
 has_either o [] ys h = inr h
 has_either o (x ∷ xs) ys h = by (same_object o x) h (has_either o xs ys)
   where
-    by : (b : Bool) → (if b then true else has o (xs ++ ys)) ≡ true → (has o (xs ++ ys) ≡ true → (has o xs ≡ true) ⊎ (has o ys ≡ true))
-        → ((if b then true else has o xs) ≡ true) ⊎ (has o ys ≡ true)
+    by : (b : Bool) → (if b then true else has_object o (xs ++ ys)) ≡ true → (has_object o (xs ++ ys) ≡ true → (has_object o xs ≡ true) ⊎ (has_object o ys ≡ true))
+        → ((if b then true else has_object o xs) ≡ true) ⊎ (has_object o ys ≡ true)
     by true k rest = inl refl
     by false k rest = rest k
 
 -- what an event names of what transactions hold, it reads or writes
-pub held_named : (t : Table) (ev : Event) (S : State) (s : ℕ) → has (Held s) (event_footprint t ev S) ≡ true → has (Held s) (objects ev S) ≡ true
+pub held_named : (t : Table) (ev : Event) (S : State) (s : ℕ) → has_object (Held s) (event_footprint t ev S) ≡ true → has_object (Held s) (objects ev S) ≡ true
 unfolding event_footprint
 held_named t ev S s h = elim (has_either (Held s) (objects ev S) (targets t (actor ev) (effect ev S).sends) h) [
   | inl e ↦ e
-  | inr e ↦ absurd (both_ways (has (Held s) (targets t (actor ev) (effect ev S).sends)) (targets_lack t (actor ev) s (effect ev S).sends) e)
+  | inr e ↦ absurd (both_ways (has_object (Held s) (targets t (actor ev) (effect ev S).sends)) (targets_lack t (actor ev) s (effect ev S).sends) e)
 ]

@@ -21,7 +21,7 @@ use Rattle.tx_model.specs.Answer.{IsAccepted}
 use Rattle.tx_model.specs.Events.{Event}
 use Rattle.tx_model.specs.Membership.{inside_by, Outside}
 use Rattle.tx_model.specs.Memory.{Memory}
-use Rattle.tx_model.specs.View.{event_on, first_reply, holder}
+use Rattle.tx_model.specs.View.{event_on, first_reply, starter_in_way}
 use Rattle.tx_step.proofs.Clear.{named_too, unowned_none}
 use Rattle.tx_step.proofs.RefusedSteps.{refused_late}
 use Rattle.tx_step.proofs.Taken.{answered, process_asked, runs_seen, stepped}
@@ -52,7 +52,7 @@ module _ (laws : StepLaws) (k : Content) (is : IsContent k) (pid : Pid) (asked :
     -- nobody owns what it reads or writes
     pub unowned : IsUnowned k None (event_of None pid act)
     unowned o there =
-        unowned_none laws k is (event_of None pid act) (ap (holder (view_of k)) (sym event_is) ∙ through.clear)
+        unowned_none laws k is (event_of None pid act) (ap (starter_in_way (view_of k)) (sym event_is) ∙ through.clear)
         (ap (slot_at k.marks) (asked_actor None pid act) ∙ kind_is.0) o (named_too k (event_of None pid act) (now_of k) o there)
 
     -- once it is made it is a step

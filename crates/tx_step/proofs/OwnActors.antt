@@ -14,7 +14,7 @@ use Rattle.tx_live.specs.declared.content.BoxedTxn.{BoxedTxn}
 use Rattle.tx_live.specs.declared.content.Content.{Content}
 use Rattle.tx_model.specs.Effects.{Inside as TheInside}
 use Rattle.tx_model.specs.Membership.{inside_by}
-use Rattle.tx_model.specs.Book.{sent_by_members}
+use Rattle.tx_model.specs.Book.{member_sends}
 use Rattle.tx_txn.specs.Content.{IsKept}
 use Rattle.tx_txn.specs.Marks.{table_at}
 use Rattle.tx_txn.specs.Txns.{inside_at}
@@ -29,13 +29,13 @@ module _ (k : Content) (p : ℕ) (m : Mark) (boxed : BoxedTxn) (txn : Txn) (insi
       ∙ inside_marked k p m boxed shaped at there ∙ ap (inside_by (table_at k.marks)) (sym at)
 
   -- and counts what its members sent
-  pub counts_told : inside.held ≡ sent_by_members (map sending_of txn.outbox.sendings) → CountsHeld (Some inside) (held_of k)
+  pub counts_told : inside.held ≡ member_sends (map sending_of txn.outbox.sendings) → CountsHeld (Some inside) (held_of k)
   counts_told held =
       let was : IsTxn k m.starter.0 boxed.txn.value = shaped.each m.starter.0 boxed there in
       let starter : inside.starter.0 ≡ m.starter.0 = ap (λ (x : TheInside). x.starter) is ∙ ap (λ (x : Txn). x.starter.0) same ∙ was.starter in
-      ap (λ (n : ℕ). sent_by_members (held_of k n)) starter
-      ∙ ap (λ (slot : Option BoxedTxn). sent_by_members (held_in slot)) there
-      ∙ ap (λ (x : Txn). sent_by_members (map sending_of x.outbox.sendings)) (sym same) ∙ sym held
+      ap (λ (n : ℕ). member_sends (held_of k n)) starter
+      ∙ ap (λ (slot : Option BoxedTxn). member_sends (held_in slot)) there
+      ∙ ap (λ (x : Txn). member_sends (map sending_of x.outbox.sendings)) (sym same) ∙ sym held
 
 -- a member's transaction is there
 pub boxed_there : (k : Content) (pid : Pid) (m : Mark) → IsKept (content_of k) → slot_at k.marks pid.0 ≡ Some m → (found : Option (Bor BoxedTxn)) → option_copied found ≡ slot_at k.txns m.starter.0 → IsSome found

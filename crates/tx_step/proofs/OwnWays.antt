@@ -6,10 +6,10 @@ use Rattle.tx_base.specs.declared.marks.Mark.{Mark}
 use Rattle.tx_base.specs.declared.names.Pid.{Pid}
 use Rattle.tx_base.specs.declared.steps.Call.{Call}
 use Rattle.tx_base.specs.declared.steps.Step.TheVariants.{Call as Calls}
-use Rattle.tx_step.proofs.InWay.{holder_is}
+use Rattle.tx_step.proofs.InWay.{starter_in_way_is}
 use Rattle.tx_step.proofs.MetObjects.{same_is, same_self}
 use Rattle.tx_step.proofs.StepSends.{call_posts}
-use Rattle.tx_step.specs.Holder.{IsOfMember}
+use Rattle.tx_step.specs.InWay.{IsOfMember}
 use Rattle.tx_step.specs.Roles.{role_as}
 use Rattle.tx_step.specs.Ways.{ConcernsItself}
 use Rattle.tx_step.specs.declared.roles.StepRole.{StepRole}
@@ -21,9 +21,10 @@ use Rattle.tx_live.specs.Made.{IsRunning}
 use Rattle.tx_live.specs.declared.content.Content.{Content}
 use Rattle.tx_model.specs.Events.{Event, effect}
 use Rattle.tx_model.specs.Footprints.{call_row_at, footprint}
-use Rattle.tx_model.specs.Membership.{Table, event_in, inside_by, kind_event, kind_of}
-use Rattle.tx_model.specs.State.{Object, Proc, Process, has, same_object}
-use Rattle.tx_model.specs.View.{event_on, holder, role_on}
+use Rattle.tx_model.specs.Membership.{Table, event_in, inside_by, kind_event}
+use Rattle.tx_model.specs.Words.{kind_of}
+use Rattle.tx_model.specs.State.{Object, Proc, Process, has_object, same_object}
+use Rattle.tx_model.specs.View.{event_on, starter_in_way, role_on}
 use Rattle.tx_proc.specs.Processes.{process_in, process_of}
 use Rattle.tx_proc.specs.declared.proc.Proc.{Proc as TheProc}
 use Rattle.tx_reserve.proofs.Rows.{adds_one, set_of}
@@ -32,7 +33,7 @@ use Rattle.tx_reserve.specs.Objects.{is_in, is_small, place_of}
 use Rattle.tx_reserve.specs.Reservations.{IsLeast, lesser_of, number_of, owner_of, unless}
 use Rattle.tx_reserve.specs.declared.objects.Objects.{Objects}
 use Rattle.tx_txn.specs.Content.{IsKept}
-use Rattle.tx_txn.specs.Laws.{HolderIsOfFaces}
+use Rattle.tx_txn.specs.Laws.{StarterInWayIsOfFaces}
 use Rattle.tx_txn.specs.Marks.{table_at}
 
 -- one process was put into an empty set
@@ -42,7 +43,7 @@ set_alone before set p empty put = set_of before (Proc p ∷ []) empty (adds_one
 
 -- what is in such a set is that process
 alone_is : (set : Objects) (p : ℕ) (o : Object) → IsSetOf set (Proc p ∷ []) → is_in set o ≡ true → o ≡ Proc p
-unfolding has
+unfolding has_object
 alone_is set p o is there = by (is_small o) (same_object o (Proc p)) refl (sym (is.each o) ∙ there)
   where
     by : (small same : Bool) → same_object o (Proc p) ≡ same → (if small then (if same then true else false) else false) ≡ true → o ≡ Proc p
@@ -60,7 +61,7 @@ owned_small owners o own s h = by (is_small o) refl h
     by false e h = cc
 
 alone_in : (set : Objects) (p : ℕ) → IsSetOf set (Proc p ∷ []) → is_small (Proc p) ≡ true → is_in set (Proc p) ≡ true
-unfolding has
+unfolding has_object
 alone_in set p is small = is.each (Proc p) ∙ rw (small, same_self (Proc p)) refl
 
 -- its owner is the least one
@@ -80,11 +81,11 @@ lesser_alone : (x : Option ℕ) → x ≡ lesser_of x None
 lesser_alone None = refl
 lesser_alone (Some s) = refl
 
--- the owner of the process is the holder
-pub holder_alone : (k : Content) (kept : IsKept (content_of k)) (own : Option ℕ) (set : Objects) (p : ℕ) → IsSetOf set (Proc p ∷ []) → (event : Event) → IsFootprint k event set →
-    (effect event (now_of k)).sends ≡ [] → IsOfMember k own event → HolderIsOfFaces → (x : Option ℕ) → x ≡ unless own (owner_of k.owners (Proc p)) → x ≡ holder (view_of k) event
-holder_alone k kept own set p is event is_footprint quiet mine law x owner =
-    lesser_alone x ∙ holder_is k kept own set [] event is_footprint quiet mine law x None (alone_least k.owners own set p is x owner) refl
+-- the owner of the process is in the way
+pub starter_in_way_alone : (k : Content) (kept : IsKept (content_of k)) (own : Option ℕ) (set : Objects) (p : ℕ) → IsSetOf set (Proc p ∷ []) → (event : Event) → IsFootprint k event set →
+    (effect event (now_of k)).sends ≡ [] → IsOfMember k own event → StarterInWayIsOfFaces → (x : Option ℕ) → x ≡ unless own (owner_of k.owners (Proc p)) → x ≡ starter_in_way (view_of k) event
+starter_in_way_alone k kept own set p is event is_footprint quiet mine law x owner =
+    lesser_alone x ∙ starter_in_way_is k kept own set [] event is_footprint quiet mine law x None (alone_least k.owners own set p is x owner) refl
 
 -- a call that concerns its process alone names that one
 pub own_set : (k : Content) (pid : Pid) (called : Call) (set : Objects) → ConcernsItself called → IsSetOf set (Proc pid.0 ∷ []) → IsSetOf set (footprint (table_of k.parts k.marks) (Calls pid called) (now_of k))

@@ -14,7 +14,6 @@ use Rattle.tx_change.specs.declared.parts.Parts.{Parts}
 use Rattle.tx_step.specs.Early.{early_refusal, kill_refusal, member_refusal, own_refusal, process_refusal, RefusalIsEarly}
 use Rattle.tx_step.specs.RefusalLaws.{JudgeLaws}
 use Rattle.tx_kernel.specs.Actors.{IsActor}
-use Rattle.tx_kernel.specs.Acts.{act_rule}
 use Rattle.tx_kernel.specs.Refusals.{number_refusal}
 use Rattle.tx_kernel.specs.declared.actor.Actor.{Actor}
 use Rattle.tx_laws.specs.TwoParts.{parts_view}
@@ -22,13 +21,16 @@ use Rattle.tx_live.proofs.KeptPosted.{slot_there}
 use Rattle.tx_live.specs.Content.{content_of, held_of, now_of, txn_of, view_of, IsShaped}
 use Rattle.tx_live.specs.declared.content.BoxedTxn.{BoxedTxn}
 use Rattle.tx_live.specs.declared.content.Content.{Content}
-use Rattle.tx_model.specs.Answer.{delivers_kill, is_doomed_at, is_parked, is_running, is_there, busy, has_bad_number, has_number_in_use, is_held_by_kill, chosen_by}
-use Rattle.tx_model.specs.Calls.{effect_at, Act, running_effect, MakesCall}
+use Rattle.tx_model.specs.Answer.{delivers_kill, is_doomed_at, is_parked, is_running, is_there}
+use Rattle.tx_model.specs.Words.{busy, has_bad_number, has_number_in_use, is_stopped_by_kill}
+use Rattle.tx_model.specs.Events.{effect_at, page_of_step}
 use Rattle.tx_model.specs.Effects.{Effect, Replies, idle}
 use Rattle.tx_model.specs.Membership.{is_live, is_of}
 use Rattle.tx_model.specs.SignalSets.{is_in_set, kill_signo}
 use Rattle.tx_model.specs.State.{Process, Proc, Sending, State, is_between}
-use Rattle.tx_model.specs.View.{View, event_on, has_pending, holder, is_doomed, present}
+use Rattle.tx_model.specs.View.{View, event_on, has_pending, starter_in_way, is_doomed, present}
+use Rattle.tx_model.specs.Book.{page_of_call}
+use Rattle.tx_model.specs.Forms.{Page, answers, effect_of, ◌or◌, ◌when◌}
 use Rattle.tx_proc.specs.Processes.{process_in, process_of}
 use Rattle.tx_proc.specs.declared.proc.Proc.{Proc as TheProc}
 use Rattle.tx_txn.specs.Content.{two_parts_of, IsKept}
@@ -45,13 +47,13 @@ or_two a b p q y = ap (λ (z : Option Refusal). if a then Some p else z) (if_or 
 
 -- the early refusal is that of the process number, or else that of the numbers that the step chooses, or else the process's own
 early_in_turn : (V : View) (p : ℕ) (step : Step) →
-    early_refusal V p step ≡ option_or (process_refusal V p) (option_or (number_refusal V.table.width (present V) (chosen_by step)) (own_refusal V p (delivers_kill step)))
+    early_refusal V p step ≡ option_or (process_refusal V p) (option_or (number_refusal V.table.width (present V) (page_of_step step).chooses) (own_refusal V p (delivers_kill step)))
 early_in_turn V p step =
     ap (λ (z : Option Refusal). if not (is_there V p) then Some NoProcess else (if not (is_running ((present V).procs p)) then Some NotRunning else z))
     (ap (λ (z : Option Refusal). if has_bad_number V.table.width step then Some BadNumber else (if has_number_in_use (present V) step then Some NumberTaken else z))
     (or_two (is_doomed_at V (V.table.marks p)) (is_parked (V.table.marks p)) Doomed Parked (kill_refusal V p (delivers_kill step)))
     ∙ or_two (has_bad_number V.table.width step) (has_number_in_use (present V) step) BadNumber NumberTaken (own_refusal V p (delivers_kill step)))
-    ∙ or_two (not (is_there V p)) (not (is_running ((present V).procs p))) NoProcess NotRunning (option_or (number_refusal V.table.width (present V) (chosen_by step)) (own_refusal V p (delivers_kill step)))
+    ∙ or_two (not (is_there V p)) (not (is_running ((present V).procs p))) NoProcess NotRunning (option_or (number_refusal V.table.width (present V) (page_of_step step).chooses) (own_refusal V p (delivers_kill step)))
 
 -- the first of seven reasons that there is, or else this
 abbrev first_reason : Bool → Bool → Bool → Bool → Bool → Bool → Bool → Option Refusal → Option Refusal
@@ -77,7 +79,7 @@ first_or false false false false false false false rest = refl
 pub refusal_early : RefusalIsEarly
 refusal_early V p step =
     first_or (not (is_there V p)) (not (is_running ((present V).procs p))) (has_bad_number V.table.width step) (has_number_in_use (present V) step)
-    (is_doomed_at V (V.table.marks p)) (is_parked (V.table.marks p)) (is_held_by_kill (present V) p step) (busy (holder V (event_on V step)))
+    (is_doomed_at V (V.table.marks p)) (is_parked (V.table.marks p)) (is_stopped_by_kill (present V) p step) (busy (starter_in_way V (event_on V step)))
 
 -- why what is in a slot makes no step, where the slot's number is one that there is, or not
 abbrev slot_refusal : Bool → Option Process → Option Refusal
@@ -87,14 +89,18 @@ slot_refusal b slot = if not (if b then is_some slot else false) then Some NoPro
 idle_why : (one other : Refusal) → idle one ≡ idle other → one ≡ other
 idle_why one other e = let replies : Replies (No one) ≡ Replies (No other) = ap (λ (f : Effect). f.conclusion) e in cc
 
--- what does not run is refused by the rule of its acts as it is by the view
-as_ruled : (slot : Option Process) (S : State) (p : ℕ) (why : Refusal) → effect_at None p (MakesCall call.Getpid) S slot ≡ idle why → slot_refusal true slot ≡ Some why
-as_ruled None S p why refused = ap Some (idle_why NoProcess why refused)
-as_ruled (Some me) S p why refused = by me.status refused
+-- what does not run is refused by its rule as it is by the view
+as_ruled : (S : State) (p : ℕ) (why : Refusal) → effect_at None p (page_of_call call.Getpid) S ≡ idle why → slot_refusal true (S.procs p) ≡ Some why
+as_ruled S p why refused = by (S.procs p) refused
   where
-    by : (status : Option ℕ) → running_effect None p (MakesCall call.Getpid) S me status ≡ idle why → (if not (is_none status) then Some NotRunning else None) ≡ Some why
-    by None e = let replies : Replies (Done (pos p)) ≡ Replies (No why) = ap (λ (f : Effect). f.conclusion) e in cc
-    by (Some ended) e = ap Some (idle_why NotRunning why e)
+    runs : (me : Process) (status : Option ℕ) → (idle NotRunning when is_some status) (effect_of p me (answers (pos p))) ≡ idle why →
+        (if not (is_none status) then Some NotRunning else None) ≡ Some why
+    runs me None e = let replies : Replies (Done (pos p)) ≡ Replies (No why) = ap (λ (f : Effect). f.conclusion) e in cc
+    runs me (Some ended) e = ap Some (idle_why NotRunning why e)
+
+    by : (slot : Option Process) → (slot or idle NoProcess) (λ me. (idle NotRunning when is_some me.status) (effect_of p me (answers (pos p)))) ≡ idle why → slot_refusal true slot ≡ Some why
+    by None e = ap Some (idle_why NoProcess why e)
+    by (Some me) e = runs me me.status e
 
 -- a number of the table
 pub between : (width n : ℕ) → 1 ≤ n → n ≤ width → is_between width n ≡ true
@@ -137,21 +143,21 @@ module _ (laws : JudgeLaws) (k : Content) (pid : Pid) where
   -- the reasons in turn, where that of the number is this
   in_turn : (step : Step) (own : Option Refusal) → process_refusal (view_of k) pid.0 ≡ own →
       early_refusal (view_of k) pid.0 step
-      ≡ option_or own (option_or (number_refusal (view_of k).table.width (present (view_of k)) (chosen_by step)) (own_refusal (view_of k) pid.0 (delivers_kill step)))
+      ≡ option_or own (option_or (number_refusal (view_of k).table.width (present (view_of k)) (page_of_step step).chooses) (own_refusal (view_of k) pid.0 (delivers_kill step)))
   in_turn step own is =
       early_in_turn (view_of k) pid.0 step
-      ∙ ap (λ (x : Option Refusal). option_or x (option_or (number_refusal (view_of k).table.width (present (view_of k)) (chosen_by step)) (own_refusal (view_of k) pid.0 (delivers_kill step)))) is
+      ∙ ap (λ (x : Option Refusal). option_or x (option_or (number_refusal (view_of k).table.width (present (view_of k)) (page_of_step step).chooses) (own_refusal (view_of k) pid.0 (delivers_kill step)))) is
 
   -- who does not run is refused any step
-  pub not_run : IsShaped k → (why : Refusal) (step : Step) → ((act : Act) (held : ℕ → List Sending) → act_rule None pid.0 act (state_of held k.parts) ≡ idle why) →
+  pub not_run : IsShaped k → (why : Refusal) (step : Step) → ((page : Page) (held : ℕ → List Sending) → effect_at None pid.0 page (state_of held k.parts) ≡ idle why) →
       Some why ≡ early_refusal (view_of k) pid.0 step
   not_run shaped why step refused =
       let S : State = state_of (λ starter. []) k.parts in
-      sym (in_turn step (Some why) (process_seen shaped ∙ as_ruled (S.procs pid.0) S pid.0 why (refused (MakesCall call.Getpid) (λ starter. []))))
+      sym (in_turn step (Some why) (process_seen shaped ∙ as_ruled S pid.0 why (refused (page_of_call call.Getpid) (λ starter. []))))
 
   -- who runs is refused a step for the numbers that it chooses, and then for the process's own reasons
   pub who_runs : IsShaped k → (actor : Actor) (step : Step) (numbers : Option Refusal) → IsActor actor → actor.parts.now ≡ k.parts → actor.pid ≡ pid →
-      ((held : ℕ → List Sending) → numbers ≡ number_refusal (length actor.parts.now.procs) (state_of held actor.parts.now) (chosen_by step)) →
+      ((held : ℕ → List Sending) → numbers ≡ number_refusal (length actor.parts.now.procs) (state_of held actor.parts.now) (page_of_step step).chooses) →
       option_or numbers (own_refusal (view_of k) pid.0 (delivers_kill step)) ≡ early_refusal (view_of k) pid.0 step
   unfolding view_of parts_view
   who_runs shaped actor step numbers is parts at chosen =
@@ -159,9 +165,9 @@ module _ (laws : JudgeLaws) (k : Content) (pid : Pid) where
       let runs : process_refusal (view_of k) pid.0 ≡ None
       = process_seen shaped ∙ ap (λ (slot : Option TheProc). slot_refusal true (process_in slot)) there
       ∙ ap (λ (status : Option ℕ). if not (is_none status) then Some NotRunning else None) is.runs in
-      let same : numbers ≡ number_refusal (length k.marks) (present (view_of k)) (chosen_by step)
-      = chosen (held_of k) ∙ ap (λ (now : Parts). number_refusal (length now.procs) (state_of (held_of k) now) (chosen_by step)) parts
-      ∙ sym (ap₂ (λ (w : ℕ) (S : State). number_refusal w S (chosen_by step)) shaped.marks now_seen) in
+      let same : numbers ≡ number_refusal (length k.marks) (present (view_of k)) (page_of_step step).chooses
+      = chosen (held_of k) ∙ ap (λ (now : Parts). number_refusal (length now.procs) (state_of (held_of k) now) (page_of_step step).chooses) parts
+      ∙ sym (ap₂ (λ (w : ℕ) (S : State). number_refusal w S (page_of_step step).chooses) shaped.marks now_seen) in
       ap (λ (x : Option Refusal). option_or x (own_refusal (view_of k) pid.0 (delivers_kill step))) same ∙ sym (in_turn step None runs)
 
   -- its own reasons are those of its mark, and then that SIGKILL is pending at it

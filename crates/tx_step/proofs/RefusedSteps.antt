@@ -20,11 +20,12 @@ use Rattle.tx_live.specs.Content.{now_of, view_of}
 use Rattle.tx_live.specs.Made.{IsRunning}
 use Rattle.tx_live.specs.declared.content.Content.{Content}
 use Rattle.tx_live.specs.declared.inverse.Inverse.{Inverse}
-use Rattle.tx_model.specs.Answer.{answer, busy, has_bad_number, has_number_in_use, is_doomed_at, is_held_by_kill, is_parked, is_running, is_there, plain_reply, refusal, unless_refused, IsAccepted}
+use Rattle.tx_model.specs.Answer.{answer, is_doomed_at, is_parked, is_running, is_there, plain_reply, refusal, IsAccepted}
+use Rattle.tx_model.specs.Words.{busy, has_bad_number, has_number_in_use, is_stopped_by_kill, unless_refused, called_by_status, kind_role}
 use Rattle.tx_model.specs.Events.{Event, process_of, reply_of}
-use Rattle.tx_model.specs.Membership.{Role, Aborting, called_by_status, kind_role}
+use Rattle.tx_model.specs.Membership.{Role, Aborting}
 use Rattle.tx_model.specs.State.{State}
-use Rattle.tx_model.specs.View.{event_on, first_reply, holder, present, role_on}
+use Rattle.tx_model.specs.View.{event_on, first_reply, starter_in_way, present, role_on}
 use Rattle.tx_reserve.specs.Reservations.{number_of}
 use Rattle.tx_step.proofs.Taken.{answer_asked, answered, no_reason, now_seen, process_asked, running_in}
 use Rattle.tx_step.specs.Asks.{step_of}
@@ -81,7 +82,7 @@ module _ (laws : StepLaws) (k : Content) (is : IsContent k) (pid : Pid) (asked :
   refused_early why e new same = (same, inr (early_answer why whole, λ memory. never_memory (e ∙ ap Some memory)))
     where
       whole : refusal (view_of k) pid.0 (step_of pid asked) ≡ Some why
-      whole = laws.early (view_of k) pid.0 (step_of pid asked) ∙ ap (λ (x : Option Refusal). option_or x (busy (holder (view_of k) (event_on (view_of k) (step_of pid asked))))) e
+      whole = laws.early (view_of k) pid.0 (step_of pid asked) ∙ ap (λ (x : Option Refusal). option_or x (busy (starter_in_way (view_of k) (event_on (view_of k) (step_of pid asked))))) e
 
       one : (b : Bool) (x y : Option Refusal) → (x ≡ Some NoMemory → ⊥) → (y ≡ Some NoMemory → ⊥) → (if b then x else y) ≡ Some NoMemory → ⊥
       one true x y first rest h = first h
@@ -95,7 +96,7 @@ module _ (laws : StepLaws) (k : Content) (is : IsContent k) (pid : Pid) (asked :
           (one (has_number_in_use (present (view_of k)) (step_of pid asked)) (Some NumberTaken) _ (λ h. cc)
           (one (is_doomed_at (view_of k) ((view_of k).table.marks pid.0)) (Some Doomed) _ (λ h. cc)
           (one (is_parked ((view_of k).table.marks pid.0)) (Some Parked) _ (λ h. cc)
-          (one (is_held_by_kill (present (view_of k)) pid.0 (step_of pid asked)) (Some KillPending) None (λ h. cc) (λ h. cc)))))))
+          (one (is_stopped_by_kill (present (view_of k)) pid.0 (step_of pid asked)) (Some KillPending) None (λ h. cc) (λ h. cc)))))))
 
   module _ (early : None ≡ early_refusal (view_of k) pid.0 (step_of pid asked)) where
     passes : (is_running ((present (view_of k)).procs pid.0) ≡ true) × (has_bad_number (view_of k).table.width (step_of pid asked) ≡ false)
@@ -110,7 +111,7 @@ module _ (laws : StepLaws) (k : Content) (is : IsContent k) (pid : Pid) (asked :
     numbers_early = ap (λ (w : ℕ). has_bad_number w (step_of pid asked)) (sym is.shaped.marks) ∙ passes.1
 
     -- and it is refused where somebody is in the way
-    pub refused_busy : (found : Option Pid) (first : Pid) → found ≡ Some first → option_map number_of found ≡ holder (view_of k) (event_on (view_of k) (step_of pid asked)) →
+    pub refused_busy : (found : Option Pid) (first : Pid) → found ≡ Some first → option_map number_of found ≡ starter_in_way (view_of k) (event_on (view_of k) (step_of pid asked)) →
         (new : Content) → new ≡ k → IsRefused k (step_of pid asked) (Busy first) new
     refused_busy found first is_first held new same = (same, inr (early_answer (Busy first) whole, λ memory. cc))
       where

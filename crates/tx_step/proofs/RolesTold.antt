@@ -17,7 +17,8 @@ use Rattle.tx_live.specs.Made.{IsRunning}
 use Rattle.tx_live.specs.declared.content.BoxedTxn.{BoxedTxn}
 use Rattle.tx_live.specs.declared.content.Content.{Content}
 use Rattle.tx_model.specs.Deliveries.{delivered_value, ends_by}
-use Rattle.tx_model.specs.Membership.{Outside, Ordinary, inside_by, is_of, kind_of, kind_role, role}
+use Rattle.tx_model.specs.Membership.{Outside, Ordinary, inside_by, is_of, role}
+use Rattle.tx_model.specs.Words.{kind_of, kind_role}
 use Rattle.tx_model.specs.View.{View, present, role_on}
 use Rattle.tx_proc.specs.Processes.{process_in, process_of}
 use Rattle.tx_proc.specs.declared.proc.Proc.{Proc}

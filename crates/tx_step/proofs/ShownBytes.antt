@@ -9,7 +9,8 @@ use Rattle.tx_kernel.specs.declared.planned.Outcome.TheVariants.{Out}
 use Rattle.tx_kernel.specs.declared.planned.Shown.{Shown}
 use Rattle.tx_live.specs.declared.content.Content.{Content}
 use Rattle.tx_live.specs.declared.inverse.Inverse.{Inverse}
-use Rattle.tx_model.specs.Memory.{Memory, byte_in, byte_or_zero, bytes_from, loaded}
+use Rattle.tx_model.specs.Memory.{Memory, bytes_from, loaded_byte}
+use Rattle.tx_model.specs.Words.{byte_in, byte_or_zero}
 use Rattle.tx_proc.specs.Processes.{process_in}
 use Rattle.tx_proc.specs.declared.proc.Proc.{Proc}
 use Rattle.tx_step.specs.Steps.{FitsReply, replied}
@@ -17,34 +18,34 @@ use Rattle.tx_step.specs.declared.answered.Answered.{Answered}
 use Rattle.tx_step.specs.declared.answered.Answered.TheVariants.{Acted}
 
 -- one byte more
-bytes_last : (memory : Memory) (start n : ℕ) → bytes_from memory start (suc n) ≡ bytes_from memory start n ++ byte_or_zero (loaded memory (Some (start + n))) ∷ []
-bytes_last memory start zero = let same : start ≡ start + 0 = omega arith in ap (λ (a : ℕ). byte_or_zero (loaded memory (Some a)) ∷ []) same
+bytes_last : (memory : Memory) (start n : ℕ) → bytes_from memory start (suc n) ≡ bytes_from memory start n ++ byte_or_zero (loaded_byte memory (Some (start + n))) ∷ []
+bytes_last memory start zero = let same : start ≡ start + 0 = omega arith in ap (λ (a : ℕ). byte_or_zero (loaded_byte memory (Some a)) ∷ []) same
 bytes_last memory start (suc n) =
     let same : start + 1 + n ≡ start + suc n = omega arith in
-    ap (λ (xs : List ℕ). byte_or_zero (loaded memory (Some start)) ∷ xs)
-    (bytes_last memory (start + 1) n ∙ ap (λ (a : ℕ). bytes_from memory (start + 1) n ++ byte_or_zero (loaded memory (Some a)) ∷ []) same)
+    ap (λ (xs : List ℕ). byte_or_zero (loaded_byte memory (Some start)) ∷ xs)
+    (bytes_last memory (start + 1) n ∙ ap (λ (a : ℕ). bytes_from memory (start + 1) n ++ byte_or_zero (loaded_byte memory (Some a)) ∷ []) same)
 
 bytes_long : (memory : Memory) (start n : ℕ) → length (bytes_from memory start n) ≡ n
 bytes_long memory start zero = refl
 bytes_long memory start (suc n) = ap suc (bytes_long memory (start + 1) n)
 
 -- there is none at what is no address
-byte_past : (memory : Memory) (n : ℕ) → length memory ≡ 16 → 1024 ≤ n → byte_or_zero (loaded memory (Some n)) ≡ 0
+byte_past : (memory : Memory) (n : ℕ) → length memory ≡ 16 → 1024 ≤ n → byte_or_zero (loaded_byte memory (Some n)) ≡ 0
 byte_past memory n long far =
     let last : length memory ≤ n / 64 = omega (arith, long, far) in
     ap (λ page. byte_or_zero (byte_in (n % 64) page)) (get_or-eq_default memory None last)
 
 -- nor at a sum that is too large
-saturated : (memory : Memory) (n top : ℕ) → length memory ≡ 16 → 1024 ≤ top → byte_or_zero (loaded memory (Some (min n top))) ≡ byte_or_zero (loaded memory (Some n))
+saturated : (memory : Memory) (n top : ℕ) → length memory ≡ 16 → 1024 ≤ top → byte_or_zero (loaded_byte memory (Some (min n top))) ≡ byte_or_zero (loaded_byte memory (Some n))
 saturated memory n top long far = by (nat_lt top n) refl
   where
-    by : (b : Bool) → nat_lt top n ≡ b → byte_or_zero (loaded memory (Some (min n top))) ≡ byte_or_zero (loaded memory (Some n))
+    by : (b : Bool) → nat_lt top n ≡ b → byte_or_zero (loaded_byte memory (Some (min n top))) ≡ byte_or_zero (loaded_byte memory (Some n))
     by true e =
         let above : top < n = ltb-true top n e in
         let few : top ≤ n = omega (arith, above) in
         let past : 1024 ≤ n = omega (arith, far, few) in
-        ap (λ (a : ℕ). byte_or_zero (loaded memory (Some a))) (min-eq_right few) ∙ byte_past memory top long far ∙ sym (byte_past memory n long past)
-    by false e = ap (λ (a : ℕ). byte_or_zero (loaded memory (Some a))) (min-eq_left (ltb-false top n e))
+        ap (λ (a : ℕ). byte_or_zero (loaded_byte memory (Some a))) (min-eq_right few) ∙ byte_past memory top long far ∙ sym (byte_past memory n long past)
+    by false e = ap (λ (a : ℕ). byte_or_zero (loaded_byte memory (Some a))) (min-eq_left (ltb-false top n e))
 
 memory_long : (slot : Option Proc) → HasPlaces slot → length (memory_in (process_in slot)) ≡ 16
 memory_long None places = refl
@@ -56,15 +57,15 @@ added_or (Err e) ok err = inr err
 
 -- the bytes with the next one appended, for which there is room
 pub shown_more : {T E : Type 0} (slot : Option Proc) (start i at byte top : ℕ) (old new : List ℕ) (pushed : Result T E) → HasPlaces slot → i < 64 → 1024 ≤ top →
-    at ≡ min (start + i) top → byte ≡ byte_or_zero (loaded (memory_in (process_in slot)) (Some at)) → old ≡ bytes_from (memory_in (process_in slot)) start i →
+    at ≡ min (start + i) top → byte ≡ byte_or_zero (loaded_byte (memory_in (process_in slot)) (Some at)) → old ≡ bytes_from (memory_in (process_in slot)) start i →
     OnOk pushed (new ≡ old ++ byte ∷ []) → OnErr pushed (length old ≡ 64) → new ≡ bytes_from (memory_in (process_in slot)) start (i + 1)
 shown_more slot start i at byte top old new pushed places few far is_at is_byte was added full =
     let memory : Memory = memory_in (process_in slot) in
     elim (added_or pushed added full) [
       | inl more ↦
           let next : suc i ≡ i + 1 = omega arith in
-          let same : byte ≡ byte_or_zero (loaded memory (Some (start + i)))
-          = is_byte ∙ ap (λ (a : ℕ). byte_or_zero (loaded memory (Some a))) is_at ∙ saturated memory (start + i) top (memory_long slot places) far in
+          let same : byte ≡ byte_or_zero (loaded_byte memory (Some (start + i)))
+          = is_byte ∙ ap (λ (a : ℕ). byte_or_zero (loaded_byte memory (Some a))) is_at ∙ saturated memory (start + i) top (memory_long slot places) far in
           more ∙ (λ j. was j ++ same j ∷ []) ∙ sym (bytes_last memory start i) ∙ ap (bytes_from memory start) next
       | inr no_room ↦
           let long : length old ≡ i = ap length was ∙ bytes_long memory start i in

@@ -16,7 +16,7 @@ use Rattle.tx_model.specs.Events.{process_of}
 use Rattle.tx_model.specs.Footprints.{footprint}
 use Rattle.tx_model.specs.History.{event_footprint}
 use Rattle.tx_model.specs.Membership.{Table}
-use Rattle.tx_model.specs.State.{Object, State, has}
+use Rattle.tx_model.specs.State.{Object, State, has_object}
 use Rattle.tx_model.specs.View.{event_on, present, role_on}
 use Rattle.tx_proc.specs.Processes.{process_in}
 use Rattle.tx_proc.specs.declared.proc.Proc.{Proc as TheProc}
@@ -28,7 +28,7 @@ use Rattle.tx_txn.specs.Marks.{table_at}
 
 -- where the footprint has objects of numbers that there are alone
 abbrev pub HasNumbers : Content → Step → Type 0
-HasNumbers k step = (o : Object) → has o (footprint (table_of k.parts k.marks) step (now_of k)) ≡ true → is_within (length k.parts.procs) o ≡ true
+HasNumbers k step = (o : Object) → has_object o (footprint (table_of k.parts k.marks) step (now_of k)) ≡ true → is_within (length k.parts.procs) o ≡ true
 
 -- an object that no set may have is in no such footprint
 set_exact : (b : Bool) (x y : Bool) → x ≡ (if b then y else false) → (y ≡ true → b ≡ true) → x ≡ y
@@ -46,20 +46,20 @@ same_tables k shaped = λ j. record { width = sym shaped.marks j; marks = slot_a
 
 told : FootprintIsOfEvent → PresentIsNow → (k : Content) (step : Step) (o : Object) → IsRunning (slot_at k.parts.procs (process_of step)) →
     is_abort (role_on (view_of k) step) ≡ false → is_shared o ≡ true →
-    has o (footprint (table_at k.marks) step (now_of k)) ≡ has o (event_footprint (table_at k.marks) (event_on (view_of k) step) (now_of k))
+    has_object o (footprint (table_at k.marks) step (now_of k)) ≡ has_object o (event_footprint (table_at k.marks) (event_on (view_of k) step) (now_of k))
 unfolding view_of parts_view
 told of_event seen k step o running no_abort shared =
     let there : is_running ((present (view_of k)).procs (process_of step)) ≡ true
     = ap (λ (S : State). is_running (S.procs (process_of step))) (now_seen seen k) ∙ runs (slot_at k.parts.procs (process_of step)) running in
-    ap (λ (S : State). has o (footprint (table_at k.marks) step S)) (sym (now_seen seen k))
+    ap (λ (S : State). has_object o (footprint (table_at k.marks) step S)) (sym (now_seen seen k))
     ∙ of_event (view_of k) step o there no_abort shared
-    ∙ ap (λ (S : State). has o (event_footprint (table_at k.marks) (event_on (view_of k) step) S)) (now_seen seen k)
+    ∙ ap (λ (S : State). has_object o (event_footprint (table_at k.marks) (event_on (view_of k) step) S)) (now_seen seen k)
 
 pub footprint_told : FootprintIsOfEvent → PresentIsNow → WithinIsSmall → (k : Content) (step : Step) (set : Objects) → IsShaped k → IsRunning (slot_at k.parts.procs (process_of step)) →
     is_abort (role_on (view_of k) step) ≡ false → HasNumbers k step → IsSetOf set (footprint (table_of k.parts k.marks) step (now_of k)) →
     IsFootprint k (event_on (view_of k) step) set
 footprint_told of_event seen small k step set shaped running no_abort numbers is o shared =
-    set_exact (is_small o) (is_in set o) (has o (footprint (table_of k.parts k.marks) step (now_of k))) (is.each o)
+    set_exact (is_small o) (is_in set o) (has_object o (footprint (table_of k.parts k.marks) step (now_of k))) (is.each o)
     (λ h. small (length k.parts.procs) o shaped.few (numbers o h))
-    ∙ ap (λ (t : Table). has o (footprint t step (now_of k))) (same_tables k shaped)
+    ∙ ap (λ (t : Table). has_object o (footprint t step (now_of k))) (same_tables k shaped)
     ∙ told of_event seen k step o running no_abort shared

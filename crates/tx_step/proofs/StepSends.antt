@@ -11,7 +11,7 @@ use Rattle.tx_base.specs.declared.steps.Step.TheVariants.{Call as Calls, Deliver
 use Rattle.tx_change.specs.States.{state_of}
 use Rattle.tx_step.proofs.StepEvents.{commits_own}
 use Rattle.tx_step.specs.Faces.{sent_at_commit}
-use Rattle.tx_step.specs.Holder.{starter_in}
+use Rattle.tx_step.specs.InWay.{starter_in}
 use Rattle.tx_step.specs.Roles.{role_as}
 use Rattle.tx_step.specs.Ways.{posted_with}
 use Rattle.tx_step.specs.declared.roles.StepRole.{StepRole}
@@ -24,21 +24,19 @@ use Rattle.tx_kernel.specs.declared.planned.Sends.{Sends}
 use Rattle.tx_kernel.specs.declared.planned.Sends.TheVariants.{Nothing, AtOnce, AtCommit}
 use Rattle.tx_live.specs.Content.{held_of, now_of}
 use Rattle.tx_live.specs.declared.content.Content.{Content}
-use Rattle.tx_model.specs.Calls.{call_effect, effect_at, Act, act_effect, running_effect, MakesCall, TakesSignal}
-use Rattle.tx_model.specs.Deliveries.{delivery_effect}
-use Rattle.tx_model.specs.Effects.{Effect, Inside, before_sends}
+use Rattle.tx_model.specs.Words.{call_effect, delivery_effect, before_sends, kind_of, kind_role}
+use Rattle.tx_model.specs.Effects.{Effect, Inside}
 use Rattle.tx_model.specs.Events.{Event, Do, effect}
-use Rattle.tx_model.specs.Membership.{Table, Kind, Ordinary, event_in, inside_by, is_member_of, kind_event, kind_of, kind_role}
-use Rattle.tx_model.specs.State.{Process, Sending, State, written}
+use Rattle.tx_model.specs.Membership.{Table, Kind, Ordinary, event_in, inside_by, is_member_of, kind_event}
+use Rattle.tx_model.specs.State.{Process, Sending, State, with_writes}
+use Rattle.tx_model.specs.Book.{page_of_call}
+use Rattle.tx_model.specs.Deliveries.{delivery_page}
+use Rattle.tx_model.specs.BookLaws.{runs_as}
 
 -- the event posts what the effect posts, and transactions hold the same then
 pub record PostsAs (ev : Event) (f : Effect) (S : State) : Type 0 where
   pub sends : (effect ev S).sends ≡ f.sends
   pub held : (before_sends (effect ev S) S).held ≡ (before_sends f S).held
-
--- what is done by a process that runs
-pub done_as : (inside : Option Inside) (p : ℕ) (act : Act) (S : State) (me : Process) → S.procs p ≡ Some me → me.status ≡ None → effect_at inside p act S (S.procs p) ≡ act_effect inside p act me S
-done_as inside p act S me there runs = ap (effect_at inside p act S) there ∙ ap (running_effect inside p act S me) runs
 
 same_posts : (ev : Event) (f : Effect) (S : State) → effect ev S ≡ f → PostsAs ev f S
 same_posts ev f S e = record { sends = ap (λ (g : Effect). g.sends) e; held = ap (λ (g : Effect). (before_sends g S).held) e }
@@ -46,7 +44,7 @@ same_posts ev f S e = record { sends = ap (λ (g : Effect). g.sends) e; held = a
 -- a call's event posts what the call posts
 pub call_posts : (t : Table) (pid : Pid) (called : Call) (mark : Option Mark) (S : State) (me : Process) → S.procs pid.0 ≡ Some me → me.status ≡ None →
     PostsAs (kind_event t pid.0 (Calls pid called) (kind_of called) mark) (call_effect (inside_by t mark) pid.0 called me S) S
-unfolding effect written
+unfolding effect with_writes
 call_posts t pid call.SysXbegin None S me there runs = record { sends = refl; held = refl }
 call_posts t pid call.SysXbegin (Some m) S me there runs = record { sends = refl; held = refl }
 call_posts t pid call.SysXbeginDefer None S me there runs = record { sends = refl; held = refl }
@@ -56,14 +54,14 @@ call_posts t pid call.SysXend (Some m) S me there runs = record { sends = refl; 
 call_posts t pid call.SysXabort None S me there runs = record { sends = refl; held = refl }
 call_posts t pid call.SysXabort (Some m) S me there runs = record { sends = refl; held = refl }
 call_posts t pid called mark S me there runs =
-    same_posts (Do (Calls pid called) (inside_by t mark)) (call_effect (inside_by t mark) pid.0 called me S) S (done_as (inside_by t mark) pid.0 (MakesCall called) S me there runs)
+    same_posts (Do (Calls pid called) (inside_by t mark)) (call_effect (inside_by t mark) pid.0 called me S) S (runs_as (inside_by t mark) pid.0 (page_of_call called) S me there runs)
 
 -- and a delivery's event what the delivery posts
 pub delivery_posts : (t : Table) (pid : Pid) (signo : Signo) (mark : Option Mark) (S : State) (me : Process) → S.procs pid.0 ≡ Some me → me.status ≡ None →
     PostsAs (kind_event t pid.0 (Deliver pid signo) Ordinary mark) (delivery_effect (inside_by t mark) pid.0 signo.0 me S) S
 unfolding effect
 delivery_posts t pid signo mark S me there runs =
-    same_posts (Do (Deliver pid signo) (inside_by t mark)) (delivery_effect (inside_by t mark) pid.0 signo.0 me S) S (done_as (inside_by t mark) pid.0 (TakesSignal signo.0) S me there runs)
+    same_posts (Do (Deliver pid signo) (inside_by t mark)) (delivery_effect (inside_by t mark) pid.0 signo.0 me S) S (runs_as (inside_by t mark) pid.0 (delivery_page signo.0) S me there runs)
 
 -- what the transaction holds after its own step has last what that handed out
 own_after : (inside : Inside) (first : Sends) (held : ℕ → List Sending) → held_after (Some inside) first held inside.starter ≡ held inside.starter ++ sent_at_commit first

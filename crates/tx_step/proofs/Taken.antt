@@ -25,11 +25,12 @@ use Rattle.tx_live.specs.Made.{AreLocal, IsMade, IsRunning}
 use Rattle.tx_live.specs.declared.content.BoxedTxn.{BoxedTxn}
 use Rattle.tx_live.specs.declared.content.Content.{Content}
 use Rattle.tx_live.specs.declared.inverse.Inverse.{Inverse}
-use Rattle.tx_model.specs.Answer.{answer, busy, has_bad_number, is_running, is_there, plain_reply, refusal, unless_refused, IsAccepted}
+use Rattle.tx_model.specs.Answer.{answer, is_running, is_there, plain_reply, refusal, IsAccepted}
+use Rattle.tx_model.specs.Words.{busy, has_bad_number, unless_refused, processes_of, called_by_status}
 use Rattle.tx_model.specs.Events.{Event, actor, effect, objects, process_of}
-use Rattle.tx_model.specs.History.{event_footprint, nobody, processes_of, targets}
-use Rattle.tx_model.specs.Membership.{Role, Outside, Within, Commits, Aborts, called_by_status}
-use Rattle.tx_model.specs.State.{Object, State, has}
+use Rattle.tx_model.specs.History.{event_footprint, nobody, targets}
+use Rattle.tx_model.specs.Membership.{Role, Outside, Within, Commits, Aborts}
+use Rattle.tx_model.specs.State.{Object, State, has_object}
 use Rattle.tx_model.specs.View.{View, event_on, next, present, role_on}
 use Rattle.tx_proc.specs.Processes.{process_in}
 use Rattle.tx_proc.specs.declared.proc.Proc.{Proc}
@@ -87,10 +88,10 @@ module _ (laws : StepLaws) (k : Content) (is : IsContent k) where
   unfolding view_of
   sound = is.kept.sound
 
-  -- who owns an object touched it
-  pub touched_own : (s : ℕ) (o : Object) → owner_at k o ≡ Some s → (view_of k).touched s o ≡ true
+  -- who owns an object reserved it
+  pub reserved_own : (s : ℕ) (o : Object) → owner_at k o ≡ Some s → (view_of k).reserved s o ≡ true
   unfolding view_of parts_view
-  touched_own s o own = ap (is_owner s) own ∙ eq-eqb s s refl
+  reserved_own s o own = ap (is_owner s) own ∙ eq-eqb s s refl
 
   -- what changes of the event's objects and of its targets name, the step names
   named_by_event : (step : Step) → is_running ((present (view_of k)).procs (process_of step)) ≡ true → is_abort (role_on (view_of k) step) ≡ false →
@@ -99,7 +100,7 @@ module _ (laws : StepLaws) (k : Content) (is : IsContent k) where
   named_by_event step runs no_abort changes among o named =
       let E : Event = event_on (view_of k) step in
       let S : State = present (view_of k) in
-      let there : has o (named_by E S) ≡ true = ap (λ (R : State). has o (named_by E R)) now_seen ∙ named_among (named_by E (now_of k)) changes o among named in
+      let there : has_object o (named_by E S) ≡ true = ap (λ (R : State). has_object o (named_by E R)) now_seen ∙ named_among (named_by E (now_of k)) changes o among named in
       elim (has_either o (objects E S) (processes_of (effect E S).sends) there) [
         | inl h ↦ InFootprint (laws.of_event (view_of k) step o runs no_abort (named_shared changes o named) ∙ has_left o (objects E S) (targets (view_of k).table (actor E) (effect E S).sends) h)
         | inr h ↦ GetsSend h
@@ -116,7 +117,7 @@ module _ (laws : StepLaws) (k : Content) (is : IsContent k) where
   local step (Commits s) E role event runs changes are o named =
       named_by_event step (runs refl) (ap is_abort role) changes (subst (λ (e : Event). AreAmong (named_by e (now_of k)) changes) (sym event) are) o named
   local step (Aborts s status) E role event runs changes are o named =
-      WasTouched s (ap (ends_it s) role ∙ eq-eqb s s refl) (touched_own s o (are o named))
+      WasTouched s (ap (ends_it s) role ∙ eq-eqb s s refl) (reserved_own s o (are o named))
 
   -- the content that was made has the next view
   next_seen : (step : Step) (R : Role) (E : Event) → role_on (view_of k) step ≡ R → event_on (view_of k) step ≡ E → IsAccepted (answer (view_of k) step) →

@@ -17,7 +17,8 @@ use Rattle.tx_live.specs.declared.marking.Progress.{Progress as TheProgress}
 use Rattle.tx_live.specs.declared.marking.Progress.TheVariants as the
 use Rattle.tx_model.specs.Effects.{Inside}
 use Rattle.tx_model.specs.Events.{Event, Do, actor, reply_of}
-use Rattle.tx_model.specs.Membership.{Table, Progress, Role, Outside, Within, Commits, Begins, Kind, Ordinary, Forking, Beginning, Leaving, Aborting, event_in, inside_by, kind_event, kind_role, member_end_role, ordinary_role, others_open, says_ended, step_event}
+use Rattle.tx_model.specs.Membership.{Table, Progress, Role, Outside, Within, Commits, Begins, Kind, Ordinary, Forking, Beginning, Leaving, Aborting, event_in, inside_by, kind_event, others_open, says_ended, step_event}
+use Rattle.tx_model.specs.Words.{kind_role, member_end_role, ordinary_role}
 use Rattle.tx_model.specs.State.{State}
 use Rattle.tx_model.specs.View.{event_on, first_reply, present, role_on}
 use Rattle.tx_step.specs.Asks.{is_own, kind_asked, step_of}

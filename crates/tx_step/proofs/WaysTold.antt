@@ -18,7 +18,7 @@ use Rattle.tx_step.proofs.StepSends.{call_posts, delivery_posts, posted_in, send
 use Rattle.tx_step.proofs.Refusals.{marked_live}
 use Rattle.tx_step.proofs.WholeContents.{now_formed}
 use Rattle.tx_step.specs.Contents.{IsContent}
-use Rattle.tx_step.specs.Holder.{IsOfMember, starter_in}
+use Rattle.tx_step.specs.InWay.{IsOfMember, starter_in}
 use Rattle.tx_step.specs.RefusalLaws.{WayLaws}
 use Rattle.tx_step.specs.Roles.{role_as}
 use Rattle.tx_step.specs.Ways.{IsOwnActor, posted_with}
@@ -34,13 +34,11 @@ use Rattle.tx_live.specs.Content.{held_of, now_of, view_of}
 use Rattle.tx_live.specs.Insides.{IsFootprint}
 use Rattle.tx_live.specs.Made.{IsRunning}
 use Rattle.tx_live.specs.declared.content.Content.{Content}
-use Rattle.tx_model.specs.Answer.{has_bad_number}
-use Rattle.tx_model.specs.Calls.{call_effect}
-use Rattle.tx_model.specs.Deliveries.{delivery_effect}
+use Rattle.tx_model.specs.Words.{has_bad_number, call_effect, delivery_effect, called_by_status, kind_of}
 use Rattle.tx_model.specs.Effects.{Inside}
 use Rattle.tx_model.specs.Events.{Note, effect, process_of}
 use Rattle.tx_model.specs.Footprints.{footprint}
-use Rattle.tx_model.specs.Membership.{Role, Ordinary, Table, called_by_status, event_in, inside_by, is_live, kind_event, kind_of}
+use Rattle.tx_model.specs.Membership.{Role, Ordinary, Table, event_in, inside_by, is_live, kind_event}
 use Rattle.tx_model.specs.Numbers.{negative}
 use Rattle.tx_model.specs.State.{Process, Sending as TheSending, State}
 use Rattle.tx_model.specs.View.{event_on, first_reply, role_on}

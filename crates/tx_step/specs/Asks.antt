@@ -7,7 +7,8 @@ use Rattle.tx_base.specs.declared.steps.Step.{Step}
 use Rattle.tx_base.specs.declared.steps.Step.TheVariants.{Call as Calls, Deliver}
 use Rattle.tx_kernel.specs.Acts.{event_of}
 use Rattle.tx_kernel.specs.declared.events.Act.{Act}
-use Rattle.tx_model.specs.Membership.{Table, Kind, Ordinary, Forking, Beginning, Leaving, Aborting, inside_by, kind_of, step_event}
+use Rattle.tx_model.specs.Membership.{Table, Kind, Ordinary, Forking, Beginning, Leaving, Aborting, inside_by, step_event}
+use Rattle.tx_model.specs.Words.{kind_of}
 use Rattle.tx_step.specs.declared.asked.Asked.{Asked}
 use Rattle.tx_step.specs.declared.asked.Asked.TheVariants.{Call, Delivery}
 

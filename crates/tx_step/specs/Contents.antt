@@ -6,7 +6,7 @@ use Rattle.tx_laws.specs.WellFormedTable.{IsWellFormedView}
 use Rattle.tx_live.specs.Content.{content_of, view_of, IsShaped}
 use Rattle.tx_live.specs.declared.content.Content.{Content}
 use Rattle.tx_model.specs.History.{Starters}
-use Rattle.tx_model.specs.State.{booted}
+use Rattle.tx_model.specs.State.{boot_state}
 use Rattle.tx_model.specs.View.{view}
 use Rattle.tx_txn.specs.Content.{IsKept}
 
@@ -23,4 +23,4 @@ ContentsAreWhole = (k : Content) → IsContent k → IsWhole k.parts
 
 -- what a kernel keeps as it is booted is such a content: its tables fit together, it is one of the laws, and it has the view of no step
 abbrev pub BootedIsContent : Type 0
-BootedIsContent = (k : Content) (width count : ℕ) → 1 ≤ count → count ≤ width → IsShaped k → IsKept (content_of k) → view_of k ≡ view (booted width count) [] → IsContent k
+BootedIsContent = (k : Content) (width count : ℕ) → 1 ≤ count → count ≤ width → IsShaped k → IsKept (content_of k) → view_of k ≡ view (boot_state width count) [] → IsContent k

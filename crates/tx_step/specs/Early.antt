@@ -5,9 +5,10 @@ use Rattle.tx_base.specs.declared.marks.Mark.{Mark}
 use Rattle.tx_base.specs.declared.steps.Refusal.{Refusal}
 use Rattle.tx_base.specs.declared.steps.Refusal.TheVariants.{NoProcess, NotRunning, BadNumber, NumberTaken, Doomed, Parked, KillPending}
 use Rattle.tx_base.specs.declared.steps.Step.{Step}
-use Rattle.tx_model.specs.Answer.{busy, has_bad_number, has_number_in_use, is_doomed_at, is_held_by_kill, is_parked, is_running, is_there, refusal}
+use Rattle.tx_model.specs.Answer.{is_doomed_at, is_parked, is_running, is_there, refusal}
+use Rattle.tx_model.specs.Words.{busy, has_bad_number, has_number_in_use, is_stopped_by_kill}
 use Rattle.tx_model.specs.SignalSets.{kill_signo}
-use Rattle.tx_model.specs.View.{View, event_on, has_pending, holder, present}
+use Rattle.tx_model.specs.View.{View, event_on, has_pending, starter_in_way, present}
 
 -- why a step of process p is refused before it is asked who is in its way, the first reason that there is
 abbrev pub early_refusal : View → ℕ → Step → Option Refusal
@@ -18,11 +19,11 @@ early_refusal V p step =
     if has_number_in_use (present V) step then Some NumberTaken else
     if is_doomed_at V (V.table.marks p) then Some Doomed else
     if is_parked (V.table.marks p) then Some Parked else
-    if is_held_by_kill (present V) p step then Some KillPending else None
+    if is_stopped_by_kill (present V) p step then Some KillPending else None
 
 -- the refusal is this, or else that somebody is in the way
 abbrev pub RefusalIsEarly : Type 0
-RefusalIsEarly = (V : View) (p : ℕ) (step : Step) → refusal V p step ≡ option_or (early_refusal V p step) (busy (holder V (event_on V step)))
+RefusalIsEarly = (V : View) (p : ℕ) (step : Step) → refusal V p step ≡ option_or (early_refusal V p step) (busy (starter_in_way V (event_on V step)))
 
 -- why the number makes no step, whatever the step is
 abbrev pub process_refusal : View → ℕ → Option Refusal

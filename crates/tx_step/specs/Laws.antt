@@ -2,7 +2,7 @@
 use Rattle.tx_step.specs.Contents.{ContentsAreWhole}
 use Rattle.tx_step.specs.Early.{RefusalIsEarly}
 use Rattle.tx_laws.specs.Endings.{EndingsAreAnswered}
-use Rattle.tx_laws.specs.Footprints.{ClearIsOfMembers, FootprintIsOfEvent, NoHolderIsClear}
+use Rattle.tx_laws.specs.Footprints.{ClearIsOfMembers, FootprintIsOfEvent, NoStarterIsClear}
 use Rattle.tx_laws.specs.Laws.{AcceptedStepsFit, NextIsWellFormed}
 use Rattle.tx_laws.specs.LawsOfParts.{PresentIsNow}
 use Rattle.tx_laws.specs.LawsOfTable.{NextViewIsWellFormed, ViewsListEnough}
@@ -23,7 +23,7 @@ pub record StepLaws : Type 0 where
   pub keeps : (event : Event) (state : State) → IsWellFormed state → HasGoodNumbers state.width event → IsWellFormed (after event state)
   pub answered : EndingsAreAnswered
   pub of_event : FootprintIsOfEvent
-  pub clear : NoHolderIsClear
+  pub clear : NoStarterIsClear
   pub members : ClearIsOfMembers
   pub doom : DoomIsPending
   pub listed : ViewsListEnough

@@ -2,7 +2,7 @@ pub mod Early
 pub mod RefusalLaws
 pub mod Contents
 pub mod Faces
-pub mod Holder
+pub mod InWay
 pub mod Roles
 pub mod Ways
 pub mod Late

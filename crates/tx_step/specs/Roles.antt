@@ -5,7 +5,8 @@ use Rattle.tx_base.specs.declared.steps.Call.TheVariants as call
 use Rattle.tx_step.specs.declared.roles.StepRole.{StepRole}
 use Rattle.tx_step.specs.declared.roles.StepRole.TheVariants as step
 use Rattle.tx_live.specs.Progresses.{part_of}
-use Rattle.tx_model.specs.Membership.{Role, Outside, Within, Begins, Commits, Aborts, called_by_status}
+use Rattle.tx_model.specs.Membership.{Role, Outside, Within, Begins, Commits, Aborts}
+use Rattle.tx_model.specs.Words.{called_by_status}
 
 -- the same, as the definitions have it, of a step of process p
 abbrev pub role_as : ℕ → StepRole → Role

@@ -21,8 +21,8 @@ use Rattle.tx_live.specs.declared.inverse.Inverse.{Inverse}
 use Rattle.tx_model.specs.Answer.{answer, IsAccepted}
 use Rattle.tx_model.specs.Events.{effect, process_of}
 use Rattle.tx_model.specs.Footprints.{footprint}
-use Rattle.tx_model.specs.History.{processes_of}
-use Rattle.tx_model.specs.State.{Object, has}
+use Rattle.tx_model.specs.Words.{processes_of}
+use Rattle.tx_model.specs.State.{Object, has_object}
 use Rattle.tx_model.specs.View.{View, event_on, next, present, role_on}
 use Rattle.tx_proc.specs.Processes.{process_in}
 use Rattle.tx_step.specs.declared.answered.Answered.{Answered}
@@ -43,11 +43,11 @@ FitsReply (reply.Out bytes) = length bytes.items ≤ CONSOLE_BYTES
 FitsReply reply = Unit {0}
 
 -- what a step names: the objects of its footprint; the processes that its sends go to; and, where it ends a transaction, what
--- that one touched
+-- that one reserved
 pub data IsNamedBy (view : View) (step : Step) (object : Object) : Type 0 where
-  InFootprint : has object (footprint view.table step (present view)) ≡ true → IsNamedBy view step object
-  GetsSend : has object (processes_of (effect (event_on view step) (present view)).sends) ≡ true → IsNamedBy view step object
-  WasTouched : (starter : ℕ) → ends_it starter (role_on view step) ≡ true → view.touched starter object ≡ true → IsNamedBy view step object
+  InFootprint : has_object object (footprint view.table step (present view)) ≡ true → IsNamedBy view step object
+  GetsSend : has_object object (processes_of (effect (event_on view step) (present view)).sends) ≡ true → IsNamedBy view step object
+  WasTouched : (starter : ℕ) → ends_it starter (role_on view step) ≡ true → view.reserved starter object ≡ true → IsNamedBy view step object
 
 -- each change of the inverse is of an object that the step names
 abbrev pub IsLocal : Content → Step → Content → Inverse → Type 0

@@ -6,12 +6,12 @@ use Rattle.tx_step.specs.Roles.{role_as}
 use Rattle.tx_step.specs.declared.roles.StepRole.{StepRole}
 use Rattle.tx_live.specs.Content.{view_of}
 use Rattle.tx_live.specs.declared.content.Content.{Content}
-use Rattle.tx_model.specs.View.{event_on, holder, role_on}
+use Rattle.tx_model.specs.View.{event_on, starter_in_way, role_on}
 use Rattle.tx_step.specs.Asks.{step_of}
 use Rattle.tx_step.specs.declared.asked.Asked.{Asked}
 
 -- what the process is asked to do is refused for no early reason, nobody is in its way, and this is what it is to the transactions
 pub record IsLetThrough (k : Content) (pid : Pid) (asked : Asked) (role : StepRole) : Type 0 where
   pub early : early_refusal (view_of k) pid.0 (step_of pid asked) ≡ None
-  pub clear : holder (view_of k) (event_on (view_of k) (step_of pid asked)) ≡ None
+  pub clear : starter_in_way (view_of k) (event_on (view_of k) (step_of pid asked)) ≡ None
   pub is : role_as pid.0 role ≡ role_on (view_of k) (step_of pid asked)

@@ -12,7 +12,7 @@ use Rattle.tx_kernel.specs.declared.planned.Sends.{Sends}
 use Rattle.tx_kernel.specs.declared.actor.Actor.{Actor}
 use Rattle.tx_live.specs.Content.{held_of}
 use Rattle.tx_live.specs.declared.content.Content.{Content}
-use Rattle.tx_model.specs.Calls.{call_effect}
+use Rattle.tx_model.specs.Words.{call_effect}
 use Rattle.tx_model.specs.Effects.{Inside as TheInside}
 use Rattle.tx_model.specs.Footprints.{call_row}
 use Rattle.tx_model.specs.Membership.{Table, inside_by}

@@ -11,10 +11,10 @@ ghost use Rattle.tx_kernel.specs.Acts.{event_of};
 ghost use Rattle.tx_live.specs.Content.{view_of};
 ghost use Rattle.tx_live.specs.Insides.{IsFootprint};
 ghost use Rattle.tx_live.specs.Made.{IsRunning};
-ghost use Rattle.tx_model.specs.Answer.{has_bad_number};
-ghost use Rattle.tx_model.specs.Membership.{Table, inside_by, kind_event, kind_of};
+ghost use Rattle.tx_model.specs.Words.{has_bad_number, kind_of};
+ghost use Rattle.tx_model.specs.Membership.{Table, inside_by, kind_event};
 ghost use Rattle.tx_model.specs.State.{Object as TheObject};
-ghost use Rattle.tx_model.specs.View.{event_on, holder, role_on};
+ghost use Rattle.tx_model.specs.View.{event_on, starter_in_way, role_on};
 ghost use Rattle.tx_reserve.specs.Objects.{is_in};
 ghost use Rattle.tx_reserve.specs.Reservations.{number_of};
 ghost use Rattle.tx_step.specs.Asks.{IsActOf, is_own, step_of};
@@ -89,7 +89,7 @@ impl<'a> Asked<'a> {
         requires role { role_as pid.0 role ≡ role_on (view_of content.now) (step_of pid self) }
         requires empty { (o : TheObject) → is_in footprint.old o ≡ false }
         ensures footprint { IsFootprint content.now (event_on (view_of content.now) (step_of pid self.entry)) footprint.new }
-        ensures holder { option_map number_of result ≡ holder (view_of content.now) (event_on (view_of content.now) (step_of pid self.entry)) }
+        ensures starter_in_way { option_map number_of result ≡ starter_in_way (view_of content.now) (event_on (view_of content.now) (step_of pid self.entry)) }
     {
         match self {
             Asked::Call(call) => way_of_call(content, pid, call, role, footprint),

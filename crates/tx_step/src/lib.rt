@@ -9,7 +9,7 @@ mod begins;
 mod early;
 mod ends;
 mod faces;
-mod holder;
+mod in_way;
 mod inside;
 mod late;
 mod laws;

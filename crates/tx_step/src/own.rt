@@ -9,26 +9,20 @@ pub(crate) fn concerns_itself(call: &Call) -> bool
     ensures { IsTrue result → ConcernsItself call.now }
 {
     match call {
-        Call::Map(_)
-        | Call::Unmap(_)
-        | Call::Protect(_, _)
-        | Call::Store(_, _)
-        | Call::Load(_)
-        | Call::Getpid
-        | Call::Getppid
-        | Call::Setuid(_)
-        | Call::Seteuid(_)
-        | Call::Setgid(_)
-        | Call::Setegid(_)
-        | Call::Sigaction(_, _)
-        | Call::Sigprocmask(_, _)
-        | Call::Sigpending
-        | Call::Sigreturn
-        | Call::ConsoleWrite(_, _)
-        | Call::Jump(_, _)
-        | Call::Keep(_)
-        | Call::SysXbegin
-        | Call::SysXbeginDefer => true,
-        _ => false,
+        Call::Fork(_)
+        | Call::Exit(_)
+        | Call::Waitpid(_, _)
+        | Call::Pipe(_, _, _)
+        | Call::Dup(_)
+        | Call::Dup2(_, _)
+        | Call::Close(_)
+        | Call::SetNonblock(_, _)
+        | Call::Read(_, _, _)
+        | Call::Write(_, _, _)
+        | Call::Kill(_, _)
+        | Call::Sigqueue(_, _, _)
+        | Call::SysXend
+        | Call::SysXabort => false,
+        _ => true,
     }
 }

@@ -5,7 +5,8 @@ ghost use Rattle.tx_base.specs.declared.steps.Reply.TheVariants.{Committed, Done
 ghost use Rattle.tx_base.specs.Slots.{slot_at};
 ghost use Rattle.tx_change.specs.Laws.{HasPlaces};
 ghost use Rattle.tx_kernel.specs.Plans.{memory_in};
-ghost use Rattle.tx_model.specs.Memory.{byte_or_zero, bytes_from, loaded};
+ghost use Rattle.tx_model.specs.Memory.{bytes_from, loaded_byte};
+ghost use Rattle.tx_model.specs.Words.{byte_or_zero};
 ghost use Rattle.tx_proc.specs.Processes.{process_in};
 ghost use Rattle.tx_step.specs.Steps.{FitsReply, replied};
 ghost use Rattle.tx_txn.specs.Outboxes.{missed_in};
@@ -105,7 +106,7 @@ fn shown_bytes(proc: Option<&Proc>, shown: Shown) -> ArrayVec<u8, 64>
 /// The byte at an address of a process's memory; 0 where no page is mapped, or there is no process.
 fn byte_at(proc: Option<&Proc>, address: usize) -> u8
     requires { HasPlaces (option_copied proc) }
-    ensures { result ≡ byte_or_zero (loaded (memory_in (process_in (option_copied proc.entry))) (Some address)) }
+    ensures { result ≡ byte_or_zero (loaded_byte (memory_in (process_in (option_copied proc.entry))) (Some address)) }
 {
     match proc {
         Some(proc) if address < ADDRESSES => proc.space.load(address as i64).unwrap_or(0),

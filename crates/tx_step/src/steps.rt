@@ -73,8 +73,8 @@ fn take_asked(
     }
     let role = asked.role(content, pid);
     let mut footprint = Objects::new();
-    if let Some(holder) = asked.way(content, pid, role, &mut footprint) {
-        return Err(Refusal::Busy { holder });
+    if let Some(starter) = asked.way(content, pid, role, &mut footprint) {
+        return Err(Refusal::Busy { starter });
     }
     take_as(content, alloc, pid, role, asked, &footprint)
 }

@@ -5,7 +5,7 @@ ghost use Rattle.tx_base.specs.Slots.{slot_at};
 ghost use Rattle.tx_base.specs.declared.steps.Step.TheVariants.{Call as Calls, Deliver};
 ghost use Rattle.tx_step.specs.Contents.{IsContent};
 ghost use Rattle.tx_step.specs.Faces.{sent};
-ghost use Rattle.tx_step.specs.Holder.{IsOfMember, starter_in};
+ghost use Rattle.tx_step.specs.InWay.{IsOfMember, starter_in};
 ghost use Rattle.tx_step.specs.Roles.{role_as};
 ghost use Rattle.tx_step.specs.Ways.{IsOwnActor, posted_with};
 ghost use Rattle.tx_kernel.specs.Actors.{CountsHeld, inside_of};
@@ -14,18 +14,18 @@ ghost use Rattle.tx_laws.specs.Footprints.{is_abort};
 ghost use Rattle.tx_live.specs.Content.{content_of, held_of, now_of, view_of, IsShaped};
 ghost use Rattle.tx_live.specs.Insides.{IsFootprint};
 ghost use Rattle.tx_live.specs.Made.{IsRunning};
-ghost use Rattle.tx_model.specs.Answer.{has_bad_number};
+ghost use Rattle.tx_model.specs.Words.{has_bad_number};
 ghost use Rattle.tx_model.specs.Events.{Event, effect};
 ghost use Rattle.tx_model.specs.Membership.{inside_by};
 ghost use Rattle.tx_model.specs.State.{Object as TheObject, Proc};
-ghost use Rattle.tx_model.specs.View.{event_on, holder, role_on};
+ghost use Rattle.tx_model.specs.View.{event_on, starter_in_way, role_on};
 ghost use Rattle.tx_reserve.specs.Footprints.{GoesBy, IsSetOf, table_of};
 ghost use Rattle.tx_reserve.specs.Objects.{is_in};
 ghost use Rattle.tx_reserve.specs.Reservations.{number_of};
 ghost use Rattle.tx_txn.specs.Content.{IsKept};
 ghost use Rattle.tx_txn.specs.Marks.{table_at};
 
-use crate::holder::find_holder;
+use crate::in_way::find_starter;
 use crate::own::concerns_itself;
 use crate::refusal_laws::{contents_are_whole, way_laws};
 use crate::roles::{StepRole, is_last_part};
@@ -50,7 +50,7 @@ pub fn way_of_call(
     requires role { role_as pid.0 role ≡ role_on (view_of content.now) (Calls pid call.now) }
     requires empty { (o : TheObject) → is_in footprint.old o ≡ false }
     ensures footprint { IsFootprint content.now (event_on (view_of content.now) (Calls pid call.now)) footprint.new }
-    ensures holder { option_map number_of result ≡ holder (view_of content.now) (event_on (view_of content.now) (Calls pid call.now)) }
+    ensures starter_in_way { option_map number_of result ≡ starter_in_way (view_of content.now) (event_on (view_of content.now) (Calls pid call.now)) }
 {
     way_laws();
     match role {
@@ -77,14 +77,14 @@ pub fn way_of_delivery(
     requires role { role_as pid.0 role ≡ role_on (view_of content.now) (Deliver pid signo) }
     requires empty { (o : TheObject) → is_in footprint.old o ≡ false }
     ensures footprint { IsFootprint content.now (event_on (view_of content.now) (Deliver pid signo)) footprint.new }
-    ensures holder { option_map number_of result ≡ holder (view_of content.now) (event_on (view_of content.now) (Deliver pid signo)) }
+    ensures starter_in_way { option_map number_of result ≡ starter_in_way (view_of content.now) (event_on (view_of content.now) (Deliver pid signo)) }
 {
     way_laws();
     let actor = actor_of(content, pid);
     let last = last_held(content, pid);
     footprint_of_delivery(&actor, &content.marks, last, signo, footprint);
     let first = actor.sends_of_delivery(signo);
-    holder_of(content, pid, role, footprint, &first)
+    find_in_way(content, pid, role, footprint, &first)
 }
 
 /// The same as `way_of_call` of a call that aborts nothing, and may concern others than its process.
@@ -102,14 +102,14 @@ fn way_of_others_call(
     requires no_abort { is_abort (role_on (view_of content.now) (Calls pid call.now)) ≡ false }
     requires empty { (o : TheObject) → is_in footprint.old o ≡ false }
     ensures footprint { IsFootprint content.now (event_on (view_of content.now) (Calls pid call.now)) footprint.new }
-    ensures holder { option_map number_of result ≡ holder (view_of content.now) (event_on (view_of content.now) (Calls pid call.now)) }
+    ensures starter_in_way { option_map number_of result ≡ starter_in_way (view_of content.now) (event_on (view_of content.now) (Calls pid call.now)) }
 {
     way_laws();
     let actor = actor_of(content, pid);
     let last = last_held(content, pid);
     footprint_of_call(&actor, &content.marks, last, call, footprint);
     let first = actor.sends_of_call(call);
-    holder_of(content, pid, role, footprint, &first)
+    find_in_way(content, pid, role, footprint, &first)
 }
 
 /// Puts one process into an empty set, and tells who is in the way of a step that names it alone and sends
@@ -123,8 +123,8 @@ fn way_of_process(
     requires kept { IsKept (content_of content.now) }
     requires empty { (o : TheObject) → is_in footprint.old o ≡ false }
     ensures set { IsSetOf footprint.new (Proc process.0 ∷ []) }
-    ensures holder { (event : Event) → IsFootprint content.now event footprint.new → (effect event (now_of content.now)).sends ≡ [] →
-        IsOfMember content.now (option_map number_of own) event → option_map number_of result ≡ holder (view_of content.now) event }
+    ensures starter_in_way { (event : Event) → IsFootprint content.now event footprint.new → (effect event (now_of content.now)).sends ≡ [] →
+        IsOfMember content.now (option_map number_of own) event → option_map number_of result ≡ starter_in_way (view_of content.now) event }
 {
     answers_of_faces();
     footprint.insert(Object::Proc(process));
@@ -194,7 +194,7 @@ fn starter_of(content: &Content, pid: Pid) -> Option<Pid>
 }
 
 /// Who is in the way of a step of a process, which sends this first.
-fn holder_of(
+fn find_in_way(
     content: &Content,
     pid: Pid,
     role: StepRole,
@@ -203,14 +203,14 @@ fn holder_of(
 ) -> Option<Pid>
     requires { IsKept (content_of content.now) }
     ensures { (event : Event) → IsFootprint content.now event footprint.now → (effect event (now_of content.now)).sends ≡ posted_with content.now role first.now →
-        IsOfMember content.now (starter_in (slot_at content.now.marks pid.0)) event → option_map number_of result ≡ holder (view_of content.now) event }
+        IsOfMember content.now (starter_in (slot_at content.now.marks pid.0)) event → option_map number_of result ≡ starter_in_way (view_of content.now) event }
 {
     let own = starter_of(content, pid);
     match role {
         StepRole::Commits(starter) => {
-            find_holder(content, own, footprint, first, held_by(content, starter))
+            find_starter(content, own, footprint, first, held_by(content, starter))
         }
-        _ => find_holder(content, own, footprint, &at_once(first), &[]),
+        _ => find_starter(content, own, footprint, &at_once(first), &[]),
     }
 }
 

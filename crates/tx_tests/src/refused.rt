@@ -11,7 +11,7 @@ use crate::texts::{told, told_by};
 use std::alloc::Global;
 use std::process::Abort;
 use tx_base::{Accepted, NoMemory, Step};
-use tx_core::{Kept, Ran};
+use tx_core::{KeptRun, Ran};
 use tx_journal::{GotoFault, Session, print_state};
 use tx_pages::{PageError, Space};
 
@@ -45,7 +45,7 @@ fn a_run_is_made_whole_the_second_time(rt: HostRuntime) {
 }
 
 /// The run, kept up to where it stopped.
-fn kept_run(rt: &impl Abort, alloc: Global, steps: &[Step]) -> Kept {
+fn kept_run(rt: &impl Abort, alloc: Global, steps: &[Step]) -> KeptRun {
     match kept(alloc, steps) {
         Ok(first) => first,
         Err(NoMemory) => match kept(alloc, steps) {

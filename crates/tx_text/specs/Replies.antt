@@ -19,7 +19,7 @@ number_of NumberTaken = 4
 number_of Doomed = 5
 number_of Parked = 6
 number_of KillPending = 7
-number_of (Busy holder) = 8
+number_of (Busy starter_in_way) = 8
 number_of Wait = 9
 number_of NotDeliverable = 10
 number_of FramesFull = 11
@@ -29,7 +29,7 @@ number_of Deferred = 14
 
 -- a refusal: its number, and who holds what is wanted
 abbrev pub refusal_text : Refusal → List ℕ
-refusal_text (Busy holder) = decimal 8 ++ 32 ∷ decimal holder.0
+refusal_text (Busy starter_in_way) = decimal 8 ++ 32 ∷ decimal starter_in_way.0
 refusal_text refusal = decimal (number_of refusal)
 
 -- a send that could not be delivered

@@ -58,15 +58,15 @@ fn put_missed(text: &mut String, missed: &Missed) -> Result<(), AllocError>
     put_count(text, u64::from(missed.errno.number()))
 }
 
-/// Appends the number of a refusal, and the holder where one is in the way.
+/// Appends the number of a refusal, and the starter where one is in the way.
 fn put_refusal(text: &mut String, refusal: Refusal) -> Result<(), AllocError>
     ensures { OnOk result (string_bytes text.new ≡ string_bytes text.old ++ refusal_text refusal) }
 {
     put_count(text, number(refusal))?;
     match refusal {
-        Refusal::Busy { holder } => {
+        Refusal::Busy { starter } => {
             put(text, " ")?;
-            put_count(text, u64::from(holder.0))
+            put_count(text, u64::from(starter.0))
         }
         _ => Ok(()),
     }

@@ -5,10 +5,10 @@ use Rattle.tx_laws.specs.TwoParts.{parts_view}
 use Rattle.tx_model.specs.Events.{Event, actor, effect, objects}
 use Rattle.tx_model.specs.Membership.{is_live, is_member_of}
 use Rattle.tx_model.specs.SignalSets.{kill_signo, is_in_set}
-use Rattle.tx_model.specs.State.{Process, Proc, has}
-use Rattle.tx_model.specs.View.{has_pending, has_two_answers, holder, in_way, is_doomed, least}
+use Rattle.tx_model.specs.State.{Process, Proc, has_object}
+use Rattle.tx_model.specs.View.{has_pending, has_two_answers, starter_in_way, in_way, is_doomed, least}
 use Rattle.tx_signal.specs.Parts.{PendingView}
-use Rattle.tx_txn.specs.Content.{Txn, Content, IsKept, kept_of, two_parts_of, starter_differs, stands_in_way}
+use Rattle.tx_txn.specs.Content.{Txn, LogKernel, IsKept, kept_of, two_parts_of, starter_differs, stands_in_way}
 use Rattle.tx_txn.specs.Faces.{Face, face_of, pending_in, faces_differ, running}
 use Rattle.tx_txn.specs.Laws.{RoleLaws}
 use Rattle.tx_txn.proofs.Owned.{kept_pending, live_txn}
@@ -18,7 +18,7 @@ pending_there : (signo : ℕ) (x : Option Process) (face : Face) → face_of x �
 pending_there signo None face h = cc
 pending_there signo (Some q) face h = refl
 
-module _ (laws : RoleLaws) (c : Content) (k : IsKept c) where
+module _ (laws : RoleLaws) (c : LogKernel) (k : IsKept c) where
   pub doom_pending : (s : ℕ) (t : Txn) → c.txns s ≡ Some t → is_doomed (parts_view (two_parts_of c)) s ≡ is_in_set t.pending.standard kill_signo
   doom_pending s t e =
       laws.doom (two_parts_of c) s k.sound (live_txn c k s t e)
@@ -32,7 +32,7 @@ module _ (laws : RoleLaws) (c : Content) (k : IsKept c) where
       ∙ ap₂ (λ (f : Option Face) (P : PendingView). faces_differ s (effect ev c.now).sends (face_of (c.now.procs s)) (queued_in (c.now.procs s)) f (length P.queued))
       (k.starter s t e) (kept_pending c k s t e)
 
-  pub two_answers_faces : (ev : Event) (s : ℕ) (t : Txn) → c.txns s ≡ Some t → has (Proc s) (objects ev c.now) ≡ false
+  pub two_answers_faces : (ev : Event) (s : ℕ) (t : Txn) → c.txns s ≡ Some t → has_object (Proc s) (objects ev c.now) ≡ false
       → has_two_answers (parts_view (two_parts_of c)) ev s ≡ starter_differs c ev s t
   two_answers_faces ev s t e out = laws.two_answers (two_parts_of c) ev s k.sound (live_txn c k s t e) out ∙ sends_faces ev s t e
 
@@ -48,5 +48,5 @@ module _ (laws : RoleLaws) (c : Content) (k : IsKept c) where
   pub in_way_faces : (ev : Event) (s : ℕ) → in_way (parts_view (two_parts_of c)) ev s ≡ stands_in_way c ev s (c.txns s)
   in_way_faces ev s = laws.in_way (two_parts_of c) ev s k.sound ∙ way_faces ev s
 
-  pub holder_faces : (ev : Event) → holder (parts_view (two_parts_of c)) ev ≡ least (λ s. stands_in_way c ev s (c.txns s)) c.table.width
-  holder_faces ev = laws.holder (two_parts_of c) ev k.sound ∙ ap (λ (P : ℕ → Bool). least P c.table.width) (λ i s. way_faces ev s i)
+  pub starter_in_way_faces : (ev : Event) → starter_in_way (parts_view (two_parts_of c)) ev ≡ least (λ s. stands_in_way c ev s (c.txns s)) c.table.width
+  starter_in_way_faces ev = laws.starter_in_way (two_parts_of c) ev k.sound ∙ ap (λ (P : ℕ → Bool). least P c.table.width) (λ i s. way_faces ev s i)

@@ -4,11 +4,12 @@ use Rattle.std.proofs.lemmas.Bool.{both_ways, cases_Bool}
 use Rattle.tx_base.specs.declared.marks.Mark.{Mark}
 use Rattle.tx_laws.specs.Fits.{IsIn}
 use Rattle.tx_laws.specs.TwoParts.{in_set, is_owner, pick, freed}
-use Rattle.tx_model.specs.History.{just, is_other_starter, targets, processes_of, objects_reserved}
-use Rattle.tx_model.specs.Membership.{Table, is_of, Progress, Continues, Parks, Forks, Begins, unmarked}
-use Rattle.tx_model.specs.State.{State, Sending, Object, Proc, Desc, Pipe, Held, same_object, has}
+use Rattle.tx_model.specs.History.{just, is_other_starter, targets, objects_reserved}
+use Rattle.tx_model.specs.Words.{processes_of}
+use Rattle.tx_model.specs.Membership.{Table, is_of, Progress, Continues, Parks, Forks, Begins, mark_unless_of}
+use Rattle.tx_model.specs.State.{State, Sending, Object, Proc, Desc, Pipe, Held, same_object, has_object}
 use Rattle.tx_model.specs.StateLaws.{AgreePart}
-use Rattle.tx_model.specs.View.{meets}
+use Rattle.tx_model.specs.View.{some_object}
 
 pub part_refl : (S : State) (o : Object) → AgreePart S S o
 part_refl S (Proc n) = refl
@@ -70,52 +71,52 @@ same_true (Held n) (Desc m) h = cc
 same_true (Held n) (Pipe m) h = cc
 same_true (Held n) (Held m) h = ap Held (eqb-true n m h)
 
-pub same_self : (n : ℕ) (os : List Object) → has (Proc n) (Proc n ∷ os) ≡ true
-unfolding has
+pub same_self : (n : ℕ) (os : List Object) → has_object (Proc n) (Proc n ∷ os) ≡ true
+unfolding has_object
 same_self n os = rw (eq-eqb n n refl) refl
 
-pub has_tail : (o x : Object) (os : List Object) → has o os ≡ true → has o (x ∷ os) ≡ true
-unfolding has
+pub has_tail : (o x : Object) (os : List Object) → has_object o os ≡ true → has_object o (x ∷ os) ≡ true
+unfolding has_object
 has_tail o x os h = by (same_object o x)
   where
-    by : (b : Bool) → (if b then true else has o os) ≡ true
+    by : (b : Bool) → (if b then true else has_object o os) ≡ true
     by true = refl
     by false = h
 
 -- an object of either of two lists is one of the two together
-pub has_left : (o : Object) (xs ys : List Object) → has o xs ≡ true → has o (xs ++ ys) ≡ true
-unfolding has
+pub has_left : (o : Object) (xs ys : List Object) → has_object o xs ≡ true → has_object o (xs ++ ys) ≡ true
+unfolding has_object
 has_left o [] ys h = cc
 has_left o (x ∷ xs) ys h = by (same_object o x) h (has_left o xs ys)
   where
-    by : (b : Bool) → (if b then true else has o xs) ≡ true → (has o xs ≡ true → has o (xs ++ ys) ≡ true) → (if b then true else has o (xs ++ ys)) ≡ true
+    by : (b : Bool) → (if b then true else has_object o xs) ≡ true → (has_object o xs ≡ true → has_object o (xs ++ ys) ≡ true) → (if b then true else has_object o (xs ++ ys)) ≡ true
     by true k rest = refl
     by false k rest = rest k
 
-pub has_right : (o : Object) (xs ys : List Object) → has o ys ≡ true → has o (xs ++ ys) ≡ true
+pub has_right : (o : Object) (xs ys : List Object) → has_object o ys ≡ true → has_object o (xs ++ ys) ≡ true
 has_right o [] ys h = h
 has_right o (x ∷ xs) ys h = has_tail o x (xs ++ ys) (has_right o xs ys h)
 
 -- what passes the test is met
-pub meets_not : (os : List Object) (P : Object → Bool) (o : Object) → has o os ≡ true → P o ≡ true → meets os P ≡ false → ⊥
-unfolding has meets
+pub meets_not : (os : List Object) (P : Object → Bool) (o : Object) → has_object o os ≡ true → P o ≡ true → some_object os P ≡ false → ⊥
+unfolding has_object some_object
 meets_not [] P o h k e = cc
-meets_not (x ∷ xs) P o h k e = by (same_object o x) refl h (λ j. meets_not xs P o j k (none_left (P x) (meets xs P) e).1)
+meets_not (x ∷ xs) P o h k e = by (same_object o x) refl h (λ j. meets_not xs P o j k (none_left (P x) (some_object xs P) e).1)
   where
-    by : (b : Bool) → same_object o x ≡ b → (if b then true else has o xs) ≡ true → (has o xs ≡ true → ⊥) → ⊥
-    by true z j rest = both_ways (P x) (none_left (P x) (meets xs P) e).0 (subst (λ (y : Object). P y ≡ true) (same_true o x z) k)
+    by : (b : Bool) → same_object o x ≡ b → (if b then true else has_object o xs) ≡ true → (has_object o xs ≡ true → ⊥) → ⊥
+    by true z j rest = both_ways (P x) (none_left (P x) (some_object xs P) e).0 (subst (λ (y : Object). P y ≡ true) (same_true o x z) k)
     by false z j rest = rest j
 
 -- the target of a send, no live starter of another transaction, is one of the targets
-pub in_targets : (t : Table) (p : ℕ) (ms : List Sending) (m : Sending) → IsIn m ms → is_other_starter t p m.target ≡ false → has (Proc m.target) (targets t p ms) ≡ true
+pub in_targets : (t : Table) (p : ℕ) (ms : List Sending) (m : Sending) → IsIn m ms → is_other_starter t p m.target ≡ false → has_object (Proc m.target) (targets t p ms) ≡ true
 unfolding targets
 in_targets t p [] m i e = absurd i
 in_targets t p (n ∷ ms) m (inl i) e =
-    subst (λ (x : Sending). has (Proc m.target) (if is_other_starter t p x.target then targets t p ms else Proc x.target ∷ targets t p ms) ≡ true) i
+    subst (λ (x : Sending). has_object (Proc m.target) (if is_other_starter t p x.target then targets t p ms else Proc x.target ∷ targets t p ms) ≡ true) i
     (rw e (same_self m.target (targets t p ms)))
 in_targets t p (n ∷ ms) m (inr i) e = by (is_other_starter t p n.target) (in_targets t p ms m i e)
   where
-    by : (b : Bool) → has (Proc m.target) (targets t p ms) ≡ true → has (Proc m.target) (if b then targets t p ms else Proc n.target ∷ targets t p ms) ≡ true
+    by : (b : Bool) → has_object (Proc m.target) (targets t p ms) ≡ true → has_object (Proc m.target) (if b then targets t p ms else Proc n.target ∷ targets t p ms) ≡ true
     by true rest = rest
     by false rest = has_tail (Proc m.target) (Proc n.target) (targets t p ms) rest
 
@@ -126,26 +127,26 @@ all_targets t p [] h = refl
 all_targets t p (m ∷ ms) h = rw (h m (inl refl)) (ap (λ (os : List Object). Proc m.target ∷ os) (all_targets t p ms (λ n i. h n (inr i))))
 
 -- a first step reserves what its transaction holds, and what it names; another one what it names
-pub reserved_foot : (part : Progress) (s : ℕ) (F : List Object) (o : Object) → has o F ≡ true → has o (objects_reserved part s F) ≡ true
+pub reserved_foot : (part : Progress) (s : ℕ) (F : List Object) (o : Object) → has_object o F ≡ true → has_object o (objects_reserved part s F) ≡ true
 reserved_foot Continues s F o h = h
 reserved_foot Parks s F o h = h
 reserved_foot (Forks c) s F o h = h
 reserved_foot (Begins defers) s F o h = has_tail o (Held s) F h
 
-pub reserved_cases : (part : Progress) (s : ℕ) (F : List Object) (o : Object) → has o (objects_reserved part s F) ≡ true → (o ≡ Held s) ⊎ (has o F ≡ true)
-unfolding has
+pub reserved_cases : (part : Progress) (s : ℕ) (F : List Object) (o : Object) → has_object o (objects_reserved part s F) ≡ true → (o ≡ Held s) ⊎ (has_object o F ≡ true)
+unfolding has_object
 reserved_cases Continues s F o h = inr h
 reserved_cases Parks s F o h = inr h
 reserved_cases (Forks c) s F o h = inr h
 reserved_cases (Begins defers) s F o h = by (same_object o (Held s)) refl h
   where
-    by : (b : Bool) → same_object o (Held s) ≡ b → (if b then true else has o F) ≡ true → (o ≡ Held s) ⊎ (has o F ≡ true)
+    by : (b : Bool) → same_object o (Held s) ≡ b → (if b then true else has_object o F) ≡ true → (o ≡ Held s) ⊎ (has_object o F ≡ true)
     by true e k = inl (same_true o (Held s) e)
     by false e k = inr k
 
-pub not_reserved : (part : Progress) (s : ℕ) (F : List Object) (o : Object) → has o (objects_reserved part s F) ≡ false → has o F ≡ false
-not_reserved part s F o h = elim (cases_Bool (has o F)) [
-  | inl e ↦ absurd (both_ways (has o (objects_reserved part s F)) h (reserved_foot part s F o e))
+pub not_reserved : (part : Progress) (s : ℕ) (F : List Object) (o : Object) → has_object o (objects_reserved part s F) ≡ false → has_object o F ≡ false
+not_reserved part s F o h = elim (cases_Bool (has_object o F)) [
+  | inl e ↦ absurd (both_ways (has_object o (objects_reserved part s F)) h (reserved_foot part s F o e))
   | inr e ↦ e
 ]
 
@@ -187,7 +188,7 @@ of_other s t x h ne = elim (cases_Bool (is_of t x)) [
   | inr e ↦ e
 ]
 
-pub of_unmarked : (t s : ℕ) (x : Option Mark) → is_of t (unmarked s x) ≡ (if t == s then false else is_of t x)
+pub of_unmarked : (t s : ℕ) (x : Option Mark) → is_of t (mark_unless_of s x) ≡ (if t == s then false else is_of t x)
 of_unmarked t s None = by (t == s)
   where
     by : (b : Bool) → false ≡ (if b then false else false)

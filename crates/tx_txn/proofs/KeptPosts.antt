@@ -7,7 +7,8 @@ use Rattle.tx_base.specs.declared.errors.Errno.{Errno}
 use Rattle.tx_base.specs.declared.errors.Errno.TheVariants.{TryAgain}
 use Rattle.tx_base.specs.declared.limits.TheConstants.{QUEUED}
 use Rattle.tx_base.specs.declared.signals.SigSet.{SigSet}
-use Rattle.tx_model.specs.Posts.{is_quiet, is_realtime, may_signal, received, with_pending, with_queued, with_signal}
+use Rattle.tx_model.specs.Posts.{is_quiet, is_realtime, may_signal, target_after, with_signal}
+use Rattle.tx_model.specs.Words.{with_pending, with_queued}
 use Rattle.tx_model.specs.State.{Process, Queued, Sender, Sending, booted_process}
 use Rattle.tx_signal.specs.Entries.{entry_given, entry_swapped}
 use Rattle.tx_cred.specs.Cred.{ids_of}
@@ -18,7 +19,7 @@ use Rattle.tx_txn.specs.declared.kept.Kept.{Kept}
 use Rattle.tx_signal.specs.Parts.{PendingView, post_result, sending_of, with_pending_part}
 
 -- a post that gets through is the signal's
-pub reached : (m : Sending) (q after : Process) → true ≡ (may_signal m.from q.ids && not (is_quiet m q)) → with_signal m q ≡ after → received m (Some q) ≡ Some after
+pub reached : (m : Sending) (q after : Process) → true ≡ (may_signal m.from q.ids && not (is_quiet m q)) → with_signal m q ≡ after → target_after m (Some q) ≡ Some after
 reached m q after through does = ap Some (by (may_signal m.from q.ids) (is_quiet m q) through ∙ does)
   where
     by : (permitted quiet : Bool) → true ≡ (permitted && not quiet) → (if permitted then (if quiet then q else with_signal m q) else q) ≡ with_signal m q
@@ -27,7 +28,7 @@ reached m q after through does = ap Some (by (may_signal m.from q.ids) (is_quiet
     by false quiet e = cc
 
 -- any other changes nothing
-pub stopped : (m : Sending) (q : Process) → false ≡ (may_signal m.from q.ids && not (is_quiet m q)) → received m (Some q) ≡ Some q
+pub stopped : (m : Sending) (q : Process) → false ≡ (may_signal m.from q.ids && not (is_quiet m q)) → target_after m (Some q) ≡ Some q
 stopped m q through = ap Some (by (may_signal m.from q.ids) (is_quiet m q) through)
   where
     by : (permitted quiet : Bool) → false ≡ (permitted && not quiet) → (if permitted then (if quiet then q else with_signal m q) else q) ≡ q
@@ -99,6 +100,6 @@ back_standard signo value old new set standard posts was =
     by true room e = cc
 
 -- what is pending after a post at what is kept
-pub kept_pending : (m : Sending) (old new : Kept) (me : Process) → received m (Some (kept_as old me)) ≡ Some (kept_as new me) →
+pub kept_pending : (m : Sending) (old new : Kept) (me : Process) → target_after m (Some (kept_as old me)) ≡ Some (kept_as new me) →
     new.pending ≡ pending_after m (Some (running (ids_of old.ids))) old.pending
 kept_pending m old new me receives = sym (ap pending_in receives) ∙ pending_received m (Some (kept_as old me))

@@ -5,14 +5,14 @@ use Rattle.std.proofs.lemmas.List.{get_or_past}
 use Rattle.tx_base.specs.Slots.{slot_at}
 use Rattle.tx_base.specs.declared.names.Pid.{Pid}
 use Rattle.tx_base.specs.declared.marks.Mark.{Mark}
-use Rattle.tx_model.specs.Membership.{Table, is_of, is_open_of, others_open, unmarked}
+use Rattle.tx_model.specs.Membership.{Table, is_of, is_open_of, others_open, mark_unless_of}
 use Rattle.tx_model.specs.State.{Proc}
 use Rattle.tx_reserve.specs.Objects.{has_place, is_in, place_of, TakesOut}
 use Rattle.tx_reserve.specs.declared.objects.Objects.{Objects}
 use Rattle.tx_txn.specs.Marks.{IsCovered, ended_of, mark_of, table_at}
 use Rattle.tx_txn.specs.declared.members.Members.{Members}
 
-unmarked_other : (s : ℕ) (m : Option Mark) → is_of s m ≡ false → unmarked s m ≡ m
+unmarked_other : (s : ℕ) (m : Option Mark) → is_of s m ≡ false → mark_unless_of s m ≡ m
 unmarked_other s None other = refl
 unmarked_other s (Some m) other = rw other refl
 
@@ -22,7 +22,7 @@ ended_other s (Some m) other = rw other refl
 
 -- the marks of the transaction of s are taken out, but for those of the rest
 pub record TookMarks (s : ℕ) (rest : Objects) (before now : List (Option Mark)) (members : Members) : Type 0 where
-  pub marks : (n : ℕ) → slot_at now n ≡ (if is_in rest (Proc n) then slot_at before n else unmarked s (slot_at before n))
+  pub marks : (n : ℕ) → slot_at now n ≡ (if is_in rest (Proc n) then slot_at before n else mark_unless_of s (slot_at before n))
   pub long : length now ≡ length before
   pub joined : (n : ℕ) → is_in members.joined (Proc n) ≡ (if is_in rest (Proc n) then false else is_of s (slot_at before n))
   pub ended : (n : ℕ) → is_in members.ended (Proc n) ≡ (if is_in rest (Proc n) then false else ended_of s (slot_at before n))
@@ -57,13 +57,13 @@ or_false true b e = refl
 or_false false b e = e
 
 pub took_one : (s p : ℕ) (rest left : Objects) (before now after : List (Option Mark)) (members more : Members) → TookMarks s rest before now members → TakesOut rest left (Proc p) →
-    ((n : ℕ) → slot_at after n ≡ (if n == p then unmarked s (slot_at now n) else slot_at now n)) → length after ≡ length now →
+    ((n : ℕ) → slot_at after n ≡ (if n == p then mark_unless_of s (slot_at now n) else slot_at now n)) → length after ≡ length now →
     ((n : ℕ) → is_in more.joined (Proc n) ≡ (if n == p then is_of s (slot_at now n) || is_in members.joined (Proc n) else is_in members.joined (Proc n))) →
     ((n : ℕ) → is_in more.ended (Proc n) ≡ (if n == p then ended_of s (slot_at now n) || is_in members.ended (Proc n) else is_in members.ended (Proc n))) →
     TookMarks s left before after more
 took_one s p rest left before now after members more took out marks long joined ended = record {
   marks = λ n. elim (cases_Bool (n == p)) [
-    | inl e ↦ rw (gone n e) ((rw e at (marks n)) ∙ ap (unmarked s) (rw (was n e) at (took.marks n)))
+    | inl e ↦ rw (gone n e) ((rw e at (marks n)) ∙ ap (mark_unless_of s) (rw (was n e) at (took.marks n)))
     | inr e ↦ rw (stays n e) ((rw e at (marks n)) ∙ took.marks n)
   ];
   long = long ∙ took.long;

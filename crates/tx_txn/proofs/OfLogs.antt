@@ -7,7 +7,7 @@ use Rattle.tx_change.specs.declared.change.Change.{Change}
 use Rattle.tx_change.specs.declared.change.Change.TheVariants.{Slot}
 use Rattle.tx_change.specs.declared.parts.Parts.{Parts}
 use Rattle.tx_kernel.specs.Plans.{AreAmong}
-use Rattle.tx_model.specs.State.{State, Sending, Object, Proc, Desc, Pipe, Held, same_object, has}
+use Rattle.tx_model.specs.State.{State, Sending, Object, Proc, Desc, Pipe, Held, same_object, has_object}
 use Rattle.tx_model.specs.StateLaws.{state_ext, AgreePart}
 use Rattle.tx_proc.specs.Processes.{process_in}
 use Rattle.tx_proc.specs.declared.proc.Proc.{Proc as ProcSlot}
@@ -38,13 +38,13 @@ named_one o change h = same_true o (object_of change) (by (same_object o (object
     by false k = k
 
 -- what a log names is among the objects that its changes are among
-named_among : (F : List Object) (log : List Change) → AreAmong F log → (o : Object) → is_named o (newest_first log) ≡ true → has o F ≡ true
+named_among : (F : List Object) (log : List Change) → AreAmong F log → (o : Object) → is_named o (newest_first log) ≡ true → has_object o F ≡ true
 unfolding is_named
 named_among F [] among o h = cc
 named_among F (change ∷ log) among o h =
     elim (named_append o (newest_first log) (change ∷ []) h) [
       | inl i ↦ named_among F log among.1 o i
-      | inr i ↦ subst (λ (x : Object). has x F ≡ true) (sym (named_one o change i)) among.0
+      | inr i ↦ subst (λ (x : Object). has_object x F ≡ true) (sym (named_one o change i)) among.0
     ]
 
 module _ (laws : LogLaws) where

@@ -9,12 +9,12 @@ use Rattle.tx_model.specs.Effects.{send_answers}
 use Rattle.tx_model.specs.Events.{Event, actor, effect, objects, after}
 use Rattle.tx_model.specs.History.{is_other_starter, targets, event_footprint, objects_reserved}
 use Rattle.tx_model.specs.Membership.{Table, Progress, is_member_of, is_live}
-use Rattle.tx_model.specs.Posts.{posts}
-use Rattle.tx_model.specs.State.{Process, State, Object, Proc, Desc, Pipe, Held, same_object, has}
+use Rattle.tx_model.specs.Posts.{after_posts}
+use Rattle.tx_model.specs.State.{Process, State, Object, Proc, Desc, Pipe, Held, same_object, has_object}
 use Rattle.tx_model.specs.StateLaws.{AgreePart}
-use Rattle.tx_model.specs.View.{IsClear}
+use Rattle.tx_model.specs.Words.{IsClear}
 use Rattle.tx_signal.specs.Parts.{PendingView}
-use Rattle.tx_txn.specs.Content.{Txn, Content, overlay, with_kept, led_by, kept_for, kept_of, two_parts_of, is_named, IsKept}
+use Rattle.tx_txn.specs.Content.{Txn, LogKernel, overlay, with_kept, led_by, kept_for, kept_of, two_parts_of, is_named, IsKept}
 use Rattle.tx_txn.specs.Faces.{Face, face_of, running, pending_in, pending_by}
 use Rattle.tx_txn.specs.Laws.{RoleLaws}
 use Rattle.tx_txn.specs.Steps.{posted, AgreeBut}
@@ -23,14 +23,14 @@ use Rattle.tx_txn.proofs.Overlays.{but_part, but_sym, but_trans, with_kept_but, 
 use Rattle.tx_txn.proofs.Posted.{GoTo, face_posts, pending_posts, posts_but, posts_held}
 
 -- what is kept at an object is that in the state led back by its owner
-pub kept_at : (c : Content) (o : Object) (x : Option ℕ) → c.owner o ≡ x → AgreePart (kept_of c) (kept_for c x) o
+pub kept_at : (c : LogKernel) (o : Object) (x : Option ℕ) → c.owner o ≡ x → AgreePart (kept_of c) (kept_for c x) o
 unfolding kept_of
 kept_at c (Proc n) x h = rw h refl
 kept_at c (Desc n) x h = rw h refl
 kept_at c (Pipe n) x h = rw h refl
 kept_at c (Held n) x h = rw h refl
 
-pub kept_at_txn : (c : Content) (o : Object) (t : ℕ) (x : Txn) → c.owner o ≡ Some t → c.txns t ≡ Some x → AgreePart (kept_of c) (led_by t (Some x) c.now) o
+pub kept_at_txn : (c : LogKernel) (o : Object) (t : ℕ) (x : Txn) → c.owner o ≡ Some t → c.txns t ≡ Some x → AgreePart (kept_of c) (led_by t (Some x) c.now) o
 kept_at_txn c o t x h e = subst (λ (y : Option Txn). AgreePart (kept_of c) (led_by t y c.now) o) e (kept_at c o (Some t) h)
 
 other_live : (t : Table) (p n : ℕ) → is_other_starter t p n ≡ true → is_live t n ≡ true
@@ -44,7 +44,7 @@ laid : (P : PendingView) (x : Option Process) (f : Face) → face_of (overlay P 
 laid P None f h = cc
 laid P (Some q) f h = refl
 
-module _ (c : Content) (k : IsKept c) where
+module _ (c : LogKernel) (k : IsKept c) where
   pub live_txn : (s : ℕ) (t : Txn) → c.txns s ≡ Some t → is_live c.table s ≡ true
   live_txn s t e = sym (k.live s) ∙ ap is_some e
 
@@ -93,26 +93,26 @@ module _ (c : Content) (k : IsKept c) where
 
 module _ (laws : RoleLaws) where
   -- an event that changes at an object no more than what is pending at process t
-  made_but : (ev : Event) (S T : State) (t : ℕ) (o : Object) → has o (objects ev S) ≡ false → GoTo t o (effect ev S).sends → AgreeBut t (made ev S T) T o
+  made_but : (ev : Event) (S T : State) (t : ℕ) (o : Object) → has_object o (objects ev S) ≡ false → GoTo t o (effect ev S).sends → AgreeBut t (made ev S T) T o
   made_but ev S T t o h to =
-      but_trans t (made ev S T) (posts (effect ev S).sends T) T o
-      (but_part t (made ev S T) (posts (effect ev S).sends T) o (laws.sends ev S T (send_answers (effect ev S) S) o h))
+      but_trans t (made ev S T) (after_posts (effect ev S).sends T) T o
+      (but_part t (made ev S T) (after_posts (effect ev S).sends T) o (laws.sends ev S T (send_answers (effect ev S) S) o h))
       (posts_but t (effect ev S).sends T o to)
 
-  pub made_rest : (ev : Event) (S : State) (n : ℕ) → has (Proc n) (objects ev S) ≡ false → AgreeBut n (made ev S S) S (Proc n)
+  pub made_rest : (ev : Event) (S : State) (n : ℕ) → has_object (Proc n) (objects ev S) ≡ false → AgreeBut n (made ev S S) S (Proc n)
   made_rest ev S n h = made_but ev S S n (Proc n) h (λ m i e. sym (eqb-true n m.target e))
 
-  made_held : (ev : Event) (S T : State) (n : ℕ) → has (Held n) (objects ev S) ≡ false → (made ev S T).held n ≡ T.held n
+  made_held : (ev : Event) (S T : State) (n : ℕ) → has_object (Held n) (objects ev S) ≡ false → (made ev S T).held n ≡ T.held n
   made_held ev S T n h = laws.sends ev S T (send_answers (effect ev S) S) (Held n) h ∙ posts_held (effect ev S).sends T n
 
   -- at a process that the event does not name
-  pub made_face : (ev : Event) (S T : State) (s : ℕ) → has (Proc s) (objects ev S) ≡ false → face_of ((made ev S T).procs s) ≡ face_of (T.procs s)
+  pub made_face : (ev : Event) (S T : State) (s : ℕ) → has_object (Proc s) (objects ev S) ≡ false → face_of ((made ev S T).procs s) ≡ face_of (T.procs s)
   made_face ev S T s h = ap face_of (laws.sends ev S T (send_answers (effect ev S) S) (Proc s) h) ∙ face_posts s (effect ev S).sends T
 
-  made_pending : (ev : Event) (S T : State) (s : ℕ) → has (Proc s) (objects ev S) ≡ false → pending_in ((made ev S T).procs s) ≡ pending_by s (effect ev S).sends (face_of (T.procs s)) (pending_in (T.procs s))
+  made_pending : (ev : Event) (S T : State) (s : ℕ) → has_object (Proc s) (objects ev S) ≡ false → pending_in ((made ev S T).procs s) ≡ pending_by s (effect ev S).sends (face_of (T.procs s)) (pending_in (T.procs s))
   made_pending ev S T s h = ap pending_in (laws.sends ev S T (send_answers (effect ev S) S) (Proc s) h) ∙ pending_posts s (effect ev S).sends T
 
-  module _ (c : Content) (k : IsKept c) where
+  module _ (c : LogKernel) (k : IsKept c) where
     -- to lead a transaction back changes nothing of what it does not own
     pub led_else : (s : ℕ) (x : Txn) (o : Object) → c.txns s ≡ Some x → (c.owner o ≡ Some s → ⊥) → AgreePart (led_by s (Some x) c.now) c.now o
     led_else s x o e not_own =
@@ -123,7 +123,7 @@ module _ (laws : RoleLaws) where
 
     module _ (ev : Event) (clear : IsClear (parts_view (two_parts_of c)) ev) where
       -- of a footprint the actor's transaction alone owns anything
-      pub foot_member : (o : Object) (t : ℕ) → c.owner o ≡ Some t → has o (event_footprint c.table ev c.now) ≡ true → is_member_of c.table t (actor ev) ≡ true
+      pub foot_member : (o : Object) (t : ℕ) → c.owner o ≡ Some t → has_object o (event_footprint c.table ev c.now) ≡ true → is_member_of c.table t (actor ev) ≡ true
       unfolding parts_view
       foot_member o t h f = by (is_member_of c.table t (actor ev)) refl
         where
@@ -140,11 +140,11 @@ module _ (laws : RoleLaws) where
               absurd (meets_not (event_footprint c.table ev c.now) (λ q. is_owner t (c.owner q)) o f (owner_self t (c.owner o) h) (none_left _ _ z).0)
 
       -- an event of another process names nothing of a transaction
-      pub out_of : (o : Object) (t : ℕ) → c.owner o ≡ Some t → is_member_of c.table t (actor ev) ≡ false → has o (objects ev c.now) ≡ false
+      pub out_of : (o : Object) (t : ℕ) → c.owner o ≡ Some t → is_member_of c.table t (actor ev) ≡ false → has_object o (objects ev c.now) ≡ false
       unfolding event_footprint
-      out_of o t h other = by (has o (objects ev c.now)) refl
+      out_of o t h other = by (has_object o (objects ev c.now)) refl
         where
-          by : (b : Bool) → has o (objects ev c.now) ≡ b → b ≡ false
+          by : (b : Bool) → has_object o (objects ev c.now) ≡ b → b ≡ false
           by true e = absurd (both_ways (is_member_of c.table t (actor ev)) other (foot_member o t h (has_left o (objects ev c.now) (targets c.table (actor ev) (effect ev c.now).sends) e)))
           by false e = refl
 
@@ -168,7 +168,7 @@ module _ (laws : RoleLaws) where
       others_kept : (o : Object) (t : ℕ) (x : Txn) → c.txns t ≡ Some x → c.owner o ≡ Some t → is_member_of c.table t (actor ev) ≡ false
           → AgreePart (with_kept t (pending_in ((made ev c.now (kept_of c)).procs t)) (changed_by x.log (made ev c.now c.now))) (made ev c.now (kept_of c)) o
       others_kept o t x e h other =
-          let out : has o (objects ev c.now) ≡ false = out_of o t h other in
+          let out : has_object o (objects ev c.now) ≡ false = out_of o t h other in
           let to : GoTo t o (effect ev c.now).sends = goes_to o t h other in
           let N : State = made ev c.now c.now in
           let K : State = made ev c.now (kept_of c) in
@@ -180,11 +180,11 @@ module _ (laws : RoleLaws) where
           let led : AgreeBut t (changed_by x.log N) X o = changed_by_but t x.log N c.now o (made_but ev c.now c.now t o out to) in
           with_own t (changed_by x.log N) K o (but_trans t (changed_by x.log N) X K o led (but_sym t K X o before))
           (λ n i m.
-          made_held ev c.now (kept_of c) n (subst (λ (q : Object). has q (objects ev c.now) ≡ false) i out)
+          made_held ev c.now (kept_of c) n (subst (λ (q : Object). has_object q (objects ev c.now) ≡ false) i out)
           ∙ subst (λ (q : Object). AgreePart (kept_of c) (with_kept t x.pending X) q) i at ∙ rw m refl)
 
       module _ (t : ℕ) (x : Txn) (e : c.txns t ≡ Some x) (other : is_member_of c.table t (actor ev) ≡ false) where
-        start_out : has (Proc t) (objects ev c.now) ≡ false
+        start_out : has_object (Proc t) (objects ev c.now) ≡ false
         start_out = out_of (Proc t) t (own_proc c k t (live_txn c k t x e)) other
 
         -- what is pending then at its starter on the kept side
@@ -204,7 +204,7 @@ module _ (laws : RoleLaws) where
 
       module _ (s : ℕ) (part : Progress) (p : ℕ) (fits : FitsWithin s part ev p (parts_view (two_parts_of c))) where
         -- of what a step inside the transaction of s reserves, that alone owns anything
-        pub own_reserved : (o : Object) (t : ℕ) → has o (objects_reserved part s (event_footprint c.table ev c.now)) ≡ true → c.owner o ≡ Some t → t ≡ s
+        pub own_reserved : (o : Object) (t : ℕ) → has_object o (objects_reserved part s (event_footprint c.table ev c.now)) ≡ true → c.owner o ≡ Some t → t ≡ s
         unfolding parts_view
         own_reserved o t h own = elim (reserved_cases part s (event_footprint c.table ev c.now) o h) [
           | inl e ↦ k.sound.held_own t s (subst (λ (q : Object). is_owner t (c.owner q) ≡ true) e (owner_self t (c.owner o) own))
@@ -212,9 +212,9 @@ module _ (laws : RoleLaws) where
         ]
 
         -- everything else stays
-        pub else_stays : (o : Object) → has o (objects_reserved part s (event_footprint c.table ev c.now)) ≡ false → AgreePart (made ev c.now c.now) c.now o
+        pub else_stays : (o : Object) → has_object o (objects_reserved part s (event_footprint c.table ev c.now)) ≡ false → AgreePart (made ev c.now c.now) c.now o
         unfolding after event_footprint parts_view
         else_stays o h =
             laws.parts ev c.now o
-            (subst (λ (os : List Object). has o (objects ev c.now ++ os) ≡ false) (all_targets c.table (actor ev) (effect ev c.now).sends (λ m i. fits.sends c.now m i))
+            (subst (λ (os : List Object). has_object o (objects ev c.now ++ os) ≡ false) (all_targets c.table (actor ev) (effect ev c.now).sends (λ m i. fits.sends c.now m i))
             (not_reserved part s (objects ev c.now ++ targets c.table (actor ev) (effect ev c.now).sends) o h))

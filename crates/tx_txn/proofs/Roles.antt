@@ -8,11 +8,11 @@ use Rattle.tx_laws.specs.TwoParts.{in_set, pick, parts_without, parts_view, free
 use Rattle.tx_model.specs.Events.{Event, Note, actor, effect}
 use Rattle.tx_model.specs.History.{just, event_footprint, objects_reserved}
 use Rattle.tx_model.specs.Membership.{Progress, Role, Outside, Within, Commits, Aborts, is_live}
-use Rattle.tx_model.specs.Posts.{posts}
-use Rattle.tx_model.specs.State.{State, Object, Proc, Desc, Pipe, Held, put_at, same_object, has, written}
+use Rattle.tx_model.specs.Posts.{after_posts}
+use Rattle.tx_model.specs.State.{State, Object, Proc, Desc, Pipe, Held, put_at, same_object, has_object, with_writes}
 use Rattle.tx_model.specs.StateLaws.{state_ext, AgreePart}
-use Rattle.tx_model.specs.View.{IsClear, next_by}
-use Rattle.tx_txn.specs.Content.{Txn, Content, with_kept, led_by, kept_of, two_parts_of, IsKept}
+use Rattle.tx_model.specs.Words.{IsClear, next_by}
+use Rattle.tx_txn.specs.Content.{Txn, LogKernel, with_kept, led_by, kept_of, two_parts_of, IsKept}
 use Rattle.tx_txn.specs.Faces.{pending_in}
 use Rattle.tx_txn.specs.Laws.{RoleLaws}
 use Rattle.tx_txn.specs.Steps.{posted, logged, next_content, AgreeBut, Logs}
@@ -25,19 +25,19 @@ pub not_over : (s t : ℕ) (f : ℕ → Option Txn) (x : Txn) → (t == s) ≡ f
 not_over s t f x n e = rw n e
 
 note_else : (s : ℕ) (r : ℤ) (S T : State) (o : Object) → same_object o (Proc s) ≡ false → AgreePart (made (Note s r) S T) T o
-unfolding effect written posts
+unfolding effect with_writes after_posts
 note_else s r S T (Proc n) h = rw h refl
 note_else s r S T (Desc n) h = refl
 note_else s r S T (Pipe n) h = refl
 note_else s r S T (Held n) h = refl
 
-module _ (laws : RoleLaws) (c : Content) (k : IsKept c) where
+module _ (laws : RoleLaws) (c : LogKernel) (k : IsKept c) where
   pub outside_kept : (ev : Event) (p : ℕ) (new : List Change) → IsClear (parts_view (two_parts_of c)) ev → Fits Outside ev p (parts_view (two_parts_of c))
       → (o : Object) (t : ℕ) → c.owner o ≡ Some t → AgreePart (kept_of (next_content Outside ev p new c)) (made ev c.now (kept_of c)) o
   unfolding next_content parts_view
   outside_kept ev p new clear fits o t h =
       let x = txn_of c k t o h in
-      let C : Content = next_content Outside ev p new c in
+      let C : LogKernel = next_content Outside ev p new c in
       part_trans (kept_of C) (led_by t (posted t (effect ev c.now).sends (Some x.0)) C.now) (made ev c.now (kept_of c)) o
       (kept_at_txn C o t _ h (ap (posted t (effect ev c.now).sends) x.1))
       (posted_kept laws c k ev clear t x.0 x.1 (fits t) o h)
@@ -48,7 +48,7 @@ module _ (laws : RoleLaws) (c : Content) (k : IsKept c) where
   commits_kept ev s p new clear fits o t h =
       let f = freed_some s t (c.owner o) h in
       let x = txn_of c k t o f.0 in
-      let C : Content = next_content (Commits s) ev p new c in
+      let C : LogKernel = next_content (Commits s) ev p new c in
       part_trans (kept_of C) (led_by t (posted t (effect ev c.now).sends (Some x.0)) C.now) (made ev c.now (kept_of c)) o
       (kept_at_txn C o t _ h (ap (posted t (effect ev c.now).sends) (not_over s t c.txns x.0 f.1 x.1)))
       (posted_kept laws c k ev clear t x.0 x.1 (of_other s t (c.table.marks (actor ev)) fits f.1) o f.0)
@@ -75,7 +75,7 @@ module _ (laws : RoleLaws) (c : Content) (k : IsKept c) where
       let f = freed_some s t (c.owner o) h in
       let x = txn_of c k t o f.0 in
       let y = txn_of c k s (Proc s) (own_proc c k s live) in
-      let C : Content = next_content (Aborts s status) (Note s r) p new c in
+      let C : LogKernel = next_content (Aborts s status) (Note s r) p new c in
       let L : State = led_by s (c.txns s) c.now in
       let N : State = made (Note s r) L L in
       let K : State = made (Note s r) (parts_without (two_parts_of c) (just s)) (kept_of c) in
@@ -102,27 +102,27 @@ module _ (laws : RoleLaws) (c : Content) (k : IsKept c) where
 
     -- what is to be kept
     abbrev pub to_keep : State
-    to_keep = pick (λ o. if has o (objects_reserved part s (event_footprint c.table ev c.now)) then is_none (c.owner o) else false) c.now (kept_of c)
+    to_keep = pick (λ o. if has_object o (objects_reserved part s (event_footprint c.table ev c.now)) then is_none (c.owner o) else false) c.now (kept_of c)
 
-    pub keeps_now : (o : Object) → has o (objects_reserved part s (event_footprint c.table ev c.now)) ≡ true → c.owner o ≡ None → AgreePart c.now to_keep o
+    pub keeps_now : (o : Object) → has_object o (objects_reserved part s (event_footprint c.table ev c.now)) ≡ true → c.owner o ≡ None → AgreePart c.now to_keep o
     keeps_now o h e =
         part_sym to_keep c.now o
-        (pick_true (λ o. if has o (objects_reserved part s (event_footprint c.table ev c.now)) then is_none (c.owner o) else false) c.now (kept_of c) o (rw (h, e) refl))
+        (pick_true (λ o. if has_object o (objects_reserved part s (event_footprint c.table ev c.now)) then is_none (c.owner o) else false) c.now (kept_of c) o (rw (h, e) refl))
 
     pub keeps_old : (o : Object) (t : ℕ) → c.owner o ≡ Some t → AgreePart (kept_of c) to_keep o
     keeps_old o t e =
         part_sym to_keep (kept_of c) o
-        (pick_false (λ o. if has o (objects_reserved part s (event_footprint c.table ev c.now)) then is_none (c.owner o) else false) c.now (kept_of c) o (by (has o F)))
+        (pick_false (λ o. if has_object o (objects_reserved part s (event_footprint c.table ev c.now)) then is_none (c.owner o) else false) c.now (kept_of c) o (by (has_object o F)))
       where
         by : (b : Bool) → (if b then is_none (c.owner o) else false) ≡ false
         by true = rw e refl
         by false = refl
 
     -- led back by the old log and the new, the objects of the transaction are as they are to be kept
-    mine : (o : Object) → ((c.owner o ≡ None) × (has o F ≡ true)) ⊎ (c.owner o ≡ Some s) → AgreePart (led_by s (logged new (c.now.procs s) (c.txns s)) N) to_keep o
+    mine : (o : Object) → ((c.owner o ≡ None) × (has_object o F ≡ true)) ⊎ (c.owner o ≡ Some s) → AgreePart (led_by s (logged new (c.now.procs s) (c.txns s)) N) to_keep o
     mine o own = by (c.txns s) refl own
       where
-        by : (y : Option Txn) → c.txns s ≡ y → ((c.owner o ≡ None) × (has o F ≡ true)) ⊎ (c.owner o ≡ Some s) → AgreePart (led_by s (logged new (c.now.procs s) y) N) to_keep o
+        by : (y : Option Txn) → c.txns s ≡ y → ((c.owner o ≡ None) × (has_object o F ≡ true)) ⊎ (c.owner o ≡ Some s) → AgreePart (led_by s (logged new (c.now.procs s) y) N) to_keep o
         by None e (inl f) =
             part_trans (with_kept s (pending_in (c.now.procs s)) (changed_by new N)) c.now to_keep o
             (with_own s (changed_by new N) c.now o (logs.back o) (λ n i m. subst (λ (u : ℕ). c.now.held u ≡ []) (sym (eqb-true n s m)) (k.empty s e)))
@@ -139,7 +139,7 @@ module _ (laws : RoleLaws) (c : Content) (k : IsKept c) where
             ])
 
     -- the log of another transaction leads back to what it led to
-    others : (o : Object) (t : ℕ) → c.owner o ≡ Some t → (t == s) ≡ false → has o F ≡ false → AgreePart (led_by t (put_at c.txns s (logged new (c.now.procs s) (c.txns s)) t) N) to_keep o
+    others : (o : Object) (t : ℕ) → c.owner o ≡ Some t → (t == s) ≡ false → has_object o F ≡ false → AgreePart (led_by t (put_at c.txns s (logged new (c.now.procs s) (c.txns s)) t) N) to_keep o
     others o t f i out =
         let x = txn_of c k t o f in
         let e : put_at c.txns s (logged new (c.now.procs s) (c.txns s)) t ≡ Some x.0 = rw i x.1 in
@@ -148,22 +148,22 @@ module _ (laws : RoleLaws) (c : Content) (k : IsKept c) where
         (led_part t x.0 N c.now o (but_part t N c.now o (else_stays laws c k ev clear s part p fits o out)))
         (part_trans (led_by t (Some x.0) c.now) (kept_of c) to_keep o (part_sym (kept_of c) (led_by t (Some x.0) c.now) o (kept_at_txn c o t x.0 f x.1)) (keeps_old o t f)))
 
-    pub within_kept : (o : Object) (t : ℕ) → (if has o (objects_reserved part s (event_footprint c.table ev c.now)) then Some s else c.owner o) ≡ Some t
+    pub within_kept : (o : Object) (t : ℕ) → (if has_object o (objects_reserved part s (event_footprint c.table ev c.now)) then Some s else c.owner o) ≡ Some t
         → AgreePart (kept_of (next_content (Within s part) ev p new c)) to_keep o
     unfolding next_content
     within_kept o t h =
-        part_trans (kept_of C) (led_by t (put_at c.txns s (logged new (c.now.procs s) (c.txns s)) t) N) to_keep o (kept_at C o (Some t) h) (by (has o F) refl h)
+        part_trans (kept_of C) (led_by t (put_at c.txns s (logged new (c.now.procs s) (c.txns s)) t) N) to_keep o (kept_at C o (Some t) h) (by (has_object o F) refl h)
       where
-        C : Content
+        C : LogKernel
         C = next_content (Within s part) ev p new c
 
-        own : ((c.owner o ≡ None) × (has o F ≡ true)) ⊎ (c.owner o ≡ Some s) → t ≡ s → AgreePart (led_by t (put_at c.txns s (logged new (c.now.procs s) (c.txns s)) t) N) to_keep o
+        own : ((c.owner o ≡ None) × (has_object o F ≡ true)) ⊎ (c.owner o ≡ Some s) → t ≡ s → AgreePart (led_by t (put_at c.txns s (logged new (c.now.procs s) (c.txns s)) t) N) to_keep o
         own f e = subst (λ (u : ℕ). AgreePart (led_by u (put_at c.txns s (logged new (c.now.procs s) (c.txns s)) u) N) to_keep o) (sym e) (rw (eq-eqb s s refl) (mine o f))
 
-        by : (b : Bool) → has o F ≡ b → (if b then Some s else c.owner o) ≡ Some t → AgreePart (led_by t (put_at c.txns s (logged new (c.now.procs s) (c.txns s)) t) N) to_keep o
+        by : (b : Bool) → has_object o F ≡ b → (if b then Some s else c.owner o) ≡ Some t → AgreePart (led_by t (put_at c.txns s (logged new (c.now.procs s) (c.txns s)) t) N) to_keep o
         by true e g = own (of (c.owner o) refl) (let z : Some s ≡ Some t = g in cc)
           where
-            of : (y : Option ℕ) → c.owner o ≡ y → ((c.owner o ≡ None) × (has o F ≡ true)) ⊎ (c.owner o ≡ Some s)
+            of : (y : Option ℕ) → c.owner o ≡ y → ((c.owner o ≡ None) × (has_object o F ≡ true)) ⊎ (c.owner o ≡ Some s)
             of None i = inl (i, e)
             of (Some u) i = inr (i ∙ ap Some (own_reserved laws c k ev clear s part p fits o u e i))
         by false e g = elim (cases_Bool (t == s)) [

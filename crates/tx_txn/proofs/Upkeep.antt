@@ -10,9 +10,10 @@ use Rattle.tx_model.specs.Answer.{answer, is_running, IsAccepted}
 use Rattle.tx_model.specs.Events.{Event, Note, process_of, actor, effect, objects}
 use Rattle.tx_model.specs.History.{just, targets, event_footprint, objects_reserved}
 use Rattle.tx_model.specs.Membership.{Progress, Role, Outside, Within, Commits, Aborts, is_live, table_after}
-use Rattle.tx_model.specs.State.{Ids, Process, State, Sending, Object, Proc, Held, put_at, has}
-use Rattle.tx_model.specs.View.{View, IsClear, next, role_on, event_on}
-use Rattle.tx_txn.specs.Content.{Txn, Content, kept_of, two_parts_of, is_named, IsKept, OthersHoldNothing}
+use Rattle.tx_model.specs.State.{Ids, Process, State, Sending, Object, Proc, Held, put_at, has_object}
+use Rattle.tx_model.specs.View.{View, next, role_on, event_on}
+use Rattle.tx_model.specs.Words.{IsClear}
+use Rattle.tx_txn.specs.Content.{Txn, LogKernel, kept_of, two_parts_of, is_named, IsKept, OthersHoldNothing}
 use Rattle.tx_txn.specs.Faces.{face_of, running}
 use Rattle.tx_txn.specs.Laws.{RoleLaws}
 use Rattle.tx_txn.specs.Steps.{ids_in, posted, logged, next_content, Logs, IsNext}
@@ -42,12 +43,12 @@ was_live s t f x h = by (t == s) refl h
     by true e k = cc
     by false e k = (e, k)
 
--- what a step inside the transaction of s touched, it touched
-touched_new : (s : ℕ) (b c : Bool) → b ≡ true → (if s == s then (if b then true else c) else c) ≡ true
-touched_new s b c h = rw (eq-eqb s s refl, h) refl
+-- what a step inside the transaction of s reserved, it reserved
+reserved_new : (s : ℕ) (b c : Bool) → b ≡ true → (if s == s then (if b then true else c) else c) ≡ true
+reserved_new s b c h = rw (eq-eqb s s refl, h) refl
 
-touched_old : (t s : ℕ) (b c : Bool) → c ≡ true → (if t == s then (if b then true else c) else c) ≡ true
-touched_old t s b c h = by (t == s) b
+reserved_old : (t s : ℕ) (b c : Bool) → c ≡ true → (if t == s then (if b then true else c) else c) ≡ true
+reserved_old t s b c h = by (t == s) b
   where
     by : (a b : Bool) → (if a then (if b then true else c) else c) ≡ true
     by true true = refl
@@ -64,18 +65,18 @@ runs_face (Some q) h = by q.status h
     by (Some n) e = cc
 
 -- on the kept side the starter of a live transaction runs
-start_runs : (c : Content) → IsSound (parts_view (two_parts_of c)) → (s : ℕ) → is_live c.table s ≡ true → is_running ((kept_of c).procs s) ≡ true
+start_runs : (c : LogKernel) → IsSound (parts_view (two_parts_of c)) → (s : ℕ) → is_live c.table s ≡ true → is_running ((kept_of c).procs s) ≡ true
 unfolding parts_view
 start_runs c sound s live =
     subst (λ (x : Option Process). is_running x ≡ true)
     (pick_true (λ o. in_set (just s) (c.owner o)) (kept_of c) c.now (Proc s) (in_just s (c.owner (Proc s)) (owner_true s (c.owner (Proc s)) (sound.own_procs s s live))))
     (sound.starter_runs s live)
 
-off_note : (s : ℕ) (r : ℤ) (u : ℕ) (S : State) → (u == s) ≡ false → has (Proc u) (objects (Note s r) S) ≡ false
-unfolding objects has
+off_note : (s : ℕ) (r : ℤ) (u : ℕ) (S : State) → (u == s) ≡ false → has_object (Proc u) (objects (Note s r) S) ≡ false
+unfolding objects has_object
 off_note s r u S e = rw e refl
 
-module _ (laws : RoleLaws) (c : Content) (k : IsKept c) where
+module _ (laws : RoleLaws) (c : LogKernel) (k : IsKept c) where
   over_live : (s u : ℕ) → is_some (put_at c.txns s None u) ≡ is_live (table_after (Commits s) u c.table) u
   over_live s u = by (u == s) ∙ sym (of_unmarked u s (c.table.marks u))
     where
@@ -94,22 +95,22 @@ module _ (laws : RoleLaws) (c : Content) (k : IsKept c) where
     abbrev F : List Object
     F = objects_reserved part s (event_footprint c.table ev c.now)
 
-    abbrev C : Content
+    abbrev C : LogKernel
     C = next_content (Within s part) ev p new c
 
     sound : IsSound (parts_view (two_parts_of C))
     sound = next_sound (Within s part) ev p new clear fits logs
 
     -- what is reserved is its own then, and what anyone owned is still owned by the same
-    own_new : (o : Object) → has o F ≡ true → C.owner o ≡ Some s
+    own_new : (o : Object) → has_object o F ≡ true → C.owner o ≡ Some s
     unfolding next_content
     own_new o h = rw h refl
 
     own_old : (o : Object) (u : ℕ) → c.owner o ≡ Some u → C.owner o ≡ Some u
     unfolding next_content
-    own_old o u i = by (has o F) refl
+    own_old o u i = by (has_object o F) refl
       where
-        by : (b : Bool) → has o F ≡ b → (if b then Some s else c.owner o) ≡ Some u
+        by : (b : Bool) → has_object o F ≡ b → (if b then Some s else c.owner o) ≡ Some u
         by true e = ap Some (sym (own_reserved laws c k ev clear s part p fits o u e i))
         by false e = i
 
@@ -131,7 +132,7 @@ module _ (laws : RoleLaws) (c : Content) (k : IsKept c) where
     live_else u n = by (is_live c.table u) (is_live (table_after (Within s part) p c.table) u) refl refl
       where
         was_own : is_owner u (C.owner (Held u)) ≡ true → c.owner (Held u) ≡ Some u
-        was_own i = of (has (Held u) F) (owner_true u (C.owner (Held u)) i)
+        was_own i = of (has_object (Held u) F) (owner_true u (C.owner (Held u)) i)
           where
             of : (b : Bool) → (if b then Some s else c.owner (Held u)) ≡ Some u → c.owner (Held u) ≡ Some u
             of true j = let z : s ≡ u = cc in absurd (both_ways (u == s) n (eq-eqb u s (sym z)))
@@ -190,7 +191,7 @@ module _ (laws : RoleLaws) (c : Content) (k : IsKept c) where
         ids_of None = ids_in None
         ids_of (Some x) = x.ids
 
-        unowned : c.txns s ≡ None → (v : ℕ) → has (Proc s) F ≡ true → c.owner (Proc s) ≡ Some v → ⊥
+        unowned : c.txns s ≡ None → (v : ℕ) → has_object (Proc s) F ≡ true → c.owner (Proc s) ≡ Some v → ⊥
         unowned e v j i =
             let z : v ≡ s = own_reserved laws c k ev clear s part p fits (Proc s) v j i in
             let x = txn_of c k s (Proc s) (i ∙ ap Some z) in
@@ -198,9 +199,9 @@ module _ (laws : RoleLaws) (c : Content) (k : IsKept c) where
 
         -- it begins: its starter is kept as it is
         begins : c.txns s ≡ None → (kept_of C).procs s ≡ c.now.procs s
-        begins e = of (has (Proc s) F) refl (c.owner (Proc s)) refl own_start
+        begins e = of (has_object (Proc s) F) refl (c.owner (Proc s)) refl own_start
           where
-            of : (b : Bool) → has (Proc s) F ≡ b → (y : Option ℕ) → c.owner (Proc s) ≡ y → (if b then Some s else y) ≡ Some s → (kept_of C).procs s ≡ c.now.procs s
+            of : (b : Bool) → has_object (Proc s) F ≡ b → (y : Option ℕ) → c.owner (Proc s) ≡ y → (if b then Some s else y) ≡ Some s → (kept_of C).procs s ≡ c.now.procs s
             of true j None i g = within_kept laws c k ev s part p new clear fits logs (Proc s) s own_start ∙ sym (keeps_now laws c k ev s part p new clear fits logs (Proc s) j i)
             of true j (Some v) i g = absurd (unowned e v j i)
             of false j y i g = let x = txn_of c k s (Proc s) (i ∙ g) in let w : None ≡ Some x.0 = sym e ∙ x.1 in cc

@@ -23,7 +23,7 @@ pub record Txn : Type 0 where
   pub ids : Ids
 
 -- the state, what is kept of each live transaction, who owns each object, and the table of members
-pub record Content : Type 0 where
+pub record LogKernel : Type 0 where
   pub now : State
   pub txns : ℕ → Option Txn
   pub owner : Object → Option ℕ
@@ -51,12 +51,12 @@ led_by s None S = S
 led_by s (Some t) S = with_kept s t.pending (changed_by t.log S)
 
 -- the state without the owner's transaction
-abbrev pub kept_for : Content → Option ℕ → State
+abbrev pub kept_for : LogKernel → Option ℕ → State
 kept_for c None = c.now
 kept_for c (Some s) = led_by s (c.txns s) c.now
 
 -- at each object the state without its owner's transaction
-unfoldable pub kept_of : Content → State
+unfoldable pub kept_of : LogKernel → State
 kept_of c = record {
   width = c.now.width;
   procs = λ n. (kept_for c (c.owner (Proc n))).procs n;
@@ -66,7 +66,7 @@ kept_of c = record {
 }
 
 -- the kernel of two parts that this is
-abbrev pub two_parts_of : Content → TwoParts
+abbrev pub two_parts_of : LogKernel → TwoParts
 two_parts_of c = record { now = c.now; kept = kept_of c; owner = c.owner; table = c.table }
 
 -- whether a change of the list is of the object
@@ -75,11 +75,11 @@ is_named o [] = false
 is_named o (change ∷ changes) = if same_object o (object_of change) then true else is_named o changes
 
 -- nothing is held where no transaction is live
-abbrev pub OthersHoldNothing : Content → Type 0
+abbrev pub OthersHoldNothing : LogKernel → Type 0
 OthersHoldNothing c = (s : ℕ) → c.txns s ≡ None → c.now.held s ≡ []
 
 -- what is so of every content
-pub record IsKept (c : Content) : Type 0 where
+pub record IsKept (c : LogKernel) : Type 0 where
   -- the live transactions are those of the table
   pub live : (s : ℕ) → is_some (c.txns s) ≡ is_live c.table s
   -- what a log names its transaction owns
@@ -90,18 +90,18 @@ pub record IsKept (c : Content) : Type 0 where
   pub sound : IsSound (parts_view (two_parts_of c))
 
 -- the content at the start: no transaction is live
-abbrev pub start_content : State → Content
+abbrev pub start_content : State → LogKernel
 start_content S = record { now = S; txns = λ s. None; owner = λ o. None; table = empty_table S.width }
 
 -- whether a send of the event to the starter s of the transaction is answered otherwise now than after an abort
-abbrev pub starter_differs : Content → Event → ℕ → Txn → Bool
+abbrev pub starter_differs : LogKernel → Event → ℕ → Txn → Bool
 starter_differs c ev s t =
     faces_differ s (effect ev c.now).sends
     (face_of (c.now.procs s)) (length (pending_in (c.now.procs s)).queued)
     (Some (running t.ids)) (length t.pending.queued)
 
 -- whether the transaction of s, if it is there, is in the way of the event
-abbrev pub stands_in_way : Content → Event → ℕ → Option Txn → Bool
+abbrev pub stands_in_way : LogKernel → Event → ℕ → Option Txn → Bool
 stands_in_way c ev s None = false
 stands_in_way c ev s (Some t) =
     if is_member_of c.table s (actor ev) then false else (if owns_named (two_parts_of c) ev s then true else starter_differs c ev s t)

@@ -16,38 +16,39 @@ use Rattle.tx_kernel.specs.declared.planned.Planned.{Planned}
 use Rattle.tx_laws.specs.Fits.{Fits, FitsWithin, Passes}
 use Rattle.tx_laws.specs.Laws.{AcceptedStepsFit, RolesKeepSound, StartIsSound}
 use Rattle.tx_laws.specs.LawsOfEvents.{ActorIsObject, OtherPartsStay, OthersGetSendsAlone}
-use Rattle.tx_laws.specs.LawsOfParts.{DoomIsKept, HolderIsOfParts, InWayIsOfParts, PartsFollowRole, SamePartsSameView, StartHasItsView, TwoAnswersAreOfStarter}
+use Rattle.tx_laws.specs.LawsOfParts.{DoomIsKept, StarterInWayIsOfParts, InWayIsOfParts, PartsFollowRole, SamePartsSameView, StartHasItsView, TwoAnswersAreOfStarter}
 use Rattle.tx_laws.specs.TwoParts.{made, parts_view}
 use Rattle.tx_model.specs.Answer.{answer, IsAccepted}
 use Rattle.tx_model.specs.Events.{Event, process_of, objects}
 use Rattle.tx_model.specs.Membership.{Progress, Role, Within}
-use Rattle.tx_model.specs.Posts.{post_answer, received}
+use Rattle.tx_model.specs.Posts.{post_answer, target_after}
 use Rattle.tx_model.specs.SignalSets.{kill_signo, is_in_set}
-use Rattle.tx_model.specs.State.{Object, Proc, Process, Sending, State, has}
-use Rattle.tx_model.specs.View.{view, holder, in_way, has_two_answers, is_doomed, least, next, next_by, role_on, event_on}
+use Rattle.tx_model.specs.State.{Object, Proc, Process, Sending, State, has_object}
+use Rattle.tx_model.specs.View.{view, starter_in_way, in_way, has_two_answers, is_doomed, least, next, role_on, event_on}
+use Rattle.tx_model.specs.Words.{next_by}
 use Rattle.tx_signal.specs.Parts.{PendingView}
-use Rattle.tx_txn.specs.Content.{Txn, Content, IsKept, OthersHoldNothing, led_by, two_parts_of, start_content, starter_differs, stands_in_way}
+use Rattle.tx_txn.specs.Content.{Txn, LogKernel, IsKept, OthersHoldNothing, led_by, two_parts_of, start_content, starter_differs, stands_in_way}
 use Rattle.tx_txn.specs.Faces.{face_of, pending_in, pending_after, answer_at, queued_after}
 use Rattle.tx_txn.specs.Logs.{newest_first, pending_or, with_pending_at}
 use Rattle.tx_txn.specs.Steps.{AgreeBut, IsNext, LeadsBack, Logs, next_content}
 
 -- in each role that goes with the event, the next content has the next view
 abbrev pub ContentFollowsRole : Type 0
-ContentFollowsRole = (role : Role) (event : Event) (process : ℕ) (new : List Change) (content : Content) →
+ContentFollowsRole = (role : Role) (event : Event) (process : ℕ) (new : List Change) (content : LogKernel) →
     IsKept content → Passes role event (parts_view (two_parts_of content)) → Fits role event process (parts_view (two_parts_of content)) →
     Logs role event new content →
     parts_view (two_parts_of (next_content role event process new content)) ≡ next_by role event process (parts_view (two_parts_of content))
 
 -- and what is so of every content is so of it
 abbrev pub ContentIsKept : Type 0
-ContentIsKept = (role : Role) (event : Event) (process : ℕ) (new : List Change) (content : Content) →
+ContentIsKept = (role : Role) (event : Event) (process : ℕ) (new : List Change) (content : LogKernel) →
     IsKept content → Passes role event (parts_view (two_parts_of content)) → Fits role event process (parts_view (two_parts_of content)) →
     Logs role event new content →
     OthersHoldNothing (next_content role event process new content) → IsKept (next_content role event process new content)
 
 -- after an accepted step the next content has the next view, and is kept
 abbrev pub ContentFollowsStep : Type 0
-ContentFollowsStep = (content : Content) (step : Step) (new : List Change) →
+ContentFollowsStep = (content : LogKernel) (step : Step) (new : List Change) →
     IsKept content → IsAccepted (answer (parts_view (two_parts_of content)) step) →
     Logs (role_on (parts_view (two_parts_of content)) step) (event_on (parts_view (two_parts_of content)) step) new content →
     IsNext (next_content (role_on (parts_view (two_parts_of content)) step) (event_on (parts_view (two_parts_of content)) step) (process_of step) new content)
@@ -78,7 +79,7 @@ EventIsMade = (held : ℕ → List Sending) (before after : Parts) (pid : Pid) (
 
 -- and where a member made it, it is logged as a step inside the transaction is to be
 abbrev pub EventIsLogged : Type 0
-EventIsLogged = (content : Content) (held : ℕ → List Sending) (before after : Parts) (pid : Pid) (inside : Inside) (event : Event) (log now : List Change) (planned : Planned)
+EventIsLogged = (content : LogKernel) (held : ℕ → List Sending) (before after : Parts) (pid : Pid) (inside : Inside) (event : Event) (log now : List Change) (planned : Planned)
     (part : Progress) (process : ℕ) (made : Makes before pid (Some inside) event log now after planned) →
     content.now ≡ state_of held before → CountsHeld (Some inside) held →
     FitsWithin inside.starter.0 part event process (parts_view (two_parts_of content)) →
@@ -86,24 +87,24 @@ EventIsLogged = (content : Content) (held : ℕ → List Sending) (before after 
 
 -- a live transaction is doomed if SIGKILL is kept as pending
 abbrev pub DoomIsPending : Type 0
-DoomIsPending = (content : Content) (starter : ℕ) (txn : Txn) → IsKept content → content.txns starter ≡ Some txn →
+DoomIsPending = (content : LogKernel) (starter : ℕ) (txn : Txn) → IsKept content → content.txns starter ≡ Some txn →
     is_doomed (parts_view (two_parts_of content)) starter ≡ is_in_set txn.pending.standard kill_signo
 
 -- whether an event that does not name a live starter has two answers there, the faces and the lengths of the queues tell
 abbrev pub TwoAnswersAreOfFaces : Type 0
-TwoAnswersAreOfFaces = (content : Content) (event : Event) (starter : ℕ) (txn : Txn) → IsKept content → content.txns starter ≡ Some txn →
-    has (Proc starter) (objects event content.now) ≡ false →
+TwoAnswersAreOfFaces = (content : LogKernel) (event : Event) (starter : ℕ) (txn : Txn) → IsKept content → content.txns starter ≡ Some txn →
+    has_object (Proc starter) (objects event content.now) ≡ false →
     has_two_answers (parts_view (two_parts_of content)) event starter ≡ starter_differs content event starter txn
 
 -- who is in the way of an event, the owners, the members, the faces and the lengths of the queues tell
 abbrev pub InWayIsOfFaces : Type 0
-InWayIsOfFaces = (content : Content) (event : Event) (starter : ℕ) → IsKept content →
+InWayIsOfFaces = (content : LogKernel) (event : Event) (starter : ℕ) → IsKept content →
     in_way (parts_view (two_parts_of content)) event starter ≡ stands_in_way content event starter (content.txns starter)
 
--- the holder is the least of these
-abbrev pub HolderIsOfFaces : Type 0
-HolderIsOfFaces = (content : Content) (event : Event) → IsKept content →
-    holder (parts_view (two_parts_of content)) event ≡ least (λ s. stands_in_way content event s (content.txns s)) content.table.width
+-- the least of these
+abbrev pub StarterInWayIsOfFaces : Type 0
+StarterInWayIsOfFaces = (content : LogKernel) (event : Event) → IsKept content →
+    starter_in_way (parts_view (two_parts_of content)) event ≡ least (λ s. stands_in_way content event s (content.txns s)) content.table.width
 
 -- the content at the start has the view of the empty history
 abbrev pub StartContentHasItsView : Type 0
@@ -115,16 +116,16 @@ StartContentIsKept = (start : State) → ((s : ℕ) → start.held s ≡ []) →
 
 -- an event leaves a process that is no object of it as it was, but for what is pending there
 abbrev pub EventLeavesRest : Type 0
-EventLeavesRest = (event : Event) (state : State) (n : ℕ) → has (Proc n) (objects event state) ≡ false → AgreeBut n (made event state state) state (Proc n)
+EventLeavesRest = (event : Event) (state : State) (n : ℕ) → has_object (Proc n) (objects event state) ≡ false → AgreeBut n (made event state state) state (Proc n)
 
 -- what a post leaves as pending at its target, the face and what was pending tell
 abbrev pub PostLeavesPending : Type 0
 PostLeavesPending = (sending : Sending) (target : Option Process) →
-    pending_in (received sending target) ≡ pending_after sending (face_of target) (pending_in target)
+    pending_in (target_after sending target) ≡ pending_after sending (face_of target) (pending_in target)
 
 -- it leaves the face as it was
 abbrev pub PostLeavesFace : Type 0
-PostLeavesFace = (sending : Sending) (target : Option Process) → face_of (received sending target) ≡ face_of target
+PostLeavesFace = (sending : Sending) (target : Option Process) → face_of (target_after sending target) ≡ face_of target
 
 -- how a post is answered, the face and the length of the queue tell
 abbrev pub PostIsAnsweredByFace : Type 0
@@ -134,7 +135,7 @@ PostIsAnsweredByFace = (sending : Sending) (target : Option Process) →
 -- and so they tell how many are queued then
 abbrev pub PostLeavesQueued : Type 0
 PostLeavesQueued = (sending : Sending) (target : Option Process) →
-    length (pending_in (received sending target)).queued ≡ queued_after sending (face_of target) (length (pending_in target).queued)
+    length (pending_in (target_after sending target)).queued ≡ queued_after sending (face_of target) (length (pending_in target).queued)
 
 -- what the laws of contents stand on
 pub record RoleLaws : Type 0 where
@@ -147,7 +148,7 @@ pub record RoleLaws : Type 0 where
   pub doom : DoomIsKept
   pub two_answers : TwoAnswersAreOfStarter
   pub in_way : InWayIsOfParts
-  pub holder : HolderIsOfParts
+  pub starter_in_way : StarterInWayIsOfParts
   pub actor : ActorIsObject
   pub parts : OtherPartsStay
   pub sends : OthersGetSendsAlone

@@ -7,9 +7,9 @@ use Rattle.tx_laws.specs.TwoParts.{freed, made, parts_view}
 use Rattle.tx_model.specs.Events.{Event, effect}
 use Rattle.tx_model.specs.History.{event_footprint, objects_reserved}
 use Rattle.tx_model.specs.Membership.{Role, Outside, Within, Commits, Aborts, table_after}
-use Rattle.tx_model.specs.State.{Ids, Process, Sending, State, Object, Proc, Desc, Pipe, Held, put_at, has, root_ids}
+use Rattle.tx_model.specs.State.{Ids, Process, Sending, State, Object, Proc, Desc, Pipe, Held, put_at, has_object, root_ids}
 use Rattle.tx_model.specs.View.{View}
-use Rattle.tx_txn.specs.Content.{Txn, Content, OthersHoldNothing, IsKept, overlay_if, led_by, two_parts_of, is_named}
+use Rattle.tx_txn.specs.Content.{Txn, LogKernel, OthersHoldNothing, IsKept, overlay_if, led_by, two_parts_of, is_named}
 use Rattle.tx_txn.specs.Faces.{running, pending_in, pending_by}
 
 -- the ids of a process: root's, if it is not there
@@ -29,7 +29,7 @@ logged new q None = Some (record { log = new; pending = pending_in q; ids = ids_
 logged new q (Some t) = Some (record t { log = new ++ t.log })
 
 -- the content after a step of process p that is so to the transactions; a step inside one logs these changes
-unfoldable pub next_content : Role → Event → ℕ → List Change → Content → Content
+unfoldable pub next_content : Role → Event → ℕ → List Change → LogKernel → LogKernel
 next_content Outside ev p new c = record {
   now = made ev c.now c.now;
   txns = λ s. posted s (effect ev c.now).sends (c.txns s);
@@ -39,7 +39,7 @@ next_content Outside ev p new c = record {
 next_content (Within s part) ev p new c = record {
   now = made ev c.now c.now;
   txns = put_at c.txns s (logged new (c.now.procs s) (c.txns s));
-  owner = λ o. if has o (objects_reserved part s (event_footprint c.table ev c.now)) then Some s else c.owner o;
+  owner = λ o. if has_object o (objects_reserved part s (event_footprint c.table ev c.now)) then Some s else c.owner o;
   table = table_after (Within s part) p c.table;
 }
 next_content (Commits s) ev p new c = record {
@@ -65,17 +65,17 @@ AgreeBut s S R (Held n) = (if n == s then [] else S.held n) ≡ (if n == s then 
 -- the records of a step inside the transaction of s lead its state back
 pub record LeadsBack (s : ℕ) (objects : List Object) (new : List Change) (after before : State) : Type 0 where
   -- they are of objects that the step reserves
-  pub named : (o : Object) → is_named o new ≡ true → has o objects ≡ true
+  pub named : (o : Object) → is_named o new ≡ true → has_object o objects ≡ true
   pub back : (o : Object) → AgreeBut s (changed_by new after) before o
 
 -- what a role asks of the records
-abbrev pub Logs : Role → Event → List Change → Content → Type 0
+abbrev pub Logs : Role → Event → List Change → LogKernel → Type 0
 Logs Outside ev new c = Unit {0}
 Logs (Within s part) ev new c = LeadsBack s (objects_reserved part s (event_footprint c.table ev c.now)) new (made ev c.now c.now) c.now
 Logs (Commits s) ev new c = Unit {0}
 Logs (Aborts s status) ev new c = Unit {0}
 
 -- the content has the view, and what is so of every content is so of it
-pub record IsNext (c : Content) (V : View) : Type 0 where
+pub record IsNext (c : LogKernel) (V : View) : Type 0 where
   pub view : parts_view (two_parts_of c) ≡ V
   pub kept : OthersHoldNothing c → IsKept c

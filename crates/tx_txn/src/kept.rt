@@ -2,7 +2,7 @@
 ghost use Rattle.std.specs.Prelude.{◌≡◌, ◌<◌, Some};
 ghost use Rattle.tx_kernel.specs.Plans.{sending_of};
 ghost use Rattle.tx_kernel.specs.Posts.{HasFace};
-ghost use Rattle.tx_model.specs.Posts.{received};
+ghost use Rattle.tx_model.specs.Posts.{target_after};
 ghost use Rattle.tx_model.specs.SignalSets.{kill_signo};
 ghost use Rattle.tx_model.specs.State.{Process};
 ghost use Rattle.tx_model.specs.View.{has_pending};
@@ -81,7 +81,7 @@ impl Kept {
     /// takes the post back, where it changed anything.
     pub fn post(&mut self, sending: &Sending) -> Option<Unpost>
         requires { sending.now.signo.0 < 64 }
-        ensures received { (me : Process) → received (sending_of sending.now) (Some (kept_as self.old me)) ≡ Some (kept_as self.new me) }
+        ensures received { (me : Process) → target_after (sending_of sending.now) (Some (kept_as self.old me)) ≡ Some (kept_as self.new me) }
         ensures pending { self.new.pending ≡ pending_after (sending_of sending.now) (Some (running (ids_of self.old.ids))) self.old.pending }
         ensures ids { self.new.ids ≡ self.old.ids }
         ensures back { unposted result self.new.pending ≡ self.old.pending }

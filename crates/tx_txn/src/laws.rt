@@ -1,5 +1,5 @@
 //! The laws of logs and kept signals, as the contracts of functions that do nothing.
-ghost use Rattle.tx_txn.specs.Laws.{ContentFollowsRole, ContentFollowsStep, ContentIsKept, DoomIsPending, EventIsLogged, EventIsMade, EventLeavesRest, HolderIsOfFaces, InWayIsOfFaces, LogGoesForward, LogLaws, LogLeadsBack, PostIsAnsweredByFace, PostLeavesFace, PostLeavesPending, PostLeavesQueued, RoleLaws, StartContentHasItsView, StartContentIsKept, StepLeadsBack, TwoAnswersAreOfFaces};
+ghost use Rattle.tx_txn.specs.Laws.{ContentFollowsRole, ContentFollowsStep, ContentIsKept, DoomIsPending, EventIsLogged, EventIsMade, EventLeavesRest, StarterInWayIsOfFaces, InWayIsOfFaces, LogGoesForward, LogLaws, LogLeadsBack, PostIsAnsweredByFace, PostLeavesFace, PostLeavesPending, PostLeavesQueued, RoleLaws, StartContentHasItsView, StartContentIsKept, StepLeadsBack, TwoAnswersAreOfFaces};
 
 use tx_change::{appended, changes_state, lists_change_state, revert_then_apply, twice_is_nothing};
 use tx_laws::{answers_of_parts, locality, step_by_step, two_parts};
@@ -78,12 +78,12 @@ pub fn posts_by_faces()
 /// The answers of a content of logs and kept signals. A live transaction is doomed if SIGKILL is kept as
 /// pending. Whether posts have two answers at its starter depends on the starter's ids, on whether it has
 /// ended, and on how many signals are queued, each as it is now and as it is kept; and so does who is in
-/// the way of an event, and the holder.
+/// the way of an event, and the least of these.
 pub fn answers_of_faces()
     ensures doom { DoomIsPending }
     ensures two_answers { TwoAnswersAreOfFaces }
     ensures in_way { InWayIsOfFaces }
-    ensures holder { HolderIsOfFaces }
+    ensures starter_in_way { StarterInWayIsOfFaces }
 {
     role_laws();
 }

@@ -1,7 +1,7 @@
 //! The marks of a transaction's members.
 ghost use Rattle.std.specs.Prelude.{◌≡◌, ◌≤◌, ℕ, not, true, false, length, if◌then◌else◌, ◌==◌, ◌||◌, Some};
 ghost use Rattle.tx_base.specs.Slots.{slot_at};
-ghost use Rattle.tx_model.specs.Membership.{is_of, is_open_of, others_open, unmarked};
+ghost use Rattle.tx_model.specs.Membership.{is_of, is_open_of, others_open, mark_unless_of};
 ghost use Rattle.tx_model.specs.State.{Object as TheObject, Proc, same_object};
 ghost use Rattle.tx_reserve.specs.Objects.{is_in};
 ghost use Rattle.tx_txn.specs.Marks.{IsCovered, ended_of, mark_of, table_at};
@@ -33,7 +33,7 @@ impl Members {
     /// these objects, and not over the table.
     pub fn take(marks: &mut Slots<Mark>, starter: Pid, objects: &Objects) -> Members
         requires { IsCovered starter.0 marks.old objects.now }
-        ensures marks { (n : ℕ) → slot_at marks.new n ≡ unmarked starter.0 (slot_at marks.old n) }
+        ensures marks { (n : ℕ) → slot_at marks.new n ≡ mark_unless_of starter.0 (slot_at marks.old n) }
         ensures length { length marks.new ≡ length marks.old }
         ensures joined { (n : ℕ) → is_in result.joined (Proc n) ≡ is_of starter.0 (slot_at marks.old n) }
         ensures ended { (n : ℕ) → is_in result.ended (Proc n) ≡ ended_of starter.0 (slot_at marks.old n) }
@@ -49,7 +49,7 @@ impl Members {
     /// Takes the mark of a number out, if it is one of that starter's transaction.
     fn take_one(&mut self, marks: &mut Slots<Mark>, starter: Pid, pid: Pid)
         requires { pid.0 ≤ 256 }
-        ensures marks { (n : ℕ) → slot_at marks.new n ≡ (if n == pid.0 then unmarked starter.0 (slot_at marks.old n) else slot_at marks.old n) }
+        ensures marks { (n : ℕ) → slot_at marks.new n ≡ (if n == pid.0 then mark_unless_of starter.0 (slot_at marks.old n) else slot_at marks.old n) }
         ensures length { length marks.new ≡ length marks.old }
         ensures joined { (n : ℕ) → is_in self.new.joined (Proc n) ≡ (if n == pid.0 then is_of starter.0 (slot_at marks.old n) || is_in self.old.joined (Proc n) else is_in self.old.joined (Proc n)) }
         ensures ended { (n : ℕ) → is_in self.new.ended (Proc n) ≡ (if n == pid.0 then ended_of starter.0 (slot_at marks.old n) || is_in self.old.ended (Proc n) else is_in self.old.ended (Proc n)) }

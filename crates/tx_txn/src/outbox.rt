@@ -1,6 +1,6 @@
 //! The signals that a transaction holds until it commits.
 ghost use Rattle.std.specs.Prelude.{◌≡◌, ◌<◌, ◌≤◌, ◌++◌, ◌∷◌, [], ◌-◌, None, Ok, OnOk, OnErr, length, map, take, slice_set, slice_index_or};
-ghost use Rattle.tx_model.specs.Book.{has_sender, sent_by_members};
+ghost use Rattle.tx_model.specs.Book.{sender_count, member_sends};
 ghost use Rattle.tx_kernel.specs.Plans.{sender_of, sending_of};
 ghost use Rattle.tx_txn.specs.Outboxes.{missed_in, unmade};
 ghost use Rattle.tx_txn.specs.Txns.{none_held};
@@ -86,7 +86,7 @@ impl Outbox {
 
     /// How many of what is held are of members: 0 to 32 in a machine.
     pub fn sent_by_members(&self) -> usize
-        ensures { result ≡ sent_by_members (map sending_of self.now.sendings) }
+        ensures { result ≡ member_sends (map sending_of self.now.sendings) }
     {
         count_sent(self.held())
     }
@@ -137,7 +137,7 @@ impl Outbox {
 
 /// How many of the signals members sent.
 fn count_sent(held: &[Sending]) -> usize
-    ensures { result ≡ sent_by_members (map sending_of held.now) }
+    ensures { result ≡ member_sends (map sending_of held.now) }
 {
     let mut sent = 0;
     for place in 0..held.len() {
@@ -166,7 +166,7 @@ fn list_missed(held: &[Sending], posts: &[HeldPost]) -> ArrayVec<Missed, 33>
 
 /// 1 where a member sent the signal, 0 where the kernel did.
 fn senders(sending: &Sending) -> usize
-    ensures { result ≡ has_sender (sender_of sending.now.from) }
+    ensures { result ≡ sender_count (sender_of sending.now.from) }
 {
     match sending.from {
         Some(_) => 1,

@@ -3,9 +3,9 @@ ghost use Rattle.std.specs.Prelude.{◌≡◌, ◌≤◌, ◌&&◌, ◌||◌, �
 ghost use Rattle.tx_base.specs.Slots.{slot_at};
 ghost use Rattle.tx_change.specs.Exchange.{AreNamed, applied, exchanged, reverted, undone};
 ghost use Rattle.tx_kernel.specs.Actors.{transaction_of};
-ghost use Rattle.tx_model.specs.Book.{sent_by_members};
+ghost use Rattle.tx_model.specs.Book.{member_sends};
 ghost use Rattle.tx_proc.specs.Parts.{pending_in};
-ghost use Rattle.tx_model.specs.Membership.{is_of, unmarked};
+ghost use Rattle.tx_model.specs.Membership.{is_of, mark_unless_of};
 ghost use Rattle.tx_model.specs.State.{Object, Proc};
 ghost use Rattle.tx_reserve.specs.Objects.{is_in};
 ghost use Rattle.tx_reserve.specs.Reservations.{owner_of};
@@ -127,7 +127,7 @@ impl Txn {
     /// reserved is nobody's. It takes no memory, and goes over its objects alone.
     pub fn end(&mut self, marks: &mut Slots<Mark>, owners: &mut Reservations)
         requires { IsCovered self.old.starter.0 marks.old self.old.objects }
-        ensures marks { (n : ℕ) → slot_at marks.new n ≡ unmarked self.old.starter.0 (slot_at marks.old n) }
+        ensures marks { (n : ℕ) → slot_at marks.new n ≡ mark_unless_of self.old.starter.0 (slot_at marks.old n) }
         ensures length { length marks.new ≡ length marks.old }
         ensures owners { (o : Object) → owner_of owners.new o ≡ (if is_in self.old.objects o then None else owner_of owners.old o) }
         ensures joined { IsSomeAnd self.new.members (λ members. (n : ℕ) → is_in members.joined (Proc n) ≡ is_of self.old.starter.0 (slot_at marks.old n)) }
@@ -209,7 +209,7 @@ impl Txn {
     /// What a step is made inside of, for the calls of a member.
     pub fn inside<'a>(&self, marks: &'a Slots<Mark>) -> Inside<'a>
         ensures transaction { transaction_of result ≡ inside_at self.now marks.now }
-        ensures held { result.held ≡ sent_by_members (map sending_of self.now.outbox.sendings) }
+        ensures held { result.held ≡ member_sends (map sending_of self.now.outbox.sendings) }
     {
         Inside {
             starter: self.starter,

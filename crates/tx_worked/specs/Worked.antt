@@ -5,7 +5,7 @@ use Rattle.tx_base.specs.declared.steps.Refusal.TheVariants.{NoProcess, NoTransa
 use Rattle.tx_base.specs.declared.steps.Reply.TheVariants.{Aborted, No}
 use Rattle.tx_base.specs.declared.steps.Step.{Step}
 use Rattle.tx_model.specs.Memory.{Memory, no_memory}
-use Rattle.tx_model.specs.State.{State, booted_process, booted}
+use Rattle.tx_model.specs.State.{State, booted_process, boot_state}
 use Rattle.tx_model.specs.Schedules.{answers_of}
 use Rattle.tx_worked.specs.WorkedSteps.{calls, kernel, store, fork, kill, ok, error, committed, state_after, standing, with_one_pending}
 
@@ -14,13 +14,13 @@ abbrev pub taken_back : List Step
 taken_back = calls 2 SysXbegin ∷ calls 2 (Map (pos 0)) ∷ calls 2 (store (pos 5) (65 ∷ [])) ∷ calls 2 SysXabort ∷ []
 
 abbrev pub TakenBackAnswers : Type 0
-TakenBackAnswers = answers_of (booted 64 2) [] taken_back ≡ ok 0 ∷ ok 0 ∷ ok 0 ∷ Aborted 201 ∷ []
+TakenBackAnswers = answers_of (boot_state 64 2) [] taken_back ≡ ok 0 ∷ ok 0 ∷ ok 0 ∷ Aborted 201 ∷ []
 
 -- its process stands behind its sys_xbegin with the status as an error, and has no page; the other is as booted
 abbrev pub TakenBackState : Type 0
 TakenBackState =
-    ((state_after (booted 64 2) taken_back).procs 2 ≡ Some (standing 2 1 (negsuc 200) no_memory))
-    × ((state_after (booted 64 2) taken_back).procs 1 ≡ Some (booted_process 1))
+    ((state_after (boot_state 64 2) taken_back).procs 2 ≡ Some (standing 2 1 (negsuc 200) no_memory))
+    × ((state_after (boot_state 64 2) taken_back).procs 1 ≡ Some (booted_process 1))
 
 -- two transactions side by side: the kernel takes that of process 3 back, and that of process 2 commits
 abbrev pub side_by_side : List Step
@@ -41,7 +41,7 @@ side_by_side =
 
 abbrev pub SideBySideAnswers : Type 0
 SideBySideAnswers =
-    answers_of (booted 64 3) [] side_by_side
+    answers_of (boot_state 64 3) [] side_by_side
     ≡ ok 0
     ∷ ok 0
     ∷ ok 0
@@ -62,9 +62,9 @@ stored_page = Some (record { writable = true; bytes = 0 ∷ 255 ∷ replicate 62
 
 abbrev pub SideBySideState : Type 0
 SideBySideState =
-    ((state_after (booted 64 3) side_by_side).procs 1 ≡ Some (booted_process 1))
-    × ((state_after (booted 64 3) side_by_side).procs 2 ≡ Some (standing 2 6 (pos 0) stored_page))
-    × ((state_after (booted 64 3) side_by_side).procs 3 ≡ Some (standing 3 2 (negsuc 21) no_memory))
+    ((state_after (boot_state 64 3) side_by_side).procs 1 ≡ Some (booted_process 1))
+    × ((state_after (boot_state 64 3) side_by_side).procs 2 ≡ Some (standing 2 6 (pos 0) stored_page))
+    × ((state_after (boot_state 64 3) side_by_side).procs 3 ≡ Some (standing 3 2 (negsuc 21) no_memory))
 
 -- a transaction does not begin in another one, nor end where there is none; the kernel aborts it by its starter's number
 -- alone, and any member aborts it
@@ -85,7 +85,7 @@ out_of_place =
 
 abbrev pub OutOfPlaceAnswers : Type 0
 OutOfPlaceAnswers =
-    answers_of (booted 64 2) [] out_of_place
+    answers_of (boot_state 64 2) [] out_of_place
     ≡ error 22
     ∷ error 22
     ∷ ok 0
@@ -114,7 +114,7 @@ begun_again =
 
 abbrev pub BegunAgainAnswers : Type 0
 BegunAgainAnswers =
-    answers_of (booted 64 3) [] begun_again ≡ ok 0 ∷ ok 0 ∷ ok 0 ∷ Aborted 201 ∷ ok 0 ∷ ok 0 ∷ ok 0 ∷ committed ∷ []
+    answers_of (boot_state 64 3) [] begun_again ≡ ok 0 ∷ ok 0 ∷ ok 0 ∷ Aborted 201 ∷ ok 0 ∷ ok 0 ∷ ok 0 ∷ committed ∷ []
 
 -- page 1 of zeros
 abbrev pub second_page : Memory
@@ -122,5 +122,5 @@ second_page = None ∷ Some (record { writable = true; bytes = replicate 64 0 })
 
 abbrev pub BegunAgainState : Type 0
 BegunAgainState =
-    let S : State = state_after (booted 64 3) begun_again in
+    let S : State = state_after (boot_state 64 3) begun_again in
     (S.procs 2 ≡ Some (standing 2 5 (pos 0) second_page)) × (S.procs 3 ≡ Some (with_one_pending 12 (booted_process 3)))

@@ -6,7 +6,7 @@ use Rattle.tx_base.specs.declared.steps.Refusal.TheVariants.{NotDeliverable, Fra
 use Rattle.tx_base.specs.declared.steps.Reply.TheVariants.{Ended, No}
 use Rattle.tx_base.specs.declared.steps.Step.{Step}
 use Rattle.tx_model.specs.Memory.{no_memory}
-use Rattle.tx_model.specs.State.{State, booted}
+use Rattle.tx_model.specs.State.{State, boot_state}
 use Rattle.tx_model.specs.Schedules.{answers_of}
 use Rattle.tx_worked.specs.WorkedSteps.{calls, delivery, kill, sigqueue, block, unblock, block_only, catch, caught_and_unblocked, ok, error, state_after, standing, exited, killed_by, with_one_action, with_mask, with_one_pending, entry, with_queue, saved_at, with_frames}
 
@@ -17,7 +17,7 @@ caught = calls 2 (catch 10 40 4096) ∷ calls 3 (kill 2 10) ∷ delivery 2 10 �
 
 abbrev pub CaughtState : Type 0
 CaughtState =
-    (state_after (booted 64 3) caught).procs 2
+    (state_after (boot_state 64 3) caught).procs 2
     ≡ Some (with_one_action 10 (Catch 40 (record { 0 = 4096 }))
     (with_mask 5120
     (with_frames (saved_at 1 ∷ []) (standing 2 41 (pos 2) no_memory))))
@@ -27,11 +27,11 @@ abbrev pub caught_back : List Step
 caught_back = caught ++ calls 2 Sigreturn ∷ []
 
 abbrev pub CaughtBackAnswers : Type 0
-CaughtBackAnswers = answers_of (booted 64 3) [] caught_back ≡ ok 0 ∷ ok 0 ∷ ok 0 ∷ ok 2 ∷ ok 0 ∷ []
+CaughtBackAnswers = answers_of (boot_state 64 3) [] caught_back ≡ ok 0 ∷ ok 0 ∷ ok 0 ∷ ok 2 ∷ ok 0 ∷ []
 
 abbrev pub CaughtBackState : Type 0
 CaughtBackState =
-    (state_after (booted 64 3) caught_back).procs 2
+    (state_after (boot_state 64 3) caught_back).procs 2
     ≡ Some (with_one_action 10 (Catch 40 (record { 0 = 4096 })) (standing 2 1 (pos 0) no_memory))
 
 -- four caught signals may be unfinished: the fifth one has to wait for a return
@@ -58,7 +58,7 @@ full_frames =
 
 abbrev pub FullFramesAnswers : Type 0
 FullFramesAnswers =
-    answers_of (booted 64 3) [] full_frames ≡ replicate 14 (ok 0) ++ No FramesFull ∷ ok 0 ∷ ok 0 ∷ []
+    answers_of (boot_state 64 3) [] full_frames ≡ replicate 14 (ok 0) ++ No FramesFull ∷ ok 0 ∷ ok 0 ∷ []
 
 -- realtime signals: the lowest number that is not blocked first, and those of a number in their order
 abbrev pub realtime_in_turn : List Step
@@ -82,7 +82,7 @@ realtime_in_turn =
 
 abbrev pub RealtimeInTurnAnswers : Type 0
 RealtimeInTurnAnswers =
-    answers_of (booted 64 3) [] realtime_in_turn
+    answers_of (boot_state 64 3) [] realtime_in_turn
     ≡ ok 0
     ∷ ok 0
     ∷ ok 0
@@ -119,7 +119,7 @@ ignored =
 
 abbrev pub IgnoredAnswers : Type 0
 IgnoredAnswers =
-    answers_of (booted 64 3) [] ignored
+    answers_of (boot_state 64 3) [] ignored
     ≡ ok 0
     ∷ ok 0
     ∷ No NotDeliverable
@@ -134,17 +134,17 @@ IgnoredAnswers =
     ∷ []
 
 abbrev pub IgnoredState : Type 0
-IgnoredState = (state_after (booted 64 3) ignored).procs 2 ≡ Some (killed_by 9)
+IgnoredState = (state_after (boot_state 64 3) ignored).procs 2 ≡ Some (killed_by 9)
 
 -- a signal to a process that ended is no error, and is not pending there
 abbrev pub ended_target : List Step
 ended_target = calls 3 (Exit (pos 1)) ∷ calls 2 (kill 3 10) ∷ calls 2 (sigqueue 3 34 1) ∷ []
 
 abbrev pub EndedTargetAnswers : Type 0
-EndedTargetAnswers = answers_of (booted 64 3) [] ended_target ≡ Ended ∷ ok 0 ∷ ok 0 ∷ []
+EndedTargetAnswers = answers_of (boot_state 64 3) [] ended_target ≡ Ended ∷ ok 0 ∷ ok 0 ∷ []
 
 abbrev pub EndedTargetState : Type 0
-EndedTargetState = (state_after (booted 64 3) ended_target).procs 3 ≡ Some (exited 1)
+EndedTargetState = (state_after (boot_state 64 3) ended_target).procs 3 ≡ Some (exited 1)
 
 -- one signal is caught four times, and a fifth time after a return
 abbrev pub caught_again : List Step
@@ -162,11 +162,11 @@ caught_again =
 
 abbrev pub CaughtAgainAnswers : Type 0
 CaughtAgainAnswers =
-    answers_of (booted 64 2) [] caught_again ≡ replicate 14 (ok 0) ++ No FramesFull ∷ ok 0 ∷ ok 0 ∷ []
+    answers_of (boot_state 64 2) [] caught_again ≡ replicate 14 (ok 0) ++ No FramesFull ∷ ok 0 ∷ ok 0 ∷ []
 
 abbrev pub CaughtAgainState : Type 0
 CaughtAgainState =
-    let S : State = state_after (booted 64 2) caught_again in
+    let S : State = state_after (boot_state 64 2) caught_again in
     (S.procs 1 ≡ Some (standing 1 5 (pos 0) no_memory))
     × (S.procs 2
     ≡ Some (with_one_action 10 (Catch 50 (record { 0 = 0 }))
@@ -183,11 +183,11 @@ catch_points =
     ∷ []
 
 abbrev pub CatchPointsAnswers : Type 0
-CatchPointsAnswers = answers_of (booted 64 3) [] catch_points ≡ error 22 ∷ ok 0 ∷ ok 0 ∷ ok 0 ∷ []
+CatchPointsAnswers = answers_of (boot_state 64 3) [] catch_points ≡ error 22 ∷ ok 0 ∷ ok 0 ∷ ok 0 ∷ []
 
 abbrev pub CatchPointsState : Type 0
 CatchPointsState =
-    (state_after (booted 64 3) catch_points).procs 2
+    (state_after (boot_state 64 3) catch_points).procs 2
     ≡ Some (with_one_action 10 (Catch 65535 (record { 0 = 4096 }))
     (with_mask 5120 (with_frames (saved_at 2 ∷ []) (standing 2 65535 (pos 0) no_memory))))
 
@@ -214,7 +214,7 @@ masks =
 
 abbrev pub MasksAnswers : Type 0
 MasksAnswers =
-    answers_of (booted 64 3) [] masks
+    answers_of (boot_state 64 3) [] masks
     ≡ replicate 4 (ok 0)
     ++ ok 0
     ∷ ok 5120
@@ -230,7 +230,7 @@ MasksAnswers =
 
 abbrev pub MasksState : Type 0
 MasksState =
-    (state_after (booted 64 3) masks).procs 2
+    (state_after (boot_state 64 3) masks).procs 2
     ≡ Some (with_mask 4096 (record (standing 2 10 (pos 4096) no_memory) { pending = 37890 }))
 
 -- to ignore a signal discards every pending one of it and no other; so does the usual action of SIGCHLD, and that of
@@ -252,9 +252,9 @@ discards =
     ∷ []
 
 abbrev pub DiscardsAnswers : Type 0
-DiscardsAnswers = answers_of (booted 64 3) [] discards ≡ replicate 8 (ok 0) ++ replicate 4 (error 22)
+DiscardsAnswers = answers_of (boot_state 64 3) [] discards ≡ replicate 8 (ok 0) ++ replicate 4 (error 22)
 
 abbrev pub DiscardsState : Type 0
 DiscardsState =
-    (state_after (booted 64 3) discards).procs 2
+    (state_after (boot_state 64 3) discards).procs 2
     ≡ Some (with_one_action 34 Ignore (with_one_pending 10 (with_queue (entry 35 2 ∷ []) (standing 2 7 (negsuc 21) no_memory))))

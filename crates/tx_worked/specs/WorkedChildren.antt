@@ -6,7 +6,7 @@ use Rattle.tx_base.specs.declared.steps.Call.TheVariants.{Map, Exit, Waitpid, Ge
 use Rattle.tx_base.specs.declared.steps.Reply.TheVariants.{Ended}
 use Rattle.tx_base.specs.declared.steps.Step.{Step}
 use Rattle.tx_model.specs.Memory.{Memory, no_memory}
-use Rattle.tx_model.specs.State.{Ids, State, booted}
+use Rattle.tx_model.specs.State.{Ids, State, boot_state}
 use Rattle.tx_model.specs.Schedules.{answers_of}
 use Rattle.tx_worked.specs.WorkedSteps.{calls, delivery, fork, pipe, kill, sigqueue, block, catch, store, ok, error, committed, state_after, standing, exited, of_parent, with_slots, with_open, with_one_action, with_mask, with_ids, with_frames, with_one_pending}
 
@@ -37,7 +37,7 @@ page_with_seven = Some (record { writable = true; bytes = 7 ∷ replicate 63 0 }
 -- the child has all of that, with the answer 0 and nothing pending
 abbrev pub CopiedState : Type 0
 CopiedState =
-    (state_after (booted 64 2) copied).procs 3
+    (state_after (boot_state 64 2) copied).procs 3
     ≡ Some (of_parent 2
     (with_slots (pos 0 ∷ pos 1 ∷ replicate 6 (pos 0))
     (with_open (Some 0 ∷ Some 1 ∷ replicate 14 None)
@@ -63,12 +63,12 @@ orphans =
 
 abbrev pub OrphansAnswers : Type 0
 OrphansAnswers =
-    answers_of (booted 64 1) [] orphans ≡ ok 2 ∷ ok 3 ∷ ok 4 ∷ Ended ∷ error 10 ∷ Ended ∷ ok 1 ∷ ok 0 ∷ ok 4 ∷ []
+    answers_of (boot_state 64 1) [] orphans ≡ ok 2 ∷ ok 3 ∷ ok 4 ∷ Ended ∷ error 10 ∷ Ended ∷ ok 1 ∷ ok 0 ∷ ok 4 ∷ []
 
 -- the status that was waited for is in slot 0
 abbrev pub OrphansState : Type 0
 OrphansState =
-    let S : State = state_after (booted 64 1) orphans in
+    let S : State = state_after (boot_state 64 1) orphans in
     (S.procs 1 ≡ Some (with_slots (pos 7 ∷ replicate 7 (pos 0)) (standing 1 4 (pos 4) no_memory))) × (S.procs 4 ≡ None)
 
 -- a child that a signal ended: the status says so, and the parent is told; there is no waiting for a number of no child
@@ -87,12 +87,12 @@ killed_child =
 
 abbrev pub KilledChildAnswers : Type 0
 KilledChildAnswers =
-    answers_of (booted 64 2) [] killed_child
+    answers_of (boot_state 64 2) [] killed_child
     ≡ ok 0 ∷ ok 3 ∷ ok 0 ∷ Ended ∷ ok 131072 ∷ error 10 ∷ error 10 ∷ error 10 ∷ ok 3 ∷ []
 
 abbrev pub KilledChildState : Type 0
 KilledChildState =
-    (state_after (booted 64 2) killed_child).procs 2
+    (state_after (boot_state 64 2) killed_child).procs 2
     ≡ Some (with_one_pending 17 (with_mask 131072 (with_slots (pos 271 ∷ replicate 7 (pos 0)) (standing 2 8 (pos 3) no_memory))))
 
 -- a child whose end is ignored is there until it is waited for, and SIGCHLD is pending until it is delivered
@@ -105,11 +105,11 @@ ignored_child =
     ∷ []
 
 abbrev pub IgnoredChildAnswers : Type 0
-IgnoredChildAnswers = answers_of (booted 64 2) [] ignored_child ≡ ok 0 ∷ ok 3 ∷ Ended ∷ ok 3 ∷ []
+IgnoredChildAnswers = answers_of (boot_state 64 2) [] ignored_child ≡ ok 0 ∷ ok 3 ∷ Ended ∷ ok 3 ∷ []
 
 abbrev pub IgnoredChildState : Type 0
 IgnoredChildState =
-    (state_after (booted 64 2) ignored_child).procs 2
+    (state_after (boot_state 64 2) ignored_child).procs 2
     ≡ Some (with_one_pending 17 (with_one_action 17 Ignore (with_slots (pos 4 ∷ replicate 7 (pos 0)) (standing 2 3 (pos 3) no_memory))))
 
 -- what is left of a process that has ended: its parent, its ids and its status
@@ -128,7 +128,7 @@ left_over =
     ∷ []
 
 abbrev pub LeftOverState : Type 0
-LeftOverState = (state_after (booted 64 2) left_over).procs 2 ≡ Some (with_ids user_five (exited 6))
+LeftOverState = (state_after (boot_state 64 2) left_over).procs 2 ≡ Some (with_ids user_five (exited 6))
 
 -- a signal from outside ends the only member of a transaction, which commits by that
 abbrev pub killed_commit : List Step
@@ -136,9 +136,9 @@ killed_commit =
     calls 2 SysXbegin ∷ calls 2 (Map (pos 0)) ∷ calls 3 (kill 2 15) ∷ delivery 2 15 ∷ calls 1 (Waitpid (pos 2) false) ∷ []
 
 abbrev pub KilledCommitAnswers : Type 0
-KilledCommitAnswers = answers_of (booted 64 3) [] killed_commit ≡ ok 0 ∷ ok 0 ∷ ok 0 ∷ committed ∷ ok 2 ∷ []
+KilledCommitAnswers = answers_of (boot_state 64 3) [] killed_commit ≡ ok 0 ∷ ok 0 ∷ ok 0 ∷ committed ∷ ok 2 ∷ []
 
 abbrev pub KilledCommitState : Type 0
 KilledCommitState =
-    (state_after (booted 64 3) killed_commit).procs 1
+    (state_after (boot_state 64 3) killed_commit).procs 1
     ≡ Some (with_slots (pos 271 ∷ replicate 7 (pos 0)) (standing 1 1 (pos 2) no_memory))

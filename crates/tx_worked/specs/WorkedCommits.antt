@@ -6,7 +6,7 @@ use Rattle.tx_base.specs.declared.steps.Call.TheVariants.{Setuid, Seteuid, Sigac
 use Rattle.tx_base.specs.declared.steps.Reply.TheVariants.{Aborted}
 use Rattle.tx_base.specs.declared.steps.Step.{Step}
 use Rattle.tx_model.specs.Memory.{no_memory}
-use Rattle.tx_model.specs.State.{Ids, State, booted}
+use Rattle.tx_model.specs.State.{Ids, State, boot_state}
 use Rattle.tx_model.specs.Schedules.{answers_of}
 use Rattle.tx_worked.specs.WorkedSteps.{calls, delivery, fork, kill, sigqueue, ok, committed, committed_without, missed, busy_with, state_after, standing, with_one_action, with_one_pending, with_ids, entry, with_queue}
 
@@ -17,11 +17,11 @@ starter_told =
     calls 3 SysXbegin ∷ calls 2 SysXbegin ∷ calls 2 (kill 3 10) ∷ calls 2 SysXend ∷ calls 3 SysXabort ∷ []
 
 abbrev pub StarterToldAnswers : Type 0
-StarterToldAnswers = answers_of (booted 64 3) [] starter_told ≡ ok 0 ∷ ok 0 ∷ ok 0 ∷ committed ∷ Aborted 201 ∷ []
+StarterToldAnswers = answers_of (boot_state 64 3) [] starter_told ≡ ok 0 ∷ ok 0 ∷ ok 0 ∷ committed ∷ Aborted 201 ∷ []
 
 abbrev pub StarterToldState : Type 0
 StarterToldState =
-    (state_after (booted 64 3) starter_told).procs 3 ≡ Some (with_one_pending 10 (standing 3 1 (negsuc 200) no_memory))
+    (state_after (boot_state 64 3) starter_told).procs 3 ≡ Some (with_one_pending 10 (standing 3 1 (negsuc 200) no_memory))
 
 -- a commit is refused since the second of its signals goes to a starter whose queue may be full again: the first one is
 -- not sent then, and once when the commit is made. The sender has other ids at the commit, but not at its calls
@@ -42,7 +42,7 @@ refused_commit =
 
 abbrev pub RefusedCommitAnswers : Type 0
 RefusedCommitAnswers =
-    answers_of (booted 64 4) [] refused_commit
+    answers_of (boot_state 64 4) [] refused_commit
     ≡ replicate 23 (ok 0) ++ busy_with 3 ∷ Aborted 201 ∷ committed_without (missed 3 32 TryAgain ∷ []) ∷ []
 
 -- the user ids 5, and the group ids 0
@@ -52,7 +52,7 @@ user_five =
 
 abbrev pub RefusedCommitState : Type 0
 RefusedCommitState =
-    let S : State = state_after (booted 64 4) refused_commit in
+    let S : State = state_after (boot_state 64 4) refused_commit in
     (S.procs 2 ≡ Some (with_ids user_five (standing 2 5 (pos 0) no_memory)))
     × (S.procs 3
     ≡ Some (with_one_action 32 Ignore (with_queue (replicate 16 (entry 32 0)) (standing 3 2 (negsuc 200) no_memory))))
@@ -77,7 +77,7 @@ last_place_undone =
 
 abbrev pub LastPlaceUndoneAnswers : Type 0
 LastPlaceUndoneAnswers =
-    answers_of (booted 64 4) [] last_place_undone
+    answers_of (boot_state 64 4) [] last_place_undone
     ≡ replicate 21 (ok 0) ++ busy_with 3 ∷ Aborted 201 ∷ committed_without (missed 3 32 TryAgain ∷ []) ∷ []
 
 -- the first one takes the last place that the queue has now, since a member of the other transaction filled it: after
@@ -97,12 +97,12 @@ last_place_now =
 
 abbrev pub LastPlaceNowAnswers : Type 0
 LastPlaceNowAnswers =
-    answers_of (booted 64 3) [] last_place_now
+    answers_of (boot_state 64 3) [] last_place_now
     ≡ ok 0 ∷ ok 5 ∷ replicate 18 (ok 0) ++ busy_with 3 ∷ Aborted 201 ∷ committed ∷ []
 
 abbrev pub LastPlaceNowState : Type 0
 LastPlaceNowState =
-    (state_after (booted 64 3) last_place_now).procs 3
+    (state_after (boot_state 64 3) last_place_now).procs 3
     ≡ Some (with_queue (entry 32 1 ∷ entry 32 2 ∷ []) (standing 3 1 (negsuc 200) no_memory))
 
 -- the first one takes the last place of the queue, now and after the abort: the second one is answered the same, and
@@ -119,7 +119,7 @@ last_place =
 
 abbrev pub LastPlaceAnswers : Type 0
 LastPlaceAnswers =
-    answers_of (booted 64 4) [] last_place ≡ replicate 19 (ok 0) ++ committed_without (missed 3 32 TryAgain ∷ []) ∷ []
+    answers_of (boot_state 64 4) [] last_place ≡ replicate 19 (ok 0) ++ committed_without (missed 3 32 TryAgain ∷ []) ∷ []
 
 -- a sender that was not permitted at its call is not permitted at the commit, though it has other ids then
 abbrev pub ids_at_call : List Step
@@ -134,5 +134,5 @@ ids_at_call =
 
 abbrev pub IdsAtCallAnswers : Type 0
 IdsAtCallAnswers =
-    answers_of (booted 64 3) [] ids_at_call
+    answers_of (boot_state 64 3) [] ids_at_call
     ≡ ok 0 ∷ ok 0 ∷ ok 0 ∷ ok 0 ∷ ok 0 ∷ committed_without (missed 3 10 NotPermitted ∷ []) ∷ []

@@ -5,7 +5,7 @@ use Rattle.tx_base.specs.declared.steps.Call.TheVariants.{Exit, Waitpid, Setuid,
 use Rattle.tx_base.specs.declared.steps.Reply.TheVariants.{Ended, Aborted}
 use Rattle.tx_base.specs.declared.steps.Step.{Step}
 use Rattle.tx_model.specs.Memory.{no_memory}
-use Rattle.tx_model.specs.State.{ReadSide, WriteSide, State, booted}
+use Rattle.tx_model.specs.State.{ReadSide, WriteSide, State, boot_state}
 use Rattle.tx_model.specs.Schedules.{answers_of}
 use Rattle.tx_worked.specs.WorkedSteps.{calls, delivery, kernel, fork, pipe, kill, sigqueue, ok, error, committed, busy_with, state_after, standing, with_slots, with_open, described}
 
@@ -22,7 +22,7 @@ undecided_kill =
 
 abbrev pub UndecidedKillAnswers : Type 0
 UndecidedKillAnswers =
-    answers_of (booted 64 3) [] undecided_kill ≡ ok 0 ∷ ok 0 ∷ ok 0 ∷ busy_with 2 ∷ Aborted 201 ∷ error 1 ∷ []
+    answers_of (boot_state 64 3) [] undecided_kill ≡ ok 0 ∷ ok 0 ∷ ok 0 ∷ busy_with 2 ∷ Aborted 201 ∷ error 1 ∷ []
 
 -- two transactions wait for a description of each other, until the kernel takes one back
 abbrev pub crossed : List Step
@@ -44,7 +44,7 @@ crossed =
 
 abbrev pub CrossedAnswers : Type 0
 CrossedAnswers =
-    answers_of (booted 64 1) [] crossed
+    answers_of (boot_state 64 1) [] crossed
     ≡ ok 0
     ∷ ok 0
     ∷ ok 2
@@ -63,7 +63,7 @@ CrossedAnswers =
 -- process 2 has its descriptors as it was forked with them
 abbrev pub CrossedState : Type 0
 CrossedState =
-    let S : State = state_after (booted 64 1) crossed in
+    let S : State = state_after (boot_state 64 1) crossed in
     (S.procs 2
     ≡ Some (with_slots (pos 2 ∷ pos 3 ∷ replicate 6 (pos 0))
     (with_open (Some 0 ∷ Some 1 ∷ Some 2 ∷ Some 3 ∷ replicate 12 None) (standing 2 4 (negsuc 201) no_memory))))
@@ -76,7 +76,7 @@ abbrev pub child_inside : List Step
 child_inside = calls 2 (fork 3) ∷ calls 3 SysXbegin ∷ calls 2 (Exit (pos 0)) ∷ []
 
 abbrev pub ChildInsideAnswers : Type 0
-ChildInsideAnswers = answers_of (booted 64 2) [] child_inside ≡ ok 3 ∷ ok 0 ∷ busy_with 3 ∷ []
+ChildInsideAnswers = answers_of (boot_state 64 2) [] child_inside ≡ ok 3 ∷ ok 0 ∷ busy_with 3 ∷ []
 
 -- a process may not fork while a transaction has changed a description that its child would name too
 abbrev pub forked_description : List Step
@@ -93,7 +93,7 @@ forked_description =
 
 abbrev pub ForkedDescriptionAnswers : Type 0
 ForkedDescriptionAnswers =
-    answers_of (booted 64 1) [] forked_description
+    answers_of (boot_state 64 1) [] forked_description
     ≡ ok 0 ∷ ok 2 ∷ ok 3 ∷ ok 0 ∷ ok 0 ∷ busy_with 2 ∷ committed ∷ ok 4 ∷ []
 
 -- a process may not end while a transaction has asked for its parent, which would be told
@@ -109,11 +109,11 @@ reserved_parent =
 
 abbrev pub ReservedParentAnswers : Type 0
 ReservedParentAnswers =
-    answers_of (booted 64 3) [] reserved_parent ≡ ok 4 ∷ ok 0 ∷ error 10 ∷ busy_with 3 ∷ committed ∷ Ended ∷ []
+    answers_of (boot_state 64 3) [] reserved_parent ≡ ok 4 ∷ ok 0 ∷ error 10 ∷ busy_with 3 ∷ committed ∷ Ended ∷ []
 
 -- of two transactions that are in the way, that of the least starter is named, whichever began first
-abbrev pub least_holder : List Step
-least_holder =
+abbrev pub least_starter_in_way : List Step
+least_starter_in_way =
     calls 2 (fork 3)
     ∷ calls 2 (fork 5)
     ∷ calls 5 SysXbegin
@@ -123,9 +123,9 @@ least_holder =
     ∷ calls 2 (Exit (pos 0))
     ∷ []
 
-abbrev pub LeastHolderAnswers : Type 0
-LeastHolderAnswers =
-    answers_of (booted 64 2) [] least_holder ≡ ok 3 ∷ ok 5 ∷ ok 0 ∷ ok 0 ∷ busy_with 3 ∷ committed ∷ busy_with 5 ∷ []
+abbrev pub LeastStarterAnswers : Type 0
+LeastStarterAnswers =
+    answers_of (boot_state 64 2) [] least_starter_in_way ≡ ok 3 ∷ ok 5 ∷ ok 0 ∷ ok 0 ∷ busy_with 3 ∷ committed ∷ busy_with 5 ∷ []
 
 -- a starter took a signal from its full queue: whether there is room for one more is not known yet
 abbrev pub room_inside : List Step
@@ -143,7 +143,7 @@ room_undone = room_inside ++ calls 2 SysXabort ∷ calls 3 (sigqueue 2 32 9) ∷
 
 abbrev pub RoomUndoneAnswers : Type 0
 RoomUndoneAnswers =
-    answers_of (booted 64 3) [] room_undone ≡ replicate 19 (ok 0) ++ busy_with 2 ∷ Aborted 201 ∷ error 11 ∷ []
+    answers_of (boot_state 64 3) [] room_undone ≡ replicate 19 (ok 0) ++ busy_with 2 ∷ Aborted 201 ∷ error 11 ∷ []
 
 -- after the commit there is room
 abbrev pub room_made : List Step
@@ -151,4 +151,4 @@ room_made = room_inside ++ calls 2 SysXend ∷ calls 3 (sigqueue 2 32 9) ∷ []
 
 abbrev pub RoomMadeAnswers : Type 0
 RoomMadeAnswers =
-    answers_of (booted 64 3) [] room_made ≡ replicate 19 (ok 0) ++ busy_with 2 ∷ committed ∷ ok 0 ∷ []
+    answers_of (boot_state 64 3) [] room_made ≡ replicate 19 (ok 0) ++ busy_with 2 ∷ committed ∷ ok 0 ∷ []

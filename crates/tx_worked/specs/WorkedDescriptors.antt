@@ -5,7 +5,7 @@ use Rattle.tx_base.specs.declared.steps.Refusal.TheVariants.{Wait}
 use Rattle.tx_base.specs.declared.steps.Reply.TheVariants.{Ended, No}
 use Rattle.tx_base.specs.declared.steps.Step.{Step}
 use Rattle.tx_model.specs.Memory.{no_memory}
-use Rattle.tx_model.specs.State.{ReadSide, WriteSide, State, booted}
+use Rattle.tx_model.specs.State.{ReadSide, WriteSide, State, boot_state}
 use Rattle.tx_model.specs.Schedules.{answers_of}
 use Rattle.tx_worked.specs.WorkedSteps.{calls, fork, pipe, ok, error, state_after, standing, with_slots, with_open, described}
 use Rattle.tx_worked.specs.WorkedPipes.{eight_pages}
@@ -22,12 +22,12 @@ lowest_first =
     ∷ []
 
 abbrev pub LowestFirstAnswers : Type 0
-LowestFirstAnswers = answers_of (booted 64 1) [] lowest_first ≡ ok 0 ∷ ok 2 ∷ ok 3 ∷ ok 0 ∷ ok 0 ∷ ok 0 ∷ []
+LowestFirstAnswers = answers_of (boot_state 64 1) [] lowest_first ≡ ok 0 ∷ ok 2 ∷ ok 3 ∷ ok 0 ∷ ok 0 ∷ ok 0 ∷ []
 
 -- the slots say which descriptors they are, the read side first
 abbrev pub LowestFirstState : Type 0
 LowestFirstState =
-    let S : State = state_after (booted 64 1) lowest_first in
+    let S : State = state_after (boot_state 64 1) lowest_first in
     (S.procs 1
     ≡ Some (with_slots (pos 0 ∷ pos 2 ∷ replicate 6 (pos 0))
     (with_open (Some 2 ∷ Some 1 ∷ Some 3 ∷ Some 1 ∷ replicate 12 None) (standing 1 6 (pos 0) no_memory))))
@@ -60,7 +60,7 @@ full_table =
 
 abbrev pub FullTableAnswers : Type 0
 FullTableAnswers =
-    answers_of (booted 64 1) [] full_table
+    answers_of (boot_state 64 1) [] full_table
     ≡ replicate 7 (ok 0)
     ++ ok 14
     ∷ error 24
@@ -75,7 +75,7 @@ FullTableAnswers =
 
 abbrev pub FullTableState : Type 0
 FullTableState =
-    let S : State = state_after (booted 64 1) full_table in
+    let S : State = state_after (boot_state 64 1) full_table in
     (S.descs 3 ≡ None) × (S.descs 14 ≡ None) × (S.pipes 1 ≡ Some []) × (S.pipes 7 ≡ None)
 
 -- the end of a process closes its descriptors: what it wrote is read, and then no writer is left
@@ -94,11 +94,11 @@ closed_by_exit =
 
 abbrev pub ClosedByExitAnswers : Type 0
 ClosedByExitAnswers =
-    answers_of (booted 64 1) [] closed_by_exit ≡ ok 0 ∷ ok 0 ∷ ok 2 ∷ ok 0 ∷ ok 3 ∷ Ended ∷ ok 2 ∷ ok 1 ∷ ok 0 ∷ []
+    answers_of (boot_state 64 1) [] closed_by_exit ≡ ok 0 ∷ ok 0 ∷ ok 2 ∷ ok 0 ∷ ok 3 ∷ Ended ∷ ok 2 ∷ ok 1 ∷ ok 0 ∷ []
 
 abbrev pub ClosedByExitState : Type 0
 ClosedByExitState =
-    let S : State = state_after (booted 64 1) closed_by_exit in
+    let S : State = state_after (boot_state 64 1) closed_by_exit in
     (S.descs 0 ≡ described 0 ReadSide false) × (S.descs 1 ≡ None) × (S.pipes 0 ≡ Some [])
 
 -- the last side of a pipe takes the bytes with it, and its numbers may be chosen again
@@ -117,7 +117,7 @@ bytes_lost =
 
 abbrev pub BytesLostAnswers : Type 0
 BytesLostAnswers =
-    answers_of (booted 64 2) [] bytes_lost ≡ ok 0 ∷ ok 0 ∷ ok 3 ∷ ok 3 ∷ ok 0 ∷ ok 0 ∷ Ended ∷ ok 0 ∷ No Wait ∷ []
+    answers_of (boot_state 64 2) [] bytes_lost ≡ ok 0 ∷ ok 0 ∷ ok 3 ∷ ok 3 ∷ ok 0 ∷ ok 0 ∷ Ended ∷ ok 0 ∷ No Wait ∷ []
 
 -- a read wants an open read side, a good count, a good range that may be written, and bytes; a write wants a write side
 -- and a range that may be read. Each is tested in this order, and no byte wants no range
@@ -147,7 +147,7 @@ wrong_transfers =
 
 abbrev pub WrongTransfersAnswers : Type 0
 WrongTransfersAnswers =
-    answers_of (booted 64 1) [] wrong_transfers
+    answers_of (boot_state 64 1) [] wrong_transfers
     ≡ ok 0
     ∷ ok 0
     ∷ error 9
@@ -183,7 +183,7 @@ little_room =
 
 abbrev pub LittleRoomAnswers : Type 0
 LittleRoomAnswers =
-    answers_of (booted 64 1) [] little_room ≡ replicate 9 (ok 0) ++ ok 500 ∷ No Wait ∷ ok 12 ∷ ok 512 ∷ []
+    answers_of (boot_state 64 1) [] little_room ≡ replicate 9 (ok 0) ++ ok 500 ∷ No Wait ∷ ok 12 ∷ ok 512 ∷ []
 
 -- descriptors are 0 to 15, and open
 abbrev pub wrong_descriptors : List Step
@@ -204,5 +204,5 @@ wrong_descriptors =
 
 abbrev pub WrongDescriptorsAnswers : Type 0
 WrongDescriptorsAnswers =
-    answers_of (booted 64 1) [] wrong_descriptors
+    answers_of (boot_state 64 1) [] wrong_descriptors
     ≡ replicate 7 (error 9) ++ ok 0 ∷ error 9 ∷ error 9 ∷ ok 15 ∷ error 9 ∷ []

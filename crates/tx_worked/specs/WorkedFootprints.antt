@@ -1,10 +1,10 @@
--- Schedules of what each step asks for, worked out to the end: what a transaction touched is in the way of it. Own rules.
+-- Schedules of what each step asks for, worked out to the end: what a transaction reserved is in the way of it. Own rules.
 use Rattle.std.specs.Prelude.{◌≡◌, true, false, List, [], ◌∷◌, ◌++◌, pos}
 use Rattle.tx_base.specs.declared.steps.Call.TheVariants.{Map, Exit, Waitpid, Dup, Dup2, Close, SetNonblock, Read, Write, Getpid, SysXbegin, SysXbeginDefer, SysXend, SysXabort}
 use Rattle.tx_base.specs.declared.steps.Refusal.TheVariants.{NotDeliverable, Deferred}
 use Rattle.tx_base.specs.declared.steps.Reply.TheVariants.{Ended, Aborted, No}
 use Rattle.tx_base.specs.declared.steps.Step.{Step}
-use Rattle.tx_model.specs.State.{booted}
+use Rattle.tx_model.specs.State.{boot_state}
 use Rattle.tx_model.specs.Schedules.{answers_of}
 use Rattle.tx_worked.specs.WorkedSteps.{calls, delivery, fork, pipe, kill, sigqueue, block, ok, error, committed, busy_with}
 
@@ -39,7 +39,7 @@ changed_description =
 
 abbrev pub ChangedDescriptionAnswers : Type 0
 ChangedDescriptionAnswers =
-    answers_of (booted 64 1) [] changed_description
+    answers_of (boot_state 64 1) [] changed_description
     ≡ ok 0
     ∷ ok 0
     ∷ ok 2
@@ -76,7 +76,7 @@ changed_writer =
 
 abbrev pub ChangedWriterAnswers : Type 0
 ChangedWriterAnswers =
-    answers_of (booted 64 1) [] changed_writer
+    answers_of (boot_state 64 1) [] changed_writer
     ≡ ok 0 ∷ ok 0 ∷ ok 2 ∷ ok 3 ∷ ok 0 ∷ ok 0 ∷ ok 0 ∷ busy_with 2 ∷ ok 0 ∷ []
 
 -- a transaction has written to the pipe: what names the pipe by its other side is refused, a close that is not the last
@@ -100,7 +100,7 @@ written_pipe =
 
 abbrev pub WrittenPipeAnswers : Type 0
 WrittenPipeAnswers =
-    answers_of (booted 64 1) [] written_pipe
+    answers_of (boot_state 64 1) [] written_pipe
     ≡ ok 0
     ∷ ok 0
     ∷ ok 2
@@ -133,7 +133,7 @@ read_pipe =
 
 abbrev pub ReadPipeAnswers : Type 0
 ReadPipeAnswers =
-    answers_of (booted 64 1) [] read_pipe
+    answers_of (boot_state 64 1) [] read_pipe
     ≡ ok 0 ∷ ok 0 ∷ ok 2 ∷ ok 3 ∷ ok 0 ∷ ok 0 ∷ ok 0 ∷ busy_with 2 ∷ busy_with 2 ∷ ok 2 ∷ []
 
 -- a transaction has given up the numbers of a child, a pipe and two descriptions: none of them may be chosen by others
@@ -156,7 +156,7 @@ chosen_numbers =
 
 abbrev pub ChosenNumbersAnswers : Type 0
 ChosenNumbersAnswers =
-    answers_of (booted 64 3) [] chosen_numbers
+    answers_of (boot_state 64 3) [] chosen_numbers
     ≡ ok 0
     ∷ ok 0
     ∷ ok 0
@@ -189,7 +189,7 @@ asked_for =
 
 abbrev pub AskedForAnswers : Type 0
 AskedForAnswers =
-    answers_of (booted 64 3) [] asked_for
+    answers_of (boot_state 64 3) [] asked_for
     ≡ ok 0 ∷ error 10 ∷ busy_with 3 ∷ busy_with 3 ∷ busy_with 3 ∷ busy_with 3 ∷ error 22 ∷ Aborted 201 ∷ ok 0 ∷ []
 
 -- a member that is no starter is signalled by no other process, and its starter is
@@ -206,7 +206,7 @@ signalled_member =
 
 abbrev pub SignalledMemberAnswers : Type 0
 SignalledMemberAnswers =
-    answers_of (booted 64 3) [] signalled_member
+    answers_of (boot_state 64 3) [] signalled_member
     ≡ ok 0 ∷ ok 7 ∷ busy_with 2 ∷ busy_with 2 ∷ ok 0 ∷ Aborted 201 ∷ error 3 ∷ []
 
 -- a commit asks for the targets of what it held, which were free to go on meanwhile
@@ -224,7 +224,7 @@ reserved_target =
 
 abbrev pub ReservedTargetAnswers : Type 0
 ReservedTargetAnswers =
-    answers_of (booted 64 4) [] reserved_target
+    answers_of (boot_state 64 4) [] reserved_target
     ≡ ok 0 ∷ ok 0 ∷ ok 3 ∷ ok 0 ∷ error 10 ∷ busy_with 4 ∷ committed ∷ committed ∷ []
 
 -- the parent of a starter is told at the commit, and asked for only then: by the exit of the starter where that commits,
@@ -245,7 +245,7 @@ told_at_commit =
 
 abbrev pub ToldAtCommitAnswers : Type 0
 ToldAtCommitAnswers =
-    answers_of (booted 64 3) [] told_at_commit
+    answers_of (boot_state 64 3) [] told_at_commit
     ≡ ok 4 ∷ ok 0 ∷ ok 0 ∷ error 10 ∷ busy_with 3 ∷ ok 5 ∷ Ended ∷ busy_with 3 ∷ committed ∷ committed ∷ []
 
 -- a child has begun a transaction: a delivery that ends its parent is refused, and one that does not is made; a signal
@@ -267,7 +267,7 @@ fatal_delivery =
 
 abbrev pub FatalDeliveryAnswers : Type 0
 FatalDeliveryAnswers =
-    answers_of (booted 64 2) [] fatal_delivery
+    answers_of (boot_state 64 2) [] fatal_delivery
     ≡ ok 3 ∷ ok 0 ∷ ok 0 ∷ ok 0 ∷ ok 0 ∷ ok 3 ∷ busy_with 3 ∷ ok 0 ∷ No NotDeliverable ∷ committed ∷ Ended ∷ []
 
 -- a delivery that is deferred asks for nothing
@@ -284,5 +284,5 @@ deferred_delivery =
 
 abbrev pub DeferredDeliveryAnswers : Type 0
 DeferredDeliveryAnswers =
-    answers_of (booted 256 2) [] deferred_delivery
+    answers_of (boot_state 256 2) [] deferred_delivery
     ≡ ok 3 ∷ ok 0 ∷ ok 0 ∷ ok 0 ∷ No Deferred ∷ Aborted 201 ∷ busy_with 3 ∷ []

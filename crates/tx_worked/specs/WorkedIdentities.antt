@@ -4,7 +4,7 @@ use Rattle.tx_base.specs.declared.steps.Call.TheVariants.{Exit, Setuid, Seteuid,
 use Rattle.tx_base.specs.declared.steps.Reply.TheVariants.{Ended}
 use Rattle.tx_base.specs.declared.steps.Step.{Step}
 use Rattle.tx_model.specs.Memory.{no_memory}
-use Rattle.tx_model.specs.State.{Ids, State, booted}
+use Rattle.tx_model.specs.State.{Ids, State, boot_state}
 use Rattle.tx_model.specs.Schedules.{answers_of}
 use Rattle.tx_worked.specs.WorkedSteps.{calls, kill, ok, error, state_after, standing, with_ids, with_one_pending}
 
@@ -28,7 +28,7 @@ permitted =
 
 abbrev pub PermittedAnswers : Type 0
 PermittedAnswers =
-    answers_of (booted 64 4) [] permitted
+    answers_of (boot_state 64 4) [] permitted
     ≡ ok 0 ∷ ok 0 ∷ ok 0 ∷ ok 0 ∷ ok 0 ∷ error 1 ∷ error 1 ∷ error 1 ∷ Ended ∷ error 1 ∷ ok 0 ∷ ok 0 ∷ []
 
 -- these user ids, and the group ids 0
@@ -38,7 +38,7 @@ users real effective saved =
 
 abbrev pub PermittedState : Type 0
 PermittedState =
-    let S : State = state_after (booted 64 4) permitted in
+    let S : State = state_after (boot_state 64 4) permitted in
     (S.procs 2 ≡ Some (with_one_pending 10 (with_ids (users 5 5 5) (standing 2 3 (negsuc 0) no_memory))))
     × (S.procs 4 ≡ Some (with_ids (users 0 5 0) (standing 4 6 (pos 0) no_memory)))
 
@@ -61,11 +61,11 @@ groups =
 
 abbrev pub GroupsAnswers : Type 0
 GroupsAnswers =
-    answers_of (booted 64 2) [] groups
+    answers_of (boot_state 64 2) [] groups
     ≡ ok 0 ∷ ok 0 ∷ ok 0 ∷ ok 0 ∷ error 1 ∷ error 1 ∷ error 22 ∷ error 22 ∷ error 22 ∷ error 1 ∷ ok 0 ∷ []
 
 -- the user ids 65,535, and the group ids 3
 abbrev pub GroupsState : Type 0
 GroupsState =
-    (state_after (booted 64 2) groups).procs 2
+    (state_after (boot_state 64 2) groups).procs 2
     ≡ Some (with_ids (record (users 65535 65535 65535) { real_group = 3; effective_group = 3; saved_group = 3 }) (standing 2 11 (pos 0) no_memory))

@@ -5,7 +5,7 @@ use Rattle.tx_base.specs.declared.steps.Refusal.TheVariants.{BadNumber, Doomed, 
 use Rattle.tx_base.specs.declared.steps.Reply.TheVariants.{Ended, Aborted, No}
 use Rattle.tx_base.specs.declared.steps.Step.{Step}
 use Rattle.tx_model.specs.Memory.{no_memory}
-use Rattle.tx_model.specs.State.{State, booted_process, booted}
+use Rattle.tx_model.specs.State.{State, booted_process, boot_state}
 use Rattle.tx_model.specs.Schedules.{answers_of}
 use Rattle.tx_worked.specs.WorkedSteps.{calls, delivery, kernel, fork, kill, ok, committed, state_after, standing, killed_by}
 
@@ -24,12 +24,12 @@ doomed =
 
 abbrev pub DoomedAnswers : Type 0
 DoomedAnswers =
-    answers_of (booted 64 3) [] doomed
+    answers_of (boot_state 64 3) [] doomed
     ≡ ok 0 ∷ ok 7 ∷ ok 0 ∷ No Doomed ∷ No Doomed ∷ Aborted 203 ∷ No KillPending ∷ Ended ∷ []
 
 abbrev pub DoomedState : Type 0
 DoomedState =
-    let S : State = state_after (booted 64 3) doomed in
+    let S : State = state_after (boot_state 64 3) doomed in
     (S.procs 1 ≡ Some (booted_process 1))
     × (S.procs 2 ≡ Some (killed_by 9))
     × (S.procs 3 ≡ Some (standing 3 1 (pos 0) no_memory))
@@ -49,10 +49,10 @@ ended_then_doomed =
 
 abbrev pub EndedThenDoomedAnswers : Type 0
 EndedThenDoomedAnswers =
-    answers_of (booted 64 3) [] ended_then_doomed ≡ ok 0 ∷ ok 7 ∷ Ended ∷ ok 0 ∷ No Doomed ∷ Aborted 203 ∷ Ended ∷ []
+    answers_of (boot_state 64 3) [] ended_then_doomed ≡ ok 0 ∷ ok 7 ∷ Ended ∷ ok 0 ∷ No Doomed ∷ Aborted 203 ∷ Ended ∷ []
 
 abbrev pub EndedThenDoomedState : Type 0
-EndedThenDoomedState = (state_after (booted 64 3) ended_then_doomed).procs 2 ≡ Some (killed_by 9)
+EndedThenDoomedState = (state_after (boot_state 64 3) ended_then_doomed).procs 2 ≡ Some (killed_by 9)
 
 -- a member's SIGKILL to its starter dooms nothing: the starter ends inside
 abbrev pub killed_inside : List Step
@@ -70,11 +70,11 @@ member_kills = killed_inside ++ calls 7 SysXend ∷ []
 
 abbrev pub MemberKillsAnswers : Type 0
 MemberKillsAnswers =
-    answers_of (booted 64 2) [] member_kills ≡ ok 0 ∷ ok 7 ∷ ok 0 ∷ No KillPending ∷ ok 7 ∷ Ended ∷ committed ∷ []
+    answers_of (boot_state 64 2) [] member_kills ≡ ok 0 ∷ ok 7 ∷ ok 0 ∷ No KillPending ∷ ok 7 ∷ Ended ∷ committed ∷ []
 
 abbrev pub MemberKillsState : Type 0
 MemberKillsState =
-    let S : State = state_after (booted 64 2) member_kills in
+    let S : State = state_after (boot_state 64 2) member_kills in
     (S.procs 1 ≡ Some (booted_process 1))
     × (S.procs 2 ≡ Some (killed_by 9))
     × (S.procs 7 ≡ Some (standing 7 5 (pos 0) no_memory))
@@ -85,11 +85,11 @@ kill_undone = killed_inside ++ calls 7 SysXabort ∷ []
 
 abbrev pub KillUndoneAnswers : Type 0
 KillUndoneAnswers =
-    answers_of (booted 64 2) [] kill_undone ≡ ok 0 ∷ ok 7 ∷ ok 0 ∷ No KillPending ∷ ok 7 ∷ Ended ∷ Aborted 201 ∷ []
+    answers_of (boot_state 64 2) [] kill_undone ≡ ok 0 ∷ ok 7 ∷ ok 0 ∷ No KillPending ∷ ok 7 ∷ Ended ∷ Aborted 201 ∷ []
 
 abbrev pub KillUndoneState : Type 0
 KillUndoneState =
-    let S : State = state_after (booted 64 2) kill_undone in
+    let S : State = state_after (boot_state 64 2) kill_undone in
     (S.procs 1 ≡ Some (booted_process 1))
     × (S.procs 2 ≡ Some (standing 2 1 (negsuc 200) no_memory))
     × (S.procs 7 ≡ None)
@@ -108,11 +108,11 @@ deferred =
 
 abbrev pub DeferredAnswers : Type 0
 DeferredAnswers =
-    answers_of (booted 256 3) [] deferred ≡ ok 0 ∷ ok 0 ∷ No Deferred ∷ ok 256 ∷ ok 0 ∷ Ended ∷ committed ∷ []
+    answers_of (boot_state 256 3) [] deferred ≡ ok 0 ∷ ok 0 ∷ No Deferred ∷ ok 256 ∷ ok 0 ∷ Ended ∷ committed ∷ []
 
 abbrev pub DeferredState : Type 0
 DeferredState =
-    let S : State = state_after (booted 256 3) deferred in
+    let S : State = state_after (boot_state 256 3) deferred in
     (S.procs 1 ≡ Some (booted_process 1))
     × (S.procs 2 ≡ Some (killed_by 9))
     × (S.procs 3 ≡ Some (standing 3 1 (pos 0) no_memory))
@@ -123,4 +123,4 @@ abbrev pub past_width : List Step
 past_width = calls 256 (fork 257) ∷ []
 
 abbrev pub PastWidthAnswers : Type 0
-PastWidthAnswers = answers_of (booted 256 256) [] past_width ≡ No BadNumber ∷ []
+PastWidthAnswers = answers_of (boot_state 256 256) [] past_width ≡ No BadNumber ∷ []

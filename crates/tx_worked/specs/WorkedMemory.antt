@@ -3,7 +3,7 @@ use Rattle.std.specs.Prelude.{◌≡◌, true, false, List, [], ◌∷◌, ◌++
 use Rattle.tx_base.specs.declared.steps.Call.TheVariants.{Map, Unmap, Protect, Load}
 use Rattle.tx_base.specs.declared.steps.Step.{Step}
 use Rattle.tx_model.specs.Memory.{Memory}
-use Rattle.tx_model.specs.State.{booted}
+use Rattle.tx_model.specs.State.{boot_state}
 use Rattle.tx_model.specs.Schedules.{answers_of}
 use Rattle.tx_worked.specs.WorkedSteps.{calls, store, ok, error, state_after, standing}
 
@@ -33,7 +33,7 @@ pages =
 
 abbrev pub PagesAnswers : Type 0
 PagesAnswers =
-    answers_of (booted 64 1) [] pages
+    answers_of (boot_state 64 1) [] pages
     ≡ error 22
     ∷ error 22
     ∷ ok 0
@@ -60,7 +60,7 @@ abbrev pub first_page : Memory
 first_page = Some (record { writable = true; bytes = replicate 64 0 }) ∷ replicate 15 None
 
 abbrev pub PagesState : Type 0
-PagesState = (state_after (booted 64 1) pages).procs 1 ≡ Some (standing 1 19 (pos 0) first_page)
+PagesState = (state_after (boot_state 64 1) pages).procs 1 ≡ Some (standing 1 19 (pos 0) first_page)
 
 -- a page that may not be written is read all the same; a store that meets one stores no byte
 abbrev pub protected : List Step
@@ -82,7 +82,7 @@ protected =
 
 abbrev pub ProtectedAnswers : Type 0
 ProtectedAnswers =
-    answers_of (booted 64 1) [] protected
+    answers_of (boot_state 64 1) [] protected
     ≡ ok 0
     ∷ ok 0
     ∷ ok 0
@@ -106,4 +106,4 @@ two_pages =
     ∷ replicate 14 None
 
 abbrev pub ProtectedState : Type 0
-ProtectedState = (state_after (booted 64 1) protected).procs 1 ≡ Some (standing 1 13 (pos 0) two_pages)
+ProtectedState = (state_after (boot_state 64 1) protected).procs 1 ≡ Some (standing 1 13 (pos 0) two_pages)

@@ -6,7 +6,7 @@ use Rattle.tx_base.specs.declared.steps.Call.TheVariants.{Map, Load, Exit, Sigac
 use Rattle.tx_base.specs.declared.steps.Reply.{Reply}
 use Rattle.tx_base.specs.declared.steps.Reply.TheVariants.{Ended}
 use Rattle.tx_base.specs.declared.steps.Step.{Step}
-use Rattle.tx_model.specs.State.{booted}
+use Rattle.tx_model.specs.State.{boot_state}
 use Rattle.tx_model.specs.Schedules.{history_of}
 use Rattle.tx_laws.specs.OneMoment.{moved_history, is_one_moment}
 use Rattle.tx_worked.specs.WorkedSteps.{calls, delivery, store, fork, kill, ok, error, committed}
@@ -43,12 +43,12 @@ abbrev pub load_of_three : Accepted
 load_of_three = answered (calls 3 (Load (pos 0))) (ok 170)
 
 abbrev pub ApartHistory : Type 0
-ApartHistory = history_of (booted 256 3) [] apart ≡ load_of_three ∷ commit_of_two ∷ apart_before
+ApartHistory = history_of (boot_state 256 3) [] apart ≡ load_of_three ∷ commit_of_two ∷ apart_before
 
 -- the steps of the transaction stand together, and nothing tells that they did not
 abbrev pub ApartMoved : Type 0
 ApartMoved =
-    (moved_history (booted 256 3) 2 (load_of_three ∷ []) commit_of_two apart_before
+    (moved_history (boot_state 256 3) 2 (load_of_three ∷ []) commit_of_two apart_before
     ≡ load_of_three
     ∷ commit_of_two
     ∷ answered (calls 2 (Map (pos 1))) (ok 0)
@@ -56,7 +56,7 @@ ApartMoved =
     ∷ answered (calls 3 (store (pos 0) (170 ∷ []))) (ok 0)
     ∷ answered (calls 3 (Map (pos 0))) (ok 0)
     ∷ [])
-    × (is_one_moment (booted 256 3) 2 commit_of_two apart_before ≡ true)
+    × (is_one_moment (boot_state 256 3) 2 commit_of_two apart_before ≡ true)
 
 -- a starter takes an outsider's signal inside
 abbrev pub looked_at : List Step
@@ -77,19 +77,19 @@ looked_at_before =
     ∷ []
 
 abbrev pub LookedAtHistory : Type 0
-LookedAtHistory = history_of (booted 256 3) [] looked_at ≡ commit_of_two ∷ looked_at_before
+LookedAtHistory = history_of (boot_state 256 3) [] looked_at ≡ commit_of_two ∷ looked_at_before
 
 -- the delivery tells that the signal was sent before it
 abbrev pub LookedAtMoved : Type 0
 LookedAtMoved =
-    (moved_history (booted 256 3) 2 [] commit_of_two looked_at_before
+    (moved_history (boot_state 256 3) 2 [] commit_of_two looked_at_before
     ≡ commit_of_two
     ∷ answered (delivery 2 10) (ok 0)
     ∷ answered (calls 2 SysXbegin) (ok 0)
     ∷ answered (calls 3 (kill 2 10)) (ok 0)
     ∷ answered (calls 2 (Sigaction (pos 10) Ignore)) (ok 0)
     ∷ [])
-    × (is_one_moment (booted 256 3) 2 commit_of_two looked_at_before ≡ false)
+    × (is_one_moment (boot_state 256 3) 2 commit_of_two looked_at_before ≡ false)
 
 -- a child looks at its own signals inside, and ends: its starter is told of that, which tells the moment
 abbrev pub child_ends : List Step
@@ -102,11 +102,11 @@ child_looks =
 
 abbrev pub ChildEndsHistory : Type 0
 ChildEndsHistory =
-    history_of (booted 256 3) [] child_ends ≡ commit_of_two ∷ answered (calls 4 (Exit (pos 0))) Ended ∷ child_looks
+    history_of (boot_state 256 3) [] child_ends ≡ commit_of_two ∷ answered (calls 4 (Exit (pos 0))) Ended ∷ child_looks
 
 abbrev pub ChildEndsTells : Type 0
 ChildEndsTells =
-    is_one_moment (booted 256 3) 2 commit_of_two (answered (calls 4 (Exit (pos 0))) Ended ∷ child_looks) ≡ false
+    is_one_moment (boot_state 256 3) 2 commit_of_two (answered (calls 4 (Exit (pos 0))) Ended ∷ child_looks) ≡ false
 
 -- the child ends its part and not itself: nothing tells it
 abbrev pub child_parks : List Step
@@ -115,11 +115,11 @@ child_parks =
 
 abbrev pub ChildParksHistory : Type 0
 ChildParksHistory =
-    history_of (booted 256 3) [] child_parks ≡ commit_of_two ∷ answered (calls 4 SysXend) (ok 0) ∷ child_looks
+    history_of (boot_state 256 3) [] child_parks ≡ commit_of_two ∷ answered (calls 4 SysXend) (ok 0) ∷ child_looks
 
 abbrev pub ChildParksTellsNothing : Type 0
 ChildParksTellsNothing =
-    is_one_moment (booted 256 3) 2 commit_of_two (answered (calls 4 SysXend) (ok 0) ∷ child_looks) ≡ true
+    is_one_moment (boot_state 256 3) 2 commit_of_two (answered (calls 4 SysXend) (ok 0) ∷ child_looks) ≡ true
 
 -- process 2 began its transaction, and made one step in it
 abbrev pub one_step : Step → Reply → List Accepted
@@ -128,25 +128,25 @@ one_step step reply = answered step reply ∷ answered (calls 2 SysXbegin) (ok 0
 -- the starter looks at what is pending, or at an action, though of no signal
 abbrev pub StarterLooks : Type 0
 StarterLooks =
-    (is_one_moment (booted 256 3) 2 commit_of_two (one_step (calls 2 Sigpending) (ok 0)) ≡ false)
-    × (is_one_moment (booted 256 3) 2 commit_of_two (one_step (calls 2 (Sigaction (pos 4) Ignore)) (error 22)) ≡ false)
+    (is_one_moment (boot_state 256 3) 2 commit_of_two (one_step (calls 2 Sigpending) (ok 0)) ≡ false)
+    × (is_one_moment (boot_state 256 3) 2 commit_of_two (one_step (calls 2 (Sigaction (pos 4) Ignore)) (error 22)) ≡ false)
 
 -- it asks whether it is there itself, and whether another process is; or sends an unknown signal, which is no signal
 abbrev pub StarterSends : Type 0
 StarterSends =
-    (is_one_moment (booted 256 3) 2 commit_of_two (one_step (calls 2 (kill 2 0)) (ok 0)) ≡ false)
-    × (is_one_moment (booted 256 3) 2 commit_of_two (one_step (calls 2 (kill 3 10)) (ok 0)) ≡ true)
-    × (is_one_moment (booted 256 3) 2 commit_of_two (one_step (calls 2 (kill 2 99)) (error 22)) ≡ true)
+    (is_one_moment (boot_state 256 3) 2 commit_of_two (one_step (calls 2 (kill 2 0)) (ok 0)) ≡ false)
+    × (is_one_moment (boot_state 256 3) 2 commit_of_two (one_step (calls 2 (kill 3 10)) (ok 0)) ≡ true)
+    × (is_one_moment (boot_state 256 3) 2 commit_of_two (one_step (calls 2 (kill 2 99)) (error 22)) ≡ true)
 
 -- what the starter does before it begins, and what others do, tells nothing; the step that commits may tell
 abbrev pub OthersTellNothing : Type 0
 OthersTellNothing =
-    (is_one_moment (booted 256 3) 2 commit_of_two
+    (is_one_moment (boot_state 256 3) 2 commit_of_two
     (answered (calls 3 Sigpending) (ok 0)
     ∷ answered (calls 2 SysXbegin) (ok 0)
     ∷ answered (calls 2 Sigpending) (ok 0)
     ∷ [])
     ≡ true)
-    × (is_one_moment (booted 256 3) 2 (answered (delivery 2 10) committed)
+    × (is_one_moment (boot_state 256 3) 2 (answered (delivery 2 10) committed)
     (answered (calls 3 (kill 2 10)) (ok 0) ∷ answered (calls 2 SysXbegin) (ok 0) ∷ [])
     ≡ false)

@@ -5,7 +5,7 @@ use Rattle.tx_base.specs.declared.steps.Refusal.TheVariants.{NoProcess, BadNumbe
 use Rattle.tx_base.specs.declared.steps.Reply.TheVariants.{Ended, Aborted, No}
 use Rattle.tx_base.specs.declared.steps.Step.{Step}
 use Rattle.tx_model.specs.Memory.{no_memory}
-use Rattle.tx_model.specs.State.{ReadSide, WriteSide, State, booted_process, booted}
+use Rattle.tx_model.specs.State.{ReadSide, WriteSide, State, booted_process, boot_state}
 use Rattle.tx_model.specs.View.{View}
 use Rattle.tx_model.specs.Schedules.{answers_of}
 use Rattle.tx_model.specs.FreeNumbers.{Free, free_numbers}
@@ -24,11 +24,11 @@ refused_numbers =
 
 abbrev pub RefusedNumbersAnswers : Type 0
 RefusedNumbersAnswers =
-    answers_of (booted 64 1) [] refused_numbers
+    answers_of (boot_state 64 1) [] refused_numbers
     ≡ No BadNumber ∷ No NumberTaken ∷ No NoProcess ∷ No NoTransaction ∷ error 22 ∷ No BadNumber ∷ []
 
 abbrev pub RefusedNumbersState : Type 0
-RefusedNumbersState = (state_after (booted 64 1) refused_numbers).procs 1 ≡ Some (standing 1 1 (negsuc 21) no_memory)
+RefusedNumbersState = (state_after (boot_state 64 1) refused_numbers).procs 1 ≡ Some (standing 1 1 (negsuc 21) no_memory)
 
 -- processes are numbered from 1, pipes 0 to 31, descriptions 0 to 63. A number out of range comes before one that is taken
 abbrev pub number_limits : List Step
@@ -49,7 +49,7 @@ number_limits =
 
 abbrev pub NumberLimitsAnswers : Type 0
 NumberLimitsAnswers =
-    answers_of (booted 64 1) [] number_limits
+    answers_of (boot_state 64 1) [] number_limits
     ≡ No BadNumber
     ∷ ok 64
     ∷ No BadNumber
@@ -75,12 +75,12 @@ reserved_numbers = closed_inside ++ calls 3 (pipe 4 1 2) ∷ calls 2 SysXabort �
 
 abbrev pub ReservedNumbersAnswers : Type 0
 ReservedNumbersAnswers =
-    answers_of (booted 64 3) [] reserved_numbers
+    answers_of (boot_state 64 3) [] reserved_numbers
     ≡ ok 0 ∷ ok 0 ∷ No NumberTaken ∷ ok 0 ∷ ok 0 ∷ busy_with 2 ∷ Aborted 201 ∷ ok 0 ∷ []
 
 abbrev pub ReservedNumbersState : Type 0
 ReservedNumbersState =
-    let S : State = state_after (booted 64 3) reserved_numbers in
+    let S : State = state_after (boot_state 64 3) reserved_numbers in
     (S.procs 1 ≡ Some (booted_process 1))
     × (S.procs 2 ≡ Some (standing 2 1 (negsuc 200) no_memory))
     × (S.procs 3
@@ -97,7 +97,7 @@ free p k r w = record { proc = Some p; pipe = Some k; descs = Some (r, w) }
 
 -- before the abort, the least numbers that are free for process 3
 abbrev pub LeastFree : Type 0
-LeastFree = free_numbers (view_after (booted 64 3) closed_inside) 3 ≡ free 4 0 0 1
+LeastFree = free_numbers (view_after (boot_state 64 3) closed_inside) 3 ≡ free 4 0 0 1
 
 -- numbers that a transaction gave up are free for its members alone, until it ends
 abbrev pub given_up_inside : List Step
@@ -114,17 +114,17 @@ given_up_inside =
 
 abbrev pub GivenUpInsideAnswers : Type 0
 GivenUpInsideAnswers =
-    answers_of (booted 64 3) [] given_up_inside ≡ ok 0 ∷ ok 0 ∷ ok 0 ∷ ok 0 ∷ ok 4 ∷ Ended ∷ ok 4 ∷ ok 0 ∷ []
+    answers_of (boot_state 64 3) [] given_up_inside ≡ ok 0 ∷ ok 0 ∷ ok 0 ∷ ok 0 ∷ ok 4 ∷ Ended ∷ ok 4 ∷ ok 0 ∷ []
 
 abbrev pub FreeInside : Type 0
 FreeInside =
-    let V : View = view_after (booted 64 3) given_up_inside in
+    let V : View = view_after (boot_state 64 3) given_up_inside in
     (free_numbers V 1 ≡ free 5 2 2 5) × (free_numbers V 2 ≡ free 4 0 0 1) × (free_numbers V 3 ≡ free 5 2 2 5)
 
 -- where every process is there, no number of one is free
 abbrev pub NoneFree : Type 0
 NoneFree =
-    free_numbers (view_after (booted 64 64) []) 1 ≡ record { proc = None; pipe = Some 0; descs = Some (0, 1) }
+    free_numbers (view_after (boot_state 64 64) []) 1 ≡ record { proc = None; pipe = Some 0; descs = Some (0, 1) }
 
 -- process p makes as many pipes, from this number on
 abbrev pub pipes_from : ℕ → ℕ → ℕ → List Step
@@ -140,8 +140,8 @@ abbrev pub all_pipes_but_one_side : List Step
 all_pipes_but_one_side = all_pipes ++ calls 1 (Close (pos 0)) ∷ []
 
 abbrev pub NoPipeFree : Type 0
-NoPipeFree = free_numbers (view_after (booted 64 4) all_pipes) 1 ≡ record { proc = Some 5; pipe = None; descs = None }
+NoPipeFree = free_numbers (view_after (boot_state 64 4) all_pipes) 1 ≡ record { proc = Some 5; pipe = None; descs = None }
 
 abbrev pub OneSideFree : Type 0
 OneSideFree =
-    free_numbers (view_after (booted 64 4) all_pipes_but_one_side) 1 ≡ record { proc = Some 5; pipe = None; descs = None }
+    free_numbers (view_after (boot_state 64 4) all_pipes_but_one_side) 1 ≡ record { proc = Some 5; pipe = None; descs = None }

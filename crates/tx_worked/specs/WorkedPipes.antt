@@ -5,7 +5,7 @@ use Rattle.tx_base.specs.declared.steps.Refusal.TheVariants.{Wait}
 use Rattle.tx_base.specs.declared.steps.Reply.TheVariants.{Aborted, No}
 use Rattle.tx_base.specs.declared.steps.Step.{Step}
 use Rattle.tx_model.specs.Memory.{Memory, zero_page, no_memory}
-use Rattle.tx_model.specs.State.{ReadSide, WriteSide, State, booted}
+use Rattle.tx_model.specs.State.{ReadSide, WriteSide, State, boot_state}
 use Rattle.tx_model.specs.Schedules.{answers_of}
 use Rattle.tx_worked.specs.WorkedSteps.{calls, store, fork, pipe, block, ok, error, committed, busy_with, state_after, standing, with_slots, with_open, with_mask, with_one_pending, described}
 
@@ -27,7 +27,7 @@ writer_back = last_writer ++ calls 2 SysXabort ∷ calls 1 (Read (pos 0) (pos 0)
 
 abbrev pub WriterBackAnswers : Type 0
 WriterBackAnswers =
-    answers_of (booted 64 1) [] writer_back
+    answers_of (boot_state 64 1) [] writer_back
     ≡ ok 0 ∷ ok 0 ∷ ok 2 ∷ ok 0 ∷ ok 0 ∷ ok 0 ∷ busy_with 2 ∷ Aborted 201 ∷ No Wait ∷ []
 
 -- after the commit it is gone, and the read is at the end
@@ -36,7 +36,7 @@ writer_gone = last_writer ++ calls 2 SysXend ∷ calls 1 (Read (pos 0) (pos 0) (
 
 abbrev pub WriterGoneAnswers : Type 0
 WriterGoneAnswers =
-    answers_of (booted 64 1) [] writer_gone
+    answers_of (boot_state 64 1) [] writer_gone
     ≡ ok 0 ∷ ok 0 ∷ ok 2 ∷ ok 0 ∷ ok 0 ∷ ok 0 ∷ busy_with 2 ∷ committed ∷ ok 0 ∷ []
 
 -- after the abort it is closed again, outside
@@ -45,7 +45,7 @@ writer_closes = writer_back ++ calls 2 (Close (pos 1)) ∷ calls 1 (Read (pos 0)
 
 abbrev pub WriterClosesAnswers : Type 0
 WriterClosesAnswers =
-    answers_of (booted 64 1) [] writer_closes
+    answers_of (boot_state 64 1) [] writer_closes
     ≡ ok 0 ∷ ok 0 ∷ ok 2 ∷ ok 0 ∷ ok 0 ∷ ok 0 ∷ busy_with 2 ∷ Aborted 201 ∷ No Wait ∷ ok 0 ∷ ok 0 ∷ []
 
 -- a child that was forked inside changes the flag of a description that process 1 has too
@@ -63,7 +63,7 @@ flag_undone =
 
 abbrev pub FlagUndoneAnswers : Type 0
 FlagUndoneAnswers =
-    answers_of (booted 64 1) [] flag_undone ≡ ok 0 ∷ ok 2 ∷ ok 0 ∷ ok 7 ∷ ok 0 ∷ busy_with 2 ∷ Aborted 201 ∷ ok 0 ∷ []
+    answers_of (boot_state 64 1) [] flag_undone ≡ ok 0 ∷ ok 2 ∷ ok 0 ∷ ok 7 ∷ ok 0 ∷ busy_with 2 ∷ Aborted 201 ∷ ok 0 ∷ []
 
 -- the slots that say which descriptors the pipe has
 abbrev pub zero_and_one : List ℤ
@@ -71,7 +71,7 @@ zero_and_one = pos 0 ∷ pos 1 ∷ replicate 6 (pos 0)
 
 abbrev pub FlagUndoneState : Type 0
 FlagUndoneState =
-    let S : State = state_after (booted 64 1) flag_undone in
+    let S : State = state_after (boot_state 64 1) flag_undone in
     (S.procs 1 ≡ Some (with_slots zero_and_one (with_open (None ∷ Some 6 ∷ replicate 14 None) (standing 1 3 (pos 0) no_memory))))
     × (S.procs 2
     ≡ Some (with_slots zero_and_one (with_open (Some 5 ∷ Some 6 ∷ replicate 14 None) (standing 2 3 (negsuc 200) no_memory))))
@@ -113,7 +113,7 @@ full_pipe =
 
 abbrev pub FullPipeAnswers : Type 0
 FullPipeAnswers =
-    answers_of (booted 64 1) [] full_pipe
+    answers_of (boot_state 64 1) [] full_pipe
     ≡ replicate 8 (ok 0)
     ++ ok 0
     ∷ ok 512
@@ -145,7 +145,7 @@ bytes_in_turn =
 
 abbrev pub BytesInTurnAnswers : Type 0
 BytesInTurnAnswers =
-    answers_of (booted 64 1) [] bytes_in_turn
+    answers_of (boot_state 64 1) [] bytes_in_turn
     ≡ ok 0 ∷ ok 0 ∷ ok 0 ∷ ok 3 ∷ ok 2 ∷ ok 4 ∷ ok 1 ∷ ok 4 ∷ ok 1 ∷ ok 5 ∷ []
 
 -- a write without a reader: a bad address comes first, no byte is no error, and SIGPIPE is pending
@@ -163,7 +163,7 @@ no_reader =
 
 abbrev pub NoReaderAnswers : Type 0
 NoReaderAnswers =
-    answers_of (booted 64 2) [] no_reader
+    answers_of (boot_state 64 2) [] no_reader
     ≡ ok 0 ∷ ok 0 ∷ ok 0 ∷ ok 0 ∷ error 14 ∷ ok 0 ∷ error 32 ∷ ok 8192 ∷ []
 
 -- one page of zeros
@@ -172,7 +172,7 @@ one_page = Some zero_page ∷ replicate 15 None
 
 abbrev pub NoReaderState : Type 0
 NoReaderState =
-    let S : State = state_after (booted 64 2) no_reader in
+    let S : State = state_after (boot_state 64 2) no_reader in
     (S.procs 2
     ≡ Some (with_one_pending 13 (with_mask 8192 (with_slots zero_and_one
     (with_open (None ∷ Some 1 ∷ replicate 14 None) (standing 2 8 (pos 8192) one_page))))))
@@ -198,12 +198,12 @@ more_names =
 
 abbrev pub MoreNamesAnswers : Type 0
 MoreNamesAnswers =
-    answers_of (booted 64 1) [] more_names
+    answers_of (boot_state 64 1) [] more_names
     ≡ ok 0 ∷ ok 2 ∷ ok 1 ∷ ok 5 ∷ ok 0 ∷ error 9 ∷ ok 0 ∷ error 9 ∷ error 9 ∷ ok 0 ∷ ok 5 ∷ []
 
 abbrev pub MoreNamesState : Type 0
 MoreNamesState =
-    let S : State = state_after (booted 64 1) more_names in
+    let S : State = state_after (boot_state 64 1) more_names in
     (S.procs 1
     ≡ Some (with_slots zero_and_one
     (with_open (Some 0 ∷ None ∷ None ∷ None ∷ None ∷ Some 0 ∷ replicate 10 None) (standing 1 11 (pos 5) no_memory))))

@@ -4,7 +4,7 @@ use Rattle.tx_base.specs.declared.steps.Call.TheVariants.{Exit, Waitpid, Getpid,
 use Rattle.tx_base.specs.declared.steps.Refusal.TheVariants.{NoProcess, NotRunning, BadNumber, NumberTaken, Doomed, Parked, KillPending, Wait, NotDeliverable, FramesFull, NoTransaction, Deferred}
 use Rattle.tx_base.specs.declared.steps.Reply.TheVariants.{Ended, Aborted, No}
 use Rattle.tx_base.specs.declared.steps.Step.{Step}
-use Rattle.tx_model.specs.State.{booted}
+use Rattle.tx_model.specs.State.{boot_state}
 use Rattle.tx_model.specs.Schedules.{answers_of}
 use Rattle.tx_worked.specs.WorkedSteps.{calls, delivery, kernel, fork, kill, block, catch, caught_and_unblocked, ok, error, committed, busy_with}
 
@@ -26,7 +26,7 @@ not_running =
 
 abbrev pub NotRunningAnswers : Type 0
 NotRunningAnswers =
-    answers_of (booted 64 3) [] not_running
+    answers_of (boot_state 64 3) [] not_running
     ≡ Ended
     ∷ No NotRunning
     ∷ No NotRunning
@@ -61,7 +61,7 @@ doom_in_turn =
 
 abbrev pub DoomInTurnAnswers : Type 0
 DoomInTurnAnswers =
-    answers_of (booted 64 3) [] doom_in_turn
+    answers_of (boot_state 64 3) [] doom_in_turn
     ≡ ok 0
     ∷ ok 7
     ∷ ok 8
@@ -94,7 +94,7 @@ parked_in_turn =
 
 abbrev pub ParkedInTurnAnswers : Type 0
 ParkedInTurnAnswers =
-    answers_of (booted 64 2) [] parked_in_turn
+    answers_of (boot_state 64 2) [] parked_in_turn
     ≡ ok 0 ∷ ok 7 ∷ ok 0 ∷ ok 0 ∷ No BadNumber ∷ No NumberTaken ∷ No Parked ∷ No Parked ∷ []
 
 -- a process at which SIGKILL is pending: a chosen number that is wrong or taken comes first, and a transaction in the way
@@ -116,7 +116,7 @@ kill_in_turn =
 
 abbrev pub KillInTurnAnswers : Type 0
 KillInTurnAnswers =
-    answers_of (booted 64 3) [] kill_in_turn
+    answers_of (boot_state 64 3) [] kill_in_turn
     ≡ ok 0
     ∷ No BadNumber
     ∷ No NumberTaken
@@ -147,7 +147,7 @@ busy_in_turn =
 
 abbrev pub BusyInTurnAnswers : Type 0
 BusyInTurnAnswers =
-    answers_of (booted 64 3) [] busy_in_turn
+    answers_of (boot_state 64 3) [] busy_in_turn
     ≡ ok 4
     ∷ No Wait
     ∷ No NotDeliverable
@@ -172,7 +172,7 @@ deferred_in_turn =
 
 abbrev pub DeferredInTurnAnswers : Type 0
 DeferredInTurnAnswers =
-    answers_of (booted 256 3) [] deferred_in_turn
+    answers_of (boot_state 256 3) [] deferred_in_turn
     ≡ ok 0 ∷ No NotDeliverable ∷ ok 0 ∷ No Deferred ∷ ok 0 ∷ No NotDeliverable ∷ []
 
 -- and four unfinished ones come after it
@@ -192,7 +192,7 @@ deferred_with_frames =
 
 abbrev pub DeferredWithFramesAnswers : Type 0
 DeferredWithFramesAnswers =
-    answers_of (booted 256 2) [] deferred_with_frames
+    answers_of (boot_state 256 2) [] deferred_with_frames
     ≡ replicate 15 (ok 0) ++ No Deferred ∷ Aborted 201 ∷ No FramesFull ∷ []
 
 -- a child that was forked inside is deferred like its starter, and not where the transaction defers nothing
@@ -210,4 +210,4 @@ deferred_child =
 
 abbrev pub DeferredChildAnswers : Type 0
 DeferredChildAnswers =
-    answers_of (booted 256 3) [] deferred_child ≡ ok 0 ∷ ok 0 ∷ ok 7 ∷ ok 8 ∷ ok 0 ∷ ok 0 ∷ No Deferred ∷ Ended ∷ []
+    answers_of (boot_state 256 3) [] deferred_child ≡ ok 0 ∷ ok 0 ∷ ok 7 ∷ ok 8 ∷ ok 0 ∷ ok 0 ∷ No Deferred ∷ Ended ∷ []

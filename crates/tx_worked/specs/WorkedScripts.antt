@@ -7,7 +7,7 @@ use Rattle.tx_base.specs.declared.steps.Reply.TheVariants.{Ended, Out}
 use Rattle.tx_base.specs.declared.steps.Step.{Step}
 use Rattle.tx_base.specs.declared.steps.When.TheVariants.{Always, IfRet}
 use Rattle.tx_model.specs.Memory.{no_memory}
-use Rattle.tx_model.specs.State.{booted}
+use Rattle.tx_model.specs.State.{boot_state}
 use Rattle.tx_model.specs.Schedules.{answers_of}
 use Rattle.tx_worked.specs.WorkedSteps.{calls, store, fork, ok, error, state_after, standing, with_slots}
 
@@ -22,10 +22,10 @@ jumps =
     ∷ []
 
 abbrev pub JumpsAnswers : Type 0
-JumpsAnswers = answers_of (booted 64 1) [] jumps ≡ ok 0 ∷ ok 1 ∷ ok 1 ∷ ok 1 ∷ error 22 ∷ []
+JumpsAnswers = answers_of (boot_state 64 1) [] jumps ≡ ok 0 ∷ ok 1 ∷ ok 1 ∷ ok 1 ∷ error 22 ∷ []
 
 abbrev pub JumpsState : Type 0
-JumpsState = (state_after (booted 64 1) jumps).procs 1 ≡ Some (standing 1 42 (negsuc 21) no_memory)
+JumpsState = (state_after (boot_state 64 1) jumps).procs 1 ≡ Some (standing 1 42 (negsuc 21) no_memory)
 
 -- the last answer may be an error, and adding one at the last point leaves it
 abbrev pub last_point : List Step
@@ -33,10 +33,10 @@ last_point =
     calls 1 (Keep (pos 8)) ∷ calls 1 (Jump 65535 (IfRet (negsuc 21))) ∷ calls 1 Getpid ∷ calls 1 Getpid ∷ []
 
 abbrev pub LastPointAnswers : Type 0
-LastPointAnswers = answers_of (booted 64 1) [] last_point ≡ error 22 ∷ error 22 ∷ ok 1 ∷ ok 1 ∷ []
+LastPointAnswers = answers_of (boot_state 64 1) [] last_point ≡ error 22 ∷ error 22 ∷ ok 1 ∷ ok 1 ∷ []
 
 abbrev pub LastPointState : Type 0
-LastPointState = (state_after (booted 64 1) last_point).procs 1 ≡ Some (standing 1 65535 (pos 1) no_memory)
+LastPointState = (state_after (boot_state 64 1) last_point).procs 1 ≡ Some (standing 1 65535 (pos 1) no_memory)
 
 -- a slot keeps the last answer, which stays. Slots are 0 to 7
 abbrev pub keeps : List Step
@@ -52,11 +52,11 @@ keeps =
 
 abbrev pub KeepsAnswers : Type 0
 KeepsAnswers =
-    answers_of (booted 64 2) [] keeps ≡ ok 2 ∷ ok 2 ∷ error 22 ∷ error 22 ∷ error 22 ∷ ok 1 ∷ ok 1 ∷ []
+    answers_of (boot_state 64 2) [] keeps ≡ ok 2 ∷ ok 2 ∷ error 22 ∷ error 22 ∷ error 22 ∷ ok 1 ∷ ok 1 ∷ []
 
 abbrev pub KeepsState : Type 0
 KeepsState =
-    (state_after (booted 64 2) keeps).procs 2
+    (state_after (boot_state 64 2) keeps).procs 2
     ≡ Some (with_slots (negsuc 21 ∷ pos 0 ∷ pos 0 ∷ pos 1 ∷ pos 0 ∷ pos 0 ∷ pos 0 ∷ pos 2 ∷ []) (standing 2 7 (pos 1) no_memory))
 
 -- a process has its own number and that of its parent, which is 1 once the parent has ended; process 1 has none
@@ -76,7 +76,7 @@ parents =
 
 abbrev pub ParentsAnswers : Type 0
 ParentsAnswers =
-    answers_of (booted 64 2) [] parents
+    answers_of (boot_state 64 2) [] parents
     ≡ ok 0 ∷ ok 1 ∷ ok 3 ∷ ok 2 ∷ ok 3 ∷ ok 4 ∷ ok 3 ∷ Ended ∷ ok 1 ∷ ok 3 ∷ []
 
 -- the console showed these bytes
@@ -101,7 +101,7 @@ console =
 
 abbrev pub ConsoleAnswers : Type 0
 ConsoleAnswers =
-    answers_of (booted 64 1) [] console
+    answers_of (boot_state 64 1) [] console
     ≡ ok 0
     ∷ ok 0
     ∷ ok 0
@@ -119,4 +119,4 @@ abbrev pub shown_count : List Step
 shown_count = calls 1 (ConsoleWrite (pos 0) (pos 0)) ∷ calls 1 Getpid ∷ calls 1 (ConsoleWrite (pos 0) (pos 0)) ∷ []
 
 abbrev pub ShownCountState : Type 0
-ShownCountState = (state_after (booted 64 1) shown_count).procs 1 ≡ Some (standing 1 3 (pos 0) no_memory)
+ShownCountState = (state_after (boot_state 64 1) shown_count).procs 1 ≡ Some (standing 1 3 (pos 0) no_memory)

@@ -5,7 +5,7 @@ use Rattle.tx_base.specs.declared.steps.Call.TheVariants.{Exit, Waitpid, Sigqueu
 use Rattle.tx_base.specs.declared.steps.Reply.TheVariants.{Done, Ended}
 use Rattle.tx_base.specs.declared.steps.Step.{Step}
 use Rattle.tx_model.specs.Memory.{no_memory}
-use Rattle.tx_model.specs.State.{booted}
+use Rattle.tx_model.specs.State.{boot_state}
 use Rattle.tx_model.specs.Schedules.{answers_of}
 use Rattle.tx_worked.specs.WorkedSteps.{calls, delivery, fork, kill, sigqueue, block, catch, ok, error, committed_without, missed, state_after, standing, with_mask, with_one_pending, entry, with_queue}
 
@@ -26,12 +26,12 @@ each_signal =
 
 abbrev pub EachSignalAnswers : Type 0
 EachSignalAnswers =
-    answers_of (booted 64 2) [] each_signal ≡ replicate 19 (ok 0) ++ replicate 10 (error 22) ++ ok 1095216854094 ∷ []
+    answers_of (boot_state 64 2) [] each_signal ≡ replicate 19 (ok 0) ++ replicate 10 (error 22) ++ ok 1095216854094 ∷ []
 
 -- 193,614 is the set of the standard signals but SIGKILL
 abbrev pub EachSignalState : Type 0
 EachSignalState =
-    (state_after (booted 64 2) each_signal).procs 2
+    (state_after (boot_state 64 2) each_signal).procs 2
     ≡ Some (with_mask 1095216854094
     (with_queue (entry 32 0 ∷ entry 33 0 ∷ entry 34 0 ∷ entry 35 0 ∷ entry 36 0 ∷ entry 37 0 ∷ entry 38 0 ∷ entry 39 0 ∷ [])
     (record (standing 2 30 (pos 1095216854094) no_memory) { pending = 193614 })))
@@ -51,7 +51,7 @@ values =
     ∷ []
 
 abbrev pub ValuesAnswers : Type 0
-ValuesAnswers = answers_of (booted 64 3) [] values ≡ replicate 8 (ok 0) ++ Done (negsuc 8) ∷ []
+ValuesAnswers = answers_of (boot_state 64 3) [] values ≡ replicate 8 (ok 0) ++ Done (negsuc 8) ∷ []
 
 -- inside a transaction: errors come before what is closed there; a signal to a member is sent at once, also where the
 -- member ended and was waited for; one to a number of no process is held, and each that could not be sent is told in turn
@@ -74,7 +74,7 @@ sends_inside =
 
 abbrev pub SendsInsideAnswers : Type 0
 SendsInsideAnswers =
-    answers_of (booted 64 3) [] sends_inside
+    answers_of (boot_state 64 3) [] sends_inside
     ≡ ok 0
     ∷ ok 7
     ∷ error 22
@@ -92,4 +92,4 @@ SendsInsideAnswers =
 
 abbrev pub SendsInsideState : Type 0
 SendsInsideState =
-    (state_after (booted 64 3) sends_inside).procs 3 ≡ Some (with_one_pending 10 (standing 3 0 (pos 0) no_memory))
+    (state_after (boot_state 64 3) sends_inside).procs 3 ≡ Some (with_one_pending 10 (standing 3 0 (pos 0) no_memory))

@@ -7,7 +7,7 @@ use Rattle.tx_base.specs.declared.steps.Call.TheVariants.{Map, Exit, Waitpid, Si
 use Rattle.tx_base.specs.declared.steps.Reply.TheVariants.{Ended, Aborted, Out}
 use Rattle.tx_base.specs.declared.steps.Step.{Step}
 use Rattle.tx_model.specs.Memory.{no_memory}
-use Rattle.tx_model.specs.State.{State, booted_process, booted}
+use Rattle.tx_model.specs.State.{State, booted_process, boot_state}
 use Rattle.tx_model.specs.View.{View}
 use Rattle.tx_model.specs.Schedules.{answers_of}
 use Rattle.tx_worked.specs.WorkedSteps.{calls, delivery, store, fork, kill, sigqueue, block, ok, error, committed, committed_without, missed, marked, view_after, state_after, standing, with_one_action, with_one_pending, entry, with_queue}
@@ -26,11 +26,11 @@ abbrev pub given_back : List Step
 given_back = taken_inside ++ calls 2 SysXabort ∷ []
 
 abbrev pub GivenBackAnswers : Type 0
-GivenBackAnswers = answers_of (booted 64 3) [] given_back ≡ ok 0 ∷ ok 0 ∷ ok 0 ∷ ok 0 ∷ Aborted 201 ∷ []
+GivenBackAnswers = answers_of (boot_state 64 3) [] given_back ≡ ok 0 ∷ ok 0 ∷ ok 0 ∷ ok 0 ∷ Aborted 201 ∷ []
 
 abbrev pub GivenBackState : Type 0
 GivenBackState =
-    let S : State = state_after (booted 64 3) given_back in
+    let S : State = state_after (boot_state 64 3) given_back in
     (S.procs 1 ≡ Some (booted_process 1))
     × (S.procs 2 ≡ Some (with_one_action 10 Ignore (with_one_pending 10 (standing 2 2 (negsuc 200) no_memory))))
     × (S.procs 3 ≡ Some (standing 3 1 (pos 0) no_memory))
@@ -40,11 +40,11 @@ abbrev pub taken_for_good : List Step
 taken_for_good = taken_inside ++ calls 2 SysXend ∷ []
 
 abbrev pub TakenForGoodAnswers : Type 0
-TakenForGoodAnswers = answers_of (booted 64 3) [] taken_for_good ≡ ok 0 ∷ ok 0 ∷ ok 0 ∷ ok 0 ∷ committed ∷ []
+TakenForGoodAnswers = answers_of (boot_state 64 3) [] taken_for_good ≡ ok 0 ∷ ok 0 ∷ ok 0 ∷ ok 0 ∷ committed ∷ []
 
 abbrev pub TakenForGoodState : Type 0
 TakenForGoodState =
-    let S : State = state_after (booted 64 3) taken_for_good in
+    let S : State = state_after (boot_state 64 3) taken_for_good in
     (S.procs 1 ≡ Some (booted_process 1))
     × (S.procs 2 ≡ Some (with_one_action 10 Ignore (standing 2 3 (pos 0) no_memory)))
     × (S.procs 3 ≡ Some (standing 3 1 (pos 0) no_memory))
@@ -55,11 +55,11 @@ sent_twice_undone = taken_inside ++ calls 3 (kill 2 10) ∷ calls 2 SysXabort �
 
 abbrev pub SentTwiceUndoneAnswers : Type 0
 SentTwiceUndoneAnswers =
-    answers_of (booted 64 3) [] sent_twice_undone ≡ ok 0 ∷ ok 0 ∷ ok 0 ∷ ok 0 ∷ ok 0 ∷ Aborted 201 ∷ []
+    answers_of (boot_state 64 3) [] sent_twice_undone ≡ ok 0 ∷ ok 0 ∷ ok 0 ∷ ok 0 ∷ ok 0 ∷ Aborted 201 ∷ []
 
 abbrev pub SentTwiceUndoneState : Type 0
 SentTwiceUndoneState =
-    let S : State = state_after (booted 64 3) sent_twice_undone in
+    let S : State = state_after (boot_state 64 3) sent_twice_undone in
     (S.procs 1 ≡ Some (booted_process 1))
     × (S.procs 2 ≡ Some (with_one_action 10 Ignore (with_one_pending 10 (standing 2 2 (negsuc 200) no_memory))))
     × (S.procs 3 ≡ Some (standing 3 2 (pos 0) no_memory))
@@ -69,11 +69,11 @@ abbrev pub sent_twice : List Step
 sent_twice = taken_inside ++ calls 3 (kill 2 10) ∷ calls 2 SysXend ∷ []
 
 abbrev pub SentTwiceAnswers : Type 0
-SentTwiceAnswers = answers_of (booted 64 3) [] sent_twice ≡ ok 0 ∷ ok 0 ∷ ok 0 ∷ ok 0 ∷ ok 0 ∷ committed ∷ []
+SentTwiceAnswers = answers_of (boot_state 64 3) [] sent_twice ≡ ok 0 ∷ ok 0 ∷ ok 0 ∷ ok 0 ∷ ok 0 ∷ committed ∷ []
 
 abbrev pub SentTwiceState : Type 0
 SentTwiceState =
-    let S : State = state_after (booted 64 3) sent_twice in
+    let S : State = state_after (boot_state 64 3) sent_twice in
     (S.procs 1 ≡ Some (booted_process 1))
     × (S.procs 2 ≡ Some (with_one_action 10 Ignore (with_one_pending 10 (standing 2 3 (pos 0) no_memory))))
     × (S.procs 3 ≡ Some (standing 3 2 (pos 0) no_memory))
@@ -84,8 +84,8 @@ held_inside = calls 2 SysXbegin ∷ calls 2 (kill 3 10) ∷ []
 
 abbrev pub HeldInsideState : Type 0
 HeldInsideState =
-    let V : View = view_after (booted 64 3) held_inside in
-    let S : State = state_after (booted 64 3) held_inside in
+    let V : View = view_after (boot_state 64 3) held_inside in
+    let S : State = state_after (boot_state 64 3) held_inside in
     (S.procs 1 ≡ Some (booted_process 1))
     × (S.procs 2 ≡ Some (standing 2 2 (pos 0) no_memory))
     × (S.procs 3 ≡ Some (booted_process 3))
@@ -102,14 +102,14 @@ abbrev pub held_signal : List Step
 held_signal = sent_inside ++ calls 2 SysXend ∷ calls 3 Sigpending ∷ []
 
 abbrev pub HeldSignalAnswers : Type 0
-HeldSignalAnswers = answers_of (booted 64 3) [] held_signal ≡ ok 0 ∷ ok 0 ∷ ok 0 ∷ ok 0 ∷ committed ∷ ok 1024 ∷ []
+HeldSignalAnswers = answers_of (boot_state 64 3) [] held_signal ≡ ok 0 ∷ ok 0 ∷ ok 0 ∷ ok 0 ∷ committed ∷ ok 1024 ∷ []
 
 -- and after an abort it never was sent
 abbrev pub held_undone : List Step
 held_undone = sent_inside ++ calls 2 SysXabort ∷ calls 3 Sigpending ∷ []
 
 abbrev pub HeldUndoneAnswers : Type 0
-HeldUndoneAnswers = answers_of (booted 64 3) [] held_undone ≡ ok 0 ∷ ok 0 ∷ ok 0 ∷ ok 0 ∷ Aborted 201 ∷ ok 0 ∷ []
+HeldUndoneAnswers = answers_of (boot_state 64 3) [] held_undone ≡ ok 0 ∷ ok 0 ∷ ok 0 ∷ ok 0 ∷ Aborted 201 ∷ ok 0 ∷ []
 
 -- the target of a held signal ended and was waited for: the commit says so, with ESRCH
 abbrev pub target_gone : List Step
@@ -123,7 +123,7 @@ target_gone =
 
 abbrev pub TargetGoneAnswers : Type 0
 TargetGoneAnswers =
-    answers_of (booted 64 3) [] target_gone
+    answers_of (boot_state 64 3) [] target_gone
     ≡ ok 0
     ∷ ok 0
     ∷ Ended
@@ -132,7 +132,7 @@ TargetGoneAnswers =
     ∷ []
 
 abbrev pub TargetGoneState : Type 0
-TargetGoneState = (state_after (booted 64 3) target_gone).procs 3 ≡ None
+TargetGoneState = (state_after (boot_state 64 3) target_gone).procs 3 ≡ None
 
 -- what goes out at once is closed inside: the console, and the question whether an outsider is there
 abbrev pub closed_calls : List Step
@@ -148,7 +148,7 @@ closed_calls =
 
 abbrev pub ClosedCallsAnswers : Type 0
 ClosedCallsAnswers =
-    answers_of (booted 64 3) [] closed_calls
+    answers_of (boot_state 64 3) [] closed_calls
     ≡ ok 0
     ∷ ok 0
     ∷ Out (record { items = 104 ∷ 105 ∷ [] })
@@ -176,7 +176,7 @@ full_hold =
 
 abbrev pub FullHoldAnswers : Type 0
 FullHoldAnswers =
-    answers_of (booted 64 3) [] full_hold
+    answers_of (boot_state 64 3) [] full_hold
     ≡ ok 0
     ∷ ok 4
     ∷ ok 0
@@ -195,18 +195,18 @@ held_in_turn = calls 2 SysXbegin ∷ calls 2 (sigqueue 3 34 1) ∷ calls 2 (sigq
 
 abbrev pub HeldInTurnState : Type 0
 HeldInTurnState =
-    (state_after (booted 64 3) held_in_turn).procs 3 ≡ Some (with_queue (entry 34 1 ∷ entry 34 2 ∷ []) (booted_process 3))
+    (state_after (boot_state 64 3) held_in_turn).procs 3 ≡ Some (with_queue (entry 34 1 ∷ entry 34 2 ∷ []) (booted_process 3))
 
 -- a queue has room for sixteen realtime signals; a standard one needs none
 abbrev pub full_queue : List Step
 full_queue = replicate 16 (calls 3 (sigqueue 2 34 7)) ++ calls 3 (sigqueue 2 35 7) ∷ calls 3 (kill 2 10) ∷ []
 
 abbrev pub FullQueueAnswers : Type 0
-FullQueueAnswers = answers_of (booted 64 3) [] full_queue ≡ replicate 16 (ok 0) ++ error 11 ∷ ok 0 ∷ []
+FullQueueAnswers = answers_of (boot_state 64 3) [] full_queue ≡ replicate 16 (ok 0) ++ error 11 ∷ ok 0 ∷ []
 
 abbrev pub FullQueueState : Type 0
 FullQueueState =
-    (state_after (booted 64 3) full_queue).procs 2
+    (state_after (boot_state 64 3) full_queue).procs 2
     ≡ Some (with_one_pending 10 (with_queue (replicate 16 (entry 34 7)) (booted_process 2)))
 
 -- an unknown signal is an error before a number of no process is, and process 1 takes no signal
@@ -223,5 +223,5 @@ wrong_sends =
 
 abbrev pub WrongSendsAnswers : Type 0
 WrongSendsAnswers =
-    answers_of (booted 64 2) [] wrong_sends
+    answers_of (boot_state 64 2) [] wrong_sends
     ≡ error 22 ∷ error 3 ∷ error 3 ∷ error 3 ∷ ok 0 ∷ ok 0 ∷ ok 1 ∷ []

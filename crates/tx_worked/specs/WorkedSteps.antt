@@ -85,9 +85,9 @@ committed_without signals = Committed (record { items = signals })
 abbrev pub missed : ℕ → ℕ → Errno → Missed
 missed t signo errno = record { target = record { 0 = t }; signo = record { 0 = signo }; errno = errno }
 
--- the transaction of the holder is in the way
+-- the transaction of this starter is in the way
 abbrev pub busy_with : ℕ → Reply
-busy_with holder = No (Busy (record { 0 = holder }))
+busy_with starter_in_way = No (Busy (record { 0 = starter_in_way }))
 
 -- the view that the schedule leaves, and the state
 abbrev pub view_after : State → List Step → View

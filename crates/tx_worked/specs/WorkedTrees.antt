@@ -5,7 +5,7 @@ use Rattle.tx_base.specs.declared.steps.Refusal.TheVariants.{Wait, Parked}
 use Rattle.tx_base.specs.declared.steps.Reply.TheVariants.{Ended, Aborted, No}
 use Rattle.tx_base.specs.declared.steps.Step.{Step}
 use Rattle.tx_model.specs.Memory.{no_memory}
-use Rattle.tx_model.specs.State.{Ids, State, booted_process, booted}
+use Rattle.tx_model.specs.State.{Ids, State, booted_process, boot_state}
 use Rattle.tx_model.specs.View.{View}
 use Rattle.tx_model.specs.Schedules.{answers_of}
 use Rattle.tx_worked.specs.WorkedSteps.{calls, store, fork, kill, sigqueue, block, ok, error, committed, busy_with, marked, view_after, state_after, standing, exited, of_parent, with_slots, with_ids, with_one_pending}
@@ -23,11 +23,11 @@ child_undone =
     ∷ []
 
 abbrev pub ChildUndoneAnswers : Type 0
-ChildUndoneAnswers = answers_of (booted 64 2) [] child_undone ≡ ok 0 ∷ ok 7 ∷ ok 0 ∷ ok 0 ∷ Ended ∷ Aborted 201 ∷ ok 7 ∷ []
+ChildUndoneAnswers = answers_of (boot_state 64 2) [] child_undone ≡ ok 0 ∷ ok 7 ∷ ok 0 ∷ ok 0 ∷ Ended ∷ Aborted 201 ∷ ok 7 ∷ []
 
 abbrev pub ChildUndoneState : Type 0
 ChildUndoneState =
-    let S : State = state_after (booted 64 2) child_undone in
+    let S : State = state_after (boot_state 64 2) child_undone in
     (S.procs 1 ≡ Some (standing 1 1 (pos 7) no_memory))
     × (S.procs 2 ≡ Some (standing 2 1 (negsuc 200) no_memory))
     × (S.procs 7 ≡ Some (standing 7 1 (pos 0) no_memory))
@@ -38,7 +38,7 @@ child_parked = calls 2 SysXbegin ∷ calls 2 (fork 7) ∷ calls 7 SysXend ∷ []
 
 abbrev pub ChildParkedState : Type 0
 ChildParkedState =
-    let V : View = view_after (booted 64 2) child_parked in
+    let V : View = view_after (boot_state 64 2) child_parked in
     (V.table.marks 1 ≡ None) × (V.table.marks 2 ≡ marked 2 false false) × (V.table.marks 7 ≡ marked 2 true false)
 
 -- it waits for its starter, whose exit commits
@@ -46,15 +46,15 @@ abbrev pub exit_commits : List Step
 exit_commits = child_parked ++ calls 7 Getpid ∷ calls 2 (Exit (pos 5)) ∷ calls 7 Getpid ∷ []
 
 abbrev pub ExitCommitsAnswers : Type 0
-ExitCommitsAnswers = answers_of (booted 64 2) [] exit_commits ≡ ok 0 ∷ ok 7 ∷ ok 0 ∷ No Parked ∷ committed ∷ ok 7 ∷ []
+ExitCommitsAnswers = answers_of (boot_state 64 2) [] exit_commits ≡ ok 0 ∷ ok 7 ∷ ok 0 ∷ No Parked ∷ committed ∷ ok 7 ∷ []
 
 abbrev pub ExitCommitsState : Type 0
 ExitCommitsState =
-    let S : State = state_after (booted 64 2) exit_commits in
+    let S : State = state_after (boot_state 64 2) exit_commits in
     (S.procs 1 ≡ Some (booted_process 1))
     × (S.procs 2 ≡ Some (exited 5))
     × (S.procs 7 ≡ Some (standing 7 4 (pos 7) no_memory))
-    × ((view_after (booted 64 2) exit_commits).table.marks 7 ≡ None)
+    × ((view_after (boot_state 64 2) exit_commits).table.marks 7 ≡ None)
 
 -- a starter that ended is not waited for while its child may still abort, which brings it back
 abbrev pub exit_undone : List Step
@@ -68,11 +68,11 @@ exit_undone =
     ∷ []
 
 abbrev pub ExitUndoneAnswers : Type 0
-ExitUndoneAnswers = answers_of (booted 64 2) [] exit_undone ≡ ok 0 ∷ ok 7 ∷ Ended ∷ busy_with 2 ∷ Aborted 201 ∷ ok 0 ∷ []
+ExitUndoneAnswers = answers_of (boot_state 64 2) [] exit_undone ≡ ok 0 ∷ ok 7 ∷ Ended ∷ busy_with 2 ∷ Aborted 201 ∷ ok 0 ∷ []
 
 abbrev pub ExitUndoneState : Type 0
 ExitUndoneState =
-    let S : State = state_after (booted 64 2) exit_undone in
+    let S : State = state_after (boot_state 64 2) exit_undone in
     (S.procs 1 ≡ Some (standing 1 1 (pos 0) no_memory))
     × (S.procs 2 ≡ Some (standing 2 1 (negsuc 200) no_memory))
     × (S.procs 7 ≡ None)
@@ -92,12 +92,12 @@ forked_again =
 
 abbrev pub ForkedAgainAnswers : Type 0
 ForkedAgainAnswers =
-    answers_of (booted 64 2) [] forked_again ≡ ok 0 ∷ ok 7 ∷ Ended ∷ ok 7 ∷ ok 7 ∷ ok 0 ∷ No Parked ∷ committed ∷ []
+    answers_of (boot_state 64 2) [] forked_again ≡ ok 0 ∷ ok 7 ∷ Ended ∷ ok 7 ∷ ok 7 ∷ ok 0 ∷ No Parked ∷ committed ∷ []
 
 -- both have the status in slot 0, and SIGCHLD of the first child is pending
 abbrev pub ForkedAgainState : Type 0
 ForkedAgainState =
-    let S : State = state_after (booted 64 2) forked_again in
+    let S : State = state_after (boot_state 64 2) forked_again in
     (S.procs 1 ≡ Some (booted_process 1))
     × (S.procs 2 ≡ Some (with_one_pending 17 (with_slots (pos 1 ∷ replicate 7 (pos 0)) (standing 2 5 (pos 0) no_memory))))
     × (S.procs 7 ≡ Some (of_parent 2 (with_slots (pos 1 ∷ replicate 7 (pos 0)) (standing 7 5 (pos 0) no_memory))))
@@ -113,11 +113,11 @@ first_not_told =
     ∷ []
 
 abbrev pub FirstNotToldAnswers : Type 0
-FirstNotToldAnswers = answers_of (booted 64 3) [] first_not_told ≡ ok 0 ∷ error 10 ∷ Ended ∷ ok 7 ∷ Ended ∷ []
+FirstNotToldAnswers = answers_of (boot_state 64 3) [] first_not_told ≡ ok 0 ∷ error 10 ∷ Ended ∷ ok 7 ∷ Ended ∷ []
 
 abbrev pub FirstNotToldState : Type 0
 FirstNotToldState =
-    let S : State = state_after (booted 64 3) first_not_told in
+    let S : State = state_after (boot_state 64 3) first_not_told in
     (S.procs 1 ≡ Some (booted_process 1))
     × (S.procs 2 ≡ Some (exited 4))
     × (S.procs 3 ≡ Some (exited 0))
@@ -138,7 +138,7 @@ told_inside =
 
 abbrev pub ToldInsideAnswers : Type 0
 ToldInsideAnswers =
-    answers_of (booted 64 2) [] told_inside ≡ ok 0 ∷ ok 0 ∷ ok 7 ∷ Ended ∷ ok 131072 ∷ Aborted 201 ∷ ok 0 ∷ []
+    answers_of (boot_state 64 2) [] told_inside ≡ ok 0 ∷ ok 0 ∷ ok 7 ∷ Ended ∷ ok 131072 ∷ Aborted 201 ∷ ok 0 ∷ []
 
 -- a child has the mask of its parent, but none of its pending signals
 abbrev pub child_starts_clear : List Step
@@ -155,7 +155,7 @@ child_starts_clear =
 
 abbrev pub ChildStartsClearAnswers : Type 0
 ChildStartsClearAnswers =
-    answers_of (booted 64 3) [] child_starts_clear
+    answers_of (boot_state 64 3) [] child_starts_clear
     ≡ ok 0 ∷ ok 0 ∷ ok 0 ∷ ok 17179870208 ∷ ok 4 ∷ ok 0 ∷ ok 0 ∷ ok 1024 ∷ []
 
 -- ids that are given up, which decide about signals, and the status of an exit, modulo 256
@@ -181,7 +181,7 @@ ids =
 
 abbrev pub IdsAnswers : Type 0
 IdsAnswers =
-    answers_of (booted 64 2) [] ids
+    answers_of (boot_state 64 2) [] ids
     ≡ ok 0
     ∷ ok 3
     ∷ ok 0
@@ -207,7 +207,7 @@ in_group_three =
 
 abbrev pub IdsState : Type 0
 IdsState =
-    let S : State = state_after (booted 64 2) ids in
+    let S : State = state_after (boot_state 64 2) ids in
     (S.procs 2
     ≡ Some (with_one_pending 17 (with_ids in_group_three (with_slots (pos 3 ∷ replicate 7 (pos 0)) (standing 2 8 (pos 3) no_memory)))))
     × (S.procs 3 ≡ None)
@@ -228,7 +228,7 @@ waits =
 
 abbrev pub WaitsAnswers : Type 0
 WaitsAnswers =
-    answers_of (booted 64 2) [] waits
+    answers_of (boot_state 64 2) [] waits
     ≡ ok 3
     ∷ No Wait
     ∷ ok 0
@@ -242,7 +242,7 @@ WaitsAnswers =
 
 abbrev pub WaitsState : Type 0
 WaitsState =
-    let S : State = state_after (booted 64 2) waits in
+    let S : State = state_after (boot_state 64 2) waits in
     (S.procs 1 ≡ Some (standing 1 1 (negsuc 0) no_memory))
     × (S.procs 2
     ≡ Some (with_one_pending 17 (with_slots (pos 255 ∷ replicate 7 (pos 0)) (standing 2 6 (negsuc 9) no_memory))))

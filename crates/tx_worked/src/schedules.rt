@@ -142,7 +142,7 @@ pub fn worked_conflicts()
     ensures child_inside { conflicts.ChildInsideAnswers }
     ensures forked_description { conflicts.ForkedDescriptionAnswers }
     ensures reserved_parent { conflicts.ReservedParentAnswers }
-    ensures least_holder { conflicts.LeastHolderAnswers }
+    ensures least_starter_in_way { conflicts.LeastStarterAnswers }
     ensures room_undone { conflicts.RoomUndoneAnswers }
     ensures room_made { conflicts.RoomMadeAnswers }
 {}

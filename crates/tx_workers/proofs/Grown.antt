@@ -8,7 +8,7 @@ use Rattle.tx_base.specs.declared.steps.Reply.{Reply}
 use Rattle.tx_base.specs.declared.steps.Reply.TheVariants.{Done, Ended, Committed, Aborted, Out, No}
 use Rattle.tx_base.specs.declared.steps.Step.{Step}
 use Rattle.tx_base.specs.declared.steps.Step.TheVariants.{KernelAbort}
-use Rattle.tx_journal.specs.Sessions.{start_of, Kept, SameBoot}
+use Rattle.tx_journal.specs.Sessions.{start_of, SessionState, SameBoot}
 use Rattle.tx_journal.specs.declared.entry.Entry.{Entry}
 use Rattle.tx_model.specs.Answer.{answer}
 use Rattle.tx_model.specs.State.{State}
@@ -43,7 +43,7 @@ refused_is_one V worker p step why.BadNumber = inl refl
 refused_is_one V worker p step why.NumberTaken = inl refl
 refused_is_one V worker p step why.Parked = inl refl
 refused_is_one V worker p step why.KillPending = inl refl
-refused_is_one V worker p step (why.Busy holder) = inl refl
+refused_is_one V worker p step (why.Busy starter_in_way) = inl refl
 refused_is_one V worker p step why.Wait = inl refl
 refused_is_one V worker p step why.NotDeliverable = inl refl
 refused_is_one V worker p step why.FramesFull = inl refl
@@ -86,7 +86,7 @@ all_named-append instructions start before (x ∷ xs) ys named more =
     (named.0, all_named-append instructions start (before ++ x ∷ []) xs ys named.1 (rw (← append_assoc before (x ∷ []) xs) at more))
 
 -- what has grown so far has grown by a turn more
-pub grown_more : (instructions : List Instruction) (given old new : Kept) (adds : List Entry) (total count : ℕ) → HasGrown instructions given old total
+pub grown_more : (instructions : List Instruction) (given old new : SessionState) (adds : List Entry) (total count : ℕ) → HasGrown instructions given old total
     → AllNamed instructions (start_of given) old.entries adds → new.entries ≡ old.entries ++ adds → SameBoot new old → count ≡ total + length adds
     → HasGrown instructions given new count
 grown_more instructions given old new adds total count so named entries boot counted = record {

@@ -3,10 +3,10 @@ use Rattle.std.proofs.Common.{◌≡◌, ℕ, ◌+◌, ◌-◌, ◌≤◌, ◌++
 use Rattle.std.proofs.lemmas.List.{length-map}
 use Rattle.tx_base.specs.declared.steps.Accepted.{Accepted}
 use Rattle.tx_journal.specs.Entries.{accepted_of, history_of}
-use Rattle.tx_journal.specs.Sessions.{start_of, IsAtEnd, Kept, SameBoot}
+use Rattle.tx_journal.specs.Sessions.{start_of, IsAtEnd, SessionState, SameBoot}
 use Rattle.tx_journal.specs.declared.entry.Entry.{Entry}
 use Rattle.tx_live.specs.Content.{view_of}
-use Rattle.tx_model.specs.State.{booted}
+use Rattle.tx_model.specs.State.{boot_state}
 use Rattle.tx_model.specs.View.{view, View}
 use Rattle.tx_lines.specs.declared.programs.Program.{Program}
 use Rattle.tx_workers.proofs.Grown.{grown_more, one_is_few, turn_is_named, turn_is_one}
@@ -15,11 +15,11 @@ use Rattle.tx_workers.specs.Histories.{view_after}
 use Rattle.tx_workers.specs.Turns.{adds_by_next}
 
 -- the entries that a turn adds there
-abbrev pub added_by : Program → Kept → ℕ → Option ℕ → List Entry
+abbrev pub added_by : Program → SessionState → ℕ → Option ℕ → List Entry
 added_by program session worker next = adds_by_next program.instructions.items (view_of session.machine) worker next
 
 -- after a turn whose entries are counted, the same is so
-pub desk_turned : (run : Option Program) (given : Option Kept) (program : Program) (old new : Kept) (worker : ℕ) (next : Option ℕ) (total count : ℕ) → IsDesk run given old total
+pub desk_turned : (run : Option Program) (given : Option SessionState) (program : Program) (old new : SessionState) (worker : ℕ) (next : Option ℕ) (total count : ℕ) → IsDesk run given old total
     → run ≡ Some program → view_of old.machine ≡ view_after (start_of old) old.entries → new.entries ≡ old.entries ++ added_by program old worker next → SameBoot new old → IsAtEnd new
     → count ≡ total + (length new.entries - length old.entries) → IsDesk run given new count
 desk_turned run given program old new worker next total count desk is after entries boot at_end counted = record {
@@ -28,7 +28,7 @@ desk_turned run given program old new worker next total count desk is after entr
       let so = desk.grown program start is is_given in
       let V : View = view_of old.machine in
       let adds : List Entry = added_by program old worker next in
-      let from_start : V ≡ view_after (start_of start) old.entries = after ∙ (λ j. view (booted (so.boot.width j) (so.boot.count j)) (history_of old.entries)) in
+      let from_start : V ≡ view_after (start_of start) old.entries = after ∙ (λ j. view (boot_state (so.boot.width j) (so.boot.count j)) (history_of old.entries)) in
       let sum : count ≡ total + length adds = omega (arith, counted, ap length entries, length-append old.entries adds) in
       let same : other ≡ program = cc in
       rw same
@@ -37,7 +37,7 @@ desk_turned run given program old new worker next total count desk is after entr
 }
 
 -- a turn is noted by one note more at most
-pub few_more : (program : Program) (session : Kept) (worker : ℕ) (next : Option ℕ) (before after : List Accepted) → after ≡ before ++ map accepted_of (added_by program session worker next)
+pub few_more : (program : Program) (session : SessionState) (worker : ℕ) (next : Option ℕ) (before after : List Accepted) → after ≡ before ++ map accepted_of (added_by program session worker next)
     → length after ≤ length before + 1
 few_more program session worker next before after notes =
     let adds : List Entry = added_by program session worker next in

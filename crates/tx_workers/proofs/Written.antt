@@ -1,6 +1,6 @@
 -- Runs that are written.
 use Rattle.std.proofs.Common.{ℕ, List, Option, Ok, Err}
-use Rattle.tx_journal.specs.Sessions.{Kept}
+use Rattle.tx_journal.specs.Sessions.{SessionState}
 use Rattle.tx_lines.specs.Ends.{Counts}
 use Rattle.tx_workers.specs.RunText.{run_text, WritesText}
 use Rattle.tx_lines.specs.Whole.{IsCalm}
@@ -9,7 +9,7 @@ use Rattle.tx_lines.specs.declared.faults.Fault.TheVariants.{NotALine, NoLabel, 
 use Rattle.tx_workers.specs.Texts.{IsRunOf, RunsText}
 use Rattle.tx_workers.specs.declared.whole.RunFault.TheVariants.{Text}
 
-module _ (left : Option (List ℕ)) (reads reads' : Counts) (written : Option (List ℕ)) (writes : Counts) (workers turns : ℕ) (session : Kept) (written' : Option (List ℕ)) (writes' : Counts)
+module _ (left : Option (List ℕ)) (reads reads' : Counts) (written : Option (List ℕ)) (writes : Counts) (workers turns : ℕ) (session : SessionState) (written' : Option (List ℕ)) (writes' : Counts)
     (run : IsRunOf left workers turns session) (calm : IsCalm reads reads') where
   -- a run whose text was written
   pub run_written : WritesText written writes (run_text session) (Ok tt) written' writes' → RunsText left reads written writes workers turns (Ok tt) reads' written' writes'

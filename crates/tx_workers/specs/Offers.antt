@@ -3,7 +3,8 @@ use Rattle.std.specs.Prelude.{ℕ, Bool, true, false, not, ◌&&◌, List, ◌�
 use Rattle.std.specs.List.{find}
 use Rattle.tx_base.specs.declared.signals.Action.{Action}
 use Rattle.tx_base.specs.declared.signals.Action.TheVariants.{Usual, Ignore, Catch}
-use Rattle.tx_model.specs.Deliveries.{action_at, delivered_value, is_deferred, is_full}
+use Rattle.tx_model.specs.Deliveries.{action_at, delivered_value, is_deferred}
+use Rattle.tx_model.specs.Words.{is_full}
 use Rattle.tx_model.specs.Effects.{Inside}
 use Rattle.tx_model.specs.SignalSets.{kill_signo, realtime_signals, standard_signals}
 use Rattle.tx_model.specs.State.{Process}

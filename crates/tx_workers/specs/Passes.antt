@@ -1,7 +1,7 @@
 -- What a turn makes of a session and of the worker that takes it.
 use Rattle.std.specs.Prelude.{◌≡◌, ℕ, List, ◌++◌, map}
 use Rattle.tx_journal.specs.Entries.{accepted_of}
-use Rattle.tx_journal.specs.Sessions.{Kept, IsAtEnd, SameBoot}
+use Rattle.tx_journal.specs.Sessions.{SessionState, IsAtEnd, SameBoot}
 use Rattle.tx_journal.specs.declared.entry.Entry.{Entry}
 use Rattle.tx_workers.specs.declared.workers.Worker.{Worker}
 
@@ -13,7 +13,7 @@ pub record SameWorker (new old : Worker) : Type 0 where
   pub notes : new.notes.items ≡ old.notes.items
 
 -- entries were added, and noted by the worker whose last process is now that one
-pub record Adds (added : List Entry) (latest : ℕ) (old : Kept) (worker : Worker) (new : Kept) (after : Worker) : Type 0 where
+pub record Adds (added : List Entry) (latest : ℕ) (old : SessionState) (worker : Worker) (new : SessionState) (after : Worker) : Type 0 where
   pub entries : new.entries ≡ old.entries ++ added
   pub boot : SameBoot new old
   pub at_end : IsAtEnd new

@@ -5,7 +5,7 @@ use Rattle.std.specs.Io.KnownBytes.{Keeps}
 use Rattle.tx_base.specs.declared.steps.Reply.{Reply}
 use Rattle.tx_base.specs.declared.steps.Step.{Step}
 use Rattle.tx_journal.specs.Entries.{history_of}
-use Rattle.tx_journal.specs.Sessions.{made_of, start_of, Kept}
+use Rattle.tx_journal.specs.Sessions.{made_of, start_of, SessionState}
 use Rattle.tx_journal.specs.declared.entry.Entry.{Entry}
 use Rattle.tx_model.specs.View.{view}
 use Rattle.tx_lines.specs.Ends.{Counts}
@@ -30,7 +30,7 @@ numbered line number [] = []
 numbered line number (x ∷ xs) = line number x ++ numbered line (number + 1) xs
 
 -- the whole text: the lines of all entries, and the state at the position
-abbrev pub run_text : Kept → List ℕ
+abbrev pub run_text : SessionState → List ℕ
 run_text k = numbered entry_line 1 k.entries ++ state_text (view (start_of k) (history_of (made_of k)))
 
 -- a text is written; or a front of it, and the sink is at fault; or nothing, for want of memory

@@ -1,6 +1,6 @@
 -- What a run of workers gives back.
 use Rattle.std.specs.Prelude.{◌≡◌, ℕ, List, ◌++◌, All, length}
-use Rattle.tx_journal.specs.Sessions.{start_of, IsAtEnd, Kept, SameBoot}
+use Rattle.tx_journal.specs.Sessions.{start_of, IsAtEnd, SessionState, SameBoot}
 use Rattle.tx_journal.specs.declared.entry.Entry.{Entry}
 use Rattle.tx_lines.specs.declared.programs.Program.{Program}
 use Rattle.tx_workers.specs.Histories.{EachNamed}
@@ -10,7 +10,7 @@ use Rattle.tx_workers.specs.declared.workers.Worker.{Worker}
 -- the session is what was handed in and entries that the program names, each on the view of those before it: as many as the workers noted.
 -- There are as many workers as were asked for, numbered from 1, each with no more than one step a turn; and each noted just the added entries of
 -- its number, in their order
-pub record IsWorked (program : Program) (given : Kept) (count turns : ℕ) (session : Kept) (workers : List Worker) : Type 0 where
+pub record IsWorked (program : Program) (given : SessionState) (count turns : ℕ) (session : SessionState) (workers : List Worker) : Type 0 where
   pub added : List Entry
   pub grown : session.entries ≡ given.entries ++ added
   pub boot : SameBoot session given

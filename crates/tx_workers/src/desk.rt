@@ -16,12 +16,12 @@ use tx_lines::Program;
 /// Which program is run, and on which session. Each run picks them; contracts alone see them.
 pub trait Work: Ledger {
     ghost use Rattle.std.specs.Prelude.{Option};
-    ghost use Rattle.tx_journal.specs.Sessions.{Kept};
+    ghost use Rattle.tx_journal.specs.Sessions.{SessionState};
     ghost use Rattle.tx_lines.specs.declared.programs.Program.{Program};
 
     ghost program: { Option Program };
 
-    ghost given: { Option Kept };
+    ghost given: { Option SessionState };
 }
 
 impl Work for Brand {
@@ -41,10 +41,10 @@ pub struct Desk<J: Work> {
 
 impl<J: Work> Model for Desk<J> {
     ghost use Rattle.std.specs.Prelude.{◌≡◌, ℕ};
-    ghost use Rattle.tx_journal.specs.Sessions.{Kept};
+    ghost use Rattle.tx_journal.specs.Sessions.{SessionState};
     ghost use Rattle.tx_workers.specs.Desks.{IsDesk};
 
-    ghost Value = { Kept × ℕ };
+    ghost Value = { SessionState × ℕ };
 
     ghost view = { λ desk. (desk.session, desk.added.total) };
 

@@ -1,4 +1,4 @@
-use Rattle.tx_laws.proofs.PartsAnswers.{parts_present, doom_kept, two_answers_parts, in_way_parts, holder_parts}
+use Rattle.tx_laws.proofs.PartsAnswers.{parts_present, doom_kept, two_answers_parts, in_way_parts, starter_in_way_parts}
 use Rattle.tx_laws.proofs.answers_of_parts.Goals as goal
 
 pub returns-clause-present : goal.returns-clause-present
@@ -13,5 +13,5 @@ returns-clause-two_answers c = two_answers_parts
 pub returns-clause-in_way : goal.returns-clause-in_way
 returns-clause-in_way c = in_way_parts
 
-pub returns-clause-holder : goal.returns-clause-holder
-returns-clause-holder c = holder_parts
+pub returns-clause-starter_in_way : goal.returns-clause-starter_in_way
+returns-clause-starter_in_way c = starter_in_way_parts

@@ -1,7 +1,6 @@
 //! Prints calls, without the process that makes them.
 ghost use Rattle.std.specs.Prelude.{◌≡◌, ◌≤◌, ◌++◌, OnOk, string_bytes};
-ghost use Rattle.tx_lines.specs.Calls.{call_text};
-ghost use Rattle.tx_lines.specs.Groups.{group_of};
+ghost use Rattle.tx_lines.specs.Calls.{call_text, group_of};
 
 mod descriptors;
 mod memory;

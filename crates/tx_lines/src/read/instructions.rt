@@ -2,13 +2,12 @@
 ghost use Rattle.std.specs.Prelude.{◌≡◌, ◌<◌, ◌≤◌, ℕ, IfSome, IsTrue, Some, length, slice_get, true};
 ghost use Rattle.std.specs.Bool.{then_some};
 ghost use Rattle.tx_base.specs.declared.steps.Call.{Call};
-ghost use Rattle.tx_lines.specs.Arguments.{arguments_of, Argument};
-ghost use Rattle.tx_lines.specs.Calls.{FitsCall};
+ghost use Rattle.tx_lines.specs.Arguments.{Argument};
+ghost use Rattle.tx_lines.specs.Calls.{program_arguments, FitsCall};
 ghost use Rattle.tx_lines.specs.Instructions as spec;
-ghost use Rattle.tx_lines.specs.Instructions.{instruction_text, plain_text, ChoosesLater, IsInstruction};
+ghost use Rattle.tx_lines.specs.Instructions.{instruction_text, plain_text, ChoosesLater, IsInstruction, MayAllBe};
 ghost use Rattle.tx_lines.specs.Lines.{IsCallOf};
 ghost use Rattle.tx_lines.specs.declared.instructions.Instruction.{Instruction};
-ghost use Rattle.tx_lines.specs.declared.instructions.Spelling.{Spelling};
 
 use crate::instructions::{Instruction, Kind, Spelling};
 use crate::read::calls::place::put;
@@ -71,8 +70,8 @@ fn chooses_numbers(call: &Call) -> bool
 
 /// Whether the arguments of a call may be spelled so, one by one.
 fn may_all_be(spellings: &[Spelling], call: &Call) -> bool
-    ensures sound { IsTrue result → (place : ℕ) (spelling : Spelling) (argument : Argument) → slice_get spellings.now place ≡ Some spelling → slice_get (arguments_of call.now) place ≡ Some argument → spec.may_be spelling (spec.kind_of argument) ≡ true }
-    ensures complete { length spellings.now ≤ length (arguments_of call.now) → ((place : ℕ) (spelling : Spelling) (argument : Argument) → slice_get spellings.now place ≡ Some spelling → slice_get (arguments_of call.now) place ≡ Some argument → spec.may_be spelling (spec.kind_of argument) ≡ true) → IsTrue result }
+    ensures sound { IsTrue result → MayAllBe spellings.now (program_arguments call.now) }
+    ensures complete { length spellings.now ≤ length (program_arguments call.now) → MayAllBe spellings.now (program_arguments call.now) → IsTrue result }
 {
     for place in 0..spellings.len() {
         if !may_be(&spellings[place], kind_of(call, place)) {
@@ -95,7 +94,7 @@ fn may_be(spelling: &Spelling, kind: Kind) -> bool
 
 /// What the argument at that place of a call is, where it has one there. Places count from 0.
 fn kind_of(call: &Call, place: usize) -> Kind
-    ensures { (argument : Argument) → slice_get (arguments_of call.now) place ≡ Some argument → result ≡ spec.kind_of argument }
+    ensures { (argument : Argument) → slice_get (program_arguments call.now) place ≡ Some argument → result ≡ spec.kind_of argument }
 {
     match call {
         Call::Jump(_, _) => kind_in_jump(place),

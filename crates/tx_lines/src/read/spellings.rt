@@ -2,7 +2,8 @@
 ghost use Rattle.std.specs.Prelude.{◌≡◌, ◌+◌, ◌<◌, ◌≤◌, ◌++◌, ◌∷◌, [], IfNone, IfSome, IsTrue, false, true, length, map, nat_le};
 ghost use Rattle.std.specs.List.{list_all};
 ghost use Rattle.tx_lines.specs.Instructions as spec;
-ghost use Rattle.tx_lines.specs.Instructions.{joined, plain_word, words_of};
+ghost use Rattle.tx_lines.specs.Instructions.{plain_word, words_of};
+ghost use Rattle.tx_lines.specs.Words.{joined};
 
 use crate::instructions::{Name, Spelling};
 use crate::read::split::split_word;

@@ -1,14 +1,15 @@
 use Rattle.std.proofs.Common.{◌≡◌, false, length, subst}
 use Rattle.tx_change.specs.declared.parts.Parts.{Parts}
-use Rattle.tx_kernel.proofs.Made.{made_at}
+use Rattle.tx_kernel.proofs.Made.{made_at, of_call}
 use Rattle.tx_kernel.proofs.PostedWhole.{made_whole}
-use Rattle.tx_model.specs.Answer.{chosen_in, is_bad_choice}
-use Rattle.tx_model.specs.Calls.{MakesCall}
+use Rattle.tx_model.specs.Answer.{is_bad_choice}
+use Rattle.tx_model.specs.Words.{chosen_in}
+use Rattle.tx_model.specs.Book.{page_of_call}
 use Rattle.tx_kernel.proofs.acts.act.Goals as goal
 
 pub returns-clause-ok : goal.returns-clause-ok
 returns-clause-ok c =
-    made_at c.laws.ensures c.in_ok-at.field-0 c.args.parts.now c.args.pid c.args.inside (MakesCall c.args.call.now) c.args.log.now c.plan_call.new.log c.make_from.new.self c.len-from.result
+    made_at c.laws.ensures c.in_ok-at.field-0 c.args.parts.now c.args.pid c.args.inside (page_of_call c.args.call.now) _ (of_call c.args.call.now) c.args.log.now c.plan_call.new.log c.make_from.new.self c.len-from.result
     c.make_from.new.parts c.in_ok-planned.planned c.in_ok-at.ensures.ok c.in_ok-at.ensures.same c.len-from.ensures c.in_ok-planned.ensures.ok c.make_from.ensures.parts c.make_from.ensures.log
 
 pub returns-clause-whole : goal.returns-clause-whole

@@ -3,7 +3,7 @@ use Rattle.tx_change.specs.declared.change.Change.{Change}
 use Rattle.tx_kernel.proofs.PostPlans.{part_posted, part_back, part_named, failed_state}
 use Rattle.tx_kernel.proofs.PostedWhole.{posted_whole}
 use Rattle.tx_kernel.specs.Plans.{sending_of, AreAmong}
-use Rattle.tx_model.specs.State.{Proc, has}
+use Rattle.tx_model.specs.State.{Proc, has_object}
 use Rattle.tx_kernel.proofs.posts.post.Goals as goal
 
 pub returns-in-Ok-Some-clause-state : goal.returns-in-Ok-Some-clause-state
@@ -41,7 +41,7 @@ returns-in-Ok-Some-clause-whole c =
     posted_whole c.well_formed-2.ensures.posted c.args.parts.now c.swap.new.parts (sending_of c.args.sending.now) made.0 made.1 made.2
 
 pub returns-in-Ok-Some-clause-among : goal.returns-in-Ok-Some-clause-among
-unfolding has
+unfolding has_object
 returns-in-Ok-Some-clause-among c =
     let n : ℕ = c.args.sending.now.target.0 in
     subst (λ (change : Change). AreAmong (Proc n ∷ []) (change ∷ [])) (sym c.swap.ensures.change) (rw (eq-eqb n n refl) refl, tt)

@@ -2,8 +2,7 @@
 ghost use Rattle.std.specs.Prelude.{◌≡◌, ◌≤◌, ◌++◌, ◌∷◌, IfSome, Some};
 ghost use Rattle.std.specs.Bool.{then_some};
 ghost use Rattle.tx_base.specs.declared.steps.Call.{Call};
-ghost use Rattle.tx_lines.specs.Calls.{call_text, FitsCall};
-ghost use Rattle.tx_lines.specs.Groups.{group_of};
+ghost use Rattle.tx_lines.specs.Calls.{call_text, group_of, FitsCall};
 ghost use Rattle.tx_lines.specs.Lines.{IsCallOf};
 ghost use Rattle.tx_lines.specs.Words.{first_word};
 ghost use Rattle.tx_lines.specs.declared.read.header.Version.{Version};

@@ -1,7 +1,7 @@
 use Rattle.std.proofs.Common.{subst, sym, true≢false}
 use Rattle.tx_core.specs.Runs.{IsAfter}
 use Rattle.tx_live.specs.Content.{view_of}
-use Rattle.tx_model.specs.Schedules.{recorded}
+use Rattle.tx_model.specs.Schedules.{history_with}
 use Rattle.tx_script.proofs.Reported.{after_reply, replied_answer}
 use Rattle.tx_script.proofs.reports.make_step.Goals as goal
 
@@ -12,7 +12,7 @@ returns-clause-answer c =
 
 pub returns-clause-after : goal.returns-clause-after
 returns-clause-after c start earlier so =
-    subst (IsAfter start (recorded earlier c.args.step.now c.step_into-inverse.new.reply)) (sym c.let_go.ensures)
+    subst (IsAfter start (history_with earlier c.args.step.now c.step_into-inverse.new.reply)) (sym c.let_go.ensures)
     (after_reply start earlier c.args.step.now c.step_into-inverse.new.reply c.step_into-inverse.result c.args.machine.now c.step_into-inverse.new.self so
     c.step_into-inverse.ensures.inverse.0 c.step_into-inverse.ensures.refused
     (λ made. c.step_into-inverse.ensures.history made start earlier so.lawful so.view))

@@ -1,5 +1,5 @@
 use Rattle.std.proofs.Common.{ap}
-use Rattle.tx_model.specs.Membership.{called_by_status}
+use Rattle.tx_model.specs.Words.{called_by_status}
 use Rattle.tx_step.proofs.Aborted.{called_live, called_step, negated}
 use Rattle.tx_step.proofs.aborts.take_abort.Goals as goal
 

@@ -16,5 +16,5 @@ way-requires-clause-numbers c = numbers_early c.laws.ensures c.args.content.now 
 
 pub returns-in-Some-way : goal.returns-in-Some-way
 returns-in-Some-way c =
-    refused_busy c.laws.ensures c.args.content.now c.requires c.args.pid c.args.asked (sym c.in_default.is ∙ c.early_refusal.ensures) c.way.result c.in-Some-way.holder
-    c.in-Some-way.is c.way.ensures.holder c.args.content.now (λ j. c.args.content.now)
+    refused_busy c.laws.ensures c.args.content.now c.requires c.args.pid c.args.asked (sym c.in_default.is ∙ c.early_refusal.ensures) c.way.result c.in-Some-way.starter
+    c.in-Some-way.is c.way.ensures.starter_in_way c.args.content.now (λ j. c.args.content.now)

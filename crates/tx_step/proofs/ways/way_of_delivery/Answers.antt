@@ -14,9 +14,9 @@ returns-clause-footprint c =
     (set_there k c.args.pid c.actor_of-actor.result c.actor_of-actor.ensures (λ p. Deliver p c.args.signo) c.footprint_of_delivery.new.set
     (option_copied c.last_held-last.result) c.last_held-last.ensures c.footprint_of_delivery.ensures)
 
-pub returns-clause-holder : goal.returns-clause-holder
-returns-clause-holder c =
+pub returns-clause-starter_in_way : goal.returns-clause-starter_in_way
+returns-clause-starter_in_way c =
     let k = c.args.content.now in
-    c.holder_of.ensures (event_on (view_of k) (Deliver c.args.pid c.args.signo)) (returns-clause-footprint c)
+    c.find_in_way.ensures (event_on (view_of k) (Deliver c.args.pid c.args.signo)) (returns-clause-footprint c)
     (delivery_posted k c.args.pid c.actor_of-actor.result c.actor_of-actor.ensures c.args.signo c.args.role c.sends_of_delivery-first.result c.requires.role c.sends_of_delivery-first.ensures)
     (delivery_member c.way_laws.ensures k c.args.pid c.args.signo (delivery_no_abort k c.args.pid c.args.signo))

@@ -12,9 +12,9 @@ returns-clause-footprint c =
     (set_there k c.args.pid c.actor_of-actor.result c.actor_of-actor.ensures (λ p. Calls p c.args.call.now) c.footprint_of_call.new.set
     (option_copied c.last_held-last.result) c.last_held-last.ensures c.footprint_of_call.ensures)
 
-pub returns-clause-holder : goal.returns-clause-holder
-returns-clause-holder c =
+pub returns-clause-starter_in_way : goal.returns-clause-starter_in_way
+returns-clause-starter_in_way c =
     let k = c.args.content.now in
-    c.holder_of.ensures (event_on (view_of k) (Calls c.args.pid c.args.call.now)) (returns-clause-footprint c)
+    c.find_in_way.ensures (event_on (view_of k) (Calls c.args.pid c.args.call.now)) (returns-clause-footprint c)
     (call_posted k c.args.pid c.actor_of-actor.result c.actor_of-actor.ensures c.args.call.now c.args.role c.sends_of_call-first.result c.requires.role c.sends_of_call-first.ensures)
     (call_member c.way_laws.ensures k c.args.pid c.args.call.now c.requires.no_abort)

@@ -1,4 +1,4 @@
-use Rattle.tx_txn.proofs.Answered.{doom_pending, two_answers_faces, in_way_faces, holder_faces}
+use Rattle.tx_txn.proofs.Answered.{doom_pending, two_answers_faces, in_way_faces, starter_in_way_faces}
 use Rattle.tx_txn.proofs.laws.answers_of_faces.Goals as goal
 
 pub returns-clause-doom : goal.returns-clause-doom
@@ -10,5 +10,5 @@ returns-clause-two_answers c = λ content event starter txn kept. two_answers_fa
 pub returns-clause-in_way : goal.returns-clause-in_way
 returns-clause-in_way c = λ content event starter kept. in_way_faces c.role_laws.ensures content kept event starter
 
-pub returns-clause-holder : goal.returns-clause-holder
-returns-clause-holder c = λ content event kept. holder_faces c.role_laws.ensures content kept event
+pub returns-clause-starter_in_way : goal.returns-clause-starter_in_way
+returns-clause-starter_in_way c = λ content event kept. starter_in_way_faces c.role_laws.ensures content kept event

@@ -1,5 +1,6 @@
 use Rattle.std.proofs.Common.{◌≡◌, Bool, ◌&&◌, ap, sym, ◌∙◌, true, false}
-use Rattle.tx_model.specs.Deliveries.{action_at, is_full}
+use Rattle.tx_model.specs.Deliveries.{action_at}
+use Rattle.tx_model.specs.Words.{is_full}
 use Rattle.tx_model.specs.State.{Process}
 use Rattle.tx_proc.specs.Processes.{process_of}
 use Rattle.tx_workers.specs.Offers.{is_catch}

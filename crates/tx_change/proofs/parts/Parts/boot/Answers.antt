@@ -7,7 +7,7 @@ use Rattle.tx_change.proofs.Booted.{booted_next, booted_places, booted_state}
 use Rattle.tx_change.proofs.Counted.{counts_booted}
 use Rattle.tx_change.specs.States.{state_of}
 use Rattle.tx_change.specs.declared.parts.Parts.{Parts}
-use Rattle.tx_model.specs.State.{booted}
+use Rattle.tx_model.specs.State.{boot_state}
 use Rattle.tx_change.proofs.parts.Parts.boot.Goals as goal
 
 pub loop-done-preserved : goal.loop-done-preserved
@@ -25,7 +25,7 @@ loop-done-preserved c =
     }
 
 state_is : (parts : Parts) (width count done : ℕ) → length parts.procs ≡ width → done ≡ count → ((n : ℕ) → process_in (slot_at parts.procs n) ≡ booted_slot done n) →
-    parts.descs ≡ replicate 64 None → parts.pipes ≡ replicate 32 None → state_of (λ starter. []) parts ≡ booted width count
+    parts.descs ≡ replicate 64 None → parts.pipes ≡ replicate 32 None → state_of (λ starter. []) parts ≡ boot_state width count
 state_is parts width count done sized all procs descs pipes =
     booted_state parts width count sized (subst (λ (k : ℕ). (n : ℕ) → process_in (slot_at parts.procs n) ≡ booted_slot k n) all procs) descs pipes
 

@@ -1,5 +1,5 @@
 use Rattle.std.proofs.Common.{◌≡◌}
-use Rattle.tx_model.specs.Descriptors.{has_side_below}
+use Rattle.tx_model.specs.Words.{has_side_below}
 use Rattle.tx_model.specs.State.{State}
 use Rattle.tx_desc.specs.Descriptions.{HasDescs, side_test}
 use Rattle.tx_desc.proofs.descs.Descs.has_end.Given as goal

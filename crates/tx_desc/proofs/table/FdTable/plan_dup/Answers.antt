@@ -5,7 +5,7 @@ use Rattle.tx_base.specs.declared.errors.Errno.TheVariants.{BadDescriptor, TooMa
 use Rattle.tx_model.specs.Book.{dup}
 use Rattle.tx_model.specs.Descriptors.{descriptor}
 use Rattle.tx_model.specs.Forms.{effect_of}
-use Rattle.tx_model.specs.Numbers.{failing}
+use Rattle.tx_model.specs.Numbers.{error_answer}
 use Rattle.tx_desc.specs.Outcomes.{with_table}
 use Rattle.tx_desc.specs.Places.{named_in}
 use Rattle.tx_desc.specs.Plans.{dup_puts}
@@ -28,7 +28,7 @@ returns-in_err-d-clause-descriptions c = λ caller same has.
 pub returns-in_default-clause-descriptions : goal.returns-in_default-clause-descriptions
 returns-in_default-clause-descriptions c = λ caller same has.
     let read = to_z-of_z w64 c.args.fd c.ranges.fd in
-    done_keeps (dup c.args.fd) caller (failing TooManyDescriptors) caller.process c.args.descs.now
+    done_keeps (dup c.args.fd) caller (error_answer TooManyDescriptors) caller.process c.args.descs.now
     (ap (effect_of caller.number caller.process) (dup_full caller c.args.self.now same c.args.fd c.in_ok-d.d.0
     (found_named caller.process c.args.self.now (descriptor c.args.fd) c.in_ok-d.field-0-0 c.in_ok-d.d.0 same (ap descriptor (sym read) ∙ c.in_ok-d.ensures.0) c.in_ok-d.ensures.1)
     c.in_default.ensures)) has

@@ -2,8 +2,8 @@ use Rattle.std.proofs.Common.{◌<◌, ◌∙◌, [], ℤ, length, pos, Some, No
 use Rattle.std.proofs.lemmas.Int.{to_z-of_z}
 use Rattle.tx_base.specs.declared.errors.Errno.TheVariants.{BadDescriptor}
 use Rattle.tx_model.specs.Book.{dup2}
-use Rattle.tx_model.specs.Numbers.{failing}
-use Rattle.tx_model.specs.Descriptors.{descriptor, listed}
+use Rattle.tx_model.specs.Numbers.{error_answer}
+use Rattle.tx_model.specs.Descriptors.{descriptor, option_list}
 use Rattle.tx_model.specs.Forms.{effect_of}
 use Rattle.tx_desc.specs.Counts.{others_of}
 use Rattle.tx_desc.specs.Places.{named_in}
@@ -26,7 +26,7 @@ pub returns-in_default-clause-descriptions : goal.returns-in_default-clause-desc
 returns-in_default-clause-descriptions c = λ caller runs has a.
     let read = to_z-of_z w64 c.args.fd c.ranges.fd in
     let read_other = to_z-of_z w64 c.args.other c.ranges.other in
-    done_keeps (dup2 c.args.fd c.args.other) caller (failing BadDescriptor) caller.process c.args.descs.now
+    done_keeps (dup2 c.args.fd c.args.other) caller (error_answer BadDescriptor) caller.process c.args.descs.now
     (ap (effect_of caller.number caller.process) (dup2_other caller c.args.self.now runs.has_table c.args.fd c.args.other c.in_ok-place.place c.in_ok-place.d.0
     (ap descriptor (sym read) ∙ c.in_ok-place.ensures.0) c.in_ok-place.ensures.1 (c.in_default.ensures ∙ ap descriptor read_other)))
     has
@@ -63,8 +63,8 @@ returns-clause-descriptions c = λ caller runs has a.
     let puts = rename_puts c.plan_rename.result.rename in
     let new = put_names puts.names c.args.self.now in
     let after = put_descs puts.descs c.args.descs.now in
-    gives_keeps (dup2 c.args.fd c.args.other) caller (listed old) (pos c.in-Some.target) c.args.self.now new c.args.descs.now after
-    (ap (effect_of caller.number caller.process) (dup2_done caller c.args.self.now runs.has_table c.args.fd c.args.other c.in_ok-place.place c.in_ok-place.d.0 c.in-Some.target new (listed old)
+    gives_keeps (dup2 c.args.fd c.args.other) caller (option_list old) (pos c.in-Some.target) c.args.self.now new c.args.descs.now after
+    (ap (effect_of caller.number caller.process) (dup2_done caller c.args.self.now runs.has_table c.args.fd c.args.other c.in_ok-place.place c.in_ok-place.d.0 c.in-Some.target new (option_list old)
     (ap descriptor (sym read) ∙ c.in_ok-place.ensures.0) c.in_ok-place.ensures.1 (c.in-Some.ensures ∙ ap descriptor read_other)
     c.if-place-target.false c.plan_rename.ensures.table refl))
     runs (ap length c.plan_rename.ensures.table ∙ length-set c.args.self.now c.in-Some.target (Some c.in_ok-place.d.0) ∙ c.sized.ensures) has

@@ -2,8 +2,8 @@ use Rattle.std.proofs.Common.{◌<◌, ◌∙◌, length, Some, refl, ap, arith,
 use Rattle.std.proofs.Math.ListN.{set}
 use Rattle.tx_base.specs.declared.errors.Errno.TheVariants.{TooManyDescriptors}
 use Rattle.tx_model.specs.Book.{pipe}
-use Rattle.tx_model.specs.Numbers.{failing}
-use Rattle.tx_model.specs.Descriptors.{with_two_slots}
+use Rattle.tx_model.specs.Numbers.{error_answer}
+use Rattle.tx_model.specs.Words.{with_two_slots}
 use Rattle.tx_model.specs.Forms.{effect_of}
 use Rattle.tx_desc.specs.Outcomes.{with_table}
 use Rattle.tx_desc.specs.declared.opened.Opened.{Opened}
@@ -19,7 +19,7 @@ returns-in_default-clause-answer c = λ caller descs same free has no_pipe.
 
 pub returns-in_default-clause-descriptions : goal.returns-in_default-clause-descriptions
 returns-in_default-clause-descriptions c = λ caller descs same free has no_pipe.
-    done_keeps (pipe c.args.pipe.0 c.args.read.0 c.args.write.0) caller (failing TooManyDescriptors) caller.process descs
+    done_keeps (pipe c.args.pipe.0 c.args.read.0 c.args.write.0) caller (error_answer TooManyDescriptors) caller.process descs
     (ap (effect_of caller.number caller.process) (returns-in_default-clause-answer c caller descs same free has no_pipe)) has
 
 pub returns-clause-answer : goal.returns-clause-answer

@@ -1,7 +1,7 @@
 use Rattle.std.proofs.Common.{◌≡◌, ℕ, ◌+◌, ◌≤◌, List, Some, length, slice_get, sym, ap, subst, ◌∙◌}
 use Rattle.std.proofs.lemmas.Option.{slice_get-get_or}
 use Rattle.tx_journal.proofs.Walked.{journal_next}
-use Rattle.tx_journal.specs.Sessions.{IsJournal, Kept, kept_of, position_of}
+use Rattle.tx_journal.specs.Sessions.{IsJournal, SessionState, session_state, position_of}
 use Rattle.tx_journal.specs.declared.entry.Entry.{Entry}
 use Rattle.tx_live.specs.declared.inverse.Inverse.{Inverse}
 use Rattle.tx_journal.proofs.session.Session.forward.Goals as goal
@@ -11,10 +11,10 @@ invariant_of-self-2 c =
     let at : Some c.in-Some.entry.now ≡ slice_get c.deref.result.now c.position-position.result
     = ap (λ (e : Entry). Some e) c.in-Some.ensures.lookup.1 ∙ sym (slice_get-get_or c.deref.result.now c.position-position.result c.in-Some.entry.now c.in-Some.ensures.lookup.3.0) in
     let next : Some c.in-Some.entry.now ≡ slice_get c.self.inside.journal.entries.items (length c.self.inside.journal.inverses.items)
-    = at ∙ (λ i. slice_get (c.deref.ensures.value i) (c.position-position.ensures.count i)) ∙ ap (λ (k : Kept). slice_get c.self.inside.journal.entries.items (position_of k)) (sym c.self.view_is) in (
+    = at ∙ (λ i. slice_get (c.deref.ensures.value i) (c.position-position.ensures.count i)) ∙ ap (λ (k : SessionState). slice_get c.self.inside.journal.entries.items (position_of k)) (sym c.self.view_is) in (
       subst (λ (xs : List Inverse). IsJournal (record { machine = c.step_into.new.self; entries = c.self.inside.journal.entries.items; inverses = xs; width = c.self.inside.width; count = c.self.inside.count }))
           (sym c.push_reserved.ensures.items)
-          (journal_next (kept_of c.self.inside.machine c.self.inside.journal c.self.inside.width c.self.inside.count) c.self.invariant.0 c.in-Some.entry.now next c.step_into.new.self c.in-Some-step_into.inverse c.step_into.new.reply
+          (journal_next (session_state c.self.inside.machine c.self.inside.journal c.self.inside.width c.self.inside.count) c.self.invariant.0 c.in-Some.entry.now next c.step_into.new.self c.in-Some-step_into.inverse c.step_into.new.reply
           c.in-Some-step_into.ensures.accepted.accepted c.in-Some-step_into.ensures.answer (c.in-Some-step_into.ensures.history c.in-Some-step_into.ensures.accepted.accepted)
           c.in-Some-step_into.ensures.back c.in-Some-step_into.ensures.accepted.back),
       record {

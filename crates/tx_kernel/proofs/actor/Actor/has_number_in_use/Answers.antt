@@ -1,7 +1,8 @@
 use Rattle.std.proofs.Common.{ap, sym, ◌∙◌}
 use Rattle.tx_base.specs.declared.steps.Call.{Call}
 use Rattle.tx_change.specs.States.{state_of}
-use Rattle.tx_model.specs.Answer.{chosen_in, is_choice_in_use}
+use Rattle.tx_model.specs.Answer.{is_choice_in_use}
+use Rattle.tx_model.specs.Words.{chosen_in}
 use Rattle.tx_kernel.proofs.actor.Actor.has_number_in_use.Goals as goal
 
 pub returns-in-Pipe : goal.returns-in-Pipe

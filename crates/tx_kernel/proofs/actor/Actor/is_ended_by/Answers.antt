@@ -1,6 +1,7 @@
 use Rattle.std.proofs.Common.{◌≡◌, Bool, false, if◌then◌else◌, ap, sym, ◌∙◌}
 use Rattle.tx_kernel.specs.Actors.{inside_of, me_of}
-use Rattle.tx_model.specs.Deliveries.{action_at, ends_by, is_deferred, is_fatal}
+use Rattle.tx_model.specs.Deliveries.{action_at, ends_by, is_deferred}
+use Rattle.tx_model.specs.Words.{is_fatal}
 use Rattle.tx_kernel.proofs.actor.Actor.is_ended_by.Goals as goal
 
 pub returns-in_default : goal.returns-in_default

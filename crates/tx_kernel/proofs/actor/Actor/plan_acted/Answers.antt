@@ -8,7 +8,7 @@ use Rattle.tx_kernel.proofs.Returned.{sized_actor}
 use Rattle.tx_kernel.specs.Actors.{effect_by, me_of}
 use Rattle.tx_kernel.specs.Own.{PlansOwn}
 use Rattle.tx_kernel.specs.Plans.{Plans}
-use Rattle.tx_model.specs.Deliveries.{action_at, relieved}
+use Rattle.tx_model.specs.Deliveries.{action_at, without_delivered}
 use Rattle.tx_model.specs.Forms.{stands}
 use Rattle.tx_model.specs.Signals.{Disposition, Ignored, Fatal, Caught, disposition}
 use Rattle.tx_kernel.proofs.actor.Actor.plan_acted.Goals as goal
@@ -21,7 +21,7 @@ returns-then-is_ignored-clause-ok c =
     = ap (disposition c.args.signo.0) (sym action) ∙ ignored_is c.args.signo.0 c.get-action.result (sym c.is_ignored.ensures ∙ c.if-is_ignored.true) in
     acted actor c.args.log.now c.plan_ignored.new.log c.quiet.result c.args.signo.0 c.args.value Ignored _ what
     (rw c.quiet.ensures (own_plans c.laws.ensures actor c.args.log.now c.plan_ignored.new.log c.in_ok-outcome.outcome
-    (effect_by actor (λ d. stands (relieved c.args.signo.0 d.process) (Done d.process.registers.ret))) (acting_objects actor Ignored) c.sized.ensures c.requires.actor c.in_ok-outcome.ensures.ok))
+    (effect_by actor (λ d. stands (without_delivered c.args.signo.0 d.process) (Done d.process.registers.ret))) (acting_objects actor Ignored) c.sized.ensures c.requires.actor c.in_ok-outcome.ensures.ok))
 
 pub returns-in_default-clause-ok : goal.returns-in_default-clause-ok
 returns-in_default-clause-ok c =

@@ -7,7 +7,7 @@ use Rattle.tx_kernel.proofs.PageLines.{decides, finds, misses, passes}
 use Rattle.tx_kernel.proofs.PartsOwned.{inside_is, owned_page}
 use Rattle.tx_kernel.specs.Actors.{inside_of, me_of}
 use Rattle.tx_model.specs.Book.{console_write, closed_inside}
-use Rattle.tx_model.specs.Effects.{noted}
+use Rattle.tx_model.specs.Effects.{with_answer}
 use Rattle.tx_model.specs.Forms.{answers, fails, stands}
 use Rattle.tx_model.specs.Memory.{address_of, bytes_at, is_good, is_mapped}
 use Rattle.tx_model.specs.Numbers.{below}
@@ -39,7 +39,7 @@ pub returns-clause-ok : goal.returns-clause-ok
 returns-clause-ok c =
     let actor = c.args.self.now in
     owned_page c.plan_shown.result actor c.args.log.now c.plan_shown.new.log
-    (λ d. stands (noted (pos c.in-Some.count) d.process) (Out (record { items = bytes_at d.process.memory (address_of c.args.address) c.in-Some.count }))) (console_write c.args.address c.args.count)
+    (λ d. stands (with_answer (pos c.in-Some.count) d.process) (Out (record { items = bytes_at d.process.memory (address_of c.args.address) c.in-Some.count }))) (console_write c.args.address c.args.count)
     (λ S. passes (is_some (inside_of actor.inside)) _ _ (inside_is actor.inside ∙ sym c.if-is_some.ensures)
     ∙ finds (below (CONSOLE_BYTES + 1) c.args.count) c.in-Some.count _ _ (sym (simp (to_z-of_z w64 c.args.count c.ranges.count) at c.in-Some.ensures))
     ∙ passes (not (is_good is_mapped (me_of actor).memory c.args.address c.in-Some.count)) _ _

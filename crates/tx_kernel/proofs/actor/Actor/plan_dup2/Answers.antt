@@ -4,8 +4,9 @@ use Rattle.tx_change.specs.States.{state_of}
 use Rattle.tx_kernel.proofs.NamedCalls.{dup2_plan, done_plan}
 use Rattle.tx_kernel.specs.Actors.{caller_of, effect_by, names_by}
 use Rattle.tx_model.specs.Book.{dup2}
-use Rattle.tx_model.specs.Descriptors.{descriptor, dup2_objects}
-use Rattle.tx_model.specs.Numbers.{failing}
+use Rattle.tx_model.specs.Descriptors.{descriptor}
+use Rattle.tx_model.specs.Words.{dup2_objects}
+use Rattle.tx_model.specs.Numbers.{error_answer}
 use Rattle.tx_kernel.proofs.actor.Actor.plan_dup2.Goals as goal
 
 pub plan_dup2-requires : goal.plan_dup2-requires
@@ -32,6 +33,6 @@ returns-in_ok-push_answer-in-Ok-clause-ok c =
 pub returns-in-Err-clause-ok : goal.returns-in-Err-clause-ok
 returns-in-Err-clause-ok c =
     let me = c.args.self.now in
-    done_plan c.plan_failure.result me c.args.log.now c.plan_failure.new.log (failing c.in-Err.errno) (effect_by me (dup2 c.args.fd c.args.other))
+    done_plan c.plan_failure.result me c.args.log.now c.plan_failure.new.log (error_answer c.in-Err.errno) (effect_by me (dup2 c.args.fd c.args.other))
     (names_by me (λ k. dup2_objects (descriptor c.args.fd) (descriptor c.args.other) k.process k.state))
     (λ held. simp (to_z-of_z w64 c.args.fd c.ranges.fd, to_z-of_z w64 c.args.other c.ranges.other) at (c.in-Err.ensures.answer (caller_of me (state_of held me.parts.now)) refl)) c.plan_failure.ensures.ok

@@ -2,7 +2,7 @@ use Rattle.std.proofs.Common.{ℤ, w64, ap, sym, ◌∙◌}
 use Rattle.std.proofs.lemmas.Int.{to_z-of_z}
 use Rattle.tx_kernel.proofs.PartsOwned.{owned}
 use Rattle.tx_kernel.specs.Actors.{effect_by, me_of}
-use Rattle.tx_model.specs.Effects.{done}
+use Rattle.tx_model.specs.Words.{answer_effect}
 use Rattle.tx_model.specs.Forms.{fails}
 use Rattle.tx_kernel.proofs.actor.Actor.plan_error.Goals as goal
 
@@ -10,4 +10,4 @@ pub returns-clause-ok : goal.returns-clause-ok
 returns-clause-ok c =
     let actor = c.args.self.now in
     owned c.plan_answer.result actor c.args.log.now c.plan_answer.new.log _ (effect_by actor (λ d. fails c.args.errno))
-    (λ S. ap (λ (r : ℤ). done actor.pid.0 r (me_of actor)) (sym (to_z-of_z w64 c.failing.result (record { sfits = c.failing.type_inv }) ∙ c.failing.ensures))) c.plan_answer.ensures.ok
+    (λ S. ap (λ (r : ℤ). answer_effect actor.pid.0 r (me_of actor)) (sym (to_z-of_z w64 c.failing.result (record { sfits = c.failing.type_inv }) ∙ c.failing.ensures))) c.plan_answer.ensures.ok

@@ -3,10 +3,10 @@ use Rattle.std.proofs.lemmas.Int.{to_z-of_z}
 use Rattle.std.proofs.lemmas.Result.{IfOk-weaker}
 use Rattle.tx_base.specs.declared.errors.Errno.TheVariants.{NotPermitted}
 use Rattle.tx_kernel.proofs.Exited.{exit_ends, exit_fails, exit_names}
-use Rattle.tx_kernel.specs.Actors.{effect_by, inside_of, me_of}
+use Rattle.tx_kernel.specs.Actors.{effect_by, names_by}
 use Rattle.tx_kernel.specs.Plans.{Plans}
 use Rattle.tx_model.specs.Book.{exit}
-use Rattle.tx_model.specs.Forms.{fails}
+use Rattle.tx_model.specs.Forms.{fails, does}
 use Rattle.tx_model.specs.Processes.{ending, ending_objects, exit_status}
 use Rattle.tx_model.specs.State.{Object, State}
 use Rattle.tx_kernel.proofs.actor.Actor.plan_exit.Goals as goal
@@ -24,7 +24,7 @@ returns-clause-ok c =
     let actor = c.args.self.now in
     let code = c.exit_status.ensures ∙ ap exit_status (to_z-of_z w64 c.args.status c.ranges.status) in
     IfOk-weaker c.plan_ending.result
-    (λ planned. Plans actor c.args.log.now c.plan_ending.new.log planned (λ S. ending (inside_of actor.inside) actor.pid.0 c.exit_status.result (me_of actor) S) (λ S. ending_objects (inside_of actor.inside) actor.pid.0 (me_of actor) S))
+    (λ planned. Plans actor c.args.log.now c.plan_ending.new.log planned (effect_by actor (λ d. does (ending c.exit_status.result d))) (names_by actor ending_objects))
     (λ planned. Plans actor c.args.log.now c.plan_ending.new.log planned (effect_by actor (exit c.args.status)) (exit_names actor))
     (λ planned plans. exit_ends actor c.args.log.now c.plan_ending.new.log planned c.args.status c.exit_status.result c.if-self-eq1.false code plans)
     c.plan_ending.ensures.ok

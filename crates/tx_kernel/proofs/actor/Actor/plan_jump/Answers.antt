@@ -10,8 +10,8 @@ use Rattle.tx_kernel.proofs.PageLines.{decides, passes}
 use Rattle.tx_kernel.proofs.PartsOwned.{own_same, owned_page, part_more, part_none, part_whole}
 use Rattle.tx_kernel.specs.Actors.{effect_by, me_of}
 use Rattle.tx_kernel.specs.declared.planned.Outcome.TheVariants as outcome
-use Rattle.tx_model.specs.Book.{jump, does_jump, last_ret, stands_at}
-use Rattle.tx_model.specs.Effects.{own_effect}
+use Rattle.tx_model.specs.Book.{jump, is_jump_taken}
+use Rattle.tx_model.specs.Words.{last_ret, stands_at, own_effect}
 use Rattle.tx_model.specs.Forms.{answers, effect_of, fails, stands}
 use Rattle.tx_model.specs.State.{Process}
 use Rattle.tx_proc.specs.Processes.{revised}
@@ -31,7 +31,7 @@ returns-then-not-does_jump-clause-ok c =
     let same = to_z-of_z w64 actor.proc.now.regs.ret fits in
     owned_page c.plan_answer.result actor c.args.log.now c.plan_answer.new.log (λ d. answers (last_ret d.process)) (jump c.args.point c.args.when)
     (λ S. passes (nat_lt LAST_POINT c.args.point) _ _ (le-ltb LAST_POINT c.args.point c.if-point-gt-LAST_POINT.false)
-    ∙ decides (not (does_jump c.args.when (last_ret (me_of actor)))) _ _ (ap not (sym (simp same at c.if-not-does_jump.ensures)))) (simp same at c.plan_answer.ensures.ok)
+    ∙ decides (not (is_jump_taken c.args.when (last_ret (me_of actor)))) _ _ (ap not (sym (simp same at c.if-not-does_jump.ensures)))) (simp same at c.plan_answer.ensures.ok)
 
 pub returns-clause-ok : goal.returns-clause-ok
 returns-clause-ok c =
@@ -46,4 +46,4 @@ returns-clause-ok c =
     (part_more actor c.args.log.now c.args.log.now c.push.new.log (λ q. q) part (part_none actor c.args.log.now) tt tt c.in_ok-push.ensures.ok) tt)
     (λ S. (λ j. own_effect actor.pid.0 (record { process = record me { registers = record me.registers { point = c.args.point; ret = same j } }; reply = Done (same j) }))
     ∙ sym (ap (effect_of actor.pid.0 me) (passes (nat_lt LAST_POINT c.args.point) _ _ (le-ltb LAST_POINT c.args.point c.if-point-gt-LAST_POINT.false)
-    ∙ passes (not (does_jump c.args.when (last_ret me))) _ (stands (stands_at c.args.point me) (Done (last_ret me))) (ap not (sym (simp same at c.if-not-does_jump.ensures))))))
+    ∙ passes (not (is_jump_taken c.args.when (last_ret me))) _ (stands (stands_at c.args.point me) (Done (last_ret me))) (ap not (sym (simp same at c.if-not-does_jump.ensures))))))

@@ -4,7 +4,7 @@ use Rattle.tx_kernel.proofs.AnyCall.{so_anyway}
 use Rattle.tx_kernel.proofs.NamedCalls.{pipe_plan, failed_plan, good_choice, free_numbers}
 use Rattle.tx_kernel.specs.Actors.{caller_of}
 use Rattle.tx_model.specs.Book.{pipe}
-use Rattle.tx_model.specs.Descriptors.{pipe_objects}
+use Rattle.tx_model.specs.Words.{pipe_objects}
 use Rattle.tx_kernel.proofs.actor.Actor.plan_pipe.Goals as goal
 
 pub returns-then-is_bad_pipe-clause-refused : goal.returns-then-is_bad_pipe-clause-refused

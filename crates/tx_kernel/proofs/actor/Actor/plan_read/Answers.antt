@@ -5,7 +5,7 @@ use Rattle.tx_kernel.proofs.PipedCalls.{take_plan}
 use Rattle.tx_kernel.specs.Actors.{effect_by, me_of, names_by}
 use Rattle.tx_model.specs.Book.{desc_and_pipe_of, read}
 use Rattle.tx_model.specs.Forms.{effect_of}
-use Rattle.tx_model.specs.Numbers.{failing}
+use Rattle.tx_model.specs.Numbers.{error_answer}
 use Rattle.tx_kernel.proofs.actor.Actor.plan_read.Goals as goal
 
 pub returns-in-Ok-Nothing-clause-ok : goal.returns-in-Ok-Nothing-clause-ok
@@ -30,6 +30,6 @@ returns-in_ok-push_answer-in-Ok-Takes-clause-ok c =
 pub returns-in-Err-clause-ok : goal.returns-in-Err-clause-ok
 returns-in-Err-clause-ok c =
     let me = c.args.self.now in
-    done_plan c.plan_failure.result me c.args.log.now c.plan_failure.new.log (failing c.in-Err.errno) (effect_by me (read c.args.fd c.args.address c.args.count)) (names_by me (desc_and_pipe_of c.args.fd))
+    done_plan c.plan_failure.result me c.args.log.now c.plan_failure.new.log (error_answer c.in-Err.errno) (effect_by me (read c.args.fd c.args.address c.args.count)) (names_by me (desc_and_pipe_of c.args.fd))
     (λ held. ap (effect_of me.pid.0 (me_of me)) (simp (to_z-of_z w64 c.args.fd c.ranges.fd, to_z-of_z w64 c.args.address c.ranges.address, to_z-of_z w64 c.args.count c.ranges.count) at
     (c.in-Err.ensures.effect held))) c.plan_failure.ensures.ok

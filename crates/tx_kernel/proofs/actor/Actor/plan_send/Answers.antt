@@ -11,7 +11,7 @@ use Rattle.tx_kernel.specs.Steps.{PlansStep}
 use Rattle.tx_kernel.specs.declared.planned.Planned.{Planned}
 use Rattle.tx_kernel.specs.declared.planned.Sends.TheVariants.{Nothing, AtCommit}
 use Rattle.tx_model.specs.Book.{sigqueue}
-use Rattle.tx_model.specs.Effects.{done}
+use Rattle.tx_model.specs.Words.{answer_effect}
 use Rattle.tx_model.specs.Processes.{held_objects}
 use Rattle.tx_model.specs.State.{Object, State}
 use Rattle.tx_kernel.proofs.actor.Actor.plan_send.Goals as goal
@@ -25,7 +25,7 @@ returns-in_ok-outcome-in-Answers-clause-ok c =
     (sym c.quiet.ensures)
     (quiet_step actor c.args.log.now c.plan_answer.new.log c.in_ok-outcome-in-Answers.outcome Nothing _ names refl
     (plans_same actor c.args.log.now c.plan_answer.new.log (quiet c.in_ok-outcome-in-Answers.outcome) _ (effect_by actor (sigqueue c.args.target c.args.signo c.args.value)) names names
-    (λ held counted. ap (λ (ret : ℤ). done actor.pid.0 ret (me_of actor)) (to_z-of_z w64 c.in-Answers.ret fits)
+    (λ held counted. ap (λ (ret : ℤ). answer_effect actor.pid.0 ret (me_of actor)) (to_z-of_z w64 c.in-Answers.ret fits)
     ∙ sym (simp (to_z-of_z w64 c.args.target c.ranges.target, to_z-of_z w64 c.args.signo c.ranges.signo, to_z-of_z w64 c.args.value c.ranges.value) at (c.in-Answers.ensures.effect held counted)))
     (λ held. refl)
     (own_plans c.laws.ensures actor c.args.log.now c.plan_answer.new.log c.in_ok-outcome-in-Answers.outcome _ names c.sized.ensures c.requires c.in_ok-outcome-in-Answers.ensures.ok)))

@@ -6,7 +6,7 @@ use Rattle.tx_kernel.proofs.PartsOwned.{own_same}
 use Rattle.tx_kernel.proofs.Whole.{masked_few}
 use Rattle.tx_kernel.specs.Actors.{effect_by, me_of}
 use Rattle.tx_model.specs.Book.{sigpending}
-use Rattle.tx_model.specs.Effects.{done}
+use Rattle.tx_model.specs.Words.{answer_effect}
 use Rattle.tx_model.specs.Signals.{pending_signals}
 use Rattle.tx_kernel.proofs.actor.Actor.plan_sigpending.Goals as goal
 
@@ -17,7 +17,7 @@ returns-clause-ok c =
     = c.bits.ensures tt ∙ c.intersection-blocked.ensures tt ∙ ap (λ (n : ℕ). bit_and n mask) (c.signals.ensures (me_of c.args.self.now)) in
     let below : c.bits.result < 2 ^ 63 = subst (λ (n : ℕ). n < 2 ^ 63) (sym number) (omega (arith, and_le_r (pending_signals (me_of c.args.self.now)) mask, masked_few c.args.self.now c.requires)) in
     own_same c.args.self.now c.args.log.now c.plan_answer.new.log c.in_ok-outcome.outcome _ (effect_by c.args.self.now sigpending) c.in_ok-outcome.ensures.ok
-    (λ S. ap (λ (r : ℤ). done c.args.self.now.pid.0 r (me_of c.args.self.now)) (to_z_pos w64 c.bits.result below ∙ ap pos number))
+    (λ S. ap (λ (r : ℤ). answer_effect c.args.self.now.pid.0 r (me_of c.args.self.now)) (to_z_pos w64 c.bits.result below ∙ ap pos number))
 
 pub overflow_cast-bits : goal.overflow_cast-bits
 overflow_cast-bits c =

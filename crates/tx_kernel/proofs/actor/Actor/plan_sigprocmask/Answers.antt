@@ -3,7 +3,7 @@ use Rattle.tx_kernel.proofs.PartsOwned.{own_same, part_answered, part_more, part
 use Rattle.tx_kernel.specs.Actors.{effect_by, me_of}
 use Rattle.tx_kernel.specs.declared.planned.Outcome.TheVariants.{Done}
 use Rattle.tx_model.specs.Book.{sigprocmask}
-use Rattle.tx_model.specs.Effects.{done}
+use Rattle.tx_model.specs.Words.{answer_effect}
 use Rattle.tx_proc.specs.Processes.{revised}
 use Rattle.tx_proc.specs.declared.part.Part.TheVariants.{Mask as SetMask}
 use Rattle.tx_kernel.proofs.actor.Actor.plan_sigprocmask.Goals as goal
@@ -15,4 +15,4 @@ returns-clause-ok c =
     (part_answered actor c.args.log.now c.push.new.log c.push_answer.new.log (revised (SetMask c.masked.result)) (pos 0)
     (part_more actor c.args.log.now c.args.log.now c.push.new.log (λ q. q) (SetMask c.masked.result) (part_none actor c.args.log.now) tt tt c.in_ok-push.ensures.ok)
     refl c.in_ok-push_answer.ensures.ok)
-    (λ S. ap (λ (set : ℕ). done actor.pid.0 (pos 0) (record (me_of actor) { mask = set })) c.masked.ensures)
+    (λ S. ap (λ (set : ℕ). answer_effect actor.pid.0 (pos 0) (record (me_of actor) { mask = set })) c.masked.ensures)

@@ -11,14 +11,14 @@ use Rattle.tx_kernel.proofs.Returned.{returned}
 use Rattle.tx_kernel.specs.Actors.{me_of}
 use Rattle.tx_model.specs.Book.{sigreturn}
 use Rattle.tx_model.specs.Forms.{fails}
-use Rattle.tx_model.specs.Signals.{newest}
+use Rattle.tx_model.specs.Signals.{newest_frame}
 use Rattle.tx_kernel.proofs.actor.Actor.plan_sigreturn.Goals as goal
 
 pub returns-in_default-clause-ok : goal.returns-in_default-clause-ok
 returns-in_default-clause-ok c =
     let actor = c.args.self.now in
     owned_page c.plan_error.result actor c.args.log.now c.plan_error.new.log (λ d. fails InvalidArgument) (sigreturn)
-    (λ S. misses (newest (me_of actor).frames) _ _ (search rules)) c.plan_error.ensures.ok
+    (λ S. misses (newest_frame (me_of actor).frames) _ _ (search rules)) c.plan_error.ensures.ok
 
 pub returns-clause-ok : goal.returns-clause-ok
 returns-clause-ok c =

@@ -3,9 +3,9 @@ use Rattle.std.proofs.lemmas.Int.{to_z-of_z}
 use Rattle.std.specs.Int.{w64}
 use Rattle.std.specs.Prelude.{FitsSigned}
 use Rattle.tx_kernel.proofs.Delivered.{acting_objects, deferred_refuses, delivers_is, names_is, none_refuses, not_first}
-use Rattle.tx_kernel.specs.Actors.{inside_of, me_of}
+use Rattle.tx_kernel.specs.Actors.{inside_of, me_of, effect_by}
 use Rattle.tx_kernel.specs.Plans.{Plans, RefusedBy}
-use Rattle.tx_model.specs.Deliveries.{action_at, delivery_effect, is_deferred}
+use Rattle.tx_model.specs.Deliveries.{action_at, is_deferred, delivery}
 use Rattle.tx_model.specs.Effects.{Effect}
 use Rattle.tx_model.specs.Signals.{disposition}
 use Rattle.tx_model.specs.State.{Object, State}
@@ -29,7 +29,7 @@ returns-clause-ok c =
     let here = sym (c.in-Some.ensures (me_of actor)) in
     let at_once : is_deferred (inside_of actor.inside) c.args.signo.0 ≡ false = sym c.is_deferred.ensures ∙ c.if-is_deferred.false in
     subst (λ (objects : State → List Object). IfOk c.plan_acted.result (λ planned. Plans actor c.args.log.now c.plan_acted.new.log planned
-    (λ S. delivery_effect (inside_of actor.inside) actor.pid.0 c.args.signo.0 (me_of actor) S) objects))
+    (effect_by actor (delivery c.args.signo.0)) objects))
     (names_is actor c.args.signo.0 c.in-Some.value here at_once)
     (subst (λ (rule : State → Effect). IfOk c.plan_acted.result (λ planned. Plans actor c.args.log.now c.plan_acted.new.log planned rule
     (acting_objects actor (disposition c.args.signo.0 (action_at c.args.signo.0 (me_of actor))))))

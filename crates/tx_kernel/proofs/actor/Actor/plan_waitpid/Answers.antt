@@ -9,7 +9,7 @@ use Rattle.tx_kernel.specs.Plans.{Plans}
 use Rattle.tx_kernel.specs.Trees.{child_at}
 use Rattle.tx_model.specs.Book.{waitpid}
 use Rattle.tx_model.specs.Forms.{answers, fails, refuses}
-use Rattle.tx_model.specs.Processes.{numbered}
+use Rattle.tx_model.specs.Processes.{pid_of}
 use Rattle.tx_model.specs.State.{Object, State, Proc as TheProc}
 use Rattle.tx_kernel.proofs.actor.Actor.plan_waitpid.Goals as goal
 
@@ -17,8 +17,8 @@ pub returns-in_default-clause-ok : goal.returns-in_default-clause-ok
 returns-in_default-clause-ok c =
     let actor = c.args.self.now in
     let names : State → List Object = wait_names actor c.args.number in
-    let none : None ≡ child_at actor.pid.0 actor.parts.now.procs (numbered (length actor.parts.now.procs) c.args.number)
-    = subst (λ (z : ℤ). None ≡ child_at actor.pid.0 actor.parts.now.procs (numbered (length actor.parts.now.procs) z)) (to_z-of_z w64 c.args.number c.ranges.number) c.in_default.ensures in
+    let none : None ≡ child_at actor.pid.0 actor.parts.now.procs (pid_of (length actor.parts.now.procs) c.args.number)
+    = subst (λ (z : ℤ). None ≡ child_at actor.pid.0 actor.parts.now.procs (pid_of (length actor.parts.now.procs) z)) (to_z-of_z w64 c.args.number c.ranges.number) c.in_default.ensures in
     IfOk-weaker c.plan_failure.result (λ planned. (objects : State → List Object) → Plans actor c.args.log.now c.plan_failure.new.log planned (effect_by actor (λ d. fails NoChild)) objects)
     (λ planned. Plans actor c.args.log.now c.plan_failure.new.log planned (effect_by actor (waitpid c.args.number c.args.nohang)) names)
     (λ planned plans. page_plans actor c.args.log.now c.plan_failure.new.log planned c.args.number c.args.nohang (fails NoChild) names

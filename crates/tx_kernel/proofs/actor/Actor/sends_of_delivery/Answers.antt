@@ -1,8 +1,9 @@
-use Rattle.std.proofs.Common.{◌≡◌, true, false, ◌∙◌, sym}
+use Rattle.std.proofs.Common.{◌≡◌, true, false, ◌∙◌, ap, sym}
 use Rattle.tx_change.specs.States.{state_of}
 use Rattle.tx_kernel.proofs.SentBy.{ending_sends, fatal_delivery, sends_same, silent_delivery, silent_sends}
-use Rattle.tx_kernel.specs.Actors.{inside_of, me_of}
-use Rattle.tx_model.specs.Deliveries.{delivered_value, delivery_effect, ends_by, killed_status, relieved}
+use Rattle.tx_kernel.specs.Actors.{caller_of, effect_by, inside_of, me_of}
+use Rattle.tx_model.specs.Deliveries.{delivered_value, delivery, ends_by, killed_status, without_delivered}
+use Rattle.tx_model.specs.Forms.{caller, effect_of}
 use Rattle.tx_model.specs.Processes.{ending}
 use Rattle.tx_kernel.proofs.actor.Actor.sends_of_delivery.Goals as goal
 
@@ -10,9 +11,9 @@ pub returns-then-not-is_ended_by : goal.returns-then-not-is_ended_by
 returns-then-not-is_ended_by c =
     let actor = c.args.self.now in
     let me = me_of actor in
-    let stays : ends_by (inside_of actor.inside) c.args.signo.0 me (delivered_value c.args.signo.0 me) ≡ false = sym c.is_ended_by.ensures ∙ c.if-not-is_ended_by.true in
-    silent_sends actor (λ S. delivery_effect (inside_of actor.inside) actor.pid.0 c.args.signo.0 me S)
-    (λ held. silent_delivery (inside_of actor.inside) actor.pid.0 c.args.signo.0 me (delivered_value c.args.signo.0 me) (state_of held actor.parts.now) stays)
+    let signo = c.args.signo.0 in
+    let stays : ends_by (inside_of actor.inside) signo me (delivered_value signo me) ≡ false = sym c.is_ended_by.ensures ∙ c.if-not-is_ended_by.true in
+    silent_sends actor (effect_by actor (delivery signo)) (λ held. silent_delivery (caller_of actor (state_of held actor.parts.now)) signo (delivered_value signo me) stays)
 
 pub returns : goal.returns
 returns c =
@@ -20,7 +21,7 @@ returns c =
     let me = me_of actor in
     let signo = c.args.signo.0 in
     let ends : ends_by (inside_of actor.inside) signo me (delivered_value signo me) ≡ true = sym c.is_ended_by.ensures ∙ c.if-not-is_ended_by.false in
-    sends_same actor c.tells_parent.result (λ S. ending (inside_of actor.inside) actor.pid.0 (killed_status signo) (relieved signo me) S)
-    (λ S. delivery_effect (inside_of actor.inside) actor.pid.0 signo me S)
-    (λ held counted. fatal_delivery (inside_of actor.inside) actor.pid.0 signo me (delivered_value signo me) (state_of held actor.parts.now) ends)
-    (ending_sends actor c.tells_parent.result (killed_status signo) (relieved signo me) c.tells_parent.ensures.at_once c.tells_parent.ensures.at_commit)
+    sends_same actor c.tells_parent.result (λ S. ending (killed_status signo) (caller (inside_of actor.inside) actor.pid.0 (without_delivered signo me) S))
+    (effect_by actor (delivery signo))
+    (λ held counted. sym (ap (effect_of actor.pid.0 me) (fatal_delivery (caller_of actor (state_of held actor.parts.now)) signo (delivered_value signo me) ends)))
+    (ending_sends actor c.tells_parent.result (killed_status signo) (without_delivered signo me) c.tells_parent.ensures.at_once c.tells_parent.ensures.at_commit)

@@ -6,7 +6,7 @@ use Rattle.tx_kernel.specs.Piped.{writing_outcome}
 use Rattle.tx_kernel.specs.declared.planned.Sends.TheVariants.{Nothing}
 use Rattle.tx_model.specs.Book.{write}
 use Rattle.tx_model.specs.Forms.{effect_of, fails}
-use Rattle.tx_model.specs.Numbers.{failing}
+use Rattle.tx_model.specs.Numbers.{error_answer}
 use Rattle.tx_kernel.proofs.actor.Actor.sends_of_write.Goals as goal
 
 pub returns-in-Ok : goal.returns-in-Ok
@@ -23,4 +23,4 @@ returns-in-Err c =
     sends_same actor Nothing (effect_by actor (λ d. fails c.in-Err.field-0)) (effect_by actor (write c.args.fd c.args.address c.args.count))
     (λ held counted. sym (ap (effect_of actor.pid.0 (me_of actor)) (simp (to_z-of_z w64 c.args.fd c.ranges.fd, to_z-of_z w64 c.args.address c.ranges.address, to_z-of_z w64 c.args.count c.ranges.count) at
     (c.in-Err.ensures.effect held))))
-    (done_sends actor (failing c.in-Err.field-0))
+    (done_sends actor (error_answer c.in-Err.field-0))

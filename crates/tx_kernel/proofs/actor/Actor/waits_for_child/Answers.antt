@@ -5,7 +5,7 @@ use Rattle.tx_kernel.proofs.Waited.{ended_is, found_child, no_child, running_is}
 use Rattle.tx_kernel.specs.Actors.{effect_by}
 use Rattle.tx_kernel.specs.Trees.{child_at}
 use Rattle.tx_model.specs.Book.{waitpid}
-use Rattle.tx_model.specs.Processes.{numbered}
+use Rattle.tx_model.specs.Processes.{pid_of}
 use Rattle.tx_kernel.proofs.actor.Actor.waits_for_child.Goals as goal
 
 pub returns-in_default : goal.returns-in_default
@@ -13,7 +13,7 @@ returns-in_default c =
     let actor = c.args.self.now in
     tells_made actor (effect_by actor (waitpid c.args.number c.args.nohang))
     (λ held counted. made_of actor _ (no_child actor c.args.number c.args.nohang held
-    (subst (λ (z : ℤ). None ≡ child_at actor.pid.0 actor.parts.now.procs (numbered (length actor.parts.now.procs) z)) (to_z-of_z w64 c.args.number c.ranges.number) c.in_default.ensures)) (λ rs. tt))
+    (subst (λ (z : ℤ). None ≡ child_at actor.pid.0 actor.parts.now.procs (pid_of (length actor.parts.now.procs) z)) (to_z-of_z w64 c.args.number c.ranges.number) c.in_default.ensures)) (λ rs. tt))
 
 pub returns-in-Some-status : goal.returns-in-Some-status
 returns-in-Some-status c =

@@ -1,6 +1,7 @@
 use Rattle.std.proofs.Common.{◌≡◌, ◌++◌, ◌∷◌, [], ℕ, List, length, map, ap, sym, ◌∙◌, arith, append_assoc, length-append}
 use Rattle.tx_lines.specs.Instructions as spec
-use Rattle.tx_lines.specs.Instructions.{joined, plain_word, words_of}
+use Rattle.tx_lines.specs.Instructions.{plain_word, words_of}
+use Rattle.tx_lines.specs.Words.{joined}
 use Rattle.tx_lines.specs.declared.instructions.Spelling.{Spelling}
 use Rattle.tx_lines.proofs.LineWords.{count_last, count_more, not_full, plain_short, split_length, words_split, words_whole}
 use Rattle.tx_lines.proofs.read.spellings.+put_arguments.Goals as goal

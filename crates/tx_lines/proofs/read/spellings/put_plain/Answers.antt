@@ -1,6 +1,7 @@
 use Rattle.std.proofs.Common.{◌≡◌, ◌+◌, ◌++◌, ◌∷◌, ℕ, suc, List, length, map, nat_le, ap, sym, ◌∙◌, refl, arith}
 use Rattle.tx_lines.specs.Instructions as spec
-use Rattle.tx_lines.specs.Instructions.{joined, plain_word, words_of}
+use Rattle.tx_lines.specs.Instructions.{plain_word, words_of}
+use Rattle.tx_lines.specs.Words.{joined}
 use Rattle.tx_lines.specs.declared.instructions.Spelling.{Spelling}
 use Rattle.tx_lines.proofs.LineWords.{split_length, words_split, words_whole}
 use Rattle.tx_lines.proofs.read.spellings.put_plain.Goals as goal

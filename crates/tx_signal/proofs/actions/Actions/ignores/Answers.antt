@@ -1,6 +1,6 @@
 use Rattle.std.proofs.Common.{ap, ◌∙◌}
 use Rattle.tx_base.specs.declared.signals.Action.{Action}
-use Rattle.tx_model.specs.Signals.{is_ignored}
+use Rattle.tx_model.specs.Words.{is_ignored}
 use Rattle.tx_signal.proofs.actions.Actions.ignores.Goals as goal
 
 pub returns : goal.returns

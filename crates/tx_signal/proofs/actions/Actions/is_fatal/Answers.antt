@@ -1,6 +1,6 @@
 use Rattle.std.proofs.Common.{ap, ◌∙◌}
 use Rattle.tx_base.specs.declared.signals.Action.{Action}
-use Rattle.tx_model.specs.Deliveries.{is_fatal}
+use Rattle.tx_model.specs.Words.{is_fatal}
 use Rattle.tx_signal.proofs.actions.Actions.is_fatal.Goals as goal
 
 pub returns : goal.returns

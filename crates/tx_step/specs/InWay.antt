@@ -8,7 +8,7 @@ use Rattle.tx_live.specs.Content.{now_of}
 use Rattle.tx_live.specs.declared.content.BoxedTxn.{BoxedTxn}
 use Rattle.tx_live.specs.declared.content.Content.{Content}
 use Rattle.tx_model.specs.Events.{Event, actor, objects}
-use Rattle.tx_model.specs.State.{Held, Process, Sending, has}
+use Rattle.tx_model.specs.State.{Held, Process, Sending, has_object}
 use Rattle.tx_proc.specs.Processes.{process_in}
 use Rattle.tx_reserve.specs.Reservations.{lesser_of}
 
@@ -20,7 +20,7 @@ starter_in (Some m) = Some m.starter.0
 -- the event is made by a member of the own transaction, if there is one, else by a member of none; what it holds is that one's
 pub record IsOfMember (k : Content) (own : Option ℕ) (event : Event) : Type 0 where
   pub member : own ≡ starter_in (slot_at k.marks (actor event))
-  pub holds : (s : ℕ) → has (Held s) (objects event (now_of k)) ≡ true → own ≡ Some s
+  pub holds : (s : ℕ) → has_object (Held s) (objects event (now_of k)) ≡ true → own ≡ Some s
 
 -- whether the transaction of s in this slot is another than the own one, and one of these sends to s is answered otherwise now than
 -- after its abort

@@ -9,16 +9,17 @@ use Rattle.tx_base.specs.declared.steps.Call.TheVariants.{SysXabort}
 use Rattle.tx_base.specs.declared.steps.Reply.{Reply}
 use Rattle.tx_base.specs.declared.steps.Step.{Step}
 use Rattle.tx_base.specs.declared.steps.Step.TheVariants.{Call as Calls, Deliver, KernelAbort}
-use Rattle.tx_model.specs.State.{Process, Object, Proc, Desc, Pipe, Held, has}
+use Rattle.tx_model.specs.State.{Process, Object, Proc, Desc, Pipe, Held, has_object}
 use Rattle.tx_model.specs.Numbers.{negative}
 use Rattle.tx_model.specs.Events.{Event, Do, Note, process_of, actor, effect, objects}
-use Rattle.tx_model.specs.Membership.{Table, is_of, is_member_of, is_live, inside_by, others_open, says_ended, Role, Outside, Within, Commits, Aborts, Kind, Ordinary, Forking, Beginning, Leaving, Aborting, kind_of, member_end_role, ordinary_role, called_by_status, kind_role, kind_event, event_in}
+use Rattle.tx_model.specs.Membership.{Table, is_of, is_member_of, is_live, inside_by, others_open, says_ended, Role, Outside, Within, Commits, Aborts, Kind, Ordinary, Forking, Beginning, Leaving, Aborting, kind_event, event_in}
+use Rattle.tx_model.specs.Words.{member_end_role, ordinary_role, kind_of, is_blocking, called_by_status, kind_role}
 use Rattle.tx_model.specs.History.{targets, event_footprint}
 use Rattle.tx_model.specs.Footprints.{call_row_at, footprint}
-use Rattle.tx_model.specs.View.{View, present, first_reply, role_on, event_on, meets, has_two_answers, blocks, in_way, least}
+use Rattle.tx_model.specs.View.{View, present, first_reply, role_on, event_on, some_object, has_two_answers, in_way, least}
 use Rattle.tx_model.specs.Answer.{is_running}
 use Rattle.tx_laws.specs.Fits.{HoldsFor}
-use Rattle.tx_laws.specs.Footprints.{is_abort, is_asked, is_in_way, HolderIsOfStep}
+use Rattle.tx_laws.specs.Footprints.{is_abort, is_asked, is_in_way, StarterInWayIsOfStep}
 use Rattle.tx_laws.specs.Sound.{IsSound}
 use Rattle.tx_laws.proofs.Coherence.{or_true, has_either, meets_not}
 use Rattle.tx_laws.proofs.HoldsInside.{holds_own}
@@ -28,22 +29,22 @@ use Rattle.tx_laws.proofs.StepFootprints.{footprint_of_event}
 use Rattle.tx_laws.proofs.Tables.{of_unique}
 
 -- a list that has of what passes all that another has meets it if the other does
-meets_more : (P : Object → Bool) (F G : List Object) → ((o : Object) → P o ≡ true → has o F ≡ true → has o G ≡ true) → meets F P ≡ true → meets G P ≡ true
-unfolding meets
+meets_more : (P : Object → Bool) (F G : List Object) → ((o : Object) → P o ≡ true → has_object o F ≡ true → has_object o G ≡ true) → some_object F P ≡ true → some_object G P ≡ true
+unfolding some_object
 meets_more P [] G f h = cc
-meets_more P (x ∷ xs) G f h = elim (or_true (P x) (meets xs P) h) [
-  | inl e ↦ met (meets G P) refl (f x e (has_head x xs)) e
+meets_more P (x ∷ xs) G f h = elim (or_true (P x) (some_object xs P) h) [
+  | inl e ↦ met (some_object G P) refl (f x e (has_head x xs)) e
   | inr e ↦ meets_more P xs G (λ o k l. f o k (has_tail o x xs l)) e
 ]
   where
-    met : (b : Bool) → meets G P ≡ b → has x G ≡ true → P x ≡ true → b ≡ true
+    met : (b : Bool) → some_object G P ≡ b → has_object x G ≡ true → P x ≡ true → b ≡ true
     met true e h k = refl
     met false e h k = absurd (meets_not G P x h k e)
 
 -- lists that have the same of what passes meet it alike
-meets_same : (P : Object → Bool) (F G : List Object) → ((o : Object) → P o ≡ true → has o F ≡ has o G) → meets F P ≡ meets G P
+meets_same : (P : Object → Bool) (F G : List Object) → ((o : Object) → P o ≡ true → has_object o F ≡ has_object o G) → some_object F P ≡ some_object G P
 meets_same P F G f =
-    same_tests (meets F P) (meets G P) (meets_more P F G (λ o k l. sym (f o k) ∙ l)) (meets_more P G F (λ o k l. f o k ∙ l))
+    same_tests (some_object F P) (some_object G P) (meets_more P F G (λ o k l. sym (f o k) ∙ l)) (meets_more P G F (λ o k l. f o k ∙ l))
 
 -- whatever a step is to the transactions, who makes its event is the same
 actor_same : (r : Role) (ev : Event) → actor (event_in r ev) ≡ actor ev
@@ -128,48 +129,48 @@ step_holds V (KernelAbort s) u h = absurd h
 -- the test of who is in the way, by a list that is met as the event's footprint is, and by a process that is a member where who makes it is
 module _ (V : View) (ev : Event) (s p : ℕ) (row : List Object) where
   way_same : is_member_of V.table s (actor ev) ≡ is_member_of V.table s p
-      → (is_member_of V.table s p ≡ false → meets (event_footprint V.table ev (present V)) (V.touched s) ≡ meets row (V.touched s))
-      → in_way V ev s ≡ (if is_live V.table s then (if is_member_of V.table s p then false else (if meets row (V.touched s) then true else has_two_answers V ev s)) else false)
+      → (is_member_of V.table s p ≡ false → some_object (event_footprint V.table ev (present V)) (V.reserved s) ≡ some_object row (V.reserved s))
+      → in_way V ev s ≡ (if is_live V.table s then (if is_member_of V.table s p then false else (if some_object row (V.reserved s) then true else has_two_answers V ev s)) else false)
   unfolding in_way
   way_same member met = by (is_live V.table s)
     where
-      there : (b : Bool) → is_member_of V.table s p ≡ b → blocks (not b) V ev s ≡ (if b then false else (if meets row (V.touched s) then true else has_two_answers V ev s))
+      there : (b : Bool) → is_member_of V.table s p ≡ b → is_blocking (not b) V ev s ≡ (if b then false else (if some_object row (V.reserved s) then true else has_two_answers V ev s))
       there true e = refl
       there false e = ap (λ (c : Bool). if c then true else has_two_answers V ev s) (met e)
 
-      by : (b : Bool) → blocks (if b then not (is_member_of V.table s (actor ev)) else false) V ev s
-          ≡ (if b then (if is_member_of V.table s p then false else (if meets row (V.touched s) then true else has_two_answers V ev s)) else false)
-      by true = ap (λ (c : Bool). blocks (not c) V ev s) member ∙ there (is_member_of V.table s p) refl
+      by : (b : Bool) → is_blocking (if b then not (is_member_of V.table s (actor ev)) else false) V ev s
+          ≡ (if b then (if is_member_of V.table s p then false else (if some_object row (V.reserved s) then true else has_two_answers V ev s)) else false)
+      by true = ap (λ (c : Bool). is_blocking (not c) V ev s) member ∙ there (is_member_of V.table s p) refl
       by false = refl
 
 -- a step that is no abort, and the transaction of s
 module _ (V : View) (sound : IsSound V) (step : Step) (runs : is_running ((present V).procs (process_of step)) ≡ true) (plain : is_abort (role_on V step) ≡ false) (s : ℕ) where
-  -- where its process is no member, the event names nothing held that the transaction touched
-  event_held : is_member_of V.table s (process_of step) ≡ false → (u : ℕ) → V.touched s (Held u) ≡ true → has (Held u) (event_footprint V.table (event_on V step) (present V)) ≡ true → ⊥
+  -- where its process is no member, the event names nothing held that the transaction reserved
+  event_held : is_member_of V.table s (process_of step) ≡ false → (u : ℕ) → V.reserved s (Held u) ≡ true → has_object (Held u) (event_footprint V.table (event_on V step) (present V)) ≡ true → ⊥
   unfolding event_footprint
-  event_held other u touched h =
+  event_held other u reserved h =
       let ev : Event = event_on V step in
       elim (has_either (Held u) (objects ev (present V)) (targets V.table (actor ev) (effect ev (present V)).sends) h) [
         | inl e ↦ both_ways (is_member_of V.table s (process_of step)) other
-            (subst (λ (x : ℕ). is_member_of V.table x (process_of step) ≡ true) (sym (sound.held_own s u touched)) (step_holds V step u (holds_own ev (present V) u e)))
-        | inr e ↦ both_ways (has (Held u) (targets V.table (actor ev) (effect ev (present V)).sends)) (targets_lack (Held u) (λ n. refl) V.table (actor ev) (effect ev (present V)).sends) e
+            (subst (λ (x : ℕ). is_member_of V.table x (process_of step) ≡ true) (sym (sound.held_own s u reserved)) (step_holds V step u (holds_own ev (present V) u e)))
+        | inr e ↦ both_ways (has_object (Held u) (targets V.table (actor ev) (effect ev (present V)).sends)) (targets_lack (Held u) (λ n. refl) V.table (actor ev) (effect ev (present V)).sends) e
       ]
 
-  -- of what the transaction touched, the event and the footprint name the same
-  named_same : is_member_of V.table s (process_of step) ≡ false → (o : Object) → V.touched s o ≡ true
-      → has o (event_footprint V.table (event_on V step) (present V)) ≡ has o (footprint V.table step (present V))
-  named_same other (Proc n) touched = sym (footprint_of_event V step (Proc n) runs plain refl)
-  named_same other (Desc n) touched = sym (footprint_of_event V step (Desc n) runs plain refl)
-  named_same other (Pipe n) touched = sym (footprint_of_event V step (Pipe n) runs plain refl)
-  named_same other (Held u) touched =
-      false_from_ne_true (has (Held u) (event_footprint V.table (event_on V step) (present V))) (event_held other u touched)
+  -- of what the transaction reserved, the event and the footprint name the same
+  named_same : is_member_of V.table s (process_of step) ≡ false → (o : Object) → V.reserved s o ≡ true
+      → has_object o (event_footprint V.table (event_on V step) (present V)) ≡ has_object o (footprint V.table step (present V))
+  named_same other (Proc n) reserved = sym (footprint_of_event V step (Proc n) runs plain refl)
+  named_same other (Desc n) reserved = sym (footprint_of_event V step (Desc n) runs plain refl)
+  named_same other (Pipe n) reserved = sym (footprint_of_event V step (Pipe n) runs plain refl)
+  named_same other (Held u) reserved =
+      false_from_ne_true (has_object (Held u) (event_footprint V.table (event_on V step) (present V))) (event_held other u reserved)
       ∙ sym (footprint_held V.table step (present V) u)
 
   -- it is in the way by the event where it is by the footprint
   plain_way : in_way V (event_on V step) s ≡ is_in_way V step s
   plain_way = way_same V (event_on V step) s (process_of step) (footprint V.table step (present V))
       (ap (λ (q : ℕ). is_member_of V.table s q) (step_actor V step plain))
-      (λ other. meets_same (V.touched s) (event_footprint V.table (event_on V step) (present V)) (footprint V.table step (present V)) (named_same other))
+      (λ other. meets_same (V.reserved s) (event_footprint V.table (event_on V step) (present V)) (footprint V.table step (present V)) (named_same other))
 
 -- an abort by a member, and the transaction of s
 module _ (V : View) (sound : IsSound V) (pid : Pid) (m : Mark) (marked : V.table.marks pid.0 ≡ Some m) (s : ℕ) where
@@ -196,15 +197,15 @@ module _ (V : View) (sound : IsSound V) (pid : Pid) (m : Mark) (marked : V.table
       (λ h. subst (λ (u : ℕ). is_member_of V.table u pid.0 ≡ true) (sym (of_unique s m.starter.0 (V.table.marks m.starter.0) h starter_lives)) mine)
       (λ h. subst (λ (u : ℕ). is_member_of V.table u m.starter.0 ≡ true) (sym (of_unique s m.starter.0 (V.table.marks pid.0) h mine)) starter_lives)
 
-  -- another transaction touched no member
-  untouched : (q : ℕ) → is_member_of V.table m.starter.0 q ≡ true → is_member_of V.table s q ≡ false → V.touched s (Proc q) ≡ false
-  untouched q member other = false_from_ne_true (V.touched s (Proc q)) (λ h.
+  -- another transaction reserved no member
+  unreserved : (q : ℕ) → is_member_of V.table m.starter.0 q ≡ true → is_member_of V.table s q ≡ false → V.reserved s (Proc q) ≡ false
+  unreserved q member other = false_from_ne_true (V.reserved s (Proc q)) (λ h.
       both_ways (is_member_of V.table s q) other
       (subst (λ (u : ℕ). is_member_of V.table u q ≡ true) (sym (sound.single s m.starter.0 (Proc q) h (sound.own_procs m.starter.0 q member))) member))
 
-  -- a process that was not touched is not met
-  meets_one : (q : ℕ) → V.touched s (Proc q) ≡ false → meets (Proc q ∷ []) (V.touched s) ≡ false
-  unfolding meets
+  -- a process that was not reserved is not met
+  meets_one : (q : ℕ) → V.reserved s (Proc q) ≡ false → some_object (Proc q ∷ []) (V.reserved s) ≡ false
+  unfolding some_object
   meets_one q h = rw h refl
 
   -- the call names its process alone
@@ -222,19 +223,19 @@ module _ (V : View) (sound : IsSound V) (pid : Pid) (m : Mark) (marked : V.table
   unfolding note event_footprint objects effect targets
   note_foot = refl
 
-  -- so neither is met by what another transaction touched
-  met_alike : is_member_of V.table s pid.0 ≡ false → meets (event_footprint V.table note (present V)) (V.touched s) ≡ meets (footprint V.table (Calls pid SysXabort) (present V)) (V.touched s)
+  -- so neither is met by what another transaction reserved
+  met_alike : is_member_of V.table s pid.0 ≡ false → some_object (event_footprint V.table note (present V)) (V.reserved s) ≡ some_object (footprint V.table (Calls pid SysXabort) (present V)) (V.reserved s)
   met_alike other =
-      ap (λ (os : List Object). meets os (V.touched s)) note_foot
-      ∙ meets_one m.starter.0 (untouched m.starter.0 starter_lives (member_same ∙ other))
-      ∙ sym (ap (λ (os : List Object). meets os (V.touched s)) foot_is ∙ meets_one pid.0 (untouched pid.0 mine other))
+      ap (λ (os : List Object). some_object os (V.reserved s)) note_foot
+      ∙ meets_one m.starter.0 (unreserved m.starter.0 starter_lives (member_same ∙ other))
+      ∙ sym (ap (λ (os : List Object). some_object os (V.reserved s)) foot_is ∙ meets_one pid.0 (unreserved pid.0 mine other))
 
   -- it is in the way by the note where it is by the footprint
   abort_way : in_way V (event_on V (Calls pid SysXabort)) s ≡ is_in_way V (Calls pid SysXabort) s
   unfolding note
   abort_way = way_same V (event_on V (Calls pid SysXabort)) s pid.0 (footprint V.table (Calls pid SysXabort) (present V))
       (ap (λ (ev : Event). is_member_of V.table s (actor ev)) event_is ∙ member_same)
-      (λ other. ap (λ (ev : Event). meets (event_footprint V.table ev (present V)) (V.touched s)) event_is ∙ met_alike other)
+      (λ other. ap (λ (ev : Event). some_object (event_footprint V.table ev (present V)) (V.reserved s)) event_is ∙ met_alike other)
 
 -- the call for an abort
 aborting_call : (c : Call) → kind_of c ≡ Aborting → c ≡ SysXabort
@@ -253,7 +254,7 @@ step_way V (Deliver pid signo) sound asked runs s true e =
     let no : Ordinary ≡ Aborting = a.0 in cc
 step_way V (KernelAbort u) sound asked runs s true e = cc
 
--- the holder is the least starter that is in the way of the step
-pub holder_of_step : HolderIsOfStep
-holder_of_step V step sound asked runs =
+-- the least starter that is in the way of the step
+pub starter_in_way_of_step : StarterInWayIsOfStep
+starter_in_way_of_step V step sound asked runs =
     ap (λ (P : ℕ → Bool). least P V.table.width) (λ i s. step_way V step sound asked runs s (is_abort (role_on V step)) refl i)

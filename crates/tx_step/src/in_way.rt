@@ -1,11 +1,11 @@
 //! Who is in the way of a step.
 ghost use Rattle.std.specs.Prelude.{◌≡◌, option_map};
 ghost use Rattle.tx_step.specs.Faces.{sent};
-ghost use Rattle.tx_step.specs.Holder.{IsOfMember, gives_two_answers, least_target, passing};
+ghost use Rattle.tx_step.specs.InWay.{IsOfMember, gives_two_answers, least_target, passing};
 ghost use Rattle.tx_live.specs.Content.{content_of, now_of, view_of};
 ghost use Rattle.tx_live.specs.Insides.{IsFootprint};
 ghost use Rattle.tx_model.specs.Events.{Event, effect};
-ghost use Rattle.tx_model.specs.View.{holder};
+ghost use Rattle.tx_model.specs.View.{starter_in_way};
 ghost use Rattle.tx_reserve.specs.Reservations.{lesser_of, number_of};
 ghost use Rattle.tx_txn.specs.Content.{IsKept};
 
@@ -23,7 +23,7 @@ use tx_txn::answers_of_faces;
 ///
 /// The step sends the first signal at once, and then what is held, where it commits; what it hands out
 /// itself comes last.
-pub fn find_holder(
+pub fn find_starter(
     content: &Content,
     own: Option<Pid>,
     footprint: &Objects,
@@ -32,7 +32,7 @@ pub fn find_holder(
 ) -> Option<Pid>
     requires { IsKept (content_of content.now) }
     ensures { (event : Event) → IsFootprint content.now event footprint.now → (effect event (now_of content.now)).sends ≡ sent first.now held.now →
-        IsOfMember content.now (option_map number_of own) event → option_map number_of result ≡ holder (view_of content.now) event }
+        IsOfMember content.now (option_map number_of own) event → option_map number_of result ≡ starter_in_way (view_of content.now) event }
 {
     answers_of_faces();
     let owner = content.owners.conflict(footprint, own);

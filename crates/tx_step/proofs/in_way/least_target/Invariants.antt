@@ -1,9 +1,9 @@
 use Rattle.std.proofs.Common.{◌≡◌, ◌++◌, drop, map, option_map}
 use Rattle.tx_step.specs.Faces.{sent, sent_at_commit}
-use Rattle.tx_step.specs.Holder.{gives_two_answers, least_target, least_with}
+use Rattle.tx_step.specs.InWay.{gives_two_answers, least_target, least_with}
 use Rattle.tx_kernel.specs.Plans.{sending_of}
 use Rattle.tx_reserve.specs.Reservations.{number_of}
-use Rattle.tx_step.proofs.holder.least_target.Given as goal
+use Rattle.tx_step.proofs.in_way.least_target.Given as goal
 
 abbrev pub invariant-loop-place : goal.invariant-loop-place
 invariant-loop-place l =

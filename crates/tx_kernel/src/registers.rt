@@ -1,11 +1,11 @@
-//! The calls on the script of their process, and the console.
+//! The calls on the registers of their process, and the console.
 ghost use Rattle.std.specs.Prelude.{◌≡◌, ◌≤◌, true, pos, IfOk, OnErr};
 ghost use Rattle.tx_base.specs.declared.steps.Reply.TheVariants as reply;
 ghost use Rattle.tx_kernel.specs.Actors.{effect_by};
 ghost use Rattle.tx_kernel.specs.Own.{PlansOwn};
 ghost use Rattle.tx_kernel.specs.Plans.{Extends};
-ghost use Rattle.tx_model.specs.Book.{console_write, jump, keep, does_jump};
-ghost use Rattle.tx_model.specs.Effects.{noted};
+ghost use Rattle.tx_model.specs.Book.{console_write, jump, keep, is_jump_taken};
+ghost use Rattle.tx_model.specs.Effects.{with_answer};
 ghost use Rattle.tx_model.specs.Forms.{stands};
 ghost use Rattle.tx_model.specs.Memory.{address_of, bytes_at, is_good, is_mapped};
 
@@ -92,7 +92,7 @@ impl Actor<'_> {
         requires good { is_good is_mapped self.now.proc.now.space address count ≡ true }
         ensures ok { IfOk result (λ outcome. PlansOwn self.now log.old log.new outcome
             (effect_by self.now (λ c. stands
-            (noted (pos count) c.process) (reply.Out (record { items = bytes_at c.process.memory (address_of address) count }))))) }
+            (with_answer (pos count) c.process) (reply.Out (record { items = bytes_at c.process.memory (address_of address) count }))))) }
         ensures err { OnErr result (Extends log.old log.new) }
     {
         let address = number_below(ADDRESSES, address).unwrap_or(0);
@@ -103,7 +103,7 @@ impl Actor<'_> {
 
 /// Whether a jump is made where this is the last answer.
 fn does_jump(when: When, ret: i64) -> bool
-    ensures { result ≡ does_jump when ret }
+    ensures { result ≡ is_jump_taken when ret }
 {
     match when {
         When::Always => true,
