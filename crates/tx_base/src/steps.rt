@@ -236,7 +236,7 @@ impl Call {
     /// Whether two calls are the same. The derived comparison says no less, but is not proved to of an
     /// enum as large as this.
     pub fn is_same(&self, other: &Call) -> bool
-        ensures { IsTrue result → self.now ≡ other.now }
+        ensures { IsTrue result ↔ (self.now ≡ other.now) }
     {
         match (self, other) {
             (Call::Map(a), Call::Map(b)) => a == b,
@@ -259,15 +259,6 @@ impl Call {
             (Call::SysXbeginDefer, Call::SysXbeginDefer) => true,
             (Call::SysXend, Call::SysXend) => true,
             (Call::SysXabort, Call::SysXabort) => true,
-            _ => self.is_same_of_more(other),
-        }
-    }
-
-    /// The same, of calls with more than one argument.
-    fn is_same_of_more(&self, other: &Call) -> bool
-        ensures { IsTrue result → self.now ≡ other.now }
-    {
-        match (self, other) {
             (Call::Protect(a, x), Call::Protect(b, y)) => a == b && x == y,
             (Call::Store(a, x), Call::Store(b, y)) => a == b && x == y,
             (Call::Waitpid(a, x), Call::Waitpid(b, y)) => a == b && x == y,

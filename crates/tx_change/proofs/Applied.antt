@@ -7,7 +7,7 @@ use Rattle.tx_change.specs.declared.change.Change.TheVariants.{Slot, Part, Descr
 use Rattle.tx_change.specs.declared.parts.Parts.{Parts}
 use Rattle.tx_change.specs.Exchange.{parts_after, change_after, Sizes, sizes_of, IsWithin, IsNamed, AreWithin, AreNamed, applied, exchanged, undone, reverted}
 use Rattle.tx_proc.specs.Parts.{part_in, HasPlace}
-use Rattle.tx_proc.specs.declared.part.Part.{Part as ProcPart}
+use Rattle.tx_proc.specs.declared.proc.Part.{Part as ProcPart}
 use Rattle.tx_proc.specs.declared.proc.Proc.{Proc}
 use Rattle.tx_proc.proofs.Twice.{place_of_part}
 

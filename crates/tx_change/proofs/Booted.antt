@@ -12,8 +12,8 @@ use Rattle.tx_base.proofs.SlotFacts.{slot_at-with_slot}
 use Rattle.tx_desc.specs.Descriptions.{described}
 use Rattle.tx_desc.specs.declared.opened.Opened.{Opened}
 use Rattle.tx_model.specs.State.{Process, Object, Proc as TheProc, Desc, Pipe as ThePipe, Held, boot_state, booted_process, is_between}
-use Rattle.tx_model.specs.StateLaws.{state_ext, AgreePart}
-use Rattle.tx_proc.specs.Processes.{process_of, process_in}
+use Rattle.tx_model.specs.StateLaws.{state_ext, EqualAt}
+use Rattle.tx_proc.specs.Parts.{process_of, process_in}
 use Rattle.tx_proc.specs.declared.proc.Proc.{Proc}
 
 between_next : (done n : ℕ) → (n == done + 1) ≡ false → is_between (done + 1) n ≡ is_between done n
@@ -90,7 +90,7 @@ pub booted_state : (parts : Parts) (width count : ℕ) → length parts.procs �
     parts.descs ≡ replicate 64 None → parts.pipes ≡ replicate 32 None → state_of (λ starter. []) parts ≡ boot_state width count
 booted_state parts width count sized procs descs pipes = state_ext (state_of (λ starter. []) parts) (boot_state width count) sized at
   where
-    at : (o : Object) → AgreePart (state_of (λ starter. []) parts) (boot_state width count) o
+    at : (o : Object) → EqualAt (state_of (λ starter. []) parts) (boot_state width count) o
     at (TheProc n) = procs n
     at (Desc n) = rw descs (ap described (no_opened 64 n))
     at (ThePipe n) = rw pipes (nothing_at 32 n)

@@ -20,10 +20,9 @@ use Rattle.tx_desc.specs.Counts.{Agrees, HasRoom, IsBacked, count_in, names_in, 
 use Rattle.tx_desc.specs.Places.{Descriptors, named_in}
 use Rattle.tx_desc.specs.declared.opened.Opened.{Opened}
 use Rattle.tx_model.specs.State.{Sending, State, boot_state, booted_process, is_between}
-use Rattle.tx_proc.specs.Parts.{edited_once}
-use Rattle.tx_proc.specs.Processes.{process_in}
-use Rattle.tx_proc.specs.declared.part.Part.{Part as ProcPart}
-use Rattle.tx_proc.specs.declared.part.Part.TheVariants.{Status, Descriptor}
+use Rattle.tx_proc.specs.Parts.{edited_once, process_in}
+use Rattle.tx_proc.specs.declared.proc.Part.{Part as ProcPart}
+use Rattle.tx_proc.specs.declared.proc.Part.TheVariants.{Status, Descriptor}
 use Rattle.tx_proc.specs.declared.proc.Proc.{Proc}
 
 -- the parts as a state, of which nothing is held

@@ -20,8 +20,8 @@ use Rattle.tx_desc.specs.Places.{Descriptors, number_in}
 use Rattle.tx_desc.specs.declared.opened.Opened.{Opened}
 use Rattle.tx_model.specs.State.{State, Proc as TheProc, Desc as TheDesc, same_object}
 use Rattle.tx_proc.specs.Parts.{edited_once}
-use Rattle.tx_proc.specs.declared.part.Part.{Part as ProcPart}
-use Rattle.tx_proc.specs.declared.part.Part.TheVariants.{Status, Descriptor}
+use Rattle.tx_proc.specs.declared.proc.Part.{Part as ProcPart}
+use Rattle.tx_proc.specs.declared.proc.Part.TheVariants.{Status, Descriptor}
 use Rattle.tx_proc.specs.declared.proc.Proc.{Proc}
 
 -- what counts of a process number decides the descriptors that count

@@ -14,7 +14,7 @@ use Rattle.tx_change.specs.declared.parts.Parts.{Parts}
 use Rattle.tx_change.specs.declared.pipes.PipePart.TheVariants.{Front, Back}
 use Rattle.tx_change.proofs.Stated.{other_object}
 use Rattle.tx_model.specs.State.{State, Process, Object, Proc, Desc, Pipe as ThePipe, Held, SetProc, write_one}
-use Rattle.tx_model.specs.StateLaws.{put_cases, put_here, state_ext, AgreePart}
+use Rattle.tx_model.specs.StateLaws.{put_cases, put_here, state_ext, EqualAt}
 
 pub exchanged-append : (parts : Parts) (front behind : List Change) → exchanged parts (front ++ behind) ≡ exchanged parts front ++ exchanged (applied parts front) behind
 exchanged-append parts [] behind = refl
@@ -32,19 +32,19 @@ pub named-append : (parts : Parts) (front behind : List Change) → AreNamed par
 named-append parts front behind f b = within-append _ front behind f b
 
 -- the same at an object, by way of another state
-agree_by : (S R T : State) (o : Object) → AgreePart S R o → AgreePart R T o → AgreePart S T o
+agree_by : (S R T : State) (o : Object) → EqualAt S R o → EqualAt R T o → EqualAt S T o
 agree_by S R T (Proc n) e f = e ∙ f
 agree_by S R T (Desc n) e f = e ∙ f
 agree_by S R T (ThePipe n) e f = e ∙ f
 agree_by S R T (Held n) e f = e ∙ f
 
-agree_same : (S : State) (o : Object) → AgreePart S S o
+agree_same : (S : State) (o : Object) → EqualAt S S o
 agree_same S (Proc n) = refl
 agree_same S (Desc n) = refl
 agree_same S (ThePipe n) = refl
 agree_same S (Held n) = refl
 
-pub list_names_its_objects : (changes : List Change) (S : State) (o : Object) → AreElsewhere o changes → AgreePart (changed_by changes S) S o
+pub list_names_its_objects : (changes : List Change) (S : State) (o : Object) → AreElsewhere o changes → EqualAt (changed_by changes S) S o
 list_names_its_objects [] S o apart = agree_same S o
 list_names_its_objects (change ∷ changes) S o apart =
     agree_by (changed_by changes (changed change S)) (changed change S) S o
@@ -58,7 +58,7 @@ write_again n x y S = state_ext (write_one (SetProc n y) (write_one (SetProc n x
     at true m = refl
     at false m = refl
 
-    same : (o : Object) → AgreePart (write_one (SetProc n y) (write_one (SetProc n x) S)) (write_one (SetProc n y) S) o
+    same : (o : Object) → EqualAt (write_one (SetProc n y) (write_one (SetProc n x) S)) (write_one (SetProc n y) S) o
     same (Proc m) = at (m == n) m
     same (Desc m) = refl
     same (ThePipe m) = refl
@@ -67,7 +67,7 @@ write_again n x y S = state_ext (write_one (SetProc n y) (write_one (SetProc n x
 write_same : (n : ℕ) (S : State) → S ≡ write_one (SetProc n (S.procs n)) S
 write_same n S = state_ext S (write_one (SetProc n (S.procs n)) S) refl same
   where
-    same : (o : Object) → AgreePart S (write_one (SetProc n (S.procs n)) S) o
+    same : (o : Object) → EqualAt S (write_one (SetProc n (S.procs n)) S) o
     same (Proc m) = elim (put_cases S.procs n (S.procs n) m) [ inl e ↦ ap S.procs e.0 ∙ sym e.1 | inr e ↦ sym e.1 ]
     same (Desc m) = refl
     same (ThePipe m) = refl

@@ -20,8 +20,8 @@ use Rattle.tx_desc.specs.declared.opened.Opened.{Opened}
 use Rattle.tx_desc.specs.declared.plans.NewName.{NewName}
 use Rattle.tx_desc.specs.declared.plans.NewDesc.{NewDesc}
 use Rattle.tx_proc.specs.Parts.{edited_once}
-use Rattle.tx_proc.specs.declared.part.Part.{Part as ProcPart}
-use Rattle.tx_proc.specs.declared.part.Part.TheVariants.{Status, Descriptor}
+use Rattle.tx_proc.specs.declared.proc.Part.{Part as ProcPart}
+use Rattle.tx_proc.specs.declared.proc.Part.TheVariants.{Status, Descriptor}
 use Rattle.tx_proc.specs.declared.proc.Proc.{Proc}
 
 -- what a number has, and the descriptions

@@ -11,7 +11,7 @@ use Rattle.tx_change.proofs.Applied.{still_sized, sizes-undone}
 use Rattle.tx_change.proofs.Twice.{back, twice}
 use Rattle.tx_change.proofs.Own.{once_sized}
 use Rattle.tx_proc.specs.Parts.{edited_once}
-use Rattle.tx_proc.specs.declared.part.Part.{Part as ThePart}
+use Rattle.tx_proc.specs.declared.proc.Part.{Part as ThePart}
 use Rattle.tx_proc.specs.declared.proc.Proc.{Proc}
 
 -- a number's process is another one, which has its places
@@ -35,10 +35,10 @@ once_placed parts (Part pid part) named brings places =
 once_placed parts (Description number opened) named brings places = places
 once_placed parts (Pipe number part) named brings places = places
 
-pub places_kept : (parts : Parts) (changes : List Change) → AreNamed parts changes → BringPlaces changes → HaveAllPlaces parts → HaveAllPlaces (applied parts changes)
-places_kept parts [] named brings places = places
-places_kept parts (change ∷ changes) named brings places =
-    places_kept (parts_after parts change) changes
+pub places_stay : (parts : Parts) (changes : List Change) → AreNamed parts changes → BringPlaces changes → HaveAllPlaces parts → HaveAllPlaces (applied parts changes)
+places_stay parts [] named brings places = places
+places_stay parts (change ∷ changes) named brings places =
+    places_stay (parts_after parts change) changes
     (subst (λ (sizes : Sizes). AreWithin sizes changes) (sym (still_sized parts change)) named.1)
     brings.1 (once_placed parts change named.0 brings.0 places)
 

@@ -14,9 +14,9 @@ use Rattle.tx_change.specs.declared.parts.Parts.{Parts}
 use Rattle.tx_desc.specs.Descriptions.{described, description_at}
 use Rattle.tx_desc.specs.declared.opened.Opened.{Opened}
 use Rattle.tx_model.specs.State.{Process, State, Sending, Object, Proc as TheProc, Desc, Pipe as ThePipe, Held, same_object}
-use Rattle.tx_model.specs.StateLaws.{state_ext, AgreePart}
+use Rattle.tx_model.specs.StateLaws.{state_ext, EqualAt}
 use Rattle.tx_proc.proofs.Revised.{revised_in}
-use Rattle.tx_proc.specs.Processes.{process_in}
+use Rattle.tx_proc.specs.Parts.{process_in}
 use Rattle.tx_proc.specs.declared.proc.Proc.{Proc}
 
 process_if : (b : Bool) (slot other : Option Proc) → process_in (if b then slot else other) ≡ (if b then process_in slot else process_in other)
@@ -49,7 +49,7 @@ descs_with : (descs : List (Option Opened)) (k : ℕ) (opened : Option Opened) (
 descs_with descs k opened n there = ap described (number_with descs k opened n there) ∙ described_if (n == k) opened (slice_index_or descs n None)
 
 part_of_state : (held : ℕ → List Sending) (parts : Parts) (change : Change) → IsNamed parts change → (o : Object) →
-    AgreePart (state_of held (parts_after parts change)) (changed change (state_of held parts)) o
+    EqualAt (state_of held (parts_after parts change)) (changed change (state_of held parts)) o
 part_of_state held parts (Slot pid slot) named (TheProc n) = procs_with parts.procs pid.0 slot n named.low named.high
 part_of_state held parts (Slot pid slot) named (Desc n) = refl
 part_of_state held parts (Slot pid slot) named (ThePipe n) = refl
@@ -87,7 +87,7 @@ changes_state_in_turn held parts (change ∷ changes) named =
     changes_state_in_turn held (parts_after parts change) changes (AreNamed-sized parts (parts_after parts change) changes (still_sized parts change) named.1)
     ∙ ap (changed_by changes) (changes_state held parts change named.0)
 
-pub other_object : (change : Change) (S : State) (o : Object) → same_object o (object_of change) ≡ false → AgreePart (changed change S) S o
+pub other_object : (change : Change) (S : State) (o : Object) → same_object o (object_of change) ≡ false → EqualAt (changed change S) S o
 other_object (Slot pid slot) S (TheProc n) apart = rw apart refl
 other_object (Slot pid slot) S (Desc n) apart = refl
 other_object (Slot pid slot) S (ThePipe n) apart = refl
@@ -106,6 +106,6 @@ other_object (Pipe number part) S (ThePipe n) apart = rw apart refl
 other_object (Pipe number part) S (Held n) apart = refl
 
 pub names_its_object : (held : ℕ → List Sending) (parts : Parts) (change : Change) → IsNamed parts change → (o : Object) → same_object o (object_of change) ≡ false →
-    AgreePart (state_of held (parts_after parts change)) (state_of held parts) o
+    EqualAt (state_of held (parts_after parts change)) (state_of held parts) o
 names_its_object held parts change named o apart =
     rw (changes_state held parts change named) (other_object change (state_of held parts) o apart)

@@ -14,9 +14,8 @@ use Rattle.tx_change.specs.declared.change.Change.TheVariants.{Slot, Part as Par
 use Rattle.tx_change.specs.declared.parts.Parts.{Parts}
 use Rattle.tx_change.specs.declared.pipes.PipePart.{PipePart}
 use Rattle.tx_proc.proofs.Twice.{edited_twice, part_twice, nothing_else, commute}
-use Rattle.tx_proc.specs.Laws.{is_same_part}
-use Rattle.tx_proc.specs.Parts.{edited_once, part_in, HasPlace}
-use Rattle.tx_proc.specs.declared.part.Part.{Part}
+use Rattle.tx_proc.specs.Parts.{is_same_part, edited_once, part_in, HasPlace}
+use Rattle.tx_proc.specs.declared.proc.Part.{Part}
 use Rattle.tx_proc.specs.declared.proc.Proc.{Proc}
 
 -- a process number's slot after an exchange of a part

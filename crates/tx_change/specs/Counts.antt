@@ -16,7 +16,7 @@ use Rattle.tx_desc.specs.declared.plans.NewDesc.{NewDesc}
 use Rattle.tx_desc.specs.declared.opened.Opened.{Opened}
 use Rattle.tx_model.specs.State.{Sending, State}
 use Rattle.tx_proc.specs.Parts.{edited_once}
-use Rattle.tx_proc.specs.declared.part.Part.TheVariants.{Status, Descriptor}
+use Rattle.tx_proc.specs.declared.proc.Part.TheVariants.{Status, Descriptor}
 use Rattle.tx_proc.specs.declared.proc.Proc.{Proc}
 
 -- the descriptors of the processes that run, of numbers below n

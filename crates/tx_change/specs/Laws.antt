@@ -11,9 +11,9 @@ use Rattle.tx_change.specs.Own.{AreOf}
 use Rattle.tx_change.specs.Pipes.{piped_in}
 use Rattle.tx_change.specs.declared.pipes.PipePart.TheVariants.{Front, Back}
 use Rattle.tx_model.specs.State.{Object, Process, State, Sending, same_object, SetProc, write_one}
-use Rattle.tx_model.specs.StateLaws.{AgreePart}
-use Rattle.tx_proc.specs.Laws.{is_same_part, IsSized}
-use Rattle.tx_proc.specs.Processes.{revised}
+use Rattle.tx_model.specs.StateLaws.{EqualAt}
+use Rattle.tx_proc.specs.Laws.{IsSized}
+use Rattle.tx_proc.specs.Parts.{is_same_part, revised}
 use Rattle.tx_proc.specs.declared.proc.Proc.{Proc}
 
 -- a process that is there has a place for each number
@@ -89,7 +89,7 @@ ChangesStateInTurn = (held : ℕ → List Sending) (parts : Parts) (changes : Li
 -- of that state, it leaves all as it was but the object that the change names
 abbrev pub NamesItsObject : Type 0
 NamesItsObject = (held : ℕ → List Sending) (parts : Parts) (change : Change) → IsNamed parts change → (o : Object) → same_object o (object_of change) ≡ false →
-    AgreePart (state_of held (parts_after parts change)) (state_of held parts) o
+    EqualAt (state_of held (parts_after parts change)) (state_of held parts) o
 
 -- what one list of changes and another one behind it do, the one does and then the other
 abbrev pub AppliedAppended : Type 0
@@ -124,7 +124,7 @@ AreElsewhere o (change ∷ changes) = (same_object o (object_of change) ≡ fals
 
 -- a list of changes leaves the state as it was at each object that none of them names
 abbrev pub ListNamesItsObjects : Type 0
-ListNamesItsObjects = (changes : List Change) (S : State) (o : Object) → AreElsewhere o changes → AgreePart (changed_by changes S) S o
+ListNamesItsObjects = (changes : List Change) (S : State) (o : Object) → AreElsewhere o changes → EqualAt (changed_by changes S) S o
 
 -- a process with each part replaced that the changes have, the first one first
 abbrev pub revised_once : Change → Process → Process
@@ -149,8 +149,8 @@ abbrev pub BackIsWrite : Type 0
 BackIsWrite = (held bytes : List ℕ) → length held + length bytes ≤ PIPE_BYTES → piped_in (Some held) (Back 0 bytes) ≡ Some (held ++ bytes)
 
 -- where each process has its places, and each one that comes, each has them after the changes
-abbrev pub PlacesKept : Type 0
-PlacesKept = (parts : Parts) (changes : List Change) → AreNamed parts changes → BringPlaces changes → HaveAllPlaces parts → HaveAllPlaces (applied parts changes)
+abbrev pub PlacesStay : Type 0
+PlacesStay = (parts : Parts) (changes : List Change) → AreNamed parts changes → BringPlaces changes → HaveAllPlaces parts → HaveAllPlaces (applied parts changes)
 
 -- what is taken out of the parts has its places where the parts have, and what was put in
 abbrev pub ExchangedBring : Type 0
@@ -162,8 +162,8 @@ ChangesComeBack = (parts : Parts) (changes : List Change) → AreNamed parts cha
     exchanged (undone parts changes) (reverted parts changes) ≡ changes
 
 -- changes that are taken back leave each process its places too
-abbrev pub PlacesKeptBack : Type 0
-PlacesKeptBack = (parts : Parts) (changes : List Change) → AreNamed parts changes → BringPlaces changes → HaveAllPlaces parts → HaveAllPlaces (undone parts changes)
+abbrev pub PlacesStayBack : Type 0
+PlacesStayBack = (parts : Parts) (changes : List Change) → AreNamed parts changes → BringPlaces changes → HaveAllPlaces parts → HaveAllPlaces (undone parts changes)
 
 -- changes leave as many numbers as there were
 abbrev pub SizesStay : Type 0

@@ -8,7 +8,7 @@ use Rattle.tx_change.specs.declared.change.Change.TheVariants.{Slot, Part, Descr
 use Rattle.tx_change.specs.declared.parts.Parts.{Parts}
 use Rattle.tx_desc.specs.Descriptions.{described, description_at}
 use Rattle.tx_model.specs.State.{State, Sending, SetProc, SetDesc, SetPipe, write_one}
-use Rattle.tx_proc.specs.Processes.{process_in, revised}
+use Rattle.tx_proc.specs.Parts.{process_in, revised}
 
 -- the state that the parts mean, where the live transactions hold these sends
 abbrev pub state_of : (ℕ → List Sending) → Parts → State

@@ -1,7 +1,7 @@
 //! The laws of exchanges, as the contracts of functions that do nothing.
 ghost use Rattle.tx_change.specs.Counts.{CountsKept, CountsForked, CountsEnded, CountsRemoved, CountsElsewhere, CountsNameless, SlotInTurn, DescsInTurn, CountsInTurn, PlansAreNamed, PlansInTurn, CountsPlanned, CountsReplaced, RoomForNames, RoomForName, CountsWithOthers};
 ghost use Rattle.tx_change.specs.CountsBack.{BackElsewhere, CountsLedBack, CountsOfNames};
-ghost use Rattle.tx_change.specs.Laws.{AppliedAppended, ApplyThenRevert, BackIsWrite, ChangedAppended, ChangesComeBack, ChangesState, ChangesStateInTurn, Commute, ExchangedAppended, ExchangedBring, ExchangedStayNamed, ExchangesBack, FrontIsRead, ListNamesItsObjects, NamedAppended, NamesItsObject, NothingElse, PartsReplaceProcess, PlacesKept, PlacesKeptBack, RevertThenApply, RevertedAppended, RevertedStayNamed, SizesStay, SizesStayBack, TwiceIsNothing, UndoneAppended};
+ghost use Rattle.tx_change.specs.Laws.{AppliedAppended, ApplyThenRevert, BackIsWrite, ChangedAppended, ChangesComeBack, ChangesState, ChangesStateInTurn, Commute, ExchangedAppended, ExchangedBring, ExchangedStayNamed, ExchangesBack, FrontIsRead, ListNamesItsObjects, NamedAppended, NamesItsObject, NothingElse, PartsReplaceProcess, PlacesStay, PlacesStayBack, RevertThenApply, RevertedAppended, RevertedStayNamed, SizesStay, SizesStayBack, TwiceIsNothing, UndoneAppended};
 
 /// Two exchanges of one part are nothing: the parts and the change come back.
 pub fn twice_is_nothing()
@@ -117,9 +117,9 @@ pub fn bytes_are_read_and_written()
 
 /// Changes leave each process a place for each number, where each process that comes has them; so do
 /// they where they are taken back, and a process that they take out has them.
-pub fn places_kept()
-    ensures forth { PlacesKept }
-    ensures back { PlacesKeptBack }
+pub fn places_stay()
+    ensures forth { PlacesStay }
+    ensures back { PlacesStayBack }
     ensures taken { ExchangedBring }
 {}
 

@@ -9,14 +9,14 @@ use Rattle.tx_core.specs.Laws.{MachineLaws}
 use Rattle.tx_desc.specs.Descriptions.{described}
 use Rattle.tx_desc.specs.declared.opened.Opened.{Opened}
 use Rattle.tx_step.specs.Contents.{IsContent}
-use Rattle.tx_laws.specs.TwoParts.{is_owner, parts_view}
+use Rattle.tx_laws.specs.TwoStates.{is_owner, states_view}
 use Rattle.tx_live.specs.Content.{owner_at, view_of}
 use Rattle.tx_live.specs.declared.content.Content.{Content}
 use Rattle.tx_model.specs.FreeNumbers.{is_reserved_from}
 use Rattle.tx_model.specs.Membership.{is_live, is_member_of}
 use Rattle.tx_model.specs.State.{State, is_between}
 use Rattle.tx_model.specs.View.{present}
-use Rattle.tx_proc.specs.Processes.{process_in}
+use Rattle.tx_proc.specs.Parts.{process_in}
 use Rattle.tx_proc.specs.declared.proc.Proc.{Proc as TheProc}
 use Rattle.tx_reserve.specs.Objects.{object_of}
 use Rattle.tx_reserve.specs.Reservations.{owner_of}
@@ -57,7 +57,7 @@ module _ (k : Content) (is : IsContent k) (p : ℕ) (object : TheObject) where
 
   -- whether s reserved the object, its owner says
   reserved_by : (s : ℕ) (owner : Option ℕ) → owner ≡ owner_of k.owners (object_of object) → (view_of k).reserved s (object_of object) ≡ is_owner s owner
-  unfolding view_of parts_view
+  unfolding view_of states_view
   reserved_by s owner own = ap (is_owner s) (owner_kept k object ∙ sym own)
 
   -- what nobody owns is reserved by nobody

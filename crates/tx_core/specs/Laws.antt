@@ -1,7 +1,7 @@
 -- The laws that the machine stands on.
 use Rattle.tx_step.specs.Contents.{BootedIsContent}
 use Rattle.tx_laws.specs.Laws.{LawfulViewIsNext}
-use Rattle.tx_laws.specs.LawsOfParts.{PresentIsNow}
+use Rattle.tx_laws.specs.LawsOfTwoStates.{PresentIsNow}
 
 -- its view is that of its history; its parts have that view; and it boots as steps leave it
 pub record MachineLaws : Type 0 where

@@ -14,10 +14,10 @@ pub record IsAfter (start : State) (history : List Accepted) (machine : Content)
   pub lawful : Lawful start history
   pub view : view_of machine ≡ view start history
 
--- the steps that were taken of a schedule: all of them, or those before the one where the run stopped
-abbrev pub taken : Option ℕ → List Step → List Step
-taken None steps = steps
-taken (Some stopped) steps = take stopped steps
+-- the steps that were made of a schedule: all of them, or those before the one where the run stopped
+abbrev pub steps_made : Option ℕ → List Step → List Step
+steps_made None steps = steps
+steps_made (Some stopped) steps = take stopped steps
 
 -- the entries, the oldest first, are the history of the steps from a start state; it is lawful, and the machine has its view
 pub record RunsFrom (start : State) (steps : List Step) (machine : Content) (entries : List Accepted) : Type 0 where

@@ -1,7 +1,7 @@
 //! The laws that the machine stands on.
 ghost use Rattle.tx_core.specs.Laws.{MachineLaws};
 
-use tx_laws::{answers_of_parts, next_view};
+use tx_laws::{answers_of_states, next_view};
 use tx_step::{booted_is_content, contents_are_whole};
 
 /// The laws on which the proofs of the machine stand. It does nothing.
@@ -10,6 +10,6 @@ pub(crate) fn laws()
 {
     contents_are_whole();
     next_view();
-    answers_of_parts();
+    answers_of_states();
     booted_is_content();
 }

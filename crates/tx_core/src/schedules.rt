@@ -2,7 +2,7 @@
 ghost use Rattle.std.specs.Prelude.{◌≡◌, ◌<◌, ◌≤◌, ◌++◌, ◌∷◌, [], List, IfOk, IfSome, OnOk, OnErr, length, reverse};
 ghost use Rattle.tx_base.specs.declared.steps.Accepted.{Accepted as TheAccepted};
 ghost use Rattle.tx_base.specs.declared.steps.Step.{Step as TheStep};
-ghost use Rattle.tx_core.specs.Runs.{RunsFrom, taken};
+ghost use Rattle.tx_core.specs.Runs.{RunsFrom, steps_made};
 ghost use Rattle.tx_live.specs.Content.{view_of};
 ghost use Rattle.tx_model.specs.Answer.{Lawful, Agreement};
 ghost use Rattle.tx_model.specs.Schedules.{history_of};
@@ -24,19 +24,19 @@ pub struct Ran {
     pub history: Vec<Accepted>,
 }
 
-/// A run that is kept up to the step that wanted memory.
+/// A run up to the step that wanted memory.
 #[derive(Drop)]
-pub struct KeptRun {
-    /// The run of the steps that were taken: those before the one where it stopped, or all.
+pub struct PartialRun {
+    /// The run of the steps that were made: those before the one where it stopped, or all.
     pub ran: Ran,
-    /// The number of the step where it stopped, counted from 0. None where all were taken.
+    /// The number of the step where it stopped, counted from 0. None where all were made.
     pub stopped: Option<usize>,
 }
 
 /// Runs a schedule on a machine of 64 process numbers, of which the first few run.
 ///
 /// Answers `NoMemory` where a step answers so, or where its place in the history is refused. The run
-/// is then let go: `run_kept` keeps it.
+/// is then let go: `run_partial` keeps it.
 pub fn run(alloc: Global, count: u16, steps: &[Step]) -> Result<Ran, NoMemory>
     requires low { 1 ≤ count }
     requires high { count ≤ 64 }
@@ -75,15 +75,15 @@ pub fn run_wide(alloc: Global, count: u16, steps: &[Step]) -> Result<Ran, NoMemo
 /// in the history was refused. That step changed nothing, and `ran` is the run of the steps before it.
 ///
 /// Answers `NoMemory` only where the machine is refused, before the first step.
-pub fn run_kept(alloc: Global, count: u16, steps: &[Step]) -> Result<KeptRun, NoMemory>
+pub fn run_partial(alloc: Global, count: u16, steps: &[Step]) -> Result<PartialRun, NoMemory>
     requires low { 1 ≤ count }
     requires high { count ≤ 64 }
-    ensures history { IfOk result (λ kept. reverse kept.ran.history.items ≡ history_of (boot_state 64 count) [] (taken kept.stopped steps.now)) }
-    ensures lawful { IfOk result (λ kept. Lawful (boot_state 64 count) (reverse kept.ran.history.items)) }
-    ensures view { IfOk result (λ kept. view_of kept.ran.machine ≡ view (boot_state 64 count) (reverse kept.ran.history.items)) }
-    ensures agreement { IfOk result (λ kept. (later earlier : List TheAccepted) → reverse kept.ran.history.items ≡ later ++ earlier → Agreement (boot_state 64 count) earlier) }
-    ensures moments { IfOk result (λ kept. HasMoments (boot_state 64 count) (reverse kept.ran.history.items)) }
-    ensures stopped { IfOk result (λ kept. IfSome kept.stopped (λ number. number < length steps.now)) }
+    ensures history { IfOk result (λ partial. reverse partial.ran.history.items ≡ history_of (boot_state 64 count) [] (steps_made partial.stopped steps.now)) }
+    ensures lawful { IfOk result (λ partial. Lawful (boot_state 64 count) (reverse partial.ran.history.items)) }
+    ensures view { IfOk result (λ partial. view_of partial.ran.machine ≡ view (boot_state 64 count) (reverse partial.ran.history.items)) }
+    ensures agreement { IfOk result (λ partial. (later earlier : List TheAccepted) → reverse partial.ran.history.items ≡ later ++ earlier → Agreement (boot_state 64 count) earlier) }
+    ensures moments { IfOk result (λ partial. HasMoments (boot_state 64 count) (reverse partial.ran.history.items)) }
+    ensures stopped { IfOk result (λ partial. IfSome partial.stopped (λ number. number < length steps.now)) }
 {
     // The laws that the agreement and the moments stand on.
     erasure();
@@ -95,30 +95,30 @@ pub fn run_kept(alloc: Global, count: u16, steps: &[Step]) -> Result<KeptRun, No
 fn run_whole(alloc: Global, machine: Machine, steps: &[Step]) -> Result<Ran, NoMemory>
     ensures { IfOk result (λ ran. (start : State) → view_of machine ≡ view start [] → RunsFrom start steps.now ran.machine ran.history.items) }
 {
-    let kept = run_on(alloc, machine, steps);
-    match kept.stopped {
-        None => Ok(kept.ran),
+    let partial = run_on(alloc, machine, steps);
+    match partial.stopped {
+        None => Ok(partial.ran),
         Some(_) => Err(NoMemory),
     }
 }
 
 /// Runs a schedule on a booted machine, up to the step that wants memory.
-fn run_on(alloc: Global, mut machine: Machine, steps: &[Step]) -> KeptRun
-    ensures run { (start : State) → view_of machine ≡ view start [] → RunsFrom start (taken result.stopped steps.now) result.ran.machine result.ran.history.items }
+fn run_on(alloc: Global, mut machine: Machine, steps: &[Step]) -> PartialRun
+    ensures run { (start : State) → view_of machine ≡ view start [] → RunsFrom start (steps_made result.stopped steps.now) result.ran.machine result.ran.history.items }
     ensures stopped { IfSome result.stopped (λ number. number < length steps.now) }
 {
     let mut history = Vec::new(alloc);
     for (i, step) in steps.iter().enumerate() {
         if run_step(alloc, &mut machine, &mut history, step).is_err() {
             let ran = Ran { machine, history };
-            return KeptRun {
+            return PartialRun {
                 ran,
                 stopped: Some(i),
             };
         }
     }
     let ran = Ran { machine, history };
-    KeptRun { ran, stopped: None }
+    PartialRun { ran, stopped: None }
 }
 
 /// Makes one more step of a schedule, and records it where it was accepted. Its place in the history

@@ -1,4 +1,10 @@
 //! The text of a state tells the state, as the contract of a function that does nothing.
+//!
+//! No code, but a law of texts: where two states have one text they are the same, but for what the
+//! law names as printed nowhere. So a new field that no line prints breaks a proof. Each line is
+//! known by its first word and its number; an absent line is told by the line that comes in its
+//! place. What is said of a list of lines, one for each number, is one lemma (`Numbered`), used for
+//! processes, pages, descriptors, actions, descriptions, pipes and transactions.
 #![tactic(auto)]
 
 ghost use Rattle.tx_faithful.specs.Told.{HistoriesAreOfKernel, RestingAreSame, TextsTellStates};

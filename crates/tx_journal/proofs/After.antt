@@ -11,7 +11,7 @@ use Rattle.tx_journal.proofs.Lives.{LessBut, among, counted, no_more}
 use Rattle.tx_journal.specs.Lives.{has_place, lives, lives_to, one_if, starter_by, starter_of}
 use Rattle.tx_laws.specs.Fits.{Fits}
 use Rattle.tx_laws.specs.Sound.{IsSound}
-use Rattle.tx_laws.specs.TwoParts.{parts_view}
+use Rattle.tx_laws.specs.TwoStates.{states_view}
 use Rattle.tx_live.specs.Content.{view_of}
 use Rattle.tx_live.specs.declared.content.Content.{Content}
 use Rattle.tx_model.specs.Events.{process_of}
@@ -174,7 +174,7 @@ aborts_is V (KernelAbort s) is = kernel_ends V s
 
 -- a member's sys_xabort has its place
 pub xabort_place : (k : Content) (step : Step) → IsXabort k step → has_place (view_of k).table step ≡ true
-unfolding view_of parts_view
+unfolding view_of states_view
 xabort_place k step (pid, same, some) = subst (λ (x : Step). has_place (view_of k).table x ≡ true) (sym same) some
 
 -- and so it is not refused

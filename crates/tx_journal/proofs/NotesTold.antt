@@ -11,7 +11,7 @@ use Rattle.tx_model.specs.View.{event_on, present, role_on}
 use Rattle.tx_journal.specs.RetraceLaws.{RetraceLaws}
 use Rattle.tx_journal.specs.Notes.{noted, noted_by, IsNoteOn}
 use Rattle.tx_journal.specs.declared.notes.Note.{Note}
-use Rattle.tx_txn.specs.Content.{two_parts_of}
+use Rattle.tx_txn.specs.Content.{two_states_of}
 
 pub and_false : (b : Bool) → (b && false) ≡ false
 and_false true = refl
@@ -26,7 +26,7 @@ abort_noted s status r S = ap (λ (b : Bool). record { starter = Some s; begins 
 -- the view has the state of the parts
 pub now_seen : (laws : RetraceLaws) (k : Content) → present (view_of k) ≡ now_of k
 unfolding view_of
-now_seen laws k = laws.present (two_parts_of (content_of k))
+now_seen laws k = laws.present (two_states_of (content_of k))
 
 -- the note of a step on the view, by its role and its posts
 pub note_on : (laws : RetraceLaws) (k : Content) (step : Step) (note : Note) (role : Role) (looks : Bool) (ms : List Sending) →

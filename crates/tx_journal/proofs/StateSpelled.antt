@@ -6,7 +6,7 @@ use Rattle.tx_live.specs.declared.content.Content.{Content}
 use Rattle.tx_change.specs.States.{state_of}
 use Rattle.tx_live.specs.Content.{held_of, view_of}
 use Rattle.tx_model.specs.State.{State}
-use Rattle.tx_laws.specs.TwoParts.{parts_view}
+use Rattle.tx_laws.specs.TwoStates.{states_view}
 use Rattle.tx_model.specs.View.{present}
 use Rattle.tx_text.specs.Descriptors.{descs_text, pipes_text}
 use Rattle.tx_text.specs.State.{state_text}
@@ -14,7 +14,7 @@ use Rattle.tx_text.specs.Processes.{procs_text}
 use Rattle.tx_text.specs.Txns.{txns_text}
 
 marks_are : (k : Content) → slot_at k.marks ≡ (view_of k).table.marks
-unfolding view_of parts_view
+unfolding view_of states_view
 marks_are k = refl
 
 pub state_spelled : (k : Content) (parts : Parts) (width : ℕ) (before one two three four five : List ℕ) → parts ≡ k.parts → state_of (held_of k) parts ≡ present (view_of k) → width ≡ length k.parts.procs → width ≡ (view_of k).table.width →

@@ -46,7 +46,7 @@ pub record Told : Type 0 where
 
 abbrev pub told_by : Role → State → List Accepted → Accepted → List Accepted → Option Told
 told_by Outside S later e h = None
-told_by (Within s part) S later e h = None
+told_by (Within s progress) S later e h = None
 told_by (Commits s) S later e h = Some (record { numbers = reverse (moved_numbers S s later h); one_moment = is_one_moment S s e h })
 told_by (Aborts s status) S later e h = None
 

@@ -22,7 +22,7 @@ pub record Noted : Type 0 where
 -- the starter of the transaction that a step is of, by its role
 abbrev pub starter_by : Role → Option ℕ
 starter_by Outside = None
-starter_by (Within s part) = Some s
+starter_by (Within s progress) = Some s
 starter_by (Commits s) = Some s
 starter_by (Aborts s status) = Some s
 
@@ -35,14 +35,14 @@ is_begin (Begins defers) = true
 -- whether the step is the first one of its transaction
 abbrev pub begins_one : Role → Bool
 begins_one Outside = false
-begins_one (Within s part) = is_begin part
+begins_one (Within s progress) = is_begin progress
 begins_one (Commits s) = false
 begins_one (Aborts s status) = false
 
 -- whether the step commits its transaction
 abbrev pub commits_one : Role → Bool
 commits_one Outside = false
-commits_one (Within s part) = false
+commits_one (Within s progress) = false
 commits_one (Commits s) = true
 commits_one (Aborts s status) = false
 

@@ -1,4 +1,42 @@
 //! One history of steps, which is to be walked both ways.
+//!
+//! `Session` is a machine with all steps that it accepted: each `Entry` has its step, its worker
+//! and its reply, and beside it stands the inverse of each entry that is made. Steps are made at
+//! its end; walks go back and forward over the entries.
+//!
+//! - `boot` and `boot_wide` make a session before its first step. `step` makes a step as the
+//!   machine does and adds its entry; `step_into` puts the reply where the caller has a place for
+//!   it. `kernel_abort` makes the kernel's abort and adds its entry, without memory.
+//! - `back` undoes the newest entry that is made; `forward` makes the next one again by its step,
+//!   whose answer is the entry's reply since the journal is lawful; `goto` goes step by step, so it
+//!   pays for the entries between. Nothing is replayed from the start, and no state is kept but the
+//!   machine's.
+//! - The place of an entry is reserved before its step, or for many steps at once by `reserve`: a
+//!   list that grows as it needs would have room for twice its entries, and for a while both rooms.
+//!   A transaction that begins takes one place more, for its abort, so an abort never wants memory.
+//!   `Journal` counts the live transactions for that, at least as many as there are (`HasRoom`), by
+//!   whether the step's starter was live before it and is after it; that this is enough stands in
+//!   `After.antt` and `Lives.antt`.
+//! - `moved` answers the history in which the steps of a committed transaction stand together, as
+//!   numbers of entries, and whether the transaction counts as one moment. A `Retrace` makes the
+//!   steps up to the commit once more and notes what each is; one walk back over the notes parts
+//!   them. So it pays for one pass over the journal, and the session is only read.
+//! - `position` is how many entries are made, `len` how many there are, `entry` the entry of a
+//!   number, `machine` the machine at the position, `count` and `processes` how it was booted,
+//!   `state_text` the text of the state there.
+//! - `print_state` gives the text of a machine's state, and `put_state` appends it: that of the
+//!   definitions' state, all of it. Live transactions are printed in one pass over the marks, and a
+//!   second one over the starters.
+//!
+//! What is so of every session is its type's invariant (`IsJournal`): the journal is lawful from
+//! the booted state, and from the machine's content each inverse leads back to what has the view of
+//! one entry fewer (`WalksBack`). `is_lawful` says so to a caller, and that each surviving step
+//! agrees with the plain kernel.
+//!
+//! `Retrace` is a content of tx_live that makes the steps of a history once more, from boot, and
+//! takes none back. `next` makes one and answers its `Note`: who started the transaction that the
+//! step is of, whether the step begins that transaction, whether it commits it, and whether it
+//! tells its moment. What a commit posts is read from the outbox before it is made.
 #![tactic(auto)]
 
 mod entry;

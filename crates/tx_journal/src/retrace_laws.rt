@@ -1,7 +1,7 @@
 //! The laws that a history made once more stands on.
 ghost use Rattle.tx_journal.specs.RetraceLaws.{RetraceLaws};
 
-use tx_laws::{answers_of_parts, next_view};
+use tx_laws::{answers_of_states, next_view};
 use tx_step::booted_is_content;
 
 /// The laws on which the proofs stand. It does nothing.
@@ -9,6 +9,6 @@ pub(crate) fn laws()
     ensures { RetraceLaws }
 {
     next_view();
-    answers_of_parts();
+    answers_of_states();
     booted_is_content();
 }

@@ -1,5 +1,5 @@
 -- The pages of calls, by the kinds that are planned alike.
-use Rattle.std.proofs.Common.{◌≡◌, ℤ, Bool, [], true, false, Result, Ok, Err, IfOk, refl}
+use Rattle.std.proofs.Common.{◌≡◌, ℤ, Bool, [], ◌∷◌, true, false, Result, Ok, Err, IfOk, refl}
 use Rattle.tx_base.specs.declared.errors.Errno.{Errno}
 use Rattle.tx_base.specs.declared.errors.Errno.TheVariants.{InvalidArgument}
 use Rattle.tx_base.specs.declared.names.DescNo.{DescNo}
@@ -8,8 +8,7 @@ use Rattle.tx_base.specs.declared.names.PipeNo.{PipeNo}
 use Rattle.tx_base.specs.declared.steps.Call.{Call}
 use Rattle.tx_base.specs.declared.steps.Call.TheVariants as call
 use Rattle.tx_base.specs.declared.steps.Reply.{Reply}
-use Rattle.tx_kernel.specs.Calls.{concerns_itself_alone}
-use Rattle.tx_model.specs.BookLaws.{map_lines, unmap_lines, protect_lines, store_lines, load_lines, setuid_lines, seteuid_lines, setgid_lines, setegid_lines, sigaction_lines, sigreturn_lines, console_write_lines, jump_lines, keep_lines}
+use Rattle.tx_laws.specs.OwnCalls.{IsOwnOutcome, OwnCallsStayOwn, concerns_itself_alone}
 use Rattle.tx_model.specs.Answer.{ChoosesNothing, IsAccepted}
 use Rattle.tx_model.specs.Words.{chosen_in}
 use Rattle.tx_model.specs.Book.{page_of_call}
@@ -17,53 +16,38 @@ use Rattle.tx_model.specs.Forms.{Caller, Outcome, answers, changes, fails, stand
 use Rattle.tx_model.specs.State.{Process}
 
 -- what holds of the outcomes that concern the process alone holds of what such a call comes to
-pub own_lines : (P : Outcome → Type 0) (c : Caller) → ((errno : Errno) → P (fails errno)) → ((r : ℤ) → P (answers r)) → ((r : ℤ) (q : Process) → P (changes r q [])) →
-    ((q : Process) (reply : Reply) → IsAccepted reply → P (stands q reply)) → (call : Call) → concerns_itself_alone call ≡ true → P ((page_of_call call).outcome c)
-own_lines P c error answer change stand (call.Map n) alone = map_lines P c error n (λ k e z. change _ _)
-own_lines P c error answer change stand (call.Unmap n) alone = unmap_lines P c error n (λ k e z. change _ _)
-own_lines P c error answer change stand (call.Protect n writable) alone = protect_lines P c error n writable (λ k page e z. change _ _)
-own_lines P c error answer change stand (call.Store address bytes) alone = store_lines P c error address bytes.items (λ z. change _ _)
-own_lines P c error answer change stand (call.Load address) alone = load_lines P c error address (λ byte z. answer _)
-own_lines P c error answer change stand call.Getpid alone = answer _
-own_lines P c error answer change stand call.Getppid alone = answer _
-own_lines P c error answer change stand (call.Setuid u) alone = setuid_lines P c error u (λ n e z. change _ _) (λ n e z. change _ _)
-own_lines P c error answer change stand (call.Seteuid u) alone = seteuid_lines P c error u (λ n e. change _ _)
-own_lines P c error answer change stand (call.Setgid g) alone = setgid_lines P c error g (λ n e z. change _ _) (λ n e z. change _ _)
-own_lines P c error answer change stand (call.Setegid g) alone = setegid_lines P c error g (λ n e. change _ _)
-own_lines P c error answer change stand (call.Sigaction s action) alone = sigaction_lines P c error s action (λ signo e z. change _ _)
-own_lines P c error answer change stand (call.Sigprocmask how set) alone = change _ _
-own_lines P c error answer change stand call.Sigpending alone = answer _
-own_lines P c error answer change stand call.Sigreturn alone = sigreturn_lines P c error (λ frame e. stand _ _ tt)
-own_lines P c error answer change stand (call.ConsoleWrite address n) alone = console_write_lines P c error address n (answer _) (λ k e z. stand _ _ tt)
-own_lines P c error answer change stand (call.Jump point if_so) alone = jump_lines P c error point if_so (answer _) (λ z. stand _ _ tt)
-own_lines P c error answer change stand (call.Keep slot) alone = keep_lines P c error slot (λ k e. change _ _)
-own_lines P c error answer change stand call.SysXbegin alone = error _
-own_lines P c error answer change stand call.SysXbeginDefer alone = error _
-own_lines P c error answer change stand call.SysXend alone = error _
-own_lines P c error answer change stand call.SysXabort alone = error _
-own_lines P c error answer change stand call alone = cc
+pub own_lines : OwnCallsStayOwn → (P : Outcome → Type 0) (c : Caller) → ((errno : Errno) → P (fails errno)) → ((r : ℤ) → P (answers r)) →
+    ((r : ℤ) (q : Process) → P (changes r q [])) → ((q : Process) (reply : Reply) → IsAccepted reply → P (stands q reply)) →
+    (asked : Call) → concerns_itself_alone asked ≡ true → P ((page_of_call asked).outcome c)
+own_lines law P c error answer change stand asked alone = by ((page_of_call asked).outcome c) (law c asked alone)
+  where
+    by : (outcome : Outcome) → IsOwnOutcome outcome → P outcome
+    by (fails errno) is = error errno
+    by (answers r) is = answer r
+    by (changes r q []) is = change r q
+    by (changes r q (w ∷ ws)) is = absurd is
+    by (stands q reply) is = stand q reply is
+    by outcome is = absurd is
 
 -- it has a plan of its own, and concerns its process alone
 abbrev pub has_own_plan : Call → Bool
-has_own_plan (call.Map n) = true
-has_own_plan (call.Unmap n) = true
-has_own_plan (call.Protect n writable) = true
-has_own_plan (call.Store address bytes) = true
-has_own_plan (call.Load address) = true
-has_own_plan call.Getpid = true
-has_own_plan call.Getppid = true
-has_own_plan (call.Setuid u) = true
-has_own_plan (call.Seteuid u) = true
-has_own_plan (call.Setgid g) = true
-has_own_plan (call.Setegid g) = true
-has_own_plan (call.Sigaction s action) = true
-has_own_plan (call.Sigprocmask how set) = true
-has_own_plan call.Sigpending = true
-has_own_plan call.Sigreturn = true
-has_own_plan (call.ConsoleWrite address n) = true
-has_own_plan (call.Jump point if_so) = true
-has_own_plan (call.Keep slot) = true
-has_own_plan c = false
+has_own_plan (call.Fork child) = false
+has_own_plan (call.Exit status) = false
+has_own_plan (call.Waitpid t nohang) = false
+has_own_plan (call.Pipe q r w) = false
+has_own_plan (call.Dup f) = false
+has_own_plan (call.Dup2 f g) = false
+has_own_plan (call.Close f) = false
+has_own_plan (call.SetNonblock f on) = false
+has_own_plan (call.Read f address n) = false
+has_own_plan (call.Write f address n) = false
+has_own_plan (call.Kill t signo) = false
+has_own_plan (call.Sigqueue t signo value) = false
+has_own_plan call.SysXbegin = false
+has_own_plan call.SysXbeginDefer = false
+has_own_plan call.SysXend = false
+has_own_plan call.SysXabort = false
+has_own_plan c = true
 
 -- the calls of transactions are left, which answer EINVAL
 pub answers_error : (c : Call) → concerns_itself_alone c ≡ true → has_own_plan c ≡ false → (d : Caller) → (page_of_call c).outcome d ≡ fails InvalidArgument

@@ -24,9 +24,9 @@ use Rattle.tx_kernel.specs.declared.planned.Planned.{Planned}
 use Rattle.tx_model.specs.Effects.{Effect, with_answer}
 use Rattle.tx_model.specs.Words.{answer_effect_with}
 use Rattle.tx_model.specs.State.{Object, Proc as TheProc, Desc, Pipe as ThePipe, Held, Process, Sending, State, SetProc, has_object, write_one, with_writes}
-use Rattle.tx_model.specs.StateLaws.{AgreePart}
+use Rattle.tx_model.specs.StateLaws.{EqualAt}
 use Rattle.tx_model.specs.StateLaws.{put_there, state_ext}
-use Rattle.tx_proc.specs.Processes.{process_in}
+use Rattle.tx_proc.specs.Parts.{process_in}
 use Rattle.tx_proc.specs.declared.proc.Proc.{Proc}
 
 -- a rule that does and names the same has the same plans
@@ -75,7 +75,7 @@ same_state : (laws : PlanLaws) (held : ℕ → List Sending) (parts : Parts) (de
 same_state laws held parts descs named same =
     descs_state laws held parts descs named ∙ state_ext (state_of held (record parts { descs = put_descs descs parts.descs })) (state_of held parts) refl at
   where
-    at : (o : Object) → AgreePart (state_of held (record parts { descs = put_descs descs parts.descs })) (state_of held parts) o
+    at : (o : Object) → EqualAt (state_of held (record parts { descs = put_descs descs parts.descs })) (state_of held parts) o
     at (TheProc n) = refl
     at (Desc d) = sym (same (state_of held parts) (λ e. refl) d)
     at (ThePipe n) = refl
@@ -92,7 +92,7 @@ writes_swap S n m x y apart = state_ext (write_one (SetProc n x) (write_one (Set
     by q true false e f = refl
     by q false b e f = refl
 
-    at : (o : Object) → AgreePart (write_one (SetProc n x) (write_one (SetProc m y) S)) (write_one (SetProc m y) (write_one (SetProc n x) S)) o
+    at : (o : Object) → EqualAt (write_one (SetProc n x) (write_one (SetProc m y) S)) (write_one (SetProc m y) (write_one (SetProc n x) S)) o
     at (TheProc q) = by q (q == n) (q == m) refl refl
     at (Desc d) = refl
     at (ThePipe k) = refl

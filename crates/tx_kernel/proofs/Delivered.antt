@@ -35,10 +35,9 @@ use Rattle.tx_model.specs.Processes.{ending_objects}
 use Rattle.tx_model.specs.SignalSets.{child_signo, is_in_set, is_realtime, with_one_more}
 use Rattle.tx_model.specs.Signals.{Disposition, Ignored, Fatal, Caught, disposition, is_ignoring}
 use Rattle.tx_model.specs.State.{Frame, Object, Process, Queued, State}
-use Rattle.tx_proc.specs.Parts.{frames_swapped, queue_swapped}
-use Rattle.tx_proc.specs.Processes.{revised}
-use Rattle.tx_proc.specs.declared.part.Answer.{Answer}
-use Rattle.tx_proc.specs.declared.part.Part.TheVariants.{Answer as SetAnswer, Frame as SetFrame, Mask as SetMask, Queued as SetQueued}
+use Rattle.tx_proc.specs.Parts.{frames_swapped, queue_swapped, revised}
+use Rattle.tx_proc.specs.declared.proc.Answer.{Answer}
+use Rattle.tx_proc.specs.declared.proc.Part.TheVariants.{Answer as SetAnswer, Frame as SetFrame, Mask as SetMask, Queued as SetQueued}
 use Rattle.tx_signal.specs.Entries.{entry_swapped}
 
 -- the first entry of a realtime signal is taken out

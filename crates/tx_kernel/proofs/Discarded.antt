@@ -15,7 +15,7 @@ use Rattle.tx_kernel.specs.declared.actor.Actor.{Actor}
 use Rattle.tx_model.specs.Signals.{without_signal, queued_others}
 use Rattle.tx_model.specs.State.{Process, Queued}
 use Rattle.tx_proc.specs.Parts.{queue_swapped}
-use Rattle.tx_proc.specs.declared.part.Part.TheVariants.{Queued as SetQueued}
+use Rattle.tx_proc.specs.declared.proc.Part.TheVariants.{Queued as SetQueued}
 
 -- an entry between others, taken out
 out_between : (kept : List Queued) (entry : Queued) (rest : List Queued) → length (kept ++ entry ∷ rest) ≤ QUEUED →

@@ -43,7 +43,7 @@ use Rattle.tx_model.specs.Processes.{children_below, children_of, ended_process,
 use Rattle.tx_model.specs.State.{Object, Proc as TheProc, Desc, Pipe as ThePipe, Process, Sending, State, SetProc, has_object, has_parent, is_between, same_object, write_one, with_writes}
 use Rattle.tx_model.specs.Forms.{does}
 use Rattle.tx_proc.specs.Laws.{IsSized}
-use Rattle.tx_proc.specs.Processes.{process_of, process_in}
+use Rattle.tx_proc.specs.Parts.{process_of, process_in}
 use Rattle.tx_proc.specs.declared.proc.Proc.{Proc}
 
 -- the numbers are ones that there are

@@ -10,9 +10,8 @@ use Rattle.tx_kernel.specs.Endings.{gone_changes, orphan_changes}
 use Rattle.tx_kernel.specs.Posts.{IsSeen}
 use Rattle.tx_model.specs.Descriptors.{has_description}
 use Rattle.tx_model.specs.State.{Process, State}
-use Rattle.tx_proc.specs.Parts.{edited_once}
-use Rattle.tx_proc.specs.Processes.{process_in}
-use Rattle.tx_proc.specs.declared.part.Part.TheVariants.{Parent}
+use Rattle.tx_proc.specs.Parts.{edited_once, process_in}
+use Rattle.tx_proc.specs.declared.proc.Part.TheVariants.{Parent}
 use Rattle.tx_proc.specs.declared.proc.Proc.{Proc}
 
 -- a process that gets another parent is seen as before

@@ -11,8 +11,8 @@ use Rattle.tx_model.specs.Words.{has_side_below}
 use Rattle.tx_model.specs.Processes.{AtCommit, AtOnce, NotTold, children_below, orphan_writes, with_parent, Notice, notice_held, child_notice}
 use Rattle.tx_model.specs.State.{Description, Process, Side, Sending, State, SetDesc, SetHeld, SetPipe, SetProc, Write, has_parent, put_at, side_in, write_one, with_writes}
 use Rattle.tx_model.specs.StateLaws.{put_cases}
-use Rattle.tx_proc.specs.Processes.{revised}
-use Rattle.tx_proc.specs.declared.part.Part.TheVariants.{Parent}
+use Rattle.tx_proc.specs.Parts.{revised}
+use Rattle.tx_proc.specs.declared.proc.Part.TheVariants.{Parent}
 
 pub written-append : (front behind : List Write) (S : State) → with_writes (front ++ behind) S ≡ with_writes behind (with_writes front S)
 unfolding with_writes

@@ -25,7 +25,7 @@ use Rattle.tx_model.specs.Words.{before_sends}
 use Rattle.tx_model.specs.Processes.{children_below, children_of, ended_process, ending, orphan_writes, parent_notice, with_parent, Notice, notice_held}
 use Rattle.tx_model.specs.State.{Process, Sending, State, SetProc, Write, write_one, with_writes}
 use Rattle.tx_model.specs.StateLaws.{put_there}
-use Rattle.tx_proc.specs.Processes.{process_of}
+use Rattle.tx_proc.specs.Parts.{process_of}
 use Rattle.tx_proc.specs.declared.proc.Proc.{Proc}
 
 -- the numbers that the end changes

@@ -27,8 +27,8 @@ use Rattle.tx_model.specs.Forms.{Rule, changes}
 use Rattle.tx_model.specs.Processes.{child_of}
 use Rattle.tx_model.specs.State.{Object, Proc as TheProc, Desc, Process, SetProc, has_object, is_number}
 use Rattle.tx_proc.specs.Laws.{IsSized}
-use Rattle.tx_proc.specs.Processes.{process_of, process_in}
-use Rattle.tx_proc.specs.declared.part.Part.TheVariants.{Answer as SetAnswer}
+use Rattle.tx_proc.specs.Parts.{process_of, process_in}
+use Rattle.tx_proc.specs.declared.proc.Part.TheVariants.{Answer as SetAnswer}
 use Rattle.tx_proc.specs.declared.proc.Proc.{Proc}
 
 -- the descriptions that descriptors name

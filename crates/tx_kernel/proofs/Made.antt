@@ -34,7 +34,7 @@ use Rattle.tx_model.specs.State.{has_object, Object, State}
 use Rattle.tx_model.specs.Book.{page_of_call}
 use Rattle.tx_model.specs.Deliveries.{delivery_page}
 use Rattle.tx_model.specs.BookLaws.{names_as, runs_as}
-use Rattle.tx_proc.specs.Processes.{process_in}
+use Rattle.tx_proc.specs.Parts.{process_in}
 
 -- what a change has once it was exchanged is of the same object
 same_object_after : (parts : Parts) (change : Change) → object_of (change_after parts change) ≡ object_of change

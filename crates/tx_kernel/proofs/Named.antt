@@ -29,7 +29,7 @@ use Rattle.tx_model.specs.Effects.{Effect}
 use Rattle.tx_model.specs.Words.{before_sends}
 use Rattle.tx_model.specs.State.{Object, Proc, Process, Sending, State, Write, SetProc, SetDesc, SetPipe, SetHeld, has_object, put_at, same_object, write_one, with_writes}
 use Rattle.tx_model.specs.StateLaws.{put_cases, put_here}
-use Rattle.tx_proc.specs.Processes.{process_in}
+use Rattle.tx_proc.specs.Parts.{process_in}
 
 -- lists of changes of one kind
 

@@ -34,7 +34,7 @@ use Rattle.tx_base.specs.Slots.{slot_at}
 use Rattle.tx_base.specs.declared.names.DescNo.{DescNo}
 use Rattle.tx_change.specs.Laws.{HasPlaces}
 use Rattle.tx_change.specs.Exchange.{object_of}
-use Rattle.tx_proc.specs.Processes.{process_in, process_of}
+use Rattle.tx_proc.specs.Parts.{process_in, process_of}
 use Rattle.tx_proc.specs.declared.proc.Proc.{Proc}
 use Rattle.std.proofs.lemmas.Bool.{ltb-true, eqb-false, ne_eqb, lt-ltb}
 use Rattle.std.proofs.Math.ListN.{set}
@@ -54,7 +54,7 @@ use Rattle.tx_model.specs.Descriptors.{is_pipe_in_use, description_removals, pip
 use Rattle.tx_model.specs.Words.{pipe_objects, with_two_slots, dup2_objects, pipe_list, answer_effect_with, answer_effect, before_sends}
 use Rattle.tx_model.specs.Effects.{Effect, with_answer}
 use Rattle.tx_model.specs.State.{SetPipe, SetDesc, Pipe as ThePipe, Object, Desc, Process, Sending, State, Write, SetProc, has_object, is_between, same_object, write_one, with_writes}
-use Rattle.tx_proc.specs.declared.part.Part.TheVariants.{Answer}
+use Rattle.tx_proc.specs.declared.proc.Part.TheVariants.{Answer}
 
 -- what holds of a rule of these parts holds of an equal one
 pub same_rule : (actor : Actor) (before now : List Change) (planned : Planned) (rule other : State → Effect) (objects : State → List Object) →

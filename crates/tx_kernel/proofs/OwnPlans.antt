@@ -19,7 +19,7 @@ use Rattle.tx_kernel.specs.declared.planned.Sends.TheVariants.{Nothing}
 use Rattle.tx_model.specs.Effects.{Effect}
 use Rattle.tx_model.specs.StateLaws.{put_here}
 use Rattle.tx_model.specs.State.{Object, Proc, Process, Sending, State, SetProc, has_object, write_one, with_writes}
-use Rattle.tx_proc.specs.Processes.{process_in}
+use Rattle.tx_proc.specs.Parts.{process_in}
 
 -- parts of a process of a number that there is are named
 pub own_named : (parts : Parts) (n : ℕ) (plan : List Change) → IsPid (sizes_of parts) n → AreOf n plan → AreNamed parts plan

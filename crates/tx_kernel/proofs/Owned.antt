@@ -18,7 +18,7 @@ use Rattle.tx_model.specs.Words.{own_effect}
 use Rattle.tx_model.specs.State.{Process}
 use Rattle.tx_pages.specs.Outcomes.{with_pages, AreNumbered}
 use Rattle.tx_pages.specs.declared.plans.NewPage.{NewPage}
-use Rattle.tx_proc.specs.declared.part.Part.TheVariants.{Answer as SetAnswer}
+use Rattle.tx_proc.specs.declared.proc.Part.TheVariants.{Answer as SetAnswer}
 
 pub AreOf-append : (n : ℕ) (front behind : List Change) → AreOf n front → AreOf n behind → AreOf n (front ++ behind)
 AreOf-append n [] behind f b = b

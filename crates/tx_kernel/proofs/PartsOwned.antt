@@ -5,7 +5,8 @@ use Rattle.tx_change.specs.declared.change.Change.{Change}
 use Rattle.tx_change.specs.declared.change.Change.TheVariants.{Part as SetPart}
 use Rattle.tx_kernel.proofs.Owned.{AreOf-append, nameless-append, own_reply, revised-append}
 use Rattle.tx_kernel.specs.Actors.{caller_of, effect_by, inside_of, me_of}
-use Rattle.tx_kernel.specs.Own.{PlansOwn, PlansPart, answer_after}
+use Rattle.tx_base.specs.declared.names.Pid.{Pid}
+use Rattle.tx_kernel.specs.Own.{ComesTo, IsPlainPart, PlansOwn, PlansPart, answer_after}
 use Rattle.tx_kernel.specs.Plans.{Extends, KeepsShown}
 use Rattle.tx_kernel.specs.declared.actor.Actor.{Actor}
 use Rattle.tx_kernel.specs.declared.inside.Inside.{Inside}
@@ -15,10 +16,9 @@ use Rattle.tx_model.specs.Effects.{Effect, next_point, with_answer}
 use Rattle.tx_model.specs.Words.{answer_effect}
 use Rattle.tx_model.specs.Forms.{Rule, effect_of}
 use Rattle.tx_model.specs.State.{Process, State}
-use Rattle.tx_proc.specs.Parts.{HasPlace}
-use Rattle.tx_proc.specs.Processes.{revised}
-use Rattle.tx_proc.specs.declared.part.Part.{Part}
-use Rattle.tx_proc.specs.declared.part.Part.TheVariants.{Answer as SetAnswer}
+use Rattle.tx_proc.specs.Parts.{HasPlace, revised}
+use Rattle.tx_proc.specs.declared.proc.Part.{Part}
+use Rattle.tx_proc.specs.declared.proc.Part.TheVariants.{Answer as SetAnswer, Status, Descriptor}
 
 -- nothing so far
 pub part_none : (actor : Actor) (log : List Change) → PlansPart actor log log (λ me. me)
@@ -36,6 +36,13 @@ part_more actor before between now rule part first place nameless last =
       nameless = nameless-append first.plan one first.nameless (nameless, tt);
       process = revised-append first.plan one (me_of actor) ∙ ap (revised part) first.process;
     }
+
+-- what is so of a part that names nothing, and is not the answer
+pub plain_part : (pid : Pid) (part : Part) (me : Process) → IsPlainPart part → HasPlace part × IsNameless (SetPart pid part) × ((revised part me).registers.point ≡ me.registers.point)
+plain_part pid (SetAnswer answer) me is = absurd is
+plain_part pid (Status status) me is = absurd is
+plain_part pid (Descriptor number name) me is = absurd is
+plain_part pid part me is = (is, tt, refl)
 
 -- the same by another rule
 pub part_same : (actor : Actor) (before now : List Change) (rule other : Process → Process) → PlansPart actor before now rule → rule (me_of actor) ≡ other (me_of actor) →
@@ -86,7 +93,7 @@ owned {E} (Ok outcome) actor before now rule other same plan = own_same actor be
 owned {E} (Err why) actor before now rule other same plan = tt
 
 -- and so by a page that comes to the same
-pub owned_page : {E : Type 0} (result : Result Outcome E) (actor : Actor) (before now : List Change) (rule page : Rule) → ((S : State) → page (caller_of actor S) ≡ rule (caller_of actor S)) →
+pub owned_page : {E : Type 0} (result : Result Outcome E) (actor : Actor) (before now : List Change) (rule page : Rule) → ComesTo actor page rule →
     IfOk result (λ outcome. PlansOwn actor before now outcome (effect_by actor rule)) → IfOk result (λ outcome. PlansOwn actor before now outcome (effect_by actor page))
 owned_page {E} result actor before now rule page same plan =
     owned result actor before now (effect_by actor rule) (effect_by actor page) (λ S. ap (effect_of actor.pid.0 (me_of actor)) (same S)) plan

@@ -33,7 +33,7 @@ use Rattle.tx_change.specs.declared.parts.Parts.{Parts}
 use Rattle.tx_model.specs.Book.{desc_and_pipe_of, read, write, broken_pipe, bytes_in}
 use Rattle.tx_model.specs.Forms.{does, effect_of}
 use Rattle.tx_model.specs.StateLaws.{put_here}
-use Rattle.tx_proc.specs.Processes.{process_in}
+use Rattle.tx_proc.specs.Parts.{process_in}
 use Rattle.tx_proc.specs.declared.proc.Proc.{Proc}
 use Rattle.tx_kernel.specs.declared.actor.Actor.{Actor}
 use Rattle.tx_kernel.specs.declared.inside.Inside.{Inside}

@@ -16,12 +16,11 @@ use Rattle.tx_kernel.specs.Posts.{IsOfPending, IsSeen, PlansAt, PlansPost, poste
 use Rattle.tx_kernel.specs.Laws.{PlanLaws}
 use Rattle.tx_model.specs.Posts.{after_post, post_answer, target_after}
 use Rattle.tx_model.specs.State.{Object, Proc as TheProc, Desc, Pipe as ThePipe, Held, Process, Sending, State, SetProc, write_one}
-use Rattle.tx_model.specs.StateLaws.{AgreePart}
+use Rattle.tx_model.specs.StateLaws.{EqualAt}
 use Rattle.tx_model.specs.StateLaws.{put_cases, state_ext}
-use Rattle.tx_proc.specs.Parts.{HasPlace}
-use Rattle.tx_proc.specs.Processes.{process_in, process_of}
-use Rattle.tx_proc.specs.declared.part.Part.{Part}
-use Rattle.tx_proc.specs.declared.part.Part.TheVariants.{Answer, Register, Parent, Status, Cred, Page, Descriptor, Mask, Action, Pending, Queued, Frame}
+use Rattle.tx_proc.specs.Parts.{HasPlace, process_in, process_of}
+use Rattle.tx_proc.specs.declared.proc.Part.{Part}
+use Rattle.tx_proc.specs.declared.proc.Part.TheVariants.{Pending, Queued, Frame}
 use Rattle.tx_proc.specs.declared.proc.Proc.{Proc}
 use Rattle.tx_signal.specs.Parts.{answer_of}
 
@@ -48,16 +47,8 @@ there_pid parts (suc n) proc there = by (nat_lt n (length parts.procs)) refl
 part_of_pending : (pid : Pid) (part : Part) → IsOfPending (Some part) → HasPlace part × IsNameless (SetPart pid part)
 part_of_pending pid (Pending set) is = (tt, tt)
 part_of_pending pid (Queued place entry) is = (tt, tt)
-part_of_pending pid (Answer x) is = absurd is
-part_of_pending pid (Register x) is = absurd is
-part_of_pending pid (Parent x) is = absurd is
-part_of_pending pid (Status x) is = absurd is
-part_of_pending pid (Cred x) is = absurd is
-part_of_pending pid (Page x y) is = absurd is
-part_of_pending pid (Descriptor x y) is = absurd is
-part_of_pending pid (Mask x) is = absurd is
-part_of_pending pid (Action x y) is = absurd is
 part_of_pending pid (Frame x) is = absurd is
+part_of_pending pid part is = absurd is
 
 -- what a post to a process is to exchange, where that process is there
 pub planned_at : (parts : Parts) (m : Sending) (proc : Proc) (result : Result (Option Part) Errno) → slot_at parts.procs m.target ≡ Some proc → IfOk result IsOfPending →
@@ -154,7 +145,7 @@ posted_nothing held parts m same = write_same m.target (state_of held parts) ∙
     write_same : (n : ℕ) (S : State) → S ≡ write_one (SetProc n (S.procs n)) S
     write_same n S = state_ext S (write_one (SetProc n (S.procs n)) S) refl all
       where
-        all : (o : Object) → AgreePart S (write_one (SetProc n (S.procs n)) S) o
+        all : (o : Object) → EqualAt S (write_one (SetProc n (S.procs n)) S) o
         all (TheProc k) = elim (put_cases S.procs n (S.procs n) k) [ inl e ↦ ap S.procs e.0 ∙ sym e.1 | inr e ↦ sym e.1 ]
         all (Desc k) = refl
         all (ThePipe k) = refl

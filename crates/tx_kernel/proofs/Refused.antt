@@ -7,6 +7,7 @@ use Rattle.tx_base.specs.declared.steps.Refusal.TheVariants.{FramesFull, NumberT
 use Rattle.tx_change.specs.States.{state_of}
 use Rattle.tx_kernel.proofs.Delivered.{acting, delivers_is, catching}
 use Rattle.tx_kernel.proofs.AnyCall.{own_lines}
+use Rattle.tx_laws.specs.OwnCalls.{OwnCallsStayOwn}
 use Rattle.tx_kernel.proofs.PageLines.{decides}
 use Rattle.tx_kernel.specs.Actors.{CountsHeld, caller_of, effect_by, inside_of, me_of}
 use Rattle.tx_kernel.specs.Refusals.{IsMade, TellsWait, lacks_frame}
@@ -39,26 +40,26 @@ pub record NeverWaits (c : Call) : Type 0 where
 abbrev IsMadeBy : Caller → Outcome → Type 0
 IsMadeBy c outcome = IsMade (effect_of c.number c.process outcome)
 
-page_made : (d : Caller) (c : Call) → NeverWaits c → is_choice_in_use d.state (chosen_in c) ≡ false → IsMadeBy d ((page_of_call c).outcome d)
-page_made d (call.Waitpid x y) is free = absurd (is.waitpid x y refl)
-page_made d (call.Read x y z) is free = absurd (is.read x y z refl)
-page_made d (call.Write x y z) is free = absurd (is.write x y z refl)
-page_made d (call.Fork child) is free = fork_lines (IsMadeBy d) d (λ e rs. tt) child.0 (λ taken. let never : true ≡ false = sym taken ∙ free in cc) (λ z rs. tt)
-page_made d (call.Exit status) is free = exit_lines (IsMadeBy d) d (λ e rs. tt) status (λ z rs. tt)
-page_made d (call.Pipe q r w) is free =
+page_made : OwnCallsStayOwn → (d : Caller) (c : Call) → NeverWaits c → is_choice_in_use d.state (chosen_in c) ≡ false → IsMadeBy d ((page_of_call c).outcome d)
+page_made law d (call.Waitpid x y) is free = absurd (is.waitpid x y refl)
+page_made law d (call.Read x y z) is free = absurd (is.read x y z refl)
+page_made law d (call.Write x y z) is free = absurd (is.write x y z refl)
+page_made law d (call.Fork child) is free = fork_lines (IsMadeBy d) d (λ e rs. tt) child.0 (λ taken. let never : true ≡ false = sym taken ∙ free in cc) (λ z rs. tt)
+page_made law d (call.Exit status) is free = exit_lines (IsMadeBy d) d (λ e rs. tt) status (λ z rs. tt)
+page_made law d (call.Pipe q r w) is free =
     through_when (IsMadeBy d) (is_pipe_in_use q.0 r.0 w.0 d.state) _ _ (λ taken. let never : true ≡ false = sym taken ∙ free in cc)
     λ z. through_or (IsMadeBy d) (lowest_free d.process) _ _ (λ rs. tt)
     λ f one. through_or (IsMadeBy d) (lowest_free (with_descriptor f (Some r.0) d.process)) _ _ (λ rs. tt) λ g two rs. tt
-page_made d (call.Dup f) is free = dup_lines (IsMadeBy d) d (λ e rs. tt) f (λ x g e z rs. tt)
-page_made d (call.Dup2 f g) is free = dup2_lines (IsMadeBy d) d (λ e rs. tt) f g (λ k rs. tt) (λ k x l e h i z rs. tt)
-page_made d (call.Close f) is free = close_lines (IsMadeBy d) d (λ e rs. tt) f (λ k x e z rs. tt)
-page_made d (call.SetNonblock f on) is free = set_nonblock_lines (IsMadeBy d) d (λ e rs. tt) f on (λ k x e z rs. tt)
-page_made d (call.Kill t s) is free = sigqueue_lines (IsMadeBy d) d (λ e rs. tt) t s (pos 0) (λ rs. tt) (λ signo target e h z rs. tt) (λ signo target i e h j z k rs. tt)
-page_made d (call.Sigqueue t s value) is free = sigqueue_lines (IsMadeBy d) d (λ e rs. tt) t s value (λ rs. tt) (λ signo target e h z rs. tt) (λ signo target i e h j z k rs. tt)
-page_made d c is free = own_lines (IsMadeBy d) d (λ e rs. tt) (λ r rs. tt) (λ r q rs. tt) (λ q reply accepted rs. accepted) c refl
+page_made law d (call.Dup f) is free = dup_lines (IsMadeBy d) d (λ e rs. tt) f (λ x g e z rs. tt)
+page_made law d (call.Dup2 f g) is free = dup2_lines (IsMadeBy d) d (λ e rs. tt) f g (λ k rs. tt) (λ k x l e h i z rs. tt)
+page_made law d (call.Close f) is free = close_lines (IsMadeBy d) d (λ e rs. tt) f (λ k x e z rs. tt)
+page_made law d (call.SetNonblock f on) is free = set_nonblock_lines (IsMadeBy d) d (λ e rs. tt) f on (λ k x e z rs. tt)
+page_made law d (call.Kill t s) is free = sigqueue_lines (IsMadeBy d) d (λ e rs. tt) t s (pos 0) (λ rs. tt) (λ signo target e h z rs. tt) (λ signo target i e h j z k rs. tt)
+page_made law d (call.Sigqueue t s value) is free = sigqueue_lines (IsMadeBy d) d (λ e rs. tt) t s value (λ rs. tt) (λ signo target e h z rs. tt) (λ signo target i e h j z k rs. tt)
+page_made law d c is free = own_lines law (IsMadeBy d) d (λ e rs. tt) (λ r rs. tt) (λ r q rs. tt) (λ q reply accepted rs. accepted) c refl
 
-pub call_made : (inside : Option Inside) (p : ℕ) (c : Call) (me : Process) (S : State) → NeverWaits c → is_choice_in_use S (chosen_in c) ≡ false → IsMade (call_effect inside p c me S)
-call_made inside p c me S is free = page_made (record { number = p; process = me; inside = inside; state = S }) c is free
+pub call_made : OwnCallsStayOwn → (inside : Option Inside) (p : ℕ) (c : Call) (me : Process) (S : State) → NeverWaits c → is_choice_in_use S (chosen_in c) ≡ false → IsMade (call_effect inside p c me S)
+call_made law inside p c me S is free = page_made law (record { number = p; process = me; inside = inside; state = S }) c is free
 
 -- a step that waits, and one that is made
 

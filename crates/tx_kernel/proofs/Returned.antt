@@ -23,11 +23,10 @@ use Rattle.tx_model.specs.Book.{sigreturn}
 use Rattle.tx_model.specs.Forms.{effect_of, fails, stands, ◌or◌}
 use Rattle.tx_model.specs.Signals.{newest_frame, with_frame}
 use Rattle.tx_model.specs.State.{Frame, Process}
-use Rattle.tx_proc.specs.Parts.{frames_swapped}
-use Rattle.tx_proc.specs.Processes.{revised}
-use Rattle.tx_proc.specs.declared.part.Answer.{Answer}
+use Rattle.tx_proc.specs.Parts.{frames_swapped, revised}
+use Rattle.tx_proc.specs.declared.proc.Answer.{Answer}
 use Rattle.tx_proc.specs.Laws.{IsSized}
-use Rattle.tx_proc.specs.declared.part.Part.TheVariants.{Register, Answer as SetAnswer, Mask as SetMask, Frame as SetFrame}
+use Rattle.tx_proc.specs.declared.proc.Part.TheVariants.{Register, Answer as SetAnswer, Mask as SetMask, Frame as SetFrame}
 
 -- the actor has its places
 pub sized_actor : (actor : Actor) → IsActor actor → IsSized actor.proc.now

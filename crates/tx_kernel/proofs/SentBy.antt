@@ -23,6 +23,7 @@ use Rattle.tx_kernel.specs.declared.transfers.Writing.{Writing}
 use Rattle.tx_kernel.specs.declared.transfers.Writing.TheVariants as writing
 use Rattle.tx_model.specs.BookLaws.{fork_lines, waitpid_lines, pipe_lines, dup_lines, dup2_lines, close_lines, set_nonblock_lines, read_lines, through_when}
 use Rattle.tx_kernel.proofs.AnyCall.{own_lines}
+use Rattle.tx_laws.specs.OwnCalls.{OwnCallsStayOwn}
 use Rattle.tx_model.specs.Book.{release, page_of_call, broken_pipe}
 use Rattle.tx_model.specs.Words.{call_effect, is_full, before_sends, answer_effect}
 use Rattle.tx_model.specs.Forms.{Caller, Outcome, caller, changes, does, effect_of, refuses}
@@ -109,23 +110,23 @@ IsSilentBy c outcome = IsSilent (effect_of c.number c.process outcome)
 silent_up : (d : Caller) (ds : List ℕ) (r : ℤ) (q : Process) → IsSilentBy d (release ds r q d)
 silent_up d ds r q = record { sends = refl; leaves = released_leave ds (write_one (SetProc d.number (Some (with_answer r q))) d.state) }
 
-page_silent : (d : Caller) (c : Call) → SendsNothing c → IsSilentBy d ((page_of_call c).outcome d)
-page_silent d (call.Kill x y) is = absurd (is.kill x y refl)
-page_silent d (call.Sigqueue x y z) is = absurd (is.sigqueue x y z refl)
-page_silent d (call.Exit x) is = absurd (is.exit x refl)
-page_silent d (call.Write x y z) is = absurd (is.write x y z refl)
-page_silent d (call.Fork child) is = fork_lines (IsSilentBy d) d (λ e. record { sends = refl; leaves = tt }) child.0 (λ z. record { sends = refl; leaves = tt }) (λ z. record { sends = refl; leaves = tt })
-page_silent d (call.Waitpid t nohang) is = waitpid_lines (IsSilentBy d) d (λ e. record { sends = refl; leaves = tt }) t nohang (record { sends = refl; leaves = tt }) (record { sends = refl; leaves = tt }) (λ child status q a b e z. record { sends = refl; leaves = tt })
-page_silent d (call.Pipe k r w) is = pipe_lines (IsSilentBy d) d (λ e. record { sends = refl; leaves = tt }) k.0 r.0 w.0 (record { sends = refl; leaves = tt }) (λ f g a b z. record { sends = refl; leaves = tt })
-page_silent d (call.Dup f) is = dup_lines (IsSilentBy d) d (λ e. record { sends = refl; leaves = tt }) f (λ x g a z. record { sends = refl; leaves = tt })
-page_silent d (call.Dup2 f g) is = dup2_lines (IsSilentBy d) d (λ e. record { sends = refl; leaves = tt }) f g (λ k. record { sends = refl; leaves = tt }) (λ k x l a b e z. silent_up d (option_list (description_named d.process (Some l))) (pos l) (with_descriptor l (Some x) d.process))
-page_silent d (call.Close f) is = close_lines (IsSilentBy d) d (λ e. record { sends = refl; leaves = tt }) f (λ k x a z. silent_up d (x ∷ []) (pos 0) (with_descriptor k None d.process))
-page_silent d (call.SetNonblock f on) is = set_nonblock_lines (IsSilentBy d) d (λ e. record { sends = refl; leaves = tt }) f on (λ k x a z. record { sends = refl; leaves = tt })
-page_silent d (call.Read f address n) is = read_lines (IsSilentBy d) d (λ e. record { sends = refl; leaves = tt }) f address n (record { sends = refl; leaves = tt }) (record { sends = refl; leaves = tt }) (λ end m a b z. record { sends = refl; leaves = tt })
-page_silent d c is = own_lines (IsSilentBy d) d (λ e. record { sends = refl; leaves = tt }) (λ r. record { sends = refl; leaves = tt }) (λ r q. record { sends = refl; leaves = tt }) (λ q reply accepted. record { sends = refl; leaves = tt }) c refl
+page_silent : OwnCallsStayOwn → (d : Caller) (c : Call) → SendsNothing c → IsSilentBy d ((page_of_call c).outcome d)
+page_silent law d (call.Kill x y) is = absurd (is.kill x y refl)
+page_silent law d (call.Sigqueue x y z) is = absurd (is.sigqueue x y z refl)
+page_silent law d (call.Exit x) is = absurd (is.exit x refl)
+page_silent law d (call.Write x y z) is = absurd (is.write x y z refl)
+page_silent law d (call.Fork child) is = fork_lines (IsSilentBy d) d (λ e. record { sends = refl; leaves = tt }) child.0 (λ z. record { sends = refl; leaves = tt }) (λ z. record { sends = refl; leaves = tt })
+page_silent law d (call.Waitpid t nohang) is = waitpid_lines (IsSilentBy d) d (λ e. record { sends = refl; leaves = tt }) t nohang (record { sends = refl; leaves = tt }) (record { sends = refl; leaves = tt }) (λ child status q a b e z. record { sends = refl; leaves = tt })
+page_silent law d (call.Pipe k r w) is = pipe_lines (IsSilentBy d) d (λ e. record { sends = refl; leaves = tt }) k.0 r.0 w.0 (record { sends = refl; leaves = tt }) (λ f g a b z. record { sends = refl; leaves = tt })
+page_silent law d (call.Dup f) is = dup_lines (IsSilentBy d) d (λ e. record { sends = refl; leaves = tt }) f (λ x g a z. record { sends = refl; leaves = tt })
+page_silent law d (call.Dup2 f g) is = dup2_lines (IsSilentBy d) d (λ e. record { sends = refl; leaves = tt }) f g (λ k. record { sends = refl; leaves = tt }) (λ k x l a b e z. silent_up d (option_list (description_named d.process (Some l))) (pos l) (with_descriptor l (Some x) d.process))
+page_silent law d (call.Close f) is = close_lines (IsSilentBy d) d (λ e. record { sends = refl; leaves = tt }) f (λ k x a z. silent_up d (x ∷ []) (pos 0) (with_descriptor k None d.process))
+page_silent law d (call.SetNonblock f on) is = set_nonblock_lines (IsSilentBy d) d (λ e. record { sends = refl; leaves = tt }) f on (λ k x a z. record { sends = refl; leaves = tt })
+page_silent law d (call.Read f address n) is = read_lines (IsSilentBy d) d (λ e. record { sends = refl; leaves = tt }) f address n (record { sends = refl; leaves = tt }) (record { sends = refl; leaves = tt }) (λ end m a b z. record { sends = refl; leaves = tt })
+page_silent law d c is = own_lines law (IsSilentBy d) d (λ e. record { sends = refl; leaves = tt }) (λ r. record { sends = refl; leaves = tt }) (λ r q. record { sends = refl; leaves = tt }) (λ q reply accepted. record { sends = refl; leaves = tt }) c refl
 
-pub silent_call : (inside : Option Inside) (p : ℕ) (c : Call) (me : Process) (S : State) → SendsNothing c → IsSilent (call_effect inside p c me S)
-silent_call inside p c me S is = page_silent (record { number = p; process = me; inside = inside; state = S }) c is
+pub silent_call : OwnCallsStayOwn → (inside : Option Inside) (p : ℕ) (c : Call) (me : Process) (S : State) → SendsNothing c → IsSilent (call_effect inside p c me S)
+silent_call law inside p c me S is = page_silent law (record { number = p; process = me; inside = inside; state = S }) c is
 
 -- the end of a process: its parent may be told
 pub ending_sends : (actor : Actor) (sends : Sends) (status : ℕ) (me : Process) →

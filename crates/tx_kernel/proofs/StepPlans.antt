@@ -38,8 +38,8 @@ use Rattle.tx_model.specs.Effects.{next_point, with_answer_if}
 use Rattle.tx_model.specs.Memory.{Memory}
 use Rattle.tx_model.specs.Posts.{has_room, is_quiet, is_realtime, may_signal}
 use Rattle.tx_model.specs.StateLaws.{put_cases}
-use Rattle.tx_proc.specs.Processes.{process_in, revised}
-use Rattle.tx_proc.specs.declared.part.Part.TheVariants.{Answer as SetAnswer}
+use Rattle.tx_proc.specs.Parts.{process_in, revised}
+use Rattle.tx_proc.specs.declared.proc.Part.TheVariants.{Answer as SetAnswer}
 use Rattle.tx_proc.specs.declared.proc.Proc.{Proc}
 use Rattle.tx_signal.specs.Parts.{answer_of}
 use Rattle.tx_model.specs.State.{Object, Proc as TheProc, Desc, Pipe as ThePipe, Held, Process, Sending, State, SetProc, has_object, same_object, write_one, with_writes}

@@ -30,8 +30,8 @@ use Rattle.tx_model.specs.Forms.{Outcome, Rule, answers, changes, effect_of, fai
 use Rattle.tx_model.specs.Processes.{pid_of}
 use Rattle.tx_model.specs.Words.{with_status, waitpid_objects, numbered_objects}
 use Rattle.tx_model.specs.State.{Object, Proc as TheProc, Process, Sending, SetProc, State, is_between}
-use Rattle.tx_proc.specs.Processes.{process_in, process_of}
-use Rattle.tx_proc.specs.declared.part.Part.TheVariants.{Answer as SetAnswer, Register as SetRegister}
+use Rattle.tx_proc.specs.Parts.{process_in, process_of}
+use Rattle.tx_proc.specs.declared.proc.Part.TheVariants.{Answer as SetAnswer, Register as SetRegister}
 use Rattle.tx_proc.specs.declared.proc.Proc.{Proc}
 
 -- the numbers

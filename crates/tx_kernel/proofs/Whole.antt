@@ -13,7 +13,7 @@ use Rattle.tx_kernel.specs.declared.actor.Actor.{Actor}
 use Rattle.tx_laws.specs.Laws.{BootedIsWellFormed}
 use Rattle.tx_laws.specs.WellFormed.{IsWellFormed}
 use Rattle.tx_model.specs.State.{Process, State, has_parent}
-use Rattle.tx_proc.specs.Processes.{process_in}
+use Rattle.tx_proc.specs.Parts.{process_in}
 
 pub orderly_parts : (parts : Parts) → IsWhole parts → IsOrderly (state_of (λ starter. []) parts)
 orderly_parts parts whole = formed_orderly (state_of (λ starter. []) parts) whole.formed

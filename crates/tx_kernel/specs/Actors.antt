@@ -14,7 +14,7 @@ use Rattle.tx_model.specs.Forms.{Caller, Rule, effect_of}
 use Rattle.tx_model.specs.Membership.{is_of}
 use Rattle.tx_model.specs.Book.{member_sends}
 use Rattle.tx_model.specs.State.{Object, Process, Sending, State}
-use Rattle.tx_proc.specs.Processes.{process_of}
+use Rattle.tx_proc.specs.Parts.{process_of}
 
 -- the transaction, as the definitions have it
 abbrev pub transaction_of : Inside → TheInside

@@ -11,7 +11,7 @@ use Rattle.tx_desc.specs.declared.opened.Opened.{Opened}
 use Rattle.tx_desc.specs.declared.plans.NewDesc.{NewDesc}
 use Rattle.tx_model.specs.Descriptors.{has_description}
 use Rattle.tx_model.specs.State.{State, has_parent}
-use Rattle.tx_proc.specs.declared.part.Part.TheVariants.{Parent}
+use Rattle.tx_proc.specs.declared.proc.Part.TheVariants.{Parent}
 
 -- the state that the parts mean where nothing is held
 abbrev pub plain : Parts → State

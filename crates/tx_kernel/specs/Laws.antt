@@ -7,7 +7,7 @@ use Rattle.tx_change.specs.declared.parts.Parts.{Parts}
 use Rattle.tx_kernel.specs.Actors.{IsWhole}
 use Rattle.tx_model.specs.State.{boot_state}
 use Rattle.tx_change.specs.Counts.{CountsElsewhere, CountsNameless, CountsPlanned, CountsReplaced, CountsWithOthers, PlansAreNamed, RoomForName, RoomForNames, SlotInTurn}
-use Rattle.tx_change.specs.Laws.{AppliedAppended, ApplyThenRevert, BackIsWrite, ChangedAppended, ChangesStateInTurn, ExchangedBring, ExchangedStayNamed, ExchangesBack, FrontIsRead, NamedAppended, PartsReplaceProcess, PlacesKept, SizesStay}
+use Rattle.tx_change.specs.Laws.{AppliedAppended, ApplyThenRevert, BackIsWrite, ChangedAppended, ChangesStateInTurn, ExchangedBring, ExchangedStayNamed, ExchangesBack, FrontIsRead, NamedAppended, PartsReplaceProcess, PlacesStay, SizesStay}
 
 -- what changes make of the state, of the counts of names and of the places of processes
 pub record PlanLaws : Type 0 where
@@ -16,7 +16,7 @@ pub record PlanLaws : Type 0 where
   pub applied : AppliedAppended
   pub changed : ChangedAppended
   pub named : NamedAppended
-  pub places : PlacesKept
+  pub places : PlacesStay
   pub taken : ExchangedBring
   pub plans : PlansAreNamed
   pub call : CountsPlanned

@@ -5,7 +5,7 @@ use Rattle.tx_base.specs.declared.names.PipeNo.{PipeNo}
 use Rattle.tx_desc.specs.declared.plans.PipePlan.{PipePlan}
 use Rattle.tx_kernel.specs.Own.{answer_after}
 use Rattle.tx_kernel.specs.declared.actor.Actor.{Actor}
-use Rattle.tx_proc.specs.declared.part.Part.TheVariants.{Answer, Register}
+use Rattle.tx_proc.specs.declared.proc.Part.TheVariants.{Answer, Register}
 use Rattle.tx_change.specs.Counts.{name_changes, desc_changes}
 use Rattle.tx_desc.specs.declared.plans.NewDesc.{NewDesc}
 use Rattle.tx_desc.specs.declared.plans.Rename.{Rename}

@@ -6,16 +6,20 @@ use Rattle.tx_change.specs.Own.{AreOf}
 use Rattle.tx_base.specs.declared.names.Pid.{Pid}
 use Rattle.tx_change.specs.declared.change.Change.{Change}
 use Rattle.tx_change.specs.declared.change.Change.TheVariants.{Part}
-use Rattle.tx_kernel.specs.Actors.{me_of}
+use Rattle.tx_kernel.specs.Actors.{caller_of, me_of}
 use Rattle.tx_kernel.specs.Plans.{KeepsShown, reply_of}
 use Rattle.tx_kernel.specs.declared.actor.Actor.{Actor}
 use Rattle.tx_kernel.specs.declared.planned.Outcome.{Outcome}
 use Rattle.tx_model.specs.Effects.{Effect, next_point}
+use Rattle.tx_model.specs.Forms.{Rule}
 use Rattle.tx_model.specs.Words.{own_effect}
 use Rattle.tx_model.specs.State.{Process, State}
 use Rattle.tx_pages.specs.declared.plans.NewPage.{NewPage}
-use Rattle.tx_proc.specs.declared.part.Answer.{Answer}
-use Rattle.tx_proc.specs.declared.part.Part.TheVariants.{Page}
+use Rattle.tx_proc.specs.declared.proc.Answer.{Answer}
+use Rattle.tx_proc.specs.Parts.{HasPlace}
+use Rattle.tx_proc.specs.declared.proc.Part.{Part as ProcPart}
+use Rattle.tx_proc.specs.declared.proc.Part.TheVariants as part
+use Rattle.tx_proc.specs.declared.proc.Part.TheVariants.{Page}
 
 -- the answer at the next point
 abbrev pub answer_after : ℤ → Actor → Answer
@@ -38,6 +42,17 @@ pub record PlansOwn (actor : Actor) (before now : List Change) (outcome : Outcom
   pub nameless : AreNameless plan
   pub effect : (S : State) → rule S ≡ own_effect actor.pid.0 (record { process = revised_by plan (me_of actor); reply = reply_of (me_of actor).memory outcome })
   pub shown : KeepsShown outcome (me_of actor).memory (revised_by plan (me_of actor)).memory
+
+-- what the actor asks by this page comes to the same as by that rule
+abbrev pub ComesTo : Actor → Rule → Rule → Type 0
+ComesTo actor page rule = (S : State) → page (caller_of actor S) ≡ rule (caller_of actor S)
+
+-- a part that names nothing, and is not the answer, with a number that there is
+abbrev pub IsPlainPart : ProcPart → Type 0
+IsPlainPart (part.Answer answer) = ⊥
+IsPlainPart (part.Status status) = ⊥
+IsPlainPart (part.Descriptor number name) = ⊥
+IsPlainPart part = HasPlace part
 
 -- the change that puts a new page in place
 abbrev pub page_change : Pid → NewPage → Change

@@ -25,7 +25,7 @@ use Rattle.tx_model.specs.Answer.{Choice, is_bad_choice}
 use Rattle.tx_model.specs.Effects.{Conclusion, Replies, Effect, Inside, idle}
 use Rattle.tx_model.specs.Words.{before_sends}
 use Rattle.tx_model.specs.Memory.{Memory, bytes_from, no_memory}
-use Rattle.tx_proc.specs.Processes.{process_in}
+use Rattle.tx_proc.specs.Parts.{process_in}
 use Rattle.tx_model.specs.State.{Object, Proc, Process, Sender, Sending as TheSending, State, has_object, put_at}
 
 -- a step with this answer, which sends nothing

@@ -12,9 +12,9 @@ use Rattle.tx_cred.specs.Cred.{ids_of}
 use Rattle.tx_kernel.specs.declared.posts.Face.{Face}
 use Rattle.tx_model.specs.Posts.{post_answer, target_after}
 use Rattle.tx_model.specs.State.{Process, Sending}
-use Rattle.tx_proc.specs.Processes.{revised}
-use Rattle.tx_proc.specs.declared.part.Part.{Part}
-use Rattle.tx_proc.specs.declared.part.Part.TheVariants.{Pending, Queued}
+use Rattle.tx_proc.specs.Parts.{revised}
+use Rattle.tx_proc.specs.declared.proc.Part.{Part}
+use Rattle.tx_proc.specs.declared.proc.Part.TheVariants.{Pending, Queued}
 use Rattle.tx_proc.specs.declared.proc.Proc.{Proc}
 use Rattle.tx_signal.specs.Parts.{answer_of}
 

@@ -17,7 +17,7 @@ use Rattle.tx_kernel.specs.declared.planned.Sends.{Sends}
 use Rattle.tx_kernel.specs.declared.planned.Sends.TheVariants.{Nothing, AtOnce, AtCommit}
 use Rattle.tx_model.specs.Effects.{Effect, after_effect, concluding_reply, send_answers}
 use Rattle.tx_model.specs.State.{Object, Proc, Sending, State}
-use Rattle.tx_proc.specs.Processes.{process_in}
+use Rattle.tx_proc.specs.Parts.{process_in}
 
 -- the process that a signal is posted to with the step
 abbrev pub target_objects : Sends → List Object

@@ -1,16 +1,17 @@
 //! Answers that change nothing else.
-ghost use Rattle.std.specs.Prelude.{◌≡◌, ◌++◌, ◌∷◌, [], List, IfOk, IfErr, OnOk, OnErr};
+ghost use Rattle.std.specs.Prelude.{◌≡◌, ◌++◌, ◌∷◌, [], List, pos, IfOk, IfErr, OnOk, OnErr};
 ghost use Rattle.tx_base.specs.Errors.{error_number};
 ghost use Rattle.tx_base.specs.declared.steps.Refusal.TheVariants as refusal;
 ghost use Rattle.tx_change.specs.declared.change.Change.TheVariants.{Part as SetPart};
 ghost use Rattle.tx_kernel.specs.Actors.{IsActor, effect_by};
-ghost use Rattle.tx_kernel.specs.Own.{PlansOwn, answer_after};
-ghost use Rattle.tx_kernel.specs.Plans.{Plans};
-ghost use Rattle.tx_model.specs.Forms.{answers, fails};
+ghost use Rattle.tx_kernel.specs.Own.{ComesTo, IsPlainPart, PlansOwn, answer_after};
+ghost use Rattle.tx_kernel.specs.Plans.{Extends, Plans};
+ghost use Rattle.tx_model.specs.Forms.{Rule, answers, changes, fails};
 ghost use Rattle.tx_model.specs.Numbers.{error_answer};
 ghost use Rattle.tx_signal.specs.Parts.{answer_of};
 ghost use Rattle.tx_model.specs.State.{Object, State};
-ghost use Rattle.tx_proc.specs.declared.part.Part.TheVariants.{Answer as SetAnswer};
+ghost use Rattle.tx_proc.specs.Parts.{revised};
+ghost use Rattle.tx_proc.specs.declared.proc.Part.TheVariants.{Answer as SetAnswer};
 
 use crate::actor::Actor;
 use crate::laws::laws;
@@ -63,10 +64,31 @@ impl Actor<'_> {
         Ok(Outcome::Done(ret))
     }
 
+    /// Plans a new part of the process, of those that name nothing, and this answer.
+    #[inline(always)] // a part is large, and would be copied once more
+    pub(crate) fn plan_part(
+        &self,
+        part: Part,
+        answer: u16,
+        log: &mut Log,
+    ) -> Result<Outcome, NoMemory>
+        requires { IsPlainPart part }
+        ensures page { (page : Rule) → ComesTo self.now page (λ c. changes (pos answer) (revised part c.process) []) →
+            IfOk result (λ outcome. PlansOwn self.now log.old log.new outcome (effect_by self.now page)) }
+        ensures err { OnErr result (Extends log.old log.new) }
+    {
+        let answer = answer as i64;
+        self.push(part, log)?;
+        self.push_answer(answer, log)?;
+        Ok(Outcome::Done(answer))
+    }
+
     /// Plans an error as the answer, and nothing else. After want of memory the log is as it was.
     pub(crate) fn plan_error(&self, errno: Errno, log: &mut Log) -> Result<Outcome, NoMemory>
         ensures ok { IfOk result (λ outcome. PlansOwn self.now log.old log.new outcome
             (effect_by self.now (λ c. fails errno))) }
+        ensures page { (page : Rule) → ComesTo self.now page (λ c. fails errno) →
+            IfOk result (λ outcome. PlansOwn self.now log.old log.new outcome (effect_by self.now page)) }
         ensures err { OnErr result (log.new ≡ log.old) }
     {
         self.plan_answer(failing(errno), log)

@@ -1,10 +1,11 @@
 //! The plan of any call, by its kind.
 ghost use Rattle.std.specs.Prelude.{◌≡◌, ◌⊎◌, true, false, IfOk, IfErr, OnErr};
 ghost use Rattle.tx_kernel.specs.Actors.{IsActor, effect_by, inside_of, me_of, names_by};
-ghost use Rattle.tx_kernel.specs.Calls.{concerns_itself_alone, sends_on_demand};
+ghost use Rattle.tx_kernel.specs.Calls.{sends_on_demand};
 ghost use Rattle.tx_kernel.specs.Own.{PlansOwn};
 ghost use Rattle.tx_kernel.specs.Plans.{Extends, IsBadChoice, IsGoodChoice, Plans, RefusedBy};
 ghost use Rattle.tx_kernel.specs.Steps.{PlansStep};
+ghost use Rattle.tx_laws.specs.OwnCalls.{concerns_itself_alone};
 ghost use Rattle.tx_model.specs.Words.{chosen_in, call_effect, call_objects, delivery_effect, delivery_objects};
 ghost use Rattle.tx_model.specs.Book.{page_of_call};
 ghost use Rattle.tx_model.specs.Deliveries.{delivery, delivery_page};

@@ -54,7 +54,7 @@ impl Actor<'_> {
         if is_bad_pipe(pipe, read, write) {
             return Err(Refusal::BadNumber);
         }
-        if self.has_taken(pipe, read, write) {
+        if self.has_pipe_in_use(pipe, read, write) {
             return Err(Refusal::NumberTaken);
         }
         match self.proc.descriptors.plan_pipe(pipe, read, write) {
@@ -178,7 +178,7 @@ impl Actor<'_> {
     }
 
     /// Whether the number of a pipe is in use, or that of one of two descriptions.
-    pub(crate) fn has_taken(&self, pipe: PipeNo, read: DescNo, write: DescNo) -> bool
+    pub(crate) fn has_pipe_in_use(&self, pipe: PipeNo, read: DescNo, write: DescNo) -> bool
         ensures { (held : ℕ → List Sending) → result ≡ is_pipe_in_use pipe.0 read.0 write.0 (state_of held self.now.parts.now) }
     {
         self.parts.pipes.get(pipe).is_some()

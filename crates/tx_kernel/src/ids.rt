@@ -2,10 +2,10 @@
 ghost use Rattle.std.specs.Prelude.{◌≡◌, pos, IfOk, OnErr};
 ghost use Rattle.tx_cred.specs.Cred.{ids_of};
 ghost use Rattle.tx_kernel.specs.Actors.{effect_by};
-ghost use Rattle.tx_kernel.specs.Own.{PlansOwn};
+ghost use Rattle.tx_kernel.specs.Own.{ComesTo, PlansOwn};
 ghost use Rattle.tx_kernel.specs.Plans.{Extends};
 ghost use Rattle.tx_model.specs.Book.{setegid, seteuid, setgid, setuid, with_ids};
-ghost use Rattle.tx_model.specs.Forms.{answers};
+ghost use Rattle.tx_model.specs.Forms.{Rule, answers};
 
 use crate::actor::Actor;
 use crate::planned::Outcome;
@@ -96,12 +96,10 @@ impl Actor<'_> {
 
     /// Plans these ids, and to answer 0.
     fn plan_ids(&self, cred: Cred, log: &mut Log) -> Result<Outcome, NoMemory>
-        ensures ok { IfOk result (λ outcome. PlansOwn self.now log.old log.new outcome
-            (effect_by self.now (with_ids (ids_of cred)))) }
+        ensures page { (page : Rule) → ComesTo self.now page (with_ids (ids_of cred)) →
+            IfOk result (λ outcome. PlansOwn self.now log.old log.new outcome (effect_by self.now page)) }
         ensures err { OnErr result (Extends log.old log.new) }
     {
-        self.push(Part::Cred(cred), log)?;
-        self.push_answer(0, log)?;
-        Ok(Outcome::Done(0))
+        self.plan_part(Part::Cred(cred), 0, log)
     }
 }

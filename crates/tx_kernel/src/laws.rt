@@ -4,7 +4,7 @@ ghost use Rattle.tx_kernel.specs.Laws.{BootedAreWhole, PlanLaws};
 
 use tx_change::{
     appended, apply_then_revert, bytes_are_read_and_written, changes_state, counts_agree,
-    counts_in_turn, counts_with_others, exchanges_back, lists_change_state, places_kept,
+    counts_in_turn, counts_with_others, exchanges_back, lists_change_state, places_stay,
     room_for_names, stays_named,
 };
 use tx_laws::well_formed;
@@ -17,7 +17,7 @@ pub(crate) fn laws()
     exchanges_back();
     lists_change_state();
     appended();
-    places_kept();
+    places_stay();
     counts_agree();
     counts_in_turn();
     counts_with_others();

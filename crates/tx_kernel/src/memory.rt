@@ -1,9 +1,10 @@
 //! The calls on the memory of their process.
 ghost use Rattle.std.specs.Prelude.{◌≡◌, ◌<◌, ◌++◌, map as list_map, IfOk, OnOk, OnErr, slice_set};
 ghost use Rattle.tx_kernel.specs.Actors.{effect_by};
-ghost use Rattle.tx_kernel.specs.Own.{PlansOwn, page_change};
+ghost use Rattle.tx_kernel.specs.Own.{ComesTo, PlansOwn, page_change};
 ghost use Rattle.tx_kernel.specs.Plans.{Extends};
 ghost use Rattle.tx_model.specs.Book.{load, map, protect, store, unmap, with_memory};
+ghost use Rattle.tx_model.specs.Forms.{Rule};
 ghost use Rattle.tx_pages.specs.Outcomes.{with_pages, AreNumbered};
 
 use crate::actor::Actor;
@@ -98,14 +99,12 @@ impl Actor<'_> {
     /// Plans to put one page number in place, and to answer 0.
     fn plan_page(&self, new: NewPage, log: &mut Log) -> Result<Outcome, NoMemory>
         requires { new.number < 16 }
-        ensures ok { IfOk result (λ outcome. PlansOwn self.now log.old log.new outcome
-            (effect_by self.now
-            (λ c. with_memory (slice_set c.process.memory new.number new.page) c))) }
+        ensures page { (page : Rule) →
+            ComesTo self.now page (λ c. with_memory (slice_set c.process.memory new.number new.page) c) →
+            IfOk result (λ outcome. PlansOwn self.now log.old log.new outcome (effect_by self.now page)) }
         ensures err { OnErr result (Extends log.old log.new) }
     {
-        self.push(Part::Page(new.number, new.page), log)?;
-        self.push_answer(0, log)?;
-        Ok(Outcome::Done(0))
+        self.plan_part(Part::Page(new.number, new.page), 0, log)
     }
 
     /// Plans to put these pages in place, and to answer 0.

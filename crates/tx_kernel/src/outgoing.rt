@@ -9,6 +9,7 @@ ghost use Rattle.tx_model.specs.Deliveries.{delivered_value, ends_by, delivery};
 use crate::actor::Actor;
 use crate::planned::Sends;
 use tx_base::{Action, Call, SIGCHLD, Signo};
+use tx_laws::own_calls;
 
 impl Actor<'_> {
     /// The signal that a call sends, with the ids of the sender now. Nothing is sent.
@@ -18,6 +19,7 @@ impl Actor<'_> {
         requires { IsActor self.now }
         ensures { IsSentBy self.now result (λ S. call_effect (inside_of self.now.inside) self.now.pid.0 call.now (me_of self.now) S) }
     {
+        own_calls();
         match call {
             Call::Kill(target, signo) => self.decide_send(*target, *signo, 0).sends(),
             Call::Sigqueue(target, signo, value) => {

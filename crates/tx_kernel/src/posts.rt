@@ -13,7 +13,7 @@ ghost use Rattle.tx_model.specs.Posts.{is_quiet, is_realtime, may_signal, after_
 ghost use Rattle.tx_base.specs.declared.limits.TheConstants.{QUEUED};
 ghost use Rattle.tx_model.specs.State.{Proc as TheProc, Process, Sending as TheSending};
 ghost use Rattle.tx_cred.specs.Cred.{ids_of};
-ghost use Rattle.tx_proc.specs.Processes.{process_of, revised};
+ghost use Rattle.tx_proc.specs.Parts.{process_of, revised};
 ghost use Rattle.tx_signal.specs.Parts.{answer_of};
 
 use crate::laws::laws;

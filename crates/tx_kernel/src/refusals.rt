@@ -15,6 +15,7 @@ use crate::actor::Actor;
 use crate::descriptors::is_bad_pipe;
 use crate::transfers::{Reading, Writing};
 use tx_base::{Action, Call, Refusal, Signo};
+use tx_laws::own_calls;
 
 impl Actor<'_> {
     /// Why the rule of a call refuses it, if it does: NumberTaken where a fork or a pipe chooses a
@@ -97,7 +98,7 @@ impl Actor<'_> {
     {
         match call {
             Call::Fork(child) => !self.parts.procs.free(*child),
-            Call::Pipe(pipe, read, write) => self.has_taken(*pipe, *read, *write),
+            Call::Pipe(pipe, read, write) => self.has_pipe_in_use(*pipe, *read, *write),
             _ => false,
         }
     }
@@ -108,6 +109,7 @@ impl Actor<'_> {
         requires free { (held : ℕ → List TheSending) → is_choice_in_use (state_of held self.now.parts.now) (chosen_in call.now) ≡ false }
         ensures { TellsWait self.now result (λ S. call_effect (inside_of self.now.inside) self.now.pid.0 call.now (me_of self.now) S) }
     {
+        own_calls();
         match call {
             Call::Waitpid(number, nohang) => self.waits_for_child(*number, *nohang),
             Call::Read(fd, address, count) => self.waits_to_read(*fd, *address, *count),

@@ -17,7 +17,7 @@ use std::alloc::Global;
 use tx_base::{Action, Errno, How, NoMemory, Regs, SIGKILL, SLOTS, SigSet, Signo};
 use tx_change::Log;
 use tx_proc::{Answer, BoxedFrame, Part, Register};
-use tx_signal::{is_bad, is_ignored, kept, known, masked, without};
+use tx_signal::{is_bad, is_ignored, known, maskable_action, masked, without};
 
 impl Actor<'_> {
     /// Says what is done about a signal (POSIX.1-2017, XSH, sigaction()). To ignore it discards it
@@ -52,7 +52,7 @@ impl Actor<'_> {
         ensures err { OnErr result (Extends log.old log.new) }
     {
         self.push_ignored(signo, action, log)?;
-        self.push(Part::Action(signo, kept(action)), log)?;
+        self.push(Part::Action(signo, maskable_action(action)), log)?;
         self.push_answer(0, log)?;
         Ok(Outcome::Done(0))
     }

@@ -15,7 +15,7 @@ ghost use Rattle.tx_model.specs.Descriptors.{descriptor, description_named};
 ghost use Rattle.tx_model.specs.Memory.{address_of, bytes_at, is_good, is_mapped};
 ghost use Rattle.tx_model.specs.Numbers.{error_answer};
 ghost use Rattle.tx_model.specs.State.{Sending as TheSending};
-ghost use Rattle.tx_proc.specs.declared.part.Part.TheVariants.{Answer as SetAnswer};
+ghost use Rattle.tx_proc.specs.declared.proc.Part.TheVariants.{Answer as SetAnswer};
 
 use crate::actor::Actor;
 use crate::answers::failing;

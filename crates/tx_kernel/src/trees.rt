@@ -184,11 +184,11 @@ impl Actor<'_> {
         laws();
         self.parts.descs.sized();
         log.push(Change::Slot(child, None))?;
-        let kept = Register {
+        let slot = Register {
             number: 0,
             value: status as i64,
         };
-        self.push(Part::Register(kept), log)?;
+        self.push(Part::Register(slot), log)?;
         self.push_answer(child.0 as i64, log)?;
         Ok(Planned::quiet(Outcome::Done(child.0 as i64)))
     }

@@ -1,24 +1,24 @@
 -- States that agree at an object agree there after the same writes, posts and conclusion.
 use Rattle.std.proofs.Common.{◌≡◌, ℕ, Bool, true, false, List, [], ◌∷◌, ℤ, Option, Some, None, if◌then◌else◌, ◌==◌, refl, sym, ap, ◌∙◌, subst, eqb-true}
 use Rattle.tx_model.specs.State.{Process, State, Sending, Object, Proc, Desc, Pipe, Held, Write, SetProc, SetDesc, SetPipe, SetHeld, put_at, write_one, with_writes, has_parent, names_at, side_in}
-use Rattle.tx_model.specs.StateLaws.{AgreePart, AgreeFamily, AgreeAt}
+use Rattle.tx_model.specs.StateLaws.{EqualAt, AgreeFamily, AgreeAt}
 use Rattle.tx_model.specs.Posts.{is_realtime, has_room, may_signal, is_quiet, with_signal, target_after, after_post, after_posts}
 use Rattle.tx_model.specs.Words.{with_queued, with_pending}
 use Rattle.tx_model.specs.Effects.{Conclusion, Replies, AnswersPost, ListsFailed, Effect, with_answer_if, first_answer, after_conclusion, after_effect}
 
-pub part_refl : (S : State) (o : Object) → AgreePart S S o
+pub part_refl : (S : State) (o : Object) → EqualAt S S o
 part_refl S (Proc n) = refl
 part_refl S (Desc n) = refl
 part_refl S (Pipe n) = refl
 part_refl S (Held n) = refl
 
-pub part_sym : (S R : State) (o : Object) → AgreePart S R o → AgreePart R S o
+pub part_sym : (S R : State) (o : Object) → EqualAt S R o → EqualAt R S o
 part_sym S R (Proc n) h = sym h
 part_sym S R (Desc n) h = sym h
 part_sym S R (Pipe n) h = sym h
 part_sym S R (Held n) h = sym h
 
-pub part_trans : (S R Q : State) (o : Object) → AgreePart S R o → AgreePart R Q o → AgreePart S Q o
+pub part_trans : (S R Q : State) (o : Object) → EqualAt S R o → EqualAt R Q o → EqualAt S Q o
 part_trans S R Q (Proc n) h k = h ∙ k
 part_trans S R Q (Desc n) h k = h ∙ k
 part_trans S R Q (Pipe n) h k = h ∙ k
@@ -43,13 +43,13 @@ family_trans S R Q (Pipe n) h k = λ d. h d ∙ k d
 family_trans S R Q (Held n) h k = tt
 
 pub agree_refl : (S : State) (o : Object) → AgreeAt S S o
-agree_refl S o = record { width = refl; part = part_refl S o; family = family_refl S o }
+agree_refl S o = record { width = refl; equal = part_refl S o; family = family_refl S o }
 
 pub agree_sym : (S R : State) (o : Object) → AgreeAt S R o → AgreeAt R S o
-agree_sym S R o h = record { width = sym h.width; part = part_sym S R o h.part; family = family_sym S R o h.family }
+agree_sym S R o h = record { width = sym h.width; equal = part_sym S R o h.equal; family = family_sym S R o h.family }
 
 pub agree_trans : (S R Q : State) (o : Object) → AgreeAt S R o → AgreeAt R Q o → AgreeAt S Q o
-agree_trans S R Q o h k = record { width = h.width ∙ k.width; part = part_trans S R Q o h.part k.part; family = family_trans S R Q o h.family k.family }
+agree_trans S R Q o h k = record { width = h.width ∙ k.width; equal = part_trans S R Q o h.equal k.equal; family = family_trans S R Q o h.family k.family }
 
 -- a value put in both maps, seen through a function
 put_same : {A B : Type 0} (g : A → B) (f k : ℕ → A) (p : ℕ) (v : A) (n : ℕ) → g (f n) ≡ g (k n) → g (put_at f p v n) ≡ g (put_at k p v n)
@@ -62,7 +62,7 @@ put_same {A} {B} g f k p v n h = by (n == p)
 put_part : {A : Type 0} (f k : ℕ → A) (p : ℕ) (v : A) (n : ℕ) → f n ≡ k n → put_at f p v n ≡ put_at k p v n
 put_part {A} f k p v n h = ap (λ (x : A). if n == p then v else x) h
 
-write_part : (w : Write) (S R : State) (o : Object) → AgreePart S R o → AgreePart (write_one w S) (write_one w R) o
+write_part : (w : Write) (S R : State) (o : Object) → EqualAt S R o → EqualAt (write_one w S) (write_one w R) o
 write_part (SetProc p x) S R (Proc n) h = put_part S.procs R.procs p x n h
 write_part (SetProc p x) S R (Desc n) h = h
 write_part (SetProc p x) S R (Pipe n) h = h
@@ -104,7 +104,7 @@ write_width (SetDesc p x) S = refl
 write_width (SetPipe p x) S = refl
 write_width (SetHeld p x) S = refl
 
-pub written_part : (ws : List Write) (S R : State) (o : Object) → AgreePart S R o → AgreePart (with_writes ws S) (with_writes ws R) o
+pub written_part : (ws : List Write) (S R : State) (o : Object) → EqualAt S R o → EqualAt (with_writes ws S) (with_writes ws R) o
 unfolding with_writes
 written_part [] S R o h = h
 written_part (w ∷ ws) S R o h = written_part ws (write_one w S) (write_one w R) o (write_part w S R o h)
@@ -121,7 +121,7 @@ written_width (w ∷ ws) S = written_width ws (write_one w S) ∙ write_width w 
 
 -- where two states agree, they agree after the same writes
 pub written_keeps : (ws : List Write) (S R : State) (o : Object) → AgreeAt S R o → AgreeAt (with_writes ws S) (with_writes ws R) o
-written_keeps ws S R o h = record { width = written_width ws S ∙ h.width ∙ sym (written_width ws R); part = written_part ws S R o h.part; family = written_family ws S R o h.family }
+written_keeps ws S R o h = record { width = written_width ws S ∙ h.width ∙ sym (written_width ws R); equal = written_part ws S R o h.equal; family = written_family ws S R o h.family }
 
 -- an edit of a process in place changes no family
 pub record KeepsFamily (g : Option Process → Option Process) : Type 0 where
@@ -131,7 +131,7 @@ pub record KeepsFamily (g : Option Process → Option Process) : Type 0 where
 abbrev pub edited_at : (Option Process → Option Process) → ℕ → State → State
 edited_at g t S = write_one (SetProc t (g (S.procs t))) S
 
-pub edit_part : (g : Option Process → Option Process) (t : ℕ) (S R : State) (o : Object) → AgreePart S R o → AgreePart (edited_at g t S) (edited_at g t R) o
+pub edit_part : (g : Option Process → Option Process) (t : ℕ) (S R : State) (o : Object) → EqualAt S R o → EqualAt (edited_at g t S) (edited_at g t R) o
 edit_part g t S R (Proc n) h = by (n == t) (λ e. eqb-true n t e)
   where
     by : (b : Bool) → (b ≡ true → n ≡ t) → (if b then g (S.procs t) else S.procs n) ≡ (if b then g (R.procs t) else R.procs n)
@@ -191,10 +191,10 @@ noted_keeps r = record { parent = parent; names = names }
     names d f None = refl
     names d f (Some q) = refl
 
-pub post_part : (m : Sending) (S R : State) (o : Object) → AgreePart S R o → AgreePart (after_post m S) (after_post m R) o
+pub post_part : (m : Sending) (S R : State) (o : Object) → EqualAt S R o → EqualAt (after_post m S) (after_post m R) o
 post_part m S R o h = edit_part (target_after m) m.target S R o h
 
-pub posts_part : (ms : List Sending) (S R : State) (o : Object) → AgreePart S R o → AgreePart (after_posts ms S) (after_posts ms R) o
+pub posts_part : (ms : List Sending) (S R : State) (o : Object) → EqualAt S R o → EqualAt (after_posts ms S) (after_posts ms R) o
 unfolding after_posts
 posts_part [] S R o h = h
 posts_part (m ∷ ms) S R o h = posts_part ms (after_post m S) (after_post m R) o (post_part m S R o h)
@@ -209,7 +209,7 @@ unfolding after_posts
 posts_width [] S = refl
 posts_width (m ∷ ms) S = posts_width ms (after_post m S)
 
-concluded_part : (c : Conclusion) (rs : List ℤ) (S R : State) (o : Object) → AgreePart S R o → AgreePart (after_conclusion c rs S) (after_conclusion c rs R) o
+concluded_part : (c : Conclusion) (rs : List ℤ) (S R : State) (o : Object) → EqualAt S R o → EqualAt (after_conclusion c rs S) (after_conclusion c rs R) o
 concluded_part (Replies r) rs S R o h = h
 concluded_part (AnswersPost p) rs S R o h = edit_part (with_answer_if (first_answer rs)) p S R o h
 concluded_part ListsFailed rs S R o h = h
@@ -224,7 +224,7 @@ concluded_width (Replies r) rs S = refl
 concluded_width (AnswersPost p) rs S = refl
 concluded_width ListsFailed rs S = refl
 
-pub applied_part : (f : Effect) (rs : List ℤ) (S R : State) (o : Object) → AgreePart S R o → AgreePart (after_effect f rs S) (after_effect f rs R) o
+pub applied_part : (f : Effect) (rs : List ℤ) (S R : State) (o : Object) → EqualAt S R o → EqualAt (after_effect f rs S) (after_effect f rs R) o
 applied_part f rs S R o h =
     concluded_part f.conclusion rs (after_posts f.sends (with_writes f.writes S)) (after_posts f.sends (with_writes f.writes R)) o
     (posts_part f.sends (with_writes f.writes S) (with_writes f.writes R) o (written_part f.writes S R o h))
@@ -240,6 +240,6 @@ applied_width f rs S = concluded_width f.conclusion rs (after_posts f.sends (wit
 pub applied_keeps : (f : Effect) (rs : List ℤ) (S R : State) (o : Object) → AgreeAt S R o → AgreeAt (after_effect f rs S) (after_effect f rs R) o
 applied_keeps f rs S R o h = record {
   width = applied_width f rs S ∙ h.width ∙ sym (applied_width f rs R);
-  part = applied_part f rs S R o h.part;
+  equal = applied_part f rs S R o h.equal;
   family = applied_family f rs S R o h.family;
 }

@@ -3,7 +3,7 @@ use Rattle.std.proofs.Common.{◌≡◌, Bool, true, false, List, [], ◌∷◌,
 use Rattle.std.specs.Ordering.{int_eq}
 use Rattle.std.proofs.lemmas.Bool.Decides.{Decides-int_eq}
 use Rattle.tx_model.specs.State.{State, Sending, Proc}
-use Rattle.tx_model.specs.StateLaws.{AgreePart}
+use Rattle.tx_model.specs.StateLaws.{EqualAt}
 use Rattle.tx_model.specs.Posts.{post_answer, after_post, post_answers}
 use Rattle.tx_model.specs.View.{differs_at}
 use Rattle.tx_laws.specs.Fits.{IsIn}
@@ -19,7 +19,7 @@ or_false_right false y h = h
 
 -- the target is the same in both states; or the answers to it are the same in a third that is the same there
 abbrev pub Known : List Sending → State → State → Sending → Type 0
-Known ms S R m = AgreePart S R (Proc m.target) ⊎ ((Q : State) × AgreePart Q R (Proc m.target) × (differs_at m.target ms (post_answers ms S) (post_answers ms Q) ≡ false))
+Known ms S R m = EqualAt S R (Proc m.target) ⊎ ((Q : State) × EqualAt Q R (Proc m.target) × (differs_at m.target ms (post_answers ms S) (post_answers ms Q) ≡ false))
 
 same_int : (x y : ℤ) (rest : Bool) → (if int_eq x y then rest else true) ≡ false → x ≡ y
 same_int x y rest h = by (int_eq x y) refl

@@ -127,18 +127,18 @@ module _ (V : View) (ev : Event) (sound : IsSound V) (clear : IsClear V ev) (X :
       other : is_live V.table m.target ≡ true → is_member_of V.table m.target (actor ev) ≡ false → (b : Bool) → X m.target ≡ b → Known f.sends (before_sends f (present V)) (before_sends f (V.without X)) m
       other live e false x =
           inl (written_part f.writes (present V) (V.without X) (Proc m.target) (sound.coherent nobody X (Proc m.target) (λ u k.
-          sym (subst (λ (y : ℕ). X y ≡ false) (sound.single m.target u (Proc m.target) (sound.own_procs m.target m.target live) k) x))).part)
+          sym (subst (λ (y : ℕ). X y ≡ false) (sound.single m.target u (Proc m.target) (sound.own_procs m.target m.target live) k) x))).equal)
       other live e true x =
           inr (
             before_sends f (V.without (just m.target)),
             written_part f.writes (V.without (just m.target)) (V.without X) (Proc m.target) (sound.coherent (just m.target) X (Proc m.target) (λ u k.
                 let z : m.target ≡ u = sound.single m.target u (Proc m.target) (sound.own_procs m.target m.target live) k in
-                eq-eqb u m.target (sym z) ∙ sym (subst (λ (y : ℕ). X y ≡ true) z x))).part,
+                eq-eqb u m.target (sym z) ∙ sym (subst (λ (y : ℕ). X y ≡ true) z x))).equal,
             or_false_right _ _ (way_clear V ev m.target live e (clear m.target live)),
           )
 
       by : (b : Bool) → is_other_starter V.table (actor ev) m.target ≡ b → Known f.sends (before_sends f (present V)) (before_sends f (V.without X)) m
-      by false e = inl (written_part f.writes (present V) (V.without X) (Proc m.target) (quiet_foot (Proc m.target) (quiet_target m i e)).part)
+      by false e = inl (written_part f.writes (present V) (V.without X) (Proc m.target) (quiet_foot (Proc m.target) (quiet_target m i e)).equal)
       by true e = let z = other_parts (is_live V.table m.target) (is_member_of V.table m.target (actor ev)) e in other z.0 z.1 (X m.target) refl
 
   pub quiet_sent : send_answers (effect ev (present V)) (present V) ≡ send_answers (effect ev (V.without X)) (V.without X)
@@ -267,7 +267,7 @@ module _ (P : Option Process → Type 0) (keeps : IsKept P) where
       other true e = absurd (both_ways (u == s) ne (eq-eqb u s (of_unique u s (V.table.marks (actor ev)) fits e)))
       other false e = refl
   starter_keeps (Aborts u k) V ev p sound clear fits s live ne h =
-      event_keeps P keeps s ev (V.without (starters_with u (just s))) out (subst P (sym same.part) h)
+      event_keeps P keeps s ev (V.without (starters_with u (just s))) out (subst P (sym same.equal) h)
     where
       same : AgreeAt (V.without (starters_with u (just s))) (V.without (just s)) (Proc s)
       same = sound.coherent (starters_with u (just s)) (just s) (Proc s) (λ t z.
@@ -414,7 +414,7 @@ module _ (V : View) (ev : Event) (sound : IsSound V) (clear : IsClear V ev) (s :
           (subst Runs (sound.coherent nobody (just p) (Proc p) (λ t k.
           absurd (both_ways (is_member_of V.table t p) (of_none t (V.table.marks p) f.1)
           (subst (λ (q : ℕ). is_member_of V.table t q ≡ true) fits.actor_is
-          (clear_foot V ev sound clear (Proc p) t (subst (λ (q : ℕ). has_object (Proc q) F ≡ true) fits.actor_is (actor_foot V.table ev (present V))) k))))).part f.3)
+          (clear_foot V ev sound clear (Proc p) t (subst (λ (q : ℕ). has_object (Proc q) F ≡ true) fits.actor_is (actor_foot V.table ev (present V))) k))))).equal f.3)
 
   foot_held : (u : ℕ) → has_object (Held u) F ≡ true → u ≡ s
   unfolding event_footprint

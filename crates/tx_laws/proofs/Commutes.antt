@@ -5,14 +5,14 @@ use Rattle.tx_model.specs.State.{State, Sending, Object, Proc, has_object}
 use Rattle.tx_model.specs.Effects.{Effect, send_answers}
 use Rattle.tx_model.specs.Words.{before_sends, processes_of}
 use Rattle.tx_model.specs.Events.{Event, effect, objects, after, reply_of}
-use Rattle.tx_model.specs.StateLaws.{state_ext, AgreePart, AgreeAt, AgreeOn}
+use Rattle.tx_model.specs.StateLaws.{state_ext, EqualAt, AgreeAt, AgreeOn}
 use Rattle.tx_laws.specs.Fits.{IsIn}
 use Rattle.tx_laws.specs.Commuting.{named_by, AreApart}
 use Rattle.tx_laws.proofs.Agree.{agree_sym, part_sym, part_trans, written_part}
 use Rattle.tx_laws.proofs.Objects.{has_head, has_tail, has_left, has_right}
 use Rattle.tx_laws.proofs.Local.{after_width, reply_same, effect_same, objects_same}
 use Rattle.tx_laws.proofs.Answered.{answers_known}
-use Rattle.tx_laws.proofs.TwoPartsView.{after_part}
+use Rattle.tx_laws.proofs.TwoStatesView.{after_part}
 use Rattle.tx_laws.proofs.StepView.{elsewhere}
 
 apart_sym : (one other : Event) (S : State) → AreApart one other S → AreApart other one S
@@ -48,7 +48,7 @@ module _ (ev : Event) (S R : State) (agree : AgreeOn (named_by ev S) S R) where
   sent_named : send_answers (effect ev S) S ≡ send_answers (effect ev R) R
   sent_named =
       let f : Effect = effect ev S in
-      answers_known f.sends (before_sends f S) (before_sends f R) (λ m i. inl (written_part f.writes S R (Proc m.target) (at_target m i).part))
+      answers_known f.sends (before_sends f S) (before_sends f R) (λ m i. inl (written_part f.writes S R (Proc m.target) (at_target m i).equal))
       ∙ ap (λ (g : Effect). send_answers g R) effect_named
 
   named_same : named_by ev S ≡ named_by ev R
@@ -70,26 +70,26 @@ reply_apart one other S apart =
     sym (reply_same one S (after other S) (effect_named one S (after other S) a) (sent_named one S (after other S) a))
 
 -- at what the first event names, the second is as if it were not
-at_named : (one other : Event) (S : State) → AreApart one other S → (o : Object) → has_object o (named_by one S) ≡ true → AgreePart (after one (after other S)) (after other (after one S)) o
+at_named : (one other : Event) (S : State) → AreApart one other S → (o : Object) → has_object o (named_by one S) ≡ true → EqualAt (after one (after other S)) (after other (after one S)) o
 at_named one other S apart o h =
     let a : AgreeOn (named_by one S) S (after other S) = agree_after one other S apart in
     let b : AgreeOn (named_by other S) S (after one S) = agree_after other one S (apart_sym one other S apart) in
     let quiet : has_object o (named_by other (after one S)) ≡ false = subst (λ (os : List Object). has_object o os ≡ false) (named_same other S (after one S) b) (apart o h) in
     part_trans (after one (after other S)) (after one S) (after other (after one S)) o
     (part_sym (after one S) (after one (after other S)) o
-    (after_part one S (after other S) (effect_named one S (after other S) a) (sent_named one S (after other S) a) o (a o h).part))
-    (part_sym (after other (after one S)) (after one S) o (else_same other (after one S) o quiet).part)
+    (after_part one S (after other S) (effect_named one S (after other S) a) (sent_named one S (after other S) a) o (a o h).equal))
+    (part_sym (after other (after one S)) (after one S) o (else_same other (after one S) o quiet).equal)
 
 -- elsewhere, the first is
-at_other : (one other : Event) (S : State) → AreApart one other S → (o : Object) → has_object o (named_by one S) ≡ false → AgreePart (after one (after other S)) (after other (after one S)) o
+at_other : (one other : Event) (S : State) → AreApart one other S → (o : Object) → has_object o (named_by one S) ≡ false → EqualAt (after one (after other S)) (after other (after one S)) o
 at_other one other S apart o h =
     let a : AgreeOn (named_by one S) S (after other S) = agree_after one other S apart in
     let b : AgreeOn (named_by other S) S (after one S) = agree_after other one S (apart_sym one other S apart) in
     let quiet : has_object o (named_by one (after other S)) ≡ false = subst (λ (os : List Object). has_object o os ≡ false) (named_same one S (after other S) a) h in
     part_trans (after one (after other S)) (after other S) (after other (after one S)) o
-    (else_same one (after other S) o quiet).part
+    (else_same one (after other S) o quiet).equal
     (after_part other S (after one S) (effect_named other S (after one S) b) (sent_named other S (after one S) b) o
-    (part_sym (after one S) S o (else_same one S o h).part))
+    (part_sym (after one S) S o (else_same one S o h).equal))
 
 pub after_apart : (one other : Event) (S : State) → AreApart one other S → after one (after other S) ≡ after other (after one S)
 after_apart one other S apart =

@@ -22,32 +22,32 @@ put_seen {A} {B} view f g k x e h q = by (q == k) (λ z. eqb-true q k z)
 write_else : (w : Write) (S T : State) (os : List Object) (o : Object) → WriteFits S os w → has_object o os ≡ false → AgreeAt T S o → AgreeAt (write_one w T) S o
 write_else (SetProc k x) S T os (Proc n) f h a = record {
   width = a.width;
-  part = rw (different (Proc n) (Proc k) os f.0 h) a.part;
+  equal = rw (different (Proc n) (Proc k) os f.0 h) a.equal;
   family = λ ne q. put_seen (has_parent n) T.procs S.procs k x (f.1 n ne h) (a.family ne) q;
 }
 write_else (SetProc k x) S T os (Desc n) f h a = record {
   width = a.width;
-  part = a.part;
+  equal = a.equal;
   family = λ q i. put_seen (names_at n i) T.procs S.procs k x (f.2 n i h) (λ p. a.family p i) q;
 }
-write_else (SetProc k x) S T os (Pipe n) f h a = record { width = a.width; part = a.part; family = a.family }
-write_else (SetProc k x) S T os (Held n) f h a = record { width = a.width; part = a.part; family = tt }
-write_else (SetDesc k x) S T os (Proc n) f h a = record { width = a.width; part = a.part; family = a.family }
-write_else (SetDesc k x) S T os (Desc n) f h a = record { width = a.width; part = rw (different (Desc n) (Desc k) os f.0 h) a.part; family = a.family }
+write_else (SetProc k x) S T os (Pipe n) f h a = record { width = a.width; equal = a.equal; family = a.family }
+write_else (SetProc k x) S T os (Held n) f h a = record { width = a.width; equal = a.equal; family = tt }
+write_else (SetDesc k x) S T os (Proc n) f h a = record { width = a.width; equal = a.equal; family = a.family }
+write_else (SetDesc k x) S T os (Desc n) f h a = record { width = a.width; equal = rw (different (Desc n) (Desc k) os f.0 h) a.equal; family = a.family }
 write_else (SetDesc k x) S T os (Pipe n) f h a = record {
   width = a.width;
-  part = a.part;
+  equal = a.equal;
   family = λ d. put_seen (side_in n) T.descs S.descs k x (f.1 n h) a.family d;
 }
-write_else (SetDesc k x) S T os (Held n) f h a = record { width = a.width; part = a.part; family = tt }
-write_else (SetPipe k x) S T os (Proc n) f h a = record { width = a.width; part = a.part; family = a.family }
-write_else (SetPipe k x) S T os (Desc n) f h a = record { width = a.width; part = a.part; family = a.family }
-write_else (SetPipe k x) S T os (Pipe n) f h a = record { width = a.width; part = rw (different (Pipe n) (Pipe k) os f h) a.part; family = a.family }
-write_else (SetPipe k x) S T os (Held n) f h a = record { width = a.width; part = a.part; family = tt }
-write_else (SetHeld k x) S T os (Proc n) f h a = record { width = a.width; part = a.part; family = a.family }
-write_else (SetHeld k x) S T os (Desc n) f h a = record { width = a.width; part = a.part; family = a.family }
-write_else (SetHeld k x) S T os (Pipe n) f h a = record { width = a.width; part = a.part; family = a.family }
-write_else (SetHeld k x) S T os (Held n) f h a = record { width = a.width; part = rw (different (Held n) (Held k) os f h) a.part; family = tt }
+write_else (SetDesc k x) S T os (Held n) f h a = record { width = a.width; equal = a.equal; family = tt }
+write_else (SetPipe k x) S T os (Proc n) f h a = record { width = a.width; equal = a.equal; family = a.family }
+write_else (SetPipe k x) S T os (Desc n) f h a = record { width = a.width; equal = a.equal; family = a.family }
+write_else (SetPipe k x) S T os (Pipe n) f h a = record { width = a.width; equal = rw (different (Pipe n) (Pipe k) os f h) a.equal; family = a.family }
+write_else (SetPipe k x) S T os (Held n) f h a = record { width = a.width; equal = a.equal; family = tt }
+write_else (SetHeld k x) S T os (Proc n) f h a = record { width = a.width; equal = a.equal; family = a.family }
+write_else (SetHeld k x) S T os (Desc n) f h a = record { width = a.width; equal = a.equal; family = a.family }
+write_else (SetHeld k x) S T os (Pipe n) f h a = record { width = a.width; equal = a.equal; family = a.family }
+write_else (SetHeld k x) S T os (Held n) f h a = record { width = a.width; equal = rw (different (Held n) (Held k) os f h) a.equal; family = tt }
 
 pub written_else : (ws : List Write) (S T : State) (os : List Object) (o : Object) → WritesFit S os ws → has_object o os ≡ false → AgreeAt T S o → AgreeAt (with_writes ws T) S o
 unfolding with_writes
@@ -58,16 +58,16 @@ written_else (w ∷ ws) S T os o f h a = written_else ws S (write_one w T) os o 
 edit_else : (g : Option Process → Option Process) → KeepsFamily g → (t : ℕ) (S : State) (o : Object) → same_object o (Proc t) ≡ false → AgreeAt (edited_at g t S) S o
 edit_else g k t S (Proc n) h = record {
   width = refl;
-  part = rw h refl;
+  equal = rw h refl;
   family = λ ne q. put_seen (has_parent n) S.procs S.procs t (g (S.procs t)) (k.parent n (S.procs t)) (λ p. refl) q;
 }
 edit_else g k t S (Desc n) h = record {
   width = refl;
-  part = refl;
+  equal = refl;
   family = λ q f. put_seen (names_at n f) S.procs S.procs t (g (S.procs t)) (k.names n f (S.procs t)) (λ p. refl) q;
 }
-edit_else g k t S (Pipe n) h = record { width = refl; part = refl; family = λ d. refl }
-edit_else g k t S (Held n) h = record { width = refl; part = refl; family = tt }
+edit_else g k t S (Pipe n) h = record { width = refl; equal = refl; family = λ d. refl }
+edit_else g k t S (Held n) h = record { width = refl; equal = refl; family = tt }
 
 posts_else : (ms : List Sending) (S : State) (os : List Object) (o : Object) → TargetsIn ms os → has_object o os ≡ false → AgreeAt (after_posts ms S) S o
 unfolding after_posts

@@ -57,8 +57,8 @@ released_named ds T U width descs pipes names = released_same ds T U agree
   where
     agree : (o : Object) → has_object o (desc_pipe_objects ds T) ≡ true → AgreeAt T U o
     agree (Proc n) h = absurd (both_ways (has_object (Proc n) (desc_pipe_objects ds T)) (ends_procs n ds T) h)
-    agree (Desc n) h = record { width = width; part = ap (λ (f : ℕ → Option Description). f n) descs; family = λ q f. names q f n }
-    agree (Pipe n) h = record { width = width; part = ap (λ (f : ℕ → Option (List ℕ)). f n) pipes; family = λ d. ap (λ (f : ℕ → Option Description). side_in n (f d)) descs }
+    agree (Desc n) h = record { width = width; equal = ap (λ (f : ℕ → Option Description). f n) descs; family = λ q f. names q f n }
+    agree (Pipe n) h = record { width = width; equal = ap (λ (f : ℕ → Option (List ℕ)). f n) pipes; family = λ d. ap (λ (f : ℕ → Option Description). side_in n (f d)) descs }
     agree (Held n) h = absurd (both_ways (has_object (Held n) (desc_pipe_objects ds T)) (ends_held n ds T) h)
 
 -- what the children's new parent changes

@@ -18,7 +18,7 @@ use Rattle.tx_model.specs.Deliveries.{delivery_page}
 use Rattle.tx_model.specs.Events.{Event, Do, Note, Commit, step_effect, effect, after}
 use Rattle.tx_model.specs.Answer.{is_running}
 use Rattle.tx_model.specs.SignalSets.{is_realtime}
-use Rattle.tx_model.specs.StateLaws.{put_cases, state_ext, AgreePart}
+use Rattle.tx_model.specs.StateLaws.{put_cases, state_ext, EqualAt}
 use Rattle.tx_laws.specs.WellFormed.{HasSizes, IsPlaced, HasGoodNumbers}
 use Rattle.tx_laws.proofs.KeepsFormParts.{IsArranged, StaysPlaced, form_edit}
 use Rattle.tx_laws.proofs.KeepsFormReleased.{written_append}
@@ -34,7 +34,7 @@ use Rattle.tx_laws.proofs.OwnPages.{StaysOwn, own_page, own_of}
 same_written : (S : State) (t : ℕ) (x : Option Process) → S.procs t ≡ x → S ≡ write_one (SetProc t x) S
 same_written S t x e = state_ext S (write_one (SetProc t x) S) refl parts
   where
-    parts : (o : Object) → AgreePart S (write_one (SetProc t x) S) o
+    parts : (o : Object) → EqualAt S (write_one (SetProc t x) S) o
     parts (Proc n) = elim (put_cases S.procs t x n) [ inl z ↦ ap S.procs z.0 ∙ e ∙ sym z.1 | inr z ↦ sym z.1 ]
     parts (Desc n) = refl
     parts (Pipe n) = refl
@@ -169,7 +169,7 @@ module _ (S : State) (inside : Option Inside) (p : Pid) (me : Process) (e : S.pr
   call_form (call.Write f address n) h = write_form S p.0 me inside e w f address n
   call_form (call.Kill t signo) h = sigqueue_form S p.0 me e runs w inside t signo (pos 0)
   call_form (call.Sigqueue t signo value) h = sigqueue_form S p.0 me e runs w inside t signo value
-  call_form c h = alone_form ((page_of_call c).outcome (caller inside p.0 me S)) (own_page (caller inside p.0 me S) c tt)
+  call_form c h = alone_form ((page_of_call c).outcome (caller inside p.0 me S)) (own_page (caller inside p.0 me S) c refl)
 
 -- a step
 module _ (S : State) (inside : Option Inside) (w : IsArranged S) where

@@ -140,8 +140,8 @@ module _ (V : View) (sound : IsSound V) (kept : IsWellFormedWith V.table (presen
       → IsTransaction new (after ev (present V)) u
   other_kept ev clear new u live out same =
       transaction_same V.table new (present V) (after ev (present V)) u live same
-      (λ n h. after_stand ev (present V) n ∙ ap stand (other_part ev (present V) (Proc n) (unreserved ev clear (Proc n) u (sound.own_procs u n h) out)).part)
-      (after_holds ev (present V) u ∙ (other_part ev (present V) (Held u) (unreserved ev clear (Held u) u (sound.own_held u live) out)).part)
+      (λ n h. after_stand ev (present V) n ∙ ap stand (other_part ev (present V) (Proc n) (unreserved ev clear (Proc n) u (sound.own_procs u n h) out)).equal)
+      (after_holds ev (present V) u ∙ (other_part ev (present V) (Held u) (unreserved ev clear (Held u) u (sound.own_held u live) out)).equal)
       (kept.live u live)
 
   -- a step outside of all
@@ -221,12 +221,12 @@ module _ (V : View) (sound : IsSound V) (kept : IsWellFormedWith V.table (presen
       stands u ne n h =
           after_stand (Note s r) R n ∙ note_stand s r R n
           ∙ ap stand (sound.coherent (starters_with s nobody) nobody (Proc n) (λ v z.
-          subst (λ (m : ℕ). starters_with s nobody m ≡ false) (sound.single u v (Proc n) (sound.own_procs u n h) z) (other u ne))).part
+          subst (λ (m : ℕ). starters_with s nobody m ≡ false) (sound.single u v (Proc n) (sound.own_procs u n h) z) (other u ne))).equal
 
       holds : (u : ℕ) → u ≢ s → (after (Note s r) R).held u ≡ (present V).held u
       holds u ne =
           after_holds (Note s r) R u
-          ∙ (sound.coherent (starters_with s nobody) nobody (Held u) (λ v z. subst (λ (m : ℕ). starters_with s nobody m ≡ false) (sym (sound.held_own v u z)) (other u ne))).part
+          ∙ (sound.coherent (starters_with s nobody) nobody (Held u) (λ v z. subst (λ (m : ℕ). starters_with s nobody m ≡ false) (sym (sound.held_own v u z)) (other u ne))).equal
 
       live : (u : ℕ) → is_live new u ≡ true → IsTransaction new (after (Note s r) R) u
       live u h = elim (same_or_other u s) [
@@ -240,7 +240,7 @@ module _ (V : View) (sound : IsSound V) (kept : IsWellFormedWith V.table (presen
       others u h = elim (same_or_other u s) [
         | inl z ↦
             ap (after (Note s r) R).held z ∙ after_holds (Note s r) R s
-            ∙ (sound.coherent (starters_with s nobody) (just s) (Held s) (λ v y. subst (λ (m : ℕ). starters_with s nobody m ≡ just s m) (sym (sound.held_own v s y)) here)).part
+            ∙ (sound.coherent (starters_with s nobody) (just s) (Held s) (λ v y. subst (λ (m : ℕ). starters_with s nobody m ≡ just s m) (sym (sound.held_own v s y)) here)).equal
             ∙ left
         | inr z ↦ holds u z ∙ kept.others u (sym ((over_table V.table s u z).members u) ∙ h)
       ]

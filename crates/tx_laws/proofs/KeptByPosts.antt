@@ -7,7 +7,7 @@ use Rattle.tx_model.specs.Words.{before_sends}
 use Rattle.tx_model.specs.Events.{Event, effect, objects, after}
 use Rattle.tx_model.specs.Answer.{is_running}
 use Rattle.tx_laws.proofs.Agree.{edited_at, received_same}
-use Rattle.tx_laws.proofs.PartsElsewhere.{writes_elsewhere}
+use Rattle.tx_laws.proofs.StatesElsewhere.{writes_elsewhere}
 
 -- posts keep it, and answers do
 pub record IsKept (P : Option Process → Type 0) : Type 0 where

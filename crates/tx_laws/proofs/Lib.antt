@@ -19,7 +19,7 @@ pub mod Tables
 pub mod Coherence
 pub mod Taken
 pub mod Erased
-pub mod TwoPartsView
+pub mod TwoStatesView
 pub mod StepView
 pub mod Commutes
 pub mod SaysEnded
@@ -46,12 +46,12 @@ pub mod WithinEvents
 pub mod FormHistory
 pub mod GoodNumbers
 pub mod StepByStep
-pub mod PartsElsewhere
+pub mod StatesElsewhere
 pub mod KeptByPosts
 pub mod DoomStays
 pub mod HoldsInside
 pub mod StepsInWay
-pub mod PartsAnswers
+pub mod StatesAnswers
 pub mod Standings
 pub mod Turns
 pub mod KeepsOwn

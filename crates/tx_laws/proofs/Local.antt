@@ -3,7 +3,7 @@ use Rattle.std.proofs.Common.{◌≡◌, ℕ, true, List, [], ◌∷◌, ◌++�
 use Rattle.tx_base.specs.declared.steps.Step.{Step}
 use Rattle.tx_base.specs.declared.steps.Step.TheVariants.{KernelAbort}
 use Rattle.tx_model.specs.State.{State, Sending, Object, Proc, Held, SetHeld, with_writes, has_object}
-use Rattle.tx_model.specs.StateLaws.{AgreePart, AgreeAt, AgreeOn}
+use Rattle.tx_model.specs.StateLaws.{EqualAt, AgreeAt, AgreeOn}
 use Rattle.tx_model.specs.Effects.{Inside, Effect, ListsFailed, send_answers, after_effect, concluding_reply, commit_effect}
 use Rattle.tx_model.specs.Events.{Event, Do, Note, Commit, process_of, page_of_step, objects_at, actor, step_effect, effect, objects, after, reply_of}
 use Rattle.tx_model.specs.Words.{note_effect}
@@ -34,7 +34,7 @@ step_effect_same (KernelAbort s) inside S R a = refl
 step_effect_same step inside S R a = act_same inside (process_of step) step S R a
 
 -- the effect of a committing step depends on that of the step and on what was held
-committing_same : (s : ℕ) (f : Effect) (S R : State) → AgreePart S R (Held s) → commit_effect s f S ≡ commit_effect s f R
+committing_same : (s : ℕ) (f : Effect) (S R : State) → EqualAt S R (Held s) → commit_effect s f S ≡ commit_effect s f R
 committing_same s f S R h =
     let e : (with_writes f.writes S).held s ≡ (with_writes f.writes R).held s = written_part f.writes S R (Held s) h in
     ap (λ (ms : List Sending). record { writes = f.writes ++ SetHeld s [] ∷ []; sends = f.sends ++ ms; conclusion = ListsFailed }) e
@@ -43,9 +43,9 @@ committing_same s f S R h =
 pub effect_same : (ev : Event) (S R : State) → AgreeOn (objects ev S) S R → effect ev S ≡ effect ev R
 unfolding effect objects
 effect_same (Do step inside) S R a = step_effect_same step inside S R a
-effect_same (Note p r) S R a = ap (note_effect p r) (a (Proc p) (has_head (Proc p) [])).part
+effect_same (Note p r) S R a = ap (note_effect p r) (a (Proc p) (has_head (Proc p) [])).equal
 effect_same (Commit s ev) S R a =
-    committing_same s (effect ev S) S R (a (Held s) (has_head (Held s) (objects ev S))).part
+    committing_same s (effect ev S) S R (a (Held s) (has_head (Held s) (objects ev S))).equal
     ∙ ap (λ (f : Effect). commit_effect s f R) (effect_same ev S R (λ o h. a o (has_tail o (Held s) (objects ev S) h)))
 
 pub objects_same : (ev : Event) (S R : State) → AgreeOn (objects ev S) S R → objects ev S ≡ objects ev R

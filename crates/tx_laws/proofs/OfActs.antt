@@ -40,7 +40,7 @@ call_local inside p (call.Read f address n) me = read_local inside p me f addres
 call_local inside p (call.Write f address n) me = write_local inside p me f address n
 call_local inside p (call.Kill t signo) me = send_local inside p me t signo (pos 0)
 call_local inside p (call.Sigqueue t signo value) me = send_local inside p me t signo value
-call_local inside p c me = page_local inside p me (page_of_call c).outcome (λ S. []) (λ S R a. refl) (λ S R a. refl) (λ S u. held_nowhere u) (λ S. own_owed p me S ((page_of_call c).outcome (caller inside p me S)) (own_page (caller inside p me S) c tt))
+call_local inside p c me = page_local inside p me (page_of_call c).outcome (λ S. []) (λ S R a. refl) (λ S R a. refl) (λ S u. held_nowhere u) (λ S. own_owed p me S ((page_of_call c).outcome (caller inside p me S)) (own_page (caller inside p me S) c refl))
 
 -- the calls that end nothing, and send to nobody but their own process
 abbrev pub IsMildCall : Call → Type 0
@@ -62,7 +62,7 @@ call_mild inside p (call.Read f address n) me S calm = (read_owes inside p me f 
 call_mild inside p (call.Write f address n) me S calm = (write_owes inside p me f address n S).mild
 call_mild inside p (call.Kill t signo) me S calm = absurd calm
 call_mild inside p (call.Sigqueue t signo value) me S calm = absurd calm
-call_mild inside p c me S calm = (own_owed p me S ((page_of_call c).outcome (caller inside p me S)) (own_page (caller inside p me S) c tt)).mild
+call_mild inside p c me S calm = (own_owed p me S ((page_of_call c).outcome (caller inside p me S)) (own_page (caller inside p me S) c refl)).mild
 
 -- a process that runs is there
 pub runs_some : (x : Option Process) → is_running x ≡ true → (me : Process) × (x ≡ Some me) × (me.status ≡ None)
@@ -85,7 +85,7 @@ module _ (inside : Option Inside) (p : ℕ) (step : Step) where
   pub act_same : (S R : State) → AgreeOn (objects_at inside p (page_of_step step) S) S R
       → effect_at inside p (page_of_step step) S ≡ effect_at inside p (page_of_step step) R
   act_same S R a =
-      or_same (S.procs p) (R.procs p) (idle NoProcess) _ _ (a (Proc p) (has_head (Proc p) _)).part
+      or_same (S.procs p) (R.procs p) (idle NoProcess) _ _ (a (Proc p) (has_head (Proc p) _)).equal
       λ me there. when_same (is_some me.status) (is_some me.status) (idle NotRunning) _ _ refl
       λ runs. (step_local inside p step me).same S R (subst (λ (os : List Object). AgreeOn os S R) (names_as inside p (page_of_step step) S me there) a)
 
@@ -94,7 +94,7 @@ module _ (inside : Option Inside) (p : ℕ) (step : Step) where
       → objects_at inside p (page_of_step step) S ≡ objects_at inside p (page_of_step step) R
   footprint_same S R a =
       ap (λ (os : List Object). Proc p ∷ os)
-      (or_same (S.procs p) (R.procs p) [] _ _ (a (Proc p) (has_head (Proc p) _)).part
+      (or_same (S.procs p) (R.procs p) [] _ _ (a (Proc p) (has_head (Proc p) _)).equal
       λ me there. (step_local inside p step me).foot S R (subst (λ (os : List Object). AgreeOn os S R) (names_as inside p (page_of_step step) S me there) a))
 
   -- its writes stay in what it names

@@ -139,7 +139,7 @@ module _ (inside : Option Inside) (p : ℕ) (me : Process) where
       same : (S R : State) → AgreeOn (Proc p ∷ desc_objects (option_list v)) S R → set_nonblock f on (caller inside p me S) ≡ set_nonblock f on (caller inside p me R)
       same S R a =
           or_same v v (fails BadDescriptor) _ _ refl λ d e. or_same (S.descs d) (R.descs d) (fails BadDescriptor) _ _
-          (subst (λ (x : Option ℕ). AgreeOn (desc_objects (option_list x)) S R) e (agree_rest (Proc p) (desc_objects (option_list v)) S R a) (Desc d) (has_head (Desc d) [])).part
+          (subst (λ (x : Option ℕ). AgreeOn (desc_objects (option_list x)) S R) e (agree_rest (Proc p) (desc_objects (option_list v)) S R a) (Desc d) (has_head (Desc d) [])).equal
           λ x z. refl
 
 -- dup2
@@ -216,9 +216,9 @@ module _ (inside : Option Inside) (p q r w : ℕ) (me : Process) where
   taken_same S R a =
       let one = agree_rest (Pipe q) (Desc r ∷ Desc w ∷ []) S R a in
       let two = agree_rest (Desc r) (Desc w ∷ []) S R one in
-      ap (λ (x : Option (List ℕ)). if is_some x then true else (if is_some (S.descs r) then true else is_some (S.descs w))) (a (Pipe q) (has_head (Pipe q) (Desc r ∷ Desc w ∷ []))).part
+      ap (λ (x : Option (List ℕ)). if is_some x then true else (if is_some (S.descs r) then true else is_some (S.descs w))) (a (Pipe q) (has_head (Pipe q) (Desc r ∷ Desc w ∷ []))).equal
       ∙ ap₂ (λ (y z : Option Description). if is_some (R.pipes q) then true else (if is_some y then true else is_some z))
-      (one (Desc r) (has_head (Desc r) (Desc w ∷ []))).part (two (Desc w) (has_head (Desc w) [])).part
+      (one (Desc r) (has_head (Desc r) (Desc w ∷ []))).equal (two (Desc w) (has_head (Desc w) [])).equal
 
 pipe_held : (u q r w : ℕ) → has_object (Held u) (pipe_objects q r w) ≡ false
 unfolding has_object

@@ -93,7 +93,7 @@ module _ (inside : Option Inside) (p child : ℕ) (me : Process) where
   fork_local =
       page_local inside p me (fork child) (λ S. fork_objects child me)
       (λ S R a. when_same (is_some (S.procs child)) (is_some (R.procs child)) (refuses NumberTaken) _ _
-      (ap is_some (a (Proc child) (has_tail (Proc child) (Proc p) (fork_objects child me) (child_in child me))).part) (λ z. refl))
+      (ap is_some (a (Proc child) (has_tail (Proc child) (Proc p) (fork_objects child me) (child_in child me))).equal) (λ z. refl))
       (λ S R a. refl) (λ S u. fork_held u) fork_owes
 
 -- the children of a process
@@ -115,7 +115,7 @@ orphaned_same : (qs : List ℕ) (S R : State) → AgreeOn (procs_of qs) S R → 
 unfolding orphan_writes
 orphaned_same [] S R a = refl
 orphaned_same (q ∷ qs) S R a =
-    ap₂ (λ (x : Option Process) (ws : List Write). SetProc q (with_parent 1 x) ∷ ws) (a (Proc q) (has_head (Proc q) (procs_of qs))).part
+    ap₂ (λ (x : Option Process) (ws : List Write). SetProc q (with_parent 1 x) ∷ ws) (a (Proc q) (has_head (Proc q) (procs_of qs))).equal
     (orphaned_same qs S R (agree_rest (Proc q) (procs_of qs) S R a))
 
 -- a child gets parent 1, which changes the families of its parent and of process 1 alone
@@ -169,7 +169,7 @@ later_same (Some inside) parent S R a = by (parent == 1) (inside.members parent)
         ≡ notice_held (if b then NotTold else (if d then AtOnce else AtCommit inside.starter)) parent R
     by true d = refl
     by false true = refl
-    by false false = ap (λ (ms : List Sending). SetHeld inside.starter (ms ++ child_notice parent ∷ []) ∷ []) (a (Held inside.starter) (has_head (Held inside.starter) [])).part
+    by false false = ap (λ (ms : List Sending). SetHeld inside.starter (ms ++ child_notice parent ∷ []) ∷ []) (a (Held inside.starter) (has_head (Held inside.starter) [])).equal
 
 later_fits : (inside : Option Inside) (parent : ℕ) (S : State) (all : List Object) → Covers all (held_objects inside) → WritesFit S all (notice_held (parent_notice inside parent) parent S)
 later_fits None parent S all c = by (parent == 1)
@@ -329,7 +329,7 @@ module _ (inside : Option Inside) (p : ℕ) (me : Process) (t : ℤ) (nohang : B
   waitpid_same S R a =
       or_same (pid_of S.width t) (pid_of R.width t) (fails NoChild) _ _ (ap (λ (w : ℕ). pid_of w t) (a (Proc p) (has_head (Proc p) (waitpid_objects t S))).width)
       λ child e. or_same (S.procs child) (R.procs child) (fails NoChild) _ _
-      (a (Proc child) (has_tail (Proc child) (Proc p) (waitpid_objects t S) (rw e (has_head (Proc child) [])))).part λ q z. refl
+      (a (Proc child) (has_tail (Proc child) (Proc p) (waitpid_objects t S) (rw e (has_head (Proc child) [])))).equal λ q z. refl
 
   pub waitpid_local : IsLocal inside p me (λ S. effect_of p me (waitpid t nohang (caller inside p me S))) (λ S. waitpid_objects t S)
   waitpid_local =

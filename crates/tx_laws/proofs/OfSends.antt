@@ -61,7 +61,7 @@ module _ (inside : Option Inside) (p : ℕ) (me : Process) (t s value : ℤ) whe
       or_same (sendable s) (sendable s) (fails InvalidArgument) _ _ refl
       λ signo e. or_same (pid_of S.width t) (pid_of R.width t) (fails NoSuchProcess) _ _ (ap (λ (w : ℕ). pid_of w t) (a (Proc p) (has_head (Proc p) (held_objects inside))).width)
       λ target there. or_same (holder_of target inside) (holder_of target inside) (posts (sending_from me target signo value)) _ _ refl
-      λ i is. let k = a (Held i.starter) (has_tail (Held i.starter) (Proc p) (held_objects inside) (rw (holder_is target inside i is) (has_head (Held i.starter) []))) in rw k.part refl
+      λ i is. let k = a (Held i.starter) (has_tail (Held i.starter) (Proc p) (held_objects inside) (rw (holder_is target inside i is) (has_head (Held i.starter) []))) in rw k.equal refl
 
   pub send_local : IsLocal inside p me (λ S. effect_of p me (sigqueue t s value (caller inside p me S))) (λ S. held_objects inside)
   send_local = record {

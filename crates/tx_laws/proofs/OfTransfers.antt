@@ -39,7 +39,7 @@ end_in test (Some d) x S e = pipe_in d x S (side_of test (S.descs d) x e)
 
 end_same : (test : Side → Bool) (d : Option ℕ) (S R : State) → AgreeOn (desc_pipe_objects (option_list d) S) S R → of_side test (description_in d S) ≡ of_side test (description_in d R)
 end_same test None S R a = refl
-end_same test (Some d) S R a = ap (of_side test) (a (Desc d) (desc_in d S)).part
+end_same test (Some d) S R a = ap (of_side test) (a (Desc d) (desc_in d S)).equal
 
 module _ (inside : Option Inside) (p : ℕ) (me : Process) (f address v : ℤ) where
   abbrev d : Option ℕ
@@ -62,7 +62,7 @@ module _ (inside : Option Inside) (p : ℕ) (me : Process) (f address v : ℤ) w
   read_same : (S R : State) → AgreeOn (names S) S R → read f address v (caller inside p me S) ≡ read f address v (caller inside p me R)
   read_same S R a =
       or_same (of_side is_read_side (description_in d S)) (of_side is_read_side (description_in d R)) (fails BadDescriptor) _ _ (end_same is_read_side d S R a)
-      λ x e. let k = a (Pipe x.pipe) (end_in is_read_side d x S e) in rw (k.part, has_end_below_same is_write_side x.pipe 64 S R k.family) refl
+      λ x e. let k = a (Pipe x.pipe) (end_in is_read_side d x S e) in rw (k.equal, has_end_below_same is_write_side x.pipe 64 S R k.family) refl
 
   pub read_local : IsLocal inside p me (λ S. effect_of p me (read f address v (caller inside p me S))) names
   read_local = page_local inside p me (read f address v) names (λ S R a. read_same S R (agree_rest (Proc p) (names S) S R a)) foot (λ S u. ends_held u (option_list d) S) read_owes
@@ -81,7 +81,7 @@ module _ (inside : Option Inside) (p : ℕ) (me : Process) (f address v : ℤ) w
   write_same : (S R : State) → AgreeOn (names S) S R → write f address v (caller inside p me S) ≡ write f address v (caller inside p me R)
   write_same S R a =
       or_same (of_side is_write_side (description_in d S)) (of_side is_write_side (description_in d R)) (fails BadDescriptor) _ _ (end_same is_write_side d S R a)
-      λ x e. let k = a (Pipe x.pipe) (end_in is_write_side d x S e) in rw (k.part, has_end_below_same is_read_side x.pipe 64 S R k.family) refl
+      λ x e. let k = a (Pipe x.pipe) (end_in is_write_side d x S e) in rw (k.equal, has_end_below_same is_read_side x.pipe 64 S R k.family) refl
 
   pub write_local : IsLocal inside p me (λ S. effect_of p me (write f address v (caller inside p me S))) names
   write_local = page_local inside p me (write f address v) names (λ S R a. write_same S R (agree_rest (Proc p) (names S) S R a)) foot (λ S u. ends_held u (option_list d) S) write_owes

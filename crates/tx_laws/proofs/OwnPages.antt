@@ -14,12 +14,14 @@ use Rattle.tx_laws.proofs.OfPages.{Owes, answers_owes, fails_owes, own_owes, sta
 use Rattle.tx_base.specs.declared.limits.TheConstants.{CONSOLE_BYTES}
 use Rattle.tx_model.specs.Numbers.{below}
 use Rattle.std.proofs.lemmas.Bool.{lt-ltb}
+use Rattle.tx_model.specs.Answer.{IsAccepted}
 use Rattle.tx_model.specs.Book.{page_of_call}
 use Rattle.tx_model.specs.Signals.{without_signal, changed_mask, with_action}
 use Rattle.tx_model.specs.State.{Ids, Process, State}
 use Rattle.tx_model.specs.Effects.{with_answer}
 use Rattle.tx_model.specs.Words.{Own, answers_with, own_effect, last_ret, is_ignored}
 use Rattle.tx_model.specs.Forms.{Caller, Outcome, fails, answers, changes, stands, posts, refuses, does, effect_of}
+use Rattle.tx_laws.specs.OwnCalls.{IsOwnOutcome, OwnCallsStayOwn, concerns_itself_alone}
 use Rattle.tx_laws.specs.WellFormed.{HasIdLimits, IsWholePage}
 use Rattle.tx_laws.proofs.InPlace.{KeepsPlace, in_place}
 use Rattle.tx_laws.proofs.KeepsFormOwn.{KeepsSizes, plain, sizes_trans, noted_sizes, discarded_sizes, action_sizes, restored_sizes, stored_paged}
@@ -37,24 +39,8 @@ abbrev pub StaysOwn : Process → Outcome → Type 0
 StaysOwn me (fails e) = Unit {0}
 StaysOwn me (answers r) = Unit {0}
 StaysOwn me (changes r q []) = KeepsOwn me q
-StaysOwn me (stands q reply) = KeepsOwn me q × (goes reply ≡ true)
+StaysOwn me (stands q reply) = KeepsOwn me q × (goes reply ≡ true) × IsAccepted reply
 StaysOwn me outcome = ⊥
-
--- the calls that read nothing but their process, and change nothing else
-abbrev pub IsOwn : Call → Type 0
-IsOwn (call.Fork child) = ⊥
-IsOwn (call.Exit status) = ⊥
-IsOwn (call.Waitpid t nohang) = ⊥
-IsOwn (call.Pipe q r w) = ⊥
-IsOwn (call.Dup f) = ⊥
-IsOwn (call.Dup2 f g) = ⊥
-IsOwn (call.Close f) = ⊥
-IsOwn (call.SetNonblock f on) = ⊥
-IsOwn (call.Read f address n) = ⊥
-IsOwn (call.Write f address n) = ⊥
-IsOwn (call.Kill t signo) = ⊥
-IsOwn (call.Sigqueue t signo value) = ⊥
-IsOwn c = Unit {0}
 
 -- what is shown fits its reply
 shown_fits : (address v : ℤ) (n : ℕ) (me : Process) → below (CONSOLE_BYTES + 1) v ≡ Some n → nat_lt (length (bytes_at me.memory (address_of address) n)) (CONSOLE_BYTES + 1) ≡ true
@@ -99,7 +85,7 @@ module _ (c : Caller) where
   acted_place signo action false = in_place me _ refl refl refl
 
   -- the page of such a call leaves what is the process's own
-  pub own_page : (asked : Call) → IsOwn asked → Owned ((page_of_call asked).outcome c)
+  pub own_page : (asked : Call) → concerns_itself_alone asked ≡ true → Owned ((page_of_call asked).outcome c)
   own_page (call.Map n) own = map_lines Owned c (λ e. tt) n λ k e free. page_keeps k (Some zero_page) (λ h. refl)
   own_page (call.Unmap n) own = unmap_lines Owned c (λ e. tt) n λ k e there. page_keeps k None (λ h. tt)
   own_page (call.Protect n writable) own =
@@ -120,28 +106,28 @@ module _ (c : Caller) where
   own_page (call.Sigprocmask how set) own =
       own_keeps me _ (in_place me _ refl refl refl) (plain me _ refl refl refl refl refl refl refl) (masked_limits me (changed_mask how (bits_of set) me.mask))
   own_page call.Sigreturn own =
-      sigreturn_lines Owned c (λ e. tt) λ frame e. (own_keeps me _ (in_place me _ refl refl refl) (restored_sizes frame me e) (restored_limits frame me e), refl)
+      sigreturn_lines Owned c (λ e. tt) λ frame e. (own_keeps me _ (in_place me _ refl refl refl) (restored_sizes frame me e) (restored_limits frame me e), refl, tt)
   own_page (call.ConsoleWrite address v) own =
-      console_write_lines Owned c (λ e. tt) address v tt λ n e good. (noted_keeps (pos n) me me (same_keeps me), shown_fits address v n me e)
+      console_write_lines Owned c (λ e. tt) address v tt λ n e good. (noted_keeps (pos n) me me (same_keeps me), shown_fits address v n me e, tt)
   own_page (call.Jump point if_so) own =
       jump_lines Owned c (λ e. tt) point if_so tt λ small.
-      (own_keeps me _ (in_place me _ refl refl refl) (plain me _ refl refl refl refl refl refl refl) (registered me point (last_ret me) me.registers.slots (not_over point small)), refl)
+      (own_keeps me _ (in_place me _ refl refl refl) (plain me _ refl refl refl refl refl refl refl) (registered me point (last_ret me) me.registers.slots (not_over point small)), refl, tt)
   own_page (call.Keep slot) own =
       keep_lines Owned c (λ e. tt) slot λ k e.
       own_keeps me _ (in_place me _ refl refl refl) (plain me _ refl refl refl (length-set me.registers.slots k (last_ret me)) refl refl refl)
       (λ h. registered me me.registers.point (last_ret me) (slice_set me.registers.slots k (last_ret me)) h.point h)
-  own_page (call.Fork child) own = absurd own
-  own_page (call.Exit status) own = absurd own
-  own_page (call.Waitpid t nohang) own = absurd own
-  own_page (call.Pipe q r w) own = absurd own
-  own_page (call.Dup f) own = absurd own
-  own_page (call.Dup2 f g) own = absurd own
-  own_page (call.Close f) own = absurd own
-  own_page (call.SetNonblock f on) own = absurd own
-  own_page (call.Read f address n) own = absurd own
-  own_page (call.Write f address n) own = absurd own
-  own_page (call.Kill t signo) own = absurd own
-  own_page (call.Sigqueue t signo value) own = absurd own
+  own_page (call.Fork child) own = cc
+  own_page (call.Exit status) own = cc
+  own_page (call.Waitpid t nohang) own = cc
+  own_page (call.Pipe q r w) own = cc
+  own_page (call.Dup f) own = cc
+  own_page (call.Dup2 f g) own = cc
+  own_page (call.Close f) own = cc
+  own_page (call.SetNonblock f on) own = cc
+  own_page (call.Read f address n) own = cc
+  own_page (call.Write f address n) own = cc
+  own_page (call.Kill t signo) own = cc
+  own_page (call.Sigqueue t signo value) own = cc
   -- each other page answers at most
   own_page asked own = tt
 
@@ -166,3 +152,15 @@ own_owed p old S (stands q reply) h = stands_owe p old S [] q reply h.0.place h.
 own_owed p old S (posts m) h = absurd h
 own_owed p old S (refuses why) h = absurd h
 own_owed p old S (does f) h = absurd h
+
+-- the law, without what is kept
+pub own_stays : OwnCallsStayOwn
+own_stays c asked alone = by ((page_of_call asked).outcome c) (own_page c asked alone)
+  where
+    by : (outcome : Outcome) → StaysOwn c.process outcome → IsOwnOutcome outcome
+    by (fails e) h = tt
+    by (answers r) h = tt
+    by (changes r q []) h = tt
+    by (changes r q (w ∷ ws)) h = absurd h
+    by (stands q reply) h = h.2
+    by outcome h = absurd h

@@ -1,5 +1,5 @@
 -- Which calls change nothing but what their own process has, and descriptions and pipes.
-use Rattle.std.proofs.Common.{◌⊎◌, ℕ, Option, sym, subst, inl, inr}
+use Rattle.std.proofs.Common.{◌⊎◌, ℕ, Option, refl, sym, subst, inl, inr}
 use Rattle.tx_base.specs.declared.steps.Call.{Call}
 use Rattle.tx_base.specs.declared.steps.Call.TheVariants as call
 use Rattle.tx_model.specs.State.{Process, State}
@@ -44,4 +44,4 @@ module _ (S : State) (p : ℕ) (me : Process) (inside : Option Inside) where
   call_plain (call.Write f address n) = inr (write_plain c f address n)
   call_plain (call.Kill t signo) = inl tt
   call_plain (call.Sigqueue t signo value) = inl tt
-  call_plain asked = inr (alone_plain ((page_of_call asked).outcome c) (own_page c asked tt))
+  call_plain asked = inr (alone_plain ((page_of_call asked).outcome c) (own_page c asked refl))

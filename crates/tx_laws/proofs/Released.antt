@@ -70,7 +70,7 @@ pub pipes_same : (ds : List ℕ) (S R : State) → AgreeOn (desc_objects ds) S R
 unfolding pipes_of
 pipes_same [] S R a = refl
 pipes_same (d ∷ ds) S R a =
-    ap₂ (λ (x : Option Description) (ks : List ℕ). pipe_of x ++ ks) (a (Desc d) (has_head (Desc d) (desc_objects ds))).part
+    ap₂ (λ (x : Option Description) (ks : List ℕ). pipe_of x ++ ks) (a (Desc d) (has_head (Desc d) (desc_objects ds))).equal
     (pipes_same ds S R (agree_rest (Desc d) (desc_objects ds) S R a))
 
 -- the pipes of descriptions, where all descriptions are the same

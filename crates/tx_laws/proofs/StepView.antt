@@ -3,7 +3,7 @@ use Rattle.std.proofs.Common.{◌≡◌, true, false, List, [], ◌∷◌, ◌++
 use Rattle.tx_base.specs.declared.steps.Step.{Step}
 use Rattle.tx_base.specs.declared.steps.Reply.{Reply}
 use Rattle.tx_model.specs.State.{State, Sending, Object, Proc, has_object}
-use Rattle.tx_model.specs.StateLaws.{AgreePart, AgreeAt}
+use Rattle.tx_model.specs.StateLaws.{EqualAt, AgreeAt}
 use Rattle.tx_model.specs.Events.{Event, process_of, effect, objects, after}
 use Rattle.tx_model.specs.Membership.{Role}
 use Rattle.tx_model.specs.Words.{processes_of}
@@ -11,11 +11,11 @@ use Rattle.tx_model.specs.View.{View, role_on, event_on, next}
 use Rattle.tx_model.specs.Answer.{answer, IsAccepted}
 use Rattle.tx_laws.specs.Sound.{IsSound}
 use Rattle.tx_laws.specs.Fits.{Fits, Passes}
-use Rattle.tx_laws.specs.TwoParts.{TwoParts, parts_view, parts_next}
+use Rattle.tx_laws.specs.TwoStates.{TwoStates, states_view, states_next}
 use Rattle.tx_laws.proofs.Objects.{TargetsIn, has_head, has_tail, has_left, has_right}
 use Rattle.tx_laws.proofs.Elsewhere.{effect_fits, after_else}
 use Rattle.tx_laws.proofs.Taken.{IsTaken, taken}
-use Rattle.tx_laws.proofs.TwoPartsView.{parts_next_view}
+use Rattle.tx_laws.proofs.TwoStatesView.{states_next_view}
 
 -- what a step that may be taken is on the view goes with its event
 pub record IsFitting (V : View) (step : Step) : Type 0 where
@@ -29,12 +29,12 @@ fitting V step sound a =
     let z = subst (λ (x : Role × Event). Fits x.0 x.1 (process_of step) V × Passes x.0 x.1 V) (ap₂ (λ (u : Role) (v : Event). (u, v)) t.role_is t.event_is) (t.fits, t.passes) in
     record { fits = z.0; passes = z.1 }
 
-pub parts_step_view : (c : TwoParts) (step : Step) → IsSound (parts_view c) → IsAccepted (answer (parts_view c) step)
-    → parts_view (parts_next (role_on (parts_view c) step) (event_on (parts_view c) step) (process_of step) c) ≡ next (parts_view c) step
+pub states_step_view : (c : TwoStates) (step : Step) → IsSound (states_view c) → IsAccepted (answer (states_view c) step)
+    → states_view (states_next (role_on (states_view c) step) (event_on (states_view c) step) (process_of step) c) ≡ next (states_view c) step
 unfolding next
-parts_step_view c step sound a =
-    let f : IsFitting (parts_view c) step = fitting (parts_view c) step sound a in
-    parts_next_view (role_on (parts_view c) step) (event_on (parts_view c) step) (process_of step) c sound f.passes f.fits
+states_step_view c step sound a =
+    let f : IsFitting (states_view c) step = fitting (states_view c) step sound a in
+    states_next_view (role_on (states_view c) step) (event_on (states_view c) step) (process_of step) c sound f.passes f.fits
 
 targets_in : (ms : List Sending) (os : List Object) → ((o : Object) → has_object o (processes_of ms) ≡ true → has_object o os ≡ true) → TargetsIn ms os
 targets_in [] os h = tt
@@ -48,5 +48,5 @@ elsewhere ev S o h =
     (targets_in (effect ev S).sends os (λ q k. has_right q (objects ev S) (processes_of (effect ev S).sends) k))) h
 
 -- an event leaves every part alone but those of its objects and of the targets of its sends
-pub parts_elsewhere : (ev : Event) (S : State) (o : Object) → has_object o (objects ev S ++ processes_of (effect ev S).sends) ≡ false → AgreePart (after ev S) S o
-parts_elsewhere ev S o h = (elsewhere ev S o h).part
+pub states_elsewhere : (ev : Event) (S : State) (o : Object) → has_object o (objects ev S ++ processes_of (effect ev S).sends) ≡ false → EqualAt (after ev S) S o
+states_elsewhere ev S o h = (elsewhere ev S o h).equal

@@ -104,11 +104,11 @@ module _ (V : View) (sound : IsSound V) (kept : IsWellFormedView V) (form : IsWe
       after_holds ev (V.without X) u
       ∙ (other_part ev (V.without X) (Held u)
       (subst (λ (os : List Object). has_object (Held u) os ≡ false) (objects_same ev (present V) (V.without X) (quiet_objects V ev sound clear X quiet))
-      (unreserved V sound kept.formed ev clear (Held u) u (sound.own_held u live) out))).part
+      (unreserved V sound kept.formed ev clear (Held u) u (sound.own_held u live) out))).equal
 
   -- two sets that leave out this number alike
   alike : (X Y : Starters) (u : ℕ) → X u ≡ Y u → (V.without X).held u ≡ (V.without Y).held u
-  alike X Y u same = (sound.coherent X Y (Held u) (λ v z. subst (λ (n : ℕ). X n ≡ Y n) (sym (sound.held_own v u z)) same)).part
+  alike X Y u same = (sound.coherent X Y (Held u) (λ v z. subst (λ (n : ℕ). X n ≡ Y n) (sym (sound.held_own v u z)) same)).equal
 
   self : (u : ℕ) → just u u ≡ true
   self u = eq-eqb u u refl
@@ -123,7 +123,7 @@ module _ (V : View) (sound : IsSound V) (kept : IsWellFormedView V) (form : IsWe
       by false e =
           let no : has_object (Held u) (objects ev (V.without (just u))) ≡ false =
           false_unless (has_object (Held u) (objects ev (V.without (just u)))) (λ h. both_ways (s == u) e (eq-eqb s u (sym (fits.holds (V.without (just u)) u h)))) in
-          after_holds ev (V.without (just u)) u ∙ (other_part ev (V.without (just u)) (Held u) no).part ∙ kept.left u
+          after_holds ev (V.without (just u)) u ∙ (other_part ev (V.without (just u)) (Held u) no).equal ∙ kept.left u
   left_live (Commits s) ev p passes fits u live = by (u == s) refl
     where
       by : (b : Bool) → (u == s) ≡ b → ((next_by (Commits s) ev p V).without (just u)).held u ≡ []
@@ -152,7 +152,7 @@ module _ (V : View) (sound : IsSound V) (kept : IsWellFormedView V) (form : IsWe
     | inr dead ↦
         let now : IsSound (next_by r ev p V) = sound_by r V ev p sound passes fits in
         (now.coherent (just u) nobody (Held u) (λ v z.
-        absurd (both_ways (is_live (table_after r p V.table) u) dead (subst (λ (n : ℕ). is_live (table_after r p V.table) n ≡ true) (now.held_own v u z) (now.owned_live v (Held u) z))))).part
+        absurd (both_ways (is_live (table_after r p V.table) u) dead (subst (λ (n : ℕ). is_live (table_after r p V.table) n ≡ true) (now.held_own v u z) (now.owned_live v (Held u) z))))).equal
         ∙ formed.others u dead
   ]
 

@@ -22,24 +22,24 @@ ProgressFits V s p ev (Forks c) = (is_member_of V.table s p ≡ true) × (has_ob
 ProgressFits V s p ev (Begins defers) = (s ≡ p) × (V.table.marks p ≡ None) × (is_between V.table.width p ≡ true) × (is_running ((present V).procs p) ≡ true)
 
 -- the event is of a member of the transaction, or of its starter to be; it posts among the members, and holds with its own
-pub record FitsWithin (s : ℕ) (part : Progress) (ev : Event) (p : ℕ) (V : View) : Type 0 where
+pub record FitsWithin (s : ℕ) (progress : Progress) (ev : Event) (p : ℕ) (V : View) : Type 0 where
   pub actor_is : actor ev ≡ p
   pub mine : (t : ℕ) → is_member_of V.table t p ≡ true → t ≡ s
-  pub progress_fits : ProgressFits V s p ev part
+  pub progress_fits : ProgressFits V s p ev progress
   pub sends : (S : State) (m : Sending) → IsIn m (effect ev S).sends → is_other_starter V.table (actor ev) m.target ≡ false
   pub holds : (S : State) (u : ℕ) → has_object (Held u) (objects ev S) ≡ true → u ≡ s
 
 -- how the event goes with the role
 abbrev pub Fits : Role → Event → ℕ → View → Type 0
 Fits Outside ev p V = (t : ℕ) → is_member_of V.table t (actor ev) ≡ false
-Fits (Within s part) ev p V = FitsWithin s part ev p V
+Fits (Within s progress) ev p V = FitsWithin s progress ev p V
 Fits (Commits s) ev p V = is_member_of V.table s (actor ev) ≡ true
 Fits (Aborts s k) ev p V = (is_live V.table s ≡ true) × ((r : ℤ) × (ev ≡ Note s r))
 
 -- an abort is never in anyone's way, any other event has to be clear
 abbrev pub Passes : Role → Event → View → Type 0
 Passes Outside ev V = IsClear V ev
-Passes (Within s part) ev V = IsClear V ev
+Passes (Within s progress) ev V = IsClear V ev
 Passes (Commits s) ev V = IsClear V ev
 Passes (Aborts s k) ev V = Unit {0}
 
@@ -61,6 +61,6 @@ HoldsFor u (Commit s ev) = (u ≡ s) ⊎ HoldsFor u ev
 -- whether a step of the role ends the transaction of s
 abbrev pub ends_it : ℕ → Role → Bool
 ends_it s Outside = false
-ends_it s (Within t part) = false
+ends_it s (Within t progress) = false
 ends_it s (Commits t) = t == s
 ends_it s (Aborts t status) = t == s

@@ -37,8 +37,8 @@ OtherAbortAnswers202 = (view : View) (starter : Pid) →
 
 -- no step inside a transaction changes whether that is doomed
 abbrev pub MembersDoomNothing : Type 0
-MembersDoomNothing = (view : View) (step : Step) (starter : ℕ) (part : Progress) →
-    role_on view step ≡ Within starter part → is_doomed (next view step) starter ≡ is_doomed view starter
+MembersDoomNothing = (view : View) (step : Step) (starter : ℕ) (progress : Progress) →
+    role_on view step ≡ Within starter progress → is_doomed (next view step) starter ≡ is_doomed view starter
 
 -- SIGKILL that a process outside of all transactions sends by kill to a live starter, and that is let through, dooms
 -- the transaction

@@ -2,7 +2,7 @@
 use Rattle.std.specs.Prelude.{◌≡◌, ℕ, ℤ, List, Some, true, false, ◌++◌}
 use Rattle.tx_base.specs.declared.steps.Step.{Step}
 use Rattle.tx_model.specs.State.{State, Sending, Object, Proc, Held, has_object}
-use Rattle.tx_model.specs.StateLaws.{AgreePart, AgreeAt, AgreeOn}
+use Rattle.tx_model.specs.StateLaws.{EqualAt, AgreeAt, AgreeOn}
 use Rattle.tx_model.specs.Posts.{after_posts}
 use Rattle.tx_model.specs.Effects.{Inside, after_effect}
 use Rattle.tx_model.specs.Words.{before_sends, processes_of}
@@ -32,20 +32,20 @@ abbrev pub ElsewhereIsSame : Type 0
 ElsewhereIsSame = (event : Event) (state : State) (object : Object) →
     has_object object (objects event state ++ processes_of (effect event state).sends) ≡ false → AgreeAt (after event state) state object
 
--- an event leaves the part of every other object as it was
-abbrev pub OtherPartsStay : Type 0
-OtherPartsStay = (event : Event) (state : State) (object : Object) →
-    has_object object (objects event state ++ processes_of (effect event state).sends) ≡ false → AgreePart (after event state) state object
+-- an event leaves every other object as it was
+abbrev pub OtherObjectsStay : Type 0
+OtherObjectsStay = (event : Event) (state : State) (object : Object) →
+    has_object object (objects event state ++ processes_of (effect event state).sends) ≡ false → EqualAt (after event state) state object
 
--- the writes of an event leave, in any state, the part of everything that is no object of it as it was
+-- the writes of an event leave, in any state, everything that is no object of it as it was
 abbrev pub WritesStayInObjects : Type 0
 WritesStayInObjects = (event : Event) (state other : State) (object : Object) →
-    has_object object (objects event state) ≡ false → AgreePart (before_sends (effect event state) other) other object
+    has_object object (objects event state) ≡ false → EqualAt (before_sends (effect event state) other) other object
 
 -- at what is no object of it an event does nothing but post its sends, in whatever state it is made
 abbrev pub OthersGetSendsAlone : Type 0
 OthersGetSendsAlone = (event : Event) (state other : State) (answers : List ℤ) (object : Object) →
-    has_object object (objects event state) ≡ false → AgreePart (after_effect (effect event state) answers other) (after_posts (effect event state).sends other) object
+    has_object object (objects event state) ≡ false → EqualAt (after_effect (effect event state) answers other) (after_posts (effect event state).sends other) object
 
 -- what a transaction holds is an object of those events alone that are made inside of it, or commit it
 abbrev pub HoldsForItsOwn : Type 0

@@ -1,7 +1,7 @@
 pub mod Places
 pub mod OneMoment
 pub mod WellFormed
-pub mod TwoParts
+pub mod TwoStates
 pub mod TwoAnswers
 pub mod Sound
 pub mod Fits
@@ -9,10 +9,11 @@ pub mod Commuting
 pub mod Footprints
 pub mod Laws
 pub mod LawsOfEvents
-pub mod LawsOfParts
+pub mod LawsOfTwoStates
 pub mod LawsOfOthers
 pub mod LawsOfDoom
 pub mod Endings
 pub mod Shown
+pub mod OwnCalls
 pub mod WellFormedTable
 pub mod LawsOfTable

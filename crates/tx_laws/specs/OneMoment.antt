@@ -25,7 +25,7 @@ with_other e p = record { own = p.own; others = e ∷ p.others }
 -- whether the step is of the transaction of s that lives then
 abbrev pub is_step_of : ℕ → Role → Bool
 is_step_of s Outside = false
-is_step_of s (Within t part) = t == s
+is_step_of s (Within t progress) = t == s
 is_step_of s (Commits t) = t == s
 is_step_of s (Aborts t status) = t == s
 

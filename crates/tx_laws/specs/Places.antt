@@ -17,7 +17,7 @@ pub data Fate : Type 0 where
 unfoldable pub fate : ℕ → List Role → Fate
 fate s [] = Live
 fate s (Outside ∷ later) = fate s later
-fate s (Within t part ∷ later) = fate s later
+fate s (Within t progress ∷ later) = fate s later
 fate s (Commits t ∷ later) = if s == t then Committed else fate s later
 fate s (Aborts t status ∷ later) = if s == t then Aborted else fate s later
 
@@ -30,7 +30,7 @@ leaves_out Live x = x
 -- whether the step at a place is left out, by what follows it. Where a transaction is aborted, its starter's note stands
 abbrev pub is_left_out : Starters → List Role → Role → Bool
 is_left_out X later Outside = false
-is_left_out X later (Within s part) = leaves_out (fate s later) (X s)
+is_left_out X later (Within s progress) = leaves_out (fate s later) (X s)
 is_left_out X later (Commits s) = false
 is_left_out X later (Aborts s status) = false
 

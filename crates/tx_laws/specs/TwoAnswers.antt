@@ -1,4 +1,4 @@
--- Who is in the way of an event, told by what a kernel of two parts keeps. Own rules.
+-- Who is in the way of an event, told by the two states of a kernel. Own rules.
 use Rattle.std.specs.Prelude.{ℕ, Bool, true, false, List, [], ◌∷◌, Option, if◌then◌else◌, ◌==◌}
 use Rattle.std.specs.Ordering.{int_eq}
 use Rattle.tx_model.specs.State.{Process, Sending}
@@ -7,7 +7,7 @@ use Rattle.tx_model.specs.Events.{Event, actor, effect}
 use Rattle.tx_model.specs.Membership.{is_live, is_member_of}
 use Rattle.tx_model.specs.History.{event_footprint}
 use Rattle.tx_model.specs.View.{some_object}
-use Rattle.tx_laws.specs.TwoParts.{TwoParts, is_owner}
+use Rattle.tx_laws.specs.TwoStates.{TwoStates, is_owner}
 
 -- whether a send to process s is answered otherwise by the one process than by the other, one send after another
 unfoldable pub differs_by : ℕ → List Sending → Option Process → Option Process → Bool
@@ -18,16 +18,16 @@ differs_by s (m ∷ ms) one other =
     else differs_by s ms one other
 
 -- whether s owns something that the event names
-abbrev pub owns_named : TwoParts → Event → ℕ → Bool
+abbrev pub owns_named : TwoStates → Event → ℕ → Bool
 owns_named c ev s = some_object (event_footprint c.table ev c.now) (λ o. is_owner s (c.owner o))
 
 -- whether a send of the event to s is answered otherwise by its process as it is kept than as it is now
-abbrev pub sends_differ : TwoParts → Event → ℕ → Bool
+abbrev pub sends_differ : TwoStates → Event → ℕ → Bool
 sends_differ c ev s = differs_by s (effect ev c.now).sends (c.now.procs s) (c.kept.procs s)
 
 -- whether the live transaction of s, of which the actor is no member, is in the way of the event
-abbrev pub parts_in_way : TwoParts → Event → ℕ → Bool
-parts_in_way c ev s =
+abbrev pub states_in_way : TwoStates → Event → ℕ → Bool
+states_in_way c ev s =
     if is_live c.table s
     then (if is_member_of c.table s (actor ev) then false else (if owns_named c ev s then true else sends_differ c ev s))
     else false

@@ -1,5 +1,42 @@
 //! The laws over the definitions of the kernel, as the contracts of functions that do nothing. What
-//! crates above take as a premise has a name, in `specs/Laws.antt` and the files beside it.
+//! crates above take as a premise has a name, in `specs/Laws.antt` and the files beside it: whoever
+//! wants a law calls its function.
+//!
+//! - *erasure*: in every prefix of a lawful history, from any first state, each surviving step's
+//!   reply is that of its event in the plain run of the survivors;
+//! - *next view*: the view of a lawful history is `next` of the view of the entries before its
+//!   last; and what the view has at an object depends on those transactions alone that reserved it;
+//! - *step by step*: the first view is sound, an accepted step makes of a sound view a sound one
+//!   and of well-formed states well-formed ones, its event goes with what it is to the
+//!   transactions, and a schedule's accepted steps are a lawful history;
+//! - *two states*: a kernel that has the state now, the kept one, in which each object is as it
+//!   would be without its owner's transaction, and the owners, has the next view after its step,
+//!   whatever the step is to the transactions;
+//! - *answers of states*: doom, the two answers at a starter, and who is in the way, of what such a
+//!   kernel has;
+//! - *locality*: states that agree at an event's objects, families included, give the same effect,
+//!   objects and reply; nothing changes but at its objects, the targets of its sends, and the
+//!   children of process 1;
+//! - *inside*: what is held is held for the transaction that the event is made in, and members post
+//!   to members;
+//! - *footprints*: the footprint of a step, row by row, is what its event names and posts to, and
+//!   tells who is in the step's way;
+//! - *survivors by places*: the survivors are the events of the steps that no later abort takes
+//!   back;
+//! - *commuting*: two events commute where no object is named by both;
+//! - *well formed*, and *well formed with the table*: every event keeps well-formed states, and a
+//!   lawful history has no others; its live transactions have their starters, their running
+//!   members, and no more held sends than they may, so what a commit lists fits its reply;
+//! - *doom*: of a doomed transaction only the kernel's abort is accepted; a SIGKILL from outside of
+//!   all transactions dooms a starter's, nothing takes that back, and no step inside one dooms it.
+//!
+//! The laws stand over the definitions alone. They go by the role of a step (outside, within,
+//! commits, aborts) and by objects, not by calls. So a machine owes one thing: that its view after
+//! a step is `next` of its view before. And a rule of a call owes the laws its locality, and that
+//! inside a transaction it posts to members alone and holds with its own; that is proved of each,
+//! in files of `proofs/` by groups (`Of..`), and of well-formed states likewise (`KeepsForm..`),
+//! mostly by the lines of its page. The calls that concern their process alone have one table for
+//! all of this (`OwnPages`), and a law that says what they come to (*own calls*).
 #![tactic(auto)]
 
 ghost use Rattle.std.specs.Prelude.{◌≤◌, ℕ, List, ◌≡◌, length};
@@ -17,8 +54,9 @@ ghost use Rattle.tx_laws.specs.LawsOfOthers.{HistoriesAgree, EntriesFit, Objects
 ghost use Rattle.tx_laws.specs.LawsOfDoom.{DoomedCallsAreRefused, DoomedDeliveriesAreRefused, DoomedAbortAnswers203, OtherAbortAnswers202, MembersDoomNothing, KillDooms, SigqueueDooms, DoomStays};
 ghost use Rattle.tx_laws.specs.Endings.{ExitIsTold, ExitsSayEnd, OtherCallsSayNoEnd, DeliveriesSayEnd, EndingsAreAnswered, StepIsToldByEnd, OtherCallIsTold, DeliveryIsTold};
 ghost use Rattle.tx_laws.specs.Shown.{ShowsFew};
-ghost use Rattle.tx_laws.specs.LawsOfEvents.{ActorIsObject, EffectIsLocal, ObjectsAreLocal, ReplyIsLocal, ElsewhereIsSame, OtherPartsStay, WritesStayInObjects, OthersGetSendsAlone, HoldsForItsOwn, MembersSendToMembers, StatesCommute, RepliesCommute};
-ghost use Rattle.tx_laws.specs.LawsOfParts.{StartHasItsView, SamePartsSameView, PartsFollowRole, PartsFollowStep, PresentIsNow, DoomIsKept, TwoAnswersAreOfStarter, InWayIsOfParts, StarterInWayIsOfParts};
+ghost use Rattle.tx_laws.specs.OwnCalls.{OwnCallsStayOwn};
+ghost use Rattle.tx_laws.specs.LawsOfEvents.{ActorIsObject, EffectIsLocal, ObjectsAreLocal, ReplyIsLocal, ElsewhereIsSame, OtherObjectsStay, WritesStayInObjects, OthersGetSendsAlone, HoldsForItsOwn, MembersSendToMembers, StatesCommute, RepliesCommute};
+ghost use Rattle.tx_laws.specs.LawsOfTwoStates.{StartHasItsView, SameStatesSameView, StatesFollowRole, StatesFollowStep, PresentIsNow, DoomIsKept, TwoAnswersAreOfStarter, InWayIsOfStates, StarterInWayIsOfStates};
 ghost use Rattle.tx_laws.specs.WellFormed.{IsWellFormed};
 ghost use Rattle.tx_laws.specs.Footprints.{ClearIsOfMembers, FootprintIsOfEvent, FootprintIsShared, StarterInWayIsOfStep, NoStarterIsClear};
 ghost use Rattle.tx_laws.specs.WellFormedTable.{HoldsNothing, IsWellFormedWith};
@@ -74,28 +112,28 @@ pub fn step_by_step()
     ensures lawful { SchedulesAreLawful }
 {}
 
-/// A kernel that keeps two parts and one owner for each object has the view of its history: at the
-/// start, where nobody owns anything; then in every role that a step may have, and so after each
-/// accepted step. Its view is told by its parts as they are now, by its owners and its table, and by
-/// the kept parts of what is owned.
-pub fn two_parts()
+/// A kernel with two states, the state now and the kept one, and with an owner for each object has the
+/// view of its history: at the start, where nobody owns anything; then in every role that a step may
+/// have, and so after each accepted step. Its view is told by its state now, by its owners and its
+/// table, and by what is kept of what is owned.
+pub fn two_states()
     ensures start { StartHasItsView }
-    ensures same { SamePartsSameView }
-    ensures role { PartsFollowRole }
-    ensures step { PartsFollowStep }
+    ensures same { SameStatesSameView }
+    ensures role { StatesFollowRole }
+    ensures step { StatesFollowStep }
 {}
 
-/// The answers of a kernel of two parts, by what it keeps. The state is the part as it is now; a live
+/// The answers of a kernel with two states, by these. The present state is the one now; a live
 /// transaction is doomed if SIGKILL is pending at its starter as that is kept. The transaction of a live
 /// starter is in the way of an event of a process that is no member of it, if the starter owns something
 /// that the event names, or if one of the event's sends to the starter is answered otherwise by its
 /// process as it is kept than as it is now. A busy step names the least starter in its way.
-pub fn answers_of_parts()
+pub fn answers_of_states()
     ensures present { PresentIsNow }
     ensures doom { DoomIsKept }
     ensures two_answers { TwoAnswersAreOfStarter }
-    ensures in_way { InWayIsOfParts }
-    ensures starter_in_way { StarterInWayIsOfParts }
+    ensures in_way { InWayIsOfStates }
+    ensures starter_in_way { StarterInWayIsOfStates }
 {}
 
 /// Locality: what an event does, and which objects it has, is a function of its objects, their families
@@ -109,7 +147,7 @@ pub fn locality()
     ensures objects { ObjectsAreLocal }
     ensures reply { ReplyIsLocal }
     ensures elsewhere { ElsewhereIsSame }
-    ensures parts { OtherPartsStay }
+    ensures parts { OtherObjectsStay }
     ensures writes { WritesStayInObjects }
     ensures sends { OthersGetSendsAlone }
 {}
@@ -175,6 +213,11 @@ pub fn endings()
     ensures exit { ExitIsTold }
     ensures delivery { DeliveryIsTold }
     ensures shown { ShowsFew }
+{}
+
+/// A call that concerns its process alone answers, and at most changes that process.
+pub fn own_calls()
+    ensures { OwnCallsStayOwn }
 {}
 
 /// Well-formed states: process 1 runs, the parent of any other process runs too, what descriptors

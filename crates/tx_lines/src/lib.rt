@@ -1,7 +1,26 @@
-//! The lines of texts: what reads schedules, schedules with commands and programs, and what prints words,
-//! numbers, sets and steps. It knows the grammar, and nothing of a machine.
+//! The lines of texts: what reads schedules, schedules with commands and programs, and what prints
+//! words, numbers, sets and steps. It knows the grammar, and nothing of a machine.
+//!
+//! One table has a row for each call (`calls.rt`): its name, how it is printed, and where its
+//! numbers stand. The ends that texts come from and go to are two traits, `Source` and `Sink`,
+//! whose contracts name the bytes and count interruptions and failures; readers and writers of the
+//! standard library are one kind of end (`OverRead`, `OverWrite`), and `ends/` has the loops over
+//! them. `read/` has what reads a text: a line is read exactly when it is spelled so, and for
+//! headers, steps and numbers the contracts say it both ways. Stores, loads and the calls of
+//! transactions, which schedules have most, are told by the front of their text. Any other call
+//! goes by its first word, in groups: each group reads its own names and hands all others on to the
+//! next. Lines of all steps are read, but `sys_xbegin defer` in the second version alone. A program
+//! is read line by line (`read/program_lines.rt`) and then linked (`read/program_text.rt`): each
+//! point becomes the number that its label names. An instruction is a call and how each of its
+//! arguments is spelled. To read one, the words that stand for a slot or a label are put down and
+//! `0` is put in their places (`read/spellings.rt`); what is left is read as a call of a schedule
+//! (`read_call`), and then it is asked whether each argument may be spelled so
+//! (`read/instructions.rt`). So calls have one reader. Of an instruction, `filling.rt` makes the
+//! call that a process makes by it. `print/` has what writes words, numbers, sets and bytes, and a
+//! step as a line of a schedule.
 #![tactic(auto)]
 
+mod calls;
 mod ends;
 mod faults;
 mod filling;

@@ -6,7 +6,7 @@ use Rattle.tx_base.specs.Slots.{slot_at}
 use Rattle.tx_change.specs.Counts.{CountsAgree}
 use Rattle.tx_change.specs.Laws.{HaveAllPlaces}
 use Rattle.tx_change.specs.States.{state_of}
-use Rattle.tx_laws.specs.TwoParts.{is_owner, parts_view}
+use Rattle.tx_laws.specs.TwoStates.{is_owner, states_view}
 use Rattle.tx_live.specs.Begins.{IsAlone}
 use Rattle.tx_model.specs.Membership.{is_of}
 use Rattle.tx_live.proofs.Outsides.{same_content}
@@ -16,7 +16,7 @@ use Rattle.tx_live.specs.declared.content.Content.{Content}
 use Rattle.tx_model.specs.State.{Object, Proc, Desc, Pipe, Held, State, boot_state}
 use Rattle.tx_model.specs.View.{view}
 use Rattle.tx_reserve.specs.Reservations.{owner_of}
-use Rattle.tx_txn.specs.Content.{start_content, two_parts_of, IsKept, LogKernel}
+use Rattle.tx_txn.specs.Content.{start_content, two_states_of, IsKept, LogKernel}
 use Rattle.tx_txn.specs.Laws.{StartContentHasItsView, StartContentIsKept}
 
 same_in : {B : Type 0} (w n : ℕ) (x : B) → get_or (replicate w x) n x ≡ x
@@ -54,7 +54,7 @@ module _ (k : Content) (width count : ℕ) (state : state_of (λ starter. []) k.
 
   pub booted_view : StartContentHasItsView → view_of k ≡ view (boot_state width count) []
   unfolding view_of
-  booted_view start = ap (λ (c : LogKernel). parts_view (two_parts_of c)) content_is ∙ start (boot_state width count)
+  booted_view start = ap (λ (c : LogKernel). states_view (two_states_of c)) content_is ∙ start (boot_state width count)
 
   pub booted_shaped : width ≤ 256 → HaveAllPlaces k.parts → CountsAgree k.parts → length k.owners ≡ 352 → IsShaped k
   booted_shaped few places counts long = record {

@@ -27,7 +27,7 @@ use Rattle.tx_kernel.specs.declared.planned.Sends.TheVariants.{Nothing, AtOnce, 
 use Rattle.tx_laws.specs.Commuting.{named_by}
 use Rattle.tx_laws.specs.Fits.{Fits, IsIn}
 use Rattle.tx_laws.specs.Footprints.{is_shared}
-use Rattle.tx_laws.specs.TwoParts.{made, parts_view}
+use Rattle.tx_laws.specs.TwoStates.{made, states_view}
 use Rattle.tx_live.proofs.Ended.{joined_few, other_stays, owner_freed, revives, unmarks}
 use Rattle.tx_live.proofs.Ends.{commit_lists, commit_made, commit_sends}
 use Rattle.tx_live.proofs.Insides.{held_back, held_now, map_append, unmade_handed}
@@ -476,7 +476,7 @@ module _ (laws : LiveLaws) (old new : Content) (middle : Parts) (between : List 
       IsSomeAnd after.members (λ members. (n : ℕ) → is_in members.ended (Proc n) ≡ ended_of led.starter.0 (slot_at old.marks n)) →
       IsUnowned old (Some s) (event_of (inside_in old starter) pid a) → IsEnd (event_of (inside_in old starter) pid a) S → Fits (Commits s) (event_of (inside_in old starter) pid a) pid.0 (view_of old) →
       IsMade old (Commits s) (Commit s (event_of (inside_in old starter) pid a)) pid.0 new (Committed (with_txn boxed after) last.count (is_handed_out last.planned.sends))
-  unfolding view_of parts_view
+  unfolding view_of states_view
   commit_done emptied sent led_rest all marks marks_long owners sized rest joined ended unowned end fits =
       subst (λ (ev : Event). IsMade old (Commits s) (Commit s ev) pid.0 new (Committed (with_txn boxed after) last.count (is_handed_out last.planned.sends))) (sym event_is)
       (commit_ends emptied sent led_rest all marks marks_long owners sized rest (subst (IsUnowned old (Some s)) event_is unowned) (subst (λ (ev : Event). IsEnd ev S) event_is end)

@@ -7,7 +7,7 @@ use Rattle.tx_base.specs.declared.marks.Mark.{Mark}
 use Rattle.tx_base.specs.declared.names.Pid.{Pid}
 use Rattle.tx_change.specs.Counts.{CountsAgree}
 use Rattle.tx_change.specs.Exchange.{sizes_of, undone}
-use Rattle.tx_laws.specs.TwoParts.{freed, is_owner}
+use Rattle.tx_laws.specs.TwoStates.{freed, is_owner}
 use Rattle.tx_live.proofs.KeptPosted.{slot_there}
 use Rattle.tx_live.proofs.Others.{DefersSo, Stays}
 use Rattle.tx_live.specs.Content.{owner_at, own_held, IsShaped, IsTxn}

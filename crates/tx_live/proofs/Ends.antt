@@ -2,7 +2,7 @@
 use Rattle.std.proofs.Common.{◌≡◌, ℕ, ℤ, pos, negsuc, true, List, [], ◌∷◌, ◌++◌, refl, sym, ap, ◌∙◌}
 use Rattle.tx_base.specs.declared.names.Missed.{Missed}
 use Rattle.tx_base.specs.declared.steps.Reply.TheVariants.{Committed}
-use Rattle.tx_laws.specs.TwoParts.{made}
+use Rattle.tx_laws.specs.TwoStates.{made}
 use Rattle.tx_live.specs.HeldPosts.{IsEnd}
 use Rattle.tx_model.specs.Effects.{after_conclusion, concluding_reply, failed_errno, failed_sends, send_answers, AnswersPost, Conclusion, ListsFailed, Replies}
 use Rattle.tx_model.specs.Events.{Commit, Do, Event, Note, effect, reply_of}

@@ -18,7 +18,7 @@ use Rattle.tx_kernel.specs.Steps.{target_objects}
 use Rattle.tx_kernel.specs.declared.planned.Planned.{Planned}
 use Rattle.tx_laws.specs.Commuting.{named_by}
 use Rattle.tx_laws.specs.Footprints.{is_shared}
-use Rattle.tx_laws.specs.TwoParts.{is_owner, made}
+use Rattle.tx_laws.specs.TwoStates.{is_owner, made}
 use Rattle.tx_live.proofs.KeptPosted.{slot_there}
 use Rattle.tx_live.proofs.Others.{counts_stay, txn_stays, Stays}
 use Rattle.tx_live.proofs.Outsides.{same_content, targets_are}
@@ -37,7 +37,7 @@ use Rattle.tx_model.specs.History.{event_footprint, targets}
 use Rattle.tx_model.specs.Words.{processes_of}
 use Rattle.tx_model.specs.Membership.{Begins, Within, is_of, new_mark}
 use Rattle.tx_model.specs.State.{Object, Proc, Desc, Pipe, Held, State, has_object, is_between}
-use Rattle.tx_proc.specs.Processes.{process_in}
+use Rattle.tx_proc.specs.Parts.{process_in}
 use Rattle.tx_proc.specs.declared.proc.Proc.{Proc as TheProc}
 use Rattle.tx_reserve.specs.Reservations.{owner_of}
 use Rattle.tx_txn.specs.Content.{IsKept}

@@ -22,7 +22,7 @@ use Rattle.tx_kernel.specs.declared.planned.Sends.TheVariants.{Nothing, AtOnce, 
 use Rattle.tx_laws.specs.Commuting.{named_by}
 use Rattle.tx_laws.specs.Fits.{FitsWithin}
 use Rattle.tx_laws.specs.Footprints.{is_shared}
-use Rattle.tx_laws.specs.TwoParts.{is_owner, made, parts_view}
+use Rattle.tx_laws.specs.TwoStates.{is_owner, made, states_view}
 use Rattle.tx_live.proofs.KeptPosted.{slot_kept, slot_there}
 use Rattle.tx_live.proofs.Others.{counts_stay, txn_stays, DefersSo, Stays}
 use Rattle.tx_live.proofs.Outsides.{same_content, targets_are}
@@ -49,7 +49,7 @@ use Rattle.tx_model.specs.State.{Object, Proc, Desc, Pipe, Held, Sending, State,
 use Rattle.tx_reserve.specs.Objects.{is_in}
 use Rattle.tx_reserve.specs.Reservations.{owner_of, unless}
 use Rattle.tx_reserve.specs.declared.objects.Objects.{Objects}
-use Rattle.tx_txn.specs.Content.{two_parts_of, IsKept}
+use Rattle.tx_txn.specs.Content.{two_states_of, IsKept}
 use Rattle.tx_txn.specs.Logs.{newest_first}
 use Rattle.tx_txn.specs.Marks.{table_at}
 use Rattle.tx_txn.specs.Outboxes.{unmade, Held as HeldSends}
@@ -621,7 +621,7 @@ module _ (laws : LiveLaws) (old new : Content) (pid starter : Pid) (act : Act) (
       records = newest_first kept;
       logs = subst (λ (n : ℕ). Logs (Within n (part_of progress)) event (newest_first kept) (content_of old)) inside_s
           (laws.logged (content_of old) (held_of old) old.parts new.parts pid made_in.inside event t0.log steps.middle.log stepped.planned (part_of progress) pid.0 makes refl counts
-          (subst (λ (n : ℕ). FitsWithin n (part_of progress) event pid.0 (parts_view (two_parts_of (content_of old)))) (sym inside_s) fits));
+          (subst (λ (n : ℕ). FitsWithin n (part_of progress) event pid.0 (states_view (two_states_of (content_of old)))) (sym inside_s) fits));
       next = next_same;
       shaped = shaped_after;
       goes = ((box1, has_log), has_mark);

@@ -13,7 +13,7 @@ use Rattle.tx_change.specs.States.{changed, state_of}
 use Rattle.tx_change.specs.declared.change.Change.{Change}
 use Rattle.tx_change.specs.declared.change.Change.TheVariants as change
 use Rattle.tx_change.specs.declared.parts.Parts.{Parts}
-use Rattle.tx_laws.specs.TwoParts.{freed, made}
+use Rattle.tx_laws.specs.TwoStates.{freed, made}
 use Rattle.tx_live.proofs.Ended.{joined_few, other_stays, owner_freed, revives, unmarks}
 use Rattle.tx_live.proofs.KeptPosted.{slot_there}
 use Rattle.tx_live.proofs.Others.{elsewhere_or, owned_named, txn_stays, Stays}
@@ -31,10 +31,9 @@ use Rattle.tx_model.specs.Events.{Note, effect}
 use Rattle.tx_model.specs.Membership.{Aborts, is_of, mark_unless_of}
 use Rattle.tx_model.specs.State.{Object, Proc, Desc, Pipe, Held, Process, SetProc, State, same_object, write_one, with_writes}
 use Rattle.tx_model.specs.Posts.{after_posts}
-use Rattle.tx_proc.specs.Parts.{edited_once, pending_in}
-use Rattle.tx_proc.specs.Processes.{process_in, revised}
-use Rattle.tx_proc.specs.declared.part.Answer.{Answer as TheAnswer}
-use Rattle.tx_proc.specs.declared.part.Part.TheVariants.{Answer}
+use Rattle.tx_proc.specs.Parts.{edited_once, pending_in, process_in, revised}
+use Rattle.tx_proc.specs.declared.proc.Answer.{Answer as TheAnswer}
+use Rattle.tx_proc.specs.declared.proc.Part.TheVariants.{Answer}
 use Rattle.tx_proc.specs.declared.proc.Proc.{Proc as TheProc}
 use Rattle.tx_reserve.specs.Objects.{is_in}
 use Rattle.tx_reserve.specs.Reservations.{owner_of}

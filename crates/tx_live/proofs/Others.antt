@@ -13,7 +13,7 @@ use Rattle.tx_desc.specs.Places.{Descriptors}
 use Rattle.tx_kernel.specs.Plans.{AreAmong}
 use Rattle.tx_laws.specs.Commuting.{named_by}
 use Rattle.tx_laws.specs.Footprints.{is_shared}
-use Rattle.tx_laws.specs.TwoParts.{is_owner, made}
+use Rattle.tx_laws.specs.TwoStates.{is_owner, made}
 use Rattle.tx_live.specs.Content.{content_of, now_of, owner_at, txn_of, IsShaped, IsTxn}
 use Rattle.tx_live.specs.Laws.{LiveLaws}
 use Rattle.tx_live.specs.Made.{posted_at}
@@ -23,7 +23,7 @@ use Rattle.tx_model.specs.Events.{Event, effect, objects}
 use Rattle.tx_model.specs.Words.{processes_of}
 use Rattle.tx_model.specs.Membership.{is_of}
 use Rattle.tx_model.specs.State.{Object, Proc, Desc, Pipe, Held, Process, Sending, State, has_object, same_object}
-use Rattle.tx_proc.specs.Processes.{process_in}
+use Rattle.tx_proc.specs.Parts.{process_in}
 use Rattle.tx_proc.specs.declared.proc.Proc.{Proc as TheProc}
 use Rattle.tx_reserve.specs.Reservations.{owner_of}
 use Rattle.tx_txn.specs.Content.{overlay_if, is_named, IsKept}

@@ -16,7 +16,7 @@ use Rattle.tx_kernel.specs.declared.planned.Planned.{Planned}
 use Rattle.tx_kernel.specs.declared.planned.Sends.{Sends}
 use Rattle.tx_kernel.specs.declared.planned.Sends.TheVariants.{Nothing, AtOnce, AtCommit}
 use Rattle.tx_laws.specs.Commuting.{named_by}
-use Rattle.tx_laws.specs.TwoParts.{is_owner, made}
+use Rattle.tx_laws.specs.TwoStates.{is_owner, made}
 use Rattle.tx_live.specs.Content.{content_of, held_in, held_of, now_of, owner_at, own_held, txn_of, IsShaped}
 use Rattle.tx_live.proofs.Others.{counts_stay, slot_stays, txn_stays, Stays}
 use Rattle.tx_live.specs.Inverses.{unposted_in, HasStarter}

@@ -15,7 +15,7 @@ use Rattle.tx_live.specs.declared.content.BoxedTxn.{BoxedTxn}
 use Rattle.tx_live.specs.declared.content.Content.{Content}
 use Rattle.tx_live.specs.declared.marking.Marked.{Marked}
 use Rattle.tx_model.specs.State.{Object, Proc}
-use Rattle.tx_proc.specs.declared.part.Answer.{Answer as TheAnswer}
+use Rattle.tx_proc.specs.declared.proc.Answer.{Answer as TheAnswer}
 use Rattle.tx_reserve.specs.Objects.{is_in}
 use Rattle.tx_reserve.specs.Reservations.{owner_of}
 use Rattle.tx_reserve.specs.declared.objects.Objects.{Objects}

@@ -8,8 +8,8 @@ use Rattle.tx_change.specs.declared.change.Change.TheVariants.{Part}
 use Rattle.tx_change.specs.declared.parts.Parts.{Parts}
 use Rattle.tx_model.specs.Effects.{next_point}
 use Rattle.tx_proc.specs.Parts.{pending_in}
-use Rattle.tx_proc.specs.declared.part.Answer.{Answer as TheAnswer}
-use Rattle.tx_proc.specs.declared.part.Part.TheVariants.{Answer}
+use Rattle.tx_proc.specs.declared.proc.Answer.{Answer as TheAnswer}
+use Rattle.tx_proc.specs.declared.proc.Part.TheVariants.{Answer}
 use Rattle.tx_proc.specs.declared.proc.Proc.{Proc}
 use Rattle.tx_txn.specs.Logs.{with_pending_at}
 use Rattle.tx_txn.specs.declared.txn.Txn.{Txn}

@@ -6,7 +6,7 @@ use Rattle.tx_change.specs.Exchange.{applied, exchanged, AreNamed}
 use Rattle.tx_change.specs.declared.parts.Parts.{Parts}
 use Rattle.tx_kernel.specs.Acts.{Makes}
 use Rattle.tx_kernel.specs.declared.planned.Planned.{Planned}
-use Rattle.tx_laws.specs.TwoParts.{is_owner}
+use Rattle.tx_laws.specs.TwoStates.{is_owner}
 use Rattle.tx_live.specs.declared.content.Content.{Content}
 use Rattle.tx_model.specs.Membership.{is_of}
 use Rattle.tx_model.specs.Events.{Note}

@@ -8,7 +8,7 @@ use Rattle.tx_change.specs.Laws.{BringPlaces, HaveAllPlaces}
 use Rattle.tx_change.specs.States.{state_of}
 use Rattle.tx_cred.specs.Cred.{ids_of}
 use Rattle.tx_kernel.specs.Plans.{sending_of}
-use Rattle.tx_laws.specs.TwoParts.{is_owner, parts_view}
+use Rattle.tx_laws.specs.TwoStates.{is_owner, states_view}
 use Rattle.tx_live.specs.declared.content.BoxedTxn.{BoxedTxn}
 use Rattle.tx_live.specs.declared.content.Content.{Content}
 use Rattle.tx_model.specs.Membership.{is_of}
@@ -16,7 +16,7 @@ use Rattle.tx_model.specs.State.{State, Object, Proc, Desc, Pipe, Held, Sending}
 use Rattle.tx_model.specs.View.{View}
 use Rattle.tx_reserve.specs.Objects.{is_in}
 use Rattle.tx_reserve.specs.Reservations.{owner_of}
-use Rattle.tx_txn.specs.Content.{LogKernel, Txn as TheTxn, two_parts_of}
+use Rattle.tx_txn.specs.Content.{LogKernel, Txn as TheTxn, two_states_of}
 use Rattle.tx_txn.specs.Logs.{newest_first}
 use Rattle.tx_txn.specs.Marks.{table_at}
 use Rattle.tx_txn.specs.Outboxes.{unmade}
@@ -54,7 +54,7 @@ content_of k = record { now = now_of k; txns = λ n. option_map txn_of (slot_at 
 
 -- the view that the machine has
 unfoldable pub view_of : Content → View
-view_of k = parts_view (two_parts_of (content_of k))
+view_of k = states_view (two_states_of (content_of k))
 
 -- what is so of the transaction in the slot of a number
 pub record IsTxn (k : Content) (n : ℕ) (txn : Txn) : Type 0 where

@@ -1,8 +1,8 @@
 -- The laws that the contents stand on.
 use Rattle.tx_change.specs.CountsBack.{BackElsewhere, CountsLedBack, CountsOfNames}
-use Rattle.tx_change.specs.Laws.{ChangesComeBack, ChangesState, NamedAppended, PlacesKeptBack, RevertedStayNamed, RevertThenApply, SizesStay, SizesStayBack, UndoneAppended}
+use Rattle.tx_change.specs.Laws.{ChangesComeBack, ChangesState, NamedAppended, PlacesStayBack, RevertedStayNamed, RevertThenApply, SizesStay, SizesStayBack, UndoneAppended}
 use Rattle.tx_laws.specs.LawsOfEvents.{MembersSendToMembers}
-use Rattle.tx_laws.specs.LawsOfParts.{PresentIsNow}
+use Rattle.tx_laws.specs.LawsOfTwoStates.{PresentIsNow}
 use Rattle.tx_reserve.specs.Laws.{OwnersAreTold}
 use Rattle.tx_txn.specs.Laws.{EventIsLogged, EventIsMade, EventLeavesRest, LogGoesForward, LogLeadsBack, StepLeadsBack}
 
@@ -10,7 +10,7 @@ pub record LiveLaws : Type 0 where
   pub sizes : SizesStay
   pub sizes_back : SizesStayBack
   pub undone : UndoneAppended
-  pub places_back : PlacesKeptBack
+  pub places_back : PlacesStayBack
   pub change : ChangesState
   pub come_back : ChangesComeBack
   pub apply_again : RevertThenApply

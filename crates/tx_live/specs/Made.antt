@@ -22,7 +22,7 @@ use Rattle.tx_live.specs.declared.inverse.Inverse.{Inverse}
 use Rattle.tx_model.specs.Events.{Event, objects, reply_of}
 use Rattle.tx_model.specs.Membership.{Role, Outside, Within, Commits, Aborts}
 use Rattle.tx_model.specs.State.{Object, Sending, has_object}
-use Rattle.tx_proc.specs.Processes.{process_in}
+use Rattle.tx_proc.specs.Parts.{process_in}
 use Rattle.tx_proc.specs.declared.proc.Proc.{Proc}
 use Rattle.tx_txn.specs.Faces.{pending_after, pending_by, running}
 use Rattle.tx_txn.specs.Steps.{next_content, Logs}
@@ -58,7 +58,7 @@ pub record PostsKept (old new : List (Option BoxedTxn)) (ms : List Sending) : Ty
 -- the changes are of what the event names; those of an abort are of what its transaction owns
 abbrev pub AreLocal : Role → Event → Content → List Change → Type 0
 AreLocal Outside event k changes = AreAmong (named_by event (now_of k)) changes
-AreLocal (Within s part) event k changes = AreAmong (named_by event (now_of k)) changes
+AreLocal (Within s progress) event k changes = AreAmong (named_by event (now_of k)) changes
 AreLocal (Commits s) event k changes = AreAmong (named_by event (now_of k)) changes
 AreLocal (Aborts s status) event k changes = (o : Object) → is_named o changes ≡ true → owner_at k o ≡ Some s
 

@@ -5,7 +5,7 @@ ghost use Rattle.tx_base.specs.declared.steps.Reply.TheVariants.{Committed};
 ghost use Rattle.tx_kernel.specs.Actors.{IsWhole};
 ghost use Rattle.tx_kernel.specs.Acts.{event_of};
 ghost use Rattle.tx_laws.specs.Fits.{Fits};
-ghost use Rattle.tx_laws.specs.TwoParts.{made};
+ghost use Rattle.tx_laws.specs.TwoStates.{made};
 ghost use Rattle.tx_live.specs.Commits.{AreAnswered, MakesLast, missed_of};
 ghost use Rattle.tx_live.specs.Content.{content_of, now_of, view_of, IsShaped};
 ghost use Rattle.tx_live.specs.HeldPosts.{HaveSignals, IsEnd};

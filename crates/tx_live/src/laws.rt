@@ -2,10 +2,10 @@
 ghost use Rattle.tx_live.specs.Laws.{LiveLaws};
 
 use tx_change::{
-    appended, apply_then_revert, changes_come_back, changes_state, counts_led_back, places_kept,
+    appended, apply_then_revert, changes_come_back, changes_state, counts_led_back, places_stay,
     revert_then_apply,
 };
-use tx_laws::{answers_of_parts, inside};
+use tx_laws::{answers_of_states, inside};
 use tx_reserve::owners_are_told;
 use tx_txn::{events_are_made, events_leave_rest, logs_keep, logs_lead_back};
 
@@ -14,12 +14,12 @@ pub(crate) fn laws()
     ensures { LiveLaws }
 {
     appended();
-    answers_of_parts();
+    answers_of_states();
     apply_then_revert();
     changes_come_back();
     changes_state();
     counts_led_back();
-    places_kept();
+    places_stay();
     revert_then_apply();
     inside();
     events_are_made();

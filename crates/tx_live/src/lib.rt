@@ -1,5 +1,44 @@
 //! What the machine keeps of live transactions, and what a step makes of it, by what the step is to
 //! the transactions.
+//!
+//! `Content` is the parts; for each process number its mark; who owns each object; and in the slot
+//! of each starter of a live transaction its `Txn` of tx_txn, in a box, so that no table and no
+//! inverse moves one. `content_of` reads it as the kernel of tx_txn's laws.
+//!
+//! A step is made by what it is to the transactions. Each of these functions plans what the process
+//! is asked to do (`Act` of tx_kernel: a call, a delivery, or an answer and nothing else),
+//! exchanges it, and gives the inverse, which `undo` takes:
+//!
+//! - `make_outside`, of a process in no transaction: its signal, if it sends one, is posted to what
+//!   is kept of the target too, where that is the starter of a live transaction. The inverse is the
+//!   log of old parts, with the one post.
+//! - `begin`, a first step: it makes the box, with what is pending at the starter as what is kept
+//!   and the answer 0 as its log, marks the starter and reserves it. The inverse is the box.
+//! - `make_inside`, of a member after which the transaction is live: what it exchanges goes to the
+//!   end of the transaction's log, what it hands out to the outbox, and its footprint, which the
+//!   caller gives, is reserved; a member that parks and a child that joins change one mark
+//!   (`Progress`). The inverse is how many changes of the log are its own, what was reserved
+//!   before, that mark, and whether a signal was handed out.
+//! - `commit`, of the last member: as `make_inside`, and then it posts what the outbox holds, in
+//!   order, to the processes and to what is kept of the starters of others, and ends the
+//!   transaction. The place of each held signal keeps how its post was answered and what it
+//!   changed, so the inverse is the box, with how much of its log is the last step's.
+//! - `abort`: it takes the box out of its slot, leads its log back, puts what was kept as pending
+//!   at the starter, gives it the answer at the point after its first step, and takes the marks of
+//!   the members and the owners out. The inverse is the box, with the point and the answer at which
+//!   the starter stood.
+//!
+//! The boxes stand in a `TxnTable`, which keeps room beside them: a caller that will not undo a
+//! step gives its inverse to `let_go`, and the table keeps the box of one transaction that ended,
+//! and the log of one step outside, for the next `begin` and the next `make_outside`, which then
+//! take no memory. There is one of each at most, and none with a log of more than 2,048 old parts.
+//! Contracts see the boxes alone.
+//!
+//! A description has a count of its names, which the definitions do not have, so an abort must
+//! leave counts that are right although others opened and closed descriptors since the transaction
+//! began. What is so of each live transaction says that: led back now, its log leaves right counts
+//! (`IsTxn`). A step of others keeps that, since they name no description and no process that the
+//! transaction owns, but for what is pending at its starter, which counts no name.
 #![tactic(auto)]
 
 mod aborts;

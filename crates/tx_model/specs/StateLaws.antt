@@ -6,11 +6,11 @@ use Rattle.std.proofs.lemmas.Bool.{both_ways}
 use Rattle.tx_model.specs.State.{State, Object, Proc, Desc, Pipe, Held, put_at, has_object, has_parent, names_at, side_in}
 
 -- the two states have the same at the object
-abbrev pub AgreePart : State → State → Object → Type 0
-AgreePart S R (Proc n) = S.procs n ≡ R.procs n
-AgreePart S R (Desc n) = S.descs n ≡ R.descs n
-AgreePart S R (Pipe n) = S.pipes n ≡ R.pipes n
-AgreePart S R (Held n) = S.held n ≡ R.held n
+abbrev pub EqualAt : State → State → Object → Type 0
+EqualAt S R (Proc n) = S.procs n ≡ R.procs n
+EqualAt S R (Desc n) = S.descs n ≡ R.descs n
+EqualAt S R (Pipe n) = S.pipes n ≡ R.pipes n
+EqualAt S R (Held n) = S.held n ≡ R.held n
 
 -- the two states have the same family of the object: the children of a process (those of process 1
 -- apart), the descriptors that name a description, the ends of a pipe
@@ -23,7 +23,7 @@ AgreeFamily S R (Held n) = Unit {0}
 -- the two states are the same at the object, its family and the width included
 pub record AgreeAt (S R : State) (o : Object) : Type 0 where
   pub width : S.width ≡ R.width
-  pub part : AgreePart S R o
+  pub equal : EqualAt S R o
   pub family : AgreeFamily S R o
 
 -- the two states are the same at each of the objects
@@ -47,5 +47,5 @@ pub put_there : {A : Type 0} (f : ℕ → A) (k : ℕ) (v : A) (n : ℕ) → n �
 put_there {A} f k v n ne = elim (put_cases f k v n) [ inl e ↦ absurd (ne e.0) | inr e ↦ e.1 ]
 
 -- states of the same width that have the same at each object are the same
-pub state_ext : (S R : State) → S.width ≡ R.width → ((o : Object) → AgreePart S R o) → S ≡ R
+pub state_ext : (S R : State) → S.width ≡ R.width → ((o : Object) → EqualAt S R o) → S ≡ R
 state_ext S R w h = λ i. record { width = w i; procs = λ n. h (Proc n) i; descs = λ n. h (Desc n) i; pipes = λ n. h (Pipe n) i; held = λ n. h (Held n) i }

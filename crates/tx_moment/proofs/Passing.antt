@@ -2,7 +2,7 @@
 use Rattle.std.proofs.Common.{◌≡◌, ◌≢◌, ℕ, Bool, true, false, List, [], ◌∷◌, ◌++◌, Some, None, is_some, refl, sym, ap, ◌∙◌, subst, inl, inr}
 use Rattle.std.proofs.lemmas.Bool.{both_ways, cases_Bool, false_from_ne_true, true_from_ne_false}
 use Rattle.tx_model.specs.State.{Process, State, Sending, Object, Proc, same_object, has_object}
-use Rattle.tx_model.specs.StateLaws.{state_ext, AgreePart, AgreeAt, AgreeOn}
+use Rattle.tx_model.specs.StateLaws.{state_ext, EqualAt, AgreeAt, AgreeOn}
 use Rattle.tx_model.specs.Posts.{after_posts, post_answers}
 use Rattle.tx_model.specs.Effects.{Effect, send_answers, after_effect}
 use Rattle.tx_model.specs.Words.{before_sends, processes_of}
@@ -75,7 +75,7 @@ module _ (laws : EventLaws) (T : Object → Bool) (s : ℕ) where
     sent_agrees : send_answers (effect ev S) S ≡ send_answers (effect ev R) R
     sent_agrees =
         let f : Effect = effect ev S in
-        answers_known f.sends (before_sends f S) (before_sends f R) (λ m i. inl (written_part f.writes S R (Proc m.target) (agree (Proc m.target) (own.sends m i)).part))
+        answers_known f.sends (before_sends f S) (before_sends f R) (λ m i. inl (written_part f.writes S R (Proc m.target) (agree (Proc m.target) (own.sends m i)).equal))
         ∙ ap (λ (h : Effect). send_answers h R) effect_agrees
 
     after_agrees : (o : Object) → T o ≡ true → AgreeAt (after ev S) (after ev R) o
@@ -90,7 +90,7 @@ module _ (laws : EventLaws) (T : Object → Bool) (s : ℕ) where
       sends = λ m i. own.sends m (subst (λ (f : Effect). IsIn m f.sends) (sym effect_agrees) i);
       unsent = ap (λ (f : Effect). is_sent_to s f.sends) (sym effect_agrees) ∙ own.unsent;
       overlooks = own.overlooks;
-      there = ap is_some (sym (agree (Proc s) starter).part) ∙ own.there;
+      there = ap is_some (sym (agree (Proc s) starter).equal) ∙ own.there;
     }
 
   goes_along : (g : Signals) (S P : State) → T (Proc s) ≡ true → ((o : Object) → T o ≡ true → AgreeAt (with_signals s g S) P o) →
@@ -135,22 +135,22 @@ module _ (laws : EventLaws) (T : Object → Bool) (s : ℕ) where
         ]
 
     -- what is the transaction's gets its posts alone, before the transaction's events and after them
-    gets_before : (o : Object) → T o ≡ true → AgreePart (after b Q) (after_posts (effect b Q).sends Q) o
+    gets_before : (o : Object) → T o ≡ true → EqualAt (after b Q) (after_posts (effect b Q).sends Q) o
     unfolding after
     gets_before o h = laws.sends b Q Q (send_answers (effect b Q) Q) o (outside o h)
 
-    gets_after : (o : Object) → T o ≡ true → AgreePart (after b (run Q evs)) (after_posts (effect b Q).sends (run Q evs)) o
+    gets_after : (o : Object) → T o ≡ true → EqualAt (after b (run Q evs)) (after_posts (effect b Q).sends (run Q evs)) o
     unfolding after
     gets_after o h =
         let N : State = run Q evs in
-        subst (λ (f : Effect). AgreePart (after_effect f (send_answers f N) N) (after_posts (effect b Q).sends N) o) other.same (laws.sends b Q N (send_answers (effect b Q) N) o (outside o h))
+        subst (λ (f : Effect). EqualAt (after_effect f (send_answers f N) N) (after_posts (effect b Q).sends N) o) other.same (laws.sends b Q N (send_answers (effect b Q) N) o (outside o h))
 
     -- s runs as x, and has the signals g after the event
     module _ (x : Process) (is_x : Q.procs s ≡ Some x) (runs : x.status ≡ None) (g : Signals) (sent : (after b Q).procs s ≡ Some (signalled g x)) where
       at_starter : AgreeAt (with_signals s g Q) (after b Q) (Proc s)
       at_starter = record {
         width = sym (after_width b Q);
-        part = with_signals_here s g Q ∙ ap (resignalled_if g) is_x ∙ ap Some (resignalled_runs g x runs) ∙ sym sent;
+        equal = with_signals_here s g Q ∙ ap (resignalled_if g) is_x ∙ ap Some (resignalled_runs g x runs) ∙ sym sent;
         family = λ ne q. with_signals_family s g Q (Proc s) ne q ∙ sym (after_family b Q (Proc s) (outside (Proc s) other.starter) ne q);
       }
 
@@ -159,7 +159,7 @@ module _ (laws : EventLaws) (T : Object → Bool) (s : ℕ) where
           elim (cases_Bool (same_object o (Proc s))) [
             | inl e ↦ subst (λ (z : Object). AgreeAt (with_signals s g Q) (after b Q) z) (sym (same_true o (Proc s) e)) at_starter
             | inr e ↦ agree_trans (with_signals s g Q) Q (after b Q) o
-                (record { width = refl; part = with_signals_apart s g Q o e; family = with_signals_family s g Q o })
+                (record { width = refl; equal = with_signals_apart s g Q o e; family = with_signals_family s g Q o })
                 (agree_sym (after b Q) Q o
                 (laws.elsewhere b Q o
                 (lacks_both o (objects b Q) (processes_of (effect b Q).sends) (outside o h) (sent_nowhere o (effect b Q).sends (unsent o h e)))))
@@ -199,30 +199,30 @@ module _ (laws : EventLaws) (T : Object → Bool) (s : ℕ) where
           ]
 
       -- what is the transaction's is the same in either order
-      inner : (o : Object) → T o ≡ true → AgreePart (with_signals s g (run Q evs)) (after_posts (effect b Q).sends (run Q evs)) o
+      inner : (o : Object) → T o ≡ true → EqualAt (with_signals s g (run Q evs)) (after_posts (effect b Q).sends (run Q evs)) o
       inner o h =
           let N : State = run Q evs in
           let sends : List Sending = (effect b Q).sends in
           elim (cases_Bool (same_object o (Proc s))) [
-            | inl e ↦ subst (λ (z : Object). AgreePart (with_signals s g N) (after_posts sends N) z) (sym (same_true o (Proc s) e)) (with_signals_here s g N ∙ starter_gets)
+            | inl e ↦ subst (λ (z : Object). EqualAt (with_signals s g N) (after_posts sends N) z) (sym (same_true o (Proc s) e)) (with_signals_here s g N ∙ starter_gets)
             | inr e ↦ part_trans (with_signals s g N) N (after_posts sends N) o (with_signals_apart s g N o e) (part_sym (after_posts sends N) N o (posts_apart sends N o (unsent o h e)))
           ]
 
-      inside_same : (o : Object) → T o ≡ true → AgreePart (run (after b Q) evs) (after b (run Q evs)) o
+      inside_same : (o : Object) → T o ≡ true → EqualAt (run (after b Q) evs) (after b (run Q evs)) o
       inside_same o h =
           let N : State = run Q evs in
           let A : State = run (after b Q) evs in
           let P : State = after_posts (effect b Q).sends N in
           part_trans A (with_signals s g N) (after b N) o
-          (part_sym (with_signals s g N) A o (along.agree o h).part)
+          (part_sym (with_signals s g N) A o (along.agree o h).equal)
           (part_trans (with_signals s g N) P (after b N) o (inner o h) (part_sym (after b N) P o (gets_after o h)))
 
       -- and so is what is not
-      outside_same : (o : Object) → T o ≡ false → AgreePart (run (after b Q) evs) (after b (run Q evs)) o
+      outside_same : (o : Object) → T o ≡ false → EqualAt (run (after b Q) evs) (after b (run Q evs)) o
       outside_same o h =
           let N : State = run Q evs in
-          part_trans (run (after b Q) evs) (after b Q) (after b N) o (run_apart evs (after b Q) along.own o h).part
-          (laws.keeps b Q N other.same other.answers o (agree_sym N Q o (run_apart evs Q own o h))).part
+          part_trans (run (after b Q) evs) (after b Q) (after b N) o (run_apart evs (after b Q) along.own o h).equal
+          (laws.keeps b Q N other.same other.answers o (agree_sym N Q o (run_apart evs Q own o h))).equal
 
       passes : PassesOwn T s b evs Q
       passes =

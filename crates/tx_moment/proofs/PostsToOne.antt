@@ -3,7 +3,7 @@ use Rattle.std.proofs.Common.{◌≡◌, ℕ, Bool, true, false, ◌||◌, List,
 use Rattle.tx_base.specs.declared.limits.TheConstants.{QUEUED}
 use Rattle.tx_model.specs.SignalSets.{is_realtime, with_one_more}
 use Rattle.tx_model.specs.State.{Process, Sending, State, Object, Proc, Desc, Pipe, Held, same_object}
-use Rattle.tx_model.specs.StateLaws.{AgreePart}
+use Rattle.tx_model.specs.StateLaws.{EqualAt}
 use Rattle.tx_model.specs.Posts.{may_signal, is_quiet, with_signal, room_answer, post_answer, target_after, after_post, after_posts, post_answers}
 use Rattle.tx_model.specs.Answer.{is_running}
 use Rattle.tx_laws.specs.Fits.{IsIn}
@@ -130,13 +130,13 @@ posts_still (m ∷ ms) S n h =
     posts_still ms (after_post m S) n (ap is_running e ∙ h) ∙ e
 
 -- what no post goes to stays as it is
-post_apart : (m : Sending) (S : State) (o : Object) → same_object o (Proc m.target) ≡ false → AgreePart (after_post m S) S o
+post_apart : (m : Sending) (S : State) (o : Object) → same_object o (Proc m.target) ≡ false → EqualAt (after_post m S) S o
 post_apart m S (Proc n) h = rw h refl
 post_apart m S (Desc n) h = refl
 post_apart m S (Pipe n) h = refl
 post_apart m S (Held n) h = refl
 
-pub posts_apart : (ms : List Sending) (S : State) (o : Object) → ((m : Sending) → IsIn m ms → same_object o (Proc m.target) ≡ false) → AgreePart (after_posts ms S) S o
+pub posts_apart : (ms : List Sending) (S : State) (o : Object) → ((m : Sending) → IsIn m ms → same_object o (Proc m.target) ≡ false) → EqualAt (after_posts ms S) S o
 unfolding after_posts
 posts_apart [] S o h = part_refl S o
 posts_apart (m ∷ ms) S o h = part_trans (after_posts ms (after_post m S)) (after_post m S) S o (posts_apart ms (after_post m S) o (λ n i. h n (inr i))) (post_apart m S o (h m (inl refl)))

@@ -1,7 +1,7 @@
 -- Other signals pending at one process, carried through writes, posts and conclusions.
 use Rattle.std.proofs.Common.{◌≡◌, ℕ, Bool, true, false, ◌||◌, List, [], ◌∷◌, ℤ, Option, Some, None, is_some, if◌then◌else◌, ◌==◌, refl, sym, ap, ap₂, ◌∙◌, eqb-true}
 use Rattle.tx_model.specs.State.{Process, State, Sending, Object, Proc, Desc, Pipe, Held, Write, SetProc, SetDesc, SetPipe, SetHeld, write_one, with_writes}
-use Rattle.tx_model.specs.StateLaws.{state_ext, AgreePart}
+use Rattle.tx_model.specs.StateLaws.{state_ext, EqualAt}
 use Rattle.tx_model.specs.Posts.{target_after, post_answer, after_post, after_posts, post_answers}
 use Rattle.tx_model.specs.Effects.{Conclusion, Replies, AnswersPost, ListsFailed, Effect, with_answer, with_answer_if, first_answer, after_conclusion, send_answers, after_effect}
 use Rattle.tx_laws.specs.OneMoment.{is_sent_to}
@@ -48,7 +48,7 @@ module _ (s : ℕ) (g : Signals) where
       by true = refl
       by false = refl
 
-  proc_write : (n : ℕ) (x : Option Process) (S : State) (o : Object) → AgreePart (write_one (resign s g (SetProc n x)) (with_signals s g S)) (with_signals s g (write_one (SetProc n x) S)) o
+  proc_write : (n : ℕ) (x : Option Process) (S : State) (o : Object) → EqualAt (write_one (resign s g (SetProc n x)) (with_signals s g S)) (with_signals s g (write_one (SetProc n x) S)) o
   proc_write n x S (Proc m) = by (m == n) (m == s) (n == s) (s == n) (λ e. ap (λ (k : ℕ). k == s) (sym (eqb-true m n e))) (λ e. ap (λ (k : ℕ). k == n) (sym (eqb-true m s e)))
     where
       by : (b c d e : Bool) → (b ≡ true → d ≡ c) → (c ≡ true → e ≡ b) → (if b then (if d then resignalled_if g x else x) else (if c then resignalled_if g (S.procs s) else S.procs m))

@@ -1,7 +1,7 @@
 -- Other signals pending at one process change no other part and no family. Nor does an event change the family of anything but its objects.
 use Rattle.std.proofs.Common.{◌≡◌, ℕ, Bool, true, false, List, [], ◌∷◌, ℤ, Option, Some, None, is_some, if◌then◌else◌, ◌==◌, refl, sym, ap, ◌∙◌, eqb-true}
 use Rattle.tx_model.specs.State.{Process, Sending, State, Object, Proc, Desc, Pipe, Held, with_writes, put_at, has_parent, names_at, same_object, has_object}
-use Rattle.tx_model.specs.StateLaws.{put_here, state_ext, AgreePart, AgreeFamily}
+use Rattle.tx_model.specs.StateLaws.{put_here, state_ext, EqualAt, AgreeFamily}
 use Rattle.tx_model.specs.Posts.{target_after, after_post, after_posts}
 use Rattle.tx_model.specs.Effects.{Conclusion, Replies, AnswersPost, ListsFailed, Effect, with_answer_if, first_answer, after_conclusion, send_answers}
 use Rattle.tx_model.specs.Events.{Event, effect, objects, after}
@@ -64,7 +64,7 @@ module _ (s : ℕ) (g : Signals) (S : State) where
   pub with_signals_family : (o : Object) → AgreeFamily (with_signals s g S) S o
   with_signals_family o = edited_family (resignalled_if g) (resignalled_keeps g) s S S o (agree_refl S o).family
 
-  pub with_signals_apart : (o : Object) → same_object o (Proc s) ≡ false → AgreePart (with_signals s g S) S o
+  pub with_signals_apart : (o : Object) → same_object o (Proc s) ≡ false → EqualAt (with_signals s g S) S o
   with_signals_apart (Proc n) h = rw h refl
   with_signals_apart (Desc n) h = refl
   with_signals_apart (Pipe n) h = refl
@@ -77,7 +77,7 @@ module _ (s : ℕ) (g : Signals) (S : State) where
   pub with_signals_same : resignalled_if g (S.procs s) ≡ S.procs s → with_signals s g S ≡ S
   with_signals_same h = state_ext (with_signals s g S) S refl at
     where
-      at : (o : Object) → AgreePart (with_signals s g S) S o
+      at : (o : Object) → EqualAt (with_signals s g S) S o
       at (Proc n) = by (n == s) (λ e. eqb-true n s e)
         where
           by : (b : Bool) → (b ≡ true → n ≡ s) → (if b then resignalled_if g (S.procs s) else S.procs n) ≡ S.procs n

@@ -3,7 +3,7 @@ use Rattle.std.proofs.Common.{◌≡◌, inl, inr, ℕ, Bool, true, false, not, 
 use Rattle.std.proofs.lemmas.Bool.{both_ways, not-true}
 use Rattle.tx_base.specs.declared.steps.Accepted.{Accepted}
 use Rattle.tx_model.specs.State.{State, Object}
-use Rattle.tx_model.specs.StateLaws.{put_cases, state_ext, AgreePart}
+use Rattle.tx_model.specs.StateLaws.{put_cases, state_ext, EqualAt}
 use Rattle.tx_model.specs.Events.{process_of, run}
 use Rattle.tx_model.specs.Membership.{Table, is_of, is_live, is_member_of, Progress, Continues, Parks, Forks, Begins, Role, Outside, Within, Commits, Aborts, parked_mark, defers_in, new_mark, mark_unless_of, marks_after}
 use Rattle.tx_model.specs.History.{Starters, table_of, role_in, event_of, without}
@@ -74,8 +74,8 @@ both false y h = cc
 
 module _ (laws : MomentLaws) (S : State) (form : IsWellFormed S) (nothing : HoldsNothing S) (s : ℕ) where
   -- where s is live in no transaction, nothing is its
-  unreserved_at : (V : View) → IsSound V → is_live V.table s ≡ false → (X : Starters) (o : Object) → AgreePart (V.without X) (V.without (starters_with s X)) o
-  unreserved_at V sound gone X o = (sound.coherent X (starters_with s X) o (λ u k. spared u k)).part
+  unreserved_at : (V : View) → IsSound V → is_live V.table s ≡ false → (X : Starters) (o : Object) → EqualAt (V.without X) (V.without (starters_with s X)) o
+  unreserved_at V sound gone X o = (sound.coherent X (starters_with s X) o (λ u k. spared u k)).equal
     where
       apart : (u : ℕ) → V.reserved u o ≡ true → (u == s) ≡ false
       apart u k = unless (u == s) (λ same. both_ways (is_live V.table s) gone (subst (λ (n : ℕ). is_live V.table n ≡ true) (eqb-true u s same) (sound.owned_live u o k)))

@@ -79,7 +79,7 @@ module _ (V : View) (ev : Event) (s : ℕ) (sound : IsSound V) (live : is_live V
   pub runs_without : (X : Starters) → is_running ((V.without (starters_with s X)).procs s) ≡ true
   runs_without X =
       subst (λ q. is_running q ≡ true)
-      (sound.coherent (just s) (starters_with s X) (Proc s) (λ u k. let e : s ≡ u = sound.single s u (Proc s) mine k in alike u e)).part (sound.starter_runs s live)
+      (sound.coherent (just s) (starters_with s X) (Proc s) (λ u k. let e : s ≡ u = sound.single s u (Proc s) mine k in alike u e)).equal (sound.starter_runs s live)
     where
       alike : (u : ℕ) → s ≡ u → just s u ≡ starters_with s X u
       alike u e = let same : (u == s) ≡ true = eq-eqb u s (sym e) in same ∙ rw same refl
@@ -133,7 +133,7 @@ module _ (V : View) (ev : Event) (s : ℕ) (sound : IsSound V) (live : is_live V
         runs = runs_without X;
         names = λ o h. subst (λ (x : Object). V.reserved s x ≡ false) (sym (only o h)) free;
         sends = λ m i. absurd i;
-        same = ap (note_effect u r) ((sound.coherent (starters_with s X) X (Proc u) alike).part ∙ ap (λ (S : State). S.procs u) (sym ran));
+        same = ap (note_effect u r) ((sound.coherent (starters_with s X) X (Proc u) alike).equal ∙ ap (λ (S : State). S.procs u) (sym ran));
         answers = refl;
       }
     where
@@ -224,4 +224,4 @@ module _ (laws : MomentLaws) (S : State) (s : ℕ) (e : Accepted) (h : List Acce
   spared_part u live_u apart =
       let own : reserved_of S h u (Proc u) ≡ true = sound_before.own_procs u u live_u in
       (sound_before.coherent (starters_with s (just u)) (just u) (Proc u) (λ v k.
-      subst (λ (n : ℕ). starters_with s (just u) n ≡ just u n) (sound_before.single u v (Proc u) own k) (rw apart refl))).part
+      subst (λ (n : ℕ). starters_with s (just u) n ≡ just u n) (sound_before.single u v (Proc u) own k) (rw apart refl))).equal

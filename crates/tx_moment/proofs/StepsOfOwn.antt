@@ -128,12 +128,12 @@ module _ (laws : MomentLaws) (V : View) (ev : Event) (s p : ℕ) (part : Progres
   live_there : is_live V.table s ≡ true → is_some ((present V).procs s) ≡ true → is_some ((V.without X).procs s) ≡ true
   live_there live there =
       let mine : V.reserved s (Proc s) ≡ true = sound.own_procs s s live in
-      subst (λ x. is_some x ≡ true) (sound.coherent nobody X (Proc s) (λ u k. sym (subst (λ (n : ℕ). X n ≡ false) (sound.single s u (Proc s) mine k) kept))).part there
+      subst (λ x. is_some x ≡ true) (sound.coherent nobody X (Proc s) (λ u k. sym (subst (λ (n : ℕ). X n ≡ false) (sound.single s u (Proc s) mine k) kept))).equal there
 
   first_there : s ≡ p → is_running ((present V).procs p) ≡ true → is_some ((V.without X).procs s) ≡ true
   first_there e runs =
       subst (λ (n : ℕ). is_some ((V.without X).procs n) ≡ true) (fits.actor_is ∙ sym e)
-      (subst (λ x. is_some x ≡ true) (same_objects (Proc (actor ev)) (actor_in ev (present V))).part
+      (subst (λ x. is_some x ≡ true) (same_objects (Proc (actor ev)) (actor_in ev (present V))).equal
       (subst (λ (n : ℕ). is_some ((present V).procs n) ≡ true) (sym fits.actor_is) (runs_there ((present V).procs p) runs)))
 
   member_live : is_member_of V.table s p ≡ true → is_live V.table s ≡ true

@@ -7,7 +7,7 @@ use Rattle.tx_base.proofs.SlotFacts.{length-with_slot}
 use Rattle.tx_base.specs.Slots.{slot_at, with_slot}
 use Rattle.tx_base.specs.declared.names.Pid.{Pid}
 use Rattle.tx_model.specs.State.{has_parent}
-use Rattle.tx_proc.specs.Processes.{process_in}
+use Rattle.tx_proc.specs.Parts.{process_in}
 use Rattle.tx_proc.specs.Children.{is_child_of, child_count, parent_in, one_of, IsCounted, Recounts, HasOne}
 use Rattle.tx_proc.specs.declared.proc.Proc.{Proc}
 

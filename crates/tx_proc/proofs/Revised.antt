@@ -1,9 +1,8 @@
 -- What an exchange of a part makes of the process that is meant.
 use Rattle.std.proofs.Common.{◌≡◌, Option, Some, None, option_map, ap, refl}
-use Rattle.tx_proc.specs.Parts.{edited_once}
-use Rattle.tx_proc.specs.Processes.{process_of, process_in, revised}
-use Rattle.tx_proc.specs.declared.part.Part.{Part}
-use Rattle.tx_proc.specs.declared.part.Part.TheVariants.{Answer}
+use Rattle.tx_proc.specs.Parts.{edited_once, process_of, process_in, revised}
+use Rattle.tx_proc.specs.declared.proc.Part.{Part}
+use Rattle.tx_proc.specs.declared.proc.Part.TheVariants.{Answer}
 use Rattle.tx_proc.specs.declared.proc.Proc.{Proc}
 
 pub revised_of : (proc : Proc) (part : Part) → process_of (edited_once proc part) ≡ revised part (process_of proc)

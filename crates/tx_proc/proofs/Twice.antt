@@ -13,10 +13,10 @@ use Rattle.tx_desc.specs.Places.{number_in}
 use Rattle.tx_model.specs.Memory.{PageView}
 use Rattle.tx_model.specs.State.{Queued as Entry, Frame as Saved}
 use Rattle.tx_proc.proofs.Names.{desc_same, number_back}
-use Rattle.tx_proc.specs.Laws.{is_same_part, IsSized}
-use Rattle.tx_proc.specs.Parts.{edited_once, part_of, desc_in, queue_swapped, queue_given, frames_swapped, frame_given, HasPlace}
-use Rattle.tx_proc.specs.declared.part.Part.{Part}
-use Rattle.tx_proc.specs.declared.part.Part.TheVariants.{Answer, Register, Page, Descriptor, Action, Queued, Frame}
+use Rattle.tx_proc.specs.Laws.{IsSized}
+use Rattle.tx_proc.specs.Parts.{is_same_part, edited_once, part_of, desc_in, queue_swapped, queue_given, frames_swapped, frame_given, HasPlace}
+use Rattle.tx_proc.specs.declared.proc.Part.{Part}
+use Rattle.tx_proc.specs.declared.proc.Part.TheVariants.{Answer, Register, Page, Descriptor, Action, Queued, Frame}
 use Rattle.tx_proc.specs.declared.proc.Proc.{Proc}
 use Rattle.tx_signal.specs.Entries.{entry_swapped}
 
@@ -102,9 +102,9 @@ read_back (first ∷ items) zero item = refl
 read_back (first ∷ items) (suc place) item = read_back items place item
 
 pub edited_twice : (proc : Proc) (part : Part) → edited_once (edited_once proc part) (part_of proc part) ≡ proc
-edited_twice proc (Register kept) =
+edited_twice proc (Register slot) =
     ap (λ (slots : List ℤ). record proc { regs = record proc.regs { slots = slots } })
-    (set-set proc.regs.slots kept.number kept.value (get_or proc.regs.slots kept.number kept.value) ∙ set-get_or proc.regs.slots kept.number kept.value)
+    (set-set proc.regs.slots slot.number slot.value (get_or proc.regs.slots slot.number slot.value) ∙ set-get_or proc.regs.slots slot.number slot.value)
 edited_twice proc (Page number page) =
     ap (λ (space : List (Option PageView)). record proc { space = space }) (set-set proc.space number page (get_or proc.space number None) ∙ set-get_or proc.space number None)
 edited_twice proc (Descriptor number name) =
@@ -120,7 +120,7 @@ edited_twice proc (Frame frame) = ap (λ (frames : List Saved). record proc { fr
 edited_twice proc part = refl
 
 pub part_twice : (proc : Proc) (part : Part) → IsSized proc → HasPlace part → part_of (edited_once proc part) (part_of proc part) ≡ part
-part_twice proc (Register kept) sized below = ap (λ (v : ℤ). Register (record kept { value = v })) (read_back proc.regs.slots kept.number kept.value)
+part_twice proc (Register slot) sized below = ap (λ (v : ℤ). Register (record slot { value = v })) (read_back proc.regs.slots slot.number slot.value)
 part_twice proc (Page number page) sized below =
     let pages = sized.pages in ap (Page number) (get_or-set_same proc.space number page None (omega arith))
 part_twice proc (Descriptor number name) sized below =
@@ -138,8 +138,8 @@ nothing_else proc (Descriptor number name) (Descriptor k new) apart =
     ap (λ (x : Option ℕ). Descriptor k (desc_in x)) (get_or-set_other proc.descriptors number k (number_in name) None (λ same. eqb-false number k apart (sym same)))
 nothing_else proc (Action signo action) (Action k new) apart =
     ap (Action k) (get_or-set_other proc.actions signo.0 k.0 action new (λ same. eqb-false signo.0 k.0 apart (sym same)))
-nothing_else proc (Register kept) (Register new) apart =
-    ap (λ (v : ℤ). Register (record new { value = v })) (get_or-set_other proc.regs.slots kept.number new.number kept.value new.value (λ same. eqb-false kept.number new.number apart (sym same)))
+nothing_else proc (Register slot) (Register new) apart =
+    ap (λ (v : ℤ). Register (record new { value = v })) (get_or-set_other proc.regs.slots slot.number new.number slot.value new.value (λ same. eqb-false slot.number new.number apart (sym same)))
 -- two others are the same, or have nothing of one another
 nothing_else proc part (Answer new) apart = cc
 nothing_else proc part other apart = cc
@@ -151,23 +151,23 @@ commute proc (Descriptor number name) (Descriptor k new) apart =
     ap (λ (descriptors : List (Option ℕ)). record proc { descriptors = descriptors }) (set_comm proc.descriptors number k (number_in name) (number_in new) (eqb-false number k apart))
 commute proc (Action signo action) (Action k new) apart =
     ap (λ (actions : List Act). record proc { actions = actions }) (set_comm proc.actions signo.0 k.0 action new (eqb-false signo.0 k.0 apart))
-commute proc (Register kept) (Register new) apart =
-    ap (λ (slots : List ℤ). record proc { regs = record proc.regs { slots = slots } }) (set_comm proc.regs.slots kept.number new.number kept.value new.value (eqb-false kept.number new.number apart))
+commute proc (Register slot) (Register new) apart =
+    ap (λ (slots : List ℤ). record proc { regs = record proc.regs { slots = slots } }) (set_comm proc.regs.slots slot.number new.number slot.value new.value (eqb-false slot.number new.number apart))
 -- two others are the same, or have nothing of one another
 commute proc part (Answer new) apart = cc
 commute proc part other apart = cc
 
 -- an exchanged part has the same number
 pub place_of_part : (proc : Proc) (part : Part) → HasPlace part → HasPlace (part_of proc part)
-place_of_part proc (Register kept) place = place
+place_of_part proc (Register slot) place = place
 place_of_part proc (Page number page) place = place
 place_of_part proc (Descriptor number name) place = place
 place_of_part proc part place = tt
 
 -- a process still has a place for each number
 pub still_sized : (proc : Proc) (part : Part) → IsSized proc → IsSized (edited_once proc part)
-still_sized proc (Register kept) sized =
-    record { slots = length-set proc.regs.slots kept.number kept.value ∙ sized.slots; pages = sized.pages; descriptors = sized.descriptors; actions = sized.actions }
+still_sized proc (Register slot) sized =
+    record { slots = length-set proc.regs.slots slot.number slot.value ∙ sized.slots; pages = sized.pages; descriptors = sized.descriptors; actions = sized.actions }
 still_sized proc (Page number page) sized =
     record { slots = sized.slots; pages = length-set proc.space number page ∙ sized.pages; descriptors = sized.descriptors; actions = sized.actions }
 still_sized proc (Descriptor number name) sized =

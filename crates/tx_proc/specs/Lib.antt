@@ -1,4 +1,3 @@
 pub mod Parts
-pub mod Processes
 pub mod Children
 pub mod Laws

@@ -2,8 +2,7 @@
 ghost use Rattle.std.specs.Prelude.{◌≡◌, IfOk};
 ghost use Rattle.tx_proc.specs.Parts.{edited_once, part_of, frames_swapped, frame_given, with_pending, HasPlace};
 
-use crate::part::Part;
-use crate::proc::Proc;
+use crate::proc::{Part, Proc};
 use std::alloc::Global;
 use std::marker::Model;
 use tx_base::{NoMemory, Pid};

@@ -7,8 +7,7 @@ ghost use Rattle.tx_proc.specs.Parts.{edited_once, part_in, part_of, pending_in,
 
 use crate::boxed::BoxedProc;
 use crate::children::ChildCounts;
-use crate::part::Part;
-use crate::proc::Proc;
+use crate::proc::{Part, Proc};
 use std::alloc::Global;
 use std::marker::Model;
 use std::mem;

@@ -1,4 +1,15 @@
 //! What writes the report of a schedule, and what answers the commands of a walk.
+//!
+//! Schedules, and commands that walk over them. `replay(alloc, source, sink)` reads a schedule from
+//! one end, makes its steps on a machine and writes the replies and the state to the other. `debug`
+//! reads a schedule with commands, makes the steps in a session, and writes what the commands
+//! answer. `report` makes the steps and prints the line of each reply, by tx_text, and the state
+//! that the last one leaves, by tx_journal. `walks` makes the steps in a `Session`, does what each
+//! command says, and prints its answer. What a text of a kind spells, where it is at fault and what
+//! answers it is a `Grammar` of specs: `schedules` and `walks` are two, and one definition
+//! (`Answers`) says of both what is read and written. `replay` changes a kernel through `boot`,
+//! `boot_wide` and `step_into` alone, and lets go of each inverse (`let_go`); `debug` through the
+//! calls of a session.
 #![tactic(auto)]
 
 mod debugs;

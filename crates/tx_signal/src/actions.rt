@@ -57,13 +57,13 @@ impl Actions {
         actions[signo.0 as usize]
     }
 
-    /// Sets the action of a signal, as it is kept: its mask drops SIGKILL and the numbers that are
+    /// Sets the action of a signal: its mask drops SIGKILL and the numbers that are
     /// not known. A number over 39 changes nothing. POSIX.1-2017, XSH, sigaction().
     pub fn set(&mut self, signo: Signo, action: Action)
         ensures { self.new ≡ slice_set self.old signo.0 (maskable_action action) }
     {
         if (signo.0 as usize) < SIGNALS {
-            self.actions[signo.0 as usize] = kept(action);
+            self.actions[signo.0 as usize] = maskable_action(action);
         }
     }
 
@@ -139,9 +139,9 @@ pub fn is_bad(action: Action) -> bool
     }
 }
 
-/// The action as it is kept: its mask holds neither SIGKILL nor a number that is not known. Own
+/// The action as it is set: its mask holds neither SIGKILL nor a number that is not known. Own
 /// rule.
-pub fn kept(action: Action) -> Action
+pub fn maskable_action(action: Action) -> Action
     ensures { result ≡ maskable_action action }
 {
     match action {

@@ -76,7 +76,7 @@ pub fn pending_suffices()
         ≡ delivered_value signo (with_pending_part view other) }
 {}
 
-/// What the definition makes of the actions of a process is one action set, as it is kept.
+/// What the definition makes of the actions of a process is one action set.
 pub fn set_is_with_action()
     ensures { (signo : ℕ) (action : Action) (actions : List Action) (me : Process) →
         with_action signo action (with_actions actions me)

@@ -10,7 +10,7 @@ use Rattle.tx_base.specs.declared.steps.Step.{Step}
 use Rattle.tx_base.specs.declared.steps.Step.TheVariants.{Call as Calls, Deliver, KernelAbort}
 use Rattle.tx_step.specs.Contents.{IsContent}
 use Rattle.tx_step.specs.declared.roles.StepRole.TheVariants as the
-use Rattle.tx_laws.specs.TwoParts.{parts_view}
+use Rattle.tx_laws.specs.TwoStates.{states_view}
 use Rattle.tx_live.specs.Content.{content_of, txn_of, view_of}
 use Rattle.tx_live.specs.Made.{IsMade}
 use Rattle.tx_live.specs.declared.content.BoxedTxn.{BoxedTxn}
@@ -86,7 +86,7 @@ live_txn k kept s live = by (slot_at k.txns s) (kept.live s ∙ live)
 
 -- and a starter that has one is live
 pub txn_live : (k : Content) → IsKept (content_of k) → (s : ℕ) → IsSome (slot_at k.txns s) → is_live (view_of k).table s ≡ true
-unfolding view_of parts_view
+unfolding view_of states_view
 txn_live k kept s there = sym (kept.live s) ∙ by (slot_at k.txns s) there
   where
     by : (slot : Option BoxedTxn) → IsSome slot → is_some (option_map txn_of slot) ≡ true
@@ -95,7 +95,7 @@ txn_live k kept s there = sym (kept.live s) ∙ by (slot_at k.txns s) there
 
 -- where there is none its starter is not live
 pub none_live : (k : Content) → IsKept (content_of k) → (s : ℕ) → None ≡ slot_at k.txns s → is_live (view_of k).table s ≡ true → ⊥
-unfolding view_of parts_view
+unfolding view_of states_view
 none_live k kept s none live = let clash : false ≡ true = subst IsSome (sym none) (live_txn k kept s live) in cc
 
 -- a number as the negative of the machine's
@@ -105,12 +105,12 @@ negated r = to_z w64 (of_z w64 (pos 0 -ℤ to_z w64 (of_z w64 r)))
 module _ (laws : StepLaws) (k : Content) (is : IsContent k) where
   module _ (pid starter : Pid) (asked : Asked) (through : IsLetThrough k pid asked (the.Aborts starter)) where
     told : (is_of starter.0 (slot_at k.marks pid.0) ≡ true) × (event_on (view_of k) (step_of pid asked) ≡ Note starter.0 (negative called_by_status))
-    unfolding view_of parts_view
+    unfolding view_of states_view
     told = abort_told (view_of k) pid asked starter.0 called_by_status (sym through.is)
 
     -- its transaction is there
     pub called_live : IsSome (slot_at k.txns starter.0)
-    unfolding view_of parts_view
+    unfolding view_of states_view
     called_live = live_txn k is.kept starter.0 (is.view.formed.members starter.0 pid.0 told.0)
 
     -- an abort by a member is a step

@@ -11,7 +11,7 @@ use Rattle.tx_base.specs.declared.steps.Step.{Step}
 use Rattle.tx_base.specs.declared.steps.Step.TheVariants.{Call as Calls, Deliver}
 use Rattle.tx_step.specs.Contents.{IsContent}
 use Rattle.tx_step.specs.declared.roles.StepRole.TheVariants as the
-use Rattle.tx_laws.specs.TwoParts.{is_owner, parts_view}
+use Rattle.tx_laws.specs.TwoStates.{is_owner, states_view}
 use Rattle.tx_live.specs.Begins.{IsAlone}
 use Rattle.tx_live.specs.Content.{owner_at, view_of}
 use Rattle.tx_live.specs.Made.{IsMade}
@@ -90,7 +90,7 @@ in_way_of_note V p t r live none reserved =
 
 module _ (laws : StepLaws) (k : Content) (is : IsContent k) (pid : Pid) (asked : Asked) (defers : Bool) (through : IsLetThrough k pid asked (the.Begins defers)) where
   told : (slot_at k.marks pid.0 ≡ None) × (event_on (view_of k) (step_of pid asked) ≡ Note pid.0 (pos 0))
-  unfolding view_of parts_view
+  unfolding view_of states_view
   told = begun_told (view_of k) pid asked pid.0 defers (sym through.is)
 
   answered_zero : answer (view_of k) (step_of pid asked) ≡ Done (pos 0)
@@ -103,11 +103,11 @@ module _ (laws : StepLaws) (k : Content) (is : IsContent k) (pid : Pid) (asked :
 
   -- its number is no live starter's
   dead : is_live (view_of k).table pid.0 ≡ false
-  unfolding view_of parts_view
+  unfolding view_of states_view
   dead = ap (is_of pid.0) told.0
 
   owner_none : (x : Option ℕ) → owner_at k (Proc pid.0) ≡ x → x ≡ None
-  unfolding view_of parts_view
+  unfolding view_of states_view
   owner_none None e = refl
   owner_none (Some t) e =
       let reserved : (view_of k).reserved t (Proc pid.0) ≡ true = reserved_own laws k is t (Proc pid.0) e in
@@ -115,7 +115,7 @@ module _ (laws : StepLaws) (k : Content) (is : IsContent k) (pid : Pid) (asked :
       absurd (both_ways (in_way (view_of k) (Note pid.0 (pos 0)) t) (clear t live) (in_way_of_note (view_of k) pid.0 t (pos 0) live told.0 reserved))
 
   owns_none : (o : Object) → is_owner pid.0 (owner_at k o) ≡ false
-  unfolding view_of parts_view
+  unfolding view_of states_view
   owns_none o = elim (cases_Bool (is_owner pid.0 (owner_at k o))) [
     | inl e ↦ absurd (both_ways (is_live (view_of k).table pid.0) dead ((sound laws k is).owned_live pid.0 o e))
     | inr e ↦ e
@@ -123,7 +123,7 @@ module _ (laws : StepLaws) (k : Content) (is : IsContent k) (pid : Pid) (asked :
 
   -- it is in no transaction, and it owns and is nothing's own
   pub alone : IsAlone k pid.0
-  unfolding view_of parts_view owner_of
+  unfolding view_of states_view owner_of
   alone = record {
     mark = told.0;
     members = λ n. elim (cases_Bool (is_of pid.0 (slot_at k.marks n))) [

@@ -4,7 +4,7 @@ use Rattle.tx_base.specs.Slots.{slot_at}
 use Rattle.tx_base.specs.declared.marks.Mark.{Mark}
 use Rattle.tx_step.specs.Contents.{IsContent}
 use Rattle.tx_laws.specs.Footprints.{is_shared}
-use Rattle.tx_laws.specs.TwoParts.{is_owner, parts_view}
+use Rattle.tx_laws.specs.TwoStates.{is_owner, states_view}
 use Rattle.tx_live.specs.Content.{content_of, now_of, owner_at, view_of}
 use Rattle.tx_live.specs.Insides.{IsFootprint, IsFree}
 use Rattle.tx_live.specs.declared.content.Content.{Content}
@@ -18,7 +18,7 @@ use Rattle.tx_reserve.specs.Objects.{has_place, is_in, is_small, place_of}
 use Rattle.tx_reserve.specs.Reservations.{owner_of, unless}
 use Rattle.tx_reserve.specs.declared.objects.Objects.{Objects}
 use Rattle.tx_step.specs.Laws.{StepLaws}
-use Rattle.tx_txn.specs.Content.{two_parts_of}
+use Rattle.tx_txn.specs.Content.{two_states_of}
 use Rattle.tx_txn.specs.Marks.{table_at}
 
 -- an object of a list is one of the list with more behind it
@@ -75,7 +75,7 @@ shared_owner k (Held n) h = cc
 module _ (laws : StepLaws) (k : Content) (is : IsContent k) (E : Event) (clear : starter_in_way (view_of k) E ≡ None) where
   pub now_seen : present (view_of k) ≡ now_of k
   unfolding view_of
-  now_seen = laws.present (two_parts_of (content_of k))
+  now_seen = laws.present (two_states_of (content_of k))
 
   pub is_clear : IsClear (view_of k) E
   unfolding view_of
@@ -83,7 +83,7 @@ module _ (laws : StepLaws) (k : Content) (is : IsContent k) (E : Event) (clear :
 
   -- who owns what the event names has its actor as a member
   owner_member : (o : Object) (t : ℕ) → has_object o (event_footprint (table_at k.marks) E (now_of k)) ≡ true → owner_at k o ≡ Some t → is_of t (slot_at k.marks (actor E)) ≡ true
-  unfolding view_of parts_view
+  unfolding view_of states_view
   owner_member o t there owned =
       laws.members (view_of k) E o t is.kept.sound is_clear
       (ap (λ (S : State). has_object o (event_footprint (table_at k.marks) E S)) now_seen ∙ there)

@@ -12,7 +12,7 @@ use Rattle.tx_step.specs.declared.roles.StepRole.TheVariants as role
 use Rattle.tx_kernel.specs.Acts.{event_of}
 use Rattle.tx_kernel.specs.declared.events.Act.{Act}
 use Rattle.tx_laws.specs.Fits.{Fits}
-use Rattle.tx_laws.specs.TwoParts.{made}
+use Rattle.tx_laws.specs.TwoStates.{made}
 use Rattle.tx_laws.specs.WellFormed.{HasGoodNumbers, IsHeldSending, IsWellFormed}
 use Rattle.tx_live.specs.Commits.{missed_of, AreAnswered}
 use Rattle.tx_live.specs.Content.{now_of, view_of}

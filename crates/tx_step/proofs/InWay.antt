@@ -10,7 +10,7 @@ use Rattle.tx_step.proofs.TwoFaces.{differ_target}
 use Rattle.tx_step.specs.Faces.{is_target, starter_differs}
 use Rattle.tx_step.specs.InWay.{IsOfMember, gives_two_answers, two_answers_in, least_target, starter_in}
 use Rattle.tx_laws.specs.Footprints.{is_shared}
-use Rattle.tx_laws.specs.TwoParts.{is_owner, parts_view}
+use Rattle.tx_laws.specs.TwoStates.{is_owner, states_view}
 use Rattle.tx_live.specs.Content.{content_of, now_of, owner_at, own_held, txn_of, view_of}
 use Rattle.tx_live.specs.Insides.{IsFootprint}
 use Rattle.tx_live.specs.declared.content.BoxedTxn.{BoxedTxn}
@@ -20,7 +20,7 @@ use Rattle.tx_model.specs.History.{event_footprint}
 use Rattle.tx_model.specs.Membership.{is_live, is_of}
 use Rattle.tx_model.specs.State.{Object, Proc, Desc, Pipe, Held, Sending, has_object, is_between}
 use Rattle.tx_model.specs.View.{starter_in_way, some_object}
-use Rattle.tx_proc.specs.Processes.{process_in}
+use Rattle.tx_proc.specs.Parts.{process_in}
 use Rattle.tx_reserve.specs.Objects.{has_place, is_in, is_small, place_of}
 use Rattle.tx_reserve.specs.Reservations.{IsLeast, lesser_of, owner_of, unless}
 use Rattle.tx_reserve.specs.declared.objects.Objects.{Objects}
@@ -106,7 +106,7 @@ within limit zero h = omega arith
 within limit (suc n) h = let low = ltb-true n limit h in omega (arith, low)
 
 bounded : (k : Content) → IsKept (content_of k) → (s : ℕ) → is_live (table_at k.marks) s ≡ true → is_between (length k.marks) s ≡ true
-unfolding parts_view
+unfolding states_view
 bounded k kept s live = kept.sound.bounded s s live
 
 -- a transaction that is live stands in the way as its parts say
@@ -180,7 +180,7 @@ module _ (k : Content) (kept : IsKept (content_of k)) (own : Option ℕ) (footpr
 
   -- who owns something is live
   owner_lives : (s : ℕ) (o : Object) → owner_at k o ≡ Some s → is_live (table_at k.marks) s ≡ true
-  unfolding parts_view
+  unfolding states_view
   owner_lives s o h = kept.sound.owned_live s o (owner_self s (owner_at k o) h)
 
   dead_owns_none : (s : ℕ) → slot_at k.txns s ≡ None → owns s ≡ false

@@ -25,7 +25,7 @@ use Rattle.tx_model.specs.State.{Process, Sending, State}
 use Rattle.tx_model.specs.Book.{page_of_call}
 use Rattle.tx_model.specs.Deliveries.{delivery_page}
 use Rattle.tx_model.specs.BookLaws.{runs_as}
-use Rattle.tx_proc.specs.Processes.{process_in}
+use Rattle.tx_proc.specs.Parts.{process_in}
 use Rattle.tx_txn.specs.Marks.{table_at}
 
 -- an event that does nothing, and one that is made

@@ -7,7 +7,7 @@ use Rattle.tx_base.specs.declared.steps.Call.{Call as TheCall}
 use Rattle.tx_base.specs.declared.steps.Call.TheVariants as call
 use Rattle.tx_base.specs.declared.steps.Reply.{Reply}
 use Rattle.tx_step.specs.Contents.{IsContent}
-use Rattle.tx_laws.specs.TwoParts.{parts_view}
+use Rattle.tx_laws.specs.TwoStates.{states_view}
 use Rattle.tx_live.specs.Content.{txn_of, view_of, IsTxn}
 use Rattle.tx_live.specs.Insides.{inside_in}
 use Rattle.tx_live.specs.Progresses.{part_of, HasChild}
@@ -32,7 +32,7 @@ pub record LiveAt (k : Content) (pid starter : Pid) : Type 0 where
   pub inside : inside_in k starter ≡ inside_by (table_at k.marks) (slot_at k.marks pid.0)
 
 pub live_at : (k : Content) → IsContent k → (pid starter : Pid) → OfMember (slot_at k.marks pid.0) starter.0 → LiveAt k pid starter
-unfolding view_of parts_view
+unfolding view_of states_view
 live_at k is pid starter member = by (slot_at k.txns starter.0) refl
   where
     live : is_live (table_at k.marks) starter.0 ≡ true

@@ -14,7 +14,7 @@ use Rattle.tx_step.specs.Roles.{role_as}
 use Rattle.tx_step.specs.Ways.{ConcernsItself}
 use Rattle.tx_step.specs.declared.roles.StepRole.{StepRole}
 use Rattle.tx_step.specs.declared.roles.StepRole.TheVariants as step
-use Rattle.tx_laws.specs.TwoParts.{parts_view}
+use Rattle.tx_laws.specs.TwoStates.{states_view}
 use Rattle.tx_live.specs.Content.{content_of, now_of, view_of}
 use Rattle.tx_live.specs.Insides.{IsFootprint}
 use Rattle.tx_live.specs.Made.{IsRunning}
@@ -25,7 +25,7 @@ use Rattle.tx_model.specs.Membership.{Table, event_in, inside_by, kind_event}
 use Rattle.tx_model.specs.Words.{kind_of}
 use Rattle.tx_model.specs.State.{Object, Proc, Process, has_object, same_object}
 use Rattle.tx_model.specs.View.{event_on, starter_in_way, role_on}
-use Rattle.tx_proc.specs.Processes.{process_in, process_of}
+use Rattle.tx_proc.specs.Parts.{process_in, process_of}
 use Rattle.tx_proc.specs.declared.proc.Proc.{Proc as TheProc}
 use Rattle.tx_reserve.proofs.Rows.{adds_one, set_of}
 use Rattle.tx_reserve.specs.Footprints.{IsSetOf, table_of}
@@ -100,7 +100,7 @@ own_set k pid called set itself is = by ((now_of k).procs pid.0)
 pub own_quiet : (k : Content) (pid : Pid) (called : Call) (role : StepRole) → ConcernsItself called → IsRunning (slot_at k.parts.procs pid.0) →
     ((starter : Pid) → role ≡ step.Commits starter → ⊥) → role_as pid.0 role ≡ role_on (view_of k) (Calls pid called) →
     (effect (event_on (view_of k) (Calls pid called)) (now_of k)).sends ≡ []
-unfolding view_of parts_view
+unfolding view_of states_view
 own_quiet k pid called role itself running other is =
     let t : Table = table_at k.marks in
     let mark : Option Mark = slot_at k.marks pid.0 in

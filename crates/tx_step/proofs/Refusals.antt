@@ -16,7 +16,7 @@ use Rattle.tx_step.specs.RefusalLaws.{JudgeLaws}
 use Rattle.tx_kernel.specs.Actors.{IsActor}
 use Rattle.tx_kernel.specs.Refusals.{number_refusal}
 use Rattle.tx_kernel.specs.declared.actor.Actor.{Actor}
-use Rattle.tx_laws.specs.TwoParts.{parts_view}
+use Rattle.tx_laws.specs.TwoStates.{states_view}
 use Rattle.tx_live.proofs.KeptPosted.{slot_there}
 use Rattle.tx_live.specs.Content.{content_of, held_of, now_of, txn_of, view_of, IsShaped}
 use Rattle.tx_live.specs.declared.content.BoxedTxn.{BoxedTxn}
@@ -31,9 +31,9 @@ use Rattle.tx_model.specs.State.{Process, Proc, Sending, State, is_between}
 use Rattle.tx_model.specs.View.{View, event_on, has_pending, starter_in_way, is_doomed, present}
 use Rattle.tx_model.specs.Book.{page_of_call}
 use Rattle.tx_model.specs.Forms.{Page, answers, effect_of, ◌or◌, ◌when◌}
-use Rattle.tx_proc.specs.Processes.{process_in, process_of}
+use Rattle.tx_proc.specs.Parts.{process_in, process_of}
 use Rattle.tx_proc.specs.declared.proc.Proc.{Proc as TheProc}
-use Rattle.tx_txn.specs.Content.{two_parts_of, IsKept}
+use Rattle.tx_txn.specs.Content.{two_states_of, IsKept}
 use Rattle.tx_txn.specs.Marks.{table_at}
 
 -- a reason before others, and what there is after them
@@ -115,14 +115,14 @@ any_number false (Some me) good = let no : false ≡ true = good me refl in cc
 
 -- a starter is live whose mark a process has
 pub marked_live : (k : Content) (pid : Pid) (m : Mark) → IsKept (content_of k) → slot_at k.marks pid.0 ≡ Some m → is_live (table_at k.marks) m.starter.0 ≡ true
-unfolding parts_view
+unfolding states_view
 marked_live k pid m kept at = kept.sound.owned_live m.starter.0 (Proc pid.0) (kept.sound.own_procs m.starter.0 pid.0 (ap (is_of m.starter.0) at ∙ eq-eqb m.starter.0 m.starter.0 refl))
 
 -- what a content shows of a number
 module _ (laws : JudgeLaws) (k : Content) (pid : Pid) where
   now_seen : present (view_of k) ≡ now_of k
   unfolding view_of
-  now_seen = laws.present (two_parts_of (content_of k))
+  now_seen = laws.present (two_states_of (content_of k))
 
   pub slot_seen : (present (view_of k)).procs pid.0 ≡ process_in (slot_at k.parts.procs pid.0)
   slot_seen = ap (λ (S : State). S.procs pid.0) now_seen
@@ -135,7 +135,7 @@ module _ (laws : JudgeLaws) (k : Content) (pid : Pid) where
       between (length k.marks) pid.0 bounds.0 (subst (λ (w : ℕ). pid.0 ≤ w) (sym shaped.marks) bounds.1)
 
   process_seen : IsShaped k → process_refusal (view_of k) pid.0 ≡ slot_refusal true (process_in (slot_at k.parts.procs pid.0))
-  unfolding view_of parts_view
+  unfolding view_of states_view
   process_seen shaped =
       ap (slot_refusal (is_between (length k.marks) pid.0)) slot_seen
       ∙ any_number (is_between (length k.marks) pid.0) (process_in (slot_at k.parts.procs pid.0)) (numbered shaped (slot_at k.parts.procs pid.0) refl)
@@ -159,7 +159,7 @@ module _ (laws : JudgeLaws) (k : Content) (pid : Pid) where
   pub who_runs : IsShaped k → (actor : Actor) (step : Step) (numbers : Option Refusal) → IsActor actor → actor.parts.now ≡ k.parts → actor.pid ≡ pid →
       ((held : ℕ → List Sending) → numbers ≡ number_refusal (length actor.parts.now.procs) (state_of held actor.parts.now) (page_of_step step).chooses) →
       option_or numbers (own_refusal (view_of k) pid.0 (delivers_kill step)) ≡ early_refusal (view_of k) pid.0 step
-  unfolding view_of parts_view
+  unfolding view_of states_view
   who_runs shaped actor step numbers is parts at chosen =
       let there : slot_at k.parts.procs pid.0 ≡ Some actor.proc.now = sym (λ j. slot_at (parts j).procs (at j).0) ∙ is.there in
       let runs : process_refusal (view_of k) pid.0 ≡ None
@@ -174,7 +174,7 @@ module _ (laws : JudgeLaws) (k : Content) (pid : Pid) where
   pub own_seen : (proc : TheProc) (delivers : Bool) (member : Option Refusal) (held : Bool) → slot_at k.parts.procs pid.0 ≡ Some proc →
       member ≡ member_refusal (view_of k) (slot_at k.marks pid.0) → held ≡ (has_pending kill_signo (Some (process_of proc)) && not delivers) →
       option_or member (if held then Some KillPending else None) ≡ own_refusal (view_of k) pid.0 delivers
-  unfolding view_of parts_view
+  unfolding view_of states_view
   own_seen proc delivers member held there members kill =
       ap₂ (λ (x : Option Refusal) (b : Bool). option_or x (if b then Some KillPending else None)) members
       (kill ∙ sym (ap (λ (slot : Option Process). has_pending kill_signo slot && not delivers) (slot_seen ∙ ap process_in there)))

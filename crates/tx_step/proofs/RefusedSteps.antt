@@ -15,7 +15,7 @@ use Rattle.tx_step.specs.Early.{early_refusal}
 use Rattle.tx_step.specs.Late.{IsWhyNot}
 use Rattle.tx_step.specs.declared.roles.StepRole.{StepRole}
 use Rattle.tx_laws.specs.Footprints.{is_abort}
-use Rattle.tx_laws.specs.TwoParts.{parts_view}
+use Rattle.tx_laws.specs.TwoStates.{states_view}
 use Rattle.tx_live.specs.Content.{now_of, view_of}
 use Rattle.tx_live.specs.Made.{IsRunning}
 use Rattle.tx_live.specs.declared.content.Content.{Content}
@@ -48,7 +48,7 @@ no_kernel_abort pid (Delivery signo) is = is
 
 -- a member's sys_xabort aborts
 xabort_aborts : (k : Content) (step : Step) → IsXabort k step → is_abort (role_on (view_of k) step) ≡ true
-unfolding view_of parts_view
+unfolding view_of states_view
 xabort_aborts k step (pid, same, marked) = ap (λ (s : Step). is_abort (role_on (view_of k) s)) same ∙ by (slot_at k.marks pid.0) marked
   where
     by : (slot : Option Mark) → is_some slot ≡ true → is_abort (kind_role (view_of k).table pid.0 Aborting (first_reply (view_of k) (Calls pid SysXabort)) slot) ≡ true
@@ -107,7 +107,7 @@ module _ (laws : StepLaws) (k : Content) (is : IsContent k) (pid : Pid) (asked :
     runs_early = running_in (slot_at k.parts.procs pid.0) (ap (λ (S : State). is_running (S.procs pid.0)) (sym (now_seen laws k is)) ∙ passes.0)
 
     pub numbers_early : has_bad_number (length k.parts.procs) (step_of pid asked) ≡ false
-    unfolding view_of parts_view
+    unfolding view_of states_view
     numbers_early = ap (λ (w : ℕ). has_bad_number w (step_of pid asked)) (sym is.shaped.marks) ∙ passes.1
 
     -- and it is refused where somebody is in the way

@@ -11,7 +11,7 @@ use Rattle.tx_step.proofs.Refusals.{slot_seen}
 use Rattle.tx_step.specs.RefusalLaws.{JudgeLaws}
 use Rattle.tx_step.specs.Roles.{ends_process}
 use Rattle.tx_laws.specs.Endings.{end_reply, DeliveryIsTold, ExitIsTold, OtherCallIsTold}
-use Rattle.tx_laws.specs.TwoParts.{parts_view}
+use Rattle.tx_laws.specs.TwoStates.{states_view}
 use Rattle.tx_live.specs.Content.{view_of, IsShaped, IsTxn}
 use Rattle.tx_live.specs.Made.{IsRunning}
 use Rattle.tx_live.specs.declared.content.BoxedTxn.{BoxedTxn}
@@ -20,7 +20,7 @@ use Rattle.tx_model.specs.Deliveries.{delivered_value, ends_by}
 use Rattle.tx_model.specs.Membership.{Outside, Ordinary, inside_by, is_of, role}
 use Rattle.tx_model.specs.Words.{kind_of, kind_role}
 use Rattle.tx_model.specs.View.{View, present, role_on}
-use Rattle.tx_proc.specs.Processes.{process_in, process_of}
+use Rattle.tx_proc.specs.Parts.{process_in, process_of}
 use Rattle.tx_proc.specs.declared.proc.Proc.{Proc}
 use Rattle.tx_txn.specs.Marks.{table_at}
 use Rattle.tx_txn.specs.Txns.{inside_at}
@@ -46,7 +46,7 @@ inside_marked k p m boxed shaped at there =
 module _ (laws : JudgeLaws) (k : Content) (pid : Pid) (running : IsRunning (slot_at k.parts.procs pid.0)) (mark : Option Mark) (at : slot_at k.marks pid.0 ≡ mark) where
   pub call_role : OtherCallIsTold → ExitIsTold → (called : Call) →
       kind_role (table_at k.marks) pid.0 (kind_of called) (end_reply (ends_process pid.0 called)) mark ≡ role_on (view_of k) (Calls pid called)
-  unfolding view_of parts_view
+  unfolding view_of states_view
   call_role other exit called =
       ap (kind_role (table_at k.marks) pid.0 (kind_of called) (end_reply (ends_process pid.0 called))) (sym at)
       ∙ call_told other exit (view_of k) pid (slot_at k.parts.procs pid.0) (slot_seen laws k pid) running called
@@ -54,7 +54,7 @@ module _ (laws : JudgeLaws) (k : Content) (pid : Pid) (running : IsRunning (slot
   pub delivery_role : DeliveryIsTold → (signo : Signo) (q : Proc) → slot_at k.parts.procs pid.0 ≡ Some q → (ends : Bool) →
       ends ≡ ends_by (inside_by (table_at k.marks) mark) signo.0 (process_of q) (delivered_value signo.0 (process_of q)) →
       kind_role (table_at k.marks) pid.0 Ordinary (end_reply ends) mark ≡ role_on (view_of k) (Deliver pid signo)
-  unfolding view_of parts_view
+  unfolding view_of states_view
   delivery_role told signo q there ends is =
       ap₂ (λ (b : Bool) (x : Option Mark). kind_role (table_at k.marks) pid.0 Ordinary (end_reply b) x)
       (is ∙ ap (λ (x : Option Mark). ends_by (inside_by (table_at k.marks) x) signo.0 (process_of q) (delivered_value signo.0 (process_of q))) (sym at)) (sym at)

@@ -11,7 +11,7 @@ use Rattle.tx_live.specs.declared.content.Content.{Content}
 use Rattle.tx_live.specs.declared.inverse.Inverse.{Inverse}
 use Rattle.tx_model.specs.Memory.{Memory, bytes_from, loaded_byte}
 use Rattle.tx_model.specs.Words.{byte_in, byte_or_zero}
-use Rattle.tx_proc.specs.Processes.{process_in}
+use Rattle.tx_proc.specs.Parts.{process_in}
 use Rattle.tx_proc.specs.declared.proc.Proc.{Proc}
 use Rattle.tx_step.specs.Steps.{FitsReply, replied}
 use Rattle.tx_step.specs.declared.answered.Answered.{Answered}

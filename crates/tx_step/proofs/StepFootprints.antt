@@ -5,8 +5,8 @@ use Rattle.tx_base.specs.Slots.{slot_at}
 use Rattle.tx_base.specs.declared.steps.Step.{Step}
 use Rattle.tx_step.proofs.WholeContents.{now_seen}
 use Rattle.tx_laws.specs.Footprints.{FootprintIsOfEvent, is_abort, is_shared}
-use Rattle.tx_laws.specs.LawsOfParts.{PresentIsNow}
-use Rattle.tx_laws.specs.TwoParts.{parts_view}
+use Rattle.tx_laws.specs.LawsOfTwoStates.{PresentIsNow}
+use Rattle.tx_laws.specs.TwoStates.{states_view}
 use Rattle.tx_live.specs.Content.{now_of, view_of, IsShaped}
 use Rattle.tx_live.specs.Insides.{IsFootprint}
 use Rattle.tx_live.specs.Made.{IsRunning}
@@ -18,7 +18,7 @@ use Rattle.tx_model.specs.History.{event_footprint}
 use Rattle.tx_model.specs.Membership.{Table}
 use Rattle.tx_model.specs.State.{Object, State, has_object}
 use Rattle.tx_model.specs.View.{event_on, present, role_on}
-use Rattle.tx_proc.specs.Processes.{process_in}
+use Rattle.tx_proc.specs.Parts.{process_in}
 use Rattle.tx_proc.specs.declared.proc.Proc.{Proc as TheProc}
 use Rattle.tx_reserve.specs.Footprints.{IsSetOf, table_of}
 use Rattle.tx_reserve.specs.Laws.{WithinIsSmall, is_within}
@@ -47,7 +47,7 @@ same_tables k shaped = λ j. record { width = sym shaped.marks j; marks = slot_a
 told : FootprintIsOfEvent → PresentIsNow → (k : Content) (step : Step) (o : Object) → IsRunning (slot_at k.parts.procs (process_of step)) →
     is_abort (role_on (view_of k) step) ≡ false → is_shared o ≡ true →
     has_object o (footprint (table_at k.marks) step (now_of k)) ≡ has_object o (event_footprint (table_at k.marks) (event_on (view_of k) step) (now_of k))
-unfolding view_of parts_view
+unfolding view_of states_view
 told of_event seen k step o running no_abort shared =
     let there : is_running ((present (view_of k)).procs (process_of step)) ≡ true
     = ap (λ (S : State). is_running (S.procs (process_of step))) (now_seen seen k) ∙ runs (slot_at k.parts.procs (process_of step)) running in

@@ -16,7 +16,7 @@ use Rattle.tx_laws.specs.Commuting.{named_by}
 use Rattle.tx_laws.specs.Fits.{ends_it, Fits, Passes}
 use Rattle.tx_laws.specs.Footprints.{is_abort}
 use Rattle.tx_laws.specs.Sound.{IsSound}
-use Rattle.tx_laws.specs.TwoParts.{is_owner, parts_view}
+use Rattle.tx_laws.specs.TwoStates.{is_owner, states_view}
 use Rattle.tx_laws.specs.WellFormed.{IsWellFormed}
 use Rattle.tx_laws.specs.WellFormedTable.{IsWellFormedView}
 use Rattle.tx_live.specs.Content.{content_of, held_in, now_of, owner_at, txn_of, view_of}
@@ -32,7 +32,7 @@ use Rattle.tx_model.specs.History.{event_footprint, nobody, targets}
 use Rattle.tx_model.specs.Membership.{Role, Outside, Within, Commits, Aborts}
 use Rattle.tx_model.specs.State.{Object, State, has_object}
 use Rattle.tx_model.specs.View.{View, event_on, next, present, role_on}
-use Rattle.tx_proc.specs.Processes.{process_in}
+use Rattle.tx_proc.specs.Parts.{process_in}
 use Rattle.tx_proc.specs.declared.proc.Proc.{Proc}
 use Rattle.tx_step.proofs.NamedObjects.{has_either, has_left, named_among, named_shared}
 use Rattle.tx_step.specs.Asks.{step_of}
@@ -41,7 +41,7 @@ use Rattle.tx_step.specs.Steps.{FitsReply, IsNamedBy, InFootprint, GetsSend, Was
 use Rattle.tx_step.specs.Through.{IsLetThrough}
 use Rattle.tx_step.specs.declared.asked.Asked.{Asked}
 use Rattle.tx_step.specs.declared.asked.Asked.TheVariants.{Call, Delivery}
-use Rattle.tx_txn.specs.Content.{two_parts_of, is_named, IsKept, OthersHoldNothing}
+use Rattle.tx_txn.specs.Content.{two_states_of, is_named, IsKept, OthersHoldNothing}
 use Rattle.tx_txn.specs.Steps.{next_content, IsNext, Logs}
 
 -- what is held, a live transaction holds
@@ -82,7 +82,7 @@ running_in (Some proc) e = by proc.status e
 module _ (laws : StepLaws) (k : Content) (is : IsContent k) where
   pub now_seen : present (view_of k) ≡ now_of k
   unfolding view_of
-  now_seen = laws.present (two_parts_of (content_of k))
+  now_seen = laws.present (two_states_of (content_of k))
 
   pub sound : IsSound (view_of k)
   unfolding view_of
@@ -90,7 +90,7 @@ module _ (laws : StepLaws) (k : Content) (is : IsContent k) where
 
   -- who owns an object reserved it
   pub reserved_own : (s : ℕ) (o : Object) → owner_at k o ≡ Some s → (view_of k).reserved s o ≡ true
-  unfolding view_of parts_view
+  unfolding view_of states_view
   reserved_own s o own = ap (is_owner s) own ∙ eq-eqb s s refl
 
   -- what changes of the event's objects and of its targets name, the step names
@@ -125,7 +125,7 @@ module _ (laws : StepLaws) (k : Content) (is : IsContent k) where
       (view_of new ≡ next (view_of k) step) × IsKept (content_of new)
   unfolding view_of
   next_seen step R E role event accepted new inverse made = (
-    ap (λ c. parts_view (two_parts_of c)) same ∙ follows.view,
+    ap (λ c. states_view (two_states_of c)) same ∙ follows.view,
     subst IsKept (sym same) (follows.kept (subst OthersHoldNothing same (others_hold_nothing new))),
   )
     where
@@ -209,5 +209,5 @@ module _ (laws : StepLaws) (k : Content) (is : IsContent k) where
 
     -- and it chooses good numbers
     pub numbers : has_bad_number (length k.parts.procs) (step_of pid asked) ≡ false
-    unfolding view_of parts_view
+    unfolding view_of states_view
     numbers = ap (λ (w : ℕ). has_bad_number w (step_of pid asked)) (sym is.shaped.marks) ∙ passes.1

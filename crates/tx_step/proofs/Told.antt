@@ -8,7 +8,7 @@ use Rattle.tx_base.specs.declared.steps.Step.{Step}
 use Rattle.tx_kernel.specs.Acts.{event_of}
 use Rattle.tx_kernel.specs.declared.events.Act.{Act}
 use Rattle.tx_kernel.specs.declared.events.Act.TheVariants as act
-use Rattle.tx_laws.specs.TwoParts.{parts_view}
+use Rattle.tx_laws.specs.TwoStates.{states_view}
 use Rattle.tx_live.specs.Content.{view_of}
 use Rattle.tx_live.specs.HeldPosts.{IsEnd}
 use Rattle.tx_live.specs.Progresses.{part_of}
@@ -130,14 +130,14 @@ module _ (k : Content) (pid : Pid) where
   -- what the step is to the transactions
   pub role_told : (asked : Asked) →
       role_on (view_of k) (step_of pid asked) ≡ kind_role (table_at k.marks) pid.0 (kind_asked asked) (first_reply (view_of k) (step_of pid asked)) (slot_at k.marks pid.0)
-  unfolding view_of parts_view
+  unfolding view_of states_view
   role_told (Call call) = refl
   role_told (Delivery signo) = refl
 
   -- its event, in each role
   pub event_told : (asked : Asked) (R : Role) (r : Reply) → R ≡ role_on (view_of k) (step_of pid asked) →
       event_on (view_of k) (step_of pid asked) ≡ event_in R (step_event (table_at k.marks) (step_of pid asked) r)
-  unfolding view_of parts_view
+  unfolding view_of states_view
   event_told (Call call) R r is = ap (λ (x : Role). event_in x (kind_event (table_at k.marks) pid.0 (step_of pid (Call call)) (kind_asked (Call call)) (slot_at k.marks pid.0))) (sym is)
   event_told (Delivery signo) R r is = ap (λ (x : Role). event_in x (kind_event (table_at k.marks) pid.0 (step_of pid (Delivery signo)) Ordinary (slot_at k.marks pid.0))) (sym is)
 
@@ -148,7 +148,7 @@ module _ (k : Content) (pid : Pid) where
   -- the first reply is that of this event
   first_told : (asked : Asked) →
       first_reply (view_of k) (step_of pid asked) ≡ reply_of (kind_event (table_at k.marks) pid.0 (step_of pid asked) (kind_asked asked) (slot_at k.marks pid.0)) (present (view_of k))
-  unfolding view_of parts_view
+  unfolding view_of states_view
   first_told (Call call) = refl
   first_told (Delivery signo) = refl
 

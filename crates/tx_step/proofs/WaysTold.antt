@@ -29,7 +29,7 @@ use Rattle.tx_kernel.specs.Sends.{IsSentBy}
 use Rattle.tx_kernel.specs.declared.actor.Actor.{Actor}
 use Rattle.tx_kernel.specs.declared.planned.Sends.{Sends}
 use Rattle.tx_laws.specs.Footprints.{is_abort}
-use Rattle.tx_laws.specs.TwoParts.{parts_view}
+use Rattle.tx_laws.specs.TwoStates.{states_view}
 use Rattle.tx_live.specs.Content.{held_of, now_of, view_of}
 use Rattle.tx_live.specs.Insides.{IsFootprint}
 use Rattle.tx_live.specs.Made.{IsRunning}
@@ -42,7 +42,7 @@ use Rattle.tx_model.specs.Membership.{Role, Ordinary, Table, event_in, inside_by
 use Rattle.tx_model.specs.Numbers.{negative}
 use Rattle.tx_model.specs.State.{Process, Sending as TheSending, State}
 use Rattle.tx_model.specs.View.{event_on, first_reply, role_on}
-use Rattle.tx_proc.specs.Processes.{process_in}
+use Rattle.tx_proc.specs.Parts.{process_in}
 use Rattle.tx_reserve.specs.Footprints.{GoesBy, GoesWith, IsInside, IsSetOf, table_at as table_with, table_of}
 use Rattle.tx_reserve.specs.declared.objects.Objects.{Objects}
 use Rattle.tx_txn.specs.Marks.{table_at}
@@ -73,7 +73,7 @@ module _ (k : Content) (pid : Pid) (actor : Actor) (own : IsOwnActor k pid actor
   pub call_posted : (called : Call) (role : StepRole) (first : Sends) → role_as pid.0 role ≡ role_on (view_of k) (Calls pid called) →
       IsSentBy actor first (λ S. call_effect (inside_of actor.inside) actor.pid.0 called (me_of actor) S) →
       (effect (event_on (view_of k) (Calls pid called)) (now_of k)).sends ≡ posted_with k role first
-  unfolding view_of parts_view
+  unfolding view_of states_view
   call_posted called role first is sent =
       posted_in k (table_at k.marks) pid.0 (Calls pid called) (kind_of called) (first_reply (view_of k) (Calls pid called)) (slot_at k.marks pid.0) first role
       (call_effect (inside_by (table_at k.marks) (slot_at k.marks pid.0)) pid.0 called (me_of actor) (now_of k)) is
@@ -85,7 +85,7 @@ module _ (k : Content) (pid : Pid) (actor : Actor) (own : IsOwnActor k pid actor
   pub delivery_posted : (signo : Signo) (role : StepRole) (first : Sends) → role_as pid.0 role ≡ role_on (view_of k) (Deliver pid signo) →
       IsSentBy actor first (λ S. delivery_effect (inside_of actor.inside) actor.pid.0 signo.0 (me_of actor) S) →
       (effect (event_on (view_of k) (Deliver pid signo)) (now_of k)).sends ≡ posted_with k role first
-  unfolding view_of parts_view
+  unfolding view_of states_view
   delivery_posted signo role first is sent =
       posted_in k (table_at k.marks) pid.0 (Deliver pid signo) Ordinary (first_reply (view_of k) (Deliver pid signo)) (slot_at k.marks pid.0) first role
       (delivery_effect (inside_by (table_at k.marks) (slot_at k.marks pid.0)) pid.0 signo.0 (me_of actor) (now_of k)) is
@@ -96,11 +96,11 @@ module _ (k : Content) (pid : Pid) (actor : Actor) (own : IsOwnActor k pid actor
 module _ (laws : WayLaws) (k : Content) (pid : Pid) where
   -- who makes a call or a delivery
   pub call_member : (called : Call) → is_abort (role_on (view_of k) (Calls pid called)) ≡ false → IsOfMember k (starter_in (slot_at k.marks pid.0)) (event_on (view_of k) (Calls pid called))
-  unfolding view_of parts_view
+  unfolding view_of states_view
   call_member called no_abort = of_member laws.own k (table_at k.marks) pid.0 (Calls pid called) (kind_of called) (first_reply (view_of k) (Calls pid called)) refl no_abort
 
   pub delivery_member : (signo : Signo) → is_abort (role_on (view_of k) (Deliver pid signo)) ≡ false → IsOfMember k (starter_in (slot_at k.marks pid.0)) (event_on (view_of k) (Deliver pid signo))
-  unfolding view_of parts_view
+  unfolding view_of states_view
   delivery_member signo no_abort = of_member laws.own k (table_at k.marks) pid.0 (Deliver pid signo) Ordinary (first_reply (view_of k) (Deliver pid signo)) refl no_abort
 
   -- the footprint of a step of a process that runs has objects of numbers that there are alone
@@ -117,7 +117,7 @@ module _ (laws : WayLaws) (k : Content) (pid : Pid) where
 -- an abort is of a live transaction, and stands for a note to its starter
 pub aborted : (k : Content) (pid : Pid) (called : Call) (starter : Pid) → IsContent k → role_as pid.0 (the.Aborts starter) ≡ role_on (view_of k) (Calls pid called) →
     (is_live (table_at k.marks) starter.0 ≡ true) × (event_on (view_of k) (Calls pid called) ≡ Note starter.0 (negative called_by_status))
-unfolding view_of parts_view
+unfolding view_of states_view
 aborted k pid called starter is role =
     let t : Table = table_at k.marks in
     let r : Reply = first_reply (view_of k) (Calls pid called) in
@@ -139,5 +139,5 @@ not_abort p (the.Aborts starter) R other is = absurd (other starter refl)
 
 -- a delivery is none
 pub delivery_no_abort : (k : Content) (pid : Pid) (signo : Signo) → is_abort (role_on (view_of k) (Deliver pid signo)) ≡ false
-unfolding view_of parts_view
+unfolding view_of states_view
 delivery_no_abort k pid signo = ordinary_aborts (table_at k.marks) pid.0 (first_reply (view_of k) (Deliver pid signo)) (slot_at k.marks pid.0)

@@ -3,17 +3,17 @@ use Rattle.std.proofs.Common.{◌≡◌, [], subst}
 use Rattle.std.proofs.lemmas.List.Elements.{All-nil}
 use Rattle.tx_step.specs.Contents.{ContentsAreWhole, IsContent}
 use Rattle.tx_laws.specs.Laws.{HeldKeepsForm}
-use Rattle.tx_laws.specs.LawsOfParts.{PresentIsNow}
+use Rattle.tx_laws.specs.LawsOfTwoStates.{PresentIsNow}
 use Rattle.tx_laws.specs.WellFormed.{IsHeldSending, IsWellFormed}
 use Rattle.tx_live.specs.Content.{content_of, now_of, view_of}
 use Rattle.tx_live.specs.declared.content.Content.{Content}
 use Rattle.tx_model.specs.History.{nobody}
 use Rattle.tx_model.specs.View.{present}
-use Rattle.tx_txn.specs.Content.{two_parts_of}
+use Rattle.tx_txn.specs.Content.{two_states_of}
 
 pub now_seen : PresentIsNow → (k : Content) → present (view_of k) ≡ now_of k
 unfolding view_of
-now_seen seen k = seen (two_parts_of (content_of k))
+now_seen seen k = seen (two_states_of (content_of k))
 
 -- the state is well formed
 pub now_formed : PresentIsNow → (k : Content) → IsContent k → IsWellFormed (now_of k)

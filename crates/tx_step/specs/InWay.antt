@@ -3,13 +3,13 @@ use Rattle.std.specs.Prelude.{◌≡◌, ℕ, Bool, true, false, List, [], ◌�
 use Rattle.tx_base.specs.Slots.{slot_at}
 use Rattle.tx_base.specs.declared.marks.Mark.{Mark}
 use Rattle.tx_step.specs.Faces.{starter_differs}
-use Rattle.tx_laws.specs.TwoParts.{is_owner}
+use Rattle.tx_laws.specs.TwoStates.{is_owner}
 use Rattle.tx_live.specs.Content.{now_of}
 use Rattle.tx_live.specs.declared.content.BoxedTxn.{BoxedTxn}
 use Rattle.tx_live.specs.declared.content.Content.{Content}
 use Rattle.tx_model.specs.Events.{Event, actor, objects}
 use Rattle.tx_model.specs.State.{Held, Process, Sending, has_object}
-use Rattle.tx_proc.specs.Processes.{process_in}
+use Rattle.tx_proc.specs.Parts.{process_in}
 use Rattle.tx_reserve.specs.Reservations.{lesser_of}
 
 -- the starter by whose number a mark names its transaction

@@ -4,7 +4,7 @@ use Rattle.tx_step.specs.Early.{RefusalIsEarly}
 use Rattle.tx_laws.specs.Endings.{EndingsAreAnswered}
 use Rattle.tx_laws.specs.Footprints.{ClearIsOfMembers, FootprintIsOfEvent, NoStarterIsClear}
 use Rattle.tx_laws.specs.Laws.{AcceptedStepsFit, NextIsWellFormed}
-use Rattle.tx_laws.specs.LawsOfParts.{PresentIsNow}
+use Rattle.tx_laws.specs.LawsOfTwoStates.{PresentIsNow}
 use Rattle.tx_laws.specs.LawsOfTable.{NextViewIsWellFormed, ViewsListEnough}
 use Rattle.tx_laws.specs.Shown.{ShowsFew}
 use Rattle.tx_laws.specs.WellFormed.{IsWellFormed, HasGoodNumbers}

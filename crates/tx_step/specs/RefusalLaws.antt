@@ -1,7 +1,7 @@
 -- The laws that early refusals and ways stand on.
 use Rattle.tx_laws.specs.Footprints.{FootprintIsOfEvent}
 use Rattle.tx_laws.specs.LawsOfEvents.{HoldsForItsOwn}
-use Rattle.tx_laws.specs.LawsOfParts.{PresentIsNow}
+use Rattle.tx_laws.specs.LawsOfTwoStates.{PresentIsNow}
 use Rattle.tx_reserve.specs.Laws.{FootprintIsWithin, WithinIsSmall}
 use Rattle.tx_txn.specs.Laws.{DoomIsPending}
 

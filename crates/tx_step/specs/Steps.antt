@@ -24,7 +24,7 @@ use Rattle.tx_model.specs.Footprints.{footprint}
 use Rattle.tx_model.specs.Words.{processes_of}
 use Rattle.tx_model.specs.State.{Object, has_object}
 use Rattle.tx_model.specs.View.{View, event_on, next, present, role_on}
-use Rattle.tx_proc.specs.Processes.{process_in}
+use Rattle.tx_proc.specs.Parts.{process_in}
 use Rattle.tx_step.specs.declared.answered.Answered.{Answered}
 use Rattle.tx_step.specs.declared.answered.Answered.TheVariants.{Acted, Committed, Aborted}
 use Rattle.tx_txn.specs.Content.{is_named}

@@ -8,7 +8,7 @@ ghost use Rattle.tx_live.specs.Content.{content_of, view_of, IsShaped};
 ghost use Rattle.tx_model.specs.Membership.{is_live};
 ghost use Rattle.tx_model.specs.SignalSets.{kill_signo};
 ghost use Rattle.tx_model.specs.View.{has_pending, is_doomed};
-ghost use Rattle.tx_proc.specs.Processes.{process_of};
+ghost use Rattle.tx_proc.specs.Parts.{process_of};
 ghost use Rattle.tx_txn.specs.Content.{IsKept};
 ghost use Rattle.tx_txn.specs.Marks.{table_at};
 

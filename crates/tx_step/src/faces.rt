@@ -5,7 +5,7 @@ ghost use Rattle.tx_step.specs.Faces.{differ, face_as, posted_to, queued_at, sen
 ghost use Rattle.tx_kernel.specs.Plans.{sending_of};
 ghost use Rattle.tx_model.specs.Numbers.{negative};
 ghost use Rattle.tx_model.specs.State.{Sending as TheSending};
-ghost use Rattle.tx_proc.specs.Processes.{process_in};
+ghost use Rattle.tx_proc.specs.Parts.{process_in};
 ghost use Rattle.tx_signal.specs.Parts.{answer_of};
 ghost use Rattle.tx_txn.specs.Faces.{answer_at, face_of, pending_in};
 

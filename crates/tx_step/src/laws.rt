@@ -3,7 +3,7 @@ ghost use Rattle.tx_step.specs.Laws.{StepLaws};
 
 use crate::refusal_laws::{contents_are_whole, refusals_are_early};
 use tx_laws::{
-    answers_of_parts, endings, footprints, step_by_step, well_formed, well_formed_table,
+    answers_of_states, endings, footprints, step_by_step, well_formed, well_formed_table,
 };
 use tx_txn::{answers_of_faces, logs_keep};
 
@@ -14,7 +14,7 @@ pub(crate) fn laws()
     contents_are_whole();
     refusals_are_early();
     step_by_step();
-    answers_of_parts();
+    answers_of_states();
     logs_keep();
     answers_of_faces();
     well_formed();

@@ -3,7 +3,7 @@ ghost use Rattle.tx_step.specs.Contents.{BootedIsContent, ContentsAreWhole};
 ghost use Rattle.tx_step.specs.Early.{RefusalIsEarly};
 ghost use Rattle.tx_step.specs.RefusalLaws.{JudgeLaws, WayLaws};
 
-use tx_laws::{answers_of_parts, footprints, inside, well_formed, well_formed_table};
+use tx_laws::{answers_of_states, footprints, inside, well_formed, well_formed_table};
 use tx_reserve::footprints_are_within;
 use tx_txn::answers_of_faces;
 
@@ -11,7 +11,7 @@ use tx_txn::answers_of_faces;
 pub(crate) fn laws()
     ensures { JudgeLaws }
 {
-    answers_of_parts();
+    answers_of_states();
     answers_of_faces();
 }
 
@@ -19,7 +19,7 @@ pub(crate) fn laws()
 pub(crate) fn way_laws()
     ensures { WayLaws }
 {
-    answers_of_parts();
+    answers_of_states();
     footprints();
     inside();
     footprints_are_within();
@@ -35,7 +35,7 @@ pub fn refusals_are_early()
 pub fn contents_are_whole()
     ensures { ContentsAreWhole }
 {
-    answers_of_parts();
+    answers_of_states();
     well_formed();
 }
 

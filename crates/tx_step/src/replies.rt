@@ -7,7 +7,7 @@ ghost use Rattle.tx_change.specs.Laws.{HasPlaces};
 ghost use Rattle.tx_kernel.specs.Plans.{memory_in};
 ghost use Rattle.tx_model.specs.Memory.{bytes_from, loaded_byte};
 ghost use Rattle.tx_model.specs.Words.{byte_or_zero};
-ghost use Rattle.tx_proc.specs.Processes.{process_in};
+ghost use Rattle.tx_proc.specs.Parts.{process_in};
 ghost use Rattle.tx_step.specs.Steps.{FitsReply, replied};
 ghost use Rattle.tx_txn.specs.Outboxes.{missed_in};
 

@@ -11,7 +11,7 @@ ghost use Rattle.tx_model.specs.Deliveries.{delivered_value, ends_by};
 ghost use Rattle.tx_model.specs.Membership.{Table, inside_by, is_live, member_end, others_open};
 ghost use Rattle.tx_model.specs.Words.{kind_of, kind_role};
 ghost use Rattle.tx_model.specs.View.{role_on};
-ghost use Rattle.tx_proc.specs.Processes.{process_of};
+ghost use Rattle.tx_proc.specs.Parts.{process_of};
 ghost use Rattle.tx_txn.specs.Content.{IsKept};
 ghost use Rattle.tx_txn.specs.Marks.{table_at};
 

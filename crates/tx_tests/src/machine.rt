@@ -1,5 +1,5 @@
 //! The machine: whole schedules, and its own calls.
-use crate::runs::{kept, ran, ran_wide};
+use crate::runs::{partial, ran, ran_wide};
 use crate::schedules::{
     NUMBERS_AGAIN, SIDE_BY_SIDE, call, numbers_again, side_by_side, taken_back,
 };
@@ -20,7 +20,7 @@ fn runs_a_schedule(rt: HostRuntime) -> Result<(), Fail> {
 
 #[test]
 fn keeps_a_run_to_its_end(rt: HostRuntime) -> Result<(), Fail> {
-    let whole = kept(rt.alloc(), &numbers_again())?;
+    let whole = partial(rt.alloc(), &numbers_again())?;
     assert!(rt; whole.stopped.is_none());
     assert!(rt; told(rt.alloc(), &whole.ran)?.as_str() == NUMBERS_AGAIN);
     Ok(())

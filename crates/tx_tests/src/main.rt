@@ -1,6 +1,6 @@
-//! The tests of all crates, in one crate over them: what no contract says and no text shows that the
-//! program answers. They stand here, and not in their crates, since a crate with tests is proved once
-//! more for them.
+//! The tests of all crates, in one crate over them: what no contract says and no text shows that
+//! the program answers. They stand here, and not in their crates, since a crate with tests is
+//! proved once more for them.
 //!
 //! The tests of `refused` pass whichever growth of memory is refused to them, and are run so, too.
 //!

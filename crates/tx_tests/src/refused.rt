@@ -4,14 +4,14 @@
 ghost use Rattle.std.specs.Prelude.{IfSome};
 ghost use Rattle.tx_journal.specs.Sessions.{IsAtEnd};
 
-use crate::runs::{go, kept, ran};
+use crate::runs::{go, partial, ran};
 use crate::schedules::{NUMBERS_AGAIN, SIDE_BY_SIDE, numbers_again, side_by_side};
 use crate::sessions::make_steps;
 use crate::texts::{told, told_by};
 use std::alloc::Global;
 use std::process::Abort;
 use tx_base::{Accepted, NoMemory, Step};
-use tx_core::{KeptRun, Ran};
+use tx_core::{PartialRun, Ran};
 use tx_journal::{GotoFault, Session, print_state};
 use tx_pages::{PageError, Space};
 
@@ -44,11 +44,11 @@ fn a_run_is_made_whole_the_second_time(rt: HostRuntime) {
     assert!(rt; is_text(told(rt.alloc(), &made), SIDE_BY_SIDE));
 }
 
-/// The run, kept up to where it stopped.
-fn kept_run(rt: &impl Abort, alloc: Global, steps: &[Step]) -> KeptRun {
-    match kept(alloc, steps) {
+/// The run up to where it stopped.
+fn partial_run(rt: &impl Abort, alloc: Global, steps: &[Step]) -> PartialRun {
+    match partial(alloc, steps) {
         Ok(first) => first,
-        Err(NoMemory) => match kept(alloc, steps) {
+        Err(NoMemory) => match partial(alloc, steps) {
             Ok(second) => second,
             Err(NoMemory) => panic!(rt; "one growth alone is refused"),
         },
@@ -77,9 +77,9 @@ fn go_on(alloc: Global, ran: &mut Ran, left: &[Step]) -> bool {
 }
 
 #[test]
-fn a_kept_run_goes_on_where_it_stopped(rt: HostRuntime) {
+fn a_partial_run_goes_on_where_it_stopped(rt: HostRuntime) {
     let steps = numbers_again();
-    let first = kept_run(&rt, rt.alloc(), &steps);
+    let first = partial_run(&rt, rt.alloc(), &steps);
     let stopped = first.stopped.unwrap_or(steps.len()).min(steps.len());
     let (made, left) = steps.split_at(stopped);
     let mut run = first.ran;

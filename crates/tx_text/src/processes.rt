@@ -3,7 +3,7 @@ ghost use Rattle.std.specs.Prelude.{◌≡◌, ◌++◌, [], OnOk, string_bytes}
 ghost use Rattle.std.specs.Option.{option_copied};
 ghost use Rattle.tx_change.specs.States.{state_of};
 ghost use Rattle.tx_cred.specs.Cred.{ids_of};
-ghost use Rattle.tx_proc.specs.Processes.{process_in, process_of};
+ghost use Rattle.tx_proc.specs.Parts.{process_in, process_of};
 ghost use Rattle.tx_text.specs.Processes.{are_root, byte_text, end_text, flag_text, head_text, ids_line, own_text, page_line, page_text, pages_text, process_lines, process_text, procs_text, status_text, three_ids};
 
 use crate::descriptors::put_fds;

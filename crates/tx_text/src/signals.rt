@@ -1,7 +1,7 @@
 //! Prints the signals of a process.
 ghost use Rattle.std.specs.Prelude.{◌≡◌, ◌++◌, OnOk, string_bytes};
 ghost use Rattle.tx_base.specs.Signals.{bits_of};
-ghost use Rattle.tx_proc.specs.Processes.{process_of};
+ghost use Rattle.tx_proc.specs.Parts.{process_of};
 ghost use Rattle.tx_text.specs.Signals.{action_line, actions_text, entry_text, frame_text, frames_text, queued_line, set_line, signals_text};
 
 use crate::registers::put_slots;

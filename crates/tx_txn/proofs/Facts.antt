@@ -3,40 +3,40 @@ use Rattle.std.proofs.Common.{◌≡◌, ℕ, Bool, true, false, List, [], ◌�
 use Rattle.std.proofs.lemmas.Bool.{both_ways, cases_Bool}
 use Rattle.tx_base.specs.declared.marks.Mark.{Mark}
 use Rattle.tx_laws.specs.Fits.{IsIn}
-use Rattle.tx_laws.specs.TwoParts.{in_set, is_owner, pick, freed}
+use Rattle.tx_laws.specs.TwoStates.{in_set, is_owner, pick, freed}
 use Rattle.tx_model.specs.History.{just, is_other_starter, targets, objects_reserved}
 use Rattle.tx_model.specs.Words.{processes_of}
 use Rattle.tx_model.specs.Membership.{Table, is_of, Progress, Continues, Parks, Forks, Begins, mark_unless_of}
 use Rattle.tx_model.specs.State.{State, Sending, Object, Proc, Desc, Pipe, Held, same_object, has_object}
-use Rattle.tx_model.specs.StateLaws.{AgreePart}
+use Rattle.tx_model.specs.StateLaws.{EqualAt}
 use Rattle.tx_model.specs.View.{some_object}
 
-pub part_refl : (S : State) (o : Object) → AgreePart S S o
+pub part_refl : (S : State) (o : Object) → EqualAt S S o
 part_refl S (Proc n) = refl
 part_refl S (Desc n) = refl
 part_refl S (Pipe n) = refl
 part_refl S (Held n) = refl
 
-pub part_sym : (S R : State) (o : Object) → AgreePart S R o → AgreePart R S o
+pub part_sym : (S R : State) (o : Object) → EqualAt S R o → EqualAt R S o
 part_sym S R (Proc n) h = sym h
 part_sym S R (Desc n) h = sym h
 part_sym S R (Pipe n) h = sym h
 part_sym S R (Held n) h = sym h
 
-pub part_trans : (S R Q : State) (o : Object) → AgreePart S R o → AgreePart R Q o → AgreePart S Q o
+pub part_trans : (S R Q : State) (o : Object) → EqualAt S R o → EqualAt R Q o → EqualAt S Q o
 part_trans S R Q (Proc n) h k = h ∙ k
 part_trans S R Q (Desc n) h k = h ∙ k
 part_trans S R Q (Pipe n) h k = h ∙ k
 part_trans S R Q (Held n) h k = h ∙ k
 
 -- what is picked is the one state or the other
-pub pick_true : (P : Object → Bool) (S R : State) (o : Object) → P o ≡ true → AgreePart (pick P S R) S o
+pub pick_true : (P : Object → Bool) (S R : State) (o : Object) → P o ≡ true → EqualAt (pick P S R) S o
 pick_true P S R (Proc n) h = rw h refl
 pick_true P S R (Desc n) h = rw h refl
 pick_true P S R (Pipe n) h = rw h refl
 pick_true P S R (Held n) h = rw h refl
 
-pub pick_false : (P : Object → Bool) (S R : State) (o : Object) → P o ≡ false → AgreePart (pick P S R) R o
+pub pick_false : (P : Object → Bool) (S R : State) (o : Object) → P o ≡ false → EqualAt (pick P S R) R o
 pick_false P S R (Proc n) h = rw h refl
 pick_false P S R (Desc n) h = rw h refl
 pick_false P S R (Pipe n) h = rw h refl

@@ -14,14 +14,14 @@ use Rattle.tx_kernel.specs.declared.planned.Planned.{Planned}
 use Rattle.tx_kernel.specs.declared.planned.Sends.{Sends}
 use Rattle.tx_kernel.specs.declared.planned.Sends.TheVariants.{Nothing, AtOnce, AtCommit}
 use Rattle.tx_laws.specs.Fits.{FitsWithin}
-use Rattle.tx_laws.specs.TwoParts.{made, parts_view}
+use Rattle.tx_laws.specs.TwoStates.{made, states_view}
 use Rattle.tx_model.specs.Effects.{Inside as TheInside}
 use Rattle.tx_model.specs.Events.{Event, actor, effect, objects}
 use Rattle.tx_model.specs.History.{event_footprint, objects_reserved}
 use Rattle.tx_model.specs.Words.{processes_of}
 use Rattle.tx_model.specs.Membership.{Progress, Within}
 use Rattle.tx_model.specs.State.{State, Sending, Object, has_object}
-use Rattle.tx_txn.specs.Content.{LogKernel, two_parts_of}
+use Rattle.tx_txn.specs.Content.{LogKernel, two_states_of}
 use Rattle.tx_txn.specs.Laws.{LogLaws}
 use Rattle.tx_txn.specs.Logs.{newest_first}
 use Rattle.tx_txn.specs.Steps.{AgreeBut, LeadsBack, Logs}
@@ -47,9 +47,9 @@ event_made held before after pid inside event log now planned makes count = (mak
 -- what a member's step made is logged
 pub event_logged : LogLaws → (c : LogKernel) (held : ℕ → List Sending) (before after : Parts) (pid : Pid) (inside : Inside) (event : Event) (log now : List Change) (planned : Planned)
     (part : Progress) (p : ℕ) (makes : Makes before pid (Some inside) event log now after planned) → c.now ≡ state_of held before → CountsHeld (Some inside) held
-    → FitsWithin inside.starter.0 part event p (parts_view (two_parts_of c))
+    → FitsWithin inside.starter.0 part event p (states_view (two_states_of c))
     → Logs (Within inside.starter.0 part) event (newest_first makes.kept) c
-unfolding parts_view event_footprint
+unfolding states_view event_footprint
 event_logged laws c held before after pid inside event log now planned part p makes is_now count fits =
     subst (λ (S : State). LeadsBack s (objects_reserved part s (event_footprint c.table event S)) (newest_first makes.kept) (made event S S) S) (sym is_now)
     (record {

@@ -8,8 +8,8 @@ use Rattle.tx_change.specs.declared.change.Change.TheVariants.{Slot}
 use Rattle.tx_change.specs.declared.parts.Parts.{Parts}
 use Rattle.tx_kernel.specs.Plans.{AreAmong}
 use Rattle.tx_model.specs.State.{State, Sending, Object, Proc, Desc, Pipe, Held, same_object, has_object}
-use Rattle.tx_model.specs.StateLaws.{state_ext, AgreePart}
-use Rattle.tx_proc.specs.Processes.{process_in}
+use Rattle.tx_model.specs.StateLaws.{state_ext, EqualAt}
+use Rattle.tx_proc.specs.Parts.{process_in}
 use Rattle.tx_proc.specs.declared.proc.Proc.{Proc as ProcSlot}
 use Rattle.tx_signal.specs.Parts.{PendingView}
 use Rattle.tx_txn.specs.Content.{Txn, overlay, overlay_if, with_kept, led_by, is_named}
@@ -103,7 +103,7 @@ module _ (laws : LogLaws) where
       lay None = refl
       lay (Some proc) = refl
 
-      at : (o : Object) → AgreePart (changed (put parts) (state_of released parts)) (with_kept s pending (state_of held parts)) o
+      at : (o : Object) → EqualAt (changed (put parts) (state_of released parts)) (with_kept s pending (state_of held parts)) o
       at (Proc n) = by (n == s) (λ z. eqb-true n s z)
         where
           by : (b : Bool) → (b ≡ true → n ≡ s)

@@ -8,10 +8,10 @@ use Rattle.tx_change.specs.declared.change.Change.{Change}
 use Rattle.tx_change.specs.declared.change.Change.TheVariants.{Slot, Part, Description as DescChange, Pipe as PipeChange}
 use Rattle.tx_desc.specs.Descriptions.{described}
 use Rattle.tx_model.specs.State.{Process, Description, State, Object, Proc, Desc, Pipe, Held, same_object}
-use Rattle.tx_model.specs.StateLaws.{AgreePart}
-use Rattle.tx_proc.specs.Processes.{process_in, revised}
-use Rattle.tx_proc.specs.declared.part.Part.{Part as ProcPart}
-use Rattle.tx_proc.specs.declared.part.Part.TheVariants as part
+use Rattle.tx_model.specs.StateLaws.{EqualAt}
+use Rattle.tx_proc.specs.Parts.{process_in, revised}
+use Rattle.tx_proc.specs.declared.proc.Part.{Part as ProcPart}
+use Rattle.tx_proc.specs.declared.proc.Part.TheVariants as part
 use Rattle.tx_signal.specs.Parts.{PendingView}
 use Rattle.tx_txn.specs.Content.{Txn, overlay, overlay_if, with_kept, led_by, is_named}
 use Rattle.tx_txn.specs.Faces.{pending_in}
@@ -42,17 +42,7 @@ overlay_if_twice true P x = overlay_twice (pending_in None) P x
 -- what is pending is no matter to an edit of another part, and goes with one of that part
 part_blank : (p : ProcPart) (q : Process) → blank (Some (revised p (record q { pending = 0; queued = [] }))) ≡ blank (Some (revised p q))
 part_blank (part.Answer x) q = refl
-part_blank (part.Register x) q = refl
-part_blank (part.Parent x) q = refl
-part_blank (part.Status x) q = refl
-part_blank (part.Cred x) q = refl
-part_blank (part.Page n x) q = refl
-part_blank (part.Descriptor n x) q = refl
-part_blank (part.Mask x) q = refl
-part_blank (part.Action n x) q = refl
-part_blank (part.Pending x) q = refl
-part_blank (part.Queued n x) q = refl
-part_blank (part.Frame x) q = refl
+part_blank p q = refl
 
 blank_part : (p : ProcPart) (x : Option Process) → blank (option_map (λ me. revised p me) (blank x)) ≡ blank (option_map (λ me. revised p me) x)
 blank_part p None = refl
@@ -102,7 +92,7 @@ pub changed_by_but : (s : ℕ) (log : List Change) (S R : State) (o : Object) �
 changed_by_but s [] S R o h = h
 changed_by_but s (change ∷ log) S R o h = changed_by_but s log (changed change S) (changed change R) o (changed_but s change S R o h)
 
-pub but_part : (s : ℕ) (S R : State) (o : Object) → AgreePart S R o → AgreeBut s S R o
+pub but_part : (s : ℕ) (S R : State) (o : Object) → EqualAt S R o → AgreeBut s S R o
 but_part s S R (Proc n) h = ap (λ (x : Option Process). overlay_if (n == s) (pending_in None) x) h
 but_part s S R (Desc n) h = h
 but_part s S R (Pipe n) h = h
@@ -121,7 +111,7 @@ but_trans s S R Q (Pipe n) h k = h ∙ k
 but_trans s S R Q (Held n) h k = h ∙ k
 
 -- with the same pending they are the same
-pub with_kept_part : (s : ℕ) (P : PendingView) (S R : State) (o : Object) → AgreeBut s S R o → AgreePart (with_kept s P S) (with_kept s P R) o
+pub with_kept_part : (s : ℕ) (P : PendingView) (S R : State) (o : Object) → AgreeBut s S R o → EqualAt (with_kept s P S) (with_kept s P R) o
 with_kept_part s P S R (Proc n) h = overlay_same (n == s) P (S.procs n) (R.procs n) h
 with_kept_part s P S R (Desc n) h = h
 with_kept_part s P S R (Pipe n) h = h
@@ -138,11 +128,11 @@ with_kept_but s P S (Held n) = by (n == s)
     by false = refl
 
 -- led back, they are the same
-pub led_part : (s : ℕ) (t : Txn) (S R : State) (o : Object) → AgreeBut s S R o → AgreePart (led_by s (Some t) S) (led_by s (Some t) R) o
+pub led_part : (s : ℕ) (t : Txn) (S R : State) (o : Object) → AgreeBut s S R o → EqualAt (led_by s (Some t) S) (led_by s (Some t) R) o
 led_part s t S R o h = with_kept_part s t.pending (changed_by t.log S) (changed_by t.log R) o (changed_by_but s t.log S R o h)
 
 -- a state that is the same but for what is pending, with the other's pending, is the same
-pub with_own : (s : ℕ) (S K : State) (o : Object) → AgreeBut s S K o → ((n : ℕ) → o ≡ Held n → (n == s) ≡ true → K.held n ≡ []) → AgreePart (with_kept s (pending_in (K.procs s)) S) K o
+pub with_own : (s : ℕ) (S K : State) (o : Object) → AgreeBut s S K o → ((n : ℕ) → o ≡ Held n → (n == s) ≡ true → K.held n ≡ []) → EqualAt (with_kept s (pending_in (K.procs s)) S) K o
 with_own s S K (Proc n) h e = overlay_same (n == s) (pending_in (K.procs s)) (S.procs n) (K.procs n) h ∙ by (n == s) (λ z. eqb-true n s z)
   where
     by : (b : Bool) → (b ≡ true → n ≡ s) → overlay_if b (pending_in (K.procs s)) (K.procs n) ≡ K.procs n
@@ -157,7 +147,7 @@ with_own s S K (Held n) h e = h ∙ by (n == s) (λ z. e n refl z)
     by false z = refl
 
 -- at another object than the starter and what it holds nothing is put over
-pub with_kept_else : (s : ℕ) (P : PendingView) (S : State) (o : Object) → same_object o (Proc s) ≡ false → same_object o (Held s) ≡ false → AgreePart (with_kept s P S) S o
+pub with_kept_else : (s : ℕ) (P : PendingView) (S : State) (o : Object) → same_object o (Proc s) ≡ false → same_object o (Held s) ≡ false → EqualAt (with_kept s P S) S o
 with_kept_else s P S (Proc n) h k = rw h refl
 with_kept_else s P S (Desc n) h k = refl
 with_kept_else s P S (Pipe n) h k = refl

@@ -3,18 +3,18 @@ use Rattle.std.proofs.Common.{◌≡◌, ℕ, Bool, true, false, not, List, ◌+
 use Rattle.std.proofs.lemmas.Bool.{both_ways}
 use Rattle.tx_change.specs.States.{changed_by}
 use Rattle.tx_laws.specs.Fits.{FitsWithin}
-use Rattle.tx_laws.specs.TwoAnswers.{owns_named, sends_differ, parts_in_way}
-use Rattle.tx_laws.specs.TwoParts.{is_owner, parts_view, made}
+use Rattle.tx_laws.specs.TwoAnswers.{owns_named, sends_differ, states_in_way}
+use Rattle.tx_laws.specs.TwoStates.{is_owner, states_view, made}
 use Rattle.tx_model.specs.Effects.{send_answers}
 use Rattle.tx_model.specs.Events.{Event, actor, effect, objects, after}
 use Rattle.tx_model.specs.History.{is_other_starter, targets, event_footprint, objects_reserved}
 use Rattle.tx_model.specs.Membership.{Table, Progress, is_member_of, is_live}
 use Rattle.tx_model.specs.Posts.{after_posts}
 use Rattle.tx_model.specs.State.{Process, State, Object, Proc, Desc, Pipe, Held, same_object, has_object}
-use Rattle.tx_model.specs.StateLaws.{AgreePart}
+use Rattle.tx_model.specs.StateLaws.{EqualAt}
 use Rattle.tx_model.specs.Words.{IsClear}
 use Rattle.tx_signal.specs.Parts.{PendingView}
-use Rattle.tx_txn.specs.Content.{Txn, LogKernel, overlay, with_kept, led_by, kept_for, kept_of, two_parts_of, is_named, IsKept}
+use Rattle.tx_txn.specs.Content.{Txn, LogKernel, overlay, with_kept, led_by, kept_for, kept_of, two_states_of, is_named, IsKept}
 use Rattle.tx_txn.specs.Faces.{Face, face_of, running, pending_in, pending_by}
 use Rattle.tx_txn.specs.Laws.{RoleLaws}
 use Rattle.tx_txn.specs.Steps.{posted, AgreeBut}
@@ -23,15 +23,15 @@ use Rattle.tx_txn.proofs.Overlays.{but_part, but_sym, but_trans, with_kept_but, 
 use Rattle.tx_txn.proofs.Posted.{GoTo, face_posts, pending_posts, posts_but, posts_held}
 
 -- what is kept at an object is that in the state led back by its owner
-pub kept_at : (c : LogKernel) (o : Object) (x : Option ℕ) → c.owner o ≡ x → AgreePart (kept_of c) (kept_for c x) o
+pub kept_at : (c : LogKernel) (o : Object) (x : Option ℕ) → c.owner o ≡ x → EqualAt (kept_of c) (kept_for c x) o
 unfolding kept_of
 kept_at c (Proc n) x h = rw h refl
 kept_at c (Desc n) x h = rw h refl
 kept_at c (Pipe n) x h = rw h refl
 kept_at c (Held n) x h = rw h refl
 
-pub kept_at_txn : (c : LogKernel) (o : Object) (t : ℕ) (x : Txn) → c.owner o ≡ Some t → c.txns t ≡ Some x → AgreePart (kept_of c) (led_by t (Some x) c.now) o
-kept_at_txn c o t x h e = subst (λ (y : Option Txn). AgreePart (kept_of c) (led_by t y c.now) o) e (kept_at c o (Some t) h)
+pub kept_at_txn : (c : LogKernel) (o : Object) (t : ℕ) (x : Txn) → c.owner o ≡ Some t → c.txns t ≡ Some x → EqualAt (kept_of c) (led_by t (Some x) c.now) o
+kept_at_txn c o t x h e = subst (λ (y : Option Txn). EqualAt (kept_of c) (led_by t y c.now) o) e (kept_at c o (Some t) h)
 
 other_live : (t : Table) (p n : ℕ) → is_other_starter t p n ≡ true → is_live t n ≡ true
 other_live t p n h = by (is_live t n) h
@@ -50,7 +50,7 @@ module _ (c : LogKernel) (k : IsKept c) where
 
   -- an owner has a live transaction
   pub live_of : (s : ℕ) (o : Object) → c.owner o ≡ Some s → is_live c.table s ≡ true
-  unfolding parts_view
+  unfolding states_view
   live_of s o h = k.sound.owned_live s o (owner_self s (c.owner o) h)
 
   pub txn_of : (s : ℕ) (o : Object) → c.owner o ≡ Some s → (x : Txn) × (c.txns s ≡ Some x)
@@ -62,11 +62,11 @@ module _ (c : LogKernel) (k : IsKept c) where
 
   -- the starter of a live transaction is its own, and what it holds
   pub own_proc : (s : ℕ) → is_live c.table s ≡ true → c.owner (Proc s) ≡ Some s
-  unfolding parts_view
+  unfolding states_view
   own_proc s live = owner_true s (c.owner (Proc s)) (k.sound.own_procs s s live)
 
   own_held : (s : ℕ) → is_live c.table s ≡ true → c.owner (Held s) ≡ Some s
-  unfolding parts_view
+  unfolding states_view
   own_held s live = owner_true s (c.owner (Held s)) (k.sound.own_held s live)
 
   -- what its transaction does not own is no part of it
@@ -114,29 +114,29 @@ module _ (laws : RoleLaws) where
 
   module _ (c : LogKernel) (k : IsKept c) where
     -- to lead a transaction back changes nothing of what it does not own
-    pub led_else : (s : ℕ) (x : Txn) (o : Object) → c.txns s ≡ Some x → (c.owner o ≡ Some s → ⊥) → AgreePart (led_by s (Some x) c.now) c.now o
+    pub led_else : (s : ℕ) (x : Txn) (o : Object) → c.txns s ≡ Some x → (c.owner o ≡ Some s → ⊥) → EqualAt (led_by s (Some x) c.now) c.now o
     led_else s x o e not_own =
         let live : is_live c.table s ≡ true = live_txn c k s x e in
         part_trans (with_kept s x.pending (changed_by x.log c.now)) (changed_by x.log c.now) c.now o
         (with_kept_else s x.pending (changed_by x.log c.now) o (else_same c k s (Proc s) o (own_proc c k s live) not_own) (else_same c k s (Held s) o (own_held c k s live) not_own))
         (laws.elsewhere x.log c.now o (unnamed o x.log (else_named c k s x o e not_own)))
 
-    module _ (ev : Event) (clear : IsClear (parts_view (two_parts_of c)) ev) where
+    module _ (ev : Event) (clear : IsClear (states_view (two_states_of c)) ev) where
       -- of a footprint the actor's transaction alone owns anything
       pub foot_member : (o : Object) (t : ℕ) → c.owner o ≡ Some t → has_object o (event_footprint c.table ev c.now) ≡ true → is_member_of c.table t (actor ev) ≡ true
-      unfolding parts_view
+      unfolding states_view
       foot_member o t h f = by (is_member_of c.table t (actor ev)) refl
         where
           live : is_live c.table t ≡ true
           live = live_of c k t o h
 
-          passed : parts_in_way (two_parts_of c) ev t ≡ false
-          passed = sym (laws.in_way (two_parts_of c) ev t k.sound) ∙ clear t live
+          passed : states_in_way (two_states_of c) ev t ≡ false
+          passed = sym (laws.in_way (two_states_of c) ev t k.sound) ∙ clear t live
 
           by : (b : Bool) → is_member_of c.table t (actor ev) ≡ b → b ≡ true
           by true e = refl
           by false e =
-              let z : (if owns_named (two_parts_of c) ev t then true else sends_differ (two_parts_of c) ev t) ≡ false = rw (live, e) at passed in
+              let z : (if owns_named (two_states_of c) ev t then true else sends_differ (two_states_of c) ev t) ≡ false = rw (live, e) at passed in
               absurd (meets_not (event_footprint c.table ev c.now) (λ q. is_owner t (c.owner q)) o f (owner_self t (c.owner o) h) (none_left _ _ z).0)
 
       -- an event of another process names nothing of a transaction
@@ -150,7 +150,7 @@ module _ (laws : RoleLaws) where
 
       -- what it sends to a process of the transaction is sent to its starter
       goes_to : (o : Object) (t : ℕ) → c.owner o ≡ Some t → is_member_of c.table t (actor ev) ≡ false → GoTo t o (effect ev c.now).sends
-      unfolding parts_view event_footprint
+      unfolding states_view event_footprint
       goes_to o t h other m i e = by (is_other_starter c.table (actor ev) m.target) refl
         where
           mine : c.owner (Proc m.target) ≡ Some t
@@ -166,14 +166,14 @@ module _ (laws : RoleLaws) where
 
       -- it is made now and on the kept side: the log is as it was, and what is pending on the kept side is kept
       others_kept : (o : Object) (t : ℕ) (x : Txn) → c.txns t ≡ Some x → c.owner o ≡ Some t → is_member_of c.table t (actor ev) ≡ false
-          → AgreePart (with_kept t (pending_in ((made ev c.now (kept_of c)).procs t)) (changed_by x.log (made ev c.now c.now))) (made ev c.now (kept_of c)) o
+          → EqualAt (with_kept t (pending_in ((made ev c.now (kept_of c)).procs t)) (changed_by x.log (made ev c.now c.now))) (made ev c.now (kept_of c)) o
       others_kept o t x e h other =
           let out : has_object o (objects ev c.now) ≡ false = out_of o t h other in
           let to : GoTo t o (effect ev c.now).sends = goes_to o t h other in
           let N : State = made ev c.now c.now in
           let K : State = made ev c.now (kept_of c) in
           let X : State = changed_by x.log c.now in
-          let at : AgreePart (kept_of c) (with_kept t x.pending X) o = kept_at_txn c o t x h e in
+          let at : EqualAt (kept_of c) (with_kept t x.pending X) o = kept_at_txn c o t x h e in
           let before : AgreeBut t K X o =
           but_trans t K (kept_of c) X o (made_but ev c.now (kept_of c) t o out to)
           (but_trans t (kept_of c) (with_kept t x.pending X) X o (but_part t (kept_of c) (with_kept t x.pending X) o at) (with_kept_but t x.pending X o)) in
@@ -181,7 +181,7 @@ module _ (laws : RoleLaws) where
           with_own t (changed_by x.log N) K o (but_trans t (changed_by x.log N) X K o led (but_sym t K X o before))
           (λ n i m.
           made_held ev c.now (kept_of c) n (subst (λ (q : Object). has_object q (objects ev c.now) ≡ false) i out)
-          ∙ subst (λ (q : Object). AgreePart (kept_of c) (with_kept t x.pending X) q) i at ∙ rw m refl)
+          ∙ subst (λ (q : Object). EqualAt (kept_of c) (with_kept t x.pending X) q) i at ∙ rw m refl)
 
       module _ (t : ℕ) (x : Txn) (e : c.txns t ≡ Some x) (other : is_member_of c.table t (actor ev) ≡ false) where
         start_out : has_object (Proc t) (objects ev c.now) ≡ false
@@ -194,26 +194,26 @@ module _ (laws : RoleLaws) where
             ∙ ap₂ (λ (f : Option Face) (P : PendingView). pending_by t (effect ev c.now).sends f P) (k.starter t x e) (kept_pending c k t x e)
 
         -- led back by the transaction in which the sends were posted, the state is as the event makes it on the kept side
-        pub posted_kept : (o : Object) → c.owner o ≡ Some t → AgreePart (led_by t (posted t (effect ev c.now).sends (Some x)) (made ev c.now c.now)) (made ev c.now (kept_of c)) o
+        pub posted_kept : (o : Object) → c.owner o ≡ Some t → EqualAt (led_by t (posted t (effect ev c.now).sends (Some x)) (made ev c.now c.now)) (made ev c.now (kept_of c)) o
         posted_kept o h =
-            subst (λ (P : PendingView). AgreePart (with_kept t P (changed_by x.log (made ev c.now c.now))) (made ev c.now (kept_of c)) o) posted_pending (others_kept o t x e h other)
+            subst (λ (P : PendingView). EqualAt (with_kept t P (changed_by x.log (made ev c.now c.now))) (made ev c.now (kept_of c)) o) posted_pending (others_kept o t x e h other)
 
         -- and its starter has the same face
         pub posted_face : face_of ((made ev c.now (kept_of c)).procs t) ≡ Some (running x.ids)
         posted_face = made_face ev c.now (kept_of c) t start_out ∙ k.starter t x e
 
-      module _ (s : ℕ) (part : Progress) (p : ℕ) (fits : FitsWithin s part ev p (parts_view (two_parts_of c))) where
+      module _ (s : ℕ) (part : Progress) (p : ℕ) (fits : FitsWithin s part ev p (states_view (two_states_of c))) where
         -- of what a step inside the transaction of s reserves, that alone owns anything
         pub own_reserved : (o : Object) (t : ℕ) → has_object o (objects_reserved part s (event_footprint c.table ev c.now)) ≡ true → c.owner o ≡ Some t → t ≡ s
-        unfolding parts_view
+        unfolding states_view
         own_reserved o t h own = elim (reserved_cases part s (event_footprint c.table ev c.now) o h) [
           | inl e ↦ k.sound.held_own t s (subst (λ (q : Object). is_owner t (c.owner q) ≡ true) e (owner_self t (c.owner o) own))
           | inr e ↦ fits.mine t (subst (λ (q : ℕ). is_member_of c.table t q ≡ true) fits.actor_is (foot_member o t own e))
         ]
 
         -- everything else stays
-        pub else_stays : (o : Object) → has_object o (objects_reserved part s (event_footprint c.table ev c.now)) ≡ false → AgreePart (made ev c.now c.now) c.now o
-        unfolding after event_footprint parts_view
+        pub else_stays : (o : Object) → has_object o (objects_reserved part s (event_footprint c.table ev c.now)) ≡ false → EqualAt (made ev c.now c.now) c.now o
+        unfolding after event_footprint states_view
         else_stays o h =
             laws.parts ev c.now o
             (subst (λ (os : List Object). has_object o (objects ev c.now ++ os) ≡ false) (all_targets c.table (actor ev) (effect ev c.now).sends (λ m i. fits.sends c.now m i))

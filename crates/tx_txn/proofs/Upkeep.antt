@@ -5,7 +5,7 @@ use Rattle.tx_base.specs.declared.steps.Step.{Step}
 use Rattle.tx_change.specs.declared.change.Change.{Change}
 use Rattle.tx_laws.specs.Fits.{FitsWithin, Fits, Passes}
 use Rattle.tx_laws.specs.Sound.{IsSound}
-use Rattle.tx_laws.specs.TwoParts.{in_set, is_owner, parts_without, parts_view}
+use Rattle.tx_laws.specs.TwoStates.{in_set, is_owner, states_without, states_view}
 use Rattle.tx_model.specs.Answer.{answer, is_running, IsAccepted}
 use Rattle.tx_model.specs.Events.{Event, Note, process_of, actor, effect, objects}
 use Rattle.tx_model.specs.History.{just, targets, event_footprint, objects_reserved}
@@ -13,7 +13,7 @@ use Rattle.tx_model.specs.Membership.{Progress, Role, Outside, Within, Commits, 
 use Rattle.tx_model.specs.State.{Ids, Process, State, Sending, Object, Proc, Held, put_at, has_object}
 use Rattle.tx_model.specs.View.{View, next, role_on, event_on}
 use Rattle.tx_model.specs.Words.{IsClear}
-use Rattle.tx_txn.specs.Content.{Txn, LogKernel, kept_of, two_parts_of, is_named, IsKept, OthersHoldNothing}
+use Rattle.tx_txn.specs.Content.{Txn, LogKernel, kept_of, two_states_of, is_named, IsKept, OthersHoldNothing}
 use Rattle.tx_txn.specs.Faces.{face_of, running}
 use Rattle.tx_txn.specs.Laws.{RoleLaws}
 use Rattle.tx_txn.specs.Steps.{ids_in, posted, logged, next_content, Logs, IsNext}
@@ -65,8 +65,8 @@ runs_face (Some q) h = by q.status h
     by (Some n) e = cc
 
 -- on the kept side the starter of a live transaction runs
-start_runs : (c : LogKernel) → IsSound (parts_view (two_parts_of c)) → (s : ℕ) → is_live c.table s ≡ true → is_running ((kept_of c).procs s) ≡ true
-unfolding parts_view
+start_runs : (c : LogKernel) → IsSound (states_view (two_states_of c)) → (s : ℕ) → is_live c.table s ≡ true → is_running ((kept_of c).procs s) ≡ true
+unfolding states_view
 start_runs c sound s live =
     subst (λ (x : Option Process). is_running x ≡ true)
     (pick_true (λ o. in_set (just s) (c.owner o)) (kept_of c) c.now (Proc s) (in_just s (c.owner (Proc s)) (owner_true s (c.owner (Proc s)) (sound.own_procs s s live))))
@@ -84,21 +84,21 @@ module _ (laws : RoleLaws) (c : LogKernel) (k : IsKept c) where
       by true = refl
       by false = k.live u
 
-  next_sound : (r : Role) (ev : Event) (p : ℕ) (new : List Change) → Passes r ev (parts_view (two_parts_of c)) → Fits r ev p (parts_view (two_parts_of c)) → Logs r ev new c
-      → IsSound (parts_view (two_parts_of (next_content r ev p new c)))
+  next_sound : (r : Role) (ev : Event) (p : ℕ) (new : List Change) → Passes r ev (states_view (two_states_of c)) → Fits r ev p (states_view (two_states_of c)) → Logs r ev new c
+      → IsSound (states_view (two_states_of (next_content r ev p new c)))
   next_sound r ev p new clear fits logs =
-      subst IsSound (sym (next_view laws c k r ev p new clear fits logs)) (laws.sound r ev p (parts_view (two_parts_of c)) k.sound clear fits)
+      subst IsSound (sym (next_view laws c k r ev p new clear fits logs)) (laws.sound r ev p (states_view (two_states_of c)) k.sound clear fits)
 
   -- a step inside the transaction of s
   module _ (ev : Event) (s : ℕ) (part : Progress) (p : ℕ) (new : List Change)
-      (clear : IsClear (parts_view (two_parts_of c)) ev) (fits : FitsWithin s part ev p (parts_view (two_parts_of c))) (logs : Logs (Within s part) ev new c) where
+      (clear : IsClear (states_view (two_states_of c)) ev) (fits : FitsWithin s part ev p (states_view (two_states_of c))) (logs : Logs (Within s part) ev new c) where
     abbrev F : List Object
     F = objects_reserved part s (event_footprint c.table ev c.now)
 
     abbrev C : LogKernel
     C = next_content (Within s part) ev p new c
 
-    sound : IsSound (parts_view (two_parts_of C))
+    sound : IsSound (states_view (two_states_of C))
     sound = next_sound (Within s part) ev p new clear fits logs
 
     -- what is reserved is its own then, and what anyone owned is still owned by the same
@@ -115,7 +115,7 @@ module _ (laws : RoleLaws) (c : LogKernel) (k : IsKept c) where
         by false e = i
 
     live_by : (o : Object) (u : ℕ) → C.owner o ≡ Some u → is_live (table_after (Within s part) p c.table) u ≡ true
-    unfolding parts_view next_content
+    unfolding states_view next_content
     live_by o u i = sound.owned_live u o (rw i (eq-eqb u u refl))
 
     live_new : is_live (table_after (Within s part) p c.table) s ≡ true
@@ -124,11 +124,11 @@ module _ (laws : RoleLaws) (c : LogKernel) (k : IsKept c) where
         (has_left (Proc (actor ev)) (objects ev c.now) (targets c.table (actor ev) (effect ev c.now).sends) (laws.actor ev c.now))))
 
     own_start : C.owner (Proc s) ≡ Some s
-    unfolding parts_view next_content
+    unfolding states_view next_content
     own_start = owner_true s (C.owner (Proc s)) (sound.own_procs s s live_new)
 
     live_else : (u : ℕ) → (u == s) ≡ false → is_live c.table u ≡ is_live (table_after (Within s part) p c.table) u
-    unfolding parts_view next_content
+    unfolding states_view next_content
     live_else u n = by (is_live c.table u) (is_live (table_after (Within s part) p c.table) u) refl refl
       where
         was_own : is_owner u (C.owner (Held u)) ≡ true → c.owner (Held u) ≡ Some u
@@ -217,7 +217,7 @@ module _ (laws : RoleLaws) (c : LogKernel) (k : IsKept c) where
         by true e j = subst (λ (v : ℕ). face_of ((kept_of C).procs v) ≡ Some (running t.ids)) (sym (eqb-true u s e)) (mine (c.txns s) refl j)
         by false e j = ap face_of (kept_old u (own_proc c k u (live_txn c k u t j))) ∙ k.starter u t j
 
-  live_after : (r : Role) (ev : Event) (p : ℕ) (new : List Change) → Passes r ev (parts_view (two_parts_of c)) → Fits r ev p (parts_view (two_parts_of c)) → Logs r ev new c
+  live_after : (r : Role) (ev : Event) (p : ℕ) (new : List Change) → Passes r ev (states_view (two_states_of c)) → Fits r ev p (states_view (two_states_of c)) → Logs r ev new c
       → (u : ℕ) → is_some ((next_content r ev p new c).txns u) ≡ is_live (next_content r ev p new c).table u
   unfolding next_content
   live_after Outside ev p new clear fits logs u = some_posted u (effect ev c.now).sends (c.txns u) ∙ k.live u
@@ -225,7 +225,7 @@ module _ (laws : RoleLaws) (c : LogKernel) (k : IsKept c) where
   live_after (Commits s) ev p new clear fits logs u = some_posted u (effect ev c.now).sends (put_at c.txns s None u) ∙ over_live s u
   live_after (Aborts s status) ev p new clear fits logs u = over_live s u
 
-  named_after : (r : Role) (ev : Event) (p : ℕ) (new : List Change) → Passes r ev (parts_view (two_parts_of c)) → Fits r ev p (parts_view (two_parts_of c)) → Logs r ev new c
+  named_after : (r : Role) (ev : Event) (p : ℕ) (new : List Change) → Passes r ev (states_view (two_states_of c)) → Fits r ev p (states_view (two_states_of c)) → Logs r ev new c
       → (u : ℕ) (t : Txn) → (next_content r ev p new c).txns u ≡ Some t → (o : Object) → is_named o t.log ≡ true → (next_content r ev p new c).owner o ≡ Some u
   unfolding next_content
   named_after Outside ev p new clear fits logs u t h o n =
@@ -241,9 +241,9 @@ module _ (laws : RoleLaws) (c : LogKernel) (k : IsKept c) where
   start_own : (u : ℕ) (x : Txn) → c.txns u ≡ Some x → c.owner (Proc u) ≡ Some u
   start_own u x e = own_proc c k u (live_txn c k u x e)
 
-  starter_after : (r : Role) (ev : Event) (p : ℕ) (new : List Change) → Passes r ev (parts_view (two_parts_of c)) → Fits r ev p (parts_view (two_parts_of c)) → Logs r ev new c
+  starter_after : (r : Role) (ev : Event) (p : ℕ) (new : List Change) → Passes r ev (states_view (two_states_of c)) → Fits r ev p (states_view (two_states_of c)) → Logs r ev new c
       → (u : ℕ) (t : Txn) → (next_content r ev p new c).txns u ≡ Some t → face_of ((kept_of (next_content r ev p new c)).procs u) ≡ Some (running t.ids)
-  unfolding next_content parts_view
+  unfolding next_content states_view
   starter_after Outside ev p new clear fits logs u t h =
       let y = was_posted u (effect ev c.now).sends (c.txns u) t h in
       ap face_of (outside_kept laws c k ev p new clear fits (Proc u) u (start_own u y.0 y.1)) ∙ posted_face laws c k ev clear u y.0 y.1 (fits u) ∙ ap (λ i. Some (running i)) y.3
@@ -259,12 +259,12 @@ module _ (laws : RoleLaws) (c : LogKernel) (k : IsKept c) where
       of : (r : ℤ) → face_of ((kept_of (next_content (Aborts s status) (Note s r) p new c)).procs u) ≡ Some (running t.ids)
       of r =
           let z = was_live s u c.txns t h in
-          let W : State = parts_without (two_parts_of c) (just s) in
+          let W : State = states_without (two_states_of c) (just s) in
           ap face_of (aborts_kept laws c k s status p r new fits.0 (Proc u) u (freed_else s u (c.owner (Proc u)) (start_own u t z.1) z.0))
           ∙ made_face laws (Note s r) W (kept_of c) u (off_note s r u W z.0)
           ∙ k.starter u t z.1
 
-  pub next_kept : (r : Role) (ev : Event) (p : ℕ) (new : List Change) → Passes r ev (parts_view (two_parts_of c)) → Fits r ev p (parts_view (two_parts_of c)) → Logs r ev new c
+  pub next_kept : (r : Role) (ev : Event) (p : ℕ) (new : List Change) → Passes r ev (states_view (two_states_of c)) → Fits r ev p (states_view (two_states_of c)) → Logs r ev new c
       → OthersHoldNothing (next_content r ev p new c) → IsKept (next_content r ev p new c)
   next_kept r ev p new clear fits logs empty = record {
     live = live_after r ev p new clear fits logs;
@@ -275,12 +275,12 @@ module _ (laws : RoleLaws) (c : LogKernel) (k : IsKept c) where
   }
 
   -- an accepted step
-  pub next_step : (step : Step) (new : List Change) → IsAccepted (answer (parts_view (two_parts_of c)) step)
-      → Logs (role_on (parts_view (two_parts_of c)) step) (event_on (parts_view (two_parts_of c)) step) new c
-      → IsNext (next_content (role_on (parts_view (two_parts_of c)) step) (event_on (parts_view (two_parts_of c)) step) (process_of step) new c) (next (parts_view (two_parts_of c)) step)
+  pub next_step : (step : Step) (new : List Change) → IsAccepted (answer (states_view (two_states_of c)) step)
+      → Logs (role_on (states_view (two_states_of c)) step) (event_on (states_view (two_states_of c)) step) new c
+      → IsNext (next_content (role_on (states_view (two_states_of c)) step) (event_on (states_view (two_states_of c)) step) (process_of step) new c) (next (states_view (two_states_of c)) step)
   unfolding next
   next_step step new a logs =
-      let V : View = parts_view (two_parts_of c) in
+      let V : View = states_view (two_states_of c) in
       let f : Passes (role_on V step) (event_on V step) V × Fits (role_on V step) (event_on V step) (process_of step) V = laws.fits V step k.sound a in
       record {
         view = next_view laws c k (role_on V step) (event_on V step) (process_of step) new f.0 f.1 logs;

@@ -6,7 +6,7 @@ use Rattle.tx_change.specs.States.{changed_by}
 use Rattle.tx_change.specs.declared.change.Change.{Change}
 use Rattle.tx_laws.specs.Sound.{IsSound}
 use Rattle.tx_laws.specs.TwoAnswers.{owns_named}
-use Rattle.tx_laws.specs.TwoParts.{TwoParts, parts_view}
+use Rattle.tx_laws.specs.TwoStates.{TwoStates, states_view}
 use Rattle.tx_model.specs.Events.{Event, actor, effect}
 use Rattle.tx_model.specs.Membership.{Table, empty_table, is_live, is_member_of}
 use Rattle.tx_model.specs.State.{Ids, Process, State, Object, Proc, Desc, Pipe, Held, same_object}
@@ -65,9 +65,9 @@ kept_of c = record {
   held = λ n. (kept_for c (c.owner (Held n))).held n;
 }
 
--- the kernel of two parts that this is
-abbrev pub two_parts_of : LogKernel → TwoParts
-two_parts_of c = record { now = c.now; kept = kept_of c; owner = c.owner; table = c.table }
+-- the kernel of two states that this is
+abbrev pub two_states_of : LogKernel → TwoStates
+two_states_of c = record { now = c.now; kept = kept_of c; owner = c.owner; table = c.table }
 
 -- whether a change of the list is of the object
 unfoldable pub is_named : Object → List Change → Bool
@@ -87,7 +87,7 @@ pub record IsKept (c : LogKernel) : Type 0 where
   -- without its transaction, a starter would run with the ids that are kept
   pub starter : (s : ℕ) (t : Txn) → c.txns s ≡ Some t → face_of ((kept_of c).procs s) ≡ Some (running t.ids)
   pub empty : OthersHoldNothing c
-  pub sound : IsSound (parts_view (two_parts_of c))
+  pub sound : IsSound (states_view (two_states_of c))
 
 -- the content at the start: no transaction is live
 abbrev pub start_content : State → LogKernel
@@ -104,4 +104,4 @@ starter_differs c ev s t =
 abbrev pub stands_in_way : LogKernel → Event → ℕ → Option Txn → Bool
 stands_in_way c ev s None = false
 stands_in_way c ev s (Some t) =
-    if is_member_of c.table s (actor ev) then false else (if owns_named (two_parts_of c) ev s then true else starter_differs c ev s t)
+    if is_member_of c.table s (actor ev) then false else (if owns_named (two_states_of c) ev s then true else starter_differs c ev s t)

@@ -15,9 +15,9 @@ use Rattle.tx_kernel.specs.declared.inside.Inside.{Inside}
 use Rattle.tx_kernel.specs.declared.planned.Planned.{Planned}
 use Rattle.tx_laws.specs.Fits.{Fits, FitsWithin, Passes}
 use Rattle.tx_laws.specs.Laws.{AcceptedStepsFit, RolesKeepSound, StartIsSound}
-use Rattle.tx_laws.specs.LawsOfEvents.{ActorIsObject, OtherPartsStay, OthersGetSendsAlone}
-use Rattle.tx_laws.specs.LawsOfParts.{DoomIsKept, StarterInWayIsOfParts, InWayIsOfParts, PartsFollowRole, SamePartsSameView, StartHasItsView, TwoAnswersAreOfStarter}
-use Rattle.tx_laws.specs.TwoParts.{made, parts_view}
+use Rattle.tx_laws.specs.LawsOfEvents.{ActorIsObject, OtherObjectsStay, OthersGetSendsAlone}
+use Rattle.tx_laws.specs.LawsOfTwoStates.{DoomIsKept, StarterInWayIsOfStates, InWayIsOfStates, StatesFollowRole, SameStatesSameView, StartHasItsView, TwoAnswersAreOfStarter}
+use Rattle.tx_laws.specs.TwoStates.{made, states_view}
 use Rattle.tx_model.specs.Answer.{answer, IsAccepted}
 use Rattle.tx_model.specs.Events.{Event, process_of, objects}
 use Rattle.tx_model.specs.Membership.{Progress, Role, Within}
@@ -27,7 +27,7 @@ use Rattle.tx_model.specs.State.{Object, Proc, Process, Sending, State, has_obje
 use Rattle.tx_model.specs.View.{view, starter_in_way, in_way, has_two_answers, is_doomed, least, next, role_on, event_on}
 use Rattle.tx_model.specs.Words.{next_by}
 use Rattle.tx_signal.specs.Parts.{PendingView}
-use Rattle.tx_txn.specs.Content.{Txn, LogKernel, IsKept, OthersHoldNothing, led_by, two_parts_of, start_content, starter_differs, stands_in_way}
+use Rattle.tx_txn.specs.Content.{Txn, LogKernel, IsKept, OthersHoldNothing, led_by, two_states_of, start_content, starter_differs, stands_in_way}
 use Rattle.tx_txn.specs.Faces.{face_of, pending_in, pending_after, answer_at, queued_after}
 use Rattle.tx_txn.specs.Logs.{newest_first, pending_or, with_pending_at}
 use Rattle.tx_txn.specs.Steps.{AgreeBut, IsNext, LeadsBack, Logs, next_content}
@@ -35,24 +35,24 @@ use Rattle.tx_txn.specs.Steps.{AgreeBut, IsNext, LeadsBack, Logs, next_content}
 -- in each role that goes with the event, the next content has the next view
 abbrev pub ContentFollowsRole : Type 0
 ContentFollowsRole = (role : Role) (event : Event) (process : ℕ) (new : List Change) (content : LogKernel) →
-    IsKept content → Passes role event (parts_view (two_parts_of content)) → Fits role event process (parts_view (two_parts_of content)) →
+    IsKept content → Passes role event (states_view (two_states_of content)) → Fits role event process (states_view (two_states_of content)) →
     Logs role event new content →
-    parts_view (two_parts_of (next_content role event process new content)) ≡ next_by role event process (parts_view (two_parts_of content))
+    states_view (two_states_of (next_content role event process new content)) ≡ next_by role event process (states_view (two_states_of content))
 
 -- and what is so of every content is so of it
 abbrev pub ContentIsKept : Type 0
 ContentIsKept = (role : Role) (event : Event) (process : ℕ) (new : List Change) (content : LogKernel) →
-    IsKept content → Passes role event (parts_view (two_parts_of content)) → Fits role event process (parts_view (two_parts_of content)) →
+    IsKept content → Passes role event (states_view (two_states_of content)) → Fits role event process (states_view (two_states_of content)) →
     Logs role event new content →
     OthersHoldNothing (next_content role event process new content) → IsKept (next_content role event process new content)
 
 -- after an accepted step the next content has the next view, and is kept
 abbrev pub ContentFollowsStep : Type 0
 ContentFollowsStep = (content : LogKernel) (step : Step) (new : List Change) →
-    IsKept content → IsAccepted (answer (parts_view (two_parts_of content)) step) →
-    Logs (role_on (parts_view (two_parts_of content)) step) (event_on (parts_view (two_parts_of content)) step) new content →
-    IsNext (next_content (role_on (parts_view (two_parts_of content)) step) (event_on (parts_view (two_parts_of content)) step) (process_of step) new content)
-    (next (parts_view (two_parts_of content)) step)
+    IsKept content → IsAccepted (answer (states_view (two_states_of content)) step) →
+    Logs (role_on (states_view (two_states_of content)) step) (event_on (states_view (two_states_of content)) step) new content →
+    IsNext (next_content (role_on (states_view (two_states_of content)) step) (event_on (states_view (two_states_of content)) step) (process_of step) new content)
+    (next (states_view (two_states_of content)) step)
 
 -- what exchanges of the step's objects took leads the state back, what the transaction of s holds apart
 abbrev pub StepLeadsBack : Type 0
@@ -82,33 +82,33 @@ abbrev pub EventIsLogged : Type 0
 EventIsLogged = (content : LogKernel) (held : ℕ → List Sending) (before after : Parts) (pid : Pid) (inside : Inside) (event : Event) (log now : List Change) (planned : Planned)
     (part : Progress) (process : ℕ) (made : Makes before pid (Some inside) event log now after planned) →
     content.now ≡ state_of held before → CountsHeld (Some inside) held →
-    FitsWithin inside.starter.0 part event process (parts_view (two_parts_of content)) →
+    FitsWithin inside.starter.0 part event process (states_view (two_states_of content)) →
     Logs (Within inside.starter.0 part) event (newest_first made.kept) content
 
 -- a live transaction is doomed if SIGKILL is kept as pending
 abbrev pub DoomIsPending : Type 0
 DoomIsPending = (content : LogKernel) (starter : ℕ) (txn : Txn) → IsKept content → content.txns starter ≡ Some txn →
-    is_doomed (parts_view (two_parts_of content)) starter ≡ is_in_set txn.pending.standard kill_signo
+    is_doomed (states_view (two_states_of content)) starter ≡ is_in_set txn.pending.standard kill_signo
 
 -- whether an event that does not name a live starter has two answers there, the faces and the lengths of the queues tell
 abbrev pub TwoAnswersAreOfFaces : Type 0
 TwoAnswersAreOfFaces = (content : LogKernel) (event : Event) (starter : ℕ) (txn : Txn) → IsKept content → content.txns starter ≡ Some txn →
     has_object (Proc starter) (objects event content.now) ≡ false →
-    has_two_answers (parts_view (two_parts_of content)) event starter ≡ starter_differs content event starter txn
+    has_two_answers (states_view (two_states_of content)) event starter ≡ starter_differs content event starter txn
 
 -- who is in the way of an event, the owners, the members, the faces and the lengths of the queues tell
 abbrev pub InWayIsOfFaces : Type 0
 InWayIsOfFaces = (content : LogKernel) (event : Event) (starter : ℕ) → IsKept content →
-    in_way (parts_view (two_parts_of content)) event starter ≡ stands_in_way content event starter (content.txns starter)
+    in_way (states_view (two_states_of content)) event starter ≡ stands_in_way content event starter (content.txns starter)
 
 -- the least of these
 abbrev pub StarterInWayIsOfFaces : Type 0
 StarterInWayIsOfFaces = (content : LogKernel) (event : Event) → IsKept content →
-    starter_in_way (parts_view (two_parts_of content)) event ≡ least (λ s. stands_in_way content event s (content.txns s)) content.table.width
+    starter_in_way (states_view (two_states_of content)) event ≡ least (λ s. stands_in_way content event s (content.txns s)) content.table.width
 
 -- the content at the start has the view of the empty history
 abbrev pub StartContentHasItsView : Type 0
-StartContentHasItsView = (start : State) → parts_view (two_parts_of (start_content start)) ≡ view start []
+StartContentHasItsView = (start : State) → states_view (two_states_of (start_content start)) ≡ view start []
 
 -- where nothing is held, what is so of every content is so of that at the start
 abbrev pub StartContentIsKept : Type 0
@@ -143,14 +143,14 @@ pub record RoleLaws : Type 0 where
   pub start_sound : StartIsSound
   pub fits : AcceptedStepsFit
   pub sound : RolesKeepSound
-  pub same : SamePartsSameView
-  pub role : PartsFollowRole
+  pub same : SameStatesSameView
+  pub role : StatesFollowRole
   pub doom : DoomIsKept
   pub two_answers : TwoAnswersAreOfStarter
-  pub in_way : InWayIsOfParts
-  pub starter_in_way : StarterInWayIsOfParts
+  pub in_way : InWayIsOfStates
+  pub starter_in_way : StarterInWayIsOfStates
   pub actor : ActorIsObject
-  pub parts : OtherPartsStay
+  pub parts : OtherObjectsStay
   pub sends : OthersGetSendsAlone
   pub appended : ChangedAppended
   pub elsewhere : ListNamesItsObjects

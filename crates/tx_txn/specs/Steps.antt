@@ -3,13 +3,13 @@
 use Rattle.std.specs.Prelude.{◌≡◌, ℕ, true, List, [], ◌++◌, Option, Some, None, if◌then◌else◌, ◌==◌}
 use Rattle.tx_change.specs.States.{changed_by}
 use Rattle.tx_change.specs.declared.change.Change.{Change}
-use Rattle.tx_laws.specs.TwoParts.{freed, made, parts_view}
+use Rattle.tx_laws.specs.TwoStates.{freed, made, states_view}
 use Rattle.tx_model.specs.Events.{Event, effect}
 use Rattle.tx_model.specs.History.{event_footprint, objects_reserved}
 use Rattle.tx_model.specs.Membership.{Role, Outside, Within, Commits, Aborts, table_after}
 use Rattle.tx_model.specs.State.{Ids, Process, Sending, State, Object, Proc, Desc, Pipe, Held, put_at, has_object, root_ids}
 use Rattle.tx_model.specs.View.{View}
-use Rattle.tx_txn.specs.Content.{Txn, LogKernel, OthersHoldNothing, IsKept, overlay_if, led_by, two_parts_of, is_named}
+use Rattle.tx_txn.specs.Content.{Txn, LogKernel, OthersHoldNothing, IsKept, overlay_if, led_by, two_states_of, is_named}
 use Rattle.tx_txn.specs.Faces.{running, pending_in, pending_by}
 
 -- the ids of a process: root's, if it is not there
@@ -36,11 +36,11 @@ next_content Outside ev p new c = record {
   owner = c.owner;
   table = table_after Outside p c.table;
 }
-next_content (Within s part) ev p new c = record {
+next_content (Within s progress) ev p new c = record {
   now = made ev c.now c.now;
   txns = put_at c.txns s (logged new (c.now.procs s) (c.txns s));
-  owner = λ o. if has_object o (objects_reserved part s (event_footprint c.table ev c.now)) then Some s else c.owner o;
-  table = table_after (Within s part) p c.table;
+  owner = λ o. if has_object o (objects_reserved progress s (event_footprint c.table ev c.now)) then Some s else c.owner o;
+  table = table_after (Within s progress) p c.table;
 }
 next_content (Commits s) ev p new c = record {
   now = made ev c.now c.now;
@@ -71,11 +71,11 @@ pub record LeadsBack (s : ℕ) (objects : List Object) (new : List Change) (afte
 -- what a role asks of the records
 abbrev pub Logs : Role → Event → List Change → LogKernel → Type 0
 Logs Outside ev new c = Unit {0}
-Logs (Within s part) ev new c = LeadsBack s (objects_reserved part s (event_footprint c.table ev c.now)) new (made ev c.now c.now) c.now
+Logs (Within s progress) ev new c = LeadsBack s (objects_reserved progress s (event_footprint c.table ev c.now)) new (made ev c.now c.now) c.now
 Logs (Commits s) ev new c = Unit {0}
 Logs (Aborts s status) ev new c = Unit {0}
 
 -- the content has the view, and what is so of every content is so of it
 pub record IsNext (c : LogKernel) (V : View) : Type 0 where
-  pub view : parts_view (two_parts_of c) ≡ V
+  pub view : states_view (two_states_of c) ≡ V
   pub kept : OthersHoldNothing c → IsKept c

@@ -2,15 +2,15 @@
 ghost use Rattle.tx_txn.specs.Laws.{ContentFollowsRole, ContentFollowsStep, ContentIsKept, DoomIsPending, EventIsLogged, EventIsMade, EventLeavesRest, StarterInWayIsOfFaces, InWayIsOfFaces, LogGoesForward, LogLaws, LogLeadsBack, PostIsAnsweredByFace, PostLeavesFace, PostLeavesPending, PostLeavesQueued, RoleLaws, StartContentHasItsView, StartContentIsKept, StepLeadsBack, TwoAnswersAreOfFaces};
 
 use tx_change::{appended, changes_state, lists_change_state, revert_then_apply, twice_is_nothing};
-use tx_laws::{answers_of_parts, locality, step_by_step, two_parts};
+use tx_laws::{answers_of_states, locality, step_by_step, two_states};
 
 /// The laws that those of contents stand on. It does nothing.
 fn role_laws()
     ensures { RoleLaws }
 {
     step_by_step();
-    two_parts();
-    answers_of_parts();
+    two_states();
+    answers_of_states();
     locality();
     appended();
     lists_change_state();

@@ -1,4 +1,31 @@
 //! Workers that run a program in turns, and what writes a run.
+//!
+//! `turn` looks for the worker's next running process (`next.rt`), and `turn_of` takes the turn of
+//! a process: `named.rt` says which step the program names for it, with the signals that are
+//! offered by `offers.rt`, and `turns.rt` makes it in the session. What there is to say of it is
+//! defined over the view: `offered`, `named`, `turn_adds`, `next_process`. So the contract of a
+//! turn speaks of no code, and what a turn adds can be told from the journal before it. Room for
+//! the worker's note is made before the step. After the reply that the transaction is doomed the
+//! kernel's abort is a step like another, whose answer on the view says whether there is anything
+//! to abort.
+//!
+//! A run has a `Desk` (`desk.rt`) under a `Mutex`: the session, and the book of a ledger. Each
+//! worker has a share of the ledger, and a turn at the desk adds to the share how many entries it
+//! made. The desk's invariant (`IsDesk`) is what is known each time the lock is taken: the session
+//! has what was handed in and as many entries more as the book counts, each named by the program on
+//! the view of those before it. Which program and which session these are, the invariant knows by
+//! two members of the trait `Work` that contracts alone see; each run picks them for the name that
+//! its lock has. So neither is copied, and nothing of them is compared later.
+//!
+//! `run_workers` (`run.rt`, `team.rt`, `work.rt`) starts workers by recursion: a call for n workers
+//! splits off a part of its share, starts one worker with it, calls itself for n - 1, and joins.
+//! What a worker gives back, its share and its notes, is promised by its `Post`. With all parts
+//! again the book is audited, so that as many entries were added as the shares count. `checked`
+//! compares each worker's notes with the entries of its number (`compare.rt`, `same.rt`).
+//! `run_queue` (`ready.rt`, `crew.rt`, `service.rt`) does the same with a station beside the share.
+//! `run_program` (`whole.rt`) reads a program, runs it by `run_workers` and writes the run
+//! (`text.rt`). A `Gate` is told of each turn before the lock is taken and after it is let go; by
+//! it tests say in which order turns are taken.
 #![tactic(auto)]
 
 mod compare;

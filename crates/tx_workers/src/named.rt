@@ -5,7 +5,7 @@ ghost use Rattle.tx_live.specs.Content.{view_of};
 ghost use Rattle.tx_model.specs.FreeNumbers.{free_numbers};
 ghost use Rattle.tx_base.specs.declared.names.Regs.{Regs};
 ghost use Rattle.tx_model.specs.View.{View, present};
-ghost use Rattle.tx_proc.specs.Processes.{process_in, process_of};
+ghost use Rattle.tx_proc.specs.Parts.{process_in, process_of};
 ghost use Rattle.tx_workers.specs.Named.{chosen, instructed, named_for, running};
 
 use crate::offers::offered;

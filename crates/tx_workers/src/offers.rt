@@ -3,7 +3,7 @@ ghost use Rattle.std.specs.Option.{option_copied};
 ghost use Rattle.std.specs.Prelude.{◌≡◌, option_map};
 ghost use Rattle.tx_model.specs.Deliveries.{is_deferred};
 ghost use Rattle.tx_model.specs.Membership.{Table, inside_by};
-ghost use Rattle.tx_proc.specs.Processes.{process_of};
+ghost use Rattle.tx_proc.specs.Parts.{process_of};
 ghost use Rattle.tx_workers.specs.Offers.{is_catch, is_offered, is_passed_over, offered};
 ghost use Rattle.tx_workers.specs.Names.{signal_number};
 

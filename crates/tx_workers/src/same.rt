@@ -1,11 +1,11 @@
 //! Whether two steps, or two replies, are the same.
-ghost use Rattle.std.specs.Prelude.{◌≡◌, IsTrue};
+ghost use Rattle.std.specs.Prelude.{◌≡◌, ◌↔◌, IsTrue};
 
 use tx_base::{Missed, Reply, Step};
 
 /// Whether two steps are the same.
 pub(crate) fn same_step(one: &Step, other: &Step) -> bool
-    ensures { IsTrue result → one.now ≡ other.now }
+    ensures { IsTrue result ↔ (one.now ≡ other.now) }
 {
     match (one, other) {
         (Step::Call(pid, call), Step::Call(p, c)) => pid == p && call.is_same(c),
@@ -17,7 +17,7 @@ pub(crate) fn same_step(one: &Step, other: &Step) -> bool
 
 /// Whether two replies are the same.
 pub(crate) fn same_reply(one: &Reply, other: &Reply) -> bool
-    ensures { IsTrue result → one.now ≡ other.now }
+    ensures { IsTrue result ↔ (one.now ≡ other.now) }
 {
     match (one, other) {
         (Reply::Done(a), Reply::Done(b)) => a == b,
@@ -34,7 +34,7 @@ pub(crate) fn same_reply(one: &Reply, other: &Reply) -> bool
 
 /// Whether two lists of sends that were not delivered are the same.
 fn same_misses(one: &[Missed], other: &[Missed]) -> bool
-    ensures { IsTrue result → one.now ≡ other.now }
+    ensures { IsTrue result ↔ (one.now ≡ other.now) }
 {
     match (one.split_first(), other.split_first()) {
         (Some((a, rest)), Some((b, left))) => a == b && same_misses(rest, left),

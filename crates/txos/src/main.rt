@@ -1,4 +1,7 @@
 //! The program: reads its words, and then a text.
+//!
+//! The program. `main` is thin: it reads the words with `clap`, calls `replay`, `debug` or
+//! `run_program` over the standard streams, and answers a status.
 #![tactic(auto)]
 
 ghost use Rattle.std.specs.Prelude.{◌≡◌, OnErr, OnOk};

@@ -1,7 +1,7 @@
 use Rattle.tx_laws.proofs.Commutes.{reply_named}
 use Rattle.tx_laws.proofs.Local.{actor_in, effect_same, objects_same}
-use Rattle.tx_laws.proofs.PartsElsewhere.{writes_elsewhere, posts_alone}
-use Rattle.tx_laws.proofs.StepView.{elsewhere, parts_elsewhere}
+use Rattle.tx_laws.proofs.StatesElsewhere.{writes_elsewhere, posts_alone}
+use Rattle.tx_laws.proofs.StepView.{elsewhere, states_elsewhere}
 use Rattle.tx_laws.proofs.locality.Goals as goal
 
 pub returns-clause-actor : goal.returns-clause-actor
@@ -20,7 +20,7 @@ pub returns-clause-elsewhere : goal.returns-clause-elsewhere
 returns-clause-elsewhere c = elsewhere
 
 pub returns-clause-parts : goal.returns-clause-parts
-returns-clause-parts c = parts_elsewhere
+returns-clause-parts c = states_elsewhere
 
 pub returns-clause-writes : goal.returns-clause-writes
 returns-clause-writes c = writes_elsewhere

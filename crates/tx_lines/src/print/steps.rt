@@ -2,7 +2,7 @@
 ghost use Rattle.std.specs.Prelude.{◌≡◌, ◌++◌, OnOk, string_bytes};
 ghost use Rattle.tx_lines.specs.Lines.{step_text};
 
-use crate::print::calls::put_call;
+use crate::calls::put_call;
 use crate::print::shapes::put_count_first;
 use crate::print::words::{put, put_count};
 use std::alloc::AllocError;

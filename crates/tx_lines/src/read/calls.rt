@@ -1,23 +1,22 @@
 //! The calls of a schedule's lines, by groups.
-ghost use Rattle.std.specs.Prelude.{◌≡◌, ◌≤◌, IfSome, None, Some};
+ghost use Rattle.std.specs.Prelude.{◌≡◌, ◌≤◌, IfSome, Some};
 ghost use Rattle.std.specs.Bool.{then_some};
 ghost use Rattle.tx_base.specs.declared.steps.Call.{Call};
 ghost use Rattle.tx_lines.specs.Calls.{call_text, group_of, FitsCall};
 ghost use Rattle.tx_lines.specs.Lines.{IsCallOf};
-ghost use Rattle.tx_lines.specs.Words.{first_word};
 ghost use Rattle.tx_lines.specs.declared.read.header.Version.{Version};
 
-mod descriptors;
-mod ids;
-mod memory;
+pub mod descriptors;
+pub mod memory;
 pub mod place;
-mod processes;
-mod script;
-mod signals;
+pub mod processes;
+pub mod script;
+pub mod signals;
 mod transactions;
-mod transfers;
+pub mod transfers;
 
-use crate::read::calls::memory::{memory_call, store};
+use crate::calls::{bare_call, memory_call};
+use crate::read::calls::memory::store;
 use crate::read::calls::place::put;
 use crate::read::calls::transactions::transaction_call;
 use crate::read::header::Version;
@@ -57,27 +56,4 @@ fn named_call(version: Version, text: &[u8], call: &mut Call) -> bool
         Some((name, arguments)) => memory_call(version, name, arguments, call),
         None => bare_call(text, call),
     }
-}
-
-/// Puts the call without an argument that a text spells where it is to stand, but none of
-/// transactions. Answers whether it spells one.
-fn bare_call(text: &[u8], call: &mut Call) -> bool
-    ensures found { IfSome (then_some result call.new) (λ c. text.now ≡ call_text c) }
-    ensures fits { IfSome (then_some result call.new) FitsCall }
-    ensures within { (version : Version) → IfSome (then_some result call.new) (IsCallOf version) }
-    ensures only { (c : Call) → FitsCall c → 1 ≤ group_of c → first_word text.now ≡ None → text.now ≡ call_text c → then_some result call.new ≡ Some c }
-{
-    if text == b"getpid".as_slice() {
-        return put(call, Some(Call::Getpid));
-    }
-    if text == b"getppid".as_slice() {
-        return put(call, Some(Call::Getppid));
-    }
-    if text == b"sigpending".as_slice() {
-        return put(call, Some(Call::Sigpending));
-    }
-    if text == b"sigreturn".as_slice() {
-        return put(call, Some(Call::Sigreturn));
-    }
-    false
 }

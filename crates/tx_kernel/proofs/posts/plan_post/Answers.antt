@@ -4,7 +4,7 @@ use Rattle.tx_kernel.specs.Plans.{sending_of}
 use Rattle.tx_kernel.specs.Posts.{HasFace, seen_as}
 use Rattle.tx_kernel.specs.declared.posts.Face.{Face}
 use Rattle.tx_model.specs.State.{Process}
-use Rattle.tx_proc.specs.Processes.{process_of}
+use Rattle.tx_proc.specs.Parts.{process_of}
 use Rattle.tx_proc.specs.declared.proc.Proc.{Proc}
 use Rattle.tx_kernel.proofs.posts.plan_post.Goals as goal
 

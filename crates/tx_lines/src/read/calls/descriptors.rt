@@ -1,53 +1,21 @@
-//! The calls on descriptors.
-ghost use Rattle.std.specs.Prelude.{◌≡◌, ◌<◌, ◌≤◌, ◌^◌, ◌++◌, ◌∷◌, Bool, ℕ, ℤ, codes, FitsSigned, IfSome, Some};
-ghost use Rattle.std.specs.Bool.{then_some};
+//! The arguments of the calls on descriptors.
+ghost use Rattle.std.specs.Prelude.{◌≡◌, ◌<◌, ◌++◌, ◌∷◌, Bool, ℤ, codes, FitsSigned, IfSome, Some};
 ghost use Rattle.std.specs.Int.{w64};
 ghost use Rattle.std.specs.Fmt.{decimal, signed_decimal};
 ghost use Rattle.tx_base.specs.declared.names.DescNo.{DescNo};
 ghost use Rattle.tx_base.specs.declared.names.PipeNo.{PipeNo};
 ghost use Rattle.tx_base.specs.declared.steps.Call.{Call};
-ghost use Rattle.tx_lines.specs.Calls.{call_text, group_of, pair_text, switch_text, FitsCall};
+ghost use Rattle.tx_lines.specs.Calls.{call_text, pair_text, switch_text, FitsCall};
 ghost use Rattle.tx_lines.specs.Lines.{IsCallOf};
-ghost use Rattle.tx_lines.specs.Words.{first_word};
 ghost use Rattle.tx_lines.specs.declared.read.header.Version.{Version};
 
-use crate::read::calls::place::put;
-use crate::read::calls::transfers::transfer_call;
-use crate::read::header::Version;
 use crate::read::leading::split_byte;
-use crate::read::numbers::number;
 use crate::read::small::read_byte;
 use crate::read::split::{pair, split_number};
 use tx_base::{Call, DescNo, PipeNo};
 
-/// The call on descriptors of that name and with those arguments, or one that a later group has.
-/// Nothing where none is spelled so.
-pub fn descriptor_call(version: Version, name: &[u8], arguments: &[u8], call: &mut Call) -> bool
-    ensures found { IfSome (then_some result call.new) (λ c. name.now ++ 32 ∷ arguments.now ≡ call_text c) }
-    ensures fits { IfSome (then_some result call.new) FitsCall }
-    ensures within { IfSome (then_some result call.new) (IsCallOf version) }
-    ensures only { (c : Call) → FitsCall c → IsCallOf version c → 4 ≤ group_of c → first_word (call_text c) ≡ Some (name.now, arguments.now) → then_some result call.new ≡ Some c }
-{
-    if name == b"pipe".as_slice() {
-        return put(call, pipe(arguments));
-    }
-    if name == b"dup".as_slice() {
-        return put(call, number(arguments).map(Call::Dup));
-    }
-    if name == b"dup2".as_slice() {
-        return put(call, dup2(arguments));
-    }
-    if name == b"close".as_slice() {
-        return put(call, number(arguments).map(Call::Close));
-    }
-    if name == b"set_nonblock".as_slice() {
-        return put(call, set_nonblock(arguments));
-    }
-    transfer_call(version, name, arguments, call)
-}
-
 /// The call that makes a pipe, by the text of its arguments.
-fn pipe(arguments: &[u8]) -> Option<Call>
+pub fn pipe(arguments: &[u8]) -> Option<Call>
     ensures found { IfSome result (λ c. codes "pipe " ++ arguments.now ≡ call_text c) }
     ensures fits { IfSome result FitsCall }
     ensures within { (version : Version) → IfSome result (IsCallOf version) }
@@ -60,7 +28,7 @@ fn pipe(arguments: &[u8]) -> Option<Call>
 }
 
 /// The call that gives a description a certain descriptor too, by the text of its arguments.
-fn dup2(arguments: &[u8]) -> Option<Call>
+pub fn dup2(arguments: &[u8]) -> Option<Call>
     ensures found { IfSome result (λ c. codes "dup2 " ++ arguments.now ≡ call_text c) }
     ensures fits { IfSome result FitsCall }
     ensures within { (version : Version) → IfSome result (IsCallOf version) }
@@ -71,7 +39,7 @@ fn dup2(arguments: &[u8]) -> Option<Call>
 }
 
 /// The call that makes a description nonblocking or not, by the text of its arguments.
-fn set_nonblock(arguments: &[u8]) -> Option<Call>
+pub fn set_nonblock(arguments: &[u8]) -> Option<Call>
     ensures found { IfSome result (λ c. codes "set_nonblock " ++ arguments.now ≡ call_text c) }
     ensures fits { IfSome result FitsCall }
     ensures within { (version : Version) → IfSome result (IsCallOf version) }

@@ -1,42 +1,21 @@
-//! The calls on memory.
-ghost use Rattle.std.specs.Prelude.{◌≡◌, ◌≤◌, ◌++◌, ◌∷◌, Bool, ℕ, ℤ, codes, FitsSigned, IfSome, Some};
+//! The arguments of the calls on memory.
+ghost use Rattle.std.specs.Prelude.{◌≡◌, ◌++◌, ◌∷◌, Bool, ℕ, ℤ, codes, FitsSigned, IfSome, Some};
 ghost use Rattle.std.specs.Bool.{then_some};
 ghost use Rattle.std.specs.Int.{w64};
 ghost use Rattle.std.specs.Fmt.{signed_decimal};
 ghost use Rattle.arrayvec.specs.ArrayVec.{ArrayVec};
 ghost use Rattle.hex.specs.Hex.{encode_lower};
 ghost use Rattle.tx_base.specs.declared.steps.Call.{Call};
-ghost use Rattle.tx_lines.specs.Calls.{access_text, call_text, group_of, FitsCall};
+ghost use Rattle.tx_lines.specs.Calls.{access_text, call_text, FitsCall};
 ghost use Rattle.tx_lines.specs.Lines.{IsCallOf};
-ghost use Rattle.tx_lines.specs.Words.{first_word};
 ghost use Rattle.tx_lines.specs.declared.read.header.Version.{Version};
 
 use crate::read::byte_words::read_bytes;
-use crate::read::calls::place::put;
-use crate::read::calls::processes::process_call;
-use crate::read::header::Version;
-use crate::read::numbers::number;
 use crate::read::split::split_number;
 use tx_base::Call;
 
-/// The call on memory of that name and with those arguments, or one that a later group has. Nothing
-/// where none is spelled so.
-pub fn memory_call(version: Version, name: &[u8], arguments: &[u8], call: &mut Call) -> bool
-    ensures found { IfSome (then_some result call.new) (λ c. name.now ++ 32 ∷ arguments.now ≡ call_text c) }
-    ensures fits { IfSome (then_some result call.new) FitsCall }
-    ensures within { IfSome (then_some result call.new) (IsCallOf version) }
-    ensures only { (c : Call) → FitsCall c → IsCallOf version c → 1 ≤ group_of c → first_word (call_text c) ≡ Some (name.now, arguments.now) → then_some result call.new ≡ Some c }
-{
-    match name {
-        b"map" => put(call, number(arguments).map(Call::Map)),
-        b"unmap" => put(call, number(arguments).map(Call::Unmap)),
-        b"protect" => protect(arguments, call),
-        _ => process_call(version, name, arguments, call),
-    }
-}
-
 /// The call that says whether a page may be written, by the text of its arguments.
-fn protect(arguments: &[u8], call: &mut Call) -> bool
+pub fn protect(arguments: &[u8], call: &mut Call) -> bool
     ensures found { IfSome (then_some result call.new) (λ c. codes "protect " ++ arguments.now ≡ call_text c) }
     ensures fits { IfSome (then_some result call.new) FitsCall }
     ensures within { (version : Version) → IfSome (then_some result call.new) (IsCallOf version) }

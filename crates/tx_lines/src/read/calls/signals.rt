@@ -1,51 +1,22 @@
-//! The calls on signals.
-ghost use Rattle.std.specs.Prelude.{◌≡◌, ◌≤◌, ◌++◌, ◌∷◌, ℤ, codes, FitsSigned, IfSome, Some};
-ghost use Rattle.std.specs.Bool.{then_some};
-ghost use Rattle.std.specs.Int.{w64};
+//! The arguments of the calls on signals.
+ghost use Rattle.std.specs.Prelude.{◌≡◌, ◌++◌, ◌∷◌, ℤ, codes, IfSome, Some};
 ghost use Rattle.std.specs.Fmt.{signed_decimal};
 ghost use Rattle.tx_base.specs.declared.signals.Action.{Action};
 ghost use Rattle.tx_base.specs.declared.signals.How.{How};
 ghost use Rattle.tx_base.specs.declared.signals.SigSet.{SigSet};
 ghost use Rattle.tx_base.specs.declared.steps.Call.{Call};
-ghost use Rattle.tx_lines.specs.Calls.{action_text, call_text, group_of, how_text, pair_text, triple_text, FitsAction, FitsCall};
+ghost use Rattle.tx_lines.specs.Calls.{action_text, call_text, how_text, pair_text, triple_text, FitsAction, FitsCall};
 ghost use Rattle.tx_lines.specs.Lines.{IsCallOf};
 ghost use Rattle.tx_lines.specs.Sets.{set_text};
-ghost use Rattle.tx_lines.specs.Words.{first_word};
 ghost use Rattle.tx_lines.specs.declared.read.header.Version.{Version};
 
-use crate::read::calls::place::put;
-use crate::read::calls::script::script_call;
-use crate::read::header::Version;
 use crate::read::leading::split_point;
 use crate::read::sets::read_set;
 use crate::read::split::{after_front, pair, split_number, split_word, triple};
 use tx_base::{Action, Call, How};
 
-/// The call on signals of that name and with those arguments, or one that a later group has. Nothing
-/// where none is spelled so.
-pub fn signal_call(version: Version, name: &[u8], arguments: &[u8], call: &mut Call) -> bool
-    ensures found { IfSome (then_some result call.new) (λ c. name.now ++ 32 ∷ arguments.now ≡ call_text c) }
-    ensures fits { IfSome (then_some result call.new) FitsCall }
-    ensures within { IfSome (then_some result call.new) (IsCallOf version) }
-    ensures only { (c : Call) → FitsCall c → IsCallOf version c → 6 ≤ group_of c → first_word (call_text c) ≡ Some (name.now, arguments.now) → then_some result call.new ≡ Some c }
-{
-    if name == b"kill".as_slice() {
-        return put(call, kill(arguments));
-    }
-    if name == b"sigqueue".as_slice() {
-        return put(call, sigqueue(arguments));
-    }
-    if name == b"sigaction".as_slice() {
-        return put(call, sigaction(arguments));
-    }
-    if name == b"sigprocmask".as_slice() {
-        return put(call, sigprocmask(arguments));
-    }
-    script_call(version, name, arguments, call)
-}
-
 /// The call that sends a signal, by the text of its arguments.
-fn kill(arguments: &[u8]) -> Option<Call>
+pub fn kill(arguments: &[u8]) -> Option<Call>
     ensures found { IfSome result (λ c. codes "kill " ++ arguments.now ≡ call_text c) }
     ensures fits { IfSome result FitsCall }
     ensures within { (version : Version) → IfSome result (IsCallOf version) }
@@ -56,7 +27,7 @@ fn kill(arguments: &[u8]) -> Option<Call>
 }
 
 /// The call that sends a signal with a value, by the text of its arguments.
-fn sigqueue(arguments: &[u8]) -> Option<Call>
+pub fn sigqueue(arguments: &[u8]) -> Option<Call>
     ensures found { IfSome result (λ c. codes "sigqueue " ++ arguments.now ≡ call_text c) }
     ensures fits { IfSome result FitsCall }
     ensures within { (version : Version) → IfSome result (IsCallOf version) }
@@ -67,7 +38,7 @@ fn sigqueue(arguments: &[u8]) -> Option<Call>
 }
 
 /// The call that says what is done about a signal, by the text of its arguments.
-fn sigaction(arguments: &[u8]) -> Option<Call>
+pub fn sigaction(arguments: &[u8]) -> Option<Call>
     ensures found { IfSome result (λ c. codes "sigaction " ++ arguments.now ≡ call_text c) }
     ensures fits { IfSome result FitsCall }
     ensures within { (version : Version) → IfSome result (IsCallOf version) }
@@ -102,7 +73,7 @@ fn catch(arguments: &[u8]) -> Option<Action>
 }
 
 /// The call that changes the mask, by the text of its arguments.
-fn sigprocmask(arguments: &[u8]) -> Option<Call>
+pub fn sigprocmask(arguments: &[u8]) -> Option<Call>
     ensures found { IfSome result (λ c. codes "sigprocmask " ++ arguments.now ≡ call_text c) }
     ensures fits { IfSome result FitsCall }
     ensures within { (version : Version) → IfSome result (IsCallOf version) }

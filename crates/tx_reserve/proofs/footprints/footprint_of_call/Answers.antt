@@ -1,6 +1,6 @@
 use Rattle.std.proofs.Common.{[], ◌∷◌, Option, ap, sym}
 use Rattle.tx_model.specs.Footprints.{call_row_at}
-use Rattle.tx_proc.specs.Processes.{process_in}
+use Rattle.tx_proc.specs.Parts.{process_in}
 use Rattle.tx_proc.specs.declared.proc.Proc.{Proc as TheProc}
 use Rattle.tx_change.specs.States.{state_of}
 use Rattle.tx_kernel.specs.Actors.{me_of}

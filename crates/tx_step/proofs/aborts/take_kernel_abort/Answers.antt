@@ -1,11 +1,11 @@
 use Rattle.std.proofs.Common.{refl}
-use Rattle.tx_laws.specs.TwoParts.{parts_view}
+use Rattle.tx_laws.specs.TwoStates.{states_view}
 use Rattle.tx_live.specs.Content.{view_of}
 use Rattle.tx_step.proofs.Aborted.{kernel_taken, live_txn}
 use Rattle.tx_step.proofs.aborts.take_kernel_abort.Goals as goal
 
 pub abort-inverse-requires-clause-live : goal.abort-inverse-requires-clause-live
-unfolding view_of parts_view
+unfolding view_of states_view
 abort-inverse-requires-clause-live c = live_txn c.args.content.now c.requires.kept c.args.starter.0 (c.in_ok-status.ensures.live.0 refl)
 
 pub returns-clause-made : goal.returns-clause-made

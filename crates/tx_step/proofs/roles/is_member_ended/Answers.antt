@@ -3,7 +3,7 @@ use Rattle.std.specs.Option.{option_copied}
 use Rattle.tx_step.proofs.RolesTold.{inside_marked}
 use Rattle.tx_model.specs.Deliveries.{delivered_value, ends_by}
 use Rattle.tx_model.specs.Effects.{Inside}
-use Rattle.tx_proc.specs.Processes.{process_of}
+use Rattle.tx_proc.specs.Parts.{process_of}
 use Rattle.tx_txn.specs.Txns.{inside_at}
 use Rattle.tx_txn.specs.declared.txn.Txn.{Txn}
 use Rattle.tx_step.proofs.roles.is_member_ended.Goals as goal

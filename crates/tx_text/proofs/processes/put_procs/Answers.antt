@@ -1,6 +1,6 @@
 use Rattle.std.proofs.Common.{◌+◌, string_bytes}
 use Rattle.tx_base.specs.Slots.{slot_at}
-use Rattle.tx_proc.specs.Processes.{process_in}
+use Rattle.tx_proc.specs.Parts.{process_in}
 use Rattle.tx_text.specs.Processes.{process_lines}
 use Rattle.tx_text.specs.EachLaws.{upto_none, upto_more}
 use Rattle.tx_text.proofs.processes.put_procs.Goals as goal

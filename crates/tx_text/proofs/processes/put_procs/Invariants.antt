@@ -1,7 +1,7 @@
 use Rattle.std.proofs.Common.{◌≡◌, ◌+◌, ◌++◌, string_bytes}
 use Rattle.tx_base.specs.Slots.{slot_at}
 use Rattle.tx_text.specs.Each.{upto}
-use Rattle.tx_proc.specs.Processes.{process_in}
+use Rattle.tx_proc.specs.Parts.{process_in}
 use Rattle.tx_text.specs.Processes.{process_lines}
 use Rattle.tx_text.proofs.processes.put_procs.Given as goal
 

@@ -3,7 +3,7 @@ use Rattle.std.specs.Option.{option_copied}
 use Rattle.tx_model.specs.Deliveries.{delivered_value, is_deferred}
 use Rattle.tx_model.specs.Membership.{inside_by}
 use Rattle.tx_model.specs.State.{Process}
-use Rattle.tx_proc.specs.Processes.{process_of}
+use Rattle.tx_proc.specs.Parts.{process_of}
 use Rattle.tx_workers.specs.Offers.{is_passed_over}
 use Rattle.tx_workers.proofs.offers.is_offered.Goals.{then-not-deliverable-via-then-not-deliverable, then-not-deliverable-via-else-not-deliverable+then-is_deferred}
 use Rattle.tx_workers.proofs.offers.is_offered.Goals as goal

@@ -2,7 +2,7 @@ use Rattle.std.proofs.Common.{◌≡◌, Bool, ◌&&◌, ap, sym, ◌∙◌, tru
 use Rattle.tx_model.specs.Deliveries.{action_at}
 use Rattle.tx_model.specs.Words.{is_full}
 use Rattle.tx_model.specs.State.{Process}
-use Rattle.tx_proc.specs.Processes.{process_of}
+use Rattle.tx_proc.specs.Parts.{process_of}
 use Rattle.tx_workers.specs.Offers.{is_catch}
 use Rattle.tx_workers.proofs.offers.is_passed_over.Goals as goal
 

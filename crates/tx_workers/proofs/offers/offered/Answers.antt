@@ -1,7 +1,7 @@
 use Rattle.std.proofs.Common.{rules, ◌<◌, ◌≤◌, sym, ◌∙◌}
 use Rattle.std.specs.Option.{option_copied}
 use Rattle.tx_model.specs.Membership.{inside_by}
-use Rattle.tx_proc.specs.Processes.{process_of}
+use Rattle.tx_proc.specs.Parts.{process_of}
 use Rattle.tx_workers.specs.Offers.{in_order, is_offered, offered}
 use Rattle.tx_workers.proofs.Finding.{found_here, found_later, found_nowhere}
 use Rattle.tx_workers.proofs.offers.offered.Goals as goal

@@ -2,7 +2,7 @@ use Rattle.std.proofs.Common.{◌≡◌, drop}
 use Rattle.std.specs.Option.{option_copied}
 use Rattle.std.specs.List.{find}
 use Rattle.tx_model.specs.Membership.{Table, inside_by}
-use Rattle.tx_proc.specs.Processes.{process_of}
+use Rattle.tx_proc.specs.Parts.{process_of}
 use Rattle.tx_workers.specs.Offers.{in_order, is_offered, offered}
 use Rattle.tx_workers.proofs.offers.offered.Given as goal
 

@@ -1,7 +1,7 @@
 use Rattle.std.proofs.Common.{◌≡◌, ℕ, ◌+◌, ◌≤◌, [], None, replicate, length, arith, ap, subst, ◌∙◌}
 use Rattle.tx_base.specs.Slots.{slot_at}
 use Rattle.tx_change.specs.Boot.{booted_slot}
-use Rattle.tx_proc.specs.Processes.{process_of, process_in}
+use Rattle.tx_proc.specs.Parts.{process_of, process_in}
 use Rattle.tx_base.proofs.SlotFacts.{length-with_slot}
 use Rattle.tx_change.proofs.Booted.{booted_next, booted_places, booted_state}
 use Rattle.tx_change.proofs.Counted.{counts_booted}

@@ -2,7 +2,7 @@ use Rattle.std.proofs.Common.{◌≡◌, ℕ, length}
 use Rattle.tx_base.specs.Slots.{slot_at}
 use Rattle.tx_change.specs.Boot.{booted_slot}
 use Rattle.tx_change.specs.Laws.{HasPlaces}
-use Rattle.tx_proc.specs.Processes.{process_in}
+use Rattle.tx_proc.specs.Parts.{process_in}
 use Rattle.tx_change.proofs.parts.Parts.boot.Given as goal
 
 abbrev pub invariant-loop-done : goal.invariant-loop-done

@@ -7,4 +7,4 @@ use Rattle.tx_kernel.proofs.actor.Actor.has_number_in_use.Goals as goal
 
 pub returns-in-Pipe : goal.returns-in-Pipe
 returns-in-Pipe c held =
-    c.has_taken.ensures held ∙ ap (λ (call : Call). is_choice_in_use (state_of held c.args.self.now.parts.now) (chosen_in call)) (sym c.in-Pipe.is)
+    c.has_pipe_in_use.ensures held ∙ ap (λ (call : Call). is_choice_in_use (state_of held c.args.self.now.parts.now) (chosen_in call)) (sym c.in-Pipe.is)

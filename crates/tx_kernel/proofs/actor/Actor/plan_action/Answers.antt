@@ -6,8 +6,8 @@ use Rattle.tx_kernel.specs.declared.actor.Actor.{Actor}
 use Rattle.tx_model.specs.Signals.{without_signal, with_action}
 use Rattle.tx_model.specs.Words.{is_ignored}
 use Rattle.tx_model.specs.State.{Process}
-use Rattle.tx_proc.specs.Processes.{revised}
-use Rattle.tx_proc.specs.declared.part.Part.TheVariants.{Action as SetAction}
+use Rattle.tx_proc.specs.Parts.{revised}
+use Rattle.tx_proc.specs.declared.proc.Part.TheVariants.{Action as SetAction}
 use Rattle.tx_kernel.proofs.Discarded.{stays_there}
 use Rattle.tx_kernel.proofs.actor.Actor.plan_action.Goals as goal
 
@@ -16,7 +16,7 @@ returns-clause-ok c =
     let actor : Actor = c.args.self.now in
     let ignored : Process → Process = λ me. if is_ignored c.args.signo.0 c.args.action then without_signal c.args.signo.0 me else me in
     part_answered actor c.args.log.now c.push.new.log c.push_answer.new.log (λ me. with_action c.args.signo.0 c.args.action (ignored me)) (pos 0)
-    (part_same actor c.args.log.now c.push.new.log (λ me. revised (SetAction c.args.signo c.kept.result) (ignored me)) (λ me. with_action c.args.signo.0 c.args.action (ignored me))
-    (part_more actor c.args.log.now c.push_ignored.new.log c.push.new.log ignored (SetAction c.args.signo c.kept.result) c.in_ok-push_ignored.ensures.ok tt tt c.in_ok-push.ensures.ok)
-    (ap (λ (action : Action). revised (SetAction c.args.signo action) (ignored (me_of actor))) c.kept.ensures))
+    (part_same actor c.args.log.now c.push.new.log (λ me. revised (SetAction c.args.signo c.maskable_action.result) (ignored me)) (λ me. with_action c.args.signo.0 c.args.action (ignored me))
+    (part_more actor c.args.log.now c.push_ignored.new.log c.push.new.log ignored (SetAction c.args.signo c.maskable_action.result) c.in_ok-push_ignored.ensures.ok tt tt c.in_ok-push.ensures.ok)
+    (ap (λ (action : Action). revised (SetAction c.args.signo action) (ignored (me_of actor))) c.maskable_action.ensures))
     (stays_there (is_ignored c.args.signo.0 c.args.action) c.args.signo.0 (me_of actor)) c.in_ok-push_answer.ensures.ok

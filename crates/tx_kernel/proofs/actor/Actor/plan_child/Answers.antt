@@ -11,8 +11,8 @@ use Rattle.tx_kernel.specs.Plans.{Plans, quiet}
 use Rattle.tx_kernel.specs.declared.planned.Outcome.TheVariants.{Done}
 use Rattle.tx_kernel.specs.declared.planned.Planned.{Planned}
 use Rattle.tx_model.specs.Words.{fork_objects}
-use Rattle.tx_proc.specs.Processes.{process_of}
-use Rattle.tx_proc.specs.declared.part.Part.TheVariants.{Answer as SetAnswer}
+use Rattle.tx_proc.specs.Parts.{process_of}
+use Rattle.tx_proc.specs.declared.proc.Part.TheVariants.{Answer as SetAnswer}
 use Rattle.tx_kernel.proofs.actor.Actor.plan_child.Goals as goal
 
 pub plan_raise_all-descs-requires : goal.plan_raise_all-descs-requires

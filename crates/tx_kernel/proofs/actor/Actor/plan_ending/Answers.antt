@@ -5,7 +5,7 @@ use Rattle.tx_desc.specs.declared.plans.NewDesc.{NewDesc}
 use Rattle.tx_kernel.proofs.EndPlans.{DropsAll, ending_plans}
 use Rattle.tx_kernel.proofs.Ended.{pipes_left}
 use Rattle.tx_kernel.specs.Endings.{gone_changes, plain_with}
-use Rattle.tx_proc.specs.Processes.{process_of}
+use Rattle.tx_proc.specs.Parts.{process_of}
 use Rattle.tx_kernel.proofs.actor.Actor.plan_ending.Goals as goal
 
 pub plan_drop_all-descs-requires : goal.plan_drop_all-descs-requires

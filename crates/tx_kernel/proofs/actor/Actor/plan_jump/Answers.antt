@@ -14,8 +14,8 @@ use Rattle.tx_model.specs.Book.{jump, is_jump_taken}
 use Rattle.tx_model.specs.Words.{last_ret, stands_at, own_effect}
 use Rattle.tx_model.specs.Forms.{answers, effect_of, fails, stands}
 use Rattle.tx_model.specs.State.{Process}
-use Rattle.tx_proc.specs.Processes.{revised}
-use Rattle.tx_proc.specs.declared.part.Part.TheVariants.{Answer as SetAnswer}
+use Rattle.tx_proc.specs.Parts.{revised}
+use Rattle.tx_proc.specs.declared.proc.Part.TheVariants.{Answer as SetAnswer}
 use Rattle.tx_kernel.proofs.actor.Actor.plan_jump.Goals as goal
 
 pub returns-then-point-gt-LAST_POINT-clause-ok : goal.returns-then-point-gt-LAST_POINT-clause-ok

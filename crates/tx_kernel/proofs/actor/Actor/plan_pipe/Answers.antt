@@ -10,9 +10,9 @@ use Rattle.tx_kernel.proofs.actor.Actor.plan_pipe.Goals as goal
 pub returns-then-is_bad_pipe-clause-refused : goal.returns-then-is_bad_pipe-clause-refused
 returns-then-is_bad_pipe-clause-refused c = inr (refl, sym (c.if-is_bad_pipe.ensures 0))
 
-pub returns-then-has_taken-clause-refused : goal.returns-then-has_taken-clause-refused
-returns-then-has_taken-clause-refused c =
-    inl (inr (λ held counted. rw (← c.if-has_taken.ensures held) refl))
+pub returns-then-has_pipe_in_use-clause-refused : goal.returns-then-has_pipe_in_use-clause-refused
+returns-then-has_pipe_in_use-clause-refused c =
+    inl (inr (λ held counted. rw (← c.if-has_pipe_in_use.ensures held) refl))
 
 pub plan_pipe-requires-clause-apart : goal.plan_pipe-requires-clause-apart
 plan_pipe-requires-clause-apart c = (good_choice c.args.pipe.0 c.args.read.0 c.args.write.0 (c.if-is_bad_pipe.ensures 0)).3
@@ -27,13 +27,13 @@ pub returns-in_ok-push_pipe-in-Ok-clause-ok : goal.returns-in_ok-push_pipe-in-Ok
 returns-in_ok-push_pipe-in-Ok-clause-ok c =
     rw c.quiet.ensures (pipe_plan c.laws.ensures c.args.self.now c.args.log.now c.push_pipe.new.log c.args.pipe c.args.read c.args.write c.in-Ok.plan c.sized.ensures c.sized-2.ensures c.requires
     (good_choice c.args.pipe.0 c.args.read.0 c.args.write.0 (c.if-is_bad_pipe.ensures 0)).0
-    (free_numbers c.args.self.now c.args.pipe.0 c.args.read.0 c.args.write.0 (λ starter. []) c.sized.ensures (sym (c.if-has_taken.ensures (λ starter. []))))
+    (free_numbers c.args.self.now c.args.pipe.0 c.args.read.0 c.args.write.0 (λ starter. []) c.sized.ensures (sym (c.if-has_pipe_in_use.ensures (λ starter. []))))
     c.in-Ok.ensures.answer c.in-Ok.ensures.descriptions c.in-Ok.ensures.counts c.in-Ok.ensures.named c.in-Ok.ensures.numbers c.in_ok-push_pipe-in-Ok.ensures.ok)
 
 pub returns-in-Err-clause-ok : goal.returns-in-Err-clause-ok
 returns-in-Err-clause-ok c =
     let me = c.args.self.now in
-    let free = free_numbers me c.args.pipe.0 c.args.read.0 c.args.write.0 (λ starter. []) c.sized.ensures (sym (c.if-has_taken.ensures (λ starter. []))) in
+    let free = free_numbers me c.args.pipe.0 c.args.read.0 c.args.write.0 (λ starter. []) c.sized.ensures (sym (c.if-has_pipe_in_use.ensures (λ starter. []))) in
     failed_plan c.plan_failure.result me c.args.log.now c.plan_failure.new.log c.in-Err.errno (pipe c.args.pipe.0 c.args.read.0 c.args.write.0)
     (λ k. pipe_objects c.args.pipe.0 c.args.read.0 c.args.write.0)
     (λ held. c.in-Err.ensures.answer (caller_of me (state_of held me.parts.now)) me.parts.now.descs refl free.0 (λ d. refl) free.1) c.plan_failure.ensures.ok

@@ -8,7 +8,7 @@ use Rattle.tx_kernel.specs.Plans.{Plans, quiet}
 use Rattle.tx_kernel.specs.declared.planned.Outcome.TheVariants.{Done}
 use Rattle.tx_kernel.specs.declared.planned.Planned.{Planned}
 use Rattle.tx_model.specs.State.{Proc as TheProc}
-use Rattle.tx_proc.specs.declared.part.Part.TheVariants.{Answer as SetAnswer, Register as SetRegister}
+use Rattle.tx_proc.specs.declared.proc.Part.TheVariants.{Answer as SetAnswer, Register as SetRegister}
 use Rattle.tx_kernel.proofs.actor.Actor.plan_removal.Goals as goal
 
 pub returns-clause-ok : goal.returns-clause-ok

@@ -8,8 +8,8 @@ use Rattle.tx_model.specs.Effects.{with_answer}
 use Rattle.tx_model.specs.Words.{own_effect}
 use Rattle.tx_model.specs.Forms.{stands}
 use Rattle.tx_model.specs.Memory.{address_of, bytes_at, bytes_from}
-use Rattle.tx_proc.specs.Processes.{revised}
-use Rattle.tx_proc.specs.declared.part.Part.TheVariants.{Answer as SetAnswer}
+use Rattle.tx_proc.specs.Parts.{revised}
+use Rattle.tx_proc.specs.declared.proc.Part.TheVariants.{Answer as SetAnswer}
 use Rattle.tx_kernel.proofs.actor.Actor.plan_shown.Goals as goal
 
 pub returns-clause-ok : goal.returns-clause-ok

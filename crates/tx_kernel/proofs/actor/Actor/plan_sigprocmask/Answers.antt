@@ -4,8 +4,8 @@ use Rattle.tx_kernel.specs.Actors.{effect_by, me_of}
 use Rattle.tx_kernel.specs.declared.planned.Outcome.TheVariants.{Done}
 use Rattle.tx_model.specs.Book.{sigprocmask}
 use Rattle.tx_model.specs.Words.{answer_effect}
-use Rattle.tx_proc.specs.Processes.{revised}
-use Rattle.tx_proc.specs.declared.part.Part.TheVariants.{Mask as SetMask}
+use Rattle.tx_proc.specs.Parts.{revised}
+use Rattle.tx_proc.specs.declared.proc.Part.TheVariants.{Mask as SetMask}
 use Rattle.tx_kernel.proofs.actor.Actor.plan_sigprocmask.Goals as goal
 
 pub returns-clause-ok : goal.returns-clause-ok

@@ -3,8 +3,8 @@ use Rattle.tx_kernel.proofs.PartsOwned.{part_more, part_same}
 use Rattle.tx_kernel.specs.Actors.{me_of}
 use Rattle.tx_model.specs.Signals.{without_signal, queued_others}
 use Rattle.tx_model.specs.SignalSets.{without_one}
-use Rattle.tx_proc.specs.Processes.{revised}
-use Rattle.tx_proc.specs.declared.part.Part.TheVariants.{Pending}
+use Rattle.tx_proc.specs.Parts.{revised}
+use Rattle.tx_proc.specs.declared.proc.Part.TheVariants.{Pending}
 use Rattle.tx_kernel.proofs.actor.Actor.push_discarded.Goals as goal
 
 pub returns-clause-ok : goal.returns-clause-ok

@@ -5,7 +5,7 @@ use Rattle.tx_kernel.proofs.PartsOwned.{extends_more}
 use Rattle.tx_kernel.specs.Discards.{TakenOut, queue_of}
 use Rattle.tx_kernel.specs.Plans.{Extends}
 use Rattle.tx_model.specs.State.{Queued}
-use Rattle.tx_proc.specs.declared.part.Part.TheVariants.{Queued as SetQueued}
+use Rattle.tx_proc.specs.declared.proc.Part.TheVariants.{Queued as SetQueued}
 use Rattle.tx_kernel.proofs.actor.Actor.push_taken_out.Goals.{then-eq+in_ok-push, else-eq}
 use Rattle.tx_kernel.proofs.actor.Actor.push_taken_out.Goals as goal
 

@@ -56,5 +56,5 @@ pub returns-in_default : goal.returns-in_default
 returns-in_default c =
     let actor = c.args.self.now in
     silent_sends actor (effect_by actor (page_of_call c.args.call.now).outcome)
-    (λ held. silent_call (inside_of actor.inside) actor.pid.0 c.args.call.now (me_of actor) (state_of held actor.parts.now)
+    (λ held. silent_call c.own_calls.ensures (inside_of actor.inside) actor.pid.0 c.args.call.now (me_of actor) (state_of held actor.parts.now)
     (record { kill = c.in_default.not-Kill; sigqueue = c.in_default.not-Sigqueue; exit = c.in_default.not-Exit; write = c.in_default.not-Write }))

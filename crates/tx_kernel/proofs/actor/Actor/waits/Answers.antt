@@ -36,5 +36,5 @@ pub returns-in_default : goal.returns-in_default
 returns-in_default c =
     let actor = c.args.self.now in
     tells_made actor (effect_by actor (page_of_call c.args.call.now).outcome)
-    (λ held counted. call_made (inside_of actor.inside) actor.pid.0 c.args.call.now (me_of actor) (state_of held actor.parts.now)
+    (λ held counted. call_made c.own_calls.ensures (inside_of actor.inside) actor.pid.0 c.args.call.now (me_of actor) (state_of held actor.parts.now)
     (record { waitpid = c.in_default.not-Waitpid; read = c.in_default.not-Read; write = c.in_default.not-Write }) (c.requires.free held))

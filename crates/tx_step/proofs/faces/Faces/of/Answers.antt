@@ -1,7 +1,7 @@
 use Rattle.tx_base.specs.Slots.{slot_at}
 use Rattle.tx_step.proofs.TwoFaces.{faces_told}
 use Rattle.tx_step.specs.declared.faces.Faces.{Faces}
-use Rattle.tx_proc.specs.Processes.{process_in}
+use Rattle.tx_proc.specs.Parts.{process_in}
 use Rattle.tx_step.proofs.faces.Faces.of.Goals as goal
 
 pub returns : goal.returns

@@ -1,4 +1,4 @@
--- What the view of a kernel of two parts answers, by the parts.
+-- What the view of a kernel of two states answers, by these.
 use Rattle.std.proofs.Common.{◌≡◌, ℕ, Bool, true, false, not, List, [], ◌∷◌, Option, Some, if◌then◌else◌, ◌==◌, refl, sym, ap, ap₂, ◌∙◌, eq-eqb, eqb-true}
 use Rattle.std.specs.Ordering.{int_eq}
 use Rattle.tx_model.specs.SignalSets.{kill_signo}
@@ -11,16 +11,16 @@ use Rattle.tx_model.specs.Membership.{is_live, is_member_of}
 use Rattle.tx_model.specs.History.{just, event_footprint}
 use Rattle.tx_model.specs.View.{present, has_pending, is_doomed, some_object, differs_at, has_two_answers, in_way, least, starter_in_way}
 use Rattle.tx_laws.specs.Sound.{IsSound}
-use Rattle.tx_laws.specs.TwoParts.{TwoParts, in_set, is_owner, parts_without, parts_view}
-use Rattle.tx_laws.specs.TwoAnswers.{differs_by, owns_named, sends_differ, parts_in_way}
+use Rattle.tx_laws.specs.TwoStates.{TwoStates, in_set, is_owner, states_without, states_view}
+use Rattle.tx_laws.specs.TwoAnswers.{differs_by, owns_named, sends_differ, states_in_way}
 use Rattle.tx_laws.proofs.Coherence.{meets_not, objects_in}
-use Rattle.tx_laws.proofs.PartsElsewhere.{writes_elsewhere}
+use Rattle.tx_laws.proofs.StatesElsewhere.{writes_elsewhere}
 use Rattle.tx_laws.proofs.Tables.{eq_comm}
-use Rattle.tx_laws.proofs.TwoPartsView.{pick_true, owner_true, is_owner_self, parts_nobody}
+use Rattle.tx_laws.proofs.TwoStatesView.{pick_true, owner_true, is_owner_self, states_nobody}
 
-pub parts_present : (c : TwoParts) → present (parts_view c) ≡ c.now
-unfolding parts_view
-parts_present c = parts_nobody c
+pub states_present : (c : TwoStates) → present (states_view c) ≡ c.now
+unfolding states_view
+states_present c = states_nobody c
 
 -- a post to s, and one to another process
 post_here : (s : ℕ) (m : Sending) (S : State) → m.target ≡ s → (after_post m S).procs s ≡ target_after m (S.procs s)
@@ -47,25 +47,25 @@ differs_posts s (m ∷ ms) S R = by (m.target == s) refl (differs_posts s ms (af
         (rest ∙ ap₂ (λ (x y : Option Process). differs_by s ms x y) (post_here s m S here) (post_here s m R here))
     by false e rest = rest ∙ ap₂ (λ (x y : Option Process). differs_by s ms x y) (post_there s m S e) (post_there s m R e)
 
-module _ (c : TwoParts) (sound : IsSound (parts_view c)) (s : ℕ) (live : is_live c.table s ≡ true) where
+module _ (c : TwoStates) (sound : IsSound (states_view c)) (s : ℕ) (live : is_live c.table s ≡ true) where
   own : c.owner (Proc s) ≡ Some s
-  unfolding parts_view
+  unfolding states_view
   own = owner_true s (c.owner (Proc s)) (sound.own_procs s s live)
 
   -- without its transaction the starter is as it is kept
-  kept_starter : (parts_without c (just s)).procs s ≡ c.kept.procs s
+  kept_starter : (states_without c (just s)).procs s ≡ c.kept.procs s
   kept_starter = pick_true (λ o. in_set (just s) (c.owner o)) c.kept c.now (Proc s) (rw own (eq-eqb s s refl))
 
-  doomed_kept : is_doomed (parts_view c) s ≡ has_pending kill_signo (c.kept.procs s)
-  unfolding parts_view
+  doomed_kept : is_doomed (states_view c) s ≡ has_pending kill_signo (c.kept.procs s)
+  unfolding states_view
   doomed_kept = ap (has_pending kill_signo) kept_starter
 
-  two_answers : (ev : Event) → has_object (Proc s) (objects ev c.now) ≡ false → has_two_answers (parts_view c) ev s ≡ sends_differ c ev s
-  unfolding parts_view
+  two_answers : (ev : Event) → has_object (Proc s) (objects ev c.now) ≡ false → has_two_answers (states_view c) ev s ≡ sends_differ c ev s
+  unfolding states_view
   two_answers ev out =
-      let W : State = parts_without c (just s) in
+      let W : State = states_without c (just s) in
       let f : Effect = effect ev c.now in
-      ap (λ (S : State). differs_at s (effect ev S).sends (send_answers (effect ev S) S) (send_answers (effect ev S) W)) (parts_nobody c)
+      ap (λ (S : State). differs_at s (effect ev S).sends (send_answers (effect ev S) S) (send_answers (effect ev S) W)) (states_nobody c)
       ∙ differs_posts s f.sends (before_sends f c.now) (before_sends f W)
       ∙ ap₂ (λ (x y : Option Process). differs_by s f.sends x y) (writes_elsewhere ev c.now c.now (Proc s) out) (writes_elsewhere ev c.now W (Proc s) out ∙ kept_starter)
 
@@ -75,36 +75,36 @@ module _ (c : TwoParts) (sound : IsSound (parts_view c)) (s : ℕ) (live : is_li
       absurd (meets_not (event_footprint c.table ev c.now) (λ o. is_owner s (c.owner o)) (Proc s) (objects_in c.table ev c.now (Proc s) h) (is_owner_self s (c.owner (Proc s)) own) out)
   not_named ev out false h = refl
 
-  met : (ev : Event) → (if owns_named c ev s then true else has_two_answers (parts_view c) ev s) ≡ (if owns_named c ev s then true else sends_differ c ev s)
+  met : (ev : Event) → (if owns_named c ev s then true else has_two_answers (states_view c) ev s) ≡ (if owns_named c ev s then true else sends_differ c ev s)
   met ev = by (owns_named c ev s) refl
     where
-      by : (b : Bool) → owns_named c ev s ≡ b → (if b then true else has_two_answers (parts_view c) ev s) ≡ (if b then true else sends_differ c ev s)
+      by : (b : Bool) → owns_named c ev s ≡ b → (if b then true else has_two_answers (states_view c) ev s) ≡ (if b then true else sends_differ c ev s)
       by true e = refl
       by false e = two_answers ev (not_named ev e (has_object (Proc s) (objects ev c.now)) refl)
 
-  blocks_parts : (ev : Event) (b : Bool) → is_blocking (not b) (parts_view c) ev s ≡ (if b then false else (if owns_named c ev s then true else sends_differ c ev s))
-  unfolding parts_view
-  blocks_parts ev true = refl
-  blocks_parts ev false =
-      ap (λ (S : State). if some_object (event_footprint c.table ev S) (λ o. is_owner s (c.owner o)) then true else has_two_answers (parts_view c) ev s) (parts_nobody c) ∙ met ev
+  blocks_states : (ev : Event) (b : Bool) → is_blocking (not b) (states_view c) ev s ≡ (if b then false else (if owns_named c ev s then true else sends_differ c ev s))
+  unfolding states_view
+  blocks_states ev true = refl
+  blocks_states ev false =
+      ap (λ (S : State). if some_object (event_footprint c.table ev S) (λ o. is_owner s (c.owner o)) then true else has_two_answers (states_view c) ev s) (states_nobody c) ∙ met ev
 
-pub doom_kept : (c : TwoParts) (s : ℕ) → IsSound (parts_view c) → is_live c.table s ≡ true → is_doomed (parts_view c) s ≡ has_pending kill_signo (c.kept.procs s)
+pub doom_kept : (c : TwoStates) (s : ℕ) → IsSound (states_view c) → is_live c.table s ≡ true → is_doomed (states_view c) s ≡ has_pending kill_signo (c.kept.procs s)
 doom_kept c s sound live = doomed_kept c sound s live
 
-pub two_answers_parts : (c : TwoParts) (ev : Event) (s : ℕ) → IsSound (parts_view c) → is_live c.table s ≡ true → has_object (Proc s) (objects ev c.now) ≡ false
-    → has_two_answers (parts_view c) ev s ≡ sends_differ c ev s
-two_answers_parts c ev s sound live out = two_answers c sound s live ev out
+pub two_answers_states : (c : TwoStates) (ev : Event) (s : ℕ) → IsSound (states_view c) → is_live c.table s ≡ true → has_object (Proc s) (objects ev c.now) ≡ false
+    → has_two_answers (states_view c) ev s ≡ sends_differ c ev s
+two_answers_states c ev s sound live out = two_answers c sound s live ev out
 
 -- who is in the way of an event
-pub in_way_parts : (c : TwoParts) (ev : Event) (s : ℕ) → IsSound (parts_view c) → in_way (parts_view c) ev s ≡ parts_in_way c ev s
-unfolding in_way parts_view
-in_way_parts c ev s sound = by (is_live c.table s) refl
+pub in_way_states : (c : TwoStates) (ev : Event) (s : ℕ) → IsSound (states_view c) → in_way (states_view c) ev s ≡ states_in_way c ev s
+unfolding in_way states_view
+in_way_states c ev s sound = by (is_live c.table s) refl
   where
-    by : (b : Bool) → is_live c.table s ≡ b → is_blocking (if b then not (is_member_of c.table s (actor ev)) else false) (parts_view c) ev s
+    by : (b : Bool) → is_live c.table s ≡ b → is_blocking (if b then not (is_member_of c.table s (actor ev)) else false) (states_view c) ev s
         ≡ (if b then (if is_member_of c.table s (actor ev) then false else (if owns_named c ev s then true else sends_differ c ev s)) else false)
-    by true live = blocks_parts c sound s live ev (is_member_of c.table s (actor ev))
+    by true live = blocks_states c sound s live ev (is_member_of c.table s (actor ev))
     by false live = refl
 
-pub starter_in_way_parts : (c : TwoParts) (ev : Event) → IsSound (parts_view c) → starter_in_way (parts_view c) ev ≡ least (parts_in_way c ev) c.table.width
-unfolding parts_view
-starter_in_way_parts c ev sound = ap (λ (P : ℕ → Bool). least P c.table.width) (λ i s. in_way_parts c ev s sound i)
+pub starter_in_way_states : (c : TwoStates) (ev : Event) → IsSound (states_view c) → starter_in_way (states_view c) ev ≡ least (states_in_way c ev) c.table.width
+unfolding states_view
+starter_in_way_states c ev sound = ap (λ (P : ℕ → Bool). least P c.table.width) (λ i s. in_way_states c ev s sound i)

@@ -1,5 +1,5 @@
--- A kernel that keeps two parts and one owner for each object: the part as it is, and the part as it
--- would be without its owner's transaction. Own rules.
+-- A kernel with two states, and an owner for each object: each object as it is, and what is kept of it, as it would be
+-- without its owner's transaction. Own rules.
 use Rattle.std.specs.Prelude.{ℕ, Bool, false, List, Option, Some, None, is_none, if◌then◌else◌, ◌==◌}
 use Rattle.tx_model.specs.State.{State, Object, Proc, Desc, Pipe, Held, has_object}
 use Rattle.tx_model.specs.Effects.{send_answers, after_effect}
@@ -8,7 +8,7 @@ use Rattle.tx_model.specs.Membership.{Table, Role, Outside, Within, Commits, Abo
 use Rattle.tx_model.specs.History.{Starters, just, event_footprint, objects_reserved}
 use Rattle.tx_model.specs.View.{View}
 
-pub record TwoParts : Type 0 where
+pub record TwoStates : Type 0 where
   pub now : State
   pub kept : State
   pub owner : Object → Option ℕ
@@ -33,11 +33,11 @@ pick P S R = record {
 }
 
 -- the state without the transactions of X
-abbrev pub parts_without : TwoParts → Starters → State
-parts_without c X = pick (λ o. in_set X (c.owner o)) c.kept c.now
+abbrev pub states_without : TwoStates → Starters → State
+states_without c X = pick (λ o. in_set X (c.owner o)) c.kept c.now
 
-unfoldable pub parts_view : TwoParts → View
-parts_view c = record { without = parts_without c; table = c.table; reserved = λ s o. is_owner s (c.owner o) }
+unfoldable pub states_view : TwoStates → View
+states_view c = record { without = states_without c; table = c.table; reserved = λ s o. is_owner s (c.owner o) }
 
 abbrev pub freed : ℕ → Option ℕ → Option ℕ
 freed s None = None
@@ -48,7 +48,7 @@ abbrev pub made : Event → State → State → State
 made ev S R = after_effect (effect ev S) (send_answers (effect ev S) S) R
 
 -- every object of the list is the starter's from now on, and is kept as it is now if nobody owned it
-abbrev pub with_reserved : ℕ → List Object → Event → Table → TwoParts → TwoParts
+abbrev pub with_reserved : ℕ → List Object → Event → Table → TwoStates → TwoStates
 with_reserved s F ev table c = record {
   now = made ev c.now c.now;
   kept = pick (λ o. if has_object o F then is_none (c.owner o) else false) c.now c.kept;
@@ -57,12 +57,12 @@ with_reserved s F ev table c = record {
 }
 
 -- the event is made on both sides, as it is on S
-abbrev pub on_both : Event → State → TwoParts → (Object → Option ℕ) → Table → TwoParts
+abbrev pub on_both : Event → State → TwoStates → (Object → Option ℕ) → Table → TwoStates
 on_both ev S c owner table = record { now = made ev S S; kept = made ev S c.kept; owner = owner; table = table }
 
 -- the kernel after a step of process p that is so to the transactions
-unfoldable pub parts_next : Role → Event → ℕ → TwoParts → TwoParts
-parts_next Outside ev p c = on_both ev c.now c c.owner (table_after Outside p c.table)
-parts_next (Within s part) ev p c = with_reserved s (objects_reserved part s (event_footprint c.table ev c.now)) ev (table_after (Within s part) p c.table) c
-parts_next (Commits s) ev p c = on_both ev c.now c (λ o. freed s (c.owner o)) (table_after (Commits s) p c.table)
-parts_next (Aborts s status) ev p c = on_both ev (parts_without c (just s)) c (λ o. freed s (c.owner o)) (table_after (Aborts s status) p c.table)
+unfoldable pub states_next : Role → Event → ℕ → TwoStates → TwoStates
+states_next Outside ev p c = on_both ev c.now c c.owner (table_after Outside p c.table)
+states_next (Within s progress) ev p c = with_reserved s (objects_reserved progress s (event_footprint c.table ev c.now)) ev (table_after (Within s progress) p c.table) c
+states_next (Commits s) ev p c = on_both ev c.now c (λ o. freed s (c.owner o)) (table_after (Commits s) p c.table)
+states_next (Aborts s status) ev p c = on_both ev (states_without c (just s)) c (λ o. freed s (c.owner o)) (table_after (Aborts s status) p c.table)

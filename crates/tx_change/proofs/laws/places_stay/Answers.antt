@@ -1,8 +1,8 @@
-use Rattle.tx_change.proofs.Placed.{exchanged_bring, places_kept, undone_placed}
-use Rattle.tx_change.proofs.laws.places_kept.Goals as goal
+use Rattle.tx_change.proofs.Placed.{exchanged_bring, places_stay, undone_placed}
+use Rattle.tx_change.proofs.laws.places_stay.Goals as goal
 
 pub returns-clause-forth : goal.returns-clause-forth
-returns-clause-forth c = places_kept
+returns-clause-forth c = places_stay
 
 pub returns-clause-back : goal.returns-clause-back
 returns-clause-back c = undone_placed

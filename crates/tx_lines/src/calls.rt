@@ -1,0 +1,278 @@
+//! The table of calls: how a call of each name is read, how each is printed, and where its numbers
+//! stand. Arguments that are more than numbers are read and printed beside it, by groups.
+ghost use Rattle.std.specs.Prelude.{◌≡◌, ◌≤◌, ◌++◌, ◌∷◌, IfSome, None, OnOk, Some, string_bytes};
+ghost use Rattle.std.specs.Bool.{then_some};
+ghost use Rattle.tx_base.specs.declared.steps.Call.{Call};
+ghost use Rattle.tx_lines.specs.Calls.{call_text, group_of, with_numbers, FitsCall};
+ghost use Rattle.tx_lines.specs.Filled.{number_at};
+ghost use Rattle.tx_lines.specs.Lines.{IsCallOf};
+ghost use Rattle.tx_lines.specs.Words.{first_word};
+ghost use Rattle.tx_lines.specs.declared.read.header.Version.{Version};
+
+use crate::filling::Numbers;
+use crate::print::calls::descriptors::{put_pipe, put_set_nonblock};
+use crate::print::calls::memory::{put_protect, put_store};
+use crate::print::calls::processes::{put_fork, put_waitpid};
+use crate::print::calls::script::{put_console_write, put_jump};
+use crate::print::calls::signals::{put_sigaction, put_sigprocmask, put_sigqueue};
+use crate::print::shapes::{put_one, put_three, put_two};
+use crate::print::words;
+use crate::read::calls::place::put;
+use crate::read::calls::{descriptors, memory, processes, script, signals, transfers};
+use crate::read::header::Version;
+use crate::read::numbers::number;
+use crate::read::small::read_pid;
+use std::alloc::AllocError;
+use tx_base::{Call, When};
+
+/// The call on memory of that name and with those arguments, or one that a later group has. Nothing
+/// where none is spelled so.
+pub fn memory_call(version: Version, name: &[u8], arguments: &[u8], call: &mut Call) -> bool
+    ensures found { IfSome (then_some result call.new) (λ c. name.now ++ 32 ∷ arguments.now ≡ call_text c) }
+    ensures fits { IfSome (then_some result call.new) FitsCall }
+    ensures within { IfSome (then_some result call.new) (IsCallOf version) }
+    ensures only { (c : Call) → FitsCall c → IsCallOf version c → 1 ≤ group_of c → first_word (call_text c) ≡ Some (name.now, arguments.now) → then_some result call.new ≡ Some c }
+{
+    match name {
+        b"map" => put(call, number(arguments).map(Call::Map)),
+        b"unmap" => put(call, number(arguments).map(Call::Unmap)),
+        b"protect" => memory::protect(arguments, call),
+        _ => process_call(version, name, arguments, call),
+    }
+}
+
+/// The call on processes of that name and with those arguments, or one that a later group has.
+/// Nothing where none is spelled so.
+fn process_call(version: Version, name: &[u8], arguments: &[u8], call: &mut Call) -> bool
+    ensures found { IfSome (then_some result call.new) (λ c. name.now ++ 32 ∷ arguments.now ≡ call_text c) }
+    ensures fits { IfSome (then_some result call.new) FitsCall }
+    ensures within { IfSome (then_some result call.new) (IsCallOf version) }
+    ensures only { (c : Call) → FitsCall c → IsCallOf version c → 2 ≤ group_of c → first_word (call_text c) ≡ Some (name.now, arguments.now) → then_some result call.new ≡ Some c }
+{
+    match name {
+        b"fork" => put(call, read_pid(arguments).map(Call::Fork)),
+        b"exit" => put(call, number(arguments).map(Call::Exit)),
+        b"waitpid" => put(call, processes::waitpid(arguments)),
+        _ => id_call(version, name, arguments, call),
+    }
+}
+
+/// The call on ids of that name and with those arguments, or one that a later group has. Nothing
+/// where none is spelled so.
+fn id_call(version: Version, name: &[u8], arguments: &[u8], call: &mut Call) -> bool
+    ensures found { IfSome (then_some result call.new) (λ c. name.now ++ 32 ∷ arguments.now ≡ call_text c) }
+    ensures fits { IfSome (then_some result call.new) FitsCall }
+    ensures within { IfSome (then_some result call.new) (IsCallOf version) }
+    ensures only { (c : Call) → FitsCall c → IsCallOf version c → 3 ≤ group_of c → first_word (call_text c) ≡ Some (name.now, arguments.now) → then_some result call.new ≡ Some c }
+{
+    match name {
+        b"setuid" => put(call, number(arguments).map(Call::Setuid)),
+        b"seteuid" => put(call, number(arguments).map(Call::Seteuid)),
+        b"setgid" => put(call, number(arguments).map(Call::Setgid)),
+        b"setegid" => put(call, number(arguments).map(Call::Setegid)),
+        _ => descriptor_call(version, name, arguments, call),
+    }
+}
+
+/// The call on descriptors of that name and with those arguments, or one that a later group has.
+/// Nothing where none is spelled so.
+fn descriptor_call(version: Version, name: &[u8], arguments: &[u8], call: &mut Call) -> bool
+    ensures found { IfSome (then_some result call.new) (λ c. name.now ++ 32 ∷ arguments.now ≡ call_text c) }
+    ensures fits { IfSome (then_some result call.new) FitsCall }
+    ensures within { IfSome (then_some result call.new) (IsCallOf version) }
+    ensures only { (c : Call) → FitsCall c → IsCallOf version c → 4 ≤ group_of c → first_word (call_text c) ≡ Some (name.now, arguments.now) → then_some result call.new ≡ Some c }
+{
+    if name == b"pipe".as_slice() {
+        return put(call, descriptors::pipe(arguments));
+    }
+    if name == b"dup".as_slice() {
+        return put(call, number(arguments).map(Call::Dup));
+    }
+    if name == b"dup2".as_slice() {
+        return put(call, descriptors::dup2(arguments));
+    }
+    if name == b"close".as_slice() {
+        return put(call, number(arguments).map(Call::Close));
+    }
+    if name == b"set_nonblock".as_slice() {
+        return put(call, descriptors::set_nonblock(arguments));
+    }
+    transfer_call(version, name, arguments, call)
+}
+
+/// The call that moves bytes of that name and with those arguments, or one that a later group has.
+/// Nothing where none is spelled so.
+fn transfer_call(version: Version, name: &[u8], arguments: &[u8], call: &mut Call) -> bool
+    ensures found { IfSome (then_some result call.new) (λ c. name.now ++ 32 ∷ arguments.now ≡ call_text c) }
+    ensures fits { IfSome (then_some result call.new) FitsCall }
+    ensures within { IfSome (then_some result call.new) (IsCallOf version) }
+    ensures only { (c : Call) → FitsCall c → IsCallOf version c → 5 ≤ group_of c → first_word (call_text c) ≡ Some (name.now, arguments.now) → then_some result call.new ≡ Some c }
+{
+    match name {
+        b"read" => put(call, transfers::read(arguments)),
+        b"write" => put(call, transfers::write(arguments)),
+        _ => signal_call(version, name, arguments, call),
+    }
+}
+
+/// The call on signals of that name and with those arguments, or one that a later group has. Nothing
+/// where none is spelled so.
+fn signal_call(version: Version, name: &[u8], arguments: &[u8], call: &mut Call) -> bool
+    ensures found { IfSome (then_some result call.new) (λ c. name.now ++ 32 ∷ arguments.now ≡ call_text c) }
+    ensures fits { IfSome (then_some result call.new) FitsCall }
+    ensures within { IfSome (then_some result call.new) (IsCallOf version) }
+    ensures only { (c : Call) → FitsCall c → IsCallOf version c → 6 ≤ group_of c → first_word (call_text c) ≡ Some (name.now, arguments.now) → then_some result call.new ≡ Some c }
+{
+    if name == b"kill".as_slice() {
+        return put(call, signals::kill(arguments));
+    }
+    if name == b"sigqueue".as_slice() {
+        return put(call, signals::sigqueue(arguments));
+    }
+    if name == b"sigaction".as_slice() {
+        return put(call, signals::sigaction(arguments));
+    }
+    if name == b"sigprocmask".as_slice() {
+        return put(call, signals::sigprocmask(arguments));
+    }
+    script_call(version, name, arguments, call)
+}
+
+/// The call of a script or on the console of that name and with those arguments. Nothing where none is
+/// spelled so.
+fn script_call(version: Version, name: &[u8], arguments: &[u8], call: &mut Call) -> bool
+    ensures found { IfSome (then_some result call.new) (λ c. name.now ++ 32 ∷ arguments.now ≡ call_text c) }
+    ensures fits { IfSome (then_some result call.new) FitsCall }
+    ensures within { IfSome (then_some result call.new) (IsCallOf version) }
+    ensures only { (c : Call) → FitsCall c → IsCallOf version c → 7 ≤ group_of c → first_word (call_text c) ≡ Some (name.now, arguments.now) → then_some result call.new ≡ Some c }
+{
+    if name == b"console_write".as_slice() {
+        return put(call, script::console_write(arguments));
+    }
+    if name == b"jump".as_slice() {
+        return put(call, script::jump(arguments));
+    }
+    if name == b"keep".as_slice() {
+        return put(call, number(arguments).map(Call::Keep));
+    }
+    false
+}
+
+/// Puts the call without an argument that a text spells where it is to stand, but none of
+/// transactions. Answers whether it spells one.
+pub fn bare_call(text: &[u8], call: &mut Call) -> bool
+    ensures found { IfSome (then_some result call.new) (λ c. text.now ≡ call_text c) }
+    ensures fits { IfSome (then_some result call.new) FitsCall }
+    ensures within { (version : Version) → IfSome (then_some result call.new) (IsCallOf version) }
+    ensures only { (c : Call) → FitsCall c → 1 ≤ group_of c → first_word text.now ≡ None → text.now ≡ call_text c → then_some result call.new ≡ Some c }
+{
+    if text == b"getpid".as_slice() {
+        return put(call, Some(Call::Getpid));
+    }
+    if text == b"getppid".as_slice() {
+        return put(call, Some(Call::Getppid));
+    }
+    if text == b"sigpending".as_slice() {
+        return put(call, Some(Call::Sigpending));
+    }
+    if text == b"sigreturn".as_slice() {
+        return put(call, Some(Call::Sigreturn));
+    }
+    false
+}
+
+/// Appends a call. The only error is that a growth of memory was refused: the text may then have some
+/// of the call behind what it had.
+pub fn put_call(text: &mut String, call: &Call) -> Result<(), AllocError>
+    ensures { OnOk result (string_bytes text.new ≡ string_bytes text.old ++ call_text call.now) }
+{
+    match call {
+        Call::Store(address, bytes) => put_store(text, *address, bytes.as_slice()),
+        Call::Load(address) => put_one(text, "load ", *address),
+        Call::SysXbegin => words::put(text, "sys_xbegin"),
+        Call::SysXbeginDefer => words::put(text, "sys_xbegin defer"),
+        Call::SysXend => words::put(text, "sys_xend"),
+        Call::SysXabort => words::put(text, "sys_xabort"),
+        Call::Map(page) => put_one(text, "map ", *page),
+        Call::Unmap(page) => put_one(text, "unmap ", *page),
+        Call::Protect(page, writable) => put_protect(text, *page, *writable),
+        Call::Fork(child) => put_fork(text, *child),
+        Call::Exit(status) => put_one(text, "exit ", *status),
+        Call::Waitpid(target, nohang) => put_waitpid(text, *target, *nohang),
+        Call::Setuid(id) => put_one(text, "setuid ", *id),
+        Call::Seteuid(id) => put_one(text, "seteuid ", *id),
+        Call::Setgid(id) => put_one(text, "setgid ", *id),
+        Call::Setegid(id) => put_one(text, "setegid ", *id),
+        Call::Pipe(pipe, read, write) => put_pipe(text, *pipe, *read, *write),
+        Call::Dup(fd) => put_one(text, "dup ", *fd),
+        Call::Dup2(from, to) => put_two(text, "dup2 ", *from, *to),
+        Call::Close(fd) => put_one(text, "close ", *fd),
+        Call::SetNonblock(fd, on) => put_set_nonblock(text, *fd, *on),
+        Call::Read(fd, address, count) => put_three(text, "read ", *fd, *address, *count),
+        Call::Write(fd, address, count) => put_three(text, "write ", *fd, *address, *count),
+        Call::Kill(target, signo) => put_two(text, "kill ", *target, *signo),
+        Call::Sigqueue(target, signo, value) => put_sigqueue(text, *target, *signo, *value),
+        Call::Sigaction(signo, action) => put_sigaction(text, *signo, *action),
+        Call::Sigprocmask(how, set) => put_sigprocmask(text, *how, *set),
+        Call::ConsoleWrite(address, count) => put_console_write(text, *address, *count),
+        Call::Jump(point, when) => put_jump(text, *point, *when),
+        Call::Keep(slot) => put_one(text, "keep ", *slot),
+        _ => put_bare_call(text, call),
+    }
+}
+
+/// Appends a call without an argument, but none of transactions.
+fn put_bare_call(text: &mut String, call: &Call) -> Result<(), AllocError>
+    requires { 8 ≤ group_of call.now }
+    ensures { OnOk result (string_bytes text.new ≡ string_bytes text.old ++ call_text call.now) }
+{
+    match call {
+        Call::Getpid => words::put(text, "getpid"),
+        Call::Getppid => words::put(text, "getppid"),
+        Call::Sigpending => words::put(text, "sigpending"),
+        Call::Sigreturn => words::put(text, "sigreturn"),
+        _ => Ok(()), // each other call is of an earlier group
+    }
+}
+
+impl Numbers<'_> {
+    /// The call with its numbers put in.
+    pub fn put_in(self, call: Call) -> Call
+        ensures { result ≡ with_numbers (number_at self.entry.slots.now self.entry.spellings.now) call }
+    {
+        match call {
+            Call::Map(page) => Call::Map(self.at(0, page)),
+            Call::Unmap(page) => Call::Unmap(self.at(0, page)),
+            Call::Protect(page, writable) => Call::Protect(self.at(0, page), writable),
+            Call::Store(address, bytes) => Call::Store(self.at(0, address), bytes),
+            Call::Load(address) => Call::Load(self.at(0, address)),
+            Call::Exit(status) => Call::Exit(self.at(0, status)),
+            Call::Waitpid(target, nohang) => Call::Waitpid(self.at(0, target), nohang),
+            Call::Setuid(id) => Call::Setuid(self.at(0, id)),
+            Call::Seteuid(id) => Call::Seteuid(self.at(0, id)),
+            Call::Setgid(id) => Call::Setgid(self.at(0, id)),
+            Call::Setegid(id) => Call::Setegid(self.at(0, id)),
+            Call::Dup(fd) => Call::Dup(self.at(0, fd)),
+            Call::Close(fd) => Call::Close(self.at(0, fd)),
+            Call::SetNonblock(fd, on) => Call::SetNonblock(self.at(0, fd), on),
+            Call::Sigaction(signo, action) => Call::Sigaction(self.at(0, signo), action),
+            Call::Keep(slot) => Call::Keep(self.at(0, slot)),
+            Call::Jump(point, When::IfRet(ret)) => Call::Jump(point, When::IfRet(self.at(2, ret))),
+            Call::Dup2(from, to) => Call::Dup2(self.at(0, from), self.at(1, to)),
+            Call::Kill(target, signo) => Call::Kill(self.at(0, target), self.at(1, signo)),
+            Call::ConsoleWrite(address, count) => {
+                Call::ConsoleWrite(self.at(0, address), self.at(1, count))
+            }
+            Call::Read(fd, address, count) => {
+                Call::Read(self.at(0, fd), self.at(1, address), self.at(2, count))
+            }
+            Call::Write(fd, address, count) => {
+                Call::Write(self.at(0, fd), self.at(1, address), self.at(2, count))
+            }
+            Call::Sigqueue(target, signo, value) => {
+                Call::Sigqueue(self.at(0, target), self.at(1, signo), self.at(2, value))
+            }
+            other => other,
+        }
+    }
+}
