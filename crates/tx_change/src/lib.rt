@@ -1,3 +1,4 @@
+#![tactic(auto)]
 //! The parts of the kernel, and exchanges of one part of a process. An exchange takes no memory and
 //! is never refused, and a second one takes the first one back.
 //!
@@ -24,7 +25,6 @@
 //!
 //! So a change is a plan before its swap and a record of the old part after it. It is the only way
 //! in which anything above changes a part.
-#![tactic(auto)]
 
 mod change;
 mod laws;

@@ -1,3 +1,4 @@
+#![tactic(auto)]
 //! The machine: a kernel that takes a schedule of steps, with transactions that live side by side,
 //! and an inverse of every accepted step.
 //!
@@ -23,7 +24,6 @@
 //!
 //! What the layer above knows is the view: the state, the state without each set of live
 //! transactions, the table, and what is reserved. Logs and owners are in no contract above.
-#![tactic(auto)]
 
 mod free;
 mod laws;

@@ -1,3 +1,4 @@
+#![tactic(auto)]
 //! One history of steps, which is to be walked both ways.
 //!
 //! `Session` is a machine with all steps that it accepted: each `Entry` has its step, its worker
@@ -37,7 +38,6 @@
 //! takes none back. `next` makes one and answers its `Note`: who started the transaction that the
 //! step is of, whether the step begins that transaction, whether it commits it, and whether it
 //! tells its moment. What a commit posts is read from the outbox before it is made.
-#![tactic(auto)]
 
 mod entry;
 mod faults;

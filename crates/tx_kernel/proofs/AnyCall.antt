@@ -31,23 +31,11 @@ own_lines law P c error answer change stand asked alone = by ((page_of_call aske
 
 -- it has a plan of its own, and concerns its process alone
 abbrev pub has_own_plan : Call → Bool
-has_own_plan (call.Fork child) = false
-has_own_plan (call.Exit status) = false
-has_own_plan (call.Waitpid t nohang) = false
-has_own_plan (call.Pipe q r w) = false
-has_own_plan (call.Dup f) = false
-has_own_plan (call.Dup2 f g) = false
-has_own_plan (call.Close f) = false
-has_own_plan (call.SetNonblock f on) = false
-has_own_plan (call.Read f address n) = false
-has_own_plan (call.Write f address n) = false
-has_own_plan (call.Kill t signo) = false
-has_own_plan (call.Sigqueue t signo value) = false
 has_own_plan call.SysXbegin = false
 has_own_plan call.SysXbeginDefer = false
 has_own_plan call.SysXend = false
 has_own_plan call.SysXabort = false
-has_own_plan c = true
+has_own_plan c = concerns_itself_alone c
 
 -- the calls of transactions are left, which answer EINVAL
 pub answers_error : (c : Call) → concerns_itself_alone c ≡ true → has_own_plan c ≡ false → (d : Caller) → (page_of_call c).outcome d ≡ fails InvalidArgument

@@ -1,3 +1,4 @@
+#![tactic(auto)]
 //! The calls, the deliveries and the posts of the kernel: what each is to change, and its answer. A
 //! plan is a list of exchanges at the end of a log, and changes nothing; `act`, `deliver` and
 //! `post` make a step.
@@ -37,7 +38,6 @@
 //!
 //! The machine's steps go by `Actor::plan`, whose exchanges tx_live makes; none goes by `act` or
 //! `deliver`.
-#![tactic(auto)]
 
 mod actor;
 mod acts;

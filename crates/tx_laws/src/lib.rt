@@ -1,3 +1,4 @@
+#![tactic(auto)]
 //! The laws over the definitions of the kernel, as the contracts of functions that do nothing. What
 //! crates above take as a premise has a name, in `specs/Laws.antt` and the files beside it: whoever
 //! wants a law calls its function.
@@ -37,7 +38,6 @@
 //! in files of `proofs/` by groups (`Of..`), and of well-formed states likewise (`KeepsForm..`),
 //! mostly by the lines of its page. The calls that concern their process alone have one table for
 //! all of this (`OwnPages`), and a law that says what they come to (*own calls*).
-#![tactic(auto)]
 
 ghost use Rattle.std.specs.Prelude.{◌≤◌, ℕ, List, ◌≡◌, length};
 ghost use Rattle.tx_base.specs.declared.steps.Accepted.{Accepted};

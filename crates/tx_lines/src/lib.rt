@@ -1,3 +1,4 @@
+#![tactic(auto)]
 //! The lines of texts: what reads schedules, schedules with commands and programs, and what prints
 //! words, numbers, sets and steps. It knows the grammar, and nothing of a machine.
 //!
@@ -18,7 +19,6 @@
 //! (`read/instructions.rt`). So calls have one reader. Of an instruction, `filling.rt` makes the
 //! call that a process makes by it. `print/` has what writes words, numbers, sets and bytes, and a
 //! step as a line of a schedule.
-#![tactic(auto)]
 
 mod calls;
 mod ends;

@@ -1,3 +1,4 @@
+#![tactic(auto)]
 //! What the machine keeps of live transactions, and what a step makes of it, by what the step is to
 //! the transactions.
 //!
@@ -39,7 +40,6 @@
 //! began. What is so of each live transaction says that: led back now, its log leaves right counts
 //! (`IsTxn`). A step of others keeps that, since they name no description and no process that the
 //! transaction owns, but for what is pending at its starter, which counts no name.
-#![tactic(auto)]
 
 mod aborts;
 mod begins;

@@ -1,3 +1,4 @@
+#![tactic(auto)]
 //! A committed transaction as one moment, as the contract of a function that does nothing.
 //!
 //! The law that a committed transaction which counts as one moment may be done at the moment of its
@@ -18,7 +19,6 @@
 //! does not look at its signals, and which sends it none, does the same whatever is pending there.
 //! It leaves that pending, names the same objects, sends the same and has the same reply. It goes
 //! by calls: each is followed with other signals pending (`UnseenCalls`).
-#![tactic(auto)]
 
 mod laws;
 mod unseen;

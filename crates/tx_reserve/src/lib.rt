@@ -1,3 +1,4 @@
+#![tactic(auto)]
 //! What the steps of transactions reserve: sets of objects, who owns each, and the footprint of a
 //! step. Nothing but `Reservations::new` takes memory.
 //!
@@ -20,7 +21,6 @@
 //! of the caller's, so that it is made where it is used. What a committing step posts is known from
 //! what its transaction holds, which the caller gives exactly where a step that ends the process's
 //! part commits (`GoesWith`). Calls that name nothing but their process cost one bit.
-#![tactic(auto)]
 
 mod footprints;
 mod laws;

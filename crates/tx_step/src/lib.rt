@@ -1,3 +1,4 @@
+#![tactic(auto)]
 //! A step on the content of a kernel: why it is refused, who is in its way and what it is to the
 //! transactions; and what it makes of the content, with what takes it back.
 //!
@@ -40,7 +41,6 @@
 //! `put_reply` makes the reply of it, once and in its place: the bytes that a console_write shows
 //! are in the memory of the process, which such a step leaves, and what a commit could not deliver
 //! is in the outbox of its inverse.
-#![tactic(auto)]
 
 mod aborts;
 mod answered;

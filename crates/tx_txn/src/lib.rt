@@ -1,3 +1,4 @@
+#![tactic(auto)]
 //! Live transactions: what is kept of a starter, what is held until the commit, the marks of
 //! members, and the log of old parts that leads back. The laws say when such logs have the view of
 //! the history.
@@ -47,7 +48,6 @@
 //! - `Txn`: a live transaction, with these, its log and its objects. `reserve` and `give_up` do
 //!   what a step reserves and take it back, `end` and `revive` its end, `lead_back` and
 //!   `lead_forward` its abort. None takes memory.
-#![tactic(auto)]
 
 mod kept;
 mod laws;

@@ -1,3 +1,4 @@
+#![tactic(auto)]
 //! Workers that run a program in turns, and what writes a run.
 //!
 //! `turn` looks for the worker's next running process (`next.rt`), and `turn_of` takes the turn of
@@ -26,7 +27,6 @@
 //! `run_program` (`whole.rt`) reads a program, runs it by `run_workers` and writes the run
 //! (`text.rt`). A `Gate` is told of each turn before the lock is taken and after it is let go; by
 //! it tests say in which order turns are taken.
-#![tactic(auto)]
 
 mod compare;
 mod crew;
