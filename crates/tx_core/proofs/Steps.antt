@@ -93,13 +93,13 @@ kernel_err P (Err x) e is = tt
 
 -- as a step
 pub kernel_takes : (k old new : Content) (step : Step) (s : Pid) (status : ℕ) (inverse : Inverse) → k ≡ old → step ≡ KernelAbort s → IsStep k (KernelAbort s) (Aborted status) inverse new →
-    (r : Result (Answered × Inverse) Refusal) → r ≡ Ok (AbortedWith status, inverse) → Takes old step r new
+    (r : Result Answered Refusal) → r ≡ Ok (AbortedWith status) → Takes old step r inverse new
 kernel_takes k old new step s status inverse same is made r ok =
-    subst (λ (x : Result (Answered × Inverse) Refusal). Takes old step x new) (sym ok)
-    (subst (λ (x : Step). Takes old x (Ok (AbortedWith status, inverse)) new) (sym is) (subst (λ (x : Content). IsStep x (KernelAbort s) (Aborted status) inverse new) same made))
+    subst (λ (x : Result Answered Refusal). Takes old step x inverse new) (sym ok)
+    (subst (λ (x : Step). Takes old x (Ok (AbortedWith status)) inverse new) (sym is) (subst (λ (x : Content). IsStep x (KernelAbort s) (Aborted status) inverse new) same made))
 
-pub kernel_none : (k old new : Content) (step : Step) (s : Pid) → k ≡ old → step ≡ KernelAbort s → new ≡ k → (is_live (view_of k).table s.0 ≡ true → ⊥) →
-    (r : Result (Answered × Inverse) Refusal) → r ≡ Err NoTransaction → Takes old step r new
-kernel_none k old new step s same is none dead r err =
-    subst (λ (x : Result (Answered × Inverse) Refusal). Takes old step x new) (sym err)
+pub kernel_none : (k old new : Content) (step : Step) (s : Pid) (inverse : Inverse) → k ≡ old → step ≡ KernelAbort s → new ≡ k → (is_live (view_of k).table s.0 ≡ true → ⊥) →
+    (r : Result Answered Refusal) → r ≡ Err NoTransaction → Takes old step r inverse new
+kernel_none k old new step s inverse same is none dead r err =
+    subst (λ (x : Result Answered Refusal). Takes old step x inverse new) (sym err)
     (none ∙ same, inr ((λ j. answer (view_of (sym same j)) (is j)) ∙ dead_answer k s dead, λ e. cc))

@@ -9,13 +9,12 @@
 //! - `boot` and `boot_wide` make a narrow or wide machine with processes 1 to N; its view is that
 //!   of the empty history.
 //! - `step` makes any step: it answers the reply, and the inverse where the step was accepted;
-//!   `step_into` puts the reply where the caller has a place for it. `kernel_abort` is the kernel's
-//!   abort as a call of its own: it takes no memory, and is refused only where there is no such
-//!   transaction.
+//!   `step_into` puts both where the caller has places for them, and uses the room of an inverse
+//!   that stood there. `kernel_abort` is the kernel's abort as a call of its own: it takes no memory,
+//!   and is refused only where there is no such transaction.
 //! - `undo` takes the inverse of the last step and gives the content before it, without memory and
 //!   without an error. A machine checks no inverse: that this one leads its content back is a
 //!   premise (`LeadsBack`), which `step` and `kernel_abort` give.
-//! - `let_go` takes an inverse that nobody will undo, and keeps room of its for the next step.
 //! - `run` and `run_wide` make the steps of a list and answer the machine with the history of the
 //!   accepted ones. `run_partial` keeps what was run up to a step that wanted memory; a step's
 //!   place in the history is reserved before the step is made.

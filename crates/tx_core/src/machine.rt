@@ -1,5 +1,5 @@
 //! The machine, as its steps change it.
-ghost use Rattle.std.specs.Prelude.{◌≡◌, ◌≢◌, ◌≤◌, ◌↔◌, ◌⊎◌, ◌∷◌, [], List, true, length, IfOk, OnErr, IsOk, IfSome, IsSome, IsNone};
+ghost use Rattle.std.specs.Prelude.{◌≡◌, ◌≢◌, ◌≤◌, ◌↔◌, ◌⊎◌, ◌∷◌, [], List, true, false, length, IfOk, OnErr, OnOk, IsOk, IfSome, IsSome, IsNone, IsTrue};
 ghost use Rattle.tx_base.specs.declared.steps.Accepted.{Accepted};
 ghost use Rattle.tx_base.specs.declared.steps.Reply.TheVariants.{Aborted, No};
 ghost use Rattle.tx_base.specs.declared.steps.Step.TheVariants.{KernelAbort};
@@ -66,49 +66,71 @@ impl Machine {
         ensures kernel { IsKernelAbort step.now → result.0 ≢ No Refusal.NoMemory }
     {
         let mut reply = Reply::Ended;
-        let inverse = self.step_into(alloc, step, &mut reply);
-        (reply, inverse)
+        let mut inverse = Inverse::blank();
+        if self.step_into(alloc, step, &mut reply, &mut inverse) {
+            (reply, Some(inverse))
+        } else {
+            (reply, None)
+        }
     }
 
-    /// Makes a step as `step` does, and puts its reply where it is to stand: for a caller that makes
-    /// many, since a reply is large.
-    pub fn step_into(&mut self, alloc: Global, step: &Step, reply: &mut Reply) -> Option<Inverse>
+    /// Makes a step as `step` does, and puts its reply and its inverse where they are to stand: for a
+    /// caller that makes many, since both are large. Answers whether the step was accepted; where it was
+    /// not, the place of the inverse has nothing of worth. An inverse that stood there is let go, and room
+    /// of it serves the next steps if it is not large.
+    pub fn step_into(
+        &mut self,
+        alloc: Global,
+        step: &Step,
+        reply: &mut Reply,
+        inverse: &mut Inverse,
+    ) -> bool
         ensures answer { (reply.new ≡ No Refusal.NoMemory) ⊎ (answer (view_of self.old) step.now ≡ reply.new) }
         ensures memory { reply.new ≡ No Refusal.NoMemory → IsAccepted (answer (view_of self.old) step.now) }
-        ensures refused { IsNone result → self.new ≡ self.old }
-        ensures inverse { IsSome result ↔ IsAccepted reply.new }
-        ensures accepted { IfSome result (λ inverse. IsStep self.old step.now reply.new inverse self.new) }
-        ensures back { IfSome result (LeadsBack self.new) }
+        ensures refused { result ≡ false → self.new ≡ self.old }
+        ensures inverse { IsTrue result ↔ IsAccepted reply.new }
+        ensures accepted { IsTrue result → IsStep self.old step.now reply.new inverse.new self.new }
+        ensures back { IsTrue result → LeadsBack self.new inverse.new }
         ensures history { IsAccepted reply.new → (start : State) (earlier : List Accepted) → Lawful start earlier → view_of self.old ≡ view start earlier →
             Lawful start (record { step = step.now; reply = reply.new } ∷ earlier) × (view_of self.new ≡ view start (record { step = step.now; reply = reply.new } ∷ earlier)) }
         ensures xabort { IsXabort self.old step.now → reply.new ≢ No Refusal.NoMemory }
         ensures kernel { IsKernelAbort step.now → reply.new ≢ No Refusal.NoMemory }
     {
         laws();
-        match self.take(alloc, step) {
-            Ok((answered, inverse)) => {
-                put_reply(reply, &self.content, maker(step), answered, &inverse);
-                Some(inverse)
+        match self.take(alloc, step, inverse) {
+            Ok(answered) => {
+                put_reply(reply, &self.content, maker(step), answered, inverse);
+                true
             }
             Err(refusal) => {
                 *reply = Reply::No(refusal);
-                None
+                false
             }
         }
     }
 
-    /// Makes a step. Answers what it is answered, in few bytes, and its inverse, or why it was refused.
-    fn take(&mut self, alloc: Global, step: &Step) -> Result<(Answered, Inverse), Refusal>
-        ensures takes { Takes self.old step.now result self.new }
-        ensures back { IfOk result (λ made. LeadsBack self.new made.1) }
+    /// Makes a step. Answers what it is answered, in few bytes, or why it was refused, and puts its
+    /// inverse into its place.
+    fn take(
+        &mut self,
+        alloc: Global,
+        step: &Step,
+        inverse: &mut Inverse,
+    ) -> Result<Answered, Refusal>
+        ensures takes { Takes self.old step.now result inverse.new self.new }
+        ensures back { OnOk result (LeadsBack self.new inverse.new) }
     {
         match step {
-            Step::Call(pid, call) => take_call(&mut self.content, alloc, *pid, call),
-            Step::Deliver(pid, signo) => take_delivery(&mut self.content, alloc, *pid, *signo),
-            Step::KernelAbort(starter) => match take_kernel_abort(&mut self.content, *starter) {
-                Some((status, inverse)) => Ok((Answered::Aborted(status), inverse)),
-                None => Err(Refusal::NoTransaction),
-            },
+            Step::Call(pid, call) => take_call(&mut self.content, alloc, *pid, call, inverse),
+            Step::Deliver(pid, signo) => {
+                take_delivery(&mut self.content, alloc, *pid, *signo, inverse)
+            }
+            Step::KernelAbort(starter) => {
+                match take_kernel_abort(&mut self.content, *starter, inverse) {
+                    Some(status) => Ok(Answered::Aborted(status)),
+                    None => Err(Refusal::NoTransaction),
+                }
+            }
         }
     }
 
@@ -127,8 +149,9 @@ impl Machine {
             × (view_of self.new ≡ view start (record { step = KernelAbort starter; reply = Aborted (kernel_status (view_of self.old) starter.0) } ∷ earlier))) }
     {
         laws();
-        match take_kernel_abort(&mut self.content, starter) {
-            Some((_status, inverse)) => Ok(inverse),
+        let mut inverse = Inverse::blank();
+        match take_kernel_abort(&mut self.content, starter, &mut inverse) {
+            Some(_status) => Ok(inverse),
             None => Err(NoTransaction),
         }
     }
@@ -140,14 +163,6 @@ impl Machine {
         ensures { (before : TheContent) → Undoes self.old inverse before → self.new ≡ before }
     {
         self.content.undo(inverse);
-    }
-
-    /// Lets go of the inverse of a step that will never be taken back: the machine stays as it is. Room
-    /// that the step left is kept for the next one, if it is not large.
-    pub fn let_go(&mut self, inverse: Inverse)
-        ensures { self.new ≡ self.old }
-    {
-        self.content.let_go(inverse);
     }
 
     /// A machine of so many process numbers, of which the first few run.

@@ -1,7 +1,8 @@
 pub mod Counting
 pub mod Totals
 pub mod Free
-pub mod Ends
+pub mod PipeEnds
+pub mod CountedEnds
 pub mod Gone
 pub mod Named
 pub mod Running

@@ -1,5 +1,5 @@
 -- The plan of a whole table: each description that it names, once, with its new count.
-use Rattle.std.proofs.Common.{◌≡◌, ◌≢◌, ℕ, ◌+◌, ◌-◌, ◌<◌, ◌≤◌, ◌⊎◌, Bool, true, false, List, [], ◌∷◌, ◌++◌, length, take, Option, Some, None, if◌then◌else◌, ◌==◌, eq-eqb, nat_lt, get_or, refl, sym, ap, ◌∙◌, subst, inl, inr, arith, length-set, get_or-set_same, get_or-set_other}
+use Rattle.std.proofs.Common.{◌≡◌, ◌≢◌, ℕ, ◌+◌, ◌-◌, ◌<◌, ◌≤◌, ◌⊎◌, Bool, true, false, List, [], ◌∷◌, ◌++◌, length, take, Option, Some, None, if◌then◌else◌, ◌==◌, eq-eqb, nat_lt, get_or, refl, sym, ap, ◌∙◌, subst, inl, inr, arith, length-set, get_or-set_same, get_or-set_other, zero, suc, replicate}
 use Rattle.std.proofs.lemmas.Bool.{ne_eqb, ltb-true, ltb-false, lt-ltb}
 use Rattle.std.proofs.lemmas.List.{take_more, length_push}
 use Rattle.std.proofs.lemmas.List.Sums.{sum_by_push}
@@ -71,6 +71,147 @@ planned_skip names i table D news inside before plan = record {
               let equal : count_in e (take i table) ≡ count_in e (take (i + 1) table) = omega arith in
               ap (nat_lt 0) equal
         ]
+
+-- how many of the first i descriptors name each description
+pub record Counted (table : Descriptors) (i : ℕ) (counts : List ℕ) : Type 0 where
+  pub sized : length counts ≡ 64
+  pub each : (d : ℕ) → get_or counts d 0 ≡ count_in d (take i table)
+  pub few : (d : ℕ) → get_or counts d 0 ≤ i
+
+zeros : (n d : ℕ) → get_or (replicate n zero) d zero ≡ zero
+zeros zero d = refl
+zeros (suc n) zero = refl
+zeros (suc n) (suc d) = zeros n d
+
+pub counted_none : (table : Descriptors) → Counted table 0 (replicate 64 0)
+counted_none table = record { sized = refl; each = λ d. zeros 64 d; few = λ d. let z = zeros 64 d in omega arith }
+
+-- one more descriptor that names a description
+pub counted_hit : (i d : ℕ) (table : Descriptors) (counts : List ℕ) → i < length table → d < 64 → get_or table i None ≡ Some d → Counted table i counts →
+    Counted table (i + 1) (set counts d (get_or counts d 0 + 1))
+counted_hit i d table counts inside below is counted = record {
+  sized = length-set counts d (get_or counts d 0 + 1) ∙ counted.sized;
+  each = each;
+  few = λ e. let now = each e in let next = count_next e i table inside in let old = counted.each e in let low = counted.few e in let one = most e in omega arith;
+}
+  where
+    most : (e : ℕ) → hit e (get_or table i None) ≤ 1
+    most e = elim (hit_cases e (get_or table i None)) [
+      | inl here ↦ let one = hit_is e (get_or table i None) here in omega arith
+      | inr none ↦ omega arith
+    ]
+
+    each : (e : ℕ) → get_or (set counts d (get_or counts d 0 + 1)) e 0 ≡ count_in e (take (i + 1) table)
+    each e =
+        let next = count_next e i table inside in
+        let sized = counted.sized in
+        let room : d < length counts = omega arith in
+        elim (hit_cases e (get_or table i None)) [
+          | inl here ↦
+              let both : Some d ≡ Some e = sym is ∙ here in
+              let same : e ≡ d = cc in
+              let one = hit_is e (get_or table i None) here in
+              let old : get_or counts d 0 ≡ count_in e (take i table) = counted.each d ∙ ap (λ (k : ℕ). count_in k (take i table)) (sym same) in
+              let sum : get_or counts d 0 + 1 ≡ count_in e (take (i + 1) table) = omega arith in
+              ap (λ (k : ℕ). get_or (set counts d (get_or counts d 0 + 1)) k 0) same ∙ get_or-set_same counts d (get_or counts d 0 + 1) 0 room ∙ sum
+          | inr other ↦
+              let apart : e ≢ d = λ z. let one = hit_is e (get_or table i None) (is ∙ ap Some (sym z)) in omega arith in
+              let equal : count_in e (take i table) ≡ count_in e (take (i + 1) table) = omega arith in
+              get_or-set_other counts d e (get_or counts d 0 + 1) 0 apart ∙ counted.each e ∙ equal
+        ]
+
+-- and one that is free
+pub counted_miss : (i : ℕ) (table : Descriptors) (counts : List ℕ) → i < length table → get_or table i None ≡ None → Counted table i counts → Counted table (i + 1) counts
+counted_miss i table counts inside free counted = record {
+  sized = counted.sized;
+  each = λ e. counted.each e ∙ equal e;
+  few = λ e. let low = counted.few e in omega arith;
+}
+  where
+    equal : (e : ℕ) → count_in e (take i table) ≡ count_in e (take (i + 1) table)
+    equal e =
+        let next = count_next e i table inside in
+        elim (hit_cases e (get_or table i None)) [
+          | inl here ↦ let never : None ≡ Some e = sym free ∙ here in absurd (let no : ⊥ = cc in no)
+          | inr none ↦ omega arith
+        ]
+
+-- the names of each description that the first i descriptors don't name
+pub record Left (table : Descriptors) (i : ℕ) (left : List ℕ) : Type 0 where
+  pub sized : length left ≡ 64
+  pub each : (d : ℕ) → get_or left d 0 ≡ (if nat_lt 0 (count_in d (take i table)) then 0 else count_in d table)
+
+pub left_skip : (i : ℕ) (table : Descriptors) (left : List ℕ) → i < length table →
+    ((e : ℕ) → get_or table i None ≡ Some e → 0 < count_in e (take i table)) → Left table i left → Left table (i + 1) left
+left_skip i table left inside before was = record {
+  sized = was.sized;
+  each = λ e. was.each e ∙ ap (λ (b : Bool). if b then 0 else count_in e table) (same e);
+}
+  where
+    same : (e : ℕ) → nat_lt 0 (count_in e (take i table)) ≡ nat_lt 0 (count_in e (take (i + 1) table))
+    same e =
+        let next = count_next e i table inside in
+        elim (hit_cases e (get_or table i None)) [
+          | inl is ↦
+              let some : 0 < count_in e (take i table) = before e is in
+              let more : 0 < count_in e (take (i + 1) table) = omega arith in
+              lt-ltb 0 (count_in e (take i table)) some ∙ sym (lt-ltb 0 (count_in e (take (i + 1) table)) more)
+          | inr none ↦
+              let equal : count_in e (take i table) ≡ count_in e (take (i + 1) table) = omega arith in
+              ap (nat_lt 0) equal
+        ]
+
+pub left_push : (i d : ℕ) (table : Descriptors) (left : List ℕ) → i < length table → d < 64 → get_or table i None ≡ Some d → Left table i left → Left table (i + 1) (set left d 0)
+left_push i d table left inside below is was = record { sized = length-set left d 0 ∙ was.sized; each = each }
+  where
+    each : (e : ℕ) → get_or (set left d 0) e 0 ≡ (if nat_lt 0 (count_in e (take (i + 1) table)) then 0 else count_in e table)
+    each e =
+        let next = count_next e i table inside in
+        let sized = was.sized in
+        let room : d < length left = omega arith in
+        elim (hit_cases e (get_or table i None)) [
+          | inl here ↦
+              let both : Some d ≡ Some e = sym is ∙ here in
+              let same : e ≡ d = cc in
+              let one = hit_is e (get_or table i None) here in
+              let more : 0 < count_in e (take (i + 1) table) = omega arith in
+              ap (λ (k : ℕ). get_or (set left d 0) k 0) same ∙ get_or-set_same left d 0 0 room
+              ∙ ap (λ (b : Bool). if b then 0 else count_in e table) (sym (lt-ltb 0 (count_in e (take (i + 1) table)) more))
+          | inr other ↦
+              let apart : e ≢ d = λ z. let one = hit_is e (get_or table i None) (is ∙ ap Some (sym z)) in omega arith in
+              let equal : count_in e (take i table) ≡ count_in e (take (i + 1) table) = omega arith in
+              get_or-set_other left d e 0 0 apart ∙ was.each e ∙ ap (λ (n : ℕ). if nat_lt 0 n then 0 else count_in e table) equal
+        ]
+
+pub left_all : (table : Descriptors) (counts : List ℕ) → length counts ≡ 64 → ((d : ℕ) → get_or counts d 0 ≡ count_in d table) → Left table 0 counts
+left_all table counts sized all = record { sized = sized; each = all }
+
+-- what is left of a description that a descriptor names: nothing where an earlier one names it too, else all its names
+pub left_some : (i d : ℕ) (table : Descriptors) (left : List ℕ) → Left table i left → 0 < get_or left d 0 →
+    (count_in d (take i table) ≡ 0) × (get_or left d 0 ≡ count_in d table)
+left_some i d table left was some = by (nat_lt 0 (count_in d (take i table))) refl (was.each d)
+  where
+    by : (b : Bool) → nat_lt 0 (count_in d (take i table)) ≡ b → get_or left d 0 ≡ (if b then 0 else count_in d table) → (count_in d (take i table) ≡ 0) × (get_or left d 0 ≡ count_in d table)
+    by true e at = absurd (omega (arith, some, at))
+    by false e at = (let none = ltb-false 0 (count_in d (take i table)) e in omega (arith, none), at)
+
+pub named_some : (i d : ℕ) (table : Descriptors) → get_or table i None ≡ Some d → 0 < count_in d table
+named_some i d [] is = let never : None ≡ Some d = is in absurd (let no : ⊥ = cc in no)
+named_some zero d (x ∷ table) is =
+    let one = hit_is d x is in
+    let next = count-cons d x table in
+    omega arith
+named_some (suc i) d (x ∷ table) is =
+    let more = named_some i d table is in
+    let next = count-cons d x table in
+    omega arith
+
+pub left_none : (i d : ℕ) (table : Descriptors) (left : List ℕ) → Left table i left → get_or left d 0 ≡ 0 → 0 < count_in d table → 0 < count_in d (take i table)
+left_none i d table left was none named = by (nat_lt 0 (count_in d (take i table))) refl (was.each d)
+  where
+    by : (b : Bool) → nat_lt 0 (count_in d (take i table)) ≡ b → get_or left d 0 ≡ (if b then 0 else count_in d table) → 0 < count_in d (take i table)
+    by true e at = ltb-true 0 (count_in d (take i table)) e
+    by false e at = absurd (omega (arith, none, named, at))
 
 -- the first descriptor that names a description
 pub planned_push : (names : Names) (i : ℕ) (d : DescNo) (table : Descriptors) (D : List (Option Opened)) (news : List NewDesc) (new : NewDesc) →

@@ -1,5 +1,6 @@
 pub mod Places
 pub mod Descriptions
+pub mod EndCounts
 pub mod Counts
 pub mod Outcomes
 pub mod Plans

@@ -14,7 +14,7 @@ use crate::opened::Opened;
 use crate::plans::NewDesc;
 use crate::table::FdTable;
 use arrayvec::ArrayVec;
-use tx_base::{DESCRIPTORS, DescNo};
+use tx_base::{DESCRIPTIONS, DESCRIPTORS, DescNo};
 
 /// Whether names come or are given up.
 #[derive(Clone, Copy)]
@@ -87,26 +87,45 @@ impl Descs {
     {
         table.sized();
         self.sized();
+        let mut left = self.counted(table);
         let mut plan = ArrayVec::new();
         for fd in 0..DESCRIPTORS {
             if let Some(d) = table.get(fd) {
-                if table.names_below(fd, d) == 0 {
-                    plan.push(self.plan_one(table, d, names));
+                let count = left[d.0 as usize];
+                if count > 0 {
+                    left[d.0 as usize] = 0;
+                    plan.push(self.plan_one(table, d, count, names));
                 }
             }
         }
         plan
     }
 
-    /// What a description that these descriptors name is to be.
-    fn plan_one(&self, table: &FdTable, d: DescNo, names: Names) -> NewDesc
+    /// How many of these descriptors name each description.
+    fn counted(&self, table: &FdTable) -> [u16; DESCRIPTIONS]
+        requires { IsBacked 16 table.now self.now }
+        ensures { (d : ℕ) → slice_index_or result d 0 ≡ count_in d table.now }
+    {
+        table.sized();
+        self.sized();
+        let mut counts = [0; DESCRIPTIONS];
+        for fd in 0..DESCRIPTORS {
+            if let Some(d) = table.get(fd) {
+                counts[d.0 as usize] += 1;
+            }
+        }
+        counts
+    }
+
+    /// What a description that so many of these descriptors name is to be.
+    fn plan_one(&self, table: &FdTable, d: DescNo, count: u16, names: Names) -> NewDesc
         requires room { IsBacked 16 table.now self.now }
         requires named { 0 < count_in d.0 table.now }
+        requires counted { count ≡ count_in d.0 table.now }
         ensures number { result.number ≡ d }
         ensures opened { result.opened ≡ recounted names (count_in d.0 table.now) (slice_index_or self.now d.0 None) }
     {
         table.sized();
-        let count = table.names_of(d) as u16;
         let opened = match names {
             Names::More => self.raised(d, count),
             Names::Fewer => self.lowered(d, count),

@@ -2,30 +2,35 @@
 ghost use Rattle.std.specs.Prelude.{◌≡◌, ◌<◌, [], ◌∷◌, None, length, replicate, slice_index_or, slice_set};
 ghost use Rattle.tx_model.specs.Descriptors.{has_description};
 ghost use Rattle.tx_model.specs.State.{State};
-ghost use Rattle.tx_desc.specs.Descriptions.{HasDescs, has_side, is_end_of};
+ghost use Rattle.tx_desc.specs.Descriptions.{HasDescs, has_side};
 ghost use Rattle.tx_desc.specs.Plans.{AreNumbers, put_descs};
 
+use crate::ends::EndCounts;
 use crate::opened::{Opened, Side};
 use crate::plans::NewDesc;
 use std::marker::Model;
 use std::mem;
 use tx_base::{DESCRIPTIONS, DescNo, PipeNo};
 
-/// The open descriptions of all processes: numbers 0 to 63. Contracts see what each number has.
+/// The open descriptions of all processes: numbers 0 to 63. Those of each side of each pipe are
+/// counted beside, so that who asks whether one is left need not look for it. Contracts see what
+/// each number has.
 #[derive(Drop)]
 pub struct Descs {
     places: [Option<Opened>; DESCRIPTIONS],
+    ends: EndCounts,
 }
 
 impl Model for Descs {
-    ghost use Rattle.std.specs.Prelude.{◌≡◌, List, Option, length};
+    ghost use Rattle.std.specs.Prelude.{List, Option};
+    ghost use Rattle.tx_desc.specs.EndCounts.{IsCounted};
     ghost use Rattle.tx_desc.specs.declared.opened.Opened.{Opened};
 
     ghost Value = { List (Option Opened) };
 
     ghost view = { λ descs. descs.places };
 
-    ghost invariant = { λ descs. length descs.places ≡ 64 };
+    ghost invariant = { λ descs. IsCounted descs.places descs.ends };
 }
 
 impl Descs {
@@ -35,6 +40,7 @@ impl Descs {
     {
         Descs {
             places: [None; DESCRIPTIONS],
+            ends: EndCounts::new(),
         }
     }
 
@@ -60,13 +66,7 @@ impl Descs {
     pub fn has_end(&self, pipe: PipeNo, side: Side) -> bool
         ensures { (S : State) → HasDescs S self.now → result ≡ has_side side pipe.0 S }
     {
-        let mut found = false;
-        for d in 0..DESCRIPTIONS {
-            if is_end(&self.places[d], pipe, side) {
-                found = true;
-            }
-        }
-        found
+        self.ends.has(pipe, side)
     }
 
     /// Whether a description of either side of the pipe is there.
@@ -76,15 +76,14 @@ impl Descs {
         self.has_end(pipe, Side::Read) || self.has_end(pipe, Side::Write)
     }
 
-    /// Whether a description of either side of the pipe is there once these were put in place: where
-    /// none is, the pipe goes. Each number must be 0 to 63.
-    pub fn names_pipe_with(&self, pipe: PipeNo, news: &[NewDesc]) -> bool
+    /// These with planned descriptions put in place. Each number must be 0 to 63.
+    pub fn with(&self, news: &[NewDesc]) -> Descs
         requires { AreNumbers news.now }
-        ensures { (S : State) → HasDescs S (put_descs news.now self.now) → result ≡ has_description pipe.0 S }
+        ensures { result ≡ put_descs news.now self.now }
     {
         let mut after = self.copy();
         after.put_all(news);
-        after.names_pipe(pipe)
+        after
     }
 
     /// An equal value.
@@ -93,6 +92,7 @@ impl Descs {
     {
         Descs {
             places: self.places,
+            ends: self.ends.copy(),
         }
     }
 
@@ -102,7 +102,9 @@ impl Descs {
         ensures exchanged { self.new ≡ slice_set self.old d.0 opened.old }
         ensures given { opened.new ≡ slice_index_or self.old d.0 None }
     {
-        mem::swap(&mut self.places[d.0 as usize], opened);
+        let place = &mut self.places[d.0 as usize];
+        self.ends.recount(*place, *opened);
+        mem::swap(place, opened);
     }
 
     /// Puts a planned description in place.
@@ -122,15 +124,5 @@ impl Descs {
         for new in news {
             self.put(*new);
         }
-    }
-}
-
-/// Whether this is a description of that side of the pipe.
-fn is_end(place: &Option<Opened>, pipe: PipeNo, side: Side) -> bool
-    ensures { result ≡ is_end_of side pipe.0 place.now }
-{
-    match place {
-        Some(opened) => opened.desc.pipe == pipe && opened.desc.side == side,
-        None => false,
     }
 }

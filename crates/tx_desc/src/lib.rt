@@ -22,6 +22,7 @@
 mod calls;
 mod counts;
 mod descs;
+mod ends;
 mod given;
 mod laws;
 mod numbers;

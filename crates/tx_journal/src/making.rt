@@ -19,6 +19,7 @@ use crate::laws::laws;
 use std::alloc::Global;
 use tx_base::{Call, NoMemory, Pid, Refusal, Reply, Step};
 use tx_core::{Machine, NoTransaction};
+use tx_live::Inverse;
 
 /// Makes a step, puts its reply where it is to stand, and adds its entry where it was accepted. The place
 /// of the entry is reserved first, but for an abort, which has its own. Answers whether it was.
@@ -95,9 +96,10 @@ fn make(
     laws();
     let starter = starter_of(machine, step);
     let was = is_live(machine, starter);
-    let Some(inverse) = machine.step_into(alloc, step, reply) else {
+    let mut inverse = Inverse::blank();
+    if !machine.step_into(alloc, step, reply, &mut inverse) {
         return false;
-    };
+    }
     let is = is_live(machine, starter);
     let entry = Entry {
         step: step.copy(),

@@ -65,32 +65,36 @@ impl Retrace {
         let Some(note) = note_of(&self.content, step) else {
             return Err(NoMemory);
         };
-        if make(&mut self.content, alloc, step).is_err() {
-            return Err(NoMemory);
-        }
+        let mut inverse = Inverse::blank();
+        make(&mut self.content, alloc, step, &mut inverse)?;
         Ok(note)
     }
 }
 
-/// Makes a step, and answers what takes it back.
+/// Makes a step, and puts what takes it back into its place.
 ///
 /// NoMemory where a growth is refused, or something else refuses the step.
-fn make(content: &mut Content, alloc: Global, step: &Step) -> Result<Inverse, NoMemory>
+fn make(
+    content: &mut Content,
+    alloc: Global,
+    step: &Step,
+    inverse: &mut Inverse,
+) -> Result<(), NoMemory>
     requires { IsContent content.old }
     ensures made { OnOk result (view_of content.new ≡ next (view_of content.old) step.now) }
     ensures content { IsContent content.new }
 {
     match step {
-        Step::Call(pid, call) => match take_call(content, alloc, *pid, call) {
-            Ok((_, inverse)) => Ok(inverse),
+        Step::Call(pid, call) => match take_call(content, alloc, *pid, call, inverse) {
+            Ok(_) => Ok(()),
             Err(_) => Err(NoMemory),
         },
-        Step::Deliver(pid, signo) => match take_delivery(content, alloc, *pid, *signo) {
-            Ok((_, inverse)) => Ok(inverse),
+        Step::Deliver(pid, signo) => match take_delivery(content, alloc, *pid, *signo, inverse) {
+            Ok(_) => Ok(()),
             Err(_) => Err(NoMemory),
         },
-        Step::KernelAbort(starter) => match take_kernel_abort(content, *starter) {
-            Some((_, inverse)) => Ok(inverse),
+        Step::KernelAbort(starter) => match take_kernel_abort(content, *starter, inverse) {
+            Some(_) => Ok(()),
             None => Err(NoMemory),
         },
     }

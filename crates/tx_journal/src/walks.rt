@@ -9,6 +9,7 @@ use crate::laws::laws;
 use crate::session::Session;
 use std::alloc::Global;
 use tx_base::{NoMemory, Reply};
+use tx_live::Inverse;
 
 impl Session {
     /// Takes the newest entry back that is made. It takes no memory.
@@ -43,9 +44,13 @@ impl Session {
             return Err(ForwardFault::AtEnd);
         };
         let mut reply = Reply::Ended;
-        let Some(inverse) = self.machine.step_into(alloc, &entry.step, &mut reply) else {
+        let mut inverse = Inverse::blank();
+        let is_made = self
+            .machine
+            .step_into(alloc, &entry.step, &mut reply, &mut inverse);
+        if !is_made {
             return Err(ForwardFault::NoMemory);
-        };
+        }
         self.journal.inverses.push_reserved(inverse);
         Ok(())
     }

@@ -1,5 +1,5 @@
 -- The plan of the end of a process: its numbers, its counts, its places and its objects.
-use Rattle.std.proofs.Common.{◌≡◌, ◌≢◌, ◌<◌, ◌≤◌, ◌+◌, ℕ, zero, suc, Bool, true, false, List, [], ◌∷◌, ◌++◌, length, Option, Some, None, IsSome, is_some, ◌==◌, if◌then◌else◌, nat_lt, get_or, refl, ap, sym, subst, ◌∙◌, arith, append_assoc, eq-eqb}
+use Rattle.std.proofs.Common.{◌≡◌, ◌≢◌, ◌⊎◌, ◌<◌, ◌≤◌, ◌+◌, ℕ, zero, suc, Bool, true, false, List, [], ◌∷◌, ◌++◌, length, Option, Some, None, IsSome, is_some, ◌==◌, if◌then◌else◌, nat_lt, get_or, refl, ap, sym, subst, ◌∙◌, arith, append_assoc, eq-eqb}
 use Rattle.std.proofs.lemmas.Bool.{lt-ltb, ltb-true, ltb-false}
 use Rattle.std.proofs.lemmas.List.{get_or_past}
 use Rattle.tx_base.specs.Slots.{slot_at}
@@ -20,13 +20,13 @@ use Rattle.tx_desc.specs.Plans.{AreNumbers, IsOnceEach, put_descs}
 use Rattle.tx_desc.specs.declared.opened.Opened.{Opened}
 use Rattle.tx_desc.specs.declared.plans.NewDesc.{NewDesc}
 use Rattle.tx_kernel.proofs.Beside.{descs_among, descs_bring, descs_named}
-use Rattle.tx_kernel.proofs.EndStates.{pipes_same}
+use Rattle.tx_kernel.proofs.EndStates.{pipes_same, unnamed_each}
 use Rattle.tx_kernel.proofs.Ended.{children_are, ended_alone, ended_plan, ending_state, orphans_of, others_changed, pipes_left}
 use Rattle.tx_kernel.proofs.Forked.{listed-among, open-has, planned-named}
 use Rattle.tx_kernel.proofs.OwnPlans.{brings_append}
 use Rattle.tx_kernel.proofs.Whole.{HasPipe, not_own_parent, whole_piped}
 use Rattle.tx_kernel.specs.Actors.{me_of, inside_of, IsActor, caller_of, effect_by, names_by}
-use Rattle.tx_kernel.specs.Endings.{gone_changes, orphan_changes, plain, plain_with}
+use Rattle.tx_kernel.specs.Endings.{OnlyRemoves, gone_changes, orphan_changes, plain, plain_with}
 use Rattle.tx_kernel.proofs.EndSeen.{descs_slot, gone_slot, orphans_seen, slot_after-append}
 use Rattle.tx_kernel.proofs.PostPlans.{seen_now}
 use Rattle.tx_kernel.specs.Posts.{IsSeen}
@@ -40,7 +40,7 @@ use Rattle.tx_model.specs.Descriptors.{desc_objects, has_description, open_in, p
 use Rattle.tx_model.specs.Words.{pipe_list}
 use Rattle.tx_model.specs.Processes as rules
 use Rattle.tx_model.specs.Processes.{children_below, children_of, ended_process, ending, ending_objects, held_objects, procs_of, NotTold, parent_notice, Notice, notice_now, notice_held}
-use Rattle.tx_model.specs.State.{Object, Proc as TheProc, Desc, Pipe as ThePipe, Process, Sending, State, SetProc, has_object, has_parent, is_between, same_object, write_one, with_writes}
+use Rattle.tx_model.specs.State.{Description, Object, Proc as TheProc, Desc, Pipe as ThePipe, Process, Sending, State, SetProc, has_object, has_parent, is_between, same_object, write_one, with_writes}
 use Rattle.tx_model.specs.Forms.{does}
 use Rattle.tx_proc.specs.Laws.{IsSized}
 use Rattle.tx_proc.specs.Parts.{process_of, process_in}
@@ -235,6 +235,14 @@ left_descs laws names actor status descs held is drops =
     drops.descriptions (others_of p S) (ended_alone actor status S)
     (laws.others held parts p table is.number is.whole.counts (actor.proc.now, is.there, is.runs, refl)) (λ d. refl)
     (names p (me_of actor) (ended_process status (me_of actor)) S table (runs_with actor held is) refl refl)
+
+pub only_removes : (laws : PlanLaws) (names : EndedNames) (actor : Actor) (status : ℕ) (descs : List NewDesc) → IsActor actor → DropsAll actor descs →
+    OnlyRemoves descs actor.parts.now.descs
+only_removes laws names actor status descs is drops =
+    let S : State = ended_alone actor status (plain actor.parts.now) in
+    let ds : List ℕ = open_in actor.proc.now.descriptors in
+    let has = left_descs laws names actor status descs (λ starter. []) is drops in
+    record { each = λ d. subst (λ (x : Option Description). (x ≡ S.descs d) ⊎ (x ≡ None)) (has d) (unnamed_each ds S S d) }
 
 -- the whole plan
 

@@ -1,5 +1,5 @@
 -- The state after a process has ended: what the changes of others make of it.
-use Rattle.std.proofs.Common.{◌≡◌, ◌≢◌, ℕ, zero, suc, Bool, true, false, List, [], ◌∷◌, ◌++◌, option_map, Option, Some, None, if◌then◌else◌, refl, ap, sym, ◌∙◌, inl, inr}
+use Rattle.std.proofs.Common.{◌≡◌, ◌≢◌, ◌⊎◌, ℕ, zero, suc, Bool, true, false, List, [], ◌∷◌, ◌++◌, option_map, Option, Some, None, if◌then◌else◌, refl, ap, sym, ◌∙◌, inl, inr}
 use Rattle.tx_change.specs.States.{changed_by}
 use Rattle.tx_change.specs.declared.change.Change.TheVariants.{Pipe}
 use Rattle.tx_change.specs.declared.pipes.PipePart.TheVariants.{Whole}
@@ -59,6 +59,28 @@ pub unnamed_state : (ds : List ℕ) (T X : State) (D : List (Option Opened)) →
     with_writes (description_removals ds T) X ≡ record X { descs = λ d. description_at D d }
 unnamed_state ds T X D has = unnamed_form ds T X ∙ (λ i. record X { descs = λ d. has d i })
 
+-- each description stays or goes
+pub unnamed_each : (ds : List ℕ) (T X : State) (d : ℕ) →
+    ((with_writes (description_removals ds T) X).descs d ≡ X.descs d) ⊎ ((with_writes (description_removals ds T) X).descs d ≡ None)
+unfolding description_removals with_writes
+unnamed_each [] T X d = inl refl
+unnamed_each (e ∷ ds) T X d = by (unnamed_each ds T X d) (unnamed_each ds T (write_one (SetDesc e None) X) d) (is_named e T)
+  where
+    goes : (x : Option Description) → (x ≡ put_at X.descs e None d) ⊎ (x ≡ None) → (x ≡ X.descs d) ⊎ (x ≡ None)
+    goes x (inr none) = inr none
+    goes x (inl same) = elim (put_cases X.descs e None d) [
+      | inl here ↦ inr (same ∙ here.1)
+      | inr there ↦ inl (same ∙ there.1)
+    ]
+
+    by : ((with_writes (description_removals ds T) X).descs d ≡ X.descs d) ⊎ ((with_writes (description_removals ds T) X).descs d ≡ None) →
+        ((with_writes (description_removals ds T) (write_one (SetDesc e None) X)).descs d ≡ put_at X.descs e None d)
+        ⊎ ((with_writes (description_removals ds T) (write_one (SetDesc e None) X)).descs d ≡ None) →
+        (b : Bool) → ((with_writes (if b then description_removals ds T else SetDesc e None ∷ description_removals ds T) X).descs d ≡ X.descs d)
+        ⊎ ((with_writes (if b then description_removals ds T else SetDesc e None ∷ description_removals ds T) X).descs d ≡ None)
+    by kept left true = kept
+    by kept left false = goes ((with_writes (description_removals ds T) (write_one (SetDesc e None) X)).descs d) left
+
 -- the children
 
 -- none of these numbers is p
@@ -112,7 +134,7 @@ unfolding pipes_of
 pipes_same [] S R same = refl
 pipes_same (d ∷ ds) S R same = ap (λ (ks : List ℕ). pipe_of (S.descs d) ++ ks) (pipes_same ds S R same) ∙ ap (λ (x : Option Description). pipe_of x ++ pipes_of ds R) (same d)
 
-sides_same : (test : Side → Bool) (k n : ℕ) (S R : State) → ((d : ℕ) → S.descs d ≡ R.descs d) → has_side_below test k n S ≡ has_side_below test k n R
+pub sides_same : (test : Side → Bool) (k n : ℕ) (S R : State) → ((d : ℕ) → S.descs d ≡ R.descs d) → has_side_below test k n S ≡ has_side_below test k n R
 unfolding some_below
 sides_same test k zero S R same = refl
 sides_same test k (suc d) S R same =

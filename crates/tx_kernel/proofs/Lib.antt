@@ -17,6 +17,7 @@ pub mod PostedWhole
 pub mod Told
 pub mod Childless
 pub mod Ends
+pub mod KeptPipes
 pub mod EndStates
 pub mod Ended
 pub mod EndSeen

@@ -4,7 +4,7 @@ use Rattle.tx_change.specs.Counts.{IsNameless}
 use Rattle.tx_change.specs.declared.change.Change.{Change}
 use Rattle.tx_change.specs.declared.change.Change.TheVariants.{Part as SetPart}
 use Rattle.tx_kernel.proofs.Owned.{AreOf-append, nameless-append, own_reply, revised-append}
-use Rattle.tx_kernel.specs.Actors.{caller_of, effect_by, inside_of, me_of}
+use Rattle.tx_kernel.specs.Actors.{effect_by, inside_of, me_of}
 use Rattle.tx_base.specs.declared.names.Pid.{Pid}
 use Rattle.tx_kernel.specs.Own.{ComesTo, IsPlainPart, PlansOwn, PlansPart, answer_after}
 use Rattle.tx_kernel.specs.Plans.{Extends, KeepsShown}

@@ -1,11 +1,13 @@
 -- The changes that the end of a process makes of others.
-use Rattle.std.specs.Prelude.{ℕ, List, [], ◌∷◌, Option, Some, None, if◌then◌else◌, slice_index_or}
+use Rattle.std.specs.Prelude.{◌≡◌, ◌⊎◌, ℕ, Bool, List, [], ◌∷◌, Option, Some, None, is_none, if◌then◌else◌, slice_index_or}
+use Rattle.std.specs.List.{list_any}
 use Rattle.tx_base.specs.declared.names.PipeNo.{PipeNo}
 use Rattle.tx_change.specs.States.{state_of}
 use Rattle.tx_change.specs.declared.change.Change.{Change}
 use Rattle.tx_change.specs.declared.change.Change.TheVariants.{Part, Pipe}
 use Rattle.tx_change.specs.declared.parts.Parts.{Parts}
 use Rattle.tx_change.specs.declared.pipes.PipePart.TheVariants.{Whole}
+use Rattle.tx_desc.specs.Descriptions.{description_at}
 use Rattle.tx_desc.specs.Plans.{put_descs}
 use Rattle.tx_desc.specs.declared.opened.Opened.{Opened}
 use Rattle.tx_desc.specs.declared.plans.NewDesc.{NewDesc}
@@ -20,6 +22,14 @@ plain parts = state_of (λ starter. []) parts
 -- that of the parts with planned descriptions in place
 abbrev pub plain_with : List NewDesc → Parts → State
 plain_with news parts = plain (record parts { descs = put_descs news parts.descs })
+
+-- whether one of these descriptions is to go
+abbrev pub takes_out : List NewDesc → Bool
+takes_out news = list_any (λ new. is_none new.opened) news
+
+-- once these are in place, each description is as it was, but for the count of its names, or is gone
+pub record OnlyRemoves (news : List NewDesc) (descs : List (Option Opened)) : Type 0 where
+  pub each : (d : ℕ) → (description_at (put_descs news descs) d ≡ description_at descs d) ⊎ (description_at (put_descs news descs) d ≡ None)
 
 -- the changes that give the processes parent 1
 abbrev pub orphan_changes : List ℕ → List Change

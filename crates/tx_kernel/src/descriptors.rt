@@ -252,7 +252,7 @@ impl Actor<'_> {
         let Some(desc) = gone else {
             return Ok(());
         };
-        if self.parts.descs.names_pipe_with(desc.pipe, news) {
+        if self.parts.descs.with(news).names_pipe(desc.pipe) {
             return Ok(());
         }
         log.push(Change::Pipe(desc.pipe, PipePart::Whole(None)))

@@ -2,8 +2,9 @@
 ghost use Rattle.std.specs.Prelude.{◌≡◌, ◌≢◌, ◌≤◌, ◌+◌, ◌++◌, length, slice_index_or, None, IfOk, IfErr, OnOk, OnErr};
 ghost use Rattle.tx_base.specs.declared.steps.Refusal.TheVariants as refusal;
 ghost use Rattle.tx_desc.specs.Plans.{AreNumbers};
-ghost use Rattle.tx_kernel.specs.Actors.{IsActor, inside_of, me_of, effect_by, names_by};
-ghost use Rattle.tx_kernel.specs.Endings.{child_at, gone_changes, gone_at, orphan_changes, pipe_through, plain, plain_with};
+ghost use Rattle.tx_kernel.specs.Actors.{IsActor, IsWhole, inside_of, me_of, effect_by, names_by};
+ghost use Rattle.tx_kernel.specs.Endings.{OnlyRemoves, child_at, gone_changes, gone_at, orphan_changes, pipe_through, plain, plain_with, takes_out};
+ghost use Rattle.tx_kernel.specs.Named.{described_by};
 ghost use Rattle.tx_kernel.specs.Plans.{Extends, Plans, held_after, sent_at_once};
 ghost use Rattle.tx_model.specs.Descriptors.{open_in, pipes_of};
 ghost use Rattle.tx_model.specs.Processes.{children_below, ending, ending_objects, parent_notice, notice_now, notice_held};
@@ -17,7 +18,7 @@ use crate::trees::push_descs;
 use std::alloc::Global;
 use tx_base::{DESCRIPTORS, NoMemory, Pid, PipeNo, Refusal, SIGCHLD, Sending};
 use tx_change::{Change, Log, PipePart};
-use tx_desc::{NewDesc, named_by_processes};
+use tx_desc::{Descs, NewDesc, named_by_processes};
 use tx_proc::{BoxedProc, Part};
 
 impl Actor<'_> {
@@ -86,26 +87,36 @@ impl Actor<'_> {
     /// Appends the changes that take out the pipes of the process's descriptors that no description
     /// names once these are in place.
     fn push_gone(&self, news: &[NewDesc], log: &mut Log) -> Result<(), NoMemory>
-        requires { AreNumbers news.now }
-        ensures ok { OnOk result (log.new ≡ log.old ++ gone_changes (pipes_of (open_in self.now.proc.now.descriptors) (plain self.now.parts.now)) (plain_with news.now self.now.parts.now)) }
+        requires whole { IsWhole self.now.parts.now }
+        requires numbers { AreNumbers news.now }
+        requires removes { OnlyRemoves news.now self.now.parts.now.descs }
+        ensures ok { OnOk result (log.new ≡ log.old ++ gone_changes
+            (pipes_of (open_in self.now.proc.now.descriptors) (plain self.now.parts.now))
+            (plain_with news.now self.now.parts.now)) }
         ensures err { OnErr result (Extends log.old log.new) }
     {
+        if !takes_out(news) {
+            return Ok(());
+        }
         self.proc.descriptors.sized();
+        let after = self.parts.descs.with(news);
         for fd in 0..DESCRIPTORS {
-            self.push_gone_at(fd, news, log)?;
+            self.push_gone_at(fd, &after, log)?;
         }
         Ok(())
     }
 
-    /// Appends the change that takes out the pipe of a descriptor, if it has one, where no
-    /// description names that once these are in place.
-    fn push_gone_at(&self, fd: usize, news: &[NewDesc], log: &mut Log) -> Result<(), NoMemory>
-        requires { AreNumbers news.now }
-        ensures ok { OnOk result (log.new ≡ log.old ++ gone_at (pipe_through self.now.parts.now.descs (slice_index_or self.now.proc.now.descriptors fd None)) (plain_with news.now self.now.parts.now)) }
+    /// Appends the change that takes out the pipe of a descriptor, if it has one, where none of these
+    /// descriptions names that.
+    fn push_gone_at(&self, fd: usize, after: &Descs, log: &mut Log) -> Result<(), NoMemory>
+        ensures ok { OnOk result (log.new ≡ log.old ++ gone_at
+            (pipe_through self.now.parts.now.descs
+            (slice_index_or self.now.proc.now.descriptors fd None))
+            (described_by self.now.parts.now after.now)) }
         ensures err { OnErr result (log.new ≡ log.old) }
     {
         match self.pipe_of(fd) {
-            Some(pipe) if !self.parts.descs.names_pipe_with(pipe, news) => {
+            Some(pipe) if !after.names_pipe(pipe) => {
                 log.push(Change::Pipe(pipe, PipePart::Whole(None)))
             }
             _ => Ok(()),
@@ -147,4 +158,11 @@ impl Actor<'_> {
             Sends::AtCommit(told)
         }
     }
+}
+
+/// Whether one of these descriptions is to go.
+fn takes_out(news: &[NewDesc]) -> bool
+    ensures { result ≡ takes_out news.now }
+{
+    news.iter().any(|new| new.opened.is_none())
 }

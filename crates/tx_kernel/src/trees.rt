@@ -83,7 +83,8 @@ impl Actor<'_> {
         laws();
         self.parts.descs.sized();
         let descs = self.parts.descs.plan_raise_all(&self.proc.descriptors);
-        let boxed = BoxedProc::new(alloc, self.proc.child(self.pid)?)?;
+        let space = self.proc.space.copy()?;
+        let boxed = BoxedProc::new(alloc, self.proc.child(self.pid, space))?;
         log.reserve(descs.len() + 2)?;
         push_descs(descs.as_slice(), log)?;
         log.push(Change::Slot(child, Some(boxed)))?;

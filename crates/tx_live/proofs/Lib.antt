@@ -13,3 +13,4 @@ pub mod Committed
 pub mod TakenBack
 pub mod PostsTaken
 pub mod Undelivered
+pub mod LiveCounts

@@ -8,3 +8,4 @@ pub mod Begins
 pub mod Laws
 pub mod HeldPosts
 pub mod Commits
+pub mod Tables

@@ -19,20 +19,20 @@ use tx_txn::Txn;
 
 impl Content {
     /// Aborts the live transaction of a starter, which stands at the point after its sys_xbegin then, with
-    /// this answer. Answers what takes the abort back. It takes no memory, and costs what the transaction
-    /// changed.
-    pub fn abort(&mut self, starter: Pid, ret: i64) -> Inverse
+    /// this answer. Puts what takes the abort back into its place. It takes no memory, and costs what the
+    /// transaction changed.
+    pub fn abort(&mut self, starter: Pid, ret: i64, inverse: &mut Inverse)
         requires shaped { IsShaped self.old }
         requires kept { IsKept (content_of self.old) }
         requires live { IsSome (slot_at self.old.txns starter.0) }
-        ensures { (status process : ℕ) → IsMade self.old (Aborts starter.0 status) (Note starter.0 ret) process self.new result }
+        ensures { (status process : ℕ) → IsMade self.old (Aborts starter.0 status) (Note starter.0 ret) process self.new inverse.new }
     {
         laws();
         let mut boxed = self.txns.take(starter).unwrap();
         let stood = take_back(&mut boxed.txn, &mut self.parts, ret);
         boxed.txn.end(&mut self.marks, &mut self.owners);
         self.owners.sized();
-        Inverse::Aborted { boxed, stood }
+        self.put_inverse(inverse, Inverse::Aborted { boxed, stood });
     }
 }
 

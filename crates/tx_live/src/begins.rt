@@ -1,5 +1,5 @@
 //! The first step of a transaction.
-ghost use Rattle.std.specs.Prelude.{◌≡◌, false, pos, IfOk, OnErr};
+ghost use Rattle.std.specs.Prelude.{◌≡◌, false, pos, IfOk, OnErr, OnOk};
 ghost use Rattle.tx_base.specs.Slots.{slot_at};
 ghost use Rattle.tx_change.specs.Exchange.{AreNamed};
 ghost use Rattle.tx_kernel.specs.Actors.{IsWhole};
@@ -27,17 +27,23 @@ use tx_txn::Txn;
 
 impl Content {
     /// Begins a transaction of a process that runs, is in none and is nobody's: it is answered 0, and is
-    /// the only member. Answers what takes it back.
+    /// the only member. Puts what takes it back into its place.
     ///
     /// NoMemory where a growth is refused; the content is then as it was.
-    pub fn begin(&mut self, alloc: Global, pid: Pid, defers: bool) -> Result<Inverse, NoMemory>
+    pub fn begin(
+        &mut self,
+        alloc: Global,
+        pid: Pid,
+        defers: bool,
+        inverse: &mut Inverse,
+    ) -> Result<(), NoMemory>
         requires shaped { IsShaped self.old }
         requires kept { IsKept (content_of self.old) }
         requires whole { IsWhole self.old.parts }
         requires running { IsRunning (slot_at self.old.parts.procs pid.0) }
         requires alone { IsAlone self.old pid.0 }
-        ensures made { IfOk result (λ inverse. IsMade self.old (Within pid.0 (Begins defers)) (Note pid.0 (pos 0)) pid.0 self.new inverse) }
-        ensures answer { IfOk result (λ inverse. Answers self.old (Note pid.0 (pos 0)) pid self.new (Done (pos 0))) }
+        ensures made { OnOk result (IsMade self.old (Within pid.0 (Begins defers)) (Note pid.0 (pos 0)) pid.0 self.new inverse.new) }
+        ensures answer { OnOk result (Answers self.old (Note pid.0 (pos 0)) pid self.new (Done (pos 0))) }
         ensures err { OnErr result (self.new ≡ self.old) }
     {
         laws();
@@ -50,7 +56,8 @@ impl Content {
         };
         self.marks.put(pid, mark);
         self.txns.put(pid, boxed);
-        Ok(Inverse::Begun { starter: pid })
+        self.put_inverse(inverse, Inverse::Begun { starter: pid });
+        Ok(())
     }
 }
 

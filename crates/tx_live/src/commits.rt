@@ -1,5 +1,5 @@
 //! The step that commits a transaction.
-ghost use Rattle.std.specs.Prelude.{◌≡◌, IfOk, OnErr, IsSome, Some};
+ghost use Rattle.std.specs.Prelude.{◌≡◌, IfOk, OnErr, OnOk, IsSome, Some};
 ghost use Rattle.tx_base.specs.Slots.{slot_at};
 ghost use Rattle.tx_base.specs.declared.steps.Reply.TheVariants.{Committed};
 ghost use Rattle.tx_kernel.specs.Actors.{IsWhole};
@@ -28,9 +28,9 @@ use tx_txn::Txn;
 
 impl Content {
     /// Makes what the last member whose part is open is asked to do, which ends that part, and commits the
-    /// starter's transaction: what it held is posted, in order, and what it owned is nobody's. Answers what
-    /// takes the step back; its outbox says how each post was answered. Where the step's own signals are
-    /// delivered, the reply lists those of the outbox that could not be.
+    /// starter's transaction: what it held is posted, in order, and what it owned is nobody's. Puts what
+    /// takes the step back into its place; its outbox says how each post was answered. Where the step's
+    /// own signals are delivered, the reply lists those of the outbox that could not be.
     ///
     /// NoMemory where the plan refuses, or the place of what the step hands out; the content is then as it
     /// was.
@@ -40,7 +40,8 @@ impl Content {
         pid: Pid,
         starter: Pid,
         act: &Act,
-    ) -> Result<Inverse, NoMemory>
+        inverse: &mut Inverse,
+    ) -> Result<(), NoMemory>
         requires shaped { IsShaped self.old }
         requires kept { IsKept (content_of self.old) }
         requires whole { IsWhole self.old.parts }
@@ -49,10 +50,10 @@ impl Content {
         requires unowned { IsUnowned self.old (Some starter.0) (event_of (inside_in self.old starter) pid act.now) }
         requires end { IsEnd (event_of (inside_in self.old starter) pid act.now) (now_of self.old) }
         requires signals { HaveSignals ((made (event_of (inside_in self.old starter) pid act.now) (now_of self.old) (now_of self.old)).held starter.0) }
-        ensures made { IfOk result (λ inverse. Fits (Commits starter.0) (event_of (inside_in self.old starter) pid act.now) pid.0 (view_of self.old) →
-            IsMade self.old (Commits starter.0) (Commit starter.0 (event_of (inside_in self.old starter) pid act.now)) pid.0 self.new inverse) }
-        ensures answer { IfOk result (λ inverse. AreAnswered (event_of (inside_in self.old starter) pid act.now) (now_of self.old) →
-            reply_of (Commit starter.0 (event_of (inside_in self.old starter) pid act.now)) (now_of self.old) ≡ Committed (record { items = missed_of inverse })) }
+        ensures made { OnOk result (Fits (Commits starter.0) (event_of (inside_in self.old starter) pid act.now) pid.0 (view_of self.old) →
+            IsMade self.old (Commits starter.0) (Commit starter.0 (event_of (inside_in self.old starter) pid act.now)) pid.0 self.new inverse.new) }
+        ensures answer { OnOk result (AreAnswered (event_of (inside_in self.old starter) pid act.now) (now_of self.old) →
+            reply_of (Commit starter.0 (event_of (inside_in self.old starter) pid act.now)) (now_of self.old) ≡ Committed (record { items = missed_of inverse.new })) }
         ensures err { OnErr result (self.new ≡ self.old) }
     {
         laws();
@@ -73,7 +74,8 @@ impl Content {
         boxed.txn.end(&mut self.marks, &mut self.owners);
         self.owners.sized();
         let held = hands_out(&planned.sends);
-        Ok(Inverse::Committed { boxed, count, held })
+        self.put_inverse(inverse, Inverse::Committed { boxed, count, held });
+        Ok(())
     }
 }
 

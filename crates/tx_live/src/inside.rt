@@ -27,7 +27,7 @@ use tx_txn::{Outbox, Txn};
 impl Content {
     /// Makes what a member that runs is asked to do, in the starter's transaction, which is live after
     /// it. The footprint is that of the step, and no other transaction owns anything of it. Answers its
-    /// outcome and what takes it back.
+    /// outcome, and puts what takes it back into its place.
     ///
     /// NoMemory where its plan refuses, or the place of what it hands out; the content is then as it was.
     pub fn make_inside(
@@ -38,7 +38,8 @@ impl Content {
         act: &Act,
         progress: Progress,
         footprint: &Objects,
-    ) -> Result<(Outcome, Inverse), NoMemory>
+        inverse: &mut Inverse,
+    ) -> Result<Outcome, NoMemory>
         requires shaped { IsShaped self.old }
         requires kept { IsKept (content_of self.old) }
         requires whole { IsWhole self.old.parts }
@@ -47,9 +48,9 @@ impl Content {
         requires child { HasChild (length self.old.marks) progress }
         requires footprint { IsFootprint self.old (event_of (inside_in self.old starter) pid act.now) footprint.now }
         requires free { IsFree self.old starter.0 footprint.now }
-        ensures made { IfOk result (λ made. Fits (Within starter.0 (part_of progress)) (event_of (inside_in self.old starter) pid act.now) pid.0 (view_of self.old) →
-            IsMade self.old (Within starter.0 (part_of progress)) (event_of (inside_in self.old starter) pid act.now) pid.0 self.new made.1) }
-        ensures answer { IfOk result (λ made. Answers self.old (event_of (inside_in self.old starter) pid act.now) pid self.new made.0) }
+        ensures made { OnOk result (Fits (Within starter.0 (part_of progress)) (event_of (inside_in self.old starter) pid act.now) pid.0 (view_of self.old) →
+            IsMade self.old (Within starter.0 (part_of progress)) (event_of (inside_in self.old starter) pid act.now) pid.0 self.new inverse.new) }
+        ensures answer { IfOk result (λ outcome. Answers self.old (event_of (inside_in self.old starter) pid act.now) pid self.new outcome) }
         ensures err { OnErr result (self.new ≡ self.old) }
     {
         laws();
@@ -77,14 +78,15 @@ impl Content {
         };
         let marked = mark_progress(&mut self.marks, starter, pid, progress);
         let held = hands_out(&planned.sends);
-        let inverse = Inverse::Inside {
+        let made = Inverse::Inside {
             starter,
             count,
             before,
             marked,
             held,
         };
-        Ok((planned.outcome, inverse))
+        self.put_inverse(inverse, made);
+        Ok(planned.outcome)
     }
 }
 

@@ -1,7 +1,10 @@
 //! What takes an accepted step back.
-use crate::content::BoxedTxn;
+ghost use Rattle.std.specs.Prelude.{◌≡◌};
+
+use crate::content::{BoxedTxn, Content};
 use crate::kept_posts::KeptPost;
 use crate::marking::Marked;
+use std::mem;
 use tx_base::Pid;
 use tx_change::Log;
 use tx_proc::Answer;
@@ -41,4 +44,29 @@ pub enum Inverse {
         boxed: BoxedTxn,
         stood: Answer,
     },
+}
+
+impl Inverse {
+    /// What takes no step back: for a place into which steps put their inverses.
+    pub fn blank() -> Inverse
+        ensures { result ≡ Inverse.Begun (record { 0 = 0 }) }
+    {
+        Inverse::Begun { starter: Pid(0) }
+    }
+}
+
+impl Content {
+    /// Puts an inverse into a place. What stood there is let go, but for room of it that the next steps
+    /// can use, if it is not large. The content stays as it is.
+    pub(crate) fn put_inverse(&mut self, place: &mut Inverse, inverse: Inverse)
+        ensures content { self.new ≡ self.old }
+        ensures place { place.new ≡ inverse }
+    {
+        match mem::replace(place, inverse) {
+            Inverse::Outside { log, .. } => self.txns.keep_log(log),
+            Inverse::Committed { boxed, .. } => self.txns.keep(boxed),
+            Inverse::Aborted { boxed, .. } => self.txns.keep(boxed),
+            _ => {}
+        }
+    }
 }

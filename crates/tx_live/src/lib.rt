@@ -29,11 +29,12 @@
 //!   the members and the owners out. The inverse is the box, with the point and the answer at which
 //!   the starter stood.
 //!
-//! The boxes stand in a `TxnTable`, which keeps room beside them: a caller that will not undo a
-//! step gives its inverse to `let_go`, and the table keeps the box of one transaction that ended,
-//! and the log of one step outside, for the next `begin` and the next `make_outside`, which then
-//! take no memory. There is one of each at most, and none with a log of more than 2,048 old parts.
-//! Contracts see the boxes alone.
+//! The inverse is put where the caller has a place for it, since it is large. What stood in the place
+//! is let go, but for its room: a step outside uses the log of the one before it in the same place; and
+//! the boxes stand in a `TxnTable`, which keeps beside them the box of one transaction that ended and
+//! the log of one step outside, for the next `begin` and the next `make_outside`, which then take no
+//! memory. There is one of each at most, and none with a log of more than 2,048 old parts. The table
+//! also counts what is live. Contracts see the boxes alone.
 //!
 //! A description has a count of its names, which the definitions do not have, so an abort must
 //! leave counts that are right although others opened and closed descriptors since the transaction

@@ -1,5 +1,5 @@
 //! Steps outside of transactions.
-ghost use Rattle.std.specs.Prelude.{◌≡◌, None, IfOk, OnErr};
+ghost use Rattle.std.specs.Prelude.{◌≡◌, [], None, IfOk, OnErr, OnOk};
 ghost use Rattle.tx_base.specs.Slots.{slot_at};
 ghost use Rattle.tx_kernel.specs.Actors.{IsWhole};
 ghost use Rattle.tx_kernel.specs.Acts.{event_of};
@@ -10,16 +10,18 @@ ghost use Rattle.tx_txn.specs.Content.{IsKept};
 
 use crate::content::Content;
 use crate::inverse::Inverse;
-use crate::kept_posts::post_sends;
+use crate::kept_posts::{KeptPost, post_sends};
 use crate::laws::laws;
 use crate::planning::plan;
 use std::alloc::Global;
 use tx_base::{NoMemory, Pid};
+use tx_change::Log;
 use tx_kernel::{Act, Outcome};
 
 impl Content {
-    /// Makes what a process that runs is asked to do, and that is in no transaction. Answers its outcome
-    /// and what takes it back.
+    /// Makes what a process that runs is asked to do, and that is in no transaction. Answers its outcome,
+    /// and puts what takes it back into its place: where the inverse of another step outside stands
+    /// there, the room of its log is used again.
     ///
     /// NoMemory where its plan refuses; the content is then as it was.
     pub fn make_outside(
@@ -27,21 +29,56 @@ impl Content {
         alloc: Global,
         pid: Pid,
         act: &Act,
-    ) -> Result<(Outcome, Inverse), NoMemory>
+        inverse: &mut Inverse,
+    ) -> Result<Outcome, NoMemory>
         requires shaped { IsShaped self.old }
         requires whole { IsWhole self.old.parts }
         requires running { IsRunning (slot_at self.old.parts.procs pid.0) }
         requires kept { IsKept (content_of self.old) }
         requires unowned { IsUnowned self.old None (event_of None pid act.now) }
-        ensures made { IfOk result (λ made. IsMade self.old Outside (event_of None pid act.now) pid.0 self.new made.1) }
-        ensures answer { IfOk result (λ made. Answers self.old (event_of None pid act.now) pid self.new made.0) }
+        ensures made { OnOk result (IsMade self.old Outside (event_of None pid act.now) pid.0 self.new inverse.new) }
+        ensures answer { IfOk result (λ outcome. Answers self.old (event_of None pid act.now) pid self.new outcome) }
+        ensures err { OnErr result (self.new ≡ self.old) }
+    {
+        if let Inverse::Outside { log, post } = inverse {
+            log.truncate(0);
+            return self.make_logged(alloc, pid, act, log, post);
+        }
+        let mut log = self.txns.fresh_log(alloc)?;
+        let mut post = None;
+        let made = self.make_logged(alloc, pid, act, &mut log, &mut post);
+        if made.is_err() {
+            self.txns.keep_log(log);
+            return made;
+        }
+        self.put_inverse(inverse, Inverse::Outside { log, post });
+        made
+    }
+
+    /// Makes what a process that runs is asked to do, and that is in no transaction, with an empty log.
+    /// Puts what takes it back into the log, and where its post to what is kept of a starter stands.
+    fn make_logged(
+        &mut self,
+        alloc: Global,
+        pid: Pid,
+        act: &Act,
+        log: &mut Log,
+        post: &mut Option<KeptPost>,
+    ) -> Result<Outcome, NoMemory>
+        requires shaped { IsShaped self.old }
+        requires whole { IsWhole self.old.parts }
+        requires running { IsRunning (slot_at self.old.parts.procs pid.0) }
+        requires kept { IsKept (content_of self.old) }
+        requires unowned { IsUnowned self.old None (event_of None pid act.now) }
+        requires empty { log.old ≡ [] }
+        ensures made { OnOk result (IsMade self.old Outside (event_of None pid act.now) pid.0 self.new (Inverse.Outside log.new post.new)) }
+        ensures answer { IfOk result (λ outcome. Answers self.old (event_of None pid act.now) pid self.new outcome) }
         ensures err { OnErr result (self.new ≡ self.old) }
     {
         laws();
-        let mut log = self.txns.fresh_log(alloc)?;
-        let planned = plan(alloc, &self.parts, pid, None, act, &mut log)?;
+        let planned = plan(alloc, &self.parts, pid, None, act, log)?;
         log.lead_forward(&mut self.parts);
-        let post = post_sends(&mut self.txns, &planned.sends);
-        Ok((planned.outcome, Inverse::Outside { log, post }))
+        *post = post_sends(&mut self.txns, &planned.sends);
+        Ok(planned.outcome)
     }
 }

@@ -1,6 +1,6 @@
 //! The live transactions by number, and the room that steps left.
 ghost use Rattle.std.specs.Option.{option_copied};
-ghost use Rattle.std.specs.Prelude.{◌≡◌, ◌≤◌, ℕ, false, [], None, Some, IfOk, length, replicate};
+ghost use Rattle.std.specs.Prelude.{◌≡◌, ◌≤◌, ◌↔◌, ℕ, false, [], None, Some, IfOk, IsTrue, length, replicate};
 ghost use Rattle.tx_base.specs.Slots.{slot_at, with_slot};
 ghost use Rattle.tx_live.specs.Begins.{StartsOf};
 
@@ -22,17 +22,22 @@ const KEPT_PARTS: usize = 2_048;
 #[derive(Drop)]
 pub struct TxnTable {
     slots: Slots<BoxedTxn>,
+    /// How many are live.
+    live: usize,
     spare: Option<BoxedTxn>,
     spare_log: Option<Log>,
 }
 
 impl Model for TxnTable {
     ghost use Rattle.std.specs.Prelude.{List, Option};
+    ghost use Rattle.tx_live.specs.Tables.{IsCounted};
     ghost use Rattle.tx_live.specs.declared.content.BoxedTxn.{BoxedTxn as TheBoxedTxn};
 
     ghost Value = { List (Option TheBoxedTxn) };
 
     ghost view = { λ table. table.slots };
+
+    ghost invariant = { λ table. IsCounted table.slots table.live };
 }
 
 impl TxnTable {
@@ -43,9 +48,17 @@ impl TxnTable {
         let slots = Slots::new(alloc, width)?;
         Ok(TxnTable {
             slots,
+            live: 0,
             spare: None,
             spare_log: None,
         })
+    }
+
+    /// Whether no transaction is live.
+    pub fn is_idle(&self) -> bool
+        ensures { IsTrue result ↔ ((s : ℕ) → slot_at self.now s ≡ None) }
+    {
+        self.live == 0
     }
 
     /// The transaction of a starter; nothing where it has none.
@@ -62,7 +75,11 @@ impl TxnTable {
         ensures emptied { self.new ≡ with_slot self.old starter.0 None }
         ensures taken { result ≡ slot_at self.old starter.0 }
     {
-        self.slots.take(starter)
+        let taken = self.slots.take(starter);
+        if taken.is_some() {
+            self.live -= 1;
+        }
+        taken
     }
 
     /// Puts in the transaction of a starter, whose number must be one that there is.
@@ -71,6 +88,9 @@ impl TxnTable {
         requires high { starter.0 ≤ length self.old }
         ensures { self.new ≡ with_slot self.old starter.0 (Some boxed) }
     {
+        if self.slots.get(starter).is_none() {
+            self.live += 1;
+        }
         self.slots.put(starter, boxed);
     }
 

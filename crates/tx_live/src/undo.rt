@@ -44,20 +44,6 @@ impl Content {
         }
     }
 
-    /// Lets go of what takes a step back, which never will: the content stays as it is. The room of a
-    /// transaction that ended, or of the log of a step outside, is kept for the next one if it is not
-    /// large.
-    pub fn let_go(&mut self, inverse: Inverse)
-        ensures { self.new ≡ self.old }
-    {
-        match inverse {
-            Inverse::Outside { log, .. } => self.txns.keep_log(log),
-            Inverse::Committed { boxed, .. } => self.txns.keep(boxed),
-            Inverse::Aborted { boxed, .. } => self.txns.keep(boxed),
-            _ => {}
-        }
-    }
-
     /// Takes a step outside of transactions back.
     fn undo_outside(&mut self, log: Log, post: Option<KeptPost>)
         requires { GoesWith self.old (Outside log post) }

@@ -98,8 +98,7 @@ fn overlay(mut bytes: [u8; PAGE_BYTES], offset: usize, patch: &[u8]) -> [u8; PAG
     requires { offset + length patch.now ≤ 64 }
     ensures { result ≡ overlaid bytes offset patch.now }
 {
-    for (i, byte) in patch.iter().enumerate() {
-        bytes[offset + i] = *byte;
-    }
+    let end = offset + patch.len();
+    bytes[offset..end].copy_from_slice(patch);
     bytes
 }

@@ -1,11 +1,10 @@
 //! The pages of a process, by their numbers.
 ghost use Rattle.std.specs.Bool.{OnTrue};
 ghost use Rattle.std.specs.Option.{option_copied};
-ghost use Rattle.std.specs.Prelude.{◌≡◌, ◌≢◌, ◌<◌, ◌≤◌, ◌+◌, ◌/◌, IfOk, IfErr, OnErr, length, slice_set};
+ghost use Rattle.std.specs.Prelude.{◌≡◌, ◌≢◌, ◌<◌, ◌≤◌, ◌+◌, ◌/◌, ◌%◌, IfOk, IfErr, OnErr, length, slice_set};
 ghost use Rattle.tx_model.specs.Book.{map, unmap, protect, store};
 ghost use Rattle.tx_model.specs.Forms.{Caller};
-ghost use Rattle.tx_model.specs.Memory.{no_memory, page_at, all_good, loaded_byte, bytes_from, put_bytes, is_good};
-ghost use Rattle.tx_model.specs.Words.{byte_or_zero};
+ghost use Rattle.tx_model.specs.Memory.{no_memory, page_at, all_good, bytes_from, put_bytes, is_good};
 ghost use Rattle.tx_pages.specs.Access.{test_of};
 ghost use Rattle.tx_pages.specs.Frames.{written};
 ghost use Rattle.tx_pages.specs.Outcomes.{Remembers, Loads, Takes, with_new, with_all_new, with_pages, AreNumbered};
@@ -367,40 +366,49 @@ impl Space {
         }
     }
 
-    /// Whether a range of bytes is good for the purpose.
-    #[tactic(auto, using(crate::proofs::Ranges::all_good_more))]
+    /// Whether a range of bytes is good for the purpose: one test for each page.
     fn is_good_at(&self, access: Access, start: usize, count: usize) -> bool
         requires { start < 1024 }
         ensures tested { result ≡ all_good (test_of access) self.now start count }
         ensures inside { OnTrue result (start + count ≤ 1024) }
     {
-        for i in 0..count {
-            if start + i >= ADDRESSES || !self.serves(access, start + i) {
+        let mut address = start;
+        let mut left = count;
+        while left > 0 {
+            if address >= ADDRESSES || !self.serves(access, address) {
                 return false;
             }
+            let some = left.min(PAGE_BYTES - address % PAGE_BYTES);
+            address += some;
+            left -= some;
         }
         true
     }
 
-    /// The byte at an address, 0 where its page is not mapped.
-    fn byte_at(&self, address: usize) -> u8
-        requires { address < 1024 }
-        ensures { result ≡ byte_or_zero (loaded_byte self.now (Some address)) }
-    {
-        match &self.pages[address / PAGE_BYTES] {
-            Some(page) => page.bytes()[address % PAGE_BYTES],
-            None => 0,
-        }
-    }
-
-    /// Copies the bytes from an address on.
-    #[tactic(auto, using(crate::proofs::Ranges::bytes_from_more))]
+    /// Copies the bytes from an address on, page by page.
     fn copy_out(&self, start: usize, out: &mut [u8])
         requires { start + length out.old ≤ 1024 }
         ensures { out.new ≡ bytes_from self.now start (length out.old) }
     {
-        for (i, byte) in out.iter_mut().enumerate() {
-            *byte = self.byte_at(start + i);
+        let mut done = 0;
+        while done < out.len() {
+            let address = start + done;
+            let some = (out.len() - done).min(PAGE_BYTES - address % PAGE_BYTES);
+            self.copy_part(address, &mut out[done..done + some]);
+            done += some;
+        }
+    }
+
+    /// Copies the bytes from an address on that lie on one page, 0 where it is not mapped.
+    fn copy_part(&self, address: usize, out: &mut [u8])
+        requires below { address < 1024 }
+        requires within { address % 64 + length out.old ≤ 64 }
+        ensures { out.new ≡ bytes_from self.now address (length out.old) }
+    {
+        let offset = address % PAGE_BYTES;
+        match self.page(address / PAGE_BYTES) {
+            Some(page) => out.copy_from_slice(&page.bytes()[offset..offset + out.len()]),
+            None => out.fill(0),
         }
     }
 }

@@ -129,10 +129,11 @@ impl Pipe {
             return;
         }
         let coming = other.len();
-        let mut front = Pipe::of(&self.bytes[..*count]);
-        drop_front(&mut self.bytes, *count);
-        put_front(&mut self.bytes, other.bytes());
-        other.swap(&mut front);
+        if coming == 0 {
+            self.give_front(*count, other);
+        } else {
+            self.trade_front(*count, other);
+        }
         *count = coming;
     }
 
@@ -148,12 +149,60 @@ impl Pipe {
             return;
         }
         let coming = other.len();
-        let front = self.len() - *count;
+        if *count == 0 {
+            self.take_all(other);
+        } else {
+            self.trade_back(*count, other);
+        }
+        *count = coming;
+    }
+
+    /// Gives the first so many bytes to a pipe that is empty: a read.
+    fn give_front(&mut self, count: usize, other: &mut Pipe)
+        requires held { count ≤ length self.old }
+        requires empty { other.old ≡ [] }
+        ensures left { self.new ≡ drop count self.old }
+        ensures given { other.new ≡ take count self.old }
+    {
+        let _fits = other.write(&self.bytes[..count]);
+        drop_front(&mut self.bytes, count);
+    }
+
+    /// Takes all bytes of the other pipe, which must fit, to the back: a write.
+    fn take_all(&mut self, other: &mut Pipe)
+        requires { length other.old + length self.old ≤ PIPE_BYTES }
+        ensures taken { self.new ≡ self.old ++ other.old }
+        ensures empty { other.new ≡ [] }
+    {
+        let _fits = self.write(other.bytes());
+        other.bytes.clear();
+    }
+
+    /// Exchanges the first so many bytes for those of the other pipe, which must fit.
+    fn trade_front(&mut self, count: usize, other: &mut Pipe)
+        requires held { count ≤ length self.old }
+        requires fits { length other.old + length (drop count self.old) ≤ PIPE_BYTES }
+        ensures exchanged { self.new ≡ other.old ++ drop count self.old }
+        ensures given { other.new ≡ take count self.old }
+    {
+        let mut front = Pipe::of(&self.bytes[..count]);
+        drop_front(&mut self.bytes, count);
+        put_front(&mut self.bytes, other.bytes());
+        other.swap(&mut front);
+    }
+
+    /// Exchanges the last so many bytes for those of the other pipe, which must fit.
+    fn trade_back(&mut self, count: usize, other: &mut Pipe)
+        requires held { count ≤ length self.old }
+        requires fits { length other.old + (length self.old - count) ≤ PIPE_BYTES }
+        ensures exchanged { self.new ≡ take (length self.old - count) self.old ++ other.old }
+        ensures given { other.new ≡ drop (length self.old - count) self.old }
+    {
+        let front = self.len() - count;
         let mut back = Pipe::of(&self.bytes[front..]);
         self.bytes.truncate(front);
         let _fits = self.bytes.try_extend_from_slice(other.bytes());
         other.swap(&mut back);
-        *count = coming;
     }
 
     /// Whether so many bytes are held, and the others fit in their place.

@@ -1,12 +1,12 @@
 //! What a process has, and one part of it: what that was or is to be.
-ghost use Rattle.std.specs.Prelude.{◌≡◌, IfOk};
-ghost use Rattle.tx_model.specs.State.{booted_process};
+ghost use Rattle.std.specs.Prelude.{◌≡◌};
+ghost use Rattle.tx_model.specs.State.{bare_process, booted_process};
 ghost use Rattle.tx_proc.specs.Parts.{edited_once, part_of, queue_swapped, queue_given, HasPlace};
 
 use crate::boxed::BoxedFrame;
 use bitflags::Flags;
 use std::mem;
-use tx_base::{DescNo, LAST_POINT, NoMemory, Pid, Regs, Signo};
+use tx_base::{DescNo, LAST_POINT, Pid, Regs, Signo};
 use tx_cred::Cred;
 use tx_desc::FdTable;
 use tx_pages::{Page, Space};
@@ -32,6 +32,7 @@ pub struct Proc {
 }
 
 impl Proc {
+    ghost use Rattle.tx_cred.specs.Cred.{ids_of};
     ghost use Rattle.tx_proc.specs.Parts.{process_of};
     ghost use Rattle.tx_model.specs.Processes.{child_of, ended_process};
 
@@ -40,35 +41,18 @@ impl Proc {
     pub fn booted(pid: Pid) -> Proc
         ensures { process_of result ≡ booted_process pid.0 }
     {
-        Proc {
-            regs: Regs {
-                point: 0,
-                ret: 0,
-                slots: [0; 8],
-            },
-            parent: Pid(if pid.0 == 1 { 0 } else { 1 }),
-            status: None,
-            cred: Cred::root(),
-            space: Space::new(),
-            descriptors: FdTable::new(),
-            mask: SigSet::empty(),
-            actions: Actions::new(),
-            pending: Pending::new(),
-            frames: Frames::new(),
-        }
+        let parent = Pid(if pid.0 == 1 { 0 } else { 1 });
+        Proc::bare(parent, None, Cred::root())
     }
 
-    /// The child that a fork of the process makes, whose parent it is by this number: a copy with
-    /// the answer 0 at the point after the call, to which no signal is pending. Its pages share
-    /// their frames with those of the parent (POSIX.1-2017, XSH, fork()).
-    ///
-    /// NoMemory where a frame can't be shared once more.
-    pub fn child(&self, parent: Pid) -> Result<Proc, NoMemory>
-        ensures { IfOk result (λ child. process_of child ≡ child_of parent.0 (process_of self.now)) }
+    /// The child that a fork of the process makes, whose parent it is by this number and whose memory
+    /// this is: a copy with the answer 0 at the point after the call, to which no signal is pending
+    /// (POSIX.1-2017, XSH, fork()).
+    pub fn child(&self, parent: Pid, space: Space) -> Proc
+        ensures { process_of result ≡ record (child_of parent.0 (process_of self.now)) { memory = space } }
     {
-        let space = self.space.copy()?;
         let answer = Answer::at(self.regs.point, 0);
-        Ok(Proc {
+        Proc {
             regs: Regs {
                 point: answer.point,
                 ret: answer.ret,
@@ -83,7 +67,7 @@ impl Proc {
             actions: self.actions.copy(),
             pending: Pending::new(),
             frames: self.frames.copy(),
-        })
+        }
     }
 
     /// What is left of the process once it has ended with this status: its parent, its ids and the
@@ -91,11 +75,28 @@ impl Proc {
     pub fn ended(&self, status: u16) -> Proc
         ensures { process_of result ≡ ended_process status (process_of self.now) }
     {
+        Proc::bare(self.parent, Some(status), self.cred)
+    }
+
+    /// A process at point 0 with this parent, status and ids, and nothing else.
+    fn bare(parent: Pid, status: Option<u16>, cred: Cred) -> Proc
+        ensures { process_of result ≡ bare_process parent.0 status (ids_of cred) }
+    {
         Proc {
-            parent: self.parent,
-            status: Some(status),
-            cred: self.cred,
-            ..Proc::booted(self.parent)
+            regs: Regs {
+                point: 0,
+                ret: 0,
+                slots: [0; 8],
+            },
+            parent,
+            status,
+            cred,
+            space: Space::new(),
+            descriptors: FdTable::new(),
+            mask: SigSet::empty(),
+            actions: Actions::new(),
+            pending: Pending::new(),
+            frames: Frames::new(),
         }
     }
 }

@@ -1,12 +1,16 @@
 -- What the footprint of a step is told by: the marks, and what the transaction holds where the step commits it.
-use Rattle.std.specs.Prelude.{◌≡◌, ℕ, true, false, List, Option, Some, None, if◌then◌else◌, length, map}
+use Rattle.std.specs.Prelude.{◌≡◌, ℕ, Bool, true, false, not, ◌==◌, List, Option, Some, None, if◌then◌else◌, length, map}
 use Rattle.tx_base.specs.Slots.{slot_at}
 use Rattle.tx_base.specs.declared.marks.Mark.{Mark}
 use Rattle.tx_base.specs.declared.names.Sending.{Sending}
+use Rattle.tx_base.specs.declared.names.Signo.{Signo}
+use Rattle.tx_base.specs.declared.steps.Call.{Call}
+use Rattle.tx_base.specs.declared.steps.Call.TheVariants as call
 use Rattle.tx_change.specs.declared.parts.Parts.{Parts}
-use Rattle.tx_kernel.specs.Actors.{inside_of}
+use Rattle.tx_kernel.specs.Actors.{inside_of, me_of}
 use Rattle.tx_kernel.specs.Plans.{sending_of}
 use Rattle.tx_kernel.specs.declared.actor.Actor.{Actor}
+use Rattle.tx_model.specs.Deliveries.{delivered_value, ends_by}
 use Rattle.tx_model.specs.Membership.{Table, inside_by, others_open}
 use Rattle.tx_model.specs.State.{Object, Sending as TheSending, has_object}
 use Rattle.tx_reserve.specs.Objects.{is_in, is_small}
@@ -24,6 +28,16 @@ table_at actor marks = table_of actor.parts.now marks
 abbrev pub IsInside : Actor → List (Option Mark) → Type 0
 IsInside actor marks = inside_of actor.inside ≡ inside_by (table_at actor marks) (slot_at marks actor.pid.0)
 
+-- whether the call of process p, which runs, ends its part of a transaction: an exit does, unless that is process 1, and a sys_xend
+abbrev pub ends_part : ℕ → Call → Bool
+ends_part p (call.Exit status) = not (p == 1)
+ends_part p call.SysXend = true
+ends_part p call = false
+
+-- whether a delivery of the signal now ends who makes the step
+abbrev pub ends_actor : Actor → Signo → Bool
+ends_actor actor signo = ends_by (inside_of actor.inside) signo.0 (me_of actor) (delivered_value signo.0 (me_of actor))
+
 -- held sends are given where the process is a member and no other member's part is open, and they are the transaction's
 abbrev pub GoesBy : Table → ℕ → Option Mark → Option (List Sending) → (ℕ → List TheSending) → Type 0
 GoesBy t p None None held = Unit {0}
@@ -33,6 +47,17 @@ GoesBy t p (Some mark) (Some sends) held = (others_open t mark.starter.0 p t.wid
 
 abbrev pub GoesWith : Actor → List (Option Mark) → Option (List Sending) → (ℕ → List TheSending) → Type 0
 GoesWith actor marks last held = GoesBy (table_at actor marks) actor.pid.0 (slot_at marks actor.pid.0) last held
+
+-- that is so if the step ends its process's part: another step commits nothing, and what is given then does not matter
+abbrev pub GoesIf : Bool → Actor → List (Option Mark) → Option (List Sending) → (ℕ → List TheSending) → Type 0
+GoesIf ends actor marks last held = ends ≡ true → GoesWith actor marks last held
+
+-- the same of a call, and of a delivery
+abbrev pub GoesWithCall : Actor → List (Option Mark) → Call → Option (List Sending) → (ℕ → List TheSending) → Type 0
+GoesWithCall actor marks call last held = GoesIf (ends_part actor.pid.0 call) actor marks last held
+
+abbrev pub GoesWithDelivery : Actor → List (Option Mark) → Signo → Option (List Sending) → (ℕ → List TheSending) → Type 0
+GoesWithDelivery actor marks signo last held = GoesIf (ends_actor actor signo) actor marks last held
 
 -- the set has these objects, those of numbers that there may not be left out
 pub record IsSetOf (objects : Objects) (these : List Object) : Type 0 where

@@ -1,6 +1,6 @@
 //! The footprint of a step: the objects that a member's step reserves, a row for each call.
 ghost use Rattle.std.specs.Option.{option_copied};
-ghost use Rattle.std.specs.Prelude.{◌≡◌, ◌≤◌, false, ◌∷◌, ◌++◌, [], ℕ, List, if◌then◌else◌, ◌==◌, map, length};
+ghost use Rattle.std.specs.Prelude.{◌≡◌, ◌≤◌, false, not, ◌∷◌, ◌++◌, [], ℕ, List, if◌then◌else◌, ◌==◌, map, length};
 ghost use Rattle.tx_base.specs.Slots.{slot_at};
 ghost use Rattle.tx_base.specs.declared.steps.Step.TheVariants.{Call as Calls, Deliver};
 ghost use Rattle.tx_change.specs.States.{state_of};
@@ -15,7 +15,7 @@ ghost use Rattle.tx_model.specs.Membership.{is_of};
 ghost use Rattle.tx_model.specs.Processes.{children_of, pid_of, procs_of};
 ghost use Rattle.tx_model.specs.Book.{sendable};
 ghost use Rattle.tx_model.specs.State.{Object as TheObject, Proc, Sending as TheSending, has_parent};
-ghost use Rattle.tx_reserve.specs.Footprints.{Adds, GoesWith, IsInside, IsSetOf, table_at};
+ghost use Rattle.tx_reserve.specs.Footprints.{Adds, GoesIf, GoesWith, GoesWithCall, GoesWithDelivery, IsInside, IsSetOf, table_at};
 ghost use Rattle.tx_reserve.specs.Objects.{is_in};
 
 use crate::objects::{Object, Objects};
@@ -26,8 +26,9 @@ use tx_kernel::{Actor, sendable};
 /// Puts the footprint of a call into an empty set: the objects that it reserves, if its process is a
 /// member.
 ///
-/// `last` is what its transaction holds, given exactly where the process is a member and no other
-/// member's part is open, so that a step which ends its part commits. It takes no memory.
+/// `last` is what its transaction holds. It matters only where the call ends the part of its process,
+/// and is given there exactly where that is a member and no other member's part is open, so that the
+/// call commits. With another call it may be anything. It takes no memory.
 pub fn footprint_of_call(
     actor: &Actor,
     marks: &Slots<Mark>,
@@ -38,15 +39,16 @@ pub fn footprint_of_call(
     requires actor { IsActor actor.now }
     requires inside { IsInside actor.now marks.now }
     requires empty { (o : TheObject) → is_in set.old o ≡ false }
-    ensures { (held : ℕ → List TheSending) → GoesWith actor.now marks.now (option_copied last.entry) held →
+    ensures { (held : ℕ → List TheSending) →
+        GoesWithCall actor.now marks.now call.now (option_copied last.entry) held →
         IsSetOf set.new (footprint (table_at actor.now marks.now) (Calls actor.now.pid call.now) (state_of held actor.now.parts.now)) }
 {
     set.insert(Object::Proc(actor.pid));
     add_call(actor, marks, last, call, set);
 }
 
-/// Puts the footprint of a delivery of the signal into an empty set; `last` as at a call. It takes no
-/// memory.
+/// Puts the footprint of a delivery of the signal into an empty set; `last` as at a call, where the
+/// delivery now ends its process. It takes no memory.
 pub fn footprint_of_delivery(
     actor: &Actor,
     marks: &Slots<Mark>,
@@ -57,7 +59,8 @@ pub fn footprint_of_delivery(
     requires actor { IsActor actor.now }
     requires inside { IsInside actor.now marks.now }
     requires empty { (o : TheObject) → is_in set.old o ≡ false }
-    ensures { (held : ℕ → List TheSending) → GoesWith actor.now marks.now (option_copied last.entry) held →
+    ensures { (held : ℕ → List TheSending) →
+        GoesWithDelivery actor.now marks.now signo (option_copied last.entry) held →
         IsSetOf set.new (footprint (table_at actor.now marks.now) (Deliver actor.now.pid signo) (state_of held actor.now.parts.now)) }
 {
     set.insert(Object::Proc(actor.pid));
@@ -74,7 +77,8 @@ fn add_call(
 )
     requires actor { IsActor actor.now }
     requires inside { IsInside actor.now marks.now }
-    ensures { (held : ℕ → List TheSending) → GoesWith actor.now marks.now (option_copied last.entry) held →
+    ensures { (held : ℕ → List TheSending) →
+        GoesWithCall actor.now marks.now call.now (option_copied last.entry) held →
         Adds set.old set.new (call_row (table_at actor.now marks.now) actor.now.pid.0 call.now (me_of actor.now) (state_of held actor.now.parts.now)) }
 {
     match call {
@@ -105,7 +109,8 @@ fn add_delivery(
 )
     requires actor { IsActor actor.now }
     requires inside { IsInside actor.now marks.now }
-    ensures { (held : ℕ → List TheSending) → GoesWith actor.now marks.now (option_copied last.entry) held →
+    ensures { (held : ℕ → List TheSending) →
+        GoesWithDelivery actor.now marks.now signo (option_copied last.entry) held →
         Adds set.old set.new (delivery_row (table_at actor.now marks.now) actor.now.pid.0 signo.0 (me_of actor.now) (state_of held actor.now.parts.now)) }
 {
     if actor.is_ended_by(signo) {
@@ -125,7 +130,8 @@ fn add_fork(actor: &Actor, child: Pid, set: &mut Objects)
 fn add_exit(actor: &Actor, marks: &Slots<Mark>, last: Option<&[Sending]>, set: &mut Objects)
     requires actor { IsActor actor.now }
     requires inside { IsInside actor.now marks.now }
-    ensures { (held : ℕ → List TheSending) → GoesWith actor.now marks.now (option_copied last.entry) held →
+    ensures { (held : ℕ → List TheSending) →
+        GoesIf (not (actor.now.pid.0 == 1)) actor.now marks.now (option_copied last.entry) held →
         Adds set.old set.new (if actor.now.pid.0 == 1 then [] else ending_row (table_at actor.now marks.now) actor.now.pid.0 (me_of actor.now) (state_of held actor.now.parts.now)) }
 {
     if actor.pid.0 == 1 {

@@ -19,8 +19,10 @@
 //! `footprint_of_call` and `footprint_of_delivery` are the rows of the footprint, as the
 //! definitions have them, of an `Actor` of tx_kernel with the marks. They put it into an empty set
 //! of the caller's, so that it is made where it is used. What a committing step posts is known from
-//! what its transaction holds, which the caller gives exactly where a step that ends the process's
-//! part commits (`GoesWith`). Calls that name nothing but their process cost one bit.
+//! what its transaction holds, which the caller gives. Only a step that ends its process's part may
+//! commit, so only there does it matter what is given: the held sends exactly where no other member's
+//! part is open (`GoesWithCall`, `GoesWithDelivery`). A caller need not look at the other members for
+//! any other step. Calls that name nothing but their process cost one bit.
 
 mod footprints;
 mod laws;

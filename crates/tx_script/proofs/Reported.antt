@@ -1,6 +1,5 @@
 -- What some steps of a schedule leave: the lines of their answers, and a machine that has the view of their history.
-use Rattle.std.proofs.Common.{◌≡◌, ℕ, ◌+◌, List, [], ◌∷◌, ◌++◌, Option, Some, None, IsSome, ◌⊎◌, inl, inr, refl, sym, ap, ◌∙◌, subst, append_assoc}
-use Rattle.std.specs.Prelude.{IsNone}
+use Rattle.std.proofs.Common.{◌≡◌, ℕ, ◌+◌, List, [], ◌∷◌, ◌++◌, Bool, true, false, ◌⊎◌, inl, inr, refl, sym, ap, ◌∙◌, subst, append_assoc}
 use Rattle.std.proofs.lemmas.List.{append-nil}
 use Rattle.tx_base.specs.declared.steps.Accepted.{Accepted}
 use Rattle.tx_base.specs.declared.steps.Refusal.TheVariants.{NoMemory}
@@ -59,12 +58,12 @@ pub replied_answer : (V : View) (step : Step) (reply : Reply) → (reply ≡ No 
 replied_answer V step reply (inl wants) other = absurd (other wants)
 replied_answer V step reply (inr same) other = sym same
 
-unless_accepted : {A : Type 0} (reply : Reply) (made : Option A) → (IsSome made → IsAccepted reply) → (IsAccepted reply → ⊥) → IsNone made
-unless_accepted reply None yields refused = refl
-unless_accepted reply (Some inverse) yields refused = absurd (refused (yields refl))
+unless_accepted : (reply : Reply) (made : Bool) → (made ≡ true → IsAccepted reply) → (IsAccepted reply → ⊥) → made ≡ false
+unless_accepted reply false yields refused = refl
+unless_accepted reply true yields refused = absurd (refused (yields refl))
 
 -- the machine after a step: where it was accepted its entry is the last, and where it was refused nothing has changed
-pub after_reply : {A : Type 0} (start : State) (earlier : List Accepted) (step : Step) (reply : Reply) (made : Option A) (old new : Content) → IsAfter start earlier old → (IsSome made → IsAccepted reply) → (IsNone made → new ≡ old)
+pub after_reply : (start : State) (earlier : List Accepted) (step : Step) (reply : Reply) (made : Bool) (old new : Content) → IsAfter start earlier old → (made ≡ true → IsAccepted reply) → (made ≡ false → new ≡ old)
     → (IsAccepted reply → Lawful start (record { step = step; reply = reply } ∷ earlier) × (view_of new ≡ view start (record { step = step; reply = reply } ∷ earlier))) → IsAfter start (history_with earlier step reply) new
 after_reply start earlier step (No why) made old new so yields same along = subst (IsAfter start earlier) (sym (same (unless_accepted (No why) made yields (λ accepted. accepted)))) so
 after_reply start earlier step (Done ret) made old new so yields same along = record { lawful = (along tt).0; view = (along tt).1 }

@@ -8,8 +8,8 @@
 //! command says, and prints its answer. What a text of a kind spells, where it is at fault and what
 //! answers it is a `Grammar` of specs: `schedules` and `walks` are two, and one definition
 //! (`Answers`) says of both what is read and written. `replay` changes a kernel through `boot`,
-//! `boot_wide` and `step_into` alone, and lets go of each inverse (`let_go`); `debug` through the
-//! calls of a session.
+//! `boot_wide` and `step_into` alone, and takes no step back: each inverse is put in the place of the
+//! one before. `debug` does so through the calls of a session.
 #![tactic(auto)]
 
 mod debugs;

@@ -59,40 +59,32 @@ fn put_replies(
     ensures fault { IfErr result (λ fault. fault ≡ NoMemory) }
 {
     let mut reply = Reply::Ended;
+    let mut inverse = Inverse::blank();
     for i in 0..steps.len() {
-        make_step(alloc, machine, &steps[i], &mut reply)?;
+        make_step(alloc, machine, &steps[i], &mut reply, &mut inverse)?;
         put_reply_line(text, i as u64 + 1, &reply)?;
     }
     Ok(())
 }
 
-/// Makes a step, which is never taken back. Puts its reply where it is to stand.
+/// Makes a step, which is never taken back. Puts its reply and its inverse where they are to stand.
 fn make_step(
     alloc: Global,
     machine: &mut Machine,
     step: &Step,
     reply: &mut Reply,
+    inverse: &mut Inverse,
 ) -> Result<(), Fault>
     ensures answer { OnOk result (reply.new ≡ answer (view_of machine.old) step.now) }
     ensures after { OnOk result ((start : State) (earlier : List Accepted) → IsAfter start earlier machine.old →
         IsAfter start (history_with earlier step.now reply.new) machine.new) }
     ensures fault { IfErr result (λ fault. fault ≡ NoMemory) }
 {
-    let inverse = machine.step_into(alloc, step, reply);
-    let_go(machine, inverse);
+    let _accepted = machine.step_into(alloc, step, reply, inverse);
     if reply.wants_memory() {
         return Err(Fault::NoMemory);
     }
     Ok(())
-}
-
-/// Lets go of the inverse of a step, where it has one.
-fn let_go(machine: &mut Machine, inverse: Option<Inverse>)
-    ensures { machine.new ≡ machine.old }
-{
-    if let Some(inverse) = inverse {
-        machine.let_go(inverse);
-    }
 }
 
 /// Appends the line of the reply to a step. Steps count from 1.

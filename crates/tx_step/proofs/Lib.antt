@@ -28,3 +28,4 @@ pub mod KnownLow
 pub mod OutsideTaken
 pub mod InsideTaken
 pub mod EndTaken
+pub mod Idle

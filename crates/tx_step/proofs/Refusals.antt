@@ -11,6 +11,7 @@ use Rattle.tx_base.specs.declared.steps.Reply.TheVariants.{Done, No}
 use Rattle.tx_base.specs.declared.steps.Step.{Step}
 use Rattle.tx_change.specs.States.{state_of}
 use Rattle.tx_change.specs.declared.parts.Parts.{Parts}
+use Rattle.tx_step.proofs.WholeContents.{now_seen, slot_seen}
 use Rattle.tx_step.specs.Early.{early_refusal, kill_refusal, member_refusal, own_refusal, process_refusal, RefusalIsEarly}
 use Rattle.tx_step.specs.RefusalLaws.{JudgeLaws}
 use Rattle.tx_kernel.specs.Actors.{IsActor}
@@ -18,7 +19,7 @@ use Rattle.tx_kernel.specs.Refusals.{number_refusal}
 use Rattle.tx_kernel.specs.declared.actor.Actor.{Actor}
 use Rattle.tx_laws.specs.TwoStates.{states_view}
 use Rattle.tx_live.proofs.KeptPosted.{slot_there}
-use Rattle.tx_live.specs.Content.{content_of, held_of, now_of, txn_of, view_of, IsShaped}
+use Rattle.tx_live.specs.Content.{content_of, held_of, txn_of, view_of, IsShaped}
 use Rattle.tx_live.specs.declared.content.BoxedTxn.{BoxedTxn}
 use Rattle.tx_live.specs.declared.content.Content.{Content}
 use Rattle.tx_model.specs.Answer.{delivers_kill, is_doomed_at, is_parked, is_running, is_there}
@@ -33,7 +34,7 @@ use Rattle.tx_model.specs.Book.{page_of_call}
 use Rattle.tx_model.specs.Forms.{Page, answers, effect_of, ◌or◌, ◌when◌}
 use Rattle.tx_proc.specs.Parts.{process_in, process_of}
 use Rattle.tx_proc.specs.declared.proc.Proc.{Proc as TheProc}
-use Rattle.tx_txn.specs.Content.{two_states_of, IsKept}
+use Rattle.tx_txn.specs.Content.{IsKept}
 use Rattle.tx_txn.specs.Marks.{table_at}
 
 -- a reason before others, and what there is after them
@@ -120,13 +121,6 @@ marked_live k pid m kept at = kept.sound.owned_live m.starter.0 (Proc pid.0) (ke
 
 -- what a content shows of a number
 module _ (laws : JudgeLaws) (k : Content) (pid : Pid) where
-  now_seen : present (view_of k) ≡ now_of k
-  unfolding view_of
-  now_seen = laws.present (two_states_of (content_of k))
-
-  pub slot_seen : (present (view_of k)).procs pid.0 ≡ process_in (slot_at k.parts.procs pid.0)
-  slot_seen = ap (λ (S : State). S.procs pid.0) now_seen
-
   -- a process that is there has a number of the table
   numbered : IsShaped k → (slot : Option TheProc) → slot_at k.parts.procs pid.0 ≡ slot → (me : Process) → process_in slot ≡ Some me → is_between (length k.marks) pid.0 ≡ true
   numbered shaped None at me is = cc
@@ -137,7 +131,7 @@ module _ (laws : JudgeLaws) (k : Content) (pid : Pid) where
   process_seen : IsShaped k → process_refusal (view_of k) pid.0 ≡ slot_refusal true (process_in (slot_at k.parts.procs pid.0))
   unfolding view_of states_view
   process_seen shaped =
-      ap (slot_refusal (is_between (length k.marks) pid.0)) slot_seen
+      ap (slot_refusal (is_between (length k.marks) pid.0)) (slot_seen laws.present k pid)
       ∙ any_number (is_between (length k.marks) pid.0) (process_in (slot_at k.parts.procs pid.0)) (numbered shaped (slot_at k.parts.procs pid.0) refl)
 
   -- the reasons in turn, where that of the number is this
@@ -167,7 +161,7 @@ module _ (laws : JudgeLaws) (k : Content) (pid : Pid) where
       ∙ ap (λ (status : Option ℕ). if not (is_none status) then Some NotRunning else None) is.runs in
       let same : numbers ≡ number_refusal (length k.marks) (present (view_of k)) (page_of_step step).chooses
       = chosen (held_of k) ∙ ap (λ (now : Parts). number_refusal (length now.procs) (state_of (held_of k) now) (page_of_step step).chooses) parts
-      ∙ sym (ap₂ (λ (w : ℕ) (S : State). number_refusal w S (page_of_step step).chooses) shaped.marks now_seen) in
+      ∙ sym (ap₂ (λ (w : ℕ) (S : State). number_refusal w S (page_of_step step).chooses) shaped.marks (now_seen laws.present k)) in
       ap (λ (x : Option Refusal). option_or x (own_refusal (view_of k) pid.0 (delivers_kill step))) same ∙ sym (in_turn step None runs)
 
   -- its own reasons are those of its mark, and then that SIGKILL is pending at it
@@ -177,7 +171,7 @@ module _ (laws : JudgeLaws) (k : Content) (pid : Pid) where
   unfolding view_of states_view
   own_seen proc delivers member held there members kill =
       ap₂ (λ (x : Option Refusal) (b : Bool). option_or x (if b then Some KillPending else None)) members
-      (kill ∙ sym (ap (λ (slot : Option Process). has_pending kill_signo slot && not delivers) (slot_seen ∙ ap process_in there)))
+      (kill ∙ sym (ap (λ (slot : Option Process). has_pending kill_signo slot && not delivers) (slot_seen laws.present k pid ∙ ap process_in there)))
 
   -- what is kept pending at a live starter tells whether its transaction is doomed
   pub doom_seen : IsKept (content_of k) → (boxed : BoxedTxn) → slot_at k.txns pid.0 ≡ Some boxed →

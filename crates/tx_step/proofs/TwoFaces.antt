@@ -1,5 +1,5 @@
 -- How sends to a live starter are answered, by its faces.
-use Rattle.std.proofs.Common.{◌≡◌, ℕ, ◌+◌, ◌≤◌, Bool, true, false, not, ◌&&◌, List, [], ◌∷◌, length, replicate, Option, Some, None, is_some, if◌then◌else◌, nat_lt, refl, sym, ap, ◌∙◌, Result, ℤ, pos, zero, suc, map, drop, ◌==◌, option_map, arith}
+use Rattle.std.proofs.Common.{◌≡◌, ℕ, ◌+◌, ◌<◌, ◌≤◌, Bool, true, false, not, ◌&&◌, List, [], ◌∷◌, length, replicate, Option, Some, None, is_some, if◌then◌else◌, nat_lt, refl, sym, ap, ◌∙◌, Result, ℤ, pos, zero, suc, map, drop, drop-cons, get_or, ◌++◌, ◌==◌, option_map, arith}
 use Rattle.std.proofs.lemmas.Bool.{false≢true}
 use Rattle.std.proofs.lemmas.Bool.Decides.{Decides-eqb, Decides-int_eq, same_from_decides}
 use Rattle.std.proofs.lemmas.List.{length-replicate}
@@ -128,6 +128,14 @@ sends_end [] zero few = refl
 sends_end [] (suc i) few = refl
 sends_end (m ∷ ms) zero few = let never : ⊥ = omega (arith, few) in absurd never
 sends_end (m ∷ ms) (suc i) few = sends_end ms i (omega (arith, few))
+
+-- a list from one of its sends on is that send, and the list from the next on
+pub differ_next : (s : ℕ) (ms : List TheSending) (i : ℕ) (d : TheSending) (rest : List Sending) (faces : Faces) → i < length ms →
+    differ s (sending_of (get_or ms i d) ∷ (map sending_of (drop (i + 1) ms) ++ rest)) faces ≡ differ s (map sending_of (drop i ms) ++ rest) faces
+differ_next s ms i d rest faces few =
+    let next : suc i ≡ i + 1 = omega arith in
+    sym (ap (λ (xs : List TheSending). differ s (map sending_of xs ++ rest) faces) (drop-cons ms i d few)
+    ∙ ap (λ (k : ℕ). differ s (sending_of (get_or ms i d) ∷ (map sending_of (drop k ms) ++ rest)) faces) next)
 
 pub none_differ : (s : ℕ) (faces : Faces) → differ s [] faces ≡ false
 unfolding faces_differ

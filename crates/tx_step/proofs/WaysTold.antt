@@ -1,5 +1,5 @@
 -- The way of a step that is no abort: what its event names, what is posted with it, and who makes it.
-use Rattle.std.proofs.Common.{◌≡◌, ℕ, true, false, None, length, List, Option, Some, refl, sym, ap, subst, ◌∙◌}
+use Rattle.std.proofs.Common.{◌≡◌, ℕ, Bool, true, false, None, length, map, List, Option, Some, option_map, refl, sym, ap, subst, ◌∙◌}
 use Rattle.tx_base.specs.Slots.{slot_at}
 use Rattle.tx_base.specs.declared.marks.Mark.{Mark}
 use Rattle.tx_base.specs.declared.names.Pid.{Pid}
@@ -11,7 +11,7 @@ use Rattle.tx_base.specs.declared.steps.Step.{Step}
 use Rattle.tx_base.specs.declared.steps.Step.TheVariants.{Call as Calls, Deliver}
 use Rattle.tx_change.specs.States.{state_of}
 use Rattle.tx_change.specs.declared.parts.Parts.{Parts}
-use Rattle.tx_step.proofs.LastHeld.{GoesAt}
+use Rattle.tx_step.proofs.LastHeld.{call_goes, delivery_goes, GoesAt}
 use Rattle.tx_step.proofs.StepEvents.{aborts_own, of_member, ordinary_aborts}
 use Rattle.tx_step.proofs.StepFootprints.{footprint_told, runs, HasNumbers}
 use Rattle.tx_step.proofs.StepSends.{call_posts, delivery_posts, posted_in, sends_so}
@@ -21,10 +21,11 @@ use Rattle.tx_step.specs.Contents.{IsContent}
 use Rattle.tx_step.specs.InWay.{IsOfMember, starter_in}
 use Rattle.tx_step.specs.RefusalLaws.{WayLaws}
 use Rattle.tx_step.specs.Roles.{role_as}
-use Rattle.tx_step.specs.Ways.{IsOwnActor, posted_with}
+use Rattle.tx_step.specs.Ways.{IsOwnActor, held_at_commit, posted_with}
 use Rattle.tx_step.specs.declared.roles.StepRole.{StepRole}
 use Rattle.tx_step.specs.declared.roles.StepRole.TheVariants as the
 use Rattle.tx_kernel.specs.Actors.{inside_of, me_of}
+use Rattle.tx_kernel.specs.Plans.{sending_of}
 use Rattle.tx_kernel.specs.Sends.{IsSentBy}
 use Rattle.tx_kernel.specs.declared.actor.Actor.{Actor}
 use Rattle.tx_kernel.specs.declared.planned.Sends.{Sends}
@@ -36,6 +37,7 @@ use Rattle.tx_live.specs.Made.{IsRunning}
 use Rattle.tx_live.specs.declared.content.Content.{Content}
 use Rattle.tx_model.specs.Words.{has_bad_number, call_effect, delivery_effect, called_by_status, kind_of}
 use Rattle.tx_model.specs.Effects.{Inside}
+use Rattle.tx_model.specs.Deliveries.{delivered_value, ends_by}
 use Rattle.tx_model.specs.Events.{Note, effect, process_of}
 use Rattle.tx_model.specs.Footprints.{footprint}
 use Rattle.tx_model.specs.Membership.{Role, Ordinary, Table, event_in, inside_by, is_live, kind_event}
@@ -43,7 +45,7 @@ use Rattle.tx_model.specs.Numbers.{negative}
 use Rattle.tx_model.specs.State.{Process, Sending as TheSending, State}
 use Rattle.tx_model.specs.View.{event_on, first_reply, role_on}
 use Rattle.tx_proc.specs.Parts.{process_in}
-use Rattle.tx_reserve.specs.Footprints.{GoesBy, GoesWith, IsInside, IsSetOf, table_at as table_with, table_of}
+use Rattle.tx_reserve.specs.Footprints.{ends_actor, ends_part, GoesBy, GoesIf, GoesWith, GoesWithCall, GoesWithDelivery, IsInside, IsSetOf, table_at as table_with, table_of}
 use Rattle.tx_reserve.specs.declared.objects.Objects.{Objects}
 use Rattle.tx_txn.specs.Marks.{table_at}
 
@@ -57,17 +59,38 @@ module _ (k : Content) (pid : Pid) (actor : Actor) (own : IsOwnActor k pid actor
       subst (λ (x : Pid). GoesBy (table_of actor.parts.now k.marks) x.0 (slot_at k.marks x.0) last (held_of k)) (sym own.pid_is)
       (subst (λ (parts : Parts). GoesBy (table_of parts k.marks) pid.0 (slot_at k.marks pid.0) last (held_of k)) (sym own.parts) goes)
 
-  -- the set has the footprint of the step
-  pub set_there : (make : Pid → Step) (set : Objects) (last : Option (List Sending)) → GoesAt k pid.0 last →
-      ((held : ℕ → List TheSending) → GoesWith actor k.marks last held → IsSetOf set (footprint (table_with actor k.marks) (make actor.pid) (state_of held actor.parts.now))) →
+  -- the set has the footprint of the step, where the sends that are given go with it if it ends its process's part
+  set_there : (make : Pid → Step) (set : Objects) (last : Option (List Sending)) (ends : Bool) → (ends ≡ true → GoesAt k pid.0 last) →
+      ((held : ℕ → List TheSending) → GoesIf ends actor k.marks last held → IsSetOf set (footprint (table_with actor k.marks) (make actor.pid) (state_of held actor.parts.now))) →
       IsSetOf set (footprint (table_of k.parts k.marks) (make pid) (now_of k))
-  set_there make set last goes is =
+  set_there make set last ends goes is =
       subst (λ (parts : Parts). IsSetOf set (footprint (table_of parts k.marks) (make pid) (state_of (held_of k) parts))) own.parts
       (subst (λ (x : Pid). IsSetOf set (footprint (table_of actor.parts.now k.marks) (make x) (state_of (held_of k) actor.parts.now))) own.pid_is
-      (is (held_of k) (goes_with last goes)))
+      (is (held_of k) (λ h. goes_with last (goes h))))
+
+  slot_there : slot_at k.parts.procs pid.0 ≡ Some actor.proc.now
+  slot_there = sym (λ j. slot_at (own.parts j).procs (own.pid_is j).0) ∙ own.is.there
 
   there : (now_of k).procs pid.0 ≡ Some (me_of actor)
-  there = ap process_in (sym (λ j. slot_at (own.parts j).procs (own.pid_is j).0) ∙ own.is.there)
+  there = ap process_in slot_there
+
+  -- the same of a call and of a delivery, where the sends are given by what that is to the transactions
+  module _ (laws : WayLaws) (is : IsContent k) (running : IsRunning (slot_at k.parts.procs pid.0)) (role : StepRole) (last : Option (List Sending))
+      (given : option_map (map sending_of) last ≡ held_at_commit k role) (set : Objects) where
+    pub call_set : (called : Call) → role_as pid.0 role ≡ role_on (view_of k) (Calls pid called) →
+        ((held : ℕ → List TheSending) → GoesWithCall actor k.marks called last held → IsSetOf set (footprint (table_with actor k.marks) (Calls actor.pid called) (state_of held actor.parts.now))) →
+        IsSetOf set (footprint (table_of k.parts k.marks) (Calls pid called) (now_of k))
+    call_set called told put =
+        set_there (λ p. Calls p called) set last (ends_part actor.pid.0 called)
+        (λ h. call_goes laws.present k pid is.shaped running role last given laws.other_call laws.exit called told (ap (λ (x : Pid). ends_part x.0 called) (sym own.pid_is) ∙ h)) put
+
+    pub delivery_set : (signo : Signo) → role_as pid.0 role ≡ role_on (view_of k) (Deliver pid signo) →
+        ((held : ℕ → List TheSending) → GoesWithDelivery actor k.marks signo last held → IsSetOf set (footprint (table_with actor k.marks) (Deliver actor.pid signo) (state_of held actor.parts.now))) →
+        IsSetOf set (footprint (table_of k.parts k.marks) (Deliver pid signo) (now_of k))
+    delivery_set signo told put =
+        set_there (λ p. Deliver p signo) set last (ends_actor actor signo)
+        (λ h. delivery_goes laws.present k pid is.shaped running role last given laws.delivery signo actor.proc.now slot_there told
+        (ap (λ (inside : Option Inside). ends_by inside signo.0 (me_of actor) (delivered_value signo.0 (me_of actor))) (sym own.inside) ∙ h)) put
 
   -- what is posted with a call
   pub call_posted : (called : Call) (role : StepRole) (first : Sends) → role_as pid.0 role ≡ role_on (view_of k) (Calls pid called) →

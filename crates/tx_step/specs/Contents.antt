@@ -1,5 +1,6 @@
 -- What is so of every content that steps lead to.
-use Rattle.std.specs.Prelude.{◌≡◌, ℕ, ◌≤◌, []}
+use Rattle.std.specs.Prelude.{◌≡◌, ℕ, ◌≤◌, [], None}
+use Rattle.tx_base.specs.Slots.{slot_at}
 use Rattle.tx_kernel.specs.Actors.{IsWhole}
 use Rattle.tx_laws.specs.WellFormed.{IsWellFormed}
 use Rattle.tx_laws.specs.WellFormedTable.{IsWellFormedView}
@@ -16,6 +17,10 @@ pub record IsContent (k : Content) : Type 0 where
   pub kept : IsKept (content_of k)
   pub formed : (left_out : Starters) → IsWellFormed ((view_of k).without left_out)
   pub view : IsWellFormedView (view_of k)
+
+-- no transaction is live
+abbrev pub IsIdle : Content → Type 0
+IsIdle k = (s : ℕ) → slot_at k.txns s ≡ None
 
 -- such parts are whole
 abbrev pub ContentsAreWhole : Type 0

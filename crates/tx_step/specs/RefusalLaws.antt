@@ -1,4 +1,5 @@
 -- The laws that early refusals and ways stand on.
+use Rattle.tx_laws.specs.Endings.{DeliveryIsTold, ExitIsTold, OtherCallIsTold}
 use Rattle.tx_laws.specs.Footprints.{FootprintIsOfEvent}
 use Rattle.tx_laws.specs.LawsOfEvents.{HoldsForItsOwn}
 use Rattle.tx_laws.specs.LawsOfTwoStates.{PresentIsNow}
@@ -15,3 +16,6 @@ pub record WayLaws : Type 0 where
   pub own : HoldsForItsOwn
   pub within : FootprintIsWithin
   pub small : WithinIsSmall
+  pub other_call : OtherCallIsTold
+  pub exit : ExitIsTold
+  pub delivery : DeliveryIsTold

@@ -1,7 +1,5 @@
 -- What a step is to the transactions, as the machine has it.
-use Rattle.std.specs.Prelude.{ℕ, Bool, false, not, ◌==◌}
-use Rattle.tx_base.specs.declared.steps.Call.{Call}
-use Rattle.tx_base.specs.declared.steps.Call.TheVariants as call
+use Rattle.std.specs.Prelude.{ℕ, Bool, Option, Some, None}
 use Rattle.tx_step.specs.declared.roles.StepRole.{StepRole}
 use Rattle.tx_step.specs.declared.roles.StepRole.TheVariants as step
 use Rattle.tx_live.specs.Progresses.{part_of}
@@ -16,7 +14,7 @@ role_as p (step.Inside starter progress) = Within starter.0 (part_of progress)
 role_as p (step.Commits starter) = Commits starter.0
 role_as p (step.Aborts starter) = Aborts starter.0 called_by_status
 
--- whether the call of process p, which runs, ends it
-abbrev pub ends_process : ℕ → Call → Bool
-ends_process p (call.Exit status) = not (p == 1)
-ends_process p call = false
+-- what a step of a process that is in no transaction is, where it begins one that defers deliveries or not, or begins none
+abbrev pub role_alone : Option Bool → StepRole
+role_alone None = step.Outside
+role_alone (Some defers) = step.Begins defers

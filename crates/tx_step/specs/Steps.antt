@@ -82,6 +82,6 @@ IsRefused old step why new =
     ⊎ (answer (view_of old) step ≡ reply.No why) × (why ≢ NoMemory))
 
 -- what a step answers and leaves
-abbrev pub Takes : Content → Step → Result (Answered × Inverse) Refusal → Content → Type 0
-Takes old step (Ok made) new = IsStep old step (replied new (process_of step) made.1 made.0) made.1 new
-Takes old step (Err why) new = IsRefused old step why new
+abbrev pub Takes : Content → Step → Result Answered Refusal → Inverse → Content → Type 0
+Takes old step (Ok answered) inverse new = IsStep old step (replied new (process_of step) inverse answered) inverse new
+Takes old step (Err why) inverse new = IsRefused old step why new

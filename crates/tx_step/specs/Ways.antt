@@ -1,5 +1,5 @@
--- Who makes a step, and what is posted with it, by what the step is to the transactions.
-use Rattle.std.specs.Prelude.{◌≡◌, ◌++◌, ℕ, List, [], Option}
+-- Who makes a step, and what is held and posted with it, by what the step is to the transactions.
+use Rattle.std.specs.Prelude.{◌≡◌, ◌++◌, ℕ, List, [], Option, Some, None}
 use Rattle.tx_base.specs.Slots.{slot_at}
 use Rattle.tx_base.specs.declared.names.Pid.{Pid}
 use Rattle.tx_base.specs.declared.steps.Call.{Call}
@@ -26,6 +26,11 @@ posted_with k (Begins defers) first = sent_at_once first
 posted_with k (Inside starter progress) first = sent_at_once first
 posted_with k (Commits starter) first = sent_at_once first ++ (held_of k starter.0 ++ sent_at_commit first)
 posted_with k (Aborts starter) first = sent_at_once first
+
+-- what the transaction holds that the step commits, if it commits one
+abbrev pub held_at_commit : Content → StepRole → Option (List Sending)
+held_at_commit k (Commits starter) = Some (held_of k starter.0)
+held_at_commit k other = None
 
 -- the process of a number, with the transaction that it is a member of
 pub record IsOwnActor (k : Content) (pid : Pid) (actor : Actor) : Type 0 where

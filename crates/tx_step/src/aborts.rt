@@ -23,31 +23,33 @@ pub(crate) fn take_abort(
     pid: Pid,
     starter: Pid,
     _asked: Asked,
-) -> (Answered, Inverse)
+    inverse: &mut Inverse,
+) -> Answered
     requires content { IsContent content.old }
     requires through { IsLetThrough content.old pid _asked (role.Aborts starter) }
-    ensures { Takes content.old (step_of pid _asked.entry) (Ok result) content.new }
+    ensures { Takes content.old (step_of pid _asked.entry) (Ok result) inverse.new content.new }
 {
     laws();
-    let inverse = content.abort(starter, -i64::from(ABORTED_BY_CALL));
-    (Answered::Aborted(ABORTED_BY_CALL), inverse)
+    content.abort(starter, -i64::from(ABORTED_BY_CALL), inverse);
+    Answered::Aborted(ABORTED_BY_CALL)
 }
 
 /// Aborts the live transaction of a starter: all that its members' steps changed is as it was, and the
 /// starter stands at the point after its sys_xbegin with the negative status, which is 203 where the
 /// transaction is doomed, and else 202. It takes no memory. Own rule.
 ///
-/// Nothing where the starter has no live transaction; the content is then as it was.
-pub fn take_kernel_abort(content: &mut Content, starter: Pid) -> Option<(u16, Inverse)>
+/// Answers the status, and puts what takes the abort back into its place. Nothing where the starter has
+/// no live transaction; the content is then as it was.
+pub fn take_kernel_abort(content: &mut Content, starter: Pid, inverse: &mut Inverse) -> Option<u16>
     requires { IsContent content.old }
-    ensures made { IfSome result (λ made. IsStep content.old (KernelAbort starter) (reply.Aborted made.0) made.1 content.new) }
+    ensures made { IfSome result (λ status. IsStep content.old (KernelAbort starter) (reply.Aborted status) inverse.new content.new) }
     ensures live { IsSome result ↔ (is_live (view_of content.old).table starter.0 ≡ true) }
     ensures none { IfNone result (content.new ≡ content.old) }
 {
     laws();
     let status = kernel_status(content, starter)?;
-    let inverse = content.abort(starter, -i64::from(status));
-    Some((status, inverse))
+    content.abort(starter, -i64::from(status), inverse);
+    Some(status)
 }
 
 /// The status that the kernel's abort of a starter's live transaction gives: 203 where it is doomed,

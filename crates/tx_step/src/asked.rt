@@ -4,9 +4,9 @@ ghost use Rattle.tx_base.specs.Slots.{slot_at};
 ghost use Rattle.tx_base.specs.declared.marks.Mark.{Mark as TheMark};
 ghost use Rattle.tx_base.specs.declared.names.Pid.{Pid as ThePid};
 ghost use Rattle.tx_base.specs.declared.steps.Step.TheVariants.{Call as Calls};
-ghost use Rattle.tx_step.specs.Contents.{IsContent};
+ghost use Rattle.tx_step.specs.Contents.{IsContent, IsIdle};
 ghost use Rattle.tx_step.specs.Early.{early_refusal};
-ghost use Rattle.tx_step.specs.Roles.{role_as};
+ghost use Rattle.tx_step.specs.Roles.{role_alone, role_as};
 ghost use Rattle.tx_kernel.specs.Acts.{event_of};
 ghost use Rattle.tx_live.specs.Content.{view_of};
 ghost use Rattle.tx_live.specs.Insides.{IsFootprint};
@@ -20,11 +20,12 @@ ghost use Rattle.tx_reserve.specs.Reservations.{number_of};
 ghost use Rattle.tx_step.specs.Asks.{IsActOf, is_own, step_of};
 
 use crate::early::{early_refusal_of_call, early_refusal_of_delivery};
-use crate::refusal_laws::contents_are_whole;
-use crate::roles::{StepRole, role_of_call, role_of_delivery};
+use crate::refusal_laws::{contents_are_whole, laws};
+use crate::roles::{StepRole, beginning, role_of_call, role_of_delivery};
 use crate::ways::{way_of_call, way_of_delivery};
 use tx_base::{Call, Pid, Refusal, Signo};
 use tx_kernel::Act;
+use tx_laws::endings;
 use tx_live::Content;
 use tx_reserve::Objects;
 
@@ -71,6 +72,21 @@ impl<'a> Asked<'a> {
         match self {
             Asked::Call(call) => role_of_call(content, pid, call),
             Asked::Delivery(signo) => role_of_delivery(content, pid, signo),
+        }
+    }
+
+    /// Where no transaction is live: whether it begins one, and then whether that defers deliveries.
+    pub(crate) fn beginning(self, content: &Content, pid: Pid) -> Option<bool>
+        requires content { IsContent content.now }
+        requires running { IsRunning (slot_at content.now.parts.procs pid.0) }
+        requires idle { IsIdle content.now }
+        ensures { role_as pid.0 (role_alone result) ≡ role_on (view_of content.now) (step_of pid self.entry) }
+    {
+        laws();
+        endings();
+        match self {
+            Asked::Call(call) => beginning(call),
+            Asked::Delivery(_) => None,
         }
     }
 

@@ -22,14 +22,15 @@ pub(crate) fn take_begin(
     pid: Pid,
     defers: bool,
     _asked: Asked,
-) -> Result<(Answered, Inverse), Refusal>
+    inverse: &mut Inverse,
+) -> Result<Answered, Refusal>
     requires content { IsContent content.old }
     requires through { IsLetThrough content.old pid _asked (role.Begins defers) }
-    ensures { Takes content.old (step_of pid _asked.entry) result content.new }
+    ensures { Takes content.old (step_of pid _asked.entry) result inverse.new content.new }
 {
     laws();
-    match content.begin(alloc, pid, defers) {
-        Ok(inverse) => Ok((Answered::Acted(Outcome::Done(0)), inverse)),
+    match content.begin(alloc, pid, defers, inverse) {
+        Ok(()) => Ok(Answered::Acted(Outcome::Done(0))),
         Err(NoMemory) => Err(Refusal::NoMemory),
     }
 }

@@ -21,15 +21,16 @@ pub(crate) fn take_end(
     pid: Pid,
     starter: Pid,
     asked: Asked,
-) -> Result<(Answered, Inverse), Refusal>
+    inverse: &mut Inverse,
+) -> Result<Answered, Refusal>
     requires content { IsContent content.old }
     requires through { IsLetThrough content.old pid asked (role.Commits starter) }
-    ensures { Takes content.old (step_of pid asked.entry) result content.new }
+    ensures { Takes content.old (step_of pid asked.entry) result inverse.new content.new }
 {
     laws();
     let act = asked.act(true);
-    match content.commit(alloc, pid, starter, &act) {
-        Ok(inverse) => Ok((Answered::Committed, inverse)),
+    match content.commit(alloc, pid, starter, &act, inverse) {
+        Ok(()) => Ok(Answered::Committed),
         Err(NoMemory) => Err(Refusal::NoMemory),
     }
 }

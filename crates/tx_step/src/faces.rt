@@ -53,7 +53,8 @@ impl Faces {
         ensures { (ms : List TheSending) → differ pid.0 (map sending_of held.now ++ ms) self.old ≡ (if result then true else differ pid.0 ms self.new) }
     {
         for place in 0..held.len() {
-            if self.post(pid, &held[place]) {
+            // Most are for others, and worth no call.
+            if held[place].target == pid && self.post(pid, &held[place]) {
                 return true;
             }
         }

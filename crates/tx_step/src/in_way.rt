@@ -13,7 +13,7 @@ use crate::faces::Faces;
 use tx_base::{Pid, Sending};
 use tx_kernel::Sends;
 use tx_live::Content;
-use tx_reserve::Objects;
+use tx_reserve::{Object, Objects};
 use tx_txn::answers_of_faces;
 
 /// The least starter whose live transaction is in the way of a step: it owns an object of the step's
@@ -41,20 +41,29 @@ pub fn find_starter(
 }
 
 /// The least starter of a live transaction but the own one at which one of the sends has two answers:
-/// it is answered otherwise now than after the abort.
+/// it is answered otherwise now than after the abort. A target is asked once for all its sends, since
+/// asking posts each send.
 fn least_target(content: &Content, own: Option<Pid>, first: &Sends, held: &[Sending]) -> Option<Pid>
     ensures { option_map number_of result ≡ least_target (gives_two_answers content.now (option_map number_of own) (sent first.now held.now)) (sent first.now held.now) }
 {
+    let mut asked = Objects::new();
     let mut least = match first {
         Sends::Nothing => None,
-        Sends::AtOnce(sending) => target(content, own, sending.target, first, held),
+        Sends::AtOnce(sending) => {
+            asked.insert(Object::Proc(sending.target));
+            target(content, own, sending.target, first, held)
+        }
         Sends::AtCommit(_) => None,
     };
     for place in 0..held.len() {
-        least = lesser(least, target(content, own, held[place].target, first, held));
+        let pid = held[place].target;
+        if !asked.has(Object::Proc(pid)) {
+            asked.insert(Object::Proc(pid));
+            least = lesser(least, target(content, own, pid, first, held));
+        }
     }
     match first {
-        Sends::AtCommit(sending) => lesser(
+        Sends::AtCommit(sending) if !asked.has(Object::Proc(sending.target)) => lesser(
             least,
             target(content, own, sending.target, first, held),
         ),

@@ -29,16 +29,17 @@ pub(crate) fn take_inside(
     progress: Progress,
     asked: Asked,
     footprint: &Objects,
-) -> Result<(Answered, Inverse), Refusal>
+    inverse: &mut Inverse,
+) -> Result<Answered, Refusal>
     requires content { IsContent content.old }
     requires through { IsLetThrough content.old pid asked (role.Inside starter progress) }
     requires footprint { IsFootprint content.old (event_on (view_of content.old) (step_of pid asked)) footprint.now }
-    ensures { Takes content.old (step_of pid asked.entry) result content.new }
+    ensures { Takes content.old (step_of pid asked.entry) result inverse.new content.new }
 {
     laws();
     let act = asked.act(true);
-    match content.make_inside(alloc, pid, starter, &act, progress, footprint) {
-        Ok((outcome, inverse)) => Ok((Answered::Acted(outcome), inverse)),
+    match content.make_inside(alloc, pid, starter, &act, progress, footprint, inverse) {
+        Ok(outcome) => Ok(Answered::Acted(outcome)),
         Err(NoMemory) => Err(late_refusal(content, pid, &act)),
     }
 }

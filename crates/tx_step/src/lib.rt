@@ -17,12 +17,13 @@
 //! `way_of_call` and `way_of_delivery` bring these together: they find the process and the
 //! transaction that it is a member of, ask tx_reserve for the footprint and tx_kernel for the
 //! sends, and `find_starter` with them, and with what the transaction holds where the step commits
-//! it. Most calls concern their process alone (`ConcernsItself`): they name it and send nothing. So
-//! does a member's abort with its starter. There the owner of that one process is all that is asked
-//! for. What is so of every content that steps lead to is said here too (`IsContent`), since it is
-//! what these answers stand on, and that it is so of a kernel as it is booted
-//! (`booted_is_content`). `actor_of` finds a process that runs, with the transaction that it is a
-//! member of.
+//! it. That it does is known from its role: whether another member's part is open is asked only of a
+//! step that ends its process's part, and once (`last_by`). Most calls concern their process alone
+//! (`ConcernsItself`): they name it and send nothing. So does a member's abort with its starter.
+//! There the owner of that one process is all that is asked for. What is so of every content that
+//! steps lead to is said here too (`IsContent`), since it is what these answers stand on, and that it
+//! is so of a kernel as it is booted (`booted_is_content`). `actor_of` finds a process that runs,
+//! with the transaction that it is a member of.
 //!
 //! `late_refusal` is asked after the step, and only where that answered `NoMemory`: the reason of
 //! the rule, and want of memory where the rule has none.

@@ -22,15 +22,16 @@ pub(crate) fn take_outside(
     alloc: Global,
     pid: Pid,
     asked: Asked,
-) -> Result<(Answered, Inverse), Refusal>
+    inverse: &mut Inverse,
+) -> Result<Answered, Refusal>
     requires content { IsContent content.old }
     requires through { IsLetThrough content.old pid asked role.Outside }
-    ensures { Takes content.old (step_of pid asked.entry) result content.new }
+    ensures { Takes content.old (step_of pid asked.entry) result inverse.new content.new }
 {
     laws();
     let act = asked.act(false);
-    match content.make_outside(alloc, pid, &act) {
-        Ok((outcome, inverse)) => Ok((Answered::Acted(outcome), inverse)),
+    match content.make_outside(alloc, pid, &act, inverse) {
+        Ok(outcome) => Ok(Answered::Acted(outcome)),
         Err(NoMemory) => Err(late_refusal(content, pid, &act)),
     }
 }

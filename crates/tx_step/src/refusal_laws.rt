@@ -3,7 +3,7 @@ ghost use Rattle.tx_step.specs.Contents.{BootedIsContent, ContentsAreWhole};
 ghost use Rattle.tx_step.specs.Early.{RefusalIsEarly};
 ghost use Rattle.tx_step.specs.RefusalLaws.{JudgeLaws, WayLaws};
 
-use tx_laws::{answers_of_states, footprints, inside, well_formed, well_formed_table};
+use tx_laws::{answers_of_states, endings, footprints, inside, well_formed, well_formed_table};
 use tx_reserve::footprints_are_within;
 use tx_txn::answers_of_faces;
 
@@ -20,6 +20,7 @@ pub(crate) fn way_laws()
     ensures { WayLaws }
 {
     answers_of_states();
+    endings();
     footprints();
     inside();
     footprints_are_within();

@@ -3,7 +3,7 @@ ghost use Rattle.std.specs.Prelude.{◌≡◌, ℕ, true, not, length, Some, Non
 ghost use Rattle.tx_base.specs.Slots.{slot_at};
 ghost use Rattle.tx_base.specs.declared.steps.Reply.{Reply};
 ghost use Rattle.tx_base.specs.declared.steps.Step.TheVariants.{Call as Calls, Deliver};
-ghost use Rattle.tx_step.specs.Roles.{ends_process, role_as};
+ghost use Rattle.tx_step.specs.Roles.{role_alone, role_as};
 ghost use Rattle.tx_laws.specs.Endings.{end_reply};
 ghost use Rattle.tx_live.specs.Content.{content_of, view_of, IsShaped};
 ghost use Rattle.tx_live.specs.Made.{IsRunning};
@@ -12,6 +12,7 @@ ghost use Rattle.tx_model.specs.Membership.{Table, inside_by, is_live, member_en
 ghost use Rattle.tx_model.specs.Words.{kind_of, kind_role};
 ghost use Rattle.tx_model.specs.View.{role_on};
 ghost use Rattle.tx_proc.specs.Parts.{process_of};
+ghost use Rattle.tx_reserve.specs.Footprints.{ends_part};
 ghost use Rattle.tx_txn.specs.Content.{IsKept};
 ghost use Rattle.tx_txn.specs.Marks.{table_at};
 
@@ -50,7 +51,7 @@ pub fn role_of_call(content: &Content, pid: Pid, call: &Call) -> StepRole
     endings();
     match content.marks.get(pid) {
         Some(mark) => role_of_member(content, pid, *mark, call),
-        None => role_of_other(call),
+        None => role_alone(beginning(call)),
     }
 }
 
@@ -75,14 +76,25 @@ pub fn role_of_delivery(content: &Content, pid: Pid, signo: Signo) -> StepRole
     }
 }
 
-/// What a call is to the transactions that a process in none makes.
-fn role_of_other(call: &Call) -> StepRole
-    ensures { (table : Table) (p : ℕ) (reply : Reply) → role_as p result ≡ kind_role table p (kind_of call.now) reply None }
+/// Whether a call of a process that is in no transaction begins one, and then whether that defers
+/// deliveries.
+pub(crate) fn beginning(call: &Call) -> Option<bool>
+    ensures { (table : Table) (p : ℕ) (reply : Reply) → role_as p (role_alone result) ≡ kind_role table p (kind_of call.now) reply None }
 {
     match call {
-        Call::SysXbegin => StepRole::Begins(false),
-        Call::SysXbeginDefer => StepRole::Begins(true),
-        _ => StepRole::Outside,
+        Call::SysXbegin => Some(false),
+        Call::SysXbeginDefer => Some(true),
+        _ => None,
+    }
+}
+
+/// What a step of a process that is in no transaction is to the transactions.
+fn role_alone(beginning: Option<bool>) -> StepRole
+    ensures { result ≡ role_alone beginning }
+{
+    match beginning {
+        Some(defers) => StepRole::Begins(defers),
+        None => StepRole::Outside,
     }
 }
 
@@ -92,7 +104,7 @@ fn role_of_member(content: &Content, pid: Pid, mark: Mark, call: &Call) -> StepR
     requires shaped { IsShaped content.now }
     requires kept { IsKept (content_of content.now) }
     requires live { is_live (table_at content.now.marks) mark.starter.0 ≡ true }
-    ensures { role_as pid.0 result ≡ kind_role (table_at content.now.marks) pid.0 (kind_of call.now) (end_reply (ends_process pid.0 call.now)) (Some mark) }
+    ensures { role_as pid.0 result ≡ kind_role (table_at content.now.marks) pid.0 (kind_of call.now) (end_reply (ends_part pid.0 call.now)) (Some mark) }
 {
     match call {
         Call::Fork(child) => StepRole::Inside(mark.starter, Progress::Forks(*child)),
@@ -118,7 +130,7 @@ fn member_end(content: &Content, starter: Pid, pid: Pid) -> StepRole
 }
 
 /// Whether no other member's part of a live transaction is open.
-pub(crate) fn is_last_part(content: &Content, starter: Pid, pid: Pid) -> bool
+fn is_last_part(content: &Content, starter: Pid, pid: Pid) -> bool
     requires shaped { IsShaped content.now }
     requires kept { IsKept (content_of content.now) }
     requires live { is_live (table_at content.now.marks) starter.0 ≡ true }

@@ -1,6 +1,8 @@
 //! Steps of processes.
 ghost use Rattle.tx_base.specs.declared.steps.Step.TheVariants.{Call as Calls, Deliver};
-ghost use Rattle.tx_step.specs.Contents.{IsContent};
+ghost use Rattle.std.specs.Prelude.{◌≡◌, None};
+ghost use Rattle.tx_step.specs.Contents.{IsContent, IsIdle};
+ghost use Rattle.tx_step.specs.Early.{early_refusal};
 ghost use Rattle.tx_live.specs.Content.{view_of};
 ghost use Rattle.tx_live.specs.Insides.{IsFootprint};
 ghost use Rattle.tx_model.specs.View.{event_on};
@@ -22,7 +24,7 @@ use tx_base::{Call, Pid, Refusal, Signo};
 use tx_live::{Content, Inverse};
 use tx_reserve::Objects;
 
-/// Makes a call of a process. Answers what it is answered, and what takes it back.
+/// Makes a call of a process. Answers what it is answered, and puts what takes it back into its place.
 ///
 /// A refused call changes nothing. It is refused for the first of these reasons that there is:
 /// NoProcess, NotRunning, BadNumber, NumberTaken, Doomed, Parked, KillPending, Busy, Wait; and NoMemory
@@ -32,15 +34,16 @@ pub fn take_call(
     alloc: Global,
     pid: Pid,
     call: &Call,
-) -> Result<(Answered, Inverse), Refusal>
+    inverse: &mut Inverse,
+) -> Result<Answered, Refusal>
     requires { IsContent content.old }
-    ensures { Takes content.old (Calls pid call.now) result content.new }
+    ensures { Takes content.old (Calls pid call.now) result inverse.new content.new }
 {
-    take_asked(content, alloc, pid, Asked::Call(call))
+    take_asked(content, alloc, pid, Asked::Call(call), inverse)
 }
 
-/// Delivers a signal to a process at which it is pending. Answers what the delivery is answered, and what
-/// takes it back.
+/// Delivers a signal to a process at which it is pending. Answers what the delivery is answered, and puts
+/// what takes it back into its place.
 ///
 /// A refused delivery changes nothing. It is refused for the first of these reasons that there is:
 /// NoProcess, NotRunning, Doomed, Parked, KillPending, Busy, NotDeliverable, Deferred, FramesFull; and
@@ -50,11 +53,12 @@ pub fn take_delivery(
     alloc: Global,
     pid: Pid,
     signo: Signo,
-) -> Result<(Answered, Inverse), Refusal>
+    inverse: &mut Inverse,
+) -> Result<Answered, Refusal>
     requires { IsContent content.old }
-    ensures { Takes content.old (Deliver pid signo) result content.new }
+    ensures { Takes content.old (Deliver pid signo) result inverse.new content.new }
 {
-    take_asked(content, alloc, pid, Asked::Delivery(signo))
+    take_asked(content, alloc, pid, Asked::Delivery(signo), inverse)
 }
 
 /// Makes what a process is asked to do, where nothing refuses it.
@@ -63,20 +67,45 @@ fn take_asked(
     alloc: Global,
     pid: Pid,
     asked: Asked,
-) -> Result<(Answered, Inverse), Refusal>
+    inverse: &mut Inverse,
+) -> Result<Answered, Refusal>
     requires { IsContent content.old }
-    ensures { Takes content.old (step_of pid asked.entry) result content.new }
+    ensures { Takes content.old (step_of pid asked.entry) result inverse.new content.new }
 {
     laws();
     if let Some(why) = asked.early_refusal(content, pid) {
         return Err(why);
+    }
+    if content.txns.is_idle() {
+        return take_alone(content, alloc, pid, asked, inverse);
     }
     let role = asked.role(content, pid);
     let mut footprint = Objects::new();
     if let Some(starter) = asked.way(content, pid, role, &mut footprint) {
         return Err(Refusal::Busy { starter });
     }
-    take_as(content, alloc, pid, role, asked, &footprint)
+    take_as(content, alloc, pid, role, asked, &footprint, inverse)
+}
+
+/// Makes what a process is asked to do that nothing refuses early, where no transaction is live: so
+/// nobody is in its way.
+fn take_alone(
+    content: &mut Content,
+    alloc: Global,
+    pid: Pid,
+    asked: Asked,
+    inverse: &mut Inverse,
+) -> Result<Answered, Refusal>
+    requires content { IsContent content.old }
+    requires early { early_refusal (view_of content.old) pid.0 (step_of pid asked) ≡ None }
+    requires idle { IsIdle content.old }
+    ensures { Takes content.old (step_of pid asked.entry) result inverse.new content.new }
+{
+    laws();
+    match asked.beginning(content, pid) {
+        Some(defers) => take_begin(content, alloc, pid, defers, asked, inverse),
+        None => take_outside(content, alloc, pid, asked, inverse),
+    }
 }
 
 /// Makes what a process is asked to do, as what it is to the transactions.
@@ -87,19 +116,22 @@ fn take_as(
     role: StepRole,
     asked: Asked,
     footprint: &Objects,
-) -> Result<(Answered, Inverse), Refusal>
+    inverse: &mut Inverse,
+) -> Result<Answered, Refusal>
     requires content { IsContent content.old }
     requires through { IsLetThrough content.old pid asked role }
     requires footprint { IsFootprint content.old (event_on (view_of content.old) (step_of pid asked)) footprint.now }
-    ensures { Takes content.old (step_of pid asked.entry) result content.new }
+    ensures { Takes content.old (step_of pid asked.entry) result inverse.new content.new }
 {
     match role {
-        StepRole::Outside => take_outside(content, alloc, pid, asked),
-        StepRole::Begins(defers) => take_begin(content, alloc, pid, defers, asked),
+        StepRole::Outside => take_outside(content, alloc, pid, asked, inverse),
+        StepRole::Begins(defers) => take_begin(content, alloc, pid, defers, asked, inverse),
         StepRole::Inside(starter, progress) => {
-            take_inside(content, alloc, pid, starter, progress, asked, footprint)
+            take_inside(
+                content, alloc, pid, starter, progress, asked, footprint, inverse,
+            )
         }
-        StepRole::Commits(starter) => take_end(content, alloc, pid, starter, asked),
-        StepRole::Aborts(starter) => Ok(take_abort(content, pid, starter, asked)),
+        StepRole::Commits(starter) => take_end(content, alloc, pid, starter, asked, inverse),
+        StepRole::Aborts(starter) => Ok(take_abort(content, pid, starter, asked, inverse)),
     }
 }

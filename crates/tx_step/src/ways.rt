@@ -7,7 +7,7 @@ ghost use Rattle.tx_step.specs.Contents.{IsContent};
 ghost use Rattle.tx_step.specs.Faces.{sent};
 ghost use Rattle.tx_step.specs.InWay.{IsOfMember, starter_in};
 ghost use Rattle.tx_step.specs.Roles.{role_as};
-ghost use Rattle.tx_step.specs.Ways.{IsOwnActor, posted_with};
+ghost use Rattle.tx_step.specs.Ways.{IsOwnActor, held_at_commit, posted_with};
 ghost use Rattle.tx_kernel.specs.Actors.{CountsHeld, inside_of};
 ghost use Rattle.tx_kernel.specs.Plans.{sending_of, sent_at_once};
 ghost use Rattle.tx_laws.specs.Footprints.{is_abort};
@@ -19,7 +19,7 @@ ghost use Rattle.tx_model.specs.Events.{Event, effect};
 ghost use Rattle.tx_model.specs.Membership.{inside_by};
 ghost use Rattle.tx_model.specs.State.{Object as TheObject, Proc};
 ghost use Rattle.tx_model.specs.View.{event_on, starter_in_way, role_on};
-ghost use Rattle.tx_reserve.specs.Footprints.{GoesBy, IsSetOf, table_of};
+ghost use Rattle.tx_reserve.specs.Footprints.{IsSetOf};
 ghost use Rattle.tx_reserve.specs.Objects.{is_in};
 ghost use Rattle.tx_reserve.specs.Reservations.{number_of};
 ghost use Rattle.tx_txn.specs.Content.{IsKept};
@@ -28,7 +28,7 @@ ghost use Rattle.tx_txn.specs.Marks.{table_at};
 use crate::in_way::find_starter;
 use crate::own::concerns_itself;
 use crate::refusal_laws::{contents_are_whole, way_laws};
-use crate::roles::{StepRole, is_last_part};
+use crate::roles::StepRole;
 use tx_base::{Call, Pid, Sending, Signo};
 use tx_kernel::{Actor, Inside, Sends};
 use tx_live::Content;
@@ -81,7 +81,7 @@ pub fn way_of_delivery(
 {
     way_laws();
     let actor = actor_of(content, pid);
-    let last = last_held(content, pid);
+    let last = last_by(content, role);
     footprint_of_delivery(&actor, &content.marks, last, signo, footprint);
     let first = actor.sends_of_delivery(signo);
     find_in_way(content, pid, role, footprint, &first)
@@ -106,7 +106,7 @@ fn way_of_others_call(
 {
     way_laws();
     let actor = actor_of(content, pid);
-    let last = last_held(content, pid);
+    let last = last_by(content, role);
     footprint_of_call(&actor, &content.marks, last, call, footprint);
     let first = actor.sends_of_call(call);
     find_in_way(content, pid, role, footprint, &first)
@@ -160,18 +160,14 @@ fn inside_of<'a>(content: &'a Content, pid: Pid) -> Option<Inside<'a>>
     Some(boxed.txn.inside(&content.marks))
 }
 
-/// What the transaction of a process holds, where the process is a member and no other member's part is
-/// open.
-fn last_held<'a>(content: &'a Content, pid: Pid) -> Option<&'a [Sending]>
-    requires shaped { IsShaped content.now }
-    requires kept { IsKept (content_of content.now) }
-    ensures { GoesBy (table_of content.now.parts content.now.marks) pid.0 (slot_at content.now.marks pid.0) (option_copied result) (held_of content.now) }
+/// What the transaction holds that a step of this role commits, if it commits one. So nobody looks again
+/// whether another member's part is open: the role of a step that ends a part says it.
+fn last_by<'a>(content: &'a Content, role: StepRole) -> Option<&'a [Sending]>
+    ensures { option_map (map sending_of) (option_copied result) ≡ held_at_commit content.now role }
 {
-    let mark = content.marks.get(pid)?;
-    if is_last_part(content, mark.starter, pid) {
-        Some(held_by(content, mark.starter))
-    } else {
-        None
+    match role {
+        StepRole::Commits(starter) => Some(held_by(content, starter)),
+        _ => None,
     }
 }
 

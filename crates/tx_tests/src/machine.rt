@@ -68,10 +68,7 @@ fn makes_and_undoes(alloc: Global, machine: &mut Machine, step: &Step) -> Result
     };
     machine.undo(inverse);
     let between = print_state(alloc, machine)?;
-    let (_reply, inverse) = machine.step(alloc, step);
-    if let Some(inverse) = inverse {
-        machine.let_go(inverse);
-    }
+    let (_reply, _inverse) = machine.step(alloc, step);
     Ok(before.as_str() == between.as_str())
 }
 

@@ -1,10 +1,10 @@
-use Rattle.std.proofs.Common.{w64, rules, [], sym, subst}
+use Rattle.std.proofs.Common.{w64, rules, [], ap, sym, subst}
 use Rattle.std.proofs.lemmas.Int.{to_z-of_z}
 use Rattle.tx_base.specs.declared.steps.Call.{Call}
 use Rattle.tx_change.specs.States.{state_of}
 use Rattle.tx_kernel.specs.Actors.{me_of}
 use Rattle.tx_model.specs.Footprints.{call_row}
-use Rattle.tx_reserve.specs.Footprints.{Adds, table_at}
+use Rattle.tx_reserve.specs.Footprints.{Adds, ends_part, table_at}
 use Rattle.tx_reserve.proofs.Rows.{adds_none, adds_same}
 use Rattle.tx_reserve.proofs.Silent.{row_nothing}
 use Rattle.tx_reserve.proofs.footprints.add_call.Goals as goal
@@ -17,7 +17,7 @@ returns-in-Waitpid c = λ held goes.
 pub returns-in-SysXend : goal.returns-in-SysXend
 returns-in-SysXend c = λ held goes.
     let P : Call → Type 0 = λ call. Adds c.args.set.now c.add_commit.new.set (call_row (table_at c.args.actor.now c.args.marks.now) c.args.actor.now.pid.0 call (me_of c.args.actor.now) (state_of held c.args.actor.now.parts.now)) in
-    subst P (sym c.in-SysXend.is) (c.add_commit.ensures held goes)
+    subst P (sym c.in-SysXend.is) (c.add_commit.ensures held (goes (ap (ends_part c.args.actor.now.pid.0) c.in-SysXend.is)))
 
 pub returns-in_default : goal.returns-in_default
 returns-in_default c = λ held goes.

@@ -11,7 +11,7 @@ begin-requires-clause-alone c = alone c.laws.ensures c.args.content.now c.requir
 
 pub returns-in-Ok : goal.returns-in-Ok
 returns-in-Ok c =
-    begun_step c.laws.ensures c.args.content.now c.requires.content c.args.pid c.args._asked c.args.defers c.requires.through c.begin.new.self c.in-Ok.inverse c.in-Ok.ensures.made
+    begun_step c.laws.ensures c.args.content.now c.requires.content c.args.pid c.args._asked c.args.defers c.requires.through c.begin.new.self c.begin.new.inverse c.in-Ok.ensures.made
 
 pub returns-in-Err : goal.returns-in-Err
 returns-in-Err c = refused c.laws.ensures c.args.content.now c.requires.content c.args.pid c.args._asked c.args.defers c.requires.through c.begin.new.self c.in-Err.ensures.err

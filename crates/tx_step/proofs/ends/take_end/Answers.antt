@@ -25,9 +25,9 @@ commit-requires-clause-signals c =
 
 pub returns-in-Ok : goal.returns-in-Ok
 returns-in-Ok c =
-    of_process c.args.content.now c.args.pid c.args.asked c.commit.new.self c.in-Ok.inverse Committed
+    of_process c.args.content.now c.args.pid c.args.asked c.commit.new.self c.commit.new.inverse Committed
     (taken c.laws.ensures c.args.content.now c.requires.content c.args.pid c.args.starter c.args.asked c.requires.through c.act-act.result c.act-act.ensures
-    c.commit.new.self c.in-Ok.inverse c.in-Ok.ensures.made c.in-Ok.ensures.answer)
+    c.commit.new.self c.commit.new.inverse c.in-Ok.ensures.made c.in-Ok.ensures.answer)
 
 pub returns-in-Err : goal.returns-in-Err
 returns-in-Err c =

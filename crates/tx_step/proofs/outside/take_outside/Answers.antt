@@ -22,9 +22,9 @@ late_refusal-requires-clause-running c =
 
 pub returns-in-Ok : goal.returns-in-Ok
 returns-in-Ok c =
-    of_process c.args.content.now c.args.pid c.args.asked c.make_outside.new.self c.in-Ok.inverse (Acted c.in-Ok.outcome)
+    of_process c.args.content.now c.args.pid c.args.asked c.make_outside.new.self c.make_outside.new.inverse (Acted c.in-Ok.outcome)
     (taken c.laws.ensures c.args.content.now c.requires.content c.args.pid c.args.asked c.requires.through c.act-act.result c.act-act.ensures
-    c.make_outside.new.self c.in-Ok.inverse c.in-Ok.outcome c.in-Ok.ensures.made c.in-Ok.ensures.answer)
+    c.make_outside.new.self c.make_outside.new.inverse c.in-Ok.outcome c.in-Ok.ensures.made c.in-Ok.ensures.answer)
 
 pub returns-in-Err : goal.returns-in-Err
 returns-in-Err c =

@@ -1,4 +1,5 @@
-use Rattle.std.proofs.Common.{sym, ◌∙◌}
+use Rattle.std.proofs.Common.{ap, option_map, sym, ◌∙◌}
+use Rattle.tx_reserve.specs.Reservations.{number_of}
 use Rattle.tx_step.proofs.RefusedSteps.{numbers_early, refused_busy, refused_early, runs_early}
 use Rattle.tx_step.proofs.steps.take_asked.Goals as goal
 
@@ -13,6 +14,16 @@ way-requires-clause-running c = runs_early c.laws.ensures c.args.content.now c.r
 
 pub way-requires-clause-numbers : goal.way-requires-clause-numbers
 way-requires-clause-numbers c = numbers_early c.laws.ensures c.args.content.now c.requires c.args.pid c.args.asked (sym c.in_default.is ∙ c.early_refusal.ensures)
+
+pub take_alone-requires-clause-early : goal.take_alone-requires-clause-early
+take_alone-requires-clause-early c = sym c.early_refusal.ensures ∙ c.in_default.is
+
+pub take_as-requires-clause-through : goal.take_as-requires-clause-through
+take_as-requires-clause-through c = record {
+  early = sym c.early_refusal.ensures ∙ c.in_default.is;
+  clear = sym c.way.ensures.starter_in_way ∙ ap (option_map number_of) c.in_default-way.is;
+  is = c.role-role.ensures;
+}
 
 pub returns-in-Some-way : goal.returns-in-Some-way
 returns-in-Some-way c =

@@ -1,6 +1,6 @@
 use Rattle.std.specs.Option.{option_copied}
 use Rattle.tx_base.specs.declared.steps.Step.TheVariants.{Call as Calls}
-use Rattle.tx_step.proofs.WaysTold.{call_member, call_posted, footprint_is, set_there}
+use Rattle.tx_step.proofs.WaysTold.{call_member, call_posted, call_set, footprint_is}
 use Rattle.tx_live.specs.Content.{view_of}
 use Rattle.tx_model.specs.View.{event_on}
 use Rattle.tx_step.proofs.ways.way_of_others_call.Goals as goal
@@ -9,8 +9,8 @@ pub returns-clause-footprint : goal.returns-clause-footprint
 returns-clause-footprint c =
     let k = c.args.content.now in
     footprint_is c.way_laws.ensures k c.args.pid (Calls c.args.pid c.args.call.now) c.footprint_of_call.new.set c.requires.content c.requires.running c.requires.numbers c.requires.no_abort
-    (set_there k c.args.pid c.actor_of-actor.result c.actor_of-actor.ensures (λ p. Calls p c.args.call.now) c.footprint_of_call.new.set
-    (option_copied c.last_held-last.result) c.last_held-last.ensures c.footprint_of_call.ensures)
+    (call_set k c.args.pid c.actor_of-actor.result c.actor_of-actor.ensures c.way_laws.ensures c.requires.content c.requires.running c.args.role (option_copied c.last_by-last.result)
+    c.last_by-last.ensures c.footprint_of_call.new.set c.args.call.now c.requires.role c.footprint_of_call.ensures)
 
 pub returns-clause-starter_in_way : goal.returns-clause-starter_in_way
 returns-clause-starter_in_way c =

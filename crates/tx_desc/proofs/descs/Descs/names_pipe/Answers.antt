@@ -1,5 +1,5 @@
 use Rattle.std.proofs.Common.{◌∙◌}
-use Rattle.tx_desc.proofs.Ends.{read_side, write_side}
+use Rattle.tx_desc.proofs.PipeEnds.{read_side, write_side}
 use Rattle.tx_desc.proofs.descs.Descs.names_pipe.Goals as goal
 
 pub returns-then-has_end : goal.returns-then-has_end

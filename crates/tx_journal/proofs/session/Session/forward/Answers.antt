@@ -12,11 +12,11 @@ invariant_of-self-2 c =
     = ap (λ (e : Entry). Some e) c.in-Some.ensures.lookup.1 ∙ sym (slice_get-get_or c.deref.result.now c.position-position.result c.in-Some.entry.now c.in-Some.ensures.lookup.3.0) in
     let next : Some c.in-Some.entry.now ≡ slice_get c.self.inside.journal.entries.items (length c.self.inside.journal.inverses.items)
     = at ∙ (λ i. slice_get (c.deref.ensures.value i) (c.position-position.ensures.count i)) ∙ ap (λ (k : SessionState). slice_get c.self.inside.journal.entries.items (position_of k)) (sym c.self.view_is) in (
-      subst (λ (xs : List Inverse). IsJournal (record { machine = c.step_into.new.self; entries = c.self.inside.journal.entries.items; inverses = xs; width = c.self.inside.width; count = c.self.inside.count }))
+      subst (λ (xs : List Inverse). IsJournal (record { machine = c.step_into-is_made.new.self; entries = c.self.inside.journal.entries.items; inverses = xs; width = c.self.inside.width; count = c.self.inside.count }))
           (sym c.push_reserved.ensures.items)
-          (journal_next (session_state c.self.inside.machine c.self.inside.journal c.self.inside.width c.self.inside.count) c.self.invariant.0 c.in-Some.entry.now next c.step_into.new.self c.in-Some-step_into.inverse c.step_into.new.reply
-          c.in-Some-step_into.ensures.accepted.accepted c.in-Some-step_into.ensures.answer (c.in-Some-step_into.ensures.history c.in-Some-step_into.ensures.accepted.accepted)
-          c.in-Some-step_into.ensures.back c.in-Some-step_into.ensures.accepted.back),
+          (journal_next (session_state c.self.inside.machine c.self.inside.journal c.self.inside.width c.self.inside.count) c.self.invariant.0 c.in-Some.entry.now next c.step_into-is_made.new.self c.step_into-is_made.new.inverse c.step_into-is_made.new.reply
+          (c.step_into-is_made.ensures.accepted c.if-not-is_made.false).accepted c.step_into-is_made.ensures.answer (c.step_into-is_made.ensures.history (c.step_into-is_made.ensures.accepted c.if-not-is_made.false).accepted)
+          (c.step_into-is_made.ensures.back c.if-not-is_made.false) (c.step_into-is_made.ensures.accepted c.if-not-is_made.false).back),
       record {
         counted = c.self.invariant.1.counted;
         entries = c.self.invariant.1.entries;

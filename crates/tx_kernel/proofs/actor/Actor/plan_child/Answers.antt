@@ -10,6 +10,7 @@ use Rattle.tx_kernel.specs.Own.{answer_after}
 use Rattle.tx_kernel.specs.Plans.{Plans, quiet}
 use Rattle.tx_kernel.specs.declared.planned.Outcome.TheVariants.{Done}
 use Rattle.tx_kernel.specs.declared.planned.Planned.{Planned}
+use Rattle.tx_model.specs.Processes.{child_of}
 use Rattle.tx_model.specs.Words.{fork_objects}
 use Rattle.tx_proc.specs.Parts.{process_of}
 use Rattle.tx_proc.specs.declared.proc.Part.TheVariants.{Answer as SetAnswer}
@@ -29,7 +30,7 @@ returns-clause-ok c =
     subst (λ (planned : Planned). Plans actor c.args.log.now c.push_answer.new.log planned (effect_by actor (makes_child c.args.child.0)) (names_by actor (λ d. fork_objects c.args.child.0 d.process)))
     (sym (c.quiet.ensures ∙ ap (λ (r : ℤ). quiet (Done r)) told))
     (fork_plans c.laws.ensures actor c.args.child c.in_ok-boxed.boxed c.plan_raise_all-descs.result.items c.args.log.now c.push_descs.new.log c.push.new.self c.push_answer.new.log c.sized.ensures
-    c.requires.actor c.requires.number c.requires.free (ap process_of c.in_ok-boxed.ensures ∙ c.in_ok-child.ensures)
+    c.requires.actor c.requires.number c.requires.free (ap process_of c.in_ok-boxed.ensures ∙ c.child.ensures ∙ ap (λ space. record (child_of actor.pid.0 (process_of actor.proc.now)) { memory = space }) c.in_ok-space.ensures)
     descs.counts descs.descriptions descs.once descs.numbers
     (c.in_ok-push_descs.ensures.ok ∙ ap (λ (xs : List NewDesc). c.reserve.new.self ++ desc_changes xs) c.as_slice.ensures.value
     ∙ ap (λ (old : List Change). old ++ desc_changes c.plan_raise_all-descs.result.items) c.in_ok-reserve.ensures)

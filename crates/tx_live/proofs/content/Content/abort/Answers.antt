@@ -22,9 +22,9 @@ pub returns : goal.returns
 returns c =
     let old : Content = c.args.self.now in
     let new : Content = record { parts = c.take_back-stood.new.parts; marks = c.end.new.marks; owners = c.end.new.owners; txns = c.take.new.self } in
-    abort_made c.laws.ensures old new c.args.starter c.args.ret c.unwrap-boxed.result c.deref_mut-2.result.now c.end.new.self c.take_back-stood.result
+    rw (c.put_inverse.ensures.content, c.put_inverse.ensures.place) (abort_made c.laws.ensures old new c.args.starter c.args.ret c.unwrap-boxed.result c.deref_mut-2.result.now c.end.new.self c.take_back-stood.result
     c.requires.shaped c.requires.kept (sym c.take.ensures.taken ∙ c.unwrap-boxed.ensures)
     (subst (λ (t : Txn). IsLedBack old.parts new.parts c.args.ret c.unwrap-boxed.result.txn.value t c.take_back-stood.result) (sym c.deref_mut-2.ensures.value)
     (subst (λ (t : Txn). IsLedBack old.parts new.parts c.args.ret t c.take_back-stood.new.txn c.take_back-stood.result) c.deref_mut.ensures.value
     (subst (λ (r : ℤ). IsLedBack old.parts new.parts r c.deref_mut.result.now c.take_back-stood.new.txn c.take_back-stood.result) (to_z-of_z w64 c.args.ret c.ranges.ret) c.take_back-stood.ensures)))
-    c.end.ensures.marks c.end.ensures.length c.end.ensures.owners c.sized.ensures c.end.ensures.rest c.take.ensures.emptied c.end.ensures.joined c.end.ensures.ended
+    c.end.ensures.marks c.end.ensures.length c.end.ensures.owners c.sized.ensures c.end.ensures.rest c.take.ensures.emptied c.end.ensures.joined c.end.ensures.ended)

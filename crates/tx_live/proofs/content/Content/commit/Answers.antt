@@ -73,13 +73,13 @@ returns-clause-made c = λ fits.
     = subst (λ (t : Txn). MakesLast old.parts c.make_last-made.new.parts old.marks c.args.pid c.args.act.now c.unwrap-boxed.result.txn.value t c.in-Ok.field-0) (sym c.deref_mut-2.ensures.value)
     (subst (λ (t : Txn). MakesLast old.parts c.make_last-made.new.parts old.marks c.args.pid c.args.act.now t c.make_last-made.new.txn c.in-Ok.field-0) c.deref_mut.ensures.value c.in-Ok.ensures.made) in
     let outbox : c.deref_mut-3.result.now.outbox ≡ c.post_held.new.outbox = ap (λ (t : Txn). t.outbox) c.deref_mut-3.ensures.value in
-    subst (λ (held : Bool). IsMade old (Commits c.args.starter.0) (Commit c.args.starter.0 (event_of (inside_in old c.args.starter) c.args.pid c.args.act.now)) c.args.pid.0 new
+    rw (c.put_inverse.ensures.content, c.put_inverse.ensures.place) (subst (λ (held : Bool). IsMade old (Commits c.args.starter.0) (Commit c.args.starter.0 (event_of (inside_in old c.args.starter) c.args.pid c.args.act.now)) c.args.pid.0 new
     (Committed (with_txn c.unwrap-boxed.result c.end.new.self) c.in-Ok.field-0.count held)) (sym c.hands_out-held.ensures)
     (commit_done c.laws.ensures old new c.make_last-made.new.parts c.take.new.self c.args.pid c.args.starter c.args.act.now c.unwrap-boxed.result c.deref_mut-2.result.now c.deref_mut-3.result.now c.end.new.self c.in-Ok.field-0
     c.requires.shaped c.requires.kept (sym c.take.ensures.taken ∙ c.unwrap-boxed.ensures) steps c.take.ensures.emptied
     (ap (λ (h : Held). h.sendings) outbox ∙ c.post_held.ensures.sendings) (rest_of c.deref_mut-3.result.now c.deref_mut-2.result.now c.post_held.new.outbox c.deref_mut-3.ensures.value)
     (subst (λ (h : Held). PostsAll c.make_last-made.new.parts new.parts c.take.new.self new.txns c.deref_mut-2.result.now.outbox.sendings h.posts) (sym outbox) c.post_held.ensures.posts)
-    c.end.ensures.marks c.end.ensures.length c.end.ensures.owners c.sized.ensures c.end.ensures.rest c.end.ensures.joined c.end.ensures.ended c.requires.unowned c.requires.end fits)
+    c.end.ensures.marks c.end.ensures.length c.end.ensures.owners c.sized.ensures c.end.ensures.rest c.end.ensures.joined c.end.ensures.ended c.requires.unowned c.requires.end fits))
 
 pub returns-clause-answer : goal.returns-clause-answer
 returns-clause-answer c =
@@ -89,8 +89,8 @@ returns-clause-answer c =
     = subst (λ (t : Txn). MakesLast old.parts c.make_last-made.new.parts old.marks c.args.pid c.args.act.now c.unwrap-boxed.result.txn.value t c.in-Ok.field-0) (sym c.deref_mut-2.ensures.value)
     (subst (λ (t : Txn). MakesLast old.parts c.make_last-made.new.parts old.marks c.args.pid c.args.act.now t c.make_last-made.new.txn c.in-Ok.field-0) c.deref_mut.ensures.value c.in-Ok.ensures.made) in
     let outbox : c.deref_mut-3.result.now.outbox ≡ c.post_held.new.outbox = ap (λ (t : Txn). t.outbox) c.deref_mut-3.ensures.value in
-    commit_answers c.laws.ensures old new c.make_last-made.new.parts c.take.new.self c.args.pid c.args.starter c.args.act.now c.unwrap-boxed.result c.deref_mut-2.result.now c.deref_mut-3.result.now c.end.new.self c.in-Ok.field-0
+    rw c.put_inverse.ensures.place (commit_answers c.laws.ensures old new c.make_last-made.new.parts c.take.new.self c.args.pid c.args.starter c.args.act.now c.unwrap-boxed.result c.deref_mut-2.result.now c.deref_mut-3.result.now c.end.new.self c.in-Ok.field-0
     c.requires.shaped c.requires.kept (sym c.take.ensures.taken ∙ c.unwrap-boxed.ensures) steps
     (ap (λ (h : Held). h.sendings) outbox ∙ c.post_held.ensures.sendings)
     (subst (λ (h : Held). PostsAll c.make_last-made.new.parts new.parts c.take.new.self new.txns c.deref_mut-2.result.now.outbox.sendings h.posts) (sym outbox) c.post_held.ensures.posts)
-    c.end.ensures.rest c.requires.end
+    c.end.ensures.rest c.requires.end)

@@ -45,22 +45,22 @@ pub returns-clause-made : goal.returns-clause-made
 returns-clause-made c = λ fits.
     let old : Content = c.args.self.now in
     let new : Content = record { parts = c.step_in-stepped.new.parts; marks = c.mark_progress-marked.new.marks; owners = c.step_in-stepped.new.owners; txns = c.put.new.self } in
-    subst (λ (held : Bool). IsMade old (Within c.args.starter.0 (part_of c.args.progress)) (event_of (inside_in old c.args.starter) c.args.pid c.args.act.now) c.args.pid.0 new
+    rw (c.put_inverse.ensures.content, c.put_inverse.ensures.place) (subst (λ (held : Bool). IsMade old (Within c.args.starter.0 (part_of c.args.progress)) (event_of (inside_in old c.args.starter) c.args.pid c.args.act.now) c.args.pid.0 new
     (Inside c.args.starter c.in-Ok.field-0.count c.in-Ok.field-0.before c.mark_progress-marked.result held)) (sym c.hands_out-held.ensures)
     (made_inside c.laws.ensures old new c.args.pid c.args.starter c.args.act.now c.args.progress c.args.footprint.now c.unwrap-boxed.result c.step_in-stepped.new.txn c.in-Ok.field-0
     c.mark_progress-marked.result c.requires.shaped c.requires.kept (sym c.take.ensures.taken ∙ c.unwrap-boxed.ensures)
     (subst (λ (t : Txn). StepsIn old.parts new.parts old.marks old.owners new.owners c.args.pid c.args.act.now c.args.footprint.now t c.step_in-stepped.new.txn c.in-Ok.field-0) c.deref_mut.ensures.value c.in-Ok.ensures.made)
     c.mark_progress-marked.ensures.marks c.mark_progress-marked.ensures.length c.mark_progress-marked.ensures.back c.mark_progress-marked.ensures.mark
     (c.put.ensures ∙ ap (λ (txns : List (Option BoxedTxn)). with_slot txns c.args.starter.0 (Some (with_txn c.unwrap-boxed.result c.step_in-stepped.new.txn))) c.take.ensures.emptied
-    ∙ slot_twice old.txns c.args.starter.0 None (Some (with_txn c.unwrap-boxed.result c.step_in-stepped.new.txn))) c.requires.footprint c.requires.free fits)
+    ∙ slot_twice old.txns c.args.starter.0 None (Some (with_txn c.unwrap-boxed.result c.step_in-stepped.new.txn))) c.requires.footprint c.requires.free fits))
 
 pub returns-clause-answer : goal.returns-clause-answer
 returns-clause-answer c =
     let old : Content = c.args.self.now in
     let new : Content = record { parts = c.step_in-stepped.new.parts; marks = c.mark_progress-marked.new.marks; owners = c.step_in-stepped.new.owners; txns = c.put.new.self } in
-    answers_inside c.laws.ensures old new c.args.pid c.args.starter c.args.act.now c.args.progress c.args.footprint.now c.unwrap-boxed.result c.step_in-stepped.new.txn c.in-Ok.field-0
+    rw c.put_inverse.ensures.content (answers_inside c.laws.ensures old new c.args.pid c.args.starter c.args.act.now c.args.progress c.args.footprint.now c.unwrap-boxed.result c.step_in-stepped.new.txn c.in-Ok.field-0
     c.mark_progress-marked.result c.requires.shaped c.requires.kept (sym c.take.ensures.taken ∙ c.unwrap-boxed.ensures)
     (subst (λ (t : Txn). StepsIn old.parts new.parts old.marks old.owners new.owners c.args.pid c.args.act.now c.args.footprint.now t c.step_in-stepped.new.txn c.in-Ok.field-0) c.deref_mut.ensures.value c.in-Ok.ensures.made)
     c.mark_progress-marked.ensures.marks c.mark_progress-marked.ensures.length c.mark_progress-marked.ensures.back c.mark_progress-marked.ensures.mark
     (c.put.ensures ∙ ap (λ (txns : List (Option BoxedTxn)). with_slot txns c.args.starter.0 (Some (with_txn c.unwrap-boxed.result c.step_in-stepped.new.txn))) c.take.ensures.emptied
-    ∙ slot_twice old.txns c.args.starter.0 None (Some (with_txn c.unwrap-boxed.result c.step_in-stepped.new.txn))) c.requires.footprint c.requires.free
+    ∙ slot_twice old.txns c.args.starter.0 None (Some (with_txn c.unwrap-boxed.result c.step_in-stepped.new.txn))) c.requires.footprint c.requires.free)

@@ -1,28 +1,11 @@
-use Rattle.std.proofs.Common.{List, Option, None, refl, subst, ◌∙◌}
-use Rattle.tx_kernel.specs.Acts.{event_of}
-use Rattle.tx_kernel.specs.Plans.{sent_at_once}
-use Rattle.tx_live.proofs.Outsides.{outside_answers, outside_made}
-use Rattle.tx_live.proofs.Planned.{makes_all}
-use Rattle.tx_live.specs.Made.{PostsKept}
-use Rattle.tx_live.specs.declared.content.BoxedTxn.{BoxedTxn}
-use Rattle.tx_live.specs.declared.content.Content.{Content}
 use Rattle.tx_live.proofs.content.Content.make_outside.Goals as goal
 
-pub post_sends-post-requires : goal.post_sends-post-requires
-post_sends-post-requires c =
-    (makes_all c.args.self.now.parts c.args.pid None (event_of None c.args.pid c.args.act.now) c.in_ok-log.log c.plan.new.log c.in_ok-planned.planned c.in_ok-log.ensures.log c.in_ok-planned.ensures.planned).signal
-
-pub returns-clause-made : goal.returns-clause-made
-returns-clause-made c =
-    let old : Content = c.args.self.now in
-    let makes = makes_all old.parts c.args.pid None (event_of None c.args.pid c.args.act.now) c.in_ok-log.log c.plan.new.log c.in_ok-planned.planned c.in_ok-log.ensures.log c.in_ok-planned.ensures.planned in
-    outside_made c.laws.ensures old (record old { parts = c.lead_forward.new.parts; txns = c.post_sends-post.new.txns }) c.args.pid (event_of None c.args.pid c.args.act.now) c.plan.new.log c.lead_forward.new.self
-    c.in_ok-planned.planned c.post_sends-post.result c.requires.shaped c.requires.kept c.requires.unowned makes c.lead_forward.ensures.parts c.lead_forward.ensures.log refl refl
-    (subst (λ (txns : List (Option BoxedTxn)). PostsKept txns c.post_sends-post.new.txns (sent_at_once c.in_ok-planned.planned.sends)) c.in_ok-log.ensures.table c.post_sends-post.ensures.posted)
-    (c.post_sends-post.ensures.back ∙ c.in_ok-log.ensures.table) c.post_sends-post.ensures.starter
-
-pub returns-clause-answer : goal.returns-clause-answer
-returns-clause-answer c =
-    let old : Content = c.args.self.now in
-    let makes = makes_all old.parts c.args.pid None (event_of None c.args.pid c.args.act.now) c.in_ok-log.log c.plan.new.log c.in_ok-planned.planned c.in_ok-log.ensures.log c.in_ok-planned.ensures.planned in
-    outside_answers old (record old { parts = c.lead_forward.new.parts; txns = c.post_sends-post.new.txns }) c.args.pid (event_of None c.args.pid c.args.act.now) c.plan.new.log c.in_ok-planned.planned makes c.lead_forward.ensures.parts
+pub make_logged-made-requires : goal.make_logged-made-requires
+make_logged-made-requires c = rw c.in_ok-log.ensures.table (record {
+  shaped = c.requires.shaped;
+  whole = c.requires.whole;
+  running = c.requires.running;
+  kept = c.requires.kept;
+  unowned = c.requires.unowned;
+  empty = c.in_ok-log.ensures.log;
+})

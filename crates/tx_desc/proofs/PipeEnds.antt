@@ -1,5 +1,8 @@
 -- The ends of a pipe among the descriptions.
-use Rattle.std.proofs.Common.{◌≡◌, ℕ, zero, suc, ◌+◌, Bool, true, false, List, Option, Some, None, if◌then◌else◌, get_or, refl, sym, ap, ◌∙◌, arith}
+use Rattle.std.proofs.Common.{◌≡◌, ℕ, zero, suc, ◌+◌, ◌<◌, ◌≤◌, Bool, true, false, List, Option, Some, None, if◌then◌else◌, nat_lt, count_by, get_or, length, take, refl, sym, ap, ◌∙◌, arith, inl, inr}
+use Rattle.std.proofs.lemmas.Bool.{cases_Bool, lt-ltb}
+use Rattle.std.proofs.lemmas.List.{take_all}
+use Rattle.std.proofs.lemmas.List.Sums.{count_by_more_yes, count_by_more_no}
 use Rattle.tx_model.specs.State.{Side as End, ReadSide, WriteSide, Description, State, side_in}
 use Rattle.tx_model.specs.Descriptors.{is_side, has_description, some_below}
 use Rattle.tx_model.specs.Words.{has_side_below}
@@ -8,6 +11,7 @@ use Rattle.tx_desc.specs.declared.opened.Side.{Side}
 use Rattle.tx_desc.specs.declared.opened.Side.TheVariants.{Read, Write}
 use Rattle.tx_desc.specs.declared.opened.Opened.{Opened}
 use Rattle.tx_desc.specs.Descriptions.{HasDescs, has_side, side_test, is_end_of}
+use Rattle.tx_desc.specs.EndCounts.{IsCounted, count_at}
 
 or_right : (a b : Bool) → b ≡ true → (if a then true else b) ≡ true
 or_right true b h = refl
@@ -17,31 +21,42 @@ or_left : (a b : Bool) → b ≡ false → (if a then true else b) ≡ a
 or_left true b h = refl
 or_left false b h = h
 
-is_end_at : (side : Side) (k d : ℕ) (S : State) (D : List (Option Opened)) → HasDescs S D →
-    is_side (side_test side) (side_in k (S.descs d)) ≡ is_end_of side k (get_or D d None)
-is_end_at side k d S D same = ap (λ (x : Option Description). is_side (side_test side) (side_in k x)) (same d)
-
-below_next : (test : End → Bool) (k d : ℕ) (S : State) → has_side_below test k (d + 1) S ≡ (if has_side_below test k d S then true else is_side test (side_in k (S.descs d)))
+-- among the first n places one is of the kind exactly where their count is above 0
+counted_below : (test : Option Opened → Bool) (P : ℕ → Bool) (D : List (Option Opened)) (n : ℕ) → n ≤ length D → ((d : ℕ) → P d ≡ test (get_or D d None)) →
+    some_below P n ≡ nat_lt 0 (count_by test (take n D))
 unfolding some_below
-below_next test k d S = let next : d + 1 ≡ suc d = omega arith in ap (λ (n : ℕ). has_side_below test k n S) next
+counted_below test P D zero small same = refl
+counted_below test P D (suc n) small same =
+    let before = counted_below test P D n (omega arith) same in
+    let inside : n < length D = omega arith in
+    let next : n + 1 ≡ suc n = omega arith in
+    elim (cases_Bool (test (get_or D n None))) [
+      | inl hit ↦
+          let more = count_by_more_yes test D n None inside hit in
+          or_right (some_below P n) (P n) (same n ∙ hit)
+          ∙ sym (lt-ltb 0 (count_by test (take (suc n) D)) (rw (← next, more) (omega arith)))
+      | inr miss ↦
+          let more = count_by_more_no test D n None inside miss in
+          or_left (some_below P n) (P n) (same n ∙ miss) ∙ before ∙ rw (← next, more) refl
+    ]
 
-pub end_found : (side : Side) (k d : ℕ) (S : State) (D : List (Option Opened)) → HasDescs S D → is_end_of side k (get_or D d None) ≡ true →
-    true ≡ has_side_below (side_test side) k (d + 1) S
-end_found side k d S D same h =
-    sym (below_next (side_test side) k d S ∙ or_right (has_side_below (side_test side) k d S) _ (is_end_at side k d S D same ∙ h))
+counted_within : (test : Option Opened → Bool) (P : ℕ → Bool) (D : List (Option Opened)) → length D ≡ 64 → ((d : ℕ) → P d ≡ test (get_or D d None)) →
+    some_below P 64 ≡ nat_lt 0 (count_by test D)
+counted_within test P D sized same =
+    let all = take_all 64 D (omega arith) in
+    counted_below test P D 64 (omega arith) same ∙ ap (λ (xs : List (Option Opened)). nat_lt 0 (count_by test xs)) all
 
-pub end_missed : (side : Side) (k d : ℕ) (S : State) (D : List (Option Opened)) → HasDescs S D → is_end_of side k (get_or D d None) ≡ false →
-    has_side_below (side_test side) k d S ≡ has_side_below (side_test side) k (d + 1) S
-end_missed side k d S D same h =
-    sym (below_next (side_test side) k d S ∙ or_left (has_side_below (side_test side) k d S) _ (is_end_at side k d S D same ∙ h))
+-- a side of the pipe is there exactly where its count is above 0
+pub end_there : (side : Side) (k : ℕ) (S : State) (D : List (Option Opened)) (counts : List ℕ) → k < 256 → IsCounted D counts → HasDescs S D →
+    nat_lt 0 (count_at side k counts) ≡ has_side side k S
+end_there side k S D counts small is has = ap (nat_lt 0) (is.each side k small) ∙ sym (by side)
+  where
+    at_place : (side : Side) (d : ℕ) → is_side (side_test side) (side_in k (S.descs d)) ≡ is_end_of side k (get_or D d None)
+    at_place side d = ap (λ (x : Option Description). is_side (side_test side) (side_in k x)) (has d)
 
-pub none_below : (test : End → Bool) (k : ℕ) (S : State) → false ≡ has_side_below test k 0 S
-unfolding some_below
-none_below test k S = refl
-
-pub side_whole : (side : Side) (k d : ℕ) (S : State) → d ≡ 64 → has_side_below (side_test side) k d S ≡ has_side side k S
-side_whole Read k d S all = ap (λ (n : ℕ). has_side_below is_read_side k n S) all
-side_whole Write k d S all = ap (λ (n : ℕ). has_side_below is_write_side k n S) all
+    by : (side : Side) → has_side side k S ≡ nat_lt 0 (count_by (is_end_of side k) D)
+    by Read = counted_within (is_end_of Read k) (λ d. is_side is_read_side (side_in k (S.descs d))) D is.sized (at_place Read)
+    by Write = counted_within (is_end_of Write k) (λ d. is_side is_write_side (side_in k (S.descs d))) D is.sized (at_place Write)
 
 either : (x : Option End) → (if is_side is_read_side x then true else is_side is_write_side x) ≡ is_side (λ (side : End). true) x
 either None = refl
