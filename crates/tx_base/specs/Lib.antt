@@ -1,4 +1,5 @@
 pub mod Errors
+pub mod Lends
 pub mod Numbers
 pub mod Signals
 pub mod Slots

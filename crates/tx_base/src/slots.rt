@@ -1,6 +1,7 @@
 //! A table of numbered slots, whose room is reserved at the start.
-ghost use Rattle.std.specs.Prelude.{◌≡◌, ◌<◌, ◌≤◌, ◌-◌, ◌↔◌, None, Some, IfOk, replicate, length, slice_set};
+ghost use Rattle.std.specs.Prelude.{◌≡◌, ◌<◌, ◌≤◌, ◌-◌, ◌↔◌, None, Some, IfOk, IsSome, replicate, length, slice_set};
 ghost use Rattle.std.specs.Option.{option_copied};
+ghost use Rattle.std.specs.Borrow.{sem};
 
 use crate::errors::NoMemory;
 use crate::names::Pid;
@@ -24,6 +25,7 @@ impl<T: Drop> Model for Slots<T> {
 }
 
 impl<T: Drop> Slots<T> {
+    ghost use Rattle.tx_base.specs.Lends.{lends_slot};
     ghost use Rattle.tx_base.specs.Slots.{slot_at, with_slot};
 
     /// So many empty slots.
@@ -52,6 +54,15 @@ impl<T: Drop> Slots<T> {
             return None;
         }
         self.slots[pid.0 as usize - 1].as_ref()
+    }
+
+    /// What stands in the slot of a number, to be changed where it stands. The slot must not be empty.
+    pub fn value_mut(&mut self, pid: Pid) -> &mut T
+        requires { IsSome (slot_at self.old pid.0) }
+        ensures* writes_back { sem 𝓛 (lends_slot T.row self.entry pid.0 result) }
+        ensures value { slot_at self.old pid.0 ≡ Some result.now }
+    {
+        self.slots[pid.0 as usize - 1].as_mut().unwrap()
     }
 
     /// Exchanges what stands in the slot of a number.

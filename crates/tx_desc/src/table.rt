@@ -1,8 +1,7 @@
 //! The descriptors of a process.
-ghost use Rattle.std.specs.Prelude.{◌≡◌, ◌<◌, ℕ, [], ◌∷◌, None, is_none, length, map, position, replicate, slice_index_or, slice_set, take};
+ghost use Rattle.std.specs.Prelude.{◌≡◌, ◌<◌, ℕ, [], ◌∷◌, None, is_none, length, map, position, replicate, slice_index_or, slice_set};
 ghost use Rattle.tx_model.specs.Descriptors.{description_named, descriptor, first_free};
 ghost use Rattle.tx_model.specs.State.{Process};
-ghost use Rattle.tx_desc.specs.Counts.{count_in};
 ghost use Rattle.tx_desc.specs.Places.{Finds, number_in, looked_up, two_free};
 ghost use Rattle.tx_desc.specs.Plans.{put_names};
 
@@ -105,21 +104,6 @@ impl FdTable {
         Some((first, second))
     }
 
-    /// How many of the descriptors name a description: 0 to 16.
-    pub fn names_of(&self, d: DescNo) -> usize
-        ensures { result ≡ count_in d.0 self.now }
-    {
-        count_of(&self.places, d)
-    }
-
-    /// How many of the descriptors below this one name a description.
-    pub(crate) fn names_below(&self, fd: usize, d: DescNo) -> usize
-        requires { fd < 16 }
-        ensures { result ≡ count_in d.0 (take fd self.now) }
-    {
-        count_of(&self.places[..fd], d)
-    }
-
     /// Exchanges what a descriptor names: 0 to 15. A second exchange takes the first one back. It
     /// counts no names. Own rule.
     pub fn swap(&mut self, fd: usize, name: &mut Option<DescNo>)
@@ -154,11 +138,4 @@ fn first_vacant(places: &[Option<DescNo>; DESCRIPTORS]) -> Option<usize>
     ensures { result ≡ position (λ x. is_none x) places.now }
 {
     places.iter().position(|place| place.is_none())
-}
-
-/// How many of these places name a description.
-fn count_of(places: &[Option<DescNo>], d: DescNo) -> usize
-    ensures { result ≡ count_in d.0 (map number_in places.now) }
-{
-    places.iter().filter(|place| **place == Some(d)).count()
 }

@@ -1,5 +1,5 @@
 -- Steps that are made: a plan, and its exchanges.
-use Rattle.std.proofs.Common.{◌≡◌, ℕ, ℤ, List, [], ◌∷◌, ◌++◌, drop, take, length, Option, refl, ap, sym, subst, ◌∙◌}
+use Rattle.std.proofs.Common.{◌≡◌, ℕ, ℤ, List, [], ◌∷◌, ◌++◌, drop, take, length, Option, Result, Ok, Err, IfOk, IfErr, ◌⊎◌, inl, inr, refl, ap, sym, subst, ◌∙◌}
 use Rattle.std.proofs.lemmas.List.{drop_at, take_at}
 use Rattle.tx_base.specs.declared.names.Pid.{Pid}
 use Rattle.tx_change.specs.Counts.{CountsAgree}
@@ -15,7 +15,7 @@ use Rattle.tx_kernel.specs.Own.{PlansOwn}
 use Rattle.tx_kernel.proofs.OwnPlans.{own_plans}
 use Rattle.tx_kernel.proofs.StepPlans.{quiet_step}
 use Rattle.tx_kernel.specs.Laws.{PlanLaws}
-use Rattle.tx_kernel.specs.Plans.{AreAmong, quiet}
+use Rattle.tx_kernel.specs.Plans.{AreAmong, ChoosesBadly, IsBadChoice, IsRefused, RefusedBy, quiet}
 use Rattle.tx_kernel.specs.Steps.{target_objects, GivesStep, PlansStep}
 use Rattle.tx_kernel.specs.declared.actor.Actor.{Actor}
 use Rattle.tx_kernel.specs.declared.planned.Outcome.{Outcome}
@@ -24,15 +24,16 @@ use Rattle.tx_kernel.specs.declared.planned.Planned.{Planned}
 use Rattle.tx_kernel.specs.declared.inside.Inside.{Inside}
 use Rattle.tx_base.specs.declared.names.Signo.{Signo}
 use Rattle.tx_base.specs.declared.steps.Call.{Call}
+use Rattle.tx_base.specs.declared.steps.Refusal.{Refusal}
 use Rattle.tx_base.specs.declared.steps.Step.{Step}
 use Rattle.tx_base.specs.declared.steps.Step.TheVariants.{Call as Calls, Deliver}
 use Rattle.tx_model.specs.Events.{Event, Do, Note, effect, objects, effect_at, objects_at}
 use Rattle.tx_model.specs.Words.{note_effect, answer_effect}
 use Rattle.tx_model.specs.Effects.{Inside as TheInside}
-use Rattle.tx_model.specs.Forms.{Page}
+use Rattle.tx_model.specs.Forms.{Choice, ChoosesNothing, Page}
 use Rattle.tx_model.specs.State.{has_object, Object, State}
 use Rattle.tx_model.specs.Book.{page_of_call}
-use Rattle.tx_model.specs.Deliveries.{delivery_page}
+use Rattle.tx_model.specs.Deliveries.{delivery, delivery_page}
 use Rattle.tx_model.specs.BookLaws.{names_as, runs_as}
 use Rattle.tx_proc.specs.Parts.{process_in}
 
@@ -109,6 +110,33 @@ plans_event actor page step of log now planned is plans =
           (sym (of.names (inside_of actor.inside) actor.pid (state_of held parts) ∙ names_as (inside_of actor.inside) actor.pid.0 page (state_of held parts) (me_of actor) (ap process_in is.there)))
           (plans.among held);
     }
+
+-- and what refuses it its rule refuses
+pub refuses_event : (actor : Actor) (page : Page) (step : Pid → Step) → IsOfPage page step → IsActor actor → (why : Refusal) →
+    RefusedBy actor why (effect_by actor page.outcome) → IsRefused actor.parts.now actor.inside why (effect (Do (step actor.pid) (inside_of actor.inside)))
+refuses_event actor page step of is why (inl memory) = inl memory
+refuses_event actor page step of is why (inr refused) = inr (λ held counted.
+    let S = state_of held actor.parts.now in
+    of.rule (inside_of actor.inside) actor.pid S ∙ runs_as (inside_of actor.inside) actor.pid.0 page S (me_of actor) (ap process_in is.there) is.runs ∙ refused held counted)
+
+-- the same of what the plan answers
+pub plans_as : (actor : Actor) (page : Page) (step : Pid → Step) → IsOfPage page step → (log now : List Change) → IsActor actor → (r : Result Planned Refusal) →
+    IfOk r (λ planned. PlansStep actor log now planned.outcome planned.sends (effect_by actor page.outcome) (names_by actor page.names)) →
+    IfOk r (λ planned. PlansEvent actor log now planned (Do (step actor.pid) (inside_of actor.inside)))
+plans_as actor page step of log now is (Ok planned) plans = plans_event actor page step of log now planned is plans
+plans_as actor page step of log now is (Err why) plans = tt
+
+pub refuses_as : (actor : Actor) (page : Page) (step : Pid → Step) → IsOfPage page step → IsActor actor → (choice : Choice) (r : Result Planned Refusal) →
+    IfErr r (λ why. RefusedBy actor why (effect_by actor page.outcome) ⊎ IsBadChoice actor why choice) →
+    IfErr r (λ why. IsRefused actor.parts.now actor.inside why (effect (Do (step actor.pid) (inside_of actor.inside))) ⊎ ChoosesBadly actor.parts.now why choice)
+refuses_as actor page step of is choice (Ok planned) refused = tt
+refuses_as actor page step of is choice (Err why) (inl refused) = inl (refuses_event actor page step of is why refused)
+refuses_as actor page step of is choice (Err why) (inr bad) = inr bad
+
+pub refuses_delivery : (actor : Actor) (signo : Signo) → IsActor actor → (r : Result Planned Refusal) → IfErr r (λ why. RefusedBy actor why (effect_by actor (delivery signo.0))) →
+    IfErr r (λ why. IsRefused actor.parts.now actor.inside why (effect (Do (Deliver actor.pid signo) (inside_of actor.inside))) ⊎ ChoosesBadly actor.parts.now why ChoosesNothing)
+refuses_delivery actor signo is (Ok planned) refused = tt
+refuses_delivery actor signo is (Err why) refused = inl (refuses_event actor (delivery_page signo.0) (λ pid. Deliver pid signo) (of_delivery signo) is why refused)
 
 -- an answer is planned as the note of it
 pub plans_note : (laws : PlanLaws) (actor : Actor) (log now : List Change) (outcome : Outcome) (ret : ℤ) → length actor.parts.now.descs ≡ 64 → IsActor actor →

@@ -1,5 +1,5 @@
 -- What a process is asked to do, as an event; the plan of an event, and what the event comes to that is made on the parts.
-use Rattle.std.specs.Prelude.{◌≡◌, ℕ, List, ◌++◌, Option, drop, take, length}
+use Rattle.std.specs.Prelude.{◌≡◌, ◌⊎◌, ℕ, List, ◌++◌, Option, drop, take, length}
 use Rattle.tx_base.specs.declared.names.Pid.{Pid}
 use Rattle.tx_base.specs.declared.steps.Refusal.{Refusal}
 use Rattle.tx_base.specs.declared.steps.Step.TheVariants.{Call as Calls, Deliver}
@@ -10,7 +10,7 @@ use Rattle.tx_change.specs.States.{state_of}
 use Rattle.tx_change.specs.declared.change.Change.{Change}
 use Rattle.tx_change.specs.declared.parts.Parts.{Parts}
 use Rattle.tx_kernel.specs.Actors.{CountsHeld, IsActor, inside_of}
-use Rattle.tx_kernel.specs.Plans.{AreAmong, HasSignal, IsRefused}
+use Rattle.tx_kernel.specs.Plans.{AreAmong, ChoosesBadly, HasSignal, IsRefused}
 use Rattle.tx_kernel.specs.Steps.{GivesStep, target_objects}
 use Rattle.tx_kernel.specs.declared.events.Act.{Act}
 use Rattle.tx_kernel.specs.declared.events.Act.TheVariants.{Call, Delivery, Answer}
@@ -18,8 +18,8 @@ use Rattle.tx_kernel.specs.declared.actor.Actor.{Actor}
 use Rattle.tx_kernel.specs.declared.inside.Inside.{Inside}
 use Rattle.tx_kernel.specs.declared.planned.Planned.{Planned}
 use Rattle.tx_model.specs.Effects.{Inside as TheInside}
-use Rattle.tx_model.specs.Forms.{Page}
-use Rattle.tx_model.specs.Events.{Event, Do, Note, effect, objects, effect_at}
+use Rattle.tx_model.specs.Forms.{Choice, ChoosesNothing, Page}
+use Rattle.tx_model.specs.Events.{Event, Do, Note, Commit, effect, objects, effect_at, page_of_step}
 use Rattle.tx_model.specs.State.{Sending}
 
 -- the event in which the process of a number does what it is asked to
@@ -65,3 +65,13 @@ PlansAreMade = (actor : Actor) (event : Event) (log between now : List Change) (
 -- nothing is done, and why: a growth of memory was refused, or the rule refuses the step
 abbrev pub RefusesPage : Parts → Pid → Option Inside → Page → Refusal → Type 0
 RefusesPage before pid inside page why = IsRefused before inside why (effect_at (inside_of inside) pid.0 page)
+
+-- the numbers that an event chooses
+abbrev pub choice_of : Event → Choice
+choice_of (Do step inside) = (page_of_step step).chooses
+choice_of (Note p ret) = ChoosesNothing
+choice_of (Commit s event) = ChoosesNothing
+
+-- nothing is planned of an event, and why: a growth of memory was refused, its rule refuses it, or it chooses a bad number
+abbrev pub RefusesEvent : Parts → Option Inside → Event → Refusal → Type 0
+RefusesEvent before inside event why = IsRefused before inside why (effect event) ⊎ ChoosesBadly before why (choice_of event)

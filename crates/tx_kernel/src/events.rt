@@ -1,14 +1,15 @@
 //! What a process is asked to do, and the plan of it.
-ghost use Rattle.std.specs.Prelude.{◌≡◌, IfOk, OnErr};
+ghost use Rattle.std.specs.Prelude.{◌≡◌, IfErr, IfOk, OnErr};
+ghost use Rattle.tx_base.specs.declared.steps.Refusal.TheVariants.{NoMemory};
 ghost use Rattle.tx_kernel.specs.Actors.{IsActor, inside_of};
-ghost use Rattle.tx_kernel.specs.Acts.{PlansEvent, event_of};
+ghost use Rattle.tx_kernel.specs.Acts.{PlansEvent, RefusesEvent, event_of};
 ghost use Rattle.tx_model.specs.Events.{Note};
 
 use crate::actor::Actor;
 use crate::laws::laws;
 use crate::planned::Planned;
 use std::alloc::Global;
-use tx_base::{Call, NoMemory, Refusal, Signo};
+use tx_base::{Call, Refusal, Signo};
 use tx_change::Log;
 
 /// What a process is asked to do.
@@ -27,36 +28,27 @@ impl Actor<'_> {
     /// Plans what the process is asked to do, as `plan_call` and `plan_delivery`: appends its
     /// exchanges to the log, those of its post with them. Nothing is changed.
     ///
-    /// NoMemory where that refuses, whatever the reason: it takes asking to know that the rule lets
-    /// it be made. The log is then as it was.
-    pub fn plan(&self, alloc: Global, act: &Act, log: &mut Log) -> Result<Planned, NoMemory>
+    /// Refuses as these do, and an answer by NoMemory alone. The log is then as it was.
+    pub fn plan(&self, alloc: Global, act: &Act, log: &mut Log) -> Result<Planned, Refusal>
         requires { IsActor self.now }
-        ensures ok { IfOk result (λ planned. PlansEvent self.now log.old log.new planned (event_of (inside_of self.now.inside) self.now.pid act.now)) }
-        ensures err { OnErr result (log.new ≡ log.old) }
-    {
-        match self.plan_asked(alloc, act, log) {
-            Ok(planned) => Ok(planned),
-            Err(_why) => Err(NoMemory),
-        }
-    }
-
-    /// Plans what the process is asked to do, by its kind. The log is as it was after a refusal.
-    fn plan_asked(&self, alloc: Global, act: &Act, log: &mut Log) -> Result<Planned, Refusal>
-        requires { IsActor self.now }
-        ensures ok { IfOk result (λ planned. PlansEvent self.now log.old log.new planned (event_of (inside_of self.now.inside) self.now.pid act.now)) }
+        ensures ok { IfOk result (λ planned. PlansEvent self.now log.old log.new planned
+            (event_of (inside_of self.now.inside) self.now.pid act.now)) }
+        ensures refused { IfErr result (RefusesEvent self.now.parts.now self.now.inside
+            (event_of (inside_of self.now.inside) self.now.pid act.now)) }
         ensures err { OnErr result (log.new ≡ log.old) }
     {
         match act {
-            Act::Call(call) => Ok(self.plan_call(alloc, call, log)?),
-            Act::Delivery(signo) => Ok(self.plan_delivery(alloc, *signo, log)?),
-            Act::Answer(ret) => Ok(self.plan_note(*ret, log)?),
+            Act::Call(call) => self.plan_call(alloc, call, log),
+            Act::Delivery(signo) => self.plan_delivery(alloc, *signo, log),
+            Act::Answer(ret) => self.plan_note(*ret, log),
         }
     }
 
-    /// Plans an answer, and nothing else. After want of memory the log is as it was.
-    fn plan_note(&self, ret: i64, log: &mut Log) -> Result<Planned, NoMemory>
+    /// Plans an answer, and nothing else. Refuses by NoMemory alone; the log is then as it was.
+    fn plan_note(&self, ret: i64, log: &mut Log) -> Result<Planned, Refusal>
         requires { IsActor self.now }
         ensures ok { IfOk result (λ planned. PlansEvent self.now log.old log.new planned (Note self.now.pid.0 ret)) }
+        ensures memory { IfErr result (λ why. why ≡ NoMemory) }
         ensures err { OnErr result (log.new ≡ log.old) }
     {
         laws();

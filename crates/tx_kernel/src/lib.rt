@@ -24,8 +24,9 @@
 //! and put its post behind its changes (`push_sends`), so that the log has the whole step
 //! (`PlansStep`): the state and the reply are then those of the effect with its post made. After a
 //! refusal the log has its old length. `Actor::plan` is one door to all of them: it is asked a
-//! call, a delivery, or an answer alone (`Act`), and its plan is that of the event (`PlansEvent`).
-//! `post` makes a post in place, and gives the change that takes it back.
+//! call, a delivery, or an answer alone (`Act`), and its plan is that of the event (`PlansEvent`),
+//! or the refusal (`RefusesEvent`). `post` makes a post in place, and gives the change that takes it
+//! back.
 //!
 //! `act` and `deliver` make the step: they find the process (`Actor::at`), plan, and exchange what
 //! the plan appended, so the log then has what leads back (`Makes`). `plans_are_made` says the same

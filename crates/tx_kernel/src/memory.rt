@@ -77,7 +77,31 @@ impl Actor<'_> {
             (effect_by self.now (store address bytes.now.items))) }
         ensures err { OnErr result (Extends log.old log.new) }
     {
-        match self.proc.space.plan_store(alloc, address, bytes.as_slice()) {
+        let bytes = bytes.as_slice();
+        // Most often the bytes lie on one page, and no list of pages is wanted.
+        match self.proc.space.plan_store_on_page(alloc, address, bytes) {
+            Some(Ok(new)) => self.plan_page(new, log),
+            Some(Err(PageError::NoMemory)) => Err(NoMemory),
+            Some(Err(_)) => self.plan_error(Errno::BadAddress, log),
+            None => self.plan_store_on_pages(alloc, address, bytes, log),
+        }
+    }
+
+    /// Stores bytes from an address on, all of them or none, on however many pages they lie. Own
+    /// rule.
+    #[inline(never)] // inlined, it would have room for its list made for every store
+    fn plan_store_on_pages(
+        &self,
+        alloc: Global,
+        address: i64,
+        bytes: &[u8],
+        log: &mut Log,
+    ) -> Result<Outcome, NoMemory>
+        ensures ok { IfOk result (λ outcome. PlansOwn self.now log.old log.new outcome
+            (effect_by self.now (store address bytes.now))) }
+        ensures err { OnErr result (Extends log.old log.new) }
+    {
+        match self.proc.space.plan_store(alloc, address, bytes) {
             Ok(new) => self.plan_pages(new, log),
             Err(PageError::NoMemory) => Err(NoMemory),
             Err(_) => self.plan_error(Errno::BadAddress, log),

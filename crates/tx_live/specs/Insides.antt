@@ -4,9 +4,10 @@ use Rattle.tx_base.specs.Slots.{slot_at}
 use Rattle.tx_base.specs.declared.marks.Mark.{Mark}
 use Rattle.tx_base.specs.declared.names.Pid.{Pid}
 use Rattle.tx_base.specs.declared.names.Sending.{Sending}
+use Rattle.tx_base.specs.declared.steps.Refusal.{Refusal}
 use Rattle.tx_change.specs.declared.parts.Parts.{Parts}
 use Rattle.tx_kernel.specs.Actors.{transaction_of}
-use Rattle.tx_kernel.specs.Acts.{event_of, Makes}
+use Rattle.tx_kernel.specs.Acts.{RefusesEvent, event_of, Makes}
 use Rattle.tx_kernel.specs.Plans.{sending_of}
 use Rattle.tx_kernel.specs.declared.events.Act.{Act}
 use Rattle.tx_kernel.specs.declared.inside.Inside.{Inside}
@@ -68,6 +69,13 @@ pub record MakesIn (before after : Parts) (marks : List (Option Mark)) (pid : Pi
   pub makes : Makes before pid (Some inside) (event_of (Some (inside_at old marks)) pid act) old.log new.log after planned
   pub outbox : new.outbox ≡ record { sendings = old.outbox.sendings ++ handed_out planned.sends; posts = old.outbox.posts ++ unmade_of planned.sends }
   pub rest : new ≡ record old { log = new.log; outbox = new.outbox }
+
+-- a member of the transaction is refused what it is asked to do, and why
+pub record RefusesIn (before : Parts) (marks : List (Option Mark)) (pid : Pid) (act : Act) (txn : Txn) (why : Refusal) : Type 0 where
+  pub inside : Inside
+  pub is : transaction_of inside ≡ inside_at txn marks
+  pub held : inside.held ≡ member_sends (map sending_of txn.outbox.sendings)
+  pub refuses : RefusesEvent before (Some inside) (event_of (Some (inside_at txn marks)) pid act) why
 
 -- the event was made so, and the transaction has reserved the footprint
 pub record StepsIn (before after : Parts) (marks : List (Option Mark)) (owners others : List (Option Pid)) (pid : Pid) (act : Act) (footprint : Objects) (old new : Txn) (stepped : Stepped) : Type 0 where

@@ -6,6 +6,7 @@ pub mod Made
 pub mod Insides
 pub mod Begins
 pub mod Laws
+pub mod Lends
 pub mod HeldPosts
 pub mod Commits
 pub mod Tables

@@ -1,13 +1,15 @@
 -- What a step makes of the content, by what it is to the transactions.
-use Rattle.std.specs.Prelude.{◌≡◌, ◌++◌, ℕ, true, List, Option, Some, None, option_map, length, take, drop}
+use Rattle.std.specs.Prelude.{◌≡◌, ◌⊎◌, ◌++◌, ℕ, true, List, Option, Some, None, option_map, length, take, drop}
 use Rattle.tx_base.specs.Slots.{slot_at}
 use Rattle.tx_base.specs.declared.names.Pid.{Pid}
 use Rattle.tx_change.specs.Exchange.{applied, exchanged}
 use Rattle.tx_change.specs.declared.change.Change.{Change}
 use Rattle.tx_change.specs.declared.parts.Parts.{Parts}
 use Rattle.tx_cred.specs.Cred.{ids_of}
-use Rattle.tx_kernel.specs.Acts.{Makes}
-use Rattle.tx_kernel.specs.Plans.{AreAmong, memory_in, reply_of as reply_with}
+use Rattle.tx_base.specs.declared.steps.Refusal.{Refusal}
+use Rattle.tx_base.specs.declared.steps.Refusal.TheVariants.{NoMemory}
+use Rattle.tx_kernel.specs.Acts.{Makes, choice_of}
+use Rattle.tx_kernel.specs.Plans.{AreAmong, ChoosesBadly, memory_in, reply_of as reply_with}
 use Rattle.tx_kernel.specs.declared.inside.Inside.{Inside}
 use Rattle.tx_kernel.specs.declared.planned.Outcome.{Outcome}
 use Rattle.tx_kernel.specs.declared.planned.Planned.{Planned}
@@ -19,7 +21,8 @@ use Rattle.tx_live.specs.Inverses.{changes_of, with_kept_pending, GoesWith, Undo
 use Rattle.tx_live.specs.declared.content.BoxedTxn.{BoxedTxn}
 use Rattle.tx_live.specs.declared.content.Content.{Content}
 use Rattle.tx_live.specs.declared.inverse.Inverse.{Inverse}
-use Rattle.tx_model.specs.Events.{Event, objects, reply_of}
+use Rattle.tx_model.specs.Effects.{idle}
+use Rattle.tx_model.specs.Events.{Event, effect, objects, reply_of}
 use Rattle.tx_model.specs.Membership.{Role, Outside, Within, Commits, Aborts}
 use Rattle.tx_model.specs.State.{Object, Sending, has_object}
 use Rattle.tx_proc.specs.Parts.{process_in}
@@ -71,6 +74,10 @@ pub record IsMade (old : Content) (role : Role) (event : Event) (process : ℕ) 
   pub goes : GoesWith new inverse
   pub back : Undoes new inverse old
   pub local : AreLocal role event old (changes_of new inverse)
+
+-- why a step was not made: for want of memory, by the rule of its event, or since a number that it chooses is bad
+abbrev pub RefusesStep : Content → Event → Refusal → Type 0
+RefusesStep k event why = (why ≡ NoMemory) ⊎ (effect event (now_of k) ≡ idle why) ⊎ ChoosesBadly k.parts why (choice_of event)
 
 -- the outcome says the reply of the event; bytes that it shows are of the memory that the process has now
 abbrev pub Answers : Content → Event → Pid → Content → Outcome → Type 0

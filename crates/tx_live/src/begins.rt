@@ -79,8 +79,10 @@ fn begun(
     let proc = parts.proc(pid).unwrap();
     let mut boxed = txns.fresh(alloc, pid, defers, proc)?;
     let answer = Act::Answer(0);
-    let _planned = plan(alloc, parts, pid, None, &answer, &mut boxed.txn.log)?;
-    Ok(boxed)
+    match plan(alloc, parts, pid, None, &answer, &mut boxed.txn.log) {
+        Ok(_planned) => Ok(boxed),
+        Err(_memory) => Err(NoMemory),
+    }
 }
 
 /// Makes the first step of a transaction, which reserves its starter.

@@ -89,7 +89,7 @@ struct Last {
 
 /// Makes what the last member is asked to do.
 ///
-/// NoMemory as `make_in`; all is then as it was.
+/// NoMemory where `make_in` refuses; all is then as it was.
 fn make_last(
     alloc: Global,
     parts: &mut Parts,
@@ -105,7 +105,9 @@ fn make_last(
     ensures txn { OnErr result (txn.new ≡ txn.old) }
 {
     let from = txn.log.len();
-    let planned = make_in(alloc, parts, marks, pid, act, txn)?;
+    let Ok(planned) = make_in(alloc, parts, marks, pid, act, txn) else {
+        return Err(NoMemory);
+    };
     let count = txn.log.len() - from;
     Ok(Last { planned, count })
 }

@@ -1,11 +1,11 @@
 //! Steps inside of a transaction.
-ghost use Rattle.std.specs.Prelude.{◌≡◌, ◌≤◌, ◌++◌, ◌∷◌, [], ◌-◌, ℕ, true, length, map, Some, None, IfOk, OnErr, OnOk, IsSome};
+ghost use Rattle.std.specs.Prelude.{◌≡◌, ◌≤◌, ◌++◌, ◌∷◌, [], ◌-◌, ℕ, true, length, map, Some, None, IfErr, IfOk, OnErr, OnOk, IsSome};
 ghost use Rattle.tx_base.specs.Slots.{slot_at};
 ghost use Rattle.tx_kernel.specs.Actors.{IsWhole};
 ghost use Rattle.tx_kernel.specs.Acts.{event_of};
 ghost use Rattle.tx_live.specs.Content.{content_of, view_of, IsShaped};
-ghost use Rattle.tx_live.specs.Insides.{handed_out, inside_in, is_handed_out, unmade_of, IsFootprint, IsFree, MakesIn, StepsIn};
-ghost use Rattle.tx_live.specs.Made.{Answers, IsMade, IsRunning};
+ghost use Rattle.tx_live.specs.Insides.{handed_out, inside_in, is_handed_out, unmade_of, IsFootprint, IsFree, MakesIn, RefusesIn, StepsIn};
+ghost use Rattle.tx_live.specs.Made.{Answers, IsMade, IsRunning, RefusesStep};
 ghost use Rattle.tx_live.specs.Progresses.{part_of, HasChild};
 ghost use Rattle.tx_laws.specs.Fits.{Fits};
 ghost use Rattle.tx_model.specs.Membership.{Within};
@@ -18,7 +18,7 @@ use crate::laws::laws;
 use crate::marking::{Progress, mark_progress};
 use crate::planning::plan;
 use std::alloc::Global;
-use tx_base::{Mark, NoMemory, Pid, Slots};
+use tx_base::{Mark, NoMemory, Pid, Refusal, Slots};
 use tx_change::Parts;
 use tx_kernel::{Act, Outcome, Planned, Sends};
 use tx_reserve::{Objects, Reservations};
@@ -29,7 +29,8 @@ impl Content {
     /// it. The footprint is that of the step, and no other transaction owns anything of it. Answers its
     /// outcome, and puts what takes it back into its place.
     ///
-    /// NoMemory where its plan refuses, or the place of what it hands out; the content is then as it was.
+    /// Refuses as its plan, and by NoMemory where the place of what it hands out is refused; the content
+    /// is then as it was.
     pub fn make_inside(
         &mut self,
         alloc: Global,
@@ -39,7 +40,7 @@ impl Content {
         progress: Progress,
         footprint: &Objects,
         inverse: &mut Inverse,
-    ) -> Result<Outcome, NoMemory>
+    ) -> Result<Outcome, Refusal>
         requires shaped { IsShaped self.old }
         requires kept { IsKept (content_of self.old) }
         requires whole { IsWhole self.old.parts }
@@ -51,10 +52,12 @@ impl Content {
         ensures made { OnOk result (Fits (Within starter.0 (part_of progress)) (event_of (inside_in self.old starter) pid act.now) pid.0 (view_of self.old) →
             IsMade self.old (Within starter.0 (part_of progress)) (event_of (inside_in self.old starter) pid act.now) pid.0 self.new inverse.new) }
         ensures answer { IfOk result (λ outcome. Answers self.old (event_of (inside_in self.old starter) pid act.now) pid self.new outcome) }
+        ensures refused { IfErr result (RefusesStep self.old
+            (event_of (inside_in self.old starter) pid act.now)) }
         ensures err { OnErr result (self.new ≡ self.old) }
     {
         laws();
-        let mut boxed = self.txns.take(starter).unwrap();
+        let boxed = self.txns.value_mut(starter);
         let stepped = step_in(
             alloc,
             &mut self.parts,
@@ -65,16 +68,13 @@ impl Content {
             footprint,
             &mut boxed.txn,
         );
-        self.txns.put(starter, boxed);
-        let Ok(
-            Stepped {
-                planned,
-                count,
-                before,
-            },
-        ) = stepped
-        else {
-            return Err(NoMemory);
+        let Stepped {
+            planned,
+            count,
+            before,
+        } = match stepped {
+            Ok(stepped) => stepped,
+            Err(why) => return Err(why),
         };
         let marked = mark_progress(&mut self.marks, starter, pid, progress);
         let held = hands_out(&planned.sends);
@@ -102,7 +102,7 @@ struct Stepped {
 
 /// Makes what a member is asked to do, and reserves the footprint.
 ///
-/// NoMemory as `make_in`; all is then as it was.
+/// Refuses as `make_in`; all is then as it was.
 fn step_in(
     alloc: Global,
     parts: &mut Parts,
@@ -112,11 +112,12 @@ fn step_in(
     act: &Act,
     footprint: &Objects,
     txn: &mut Txn,
-) -> Result<Stepped, NoMemory>
+) -> Result<Stepped, Refusal>
     requires whole { IsWhole parts.old }
     requires running { IsRunning (slot_at parts.old.procs pid.0) }
     requires own { Owns txn.old.starter.0 owners.old txn.old.objects }
     ensures made { IfOk result (λ stepped. StepsIn parts.old parts.new marks.now owners.old owners.new pid act.now footprint.now txn.old txn.new stepped) }
+    ensures refused { IfErr result (RefusesIn parts.old marks.now pid act.now txn.old) }
     ensures parts { OnErr result (parts.new ≡ parts.old) }
     ensures owners { OnErr result (owners.new ≡ owners.old) }
     ensures txn { OnErr result (txn.new ≡ txn.old) }
@@ -135,7 +136,8 @@ fn step_in(
 
 /// Makes what a member is asked to do: its exchanges are in the log then, and what it hands out is held.
 ///
-/// NoMemory where the plan refuses, or the place of what it hands out; all is then as it was.
+/// Refuses as the plan, and by NoMemory where the place of what it hands out is refused; all is then as
+/// it was.
 pub(crate) fn make_in(
     alloc: Global,
     parts: &mut Parts,
@@ -143,10 +145,11 @@ pub(crate) fn make_in(
     pid: Pid,
     act: &Act,
     txn: &mut Txn,
-) -> Result<Planned, NoMemory>
+) -> Result<Planned, Refusal>
     requires whole { IsWhole parts.old }
     requires running { IsRunning (slot_at parts.old.procs pid.0) }
     ensures made { IfOk result (λ planned. MakesIn parts.old parts.new marks.now pid act.now txn.old txn.new planned) }
+    ensures refused { IfErr result (RefusesIn parts.old marks.now pid act.now txn.old) }
     ensures parts { OnErr result (parts.new ≡ parts.old) }
     ensures txn { OnErr result (txn.new ≡ txn.old) }
 {
@@ -155,7 +158,7 @@ pub(crate) fn make_in(
     let planned = plan(alloc, parts, pid, Some(inside), act, &mut txn.log)?;
     let Ok(()) = hold_sends(&mut txn.outbox, &planned.sends) else {
         txn.log.truncate(from);
-        return Err(NoMemory);
+        return Err(Refusal::NoMemory);
     };
     txn.log.make_from(parts, from);
     Ok(planned)

@@ -1,10 +1,10 @@
 //! Steps outside of transactions.
-ghost use Rattle.std.specs.Prelude.{◌≡◌, [], None, IfOk, OnErr, OnOk};
+ghost use Rattle.std.specs.Prelude.{◌≡◌, [], None, IfErr, IfOk, OnErr, OnOk};
 ghost use Rattle.tx_base.specs.Slots.{slot_at};
 ghost use Rattle.tx_kernel.specs.Actors.{IsWhole};
 ghost use Rattle.tx_kernel.specs.Acts.{event_of};
 ghost use Rattle.tx_live.specs.Content.{content_of, IsShaped};
-ghost use Rattle.tx_live.specs.Made.{Answers, IsMade, IsRunning, IsUnowned};
+ghost use Rattle.tx_live.specs.Made.{Answers, IsMade, IsRunning, IsUnowned, RefusesStep};
 ghost use Rattle.tx_model.specs.Membership.{Outside};
 ghost use Rattle.tx_txn.specs.Content.{IsKept};
 
@@ -14,7 +14,7 @@ use crate::kept_posts::{KeptPost, post_sends};
 use crate::laws::laws;
 use crate::planning::plan;
 use std::alloc::Global;
-use tx_base::{NoMemory, Pid};
+use tx_base::{Pid, Refusal};
 use tx_change::Log;
 use tx_kernel::{Act, Outcome};
 
@@ -23,14 +23,14 @@ impl Content {
     /// and puts what takes it back into its place: where the inverse of another step outside stands
     /// there, the room of its log is used again.
     ///
-    /// NoMemory where its plan refuses; the content is then as it was.
+    /// Refuses as its plan; the content is then as it was.
     pub fn make_outside(
         &mut self,
         alloc: Global,
         pid: Pid,
         act: &Act,
         inverse: &mut Inverse,
-    ) -> Result<Outcome, NoMemory>
+    ) -> Result<Outcome, Refusal>
         requires shaped { IsShaped self.old }
         requires whole { IsWhole self.old.parts }
         requires running { IsRunning (slot_at self.old.parts.procs pid.0) }
@@ -38,6 +38,7 @@ impl Content {
         requires unowned { IsUnowned self.old None (event_of None pid act.now) }
         ensures made { OnOk result (IsMade self.old Outside (event_of None pid act.now) pid.0 self.new inverse.new) }
         ensures answer { IfOk result (λ outcome. Answers self.old (event_of None pid act.now) pid self.new outcome) }
+        ensures refused { IfErr result (RefusesStep self.old (event_of None pid act.now)) }
         ensures err { OnErr result (self.new ≡ self.old) }
     {
         if let Inverse::Outside { log, post } = inverse {
@@ -46,17 +47,21 @@ impl Content {
         }
         let mut log = self.txns.fresh_log(alloc)?;
         let mut post = None;
-        let made = self.make_logged(alloc, pid, act, &mut log, &mut post);
-        if made.is_err() {
-            self.txns.keep_log(log);
-            return made;
+        match self.make_logged(alloc, pid, act, &mut log, &mut post) {
+            Ok(outcome) => {
+                self.put_inverse(inverse, Inverse::Outside { log, post });
+                Ok(outcome)
+            }
+            Err(why) => {
+                self.txns.keep_log(log);
+                Err(why)
+            }
         }
-        self.put_inverse(inverse, Inverse::Outside { log, post });
-        made
     }
 
     /// Makes what a process that runs is asked to do, and that is in no transaction, with an empty log.
     /// Puts what takes it back into the log, and where its post to what is kept of a starter stands.
+    /// Refuses as the plan; the content is then as it was.
     fn make_logged(
         &mut self,
         alloc: Global,
@@ -64,7 +69,7 @@ impl Content {
         act: &Act,
         log: &mut Log,
         post: &mut Option<KeptPost>,
-    ) -> Result<Outcome, NoMemory>
+    ) -> Result<Outcome, Refusal>
         requires shaped { IsShaped self.old }
         requires whole { IsWhole self.old.parts }
         requires running { IsRunning (slot_at self.old.parts.procs pid.0) }
@@ -73,6 +78,7 @@ impl Content {
         requires empty { log.old ≡ [] }
         ensures made { OnOk result (IsMade self.old Outside (event_of None pid act.now) pid.0 self.new (Inverse.Outside log.new post.new)) }
         ensures answer { IfOk result (λ outcome. Answers self.old (event_of None pid act.now) pid self.new outcome) }
+        ensures refused { IfErr result (RefusesStep self.old (event_of None pid act.now)) }
         ensures err { OnErr result (self.new ≡ self.old) }
     {
         laws();

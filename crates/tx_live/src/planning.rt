@@ -1,19 +1,19 @@
 //! The plan of a step, for parts that it is made on.
-ghost use Rattle.std.specs.Prelude.{◌≡◌, IfOk, OnErr, OnOk, drop, length, take};
+ghost use Rattle.std.specs.Prelude.{◌≡◌, IfErr, IfOk, OnErr, OnOk, drop, length, take};
 ghost use Rattle.tx_base.specs.Slots.{slot_at};
 ghost use Rattle.tx_change.specs.Exchange.{AreNamed};
 ghost use Rattle.tx_kernel.specs.Actors.{IsWhole, inside_of};
-ghost use Rattle.tx_kernel.specs.Acts.{event_of};
+ghost use Rattle.tx_kernel.specs.Acts.{RefusesEvent, event_of};
 ghost use Rattle.tx_live.specs.Made.{IsPlanned, IsRunning};
 
 use std::alloc::Global;
-use tx_base::{NoMemory, Pid};
+use tx_base::{Pid, Refusal};
 use tx_change::{Log, Parts};
 use tx_kernel::{Act, Actor, Inside, Planned, plans_are_made};
 
 /// Plans what a process that runs is asked to do: its exchanges are at the end of the log then.
 ///
-/// NoMemory where the plan refuses; the log is then as it was.
+/// Refuses as `Actor::plan`; the log is then as it was.
 pub(crate) fn plan(
     alloc: Global,
     parts: &Parts,
@@ -21,10 +21,12 @@ pub(crate) fn plan(
     inside: Option<Inside>,
     act: &Act,
     log: &mut Log,
-) -> Result<Planned, NoMemory>
+) -> Result<Planned, Refusal>
     requires whole { IsWhole parts.now }
     requires running { IsRunning (slot_at parts.now.procs pid.0) }
     ensures planned { IfOk result (λ planned. IsPlanned parts.now pid inside.entry (event_of (inside_of inside.entry) pid act.now) log.old log.new planned) }
+    ensures refused { IfErr result (RefusesEvent parts.now inside.entry
+        (event_of (inside_of inside.entry) pid act.now)) }
     ensures named { OnOk result (AreNamed parts.now (drop (length log.old) log.new)) }
     ensures log { OnOk result (take (length log.old) log.new ≡ log.old) }
     ensures err { OnErr result (log.new ≡ log.old) }
@@ -37,6 +39,5 @@ pub(crate) fn plan(
         proc,
         inside,
     };
-    let planned = actor.plan(alloc, act, log)?;
-    Ok(planned)
+    actor.plan(alloc, act, log)
 }

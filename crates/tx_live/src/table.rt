@@ -1,6 +1,7 @@
 //! The live transactions by number, and the room that steps left.
 ghost use Rattle.std.specs.Option.{option_copied};
-ghost use Rattle.std.specs.Prelude.{◌≡◌, ◌≤◌, ◌↔◌, ℕ, false, [], None, Some, IfOk, IsTrue, length, replicate};
+ghost use Rattle.std.specs.Borrow.{sem};
+ghost use Rattle.std.specs.Prelude.{◌≡◌, ◌≤◌, ◌↔◌, ℕ, false, [], None, Some, IfOk, IsSome, IsTrue, length, replicate};
 ghost use Rattle.tx_base.specs.Slots.{slot_at, with_slot};
 ghost use Rattle.tx_live.specs.Begins.{StartsOf};
 
@@ -41,6 +42,8 @@ impl Model for TxnTable {
 }
 
 impl TxnTable {
+    ghost use Rattle.tx_live.specs.Lends.{lends_txn};
+
     /// So many numbers without a transaction. NoMemory where a growth is refused.
     pub fn new(alloc: Global, width: u16) -> Result<TxnTable, NoMemory>
         ensures { IfOk result (λ table. table ≡ replicate width None) }
@@ -66,6 +69,15 @@ impl TxnTable {
         ensures { option_copied result ≡ slot_at self.now starter.0 }
     {
         self.slots.get(starter)
+    }
+
+    /// The live transaction of a starter, to be changed where it stands.
+    pub fn value_mut(&mut self, starter: Pid) -> &mut BoxedTxn
+        requires { IsSome (slot_at self.old starter.0) }
+        ensures* writes_back { sem 𝓛 (lends_txn self.entry starter.0 result) }
+        ensures value { slot_at self.old starter.0 ≡ Some result.now }
+    {
+        self.slots.value_mut(starter)
     }
 
     /// Takes out the transaction of a starter, whose number must be one that there is.

@@ -69,7 +69,7 @@ impl Content {
         ensures { (prior : Content) → Undoes self.old (Inside starter count before marked held) prior → self.new ≡ prior }
     {
         laws();
-        let mut boxed = self.txns.take(starter).unwrap();
+        let boxed = self.txns.value_mut(starter);
         take_step(
             &mut boxed.txn,
             &mut self.parts,
@@ -78,7 +78,6 @@ impl Content {
             before,
             held,
         );
-        self.txns.put(starter, boxed);
         put_mark(&mut self.marks, marked);
     }
 

@@ -1,2 +1,3 @@
+pub mod Patches
 pub mod Ranges
 pub mod Writes

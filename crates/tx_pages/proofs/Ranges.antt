@@ -1,5 +1,5 @@
 -- A page of a range more.
-use Rattle.std.proofs.Common.{◌≡◌, ℕ, zero, suc, ◌+◌, ◌-◌, ◌/◌, ◌%◌, ◌<◌, ◌≤◌, [], ◌∷◌, ◌++◌, take, drop, length, List, Some, None, append_assoc, Bool, true, ltb, Option, arith, refl, ap, sym, ◌∙◌, add-zero, rules, ◌*◌, replicate}
+use Rattle.std.proofs.Common.{◌≡◌, ℕ, zero, suc, ◌+◌, ◌-◌, ◌/◌, ◌%◌, ◌<◌, ◌≤◌, [], ◌∷◌, ◌++◌, take, drop, length, List, Some, None, append_assoc, Bool, true, false, ltb, Option, arith, refl, ap, sym, ◌∙◌, add-zero, rules, ◌*◌, replicate}
 use Rattle.std.proofs.lemmas.Bool.{lt-ltb}
 use Rattle.std.proofs.lemmas.List.{take_more_set, drop_more, drop-set-lt, take-append-drop, length-set, length-take, length-drop, length-append}
 use Rattle.std.proofs.Math.ListN.{set}
@@ -28,6 +28,17 @@ all_good_page test memory address n (suc k) few low within passes =
     all_good_page test memory address n k (omega arith) low (omega arith) passes
     ∙ all_good_more test memory address n k (omega arith) (omega arith) still
     ∙ ap (λ j. all_good test memory (address + j) (n - j)) one
+
+-- bytes that lie on one page are as good as that page
+pub all_good_on_page : (test : Option PageView → Bool) (memory : Memory) (address n : ℕ) (good : Bool) → 0 < n → address < 1024 → address % 64 + n ≤ 64 →
+    test (page_at memory (address / 64)) ≡ good → all_good test memory address n ≡ good
+all_good_on_page test memory address n true some low within tested =
+    let none : n - n ≡ 0 = omega arith in
+    all_good_page test memory address n n (omega arith) low within tested ∙ rw none refl
+all_good_on_page test memory address zero false some low within tested = absurd (omega arith)
+all_good_on_page test memory address (suc n) false some low within tested =
+    let inside : ltb address 1024 ≡ true = lt-ltb _ _ low in
+    rw (inside, tested) refl
 
 -- the bytes from an offset of a page on
 pub bytes_from_page : (memory : Memory) (page : PageView) (number offset n : ℕ) → page_at memory number ≡ Some page → length page.bytes ≡ 64 → offset + n ≤ 64 →

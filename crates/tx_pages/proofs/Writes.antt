@@ -17,7 +17,7 @@ one_byte None offset byte bytes = refl
 one_byte (Some page) offset byte bytes = refl
 
 -- bytes that lie on one page are written over that page
-put_bytes-page : (memory : Memory) (n offset : ℕ) (bytes : List ℕ) → n < length memory → offset + length bytes ≤ 64 →
+pub put_bytes-page : (memory : Memory) (n offset : ℕ) (bytes : List ℕ) → n < length memory → offset + length bytes ≤ 64 →
     put_bytes memory (n * 64 + offset) bytes ≡ set memory n (written memory n offset bytes)
 put_bytes-page memory n offset [] inside fits = rw (same_page (page_at memory n)) (sym (set-get_or memory n None))
 put_bytes-page memory n offset (byte ∷ bytes) inside fits =

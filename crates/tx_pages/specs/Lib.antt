@@ -1,3 +1,4 @@
 pub mod Frames
 pub mod Outcomes
 pub mod Access
+pub mod Places

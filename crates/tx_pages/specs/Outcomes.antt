@@ -3,7 +3,8 @@ use Rattle.std.specs.Prelude.{◌≡◌, ◌<◌, ℕ, true, false, List, [], �
 use Rattle.tx_base.specs.declared.errors.Errno.TheVariants.{BadAddress, InvalidArgument}
 use Rattle.tx_model.specs.Book.{with_memory}
 use Rattle.tx_model.specs.Forms.{Caller, Outcome, Rule, changes, fails}
-use Rattle.tx_model.specs.Memory.{Memory, below, is_mapped, is_good, loaded_byte, bytes_at}
+use Rattle.tx_model.specs.Memory.{Memory, below, page_at, is_mapped, is_writable, is_good, loaded_byte, bytes_at}
+use Rattle.tx_pages.specs.Frames.{written}
 use Rattle.tx_pages.specs.declared.errors.PageError.{PageError}
 use Rattle.tx_pages.specs.declared.errors.PageError.TheVariants.{Invalid, Fault, NoMemory}
 use Rattle.tx_pages.specs.declared.plans.NewPage.{NewPage}
@@ -35,6 +36,13 @@ Takes memory address old (Ok _) new = (is_good is_mapped memory address (length 
 Takes memory address old (Err Fault) new = (is_good is_mapped memory address (length old) ≡ false) × (new ≡ old)
 Takes memory address old (Err NoMemory) new = ⊥
 Takes memory address old (Err Invalid) new = ⊥
+
+-- a page with some of its bytes written over, where it may be written
+abbrev pub Patches : Memory → ℕ → ℕ → List ℕ → Result NewPage PageError → Type 0
+Patches memory number offset bytes (Ok new) = (is_writable (page_at memory number) ≡ true) × ((new.number ≡ number) × (new.page ≡ written memory number offset bytes))
+Patches memory number offset bytes (Err Fault) = is_writable (page_at memory number) ≡ false
+Patches memory number offset bytes (Err NoMemory) = is_writable (page_at memory number) ≡ true
+Patches memory number offset bytes (Err Invalid) = ⊥
 
 -- memory with new pages in place, the first one first
 abbrev pub with_pages : Memory → List NewPage → Memory

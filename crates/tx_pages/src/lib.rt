@@ -9,6 +9,7 @@
 //! A call that changes pages has two forms. `map`, `unmap`, `protect` and `store` do it.
 //! `plan_map`, `plan_unmap`, `plan_protect` and `plan_store` read, take all the memory that is
 //! wanted, and answer which page numbers are to have which pages; `swap_page` then exchanges one.
+//! A store most often lies on one page: `plan_store_on_page` answers that page, with no list.
 //! `load` and `take` read. Each outcome has its clause: which error comes exactly when, and that
 //! the pages are as they were.
 #![tactic(auto)]

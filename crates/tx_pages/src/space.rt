@@ -1,13 +1,14 @@
 //! The pages of a process, by their numbers.
 ghost use Rattle.std.specs.Bool.{OnTrue};
 ghost use Rattle.std.specs.Option.{option_copied};
-ghost use Rattle.std.specs.Prelude.{◌≡◌, ◌≢◌, ◌<◌, ◌≤◌, ◌+◌, ◌/◌, ◌%◌, IfOk, IfErr, OnErr, length, slice_set};
+ghost use Rattle.std.specs.Prelude.{◌≡◌, ◌≢◌, ◌<◌, ◌≤◌, ◌+◌, ◌/◌, ◌%◌, IfOk, IfErr, IfSome, OnErr, is_some, length, slice_set};
 ghost use Rattle.tx_model.specs.Book.{map, unmap, protect, store};
 ghost use Rattle.tx_model.specs.Forms.{Caller};
 ghost use Rattle.tx_model.specs.Memory.{no_memory, page_at, all_good, bytes_from, put_bytes, is_good};
 ghost use Rattle.tx_pages.specs.Access.{test_of};
 ghost use Rattle.tx_pages.specs.Frames.{written};
-ghost use Rattle.tx_pages.specs.Outcomes.{Remembers, Loads, Takes, with_new, with_all_new, with_pages, AreNumbered};
+ghost use Rattle.tx_pages.specs.Outcomes.{Remembers, Loads, Takes, Patches, with_new, with_all_new, with_pages, AreNumbered};
+ghost use Rattle.tx_pages.specs.Places.{are_on_page};
 ghost use Rattle.tx_pages.specs.declared.errors.PageError.TheVariants.{Invalid, Fault};
 
 use crate::access::Access;
@@ -293,6 +294,33 @@ impl Space {
         Ok(NewPages { pages })
     }
 
+    /// The page that a store puts in place whose bytes lie on one page, with a frame of its own;
+    /// nothing where there are no bytes, or they lie on several pages, or not in 0 to 1,023:
+    /// `plan_store` plans these. Nothing is changed.
+    ///
+    /// Fault where the page is not mapped or may not be written; NoMemory where a growth is
+    /// refused.
+    pub fn plan_store_on_page(
+        &self,
+        alloc: Global,
+        address: i64,
+        bytes: &[u8],
+    ) -> Option<Result<NewPage, PageError>>
+        ensures answer { IfSome result (λ plan. (c : Caller) → c.process.memory ≡ self.now →
+            Remembers plan (with_new self.now plan) (store address bytes.now) c) }
+        ensures errors { IfSome result (λ plan. IfErr plan (λ why. why ≢ Invalid)) }
+        ensures number { IfSome result (λ plan. IfOk plan (λ new. new.number < 16)) }
+        ensures some { is_some result ≡ are_on_page address (length bytes.now) }
+    {
+        let _ = &self.pages;
+        let start = number_below(ADDRESSES, address)?;
+        let offset = start % PAGE_BYTES;
+        if bytes.is_empty() || bytes.len() > PAGE_BYTES - offset {
+            return None;
+        }
+        Some(self.plan_patch(alloc, start / PAGE_BYTES, offset, bytes))
+    }
+
     /// Puts planned pages in place, the first one first. Each number must be 0 to 15.
     pub fn put_pages(&mut self, new: NewPages)
         requires { AreNumbered new.pages.items }
@@ -331,6 +359,29 @@ impl Space {
             rest = back;
         }
         Ok(pages)
+    }
+
+    /// The new page of a store on one page: some of its bytes replaced, in a frame of its own.
+    ///
+    /// Fault where it is not mapped or may not be written; NoMemory where a growth is refused.
+    fn plan_patch(
+        &self,
+        alloc: Global,
+        number: usize,
+        offset: usize,
+        patch: &[u8],
+    ) -> Result<NewPage, PageError>
+        requires number { number < 16 }
+        requires fits { offset + length patch.now ≤ 64 }
+        ensures { Patches self.now number offset patch.now result }
+    {
+        match &self.pages[number] {
+            Some(page) if page.is_writable() => Ok(NewPage {
+                number,
+                page: Some(page.patched(alloc, offset, patch)?),
+            }),
+            _ => Err(PageError::Fault),
+        }
     }
 
     /// A page with some of its bytes replaced, in a frame of its own.

@@ -1,25 +1,26 @@
 -- A step of a member, after which its transaction is live.
-use Rattle.std.proofs.Common.{◌≡◌, ℕ, true, length, Option, IsSome, is_some, refl, sym, ap, subst, ◌∙◌}
+use Rattle.std.proofs.Common.{◌≡◌, ℕ, true, false, length, Option, IsSome, is_some, refl, sym, ap, subst, ◌∙◌}
 use Rattle.tx_base.specs.Slots.{slot_at}
 use Rattle.tx_base.specs.declared.names.Pid.{Pid}
 use Rattle.tx_base.specs.declared.steps.Refusal.{Refusal}
 use Rattle.tx_base.specs.declared.steps.Reply.TheVariants.{Ended}
 use Rattle.tx_step.specs.Contents.{IsContent}
-use Rattle.tx_step.specs.Late.{IsWhyNot}
+use Rattle.tx_step.specs.Late.{IsWhyNot, WasRefused}
 use Rattle.tx_step.specs.declared.roles.StepRole.TheVariants as role
-use Rattle.tx_kernel.specs.Acts.{event_of}
+use Rattle.tx_kernel.specs.Acts.{choice_of, event_of}
 use Rattle.tx_kernel.specs.declared.events.Act.{Act}
 use Rattle.tx_kernel.specs.declared.planned.Outcome.{Outcome}
 use Rattle.tx_laws.specs.Fits.{Fits}
 use Rattle.tx_live.specs.Content.{now_of, view_of}
 use Rattle.tx_live.specs.Insides.{inside_in, IsFootprint, IsFree}
-use Rattle.tx_live.specs.Made.{Answers, IsMade}
+use Rattle.tx_live.specs.Made.{Answers, IsMade, RefusesStep}
 use Rattle.tx_live.specs.Progresses.{part_of, HasChild}
 use Rattle.tx_live.specs.declared.content.Content.{Content}
 use Rattle.tx_live.specs.declared.inverse.Inverse.{Inverse}
 use Rattle.tx_live.specs.declared.marking.Progress.{Progress}
 use Rattle.tx_model.specs.Words.{has_bad_number}
 use Rattle.tx_model.specs.Effects.{Inside}
+use Rattle.tx_model.specs.Answer.{is_bad_choice}
 use Rattle.tx_model.specs.Events.{Event}
 use Rattle.tx_model.specs.Membership.{inside_by, Role, Within}
 use Rattle.tx_model.specs.View.{event_on, first_reply, starter_in_way}
@@ -29,7 +30,7 @@ use Rattle.tx_step.proofs.Members.{has_child, live_at, live_there, LiveAt}
 use Rattle.tx_step.proofs.OutsideTaken.{did_accept}
 use Rattle.tx_step.proofs.RefusedSteps.{refused_late}
 use Rattle.tx_step.proofs.Taken.{answered, numbers, process_asked, runs_seen, stepped}
-use Rattle.tx_step.proofs.Told.{asked_actor, event_told, role_told, within_kind, OfMember}
+use Rattle.tx_step.proofs.Told.{asked_actor, event_told, good_choice, role_told, within_kind, OfMember}
 use Rattle.tx_step.specs.Asks.{IsActOf, is_own, kind_asked, step_of}
 use Rattle.tx_step.specs.Laws.{StepLaws}
 use Rattle.tx_step.specs.Steps.{IsRefused, IsStep, replied}
@@ -84,6 +85,18 @@ module _ (laws : StepLaws) (k : Content) (is : IsContent k) (pid starter : Pid) 
         (answered laws k is pid asked (role.Inside starter progress) through R E (sym through.is) event_is ∙ answers)
         (did_accept _ did) (λ no. runs_seen laws k is pid asked (role.Inside starter progress) through) new inverse
         (subst (λ (p : ℕ). Fits R E p (view_of k) → IsMade k R E p new inverse) (sym (process_asked pid asked)) made)
+
+    -- where its plan was refused, it was not for its numbers
+    pub was_refused : (old : Content) → old ≡ k → (why : Refusal) → RefusesStep k (event_of (inside_in k starter) pid act) why →
+        WasRefused old (event_of (inside_by (table_at old.marks) (slot_at old.marks pid.0)) pid act) why
+    was_refused old same why refuses =
+        subst (λ (c : Content). WasRefused c (event_of (inside_by (table_at c.marks) (slot_at c.marks pid.0)) pid act) why) (sym same)
+        (subst (λ (E : Event). WasRefused k E why) (ap (λ (inside : Option Inside). event_of inside pid act) live.inside) (record {
+          good = ap (λ (E : Event). is_bad_choice (length k.parts.procs) (choice_of E))
+              (ap (λ (inside : Option Inside). event_of inside pid act) live.inside ∙ acts (table_at k.marks) pid (slot_at k.marks pid.0) Ended refl (ap is_some told.0.is) told.1)
+              ∙ good_choice k pid (length k.parts.procs) asked Ended (numbers laws k is pid asked (role.Inside starter progress) through);
+          refuses = refuses;
+        }))
 
     -- and where it is not made it is refused for the reason of its rule
     pub refused : (old : Content) → old ≡ k → (why : Refusal) → IsWhyNot (event_of (inside_by (table_at old.marks) (slot_at old.marks pid.0)) pid act) (now_of old) why → IsRefused k (step_of pid asked) why old

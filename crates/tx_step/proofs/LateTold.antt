@@ -1,5 +1,5 @@
 -- What the rule of an event refuses, told by the process that makes it.
-use Rattle.std.proofs.Common.{◌≡◌, ◌≢◌, ℕ, ℤ, List, Option, Some, None, IfNone, IfSome, sym, ap, subst, ◌∙◌}
+use Rattle.std.proofs.Common.{◌≡◌, ◌≢◌, ℕ, ℤ, true, false, List, Option, Some, None, IfNone, IfSome, inl, inr, sym, ap, subst, ◌∙◌}
 use Rattle.tx_base.specs.Slots.{slot_at}
 use Rattle.tx_base.specs.declared.names.Pid.{Pid}
 use Rattle.tx_base.specs.declared.names.Signo.{Signo}
@@ -9,12 +9,13 @@ use Rattle.tx_base.specs.declared.steps.Refusal.TheVariants.{NoMemory}
 use Rattle.tx_base.specs.declared.steps.Reply.TheVariants.{No}
 use Rattle.tx_base.specs.declared.steps.Step.TheVariants.{Call as Calls, Deliver}
 use Rattle.tx_change.specs.States.{state_of}
-use Rattle.tx_step.specs.Late.{TellsRule}
+use Rattle.tx_step.specs.Late.{IsWhyNot, TellsRule, WasRefused}
 use Rattle.tx_step.specs.Ways.{IsOwnActor}
 use Rattle.tx_kernel.specs.Actors.{CountsHeld, inside_of, me_of}
 use Rattle.tx_kernel.specs.Refusals.{IsMade}
 use Rattle.tx_kernel.specs.declared.actor.Actor.{Actor}
 use Rattle.tx_live.specs.Content.{held_of, now_of}
+use Rattle.tx_live.specs.Made.{RefusesStep}
 use Rattle.tx_live.specs.declared.content.Content.{Content}
 use Rattle.tx_model.specs.Answer.{IsAccepted}
 use Rattle.tx_model.specs.Words.{call_effect, delivery_effect}
@@ -78,3 +79,12 @@ module _ (k : Content) (pid : Pid) (actor : Actor) (own : IsOwnActor k pid actor
 pub note_told : (p : ℕ) (ret : ℤ) (S : State) → TellsRule (Note p ret) S None
 unfolding effect reply_of
 note_told p ret S = tt
+
+-- what the plan was refused for is the rule's reason, where it is not want of memory
+pub why_told : (k : Content) (ev : Event) (why : Refusal) → WasRefused k ev why → why ≢ NoMemory → IsWhyNot ev (now_of k) why
+why_told k ev why was other = by was.refuses
+  where
+    by : RefusesStep k ev why → IsWhyNot ev (now_of k) why
+    by (inl memory) = absurd (other memory)
+    by (inr (inl refused)) = inr (reply_refused ev (now_of k) why refused, other)
+    by (inr (inr bad)) = absurd (let clash : false ≡ true = sym was.good ∙ bad.1 in let no : ⊥ = cc in no)

@@ -1,31 +1,31 @@
 -- A step of a process that is in no transaction.
-use Rattle.std.proofs.Common.{◌≡◌, ℕ, true, false, None, refl, sym, ap, subst, ◌∙◌, Option}
+use Rattle.std.proofs.Common.{◌≡◌, ℕ, true, false, None, length, refl, sym, ap, subst, ◌∙◌, Option}
 use Rattle.tx_base.specs.Slots.{slot_at}
 use Rattle.tx_base.specs.declared.marks.Mark.{Mark}
 use Rattle.tx_base.specs.declared.names.Pid.{Pid}
 use Rattle.tx_base.specs.declared.steps.Refusal.{Refusal}
 use Rattle.tx_base.specs.declared.steps.Reply.TheVariants.{Ended}
 use Rattle.tx_step.specs.Contents.{IsContent}
-use Rattle.tx_step.specs.Late.{IsWhyNot}
+use Rattle.tx_step.specs.Late.{IsWhyNot, WasRefused}
 use Rattle.tx_step.specs.declared.roles.StepRole.TheVariants as role
-use Rattle.tx_kernel.specs.Acts.{event_of}
+use Rattle.tx_kernel.specs.Acts.{choice_of, event_of}
 use Rattle.tx_kernel.specs.Plans.{reply_of as reply_with}
 use Rattle.tx_kernel.specs.declared.events.Act.{Act}
 use Rattle.tx_kernel.specs.declared.planned.Outcome.{Outcome}
 use Rattle.tx_kernel.specs.declared.planned.Outcome.TheVariants as outcome
 use Rattle.tx_live.specs.Content.{now_of, view_of}
-use Rattle.tx_live.specs.Made.{Answers, IsMade, IsUnowned}
+use Rattle.tx_live.specs.Made.{Answers, IsMade, IsUnowned, RefusesStep}
 use Rattle.tx_live.specs.declared.content.Content.{Content}
 use Rattle.tx_live.specs.declared.inverse.Inverse.{Inverse}
-use Rattle.tx_model.specs.Answer.{IsAccepted}
+use Rattle.tx_model.specs.Answer.{IsAccepted, is_bad_choice}
 use Rattle.tx_model.specs.Events.{Event}
 use Rattle.tx_model.specs.Membership.{inside_by, Outside}
 use Rattle.tx_model.specs.Memory.{Memory}
 use Rattle.tx_model.specs.View.{event_on, first_reply, starter_in_way}
 use Rattle.tx_step.proofs.Clear.{named_too, unowned_none}
 use Rattle.tx_step.proofs.RefusedSteps.{refused_late}
-use Rattle.tx_step.proofs.Taken.{answered, process_asked, runs_seen, stepped}
-use Rattle.tx_step.proofs.Told.{asked_actor, event_told, outside_kind, role_told}
+use Rattle.tx_step.proofs.Taken.{answered, numbers, process_asked, runs_seen, stepped}
+use Rattle.tx_step.proofs.Told.{asked_actor, event_told, good_choice, outside_kind, role_told}
 use Rattle.tx_step.specs.Asks.{IsActOf, is_own, kind_asked, step_of}
 use Rattle.tx_step.specs.Laws.{StepLaws}
 use Rattle.tx_step.specs.Steps.{IsRefused, IsStep, replied}
@@ -63,6 +63,17 @@ module _ (laws : StepLaws) (k : Content) (is : IsContent k) (pid : Pid) (asked :
         (answered laws k is pid asked role.Outside through Outside (event_of None pid act) (sym through.is) event_is ∙ answers)
         (did_accept _ did) (λ no. runs_seen laws k is pid asked role.Outside through) new inverse
         (λ fits. subst (λ (p : ℕ). IsMade k Outside (event_of None pid act) p new inverse) (sym (process_asked pid asked)) made)
+
+    -- where its plan was refused, it was not for its numbers
+    pub was_refused : (old : Content) → old ≡ k → (why : Refusal) → RefusesStep k (event_of None pid act) why →
+        WasRefused old (event_of (inside_by (table_at old.marks) (slot_at old.marks pid.0)) pid act) why
+    was_refused old same why refuses =
+        subst (λ (c : Content). WasRefused c (event_of (inside_by (table_at c.marks) (slot_at c.marks pid.0)) pid act) why) (sym same)
+        (subst (λ (E : Event). WasRefused k E why) (ap (λ (mark : Option Mark). event_of (inside_by (table_at k.marks) mark) pid act) (sym kind_is.0)) (record {
+          good = ap (λ (E : Event). is_bad_choice (length k.parts.procs) (choice_of E)) (acts (table_at k.marks) pid None Ended kind_is.0 refl kind_is.1)
+              ∙ good_choice k pid (length k.parts.procs) asked Ended (numbers laws k is pid asked role.Outside through);
+          refuses = refuses;
+        }))
 
     -- and where it is not made it is refused for the reason of its rule
     pub refused : (old : Content) → old ≡ k → (why : Refusal) → IsWhyNot (event_of (inside_by (table_at old.marks) (slot_at old.marks pid.0)) pid act) (now_of old) why → IsRefused k (step_of pid asked) why old

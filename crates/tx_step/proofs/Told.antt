@@ -5,7 +5,7 @@ use Rattle.tx_base.specs.declared.marks.Mark.{Mark}
 use Rattle.tx_base.specs.declared.names.Pid.{Pid}
 use Rattle.tx_base.specs.declared.steps.Reply.{Reply}
 use Rattle.tx_base.specs.declared.steps.Step.{Step}
-use Rattle.tx_kernel.specs.Acts.{event_of}
+use Rattle.tx_kernel.specs.Acts.{choice_of, event_of}
 use Rattle.tx_kernel.specs.declared.events.Act.{Act}
 use Rattle.tx_kernel.specs.declared.events.Act.TheVariants as act
 use Rattle.tx_laws.specs.TwoStates.{states_view}
@@ -18,7 +18,8 @@ use Rattle.tx_live.specs.declared.marking.Progress.TheVariants as the
 use Rattle.tx_model.specs.Effects.{Inside}
 use Rattle.tx_model.specs.Events.{Event, Do, actor, reply_of}
 use Rattle.tx_model.specs.Membership.{Table, Progress, Role, Outside, Within, Commits, Begins, Kind, Ordinary, Forking, Beginning, Leaving, Aborting, event_in, inside_by, kind_event, others_open, says_ended, step_event}
-use Rattle.tx_model.specs.Words.{kind_role, member_end_role, ordinary_role}
+use Rattle.tx_model.specs.Answer.{is_bad_choice}
+use Rattle.tx_model.specs.Words.{has_bad_number, kind_role, member_end_role, ordinary_role}
 use Rattle.tx_model.specs.State.{State}
 use Rattle.tx_model.specs.View.{event_on, first_reply, present, role_on}
 use Rattle.tx_step.specs.Asks.{is_own, kind_asked, step_of}
@@ -144,6 +145,22 @@ module _ (k : Content) (pid : Pid) where
   step_told : (asked : Asked) (r : Reply) → step_event (table_at k.marks) (step_of pid asked) r ≡ kind_event (table_at k.marks) pid.0 (step_of pid asked) (kind_asked asked) (slot_at k.marks pid.0)
   step_told (Call call) r = refl
   step_told (Delivery signo) r = refl
+
+  -- what chooses good numbers does so as an event
+  pub good_choice : (width : ℕ) (asked : Asked) (r : Reply) → has_bad_number width (step_of pid asked) ≡ false →
+      is_bad_choice width (choice_of (step_event (table_at k.marks) (step_of pid asked) r)) ≡ false
+  good_choice width asked r good =
+      ap (λ (E : Event). is_bad_choice width (choice_of E)) (step_told asked r) ∙ by (kind_asked asked) (slot_at k.marks pid.0)
+    where
+      by : (kind : Kind) (mark : Option Mark) → is_bad_choice width (choice_of (kind_event (table_at k.marks) pid.0 (step_of pid asked) kind mark)) ≡ false
+      by Ordinary mark = good
+      by (Forking child) mark = good
+      by (Beginning defers) None = refl
+      by (Beginning defers) (Some m) = refl
+      by Leaving None = refl
+      by Leaving (Some m) = refl
+      by Aborting None = refl
+      by Aborting (Some m) = refl
 
   -- the first reply is that of this event
   first_told : (asked : Asked) →

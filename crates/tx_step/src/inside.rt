@@ -13,7 +13,7 @@ use crate::asked::Asked;
 use crate::late::late_refusal;
 use crate::laws::laws;
 use std::alloc::Global;
-use tx_base::{NoMemory, Pid, Refusal};
+use tx_base::{Pid, Refusal};
 use tx_live::{Content, Inverse, Progress};
 use tx_reserve::Objects;
 
@@ -40,6 +40,6 @@ pub(crate) fn take_inside(
     let act = asked.act(true);
     match content.make_inside(alloc, pid, starter, &act, progress, footprint, inverse) {
         Ok(outcome) => Ok(Answered::Acted(outcome)),
-        Err(NoMemory) => Err(late_refusal(content, pid, &act)),
+        Err(why) => Err(late_refusal(content, pid, &act, why)),
     }
 }

@@ -1,8 +1,7 @@
 //! Why what a process is asked to do was refused as it was planned.
-ghost use Rattle.std.specs.Prelude.{◌≡◌};
 ghost use Rattle.tx_base.specs.Slots.{slot_at};
 ghost use Rattle.tx_step.specs.Contents.{IsContent};
-ghost use Rattle.tx_step.specs.Late.{IsWhyNot, TellsRule};
+ghost use Rattle.tx_step.specs.Late.{IsWhyNot, TellsRule, WasRefused};
 ghost use Rattle.tx_kernel.specs.Acts.{event_of};
 ghost use Rattle.tx_live.specs.Content.{now_of};
 ghost use Rattle.tx_live.specs.Made.{IsRunning};
@@ -14,16 +13,18 @@ use tx_base::{Pid, Refusal};
 use tx_kernel::Act;
 use tx_live::Content;
 
-/// Why what a process that runs is asked to do was refused as it was planned: the reason of its rule,
-/// and NoMemory where the rule lets it be made. It takes no memory.
-pub fn late_refusal(content: &Content, pid: Pid, act: &Act) -> Refusal
+/// Why what a process that runs is asked to do was refused, whose plan was refused so: for that reason,
+/// and for the rule's where it was want of memory and the rule has one. It takes no memory.
+pub(crate) fn late_refusal(content: &Content, pid: Pid, act: &Act, why: Refusal) -> Refusal
     requires content { IsContent content.now }
     requires running { IsRunning (slot_at content.now.parts.procs pid.0) }
+    requires refused { WasRefused content.now
+        (event_of (inside_by (table_at content.now.marks) (slot_at content.now.marks pid.0)) pid act.now) why }
     ensures { IsWhyNot (event_of (inside_by (table_at content.now.marks) (slot_at content.now.marks pid.0)) pid act.now) (now_of content.now) result }
 {
-    match refusal_of_rule(content, pid, act) {
-        Some(why) => why,
-        None => Refusal::NoMemory,
+    match why {
+        Refusal::NoMemory => refusal_of_rule(content, pid, act).unwrap_or(Refusal::NoMemory),
+        why => why,
     }
 }
 

@@ -25,8 +25,8 @@
 //! is so of a kernel as it is booted (`booted_is_content`). `actor_of` finds a process that runs,
 //! with the transaction that it is a member of.
 //!
-//! `late_refusal` is asked after the step, and only where that answered `NoMemory`: the reason of
-//! the rule, and want of memory where the rule has none.
+//! Why a step's plan was refused is told by `late_refusal`: the plan's reason; where that is want of
+//! memory, the rule is asked, and its reason told if it has one.
 //!
 //! `take_call` and `take_delivery` ask for the early refusals, for the role of the step, for its
 //! footprint and for who is in its way, in the order of the definitions. Where nothing refuses it

@@ -10,7 +10,7 @@ use crate::asked::Asked;
 use crate::late::late_refusal;
 use crate::laws::laws;
 use std::alloc::Global;
-use tx_base::{NoMemory, Pid, Refusal};
+use tx_base::{Pid, Refusal};
 use tx_live::{Content, Inverse};
 
 /// Makes what a process is asked to do that is in no transaction.
@@ -32,6 +32,6 @@ pub(crate) fn take_outside(
     let act = asked.act(false);
     match content.make_outside(alloc, pid, &act, inverse) {
         Ok(outcome) => Ok(Answered::Acted(outcome)),
-        Err(NoMemory) => Err(late_refusal(content, pid, &act)),
+        Err(why) => Err(late_refusal(content, pid, &act, why)),
     }
 }

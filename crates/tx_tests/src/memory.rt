@@ -46,6 +46,17 @@ fn are_planned(alloc: Global, space: &Space) -> Result<bool, PageError> {
     Ok(mapped.number == 1 && is_closed && gone.page.is_none())
 }
 
+/// Whether a store on page 0 is planned so, and one across its end is left to `plan_store`.
+fn are_planned_on_page(alloc: Global, space: &Space) -> Result<bool, PageError> {
+    let Some(stored) = space.plan_store_on_page(alloc, 63, &[4]) else {
+        return Ok(false);
+    };
+    let stored = stored?;
+    let last = stored.page.map(|page| page.bytes()[63]);
+    let is_left = space.plan_store_on_page(alloc, 63, &[4, 5]).is_none();
+    Ok(stored.number == 0 && last == Some(4) && is_left)
+}
+
 /// Stores a byte in page 0 by a plan. Answers what was there when it was planned.
 fn store_by_plan(alloc: Global, space: &mut Space) -> Result<Option<u8>, PageError> {
     let stored = space.plan_store(alloc, 5, &[2])?;
@@ -59,6 +70,7 @@ fn plans_of_pages_change_nothing(rt: HostRuntime) -> Result<(), Fail> {
     let mut space = Space::new();
     space.map(rt.alloc(), 0)?;
     assert!(rt; are_planned(rt.alloc(), &space)?);
+    assert!(rt; are_planned_on_page(rt.alloc(), &space)?);
     assert!(rt; space.is_good(Access::Write, 0, 64) && space.page(1).is_none());
     assert!(rt; store_by_plan(rt.alloc(), &mut space)? == Some(0));
     assert!(rt; byte(&space, 5) == Some(2));

@@ -58,7 +58,8 @@ fn first_and_last_slots_are_kept_apart(rt: HostRuntime) -> Result<(), Fail> {
         slots.put(Pid(1), 7);
         slots.swap(Pid(width), &mut Some(8));
         assert!(rt; slots.get(Pid(1)).copied() == Some(7));
-        assert!(rt; slots.take(Pid(width)) == Some(8));
+        *slots.value_mut(Pid(width)) += 1;
+        assert!(rt; slots.take(Pid(width)) == Some(9));
         assert!(rt; slots.get(Pid(0)).is_none() && slots.get(Pid(u16::MAX)).is_none());
     }
     Ok(())

@@ -4,9 +4,9 @@ use Rattle.tx_live.proofs.FirstSteps.{as_begun}
 use Rattle.tx_live.specs.Begins.{StartsOf}
 use Rattle.tx_live.proofs.begins.begun.Goals as goal
 
-pub returns-clause-boxed : goal.returns-clause-boxed
-returns-clause-boxed c =
-    as_begun c.args.parts.now c.args.pid c.args.defers c.unwrap-proc.result.now c.deref_mut.result.now c.plan.new.log c.in_ok-_planned._planned
+pub returns-in-Ok-clause-boxed : goal.returns-in-Ok-clause-boxed
+returns-in-Ok-clause-boxed c =
+    as_begun c.args.parts.now c.args.pid c.args.defers c.unwrap-proc.result.now c.deref_mut.result.now c.plan.new.log c.in-Ok._planned
     (sym c.proc.ensures ∙ ap option_copied c.unwrap-proc.ensures)
     (subst (StartsOf c.args.pid c.args.defers c.unwrap-proc.result.now) (sym c.deref_mut.ensures.value) c.in_ok-boxed.ensures.boxed)
-    c.in_ok-_planned.ensures.named c.in_ok-_planned.ensures.planned
+    c.in-Ok.ensures.named c.in-Ok.ensures.planned

@@ -1,7 +1,7 @@
 use Rattle.std.proofs.Common.{sym, subst}
 use Rattle.tx_base.specs.Slots.{slot_at}
 use Rattle.tx_step.specs.declared.roles.StepRole.TheVariants as role
-use Rattle.tx_step.proofs.InsideTaken.{child_is, footprint_is, free, live_is, refused, taken}
+use Rattle.tx_step.proofs.InsideTaken.{child_is, footprint_is, free, live_is, refused, taken, was_refused}
 use Rattle.tx_live.specs.Made.{IsRunning}
 use Rattle.tx_live.specs.declared.content.Content.{Content}
 use Rattle.tx_step.proofs.RefusedSteps.{of_process}
@@ -35,6 +35,11 @@ pub late_refusal-requires-clause-running : goal.late_refusal-requires-clause-run
 late_refusal-requires-clause-running c =
     subst (λ (k : Content). IsRunning (slot_at k.parts.procs c.args.pid.0)) (sym c.in-Err.ensures.err)
     (runs c.laws.ensures c.args.content.now c.requires.content c.args.pid c.args.asked (role.Inside c.args.starter c.args.progress) c.requires.through)
+
+pub late_refusal-requires-clause-refused : goal.late_refusal-requires-clause-refused
+late_refusal-requires-clause-refused c =
+    was_refused c.laws.ensures c.args.content.now c.requires.content c.args.pid c.args.starter c.args.progress c.args.asked c.requires.through c.act-act.result c.act-act.ensures
+    c.make_inside.new.self c.in-Err.ensures.err c.in-Err.why c.in-Err.ensures.refused
 
 pub returns-in-Ok : goal.returns-in-Ok
 returns-in-Ok c =
