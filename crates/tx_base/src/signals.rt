@@ -47,7 +47,8 @@ impl Flags for SigSet {
 
     ghost exact = { ⊤ };
 
-    ghost table = { (codes "HUP", 2) ∷ (codes "INT", 4) ∷ (codes "QUIT", 8) ∷ (codes "ABRT", 64) ∷ (codes "KILL", 512)
+    ghost table = { (codes "HUP", 2) ∷ (codes "INT", 4) ∷ (codes "QUIT", 8) ∷ (codes "ABRT", 64)
+        ∷ (codes "KILL", 512)
         ∷ (codes "USR1", 1024) ∷ (codes "USR2", 4096) ∷ (codes "PIPE", 8192) ∷ (codes "ALRM", 16384)
         ∷ (codes "TERM", 32768) ∷ (codes "CHLD", 131072) ∷ (codes "REALTIME_0", 4294967296)
         ∷ (codes "REALTIME_1", 8589934592) ∷ (codes "REALTIME_2", 17179869184)

@@ -106,7 +106,8 @@ impl Log {
 fn apply_from(changes: &mut Vec<Change>, parts: &mut Parts, from: usize)
     requires { AreNamed parts.old (drop from changes.old.items) }
     ensures parts { parts.new ≡ applied parts.old (drop from changes.old.items) }
-    ensures changes { changes.new.items ≡ take from changes.old.items ++ exchanged parts.old (drop from changes.old.items) }
+    ensures changes { changes.new.items ≡ take from changes.old.items
+        ++ exchanged parts.old (drop from changes.old.items) }
 {
     for i in from..changes.len() {
         changes[i].swap(parts);
@@ -117,7 +118,8 @@ fn apply_from(changes: &mut Vec<Change>, parts: &mut Parts, from: usize)
 fn lead_back_last(changes: &mut Vec<Change>, parts: &mut Parts, count: usize)
     requires few { count ≤ length changes.old.items }
     requires named { AreNamed parts.old changes.old.items }
-    ensures parts { parts.new ≡ undone parts.old (drop (length changes.old.items - count) changes.old.items) }
+    ensures parts { parts.new
+        ≡ undone parts.old (drop (length changes.old.items - count) changes.old.items) }
     ensures log { changes.new.items ≡ take (length changes.old.items - count) changes.old.items }
 {
     for _done in 0..count {

@@ -30,7 +30,8 @@ impl Parts {
     /// There must be as many numbers as processes. NoMemory where a growth is refused.
     pub fn boot(alloc: Global, width: u16, count: u16) -> Result<Parts, NoMemory>
         requires { count ≤ width }
-        ensures state { IfOk result (λ parts. state_of (λ starter. []) parts ≡ boot_state width count) }
+        ensures state { IfOk result (λ parts.
+            state_of (λ starter. []) parts ≡ boot_state width count) }
         ensures places { IfOk result (λ parts. HaveAllPlaces parts) }
         ensures counts { IfOk result (λ parts. CountsAgree parts) }
     {

@@ -136,7 +136,9 @@ impl PipeTable {
     #[inline(never)] // inlined, each exchange of a part would save the registers that it takes
     pub fn swap_part(&mut self, number: PipeNo, part: &mut PipePart)
         requires { number.0 < length self.old }
-        ensures exchanged { self.new ≡ slice_set self.old number.0 (piped_in (slice_index_or self.old number.0 None) part.old) }
+        ensures exchanged { self.new
+            ≡ slice_set self.old number.0
+            (piped_in (slice_index_or self.old number.0 None) part.old) }
         ensures given { part.new ≡ part_in (slice_index_or self.old number.0 None) part.old }
     {
         part.swap(&mut self.slots[number.0 as usize]);

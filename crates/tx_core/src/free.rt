@@ -51,7 +51,8 @@ impl Machine {
 /// The least process number that is free for the process.
 fn least_process(content: &Content, pid: Pid) -> Option<Pid>
     requires { IsContent content.now }
-    ensures { option_map number_of result ≡ least (is_free_process (view_of content.now) pid.0) (view_of content.now).table.width }
+    ensures { option_map number_of result
+        ≡ least (is_free_process (view_of content.now) pid.0) (view_of content.now).table.width }
 {
     for number in 1..content.parts.procs.width() + 1 {
         let number = Pid(number as u16);
@@ -65,7 +66,8 @@ fn least_process(content: &Content, pid: Pid) -> Option<Pid>
 /// The least pipe that is free for the process.
 fn least_pipe(content: &Content, pid: Pid) -> Option<PipeNo>
     requires { IsContent content.now }
-    ensures { option_map pipe_number result ≡ least (is_free_pipe (view_of content.now) pid.0) (PIPES - 1) }
+    ensures { option_map pipe_number result
+        ≡ least (is_free_pipe (view_of content.now) pid.0) (PIPES - 1) }
 {
     for number in 0..PIPES {
         let number = PipeNo(number as u8);
@@ -79,7 +81,8 @@ fn least_pipe(content: &Content, pid: Pid) -> Option<PipeNo>
 /// The two least descriptions that are free for the process.
 fn least_descriptions(content: &Content, pid: Pid) -> Option<(DescNo, DescNo)>
     requires { IsContent content.now }
-    ensures { option_map desc_numbers result ≡ least_two (is_free_description (view_of content.now) pid.0) (DESCRIPTIONS - 1) }
+    ensures { option_map desc_numbers result
+        ≡ least_two (is_free_description (view_of content.now) pid.0) (DESCRIPTIONS - 1) }
 {
     let first = least_description(content, pid, None)?;
     let second = least_description(content, pid, Some(first))?;
@@ -89,7 +92,9 @@ fn least_descriptions(content: &Content, pid: Pid) -> Option<(DescNo, DescNo)>
 /// The least description that is free for the process and is not this other one.
 fn least_description(content: &Content, pid: Pid, other: Option<DescNo>) -> Option<DescNo>
     requires { IsContent content.now }
-    ensures { option_map desc_number result ≡ least (λ n. is_free_description (view_of content.now) pid.0 n && is_other_than (option_map desc_number other) n) (DESCRIPTIONS - 1) }
+    ensures { option_map desc_number result
+        ≡ least (λ n. is_free_description (view_of content.now) pid.0 n
+        && is_other_than (option_map desc_number other) n) (DESCRIPTIONS - 1) }
 {
     for number in 0..DESCRIPTIONS {
         let number = DescNo(number as u8);

@@ -1,17 +1,17 @@
 //! The machine, as its steps change it.
-ghost use Rattle.std.specs.Prelude.{◌≡◌, ◌≢◌, ◌≤◌, ◌↔◌, ◌⊎◌, ◌∷◌, [], List, true, false, length, IfOk, OnErr, OnOk, IsOk, IfSome, IsSome, IsNone, IsTrue};
-ghost use Rattle.tx_base.specs.declared.steps.Accepted.{Accepted};
+ghost use Rattle.std.specs.Prelude.{◌≡◌, ◌≢◌, ◌≤◌, ◌↔◌, ◌⊎◌, [], true, false, length, IfOk, OnErr, OnOk, IsOk, IfSome, IsSome, IsNone, IsTrue};
 ghost use Rattle.tx_base.specs.declared.steps.Reply.TheVariants.{Aborted, No};
 ghost use Rattle.tx_base.specs.declared.steps.Step.TheVariants.{KernelAbort};
 ghost use Rattle.tx_core.specs.Machines.{IsWidth};
+ghost use Rattle.tx_core.specs.Runs.{Continues, kernel_abort_on};
 ghost use Rattle.tx_core.specs.Undo.{LeadsBack};
 ghost use Rattle.tx_live.specs.Content.{view_of};
 ghost use Rattle.tx_live.specs.Inverses.{Undoes};
 ghost use Rattle.tx_live.specs.declared.content.Content.{Content as TheContent};
-ghost use Rattle.tx_model.specs.Answer.{answer, IsAccepted, Lawful};
+ghost use Rattle.tx_model.specs.Answer.{answer, IsAccepted};
 ghost use Rattle.tx_model.specs.Events.{process_of};
 ghost use Rattle.tx_model.specs.Membership.{is_live};
-ghost use Rattle.tx_model.specs.State.{State, boot_state};
+ghost use Rattle.tx_model.specs.State.{boot_state};
 ghost use Rattle.tx_model.specs.View.{kernel_status, view};
 ghost use Rattle.tx_step.specs.Steps.{IsKernelAbort, IsStep, IsXabort, Takes};
 
@@ -54,14 +54,17 @@ impl Machine {
     /// The inverse changes only what the step names: objects of its footprint, the processes that its
     /// sends go to, and, where it ends a transaction, what that one reserved.
     pub fn step(&mut self, alloc: Global, step: &Step) -> (Reply, Option<Inverse>)
-        ensures answer { (result.0 ≡ No Refusal.NoMemory) ⊎ (answer (view_of self.old) step.now ≡ result.0) }
-        ensures memory { result.0 ≡ No Refusal.NoMemory → IsAccepted (answer (view_of self.old) step.now) }
+        ensures answer { (result.0 ≡ No Refusal.NoMemory)
+            ⊎ (answer (view_of self.old) step.now ≡ result.0) }
+        ensures memory { result.0 ≡ No Refusal.NoMemory →
+            IsAccepted (answer (view_of self.old) step.now) }
         ensures refused { IsNone result.1 → self.new ≡ self.old }
         ensures inverse { IsSome result.1 ↔ IsAccepted result.0 }
-        ensures accepted { IfSome result.1 (λ inverse. IsStep self.old step.now result.0 inverse self.new) }
+        ensures accepted { IfSome result.1 (λ inverse.
+            IsStep self.old step.now result.0 inverse self.new) }
         ensures back { IfSome result.1 (LeadsBack self.new) }
-        ensures history { IsAccepted result.0 → (start : State) (earlier : List Accepted) → Lawful start earlier → view_of self.old ≡ view start earlier →
-            Lawful start (record { step = step.now; reply = result.0 } ∷ earlier) × (view_of self.new ≡ view start (record { step = step.now; reply = result.0 } ∷ earlier)) }
+        ensures history { IsAccepted result.0 →
+            Continues self.old (record { step = step.now; reply = result.0 }) self.new }
         ensures xabort { IsXabort self.old step.now → result.0 ≢ No Refusal.NoMemory }
         ensures kernel { IsKernelAbort step.now → result.0 ≢ No Refusal.NoMemory }
     {
@@ -85,14 +88,16 @@ impl Machine {
         reply: &mut Reply,
         inverse: &mut Inverse,
     ) -> bool
-        ensures answer { (reply.new ≡ No Refusal.NoMemory) ⊎ (answer (view_of self.old) step.now ≡ reply.new) }
-        ensures memory { reply.new ≡ No Refusal.NoMemory → IsAccepted (answer (view_of self.old) step.now) }
+        ensures answer { (reply.new ≡ No Refusal.NoMemory)
+            ⊎ (answer (view_of self.old) step.now ≡ reply.new) }
+        ensures memory { reply.new ≡ No Refusal.NoMemory →
+            IsAccepted (answer (view_of self.old) step.now) }
         ensures refused { result ≡ false → self.new ≡ self.old }
         ensures inverse { IsTrue result ↔ IsAccepted reply.new }
         ensures accepted { IsTrue result → IsStep self.old step.now reply.new inverse.new self.new }
         ensures back { IsTrue result → LeadsBack self.new inverse.new }
-        ensures history { IsAccepted reply.new → (start : State) (earlier : List Accepted) → Lawful start earlier → view_of self.old ≡ view start earlier →
-            Lawful start (record { step = step.now; reply = reply.new } ∷ earlier) × (view_of self.new ≡ view start (record { step = step.now; reply = reply.new } ∷ earlier)) }
+        ensures history { IsAccepted reply.new →
+            Continues self.old (record { step = step.now; reply = reply.new }) self.new }
         ensures xabort { IsXabort self.old step.now → reply.new ≢ No Refusal.NoMemory }
         ensures kernel { IsKernelAbort step.now → reply.new ≢ No Refusal.NoMemory }
     {
@@ -140,13 +145,14 @@ impl Machine {
     ///
     /// Answers `NoTransaction` where the starter has no live transaction, with nothing changed.
     pub fn kernel_abort(&mut self, starter: Pid) -> Result<Inverse, NoTransaction>
-        ensures ok { IfOk result (λ inverse. IsStep self.old (KernelAbort starter) (Aborted (kernel_status (view_of self.old) starter.0)) inverse self.new) }
+        ensures ok { IfOk result (λ inverse.
+            IsStep self.old (KernelAbort starter)
+            (Aborted (kernel_status (view_of self.old) starter.0)) inverse self.new) }
         ensures back { IfOk result (LeadsBack self.new) }
         ensures none { IsOk result ↔ (is_live (view_of self.old).table starter.0 ≡ true) }
         ensures err { OnErr result (self.new ≡ self.old) }
-        ensures history { IfOk result (λ inverse. (start : State) (earlier : List Accepted) → Lawful start earlier → view_of self.old ≡ view start earlier →
-            Lawful start (record { step = KernelAbort starter; reply = Aborted (kernel_status (view_of self.old) starter.0) } ∷ earlier)
-            × (view_of self.new ≡ view start (record { step = KernelAbort starter; reply = Aborted (kernel_status (view_of self.old) starter.0) } ∷ earlier))) }
+        ensures history { OnOk result
+            (Continues self.old (kernel_abort_on self.old starter) self.new) }
     {
         laws();
         let mut inverse = Inverse::blank();

@@ -3,6 +3,7 @@ ghost use Rattle.std.specs.Prelude.{◌≡◌, ◌↔◌, ℕ, true, length, map
 ghost use Rattle.tx_base.specs.Slots.{slot_at};
 ghost use Rattle.tx_change.specs.States.{state_of};
 ghost use Rattle.tx_core.specs.Machines.{IsWidth};
+ghost use Rattle.tx_kernel.specs.Actors.{IsWhole};
 ghost use Rattle.tx_kernel.specs.Plans.{sending_of};
 ghost use Rattle.tx_live.specs.Content.{held_of, view_of};
 ghost use Rattle.tx_model.specs.Membership.{is_live};
@@ -12,7 +13,7 @@ use crate::laws::laws;
 use crate::machine::Machine;
 use tx_base::{Mark, Pid, Sending, Slots};
 use tx_change::Parts;
-use tx_step::kernel_status;
+use tx_step::{contents_are_whole, kernel_status};
 
 impl Machine {
     /// How many process numbers there are: 64, or 256 of a wide machine.
@@ -28,8 +29,10 @@ impl Machine {
     pub fn parts(&self) -> &Parts
         ensures parts { result.now ≡ self.now.parts }
         ensures state { state_of (held_of self.now) result.now ≡ present (view_of self.now) }
+        ensures whole { IsWhole result.now }
     {
         laws();
+        contents_are_whole();
         &self.content.parts
     }
 
@@ -65,7 +68,8 @@ impl Machine {
     /// The status that `kernel_abort` of a starter's live transaction gives: 203 where it is doomed, and
     /// else 202. Nothing where the starter has no live transaction. It takes no memory. Own rule.
     pub fn kernel_status(&self, starter: Pid) -> Option<u16>
-        ensures status { IfSome result (λ status. status ≡ kernel_status (view_of self.now) starter.0) }
+        ensures status { IfSome result (λ status.
+            status ≡ kernel_status (view_of self.now) starter.0) }
         ensures live { IsSome result ↔ (is_live (view_of self.now).table starter.0 ≡ true) }
     {
         kernel_status(&self.content, starter)

@@ -40,11 +40,16 @@ pub struct PartialRun {
 pub fn run(alloc: Global, count: u16, steps: &[Step]) -> Result<Ran, NoMemory>
     requires low { 1 ≤ count }
     requires high { count ≤ 64 }
-    ensures history { IfOk result (λ ran. reverse ran.history.items ≡ history_of (boot_state 64 count) [] steps.now) }
+    ensures history { IfOk result (λ ran.
+        reverse ran.history.items ≡ history_of (boot_state 64 count) [] steps.now) }
     ensures lawful { IfOk result (λ ran. Lawful (boot_state 64 count) (reverse ran.history.items)) }
-    ensures view { IfOk result (λ ran. view_of ran.machine ≡ view (boot_state 64 count) (reverse ran.history.items)) }
-    ensures agreement { IfOk result (λ ran. (later earlier : List TheAccepted) → reverse ran.history.items ≡ later ++ earlier → Agreement (boot_state 64 count) earlier) }
-    ensures moments { IfOk result (λ ran. HasMoments (boot_state 64 count) (reverse ran.history.items)) }
+    ensures view { IfOk result (λ ran.
+        view_of ran.machine ≡ view (boot_state 64 count) (reverse ran.history.items)) }
+    ensures agreement { IfOk result (λ ran.
+        (later earlier : List TheAccepted) → reverse ran.history.items ≡ later ++ earlier →
+        Agreement (boot_state 64 count) earlier) }
+    ensures moments { IfOk result (λ ran.
+        HasMoments (boot_state 64 count) (reverse ran.history.items)) }
 {
     // The laws that the agreement and the moments stand on.
     erasure();
@@ -56,11 +61,17 @@ pub fn run(alloc: Global, count: u16, steps: &[Step]) -> Result<Ran, NoMemory>
 pub fn run_wide(alloc: Global, count: u16, steps: &[Step]) -> Result<Ran, NoMemory>
     requires low { 1 ≤ count }
     requires high { count ≤ 256 }
-    ensures history { IfOk result (λ ran. reverse ran.history.items ≡ history_of (boot_state 256 count) [] steps.now) }
-    ensures lawful { IfOk result (λ ran. Lawful (boot_state 256 count) (reverse ran.history.items)) }
-    ensures view { IfOk result (λ ran. view_of ran.machine ≡ view (boot_state 256 count) (reverse ran.history.items)) }
-    ensures agreement { IfOk result (λ ran. (later earlier : List TheAccepted) → reverse ran.history.items ≡ later ++ earlier → Agreement (boot_state 256 count) earlier) }
-    ensures moments { IfOk result (λ ran. HasMoments (boot_state 256 count) (reverse ran.history.items)) }
+    ensures history { IfOk result (λ ran.
+        reverse ran.history.items ≡ history_of (boot_state 256 count) [] steps.now) }
+    ensures lawful { IfOk result (λ ran.
+        Lawful (boot_state 256 count) (reverse ran.history.items)) }
+    ensures view { IfOk result (λ ran.
+        view_of ran.machine ≡ view (boot_state 256 count) (reverse ran.history.items)) }
+    ensures agreement { IfOk result (λ ran.
+        (later earlier : List TheAccepted) → reverse ran.history.items ≡ later ++ earlier →
+        Agreement (boot_state 256 count) earlier) }
+    ensures moments { IfOk result (λ ran.
+        HasMoments (boot_state 256 count) (reverse ran.history.items)) }
 {
     // The laws that the agreement and the moments stand on.
     erasure();
@@ -78,12 +89,21 @@ pub fn run_wide(alloc: Global, count: u16, steps: &[Step]) -> Result<Ran, NoMemo
 pub fn run_partial(alloc: Global, count: u16, steps: &[Step]) -> Result<PartialRun, NoMemory>
     requires low { 1 ≤ count }
     requires high { count ≤ 64 }
-    ensures history { IfOk result (λ partial. reverse partial.ran.history.items ≡ history_of (boot_state 64 count) [] (steps_made partial.stopped steps.now)) }
-    ensures lawful { IfOk result (λ partial. Lawful (boot_state 64 count) (reverse partial.ran.history.items)) }
-    ensures view { IfOk result (λ partial. view_of partial.ran.machine ≡ view (boot_state 64 count) (reverse partial.ran.history.items)) }
-    ensures agreement { IfOk result (λ partial. (later earlier : List TheAccepted) → reverse partial.ran.history.items ≡ later ++ earlier → Agreement (boot_state 64 count) earlier) }
-    ensures moments { IfOk result (λ partial. HasMoments (boot_state 64 count) (reverse partial.ran.history.items)) }
-    ensures stopped { IfOk result (λ partial. IfSome partial.stopped (λ number. number < length steps.now)) }
+    ensures history { IfOk result (λ partial.
+        reverse partial.ran.history.items
+        ≡ history_of (boot_state 64 count) [] (steps_made partial.stopped steps.now)) }
+    ensures lawful { IfOk result (λ partial.
+        Lawful (boot_state 64 count) (reverse partial.ran.history.items)) }
+    ensures view { IfOk result (λ partial.
+        view_of partial.ran.machine
+        ≡ view (boot_state 64 count) (reverse partial.ran.history.items)) }
+    ensures agreement { IfOk result (λ partial.
+        (later earlier : List TheAccepted) → reverse partial.ran.history.items ≡ later ++ earlier →
+        Agreement (boot_state 64 count) earlier) }
+    ensures moments { IfOk result (λ partial.
+        HasMoments (boot_state 64 count) (reverse partial.ran.history.items)) }
+    ensures stopped { IfOk result (λ partial.
+        IfSome partial.stopped (λ number. number < length steps.now)) }
 {
     // The laws that the agreement and the moments stand on.
     erasure();
@@ -93,7 +113,9 @@ pub fn run_partial(alloc: Global, count: u16, steps: &[Step]) -> Result<PartialR
 
 /// Runs a schedule on a booted machine to its end. Answers `NoMemory` where it stops before that.
 fn run_whole(alloc: Global, machine: Machine, steps: &[Step]) -> Result<Ran, NoMemory>
-    ensures { IfOk result (λ ran. (start : State) → view_of machine ≡ view start [] → RunsFrom start steps.now ran.machine ran.history.items) }
+    ensures { IfOk result (λ ran.
+        (start : State) → view_of machine ≡ view start [] →
+        RunsFrom start steps.now ran.machine ran.history.items) }
 {
     let partial = run_on(alloc, machine, steps);
     match partial.stopped {
@@ -104,7 +126,9 @@ fn run_whole(alloc: Global, machine: Machine, steps: &[Step]) -> Result<Ran, NoM
 
 /// Runs a schedule on a booted machine, up to the step that wants memory.
 fn run_on(alloc: Global, mut machine: Machine, steps: &[Step]) -> PartialRun
-    ensures run { (start : State) → view_of machine ≡ view start [] → RunsFrom start (steps_made result.stopped steps.now) result.ran.machine result.ran.history.items }
+    ensures run { (start : State) → view_of machine ≡ view start [] →
+        RunsFrom start (steps_made result.stopped steps.now) result.ran.machine
+        result.ran.history.items }
     ensures stopped { IfSome result.stopped (λ number. number < length steps.now) }
 {
     let mut history = Vec::new(alloc);
@@ -133,7 +157,8 @@ fn run_step(
     step: &Step,
 ) -> Result<(), NoMemory>
     ensures run { OnOk result ((start : State) (made : List TheStep) →
-        RunsFrom start made machine.old history.old.items → RunsFrom start (made ++ step.now ∷ []) machine.new history.new.items) }
+        RunsFrom start made machine.old history.old.items →
+        RunsFrom start (made ++ step.now ∷ []) machine.new history.new.items) }
     ensures machine { OnErr result (machine.new ≡ machine.old) }
     ensures history { OnErr result (history.new.items ≡ history.old.items) }
 {

@@ -33,11 +33,13 @@ impl FdTable {
         requires write_free { (write.0 < 64) × (slice_index_or descs.old write.0 None ≡ None) }
 
         ensures answer { (c : Caller) →
-            c.process.descriptors ≡ self.old → HasDescs c.state descs.old → c.state.pipes pipe.0 ≡ None →
+            c.process.descriptors ≡ self.old → HasDescs c.state descs.old →
+            c.state.pipes pipe.0 ≡ None →
             pipe_rule pipe.0 read.0 write.0 c
             ≡ pipe_outcome pipe.0 read.0 write.0 result self.new descs.new c }
         ensures descriptions { (c : Caller) →
-            c.process.descriptors ≡ self.old → HasDescs c.state descs.old → c.state.pipes pipe.0 ≡ None →
+            c.process.descriptors ≡ self.old → HasDescs c.state descs.old →
+            c.state.pipes pipe.0 ≡ None →
             HasDescs (state_after (pipe_rule pipe.0 read.0 write.0) c) descs.new }
         ensures counts { (others : List Descriptors) →
             Agrees (self.old ∷ others) descs.old → Agrees (self.new ∷ others) descs.new }
@@ -145,12 +147,14 @@ impl FdTable {
     pub fn set_nonblock(&self, descs: &mut Descs, fd: i64, on: bool) -> Result<(), Errno>
         requires { HasRoom 0 (named_in self.now (descriptor fd)) descs.old }
 
-        ensures answer { (c : Caller) → c.process.descriptors ≡ self.now → HasDescs c.state descs.old →
+        ensures answer { (c : Caller) → c.process.descriptors ≡ self.now →
+            HasDescs c.state descs.old →
             set_nonblock fd on c ≡ nonblock_outcome result (description_at fd c) descs.new c }
         ensures descriptions { (c : Caller) →
             c.process.descriptors ≡ self.now → HasDescs c.state descs.old →
             HasDescs (state_after (set_nonblock fd on) c) descs.new }
-        ensures counts { (tables : List Descriptors) → Agrees tables descs.old → Agrees tables descs.new }
+        ensures counts { (tables : List Descriptors) → Agrees tables descs.old →
+            Agrees tables descs.new }
         ensures err_descs { OnErr result (descs.new ≡ descs.old) }
     {
         let plan = self.plan_nonblock(descs, fd, on)?;

@@ -29,7 +29,8 @@ impl Descs {
     pub fn plan_raise_all(&self, table: &FdTable) -> ArrayVec<NewDesc, DESCRIPTORS>
         requires { IsBacked 16 table.now self.now }
         ensures counts { KeepsCounts [] table.now self.now (put_descs result.items self.now) }
-        ensures descriptions { (S : State) → HasDescs S self.now → HasDescs S (put_descs result.items self.now) }
+        ensures descriptions { (S : State) → HasDescs S self.now →
+            HasDescs S (put_descs result.items self.now) }
         ensures once { IsOnceEach table.now result.items }
         ensures numbers { AreNumbers result.items }
     {
@@ -44,7 +45,8 @@ impl Descs {
         ensures counts { KeepsCounts table.now [] self.now (put_descs result.items self.now) }
         ensures descriptions { (others : List Descriptors) (S : State) →
             Agrees (table.now ∷ others) self.now → HasDescs S self.now → HasNamed S others →
-            HasDescs (with_writes (description_removals (open_in table.now) S) S) (put_descs result.items self.now) }
+            HasDescs (with_writes (description_removals (open_in table.now) S) S)
+            (put_descs result.items self.now) }
         ensures once { IsOnceEach table.now result.items }
         ensures numbers { AreNumbers result.items }
     {
@@ -56,7 +58,8 @@ impl Descs {
     #[tactic(auto, using(crate::proofs::Counting::keeps_come))]
     pub fn raise_all(&mut self, table: &FdTable)
         requires { IsBacked 16 table.now self.old }
-        ensures counts { (others : List Descriptors) → Agrees others self.old → Agrees (table.now ∷ others) self.new }
+        ensures counts { (others : List Descriptors) → Agrees others self.old →
+            Agrees (table.now ∷ others) self.new }
         ensures descriptions { (S : State) → HasDescs S self.old → HasDescs S self.new }
     {
         let plan = self.plan_raise_all(table);
@@ -68,7 +71,8 @@ impl Descs {
     #[tactic(auto, using(crate::proofs::Counting::keeps_go))]
     pub fn drop_all(&mut self, table: &FdTable)
         requires { IsBacked 16 table.now self.old }
-        ensures counts { (others : List Descriptors) → Agrees (table.now ∷ others) self.old → Agrees others self.new }
+        ensures counts { (others : List Descriptors) → Agrees (table.now ∷ others) self.old →
+            Agrees others self.new }
         ensures descriptions { (others : List Descriptors) (S : State) →
             Agrees (table.now ∷ others) self.old → HasDescs S self.old → HasNamed S others →
             HasDescs (with_writes (description_removals (open_in table.now) S) S) self.new }
@@ -123,7 +127,8 @@ impl Descs {
         requires named { 0 < count_in d.0 table.now }
         requires counted { count ≡ count_in d.0 table.now }
         ensures number { result.number ≡ d }
-        ensures opened { result.opened ≡ recounted names (count_in d.0 table.now) (slice_index_or self.now d.0 None) }
+        ensures opened { result.opened
+            ≡ recounted names (count_in d.0 table.now) (slice_index_or self.now d.0 None) }
     {
         table.sized();
         let opened = match names {

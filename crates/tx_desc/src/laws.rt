@@ -15,7 +15,8 @@ pub fn none_named_at_first()
 
 /// Where the counts are right, a description is there exactly while a descriptor names it.
 pub fn there_while_named()
-    ensures { (tables : List Descriptors) (descs : List (Option Opened)) (d : ℕ) → Agrees tables descs →
+    ensures { (tables : List Descriptors) (descs : List (Option Opened)) (d : ℕ) →
+        Agrees tables descs →
         IsSome (slice_index_or descs d None) ↔ (0 < names_in d tables) }
 {}
 
@@ -23,11 +24,15 @@ pub fn there_while_named()
 /// of a process that has other descriptors then, of one that comes, of one that ends, and of no
 /// process.
 pub fn counts_kept()
-    ensures changed { (table new : Descriptors) (others : List Descriptors) (descs after : List (Option Opened)) →
-        KeepsCounts table new descs after → Agrees (table ∷ others) descs → Agrees (new ∷ others) after }
-    ensures comes { (table : Descriptors) (others : List Descriptors) (descs after : List (Option Opened)) →
+    ensures changed { (table new : Descriptors) (others : List Descriptors)
+        (descs after : List (Option Opened)) →
+        KeepsCounts table new descs after → Agrees (table ∷ others) descs →
+        Agrees (new ∷ others) after }
+    ensures comes { (table : Descriptors) (others : List Descriptors)
+        (descs after : List (Option Opened)) →
         KeepsCounts [] table descs after → Agrees others descs → Agrees (table ∷ others) after }
-    ensures ends { (table : Descriptors) (others : List Descriptors) (descs after : List (Option Opened)) →
+    ensures ends { (table : Descriptors) (others : List Descriptors)
+        (descs after : List (Option Opened)) →
         KeepsCounts table [] descs after → Agrees (table ∷ others) descs → Agrees others after }
     ensures nobody { (tables : List Descriptors) (descs after : List (Option Opened)) →
         KeepsCounts [] [] descs after → Agrees tables descs → Agrees tables after }
@@ -37,8 +42,10 @@ pub fn counts_kept()
 /// of one of them require holds; and with it what a call on one of its descriptors requires, open or
 /// not.
 pub fn room_for_names()
-    ensures all { (tables : List Descriptors) (descs : List (Option Opened)) (table : Descriptors) → Agrees tables descs →
-        length tables ≤ 256 → All (λ each. length each ≡ 16) tables → Contains tables table → IsBacked 16 table descs }
+    ensures all { (tables : List Descriptors) (descs : List (Option Opened)) (table : Descriptors) →
+        Agrees tables descs →
+        length tables ≤ 256 → All (λ each. length each ≡ 16) tables → Contains tables table →
+        IsBacked 16 table descs }
     ensures one { (table : Descriptors) (descs : List (Option Opened)) (fd : Option ℕ) (room : ℕ) →
         room ≤ 16 → IsBacked 16 table descs → HasRoom room (named_in table fd) descs }
 {}
@@ -52,10 +59,12 @@ pub fn any_order()
 /// Which descriptions a state names is said by the descriptors of a process and of all others: of a
 /// process that runs, and comes to have these descriptors, and of one that ends.
 pub fn named_by_processes()
-    ensures running { (p : ℕ) (me new : Process) (S : State) (table : Descriptors) → RunsWith p me S table →
+    ensures running { (p : ℕ) (me new : Process) (S : State) (table : Descriptors) →
+        RunsWith p me S table →
         length new.descriptors ≡ 16 → new.status ≡ None →
         HasNamed (write_one (SetProc p (Some new)) S) (new.descriptors ∷ others_of p S) }
-    ensures ended { (p : ℕ) (me new : Process) (S : State) (table : Descriptors) → RunsWith p me S table →
+    ensures ended { (p : ℕ) (me new : Process) (S : State) (table : Descriptors) →
+        RunsWith p me S table →
         length new.descriptors ≡ 16 → IsSome new.status →
         HasNamed (write_one (SetProc p (Some new)) S) (others_of p S) }
 {}

@@ -28,19 +28,25 @@ impl FdTable {
         requires write_in { write.0 < 64 }
 
         ensures answer { (c : Caller) (descs : List (Option Opened)) →
-            c.process.descriptors ≡ self.now → AreFree read.0 write.0 descs → HasDescs c.state descs →
+            c.process.descriptors ≡ self.now → AreFree read.0 write.0 descs →
+            HasDescs c.state descs →
             c.state.pipes pipe.0 ≡ None →
             pipe_rule pipe.0 read.0 write.0 c
-            ≡ pipe_outcome pipe.0 read.0 write.0 (answer_of (λ plan. (plan.read_name.fd, plan.write_name.fd)) result)
-            (put_names (pipe_puts result).names self.now) (put_descs (pipe_puts result).descs descs) c }
+            ≡ pipe_outcome pipe.0 read.0 write.0
+            (answer_of (λ plan. (plan.read_name.fd, plan.write_name.fd)) result)
+            (put_names (pipe_puts result).names self.now) (put_descs (pipe_puts result).descs descs)
+            c }
         ensures descriptions { (c : Caller) (descs : List (Option Opened)) →
-            c.process.descriptors ≡ self.now → AreFree read.0 write.0 descs → HasDescs c.state descs →
+            c.process.descriptors ≡ self.now → AreFree read.0 write.0 descs →
+            HasDescs c.state descs →
             c.state.pipes pipe.0 ≡ None →
             HasDescs (state_after (pipe_rule pipe.0 read.0 write.0) c)
             (put_descs (pipe_puts result).descs descs) }
         ensures counts { (descs : List (Option Opened)) → AreFree read.0 write.0 descs →
-            KeepsCounts self.now (put_names (pipe_puts result).names self.now) descs (put_descs (pipe_puts result).descs descs) }
-        ensures named { IfOk result (λ plan. (plan.read.number ≡ read) × (plan.write.number ≡ write)) }
+            KeepsCounts self.now (put_names (pipe_puts result).names self.now) descs
+            (put_descs (pipe_puts result).descs descs) }
+        ensures named { IfOk result (λ plan.
+            (plan.read.number ≡ read) × (plan.write.number ≡ write)) }
         ensures numbers { AreInRange (pipe_puts result) }
     {
         self.sized();
@@ -80,8 +86,10 @@ impl FdTable {
         ensures descriptions { (c : Caller) →
             c.process.descriptors ≡ self.now → HasDescs c.state descs.now →
             HasDescs (state_after (dup fd) c) (put_descs (dup_puts result).descs descs.now) }
-        ensures counts { KeepsCounts self.now (put_names (dup_puts result).names self.now) descs.now (put_descs (dup_puts result).descs descs.now) }
-        ensures named { IfOk result (λ plan. named_in self.now (descriptor fd) ≡ Some plan.desc.number.0) }
+        ensures counts { KeepsCounts self.now (put_names (dup_puts result).names self.now) descs.now
+            (put_descs (dup_puts result).descs descs.now) }
+        ensures named { IfOk result (λ plan.
+            named_in self.now (descriptor fd) ≡ Some plan.desc.number.0) }
         ensures numbers { AreInRange (dup_puts result) }
     {
         self.sized();
@@ -114,12 +122,18 @@ impl FdTable {
         ensures descriptions { (c : Caller) →
             RunsWith c.number c.process c.state self.now → HasDescs c.state descs.now →
             Agrees (self.now ∷ others_of c.number c.state) descs.now →
-            HasDescs (state_after (dup2 fd other) c) (put_descs (dup2_puts result).descs descs.now) }
-        ensures counts { KeepsCounts self.now (put_names (dup2_puts result).names self.now) descs.now (put_descs (dup2_puts result).descs descs.now) }
-        ensures gone { IfOk result (λ plan. IsGone plan.renamed.given descs.now (put_descs (dup2_puts result).descs descs.now)) }
-        ensures changed { IfOk result (λ plan. RenamesOf (named_in self.now (descriptor fd)) (named_in self.now (descriptor other)) plan.rename) }
+            HasDescs (state_after (dup2 fd other) c)
+            (put_descs (dup2_puts result).descs descs.now) }
+        ensures counts { KeepsCounts self.now (put_names (dup2_puts result).names self.now)
+            descs.now (put_descs (dup2_puts result).descs descs.now) }
+        ensures gone { IfOk result (λ plan.
+            IsGone plan.renamed.given descs.now (put_descs (dup2_puts result).descs descs.now)) }
+        ensures changed { IfOk result (λ plan.
+            RenamesOf (named_in self.now (descriptor fd)) (named_in self.now (descriptor other))
+            plan.rename) }
         ensures fd { IfOk result (λ plan. plan.renamed.fd < 16) }
-        ensures apart { IfOk result (λ plan. IsOfTwo (descriptor fd) (descriptor other) plan.rename) }
+        ensures apart { IfOk result (λ plan.
+            IsOfTwo (descriptor fd) (descriptor other) plan.rename) }
         ensures left { IfOk result (λ plan. GivesLeft plan.renamed.given plan.rename) }
         ensures numbers { AreInRange (dup2_puts result) }
     {
@@ -155,10 +169,13 @@ impl FdTable {
             RunsWith c.number c.process c.state self.now → HasDescs c.state descs.now →
             Agrees (self.now ∷ others_of c.number c.state) descs.now →
             HasDescs (state_after (close fd) c) (put_descs (close_puts result).descs descs.now) }
-        ensures counts { KeepsCounts self.now (put_names (close_puts result).names self.now) descs.now (put_descs (close_puts result).descs descs.now) }
-        ensures gone { IfOk result (λ plan. IsGone (Some plan.given) descs.now (put_descs (close_puts result).descs descs.now)) }
+        ensures counts { KeepsCounts self.now (put_names (close_puts result).names self.now)
+            descs.now (put_descs (close_puts result).descs descs.now) }
+        ensures gone { IfOk result (λ plan.
+            IsGone (Some plan.given) descs.now (put_descs (close_puts result).descs descs.now)) }
         ensures given { IfOk result (λ plan. plan.given.number ≡ plan.desc.number) }
-        ensures named { IfOk result (λ plan. named_in self.now (descriptor fd) ≡ Some plan.desc.number.0) }
+        ensures named { IfOk result (λ plan.
+            named_in self.now (descriptor fd) ≡ Some plan.desc.number.0) }
         ensures numbers { AreInRange (close_puts result) }
     {
         self.sized();
@@ -181,14 +198,18 @@ impl FdTable {
     pub fn plan_nonblock(&self, descs: &Descs, fd: i64, on: bool) -> Result<NewDesc, Errno>
         requires { HasRoom 0 (named_in self.now (descriptor fd)) descs.now }
 
-        ensures answer { (c : Caller) → c.process.descriptors ≡ self.now → HasDescs c.state descs.now →
+        ensures answer { (c : Caller) → c.process.descriptors ≡ self.now →
+            HasDescs c.state descs.now →
             set_nonblock fd on c ≡ nonblock_outcome result (description_at fd c)
             (put_descs (nonblock_puts result).descs descs.now) c }
         ensures descriptions { (c : Caller) →
             c.process.descriptors ≡ self.now → HasDescs c.state descs.now →
-            HasDescs (state_after (set_nonblock fd on) c) (put_descs (nonblock_puts result).descs descs.now) }
-        ensures counts { KeepsCounts [] [] descs.now (put_descs (nonblock_puts result).descs descs.now) }
-        ensures named { IfOk result (λ plan. named_in self.now (descriptor fd) ≡ Some plan.number.0) }
+            HasDescs (state_after (set_nonblock fd on) c)
+            (put_descs (nonblock_puts result).descs descs.now) }
+        ensures counts { KeepsCounts [] [] descs.now
+            (put_descs (nonblock_puts result).descs descs.now) }
+        ensures named { IfOk result (λ plan.
+            named_in self.now (descriptor fd) ≡ Some plan.number.0) }
         ensures numbers { AreInRange (nonblock_puts result) }
     {
         self.sized();
@@ -207,11 +228,15 @@ impl FdTable {
         requires left { HasRoom 0 (slice_index_or self.now target None) descs.now }
 
         ensures fd { result.renamed.fd ≡ target }
-        ensures given { given_up result.renamed.given ≡ option_list (slice_index_or self.now target None) }
-        ensures table { put_names (rename_puts result.rename).names self.now ≡ slice_set self.now target (Some d.0) }
+        ensures given { given_up result.renamed.given
+            ≡ option_list (slice_index_or self.now target None) }
+        ensures table { put_names (rename_puts result.rename).names self.now
+            ≡ slice_set self.now target (Some d.0) }
         ensures after { put_descs (rename_puts result.rename).descs descs.now
-            ≡ changed_at (with_fewer 1) (slice_index_or self.now target None) (changed_at (with_more 1) (Some d.0) descs.now) }
-        ensures gone { IsGone result.renamed.given descs.now (put_descs (rename_puts result.rename).descs descs.now) }
+            ≡ changed_at (with_fewer 1) (slice_index_or self.now target None)
+            (changed_at (with_more 1) (Some d.0) descs.now) }
+        ensures gone { IsGone result.renamed.given descs.now
+            (put_descs (rename_puts result.rename).descs descs.now) }
         ensures changed { RenamesOf (Some d.0) (slice_index_or self.now target None) result.rename }
         ensures left { GivesLeft result.renamed.given result.rename }
         ensures numbers { AreInRange (rename_puts result.rename) }

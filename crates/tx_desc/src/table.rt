@@ -63,7 +63,8 @@ impl FdTable {
     ///
     /// BadDescriptor where the number is not 0 to 15, or that descriptor is free.
     pub fn look(&self, fd: i64) -> Result<DescNo, Errno>
-        ensures { (me : Process) → me.descriptors ≡ self.now → result ≡ looked_up (description_named me (descriptor fd)) }
+        ensures { (me : Process) → me.descriptors ≡ self.now →
+            result ≡ looked_up (description_named me (descriptor fd)) }
     {
         let (_, d) = self.find(fd)?;
         Ok(d)

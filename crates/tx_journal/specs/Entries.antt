@@ -7,6 +7,10 @@ use Rattle.tx_journal.specs.declared.entry.Entry.{Entry}
 abbrev pub accepted_of : Entry → Accepted
 accepted_of e = record { step = e.step; reply = e.reply }
 
+-- the entry of a step that a worker made
+abbrev pub entry_by : ℕ → Accepted → Entry
+entry_by worker made = record { step = made.step; worker = worker; reply = made.reply }
+
 -- the history of some entries, of which the oldest is the first: its newest step is the first
 abbrev pub history_of : List Entry → List Accepted
 history_of entries = reverse (map accepted_of entries)

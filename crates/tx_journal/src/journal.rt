@@ -54,7 +54,9 @@ impl Journal {
     /// NoMemory where a growth is refused; the journal is then as it was.
     pub fn grow(&mut self, count: usize) -> Result<(), NoMemory>
         ensures same { SameRecord self.new self.old }
-        ensures places { OnOk result (length self.new.inverses.items ≡ length self.new.entries.items → HasPlaces self.new count) }
+        ensures places { OnOk result
+            (length self.new.inverses.items ≡ length self.new.entries.items →
+            HasPlaces self.new count) }
         ensures entries { vec_capacity self.old.entries ≤ vec_capacity self.new.entries }
         ensures inverses { vec_capacity self.old.inverses ≤ vec_capacity self.new.inverses }
     {

@@ -1,16 +1,16 @@
 //! Makes a step, and adds its entry.
-ghost use Rattle.std.specs.Prelude.{◌≡◌, ◌≢◌, ◌∷◌, ◌↔◌, ◌⊎◌, ◌+◌, ◌≤◌, ◌<◌, ◌^◌, List, IsOk, IsTrue, OnErr, OnOk, false, length, true};
-ghost use Rattle.tx_base.specs.declared.steps.Accepted.{Accepted};
+ghost use Rattle.std.specs.Prelude.{◌≡◌, ◌≢◌, ◌↔◌, ◌⊎◌, ◌+◌, ◌≤◌, ◌<◌, ◌^◌, IsOk, IsTrue, OnErr, OnOk, false, length, true};
 ghost use Rattle.tx_base.specs.declared.steps.Reply.TheVariants.{Aborted, No};
 ghost use Rattle.tx_base.specs.declared.steps.Step.TheVariants.{KernelAbort};
-ghost use Rattle.tx_journal.specs.Lives.{has_place, lives, one_if, starter_by, starter_of};
+ghost use Rattle.tx_core.specs.Runs.{Continues, kernel_abort_on};
+ghost use Rattle.tx_journal.specs.Entries.{entry_by};
+ghost use Rattle.tx_journal.specs.Lives.{has_place, one_if, starter_by, starter_of};
 ghost use Rattle.tx_journal.specs.Rooms.{IsAdded, IsCounted, IsReady, SameRecord};
 ghost use Rattle.tx_laws.specs.Sound.{IsSound};
 ghost use Rattle.tx_live.specs.Content.{view_of};
-ghost use Rattle.tx_model.specs.Answer.{IsAccepted, Lawful, answer};
+ghost use Rattle.tx_model.specs.Answer.{IsAccepted, answer};
 ghost use Rattle.tx_model.specs.Membership.{is_live};
-ghost use Rattle.tx_model.specs.State.{State};
-ghost use Rattle.tx_model.specs.View.{kernel_status, view};
+ghost use Rattle.tx_model.specs.View.{kernel_status};
 ghost use Rattle.tx_step.specs.Steps.{IsKernelAbort, IsXabort};
 
 use crate::entry::Entry;
@@ -35,13 +35,16 @@ pub(crate) fn record(
     requires at_end { length journal.old.inverses.items ≡ length journal.old.entries.items }
     requires counted { IsCounted machine.old journal.old }
     ensures accepted { IsTrue result ↔ IsAccepted reply.new }
-    ensures added { IsTrue result → IsAdded machine.old journal.old (record { step = step.now; worker = worker; reply = reply.new }) machine.new journal.new }
+    ensures added { IsTrue result →
+        IsAdded machine.old journal.old
+        (record { step = step.now; worker = worker; reply = reply.new }) machine.new journal.new }
     ensures machine { result ≡ false → machine.new ≡ machine.old }
     ensures journal { result ≡ false → SameRecord journal.new journal.old }
     ensures counted { result ≡ false → IsCounted machine.old journal.new }
-    ensures answer { (reply.new ≡ No Refusal.NoMemory) ⊎ (answer (view_of machine.old) step.now ≡ reply.new) }
-    ensures history { IsTrue result → (start : State) (earlier : List Accepted) → Lawful start earlier → view_of machine.old ≡ view start earlier →
-        Lawful start (record { step = step.now; reply = reply.new } ∷ earlier) × (view_of machine.new ≡ view start (record { step = step.now; reply = reply.new } ∷ earlier)) }
+    ensures answer { (reply.new ≡ No Refusal.NoMemory)
+        ⊎ (answer (view_of machine.old) step.now ≡ reply.new) }
+    ensures history { IsTrue result →
+        Continues machine.old (record { step = step.now; reply = reply.new }) machine.new }
     ensures xabort { IsXabort machine.old step.now → reply.new ≢ No Refusal.NoMemory }
     ensures kernel { IsKernelAbort step.now → reply.new ≢ No Refusal.NoMemory }
 {
@@ -84,12 +87,15 @@ fn make(
     requires counted { IsCounted machine.old journal.old }
     requires ready { IsReady (view_of machine.old).table step.now journal.old }
     ensures accepted { IsTrue result ↔ IsAccepted reply.new }
-    ensures added { IsTrue result → IsAdded machine.old journal.old (record { step = step.now; worker = worker; reply = reply.new }) machine.new journal.new }
+    ensures added { IsTrue result →
+        IsAdded machine.old journal.old
+        (record { step = step.now; worker = worker; reply = reply.new }) machine.new journal.new }
     ensures machine { result ≡ false → machine.new ≡ machine.old }
     ensures journal { result ≡ false → journal.new ≡ journal.old }
-    ensures answer { (reply.new ≡ No Refusal.NoMemory) ⊎ (answer (view_of machine.old) step.now ≡ reply.new) }
-    ensures history { IsAccepted reply.new → (start : State) (earlier : List Accepted) → Lawful start earlier → view_of machine.old ≡ view start earlier →
-        Lawful start (record { step = step.now; reply = reply.new } ∷ earlier) × (view_of machine.new ≡ view start (record { step = step.now; reply = reply.new } ∷ earlier)) }
+    ensures answer { (reply.new ≡ No Refusal.NoMemory)
+        ⊎ (answer (view_of machine.old) step.now ≡ reply.new) }
+    ensures history { IsAccepted reply.new →
+        Continues machine.old (record { step = step.now; reply = reply.new }) machine.new }
     ensures xabort { IsXabort machine.old step.now → reply.new ≢ No Refusal.NoMemory }
     ensures kernel { IsKernelAbort step.now → reply.new ≢ No Refusal.NoMemory }
 {
@@ -125,12 +131,12 @@ pub(crate) fn abort(
     requires at_end { length journal.old.inverses.items ≡ length journal.old.entries.items }
     requires counted { IsCounted machine.old journal.old }
     ensures live { IsOk result ↔ (is_live (view_of machine.old).table starter.0 ≡ true) }
-    ensures added { OnOk result (IsAdded machine.old journal.old (record { step = KernelAbort starter; worker = worker; reply = Aborted (kernel_status (view_of machine.old) starter.0) }) machine.new journal.new) }
+    ensures added { OnOk result (IsAdded machine.old journal.old
+        (entry_by worker (kernel_abort_on machine.old starter)) machine.new journal.new) }
     ensures machine { OnErr result (machine.new ≡ machine.old) }
     ensures journal { OnErr result (journal.new ≡ journal.old) }
-    ensures history { OnOk result ((start : State) (earlier : List Accepted) → Lawful start earlier → view_of machine.old ≡ view start earlier →
-        Lawful start (record { step = KernelAbort starter; reply = Aborted (kernel_status (view_of machine.old) starter.0) } ∷ earlier)
-        × (view_of machine.new ≡ view start (record { step = KernelAbort starter; reply = Aborted (kernel_status (view_of machine.old) starter.0) } ∷ earlier))) }
+    ensures history { OnOk result
+        (Continues machine.old (kernel_abort_on machine.old starter) machine.new) }
 {
     laws();
     let Some(status) = machine.kernel_status(starter) else {

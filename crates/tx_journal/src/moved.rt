@@ -36,7 +36,8 @@ impl Session {
     /// refused.
     pub fn moved(&self, alloc: Global, number: usize) -> Result<Moved, MovedFault>
         ensures moved { IfOk result (IsMoved self.now number) }
-        ensures not_commit { result ≡ Err fault.NotCommit → moved_at (start_of self.now) (history_of self.now.entries) number ≡ None }
+        ensures not_commit { result ≡ Err fault.NotCommit →
+            moved_at (start_of self.now) (history_of self.now.entries) number ≡ None }
     {
         self.is_lawful();
         match self.told(alloc, number) {
@@ -49,7 +50,9 @@ impl Session {
     /// What `moved` answers; nothing where the entry of that number commits no transaction, or is not
     /// there.
     fn told(&self, alloc: Global, number: usize) -> Result<Option<Moved>, NoMemory>
-        ensures { IfOk result (λ moved. option_map told_in moved ≡ moved_at (start_of self.now) (history_of self.now.entries) number) }
+        ensures { IfOk result (λ moved.
+            option_map told_in moved
+            ≡ moved_at (start_of self.now) (history_of self.now.entries) number) }
     {
         let Some(entries) = self.journal.entries.as_slice().get(..number) else {
             return Ok(None);
@@ -79,7 +82,8 @@ fn notes_of(alloc: Global, width: u16, count: u16, entries: &[Entry]) -> Result<
     requires high { count ≤ width }
     requires wide { width ≤ 256 }
     requires lawful { Lawful (boot_state width count) (history_of entries.now) }
-    ensures { IfOk result (λ notes. noted_back notes.items ≡ notes_in (boot_state width count) (history_of entries.now)) }
+    ensures { IfOk result (λ notes.
+        noted_back notes.items ≡ notes_in (boot_state width count) (history_of entries.now)) }
 {
     let mut retrace = Retrace::boot(alloc, width, count)?;
     let mut notes = Vec::new(alloc);

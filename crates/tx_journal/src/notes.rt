@@ -99,7 +99,8 @@ fn note_of_kernel_abort(content: &Content, starter: Pid) -> Note
 /// What a step of a process is to its transaction, where it is this to the transactions, looks at the
 /// signals or not, and sends this first.
 fn note_by(content: &Content, pid: Pid, role: StepRole, looks: bool, first: &Sends) -> Note
-    ensures { noted result ≡ noted_by (role_as pid.0 role) pid.0 looks (posted_with content.now role first.now) }
+    ensures { noted result
+        ≡ noted_by (role_as pid.0 role) pid.0 looks (posted_with content.now role first.now) }
 {
     let starter = starter_by(pid, role);
     Note {

@@ -32,9 +32,12 @@ pub(crate) fn commit_of(note: &Note) -> Option<Pid>
 ///
 /// An error where a growth of memory is refused.
 pub(crate) fn part(alloc: Global, notes: &[Note], starter: Pid) -> Result<Parted, AllocError>
-    ensures own { IfOk result (λ parted. parted.own.items ≡ (parted_by starter.0 (noted_back notes.now)).own) }
-    ensures others { IfOk result (λ parted. parted.others.items ≡ (parted_by starter.0 (noted_back notes.now)).others) }
-    ensures silent { IfOk result (λ parted. parted.silent ≡ is_silent_by starter.0 (noted_back notes.now)) }
+    ensures own { IfOk result (λ parted.
+        parted.own.items ≡ (parted_by starter.0 (noted_back notes.now)).own) }
+    ensures others { IfOk result (λ parted.
+        parted.others.items ≡ (parted_by starter.0 (noted_back notes.now)).others) }
+    ensures silent { IfOk result (λ parted.
+        parted.silent ≡ is_silent_by starter.0 (noted_back notes.now)) }
 {
     let mut parted = Parted {
         own: Vec::new(alloc),
@@ -86,7 +89,10 @@ pub(crate) fn join(
     number: usize,
     parted: &Parted,
 ) -> Result<Vec<usize>, AllocError>
-    ensures { IfOk result (λ entries. entries.items ≡ reverse (numbers_above number (len - number) ++ number ∷ parted.now.own.items ++ parted.now.others.items)) }
+    ensures { IfOk result (λ entries.
+        entries.items ≡ reverse
+        (numbers_above number (len - number) ++ number ∷ parted.now.own.items
+        ++ parted.now.others.items)) }
 {
     let mut entries = Vec::new(alloc);
     push_down(&mut entries, len, number)?;

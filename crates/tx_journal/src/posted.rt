@@ -29,7 +29,8 @@ pub(crate) fn is_posted_to(content: &Content, role: StepRole, first: &Sends, pid
 /// what the step itself hands out.
 #[tactic(auto, using(crate::proofs::PostedTo::sent_of_both))]
 fn is_sent_at_commit(content: &Content, starter: Pid, first: &Sends, pid: Pid) -> bool
-    ensures { result ≡ is_sent_to pid.0 (held_of content.now starter.0 ++ sent_at_commit first.now) }
+    ensures { result ≡ is_sent_to pid.0
+        (held_of content.now starter.0 ++ sent_at_commit first.now) }
 {
     is_held_for(content, starter, pid) || is_handed_out(first, pid)
 }

@@ -54,11 +54,14 @@ impl Retrace {
     /// NoMemory where a growth is refused. A step that the kernel refuses is in no history, and is
     /// answered so too.
     pub fn next(&mut self, alloc: Global, step: &Step) -> Result<Note, NoMemory>
-        ensures note { IfOk result (λ note. (start : State) (earlier : List Accepted) (reply : TheReply) →
-            Lawful start (record { step = step.now; reply = reply } ∷ earlier) → view_of self.old ≡ view start earlier →
+        ensures note { IfOk result (λ note.
+            (start : State) (earlier : List Accepted) (reply : TheReply) →
+            Lawful start (record { step = step.now; reply = reply } ∷ earlier) →
+            view_of self.old ≡ view start earlier →
             IsNoteOf start (record { step = step.now; reply = reply }) earlier note) }
         ensures view { OnOk result ((start : State) (earlier : List Accepted) (reply : TheReply) →
-            Lawful start (record { step = step.now; reply = reply } ∷ earlier) → view_of self.old ≡ view start earlier →
+            Lawful start (record { step = step.now; reply = reply } ∷ earlier) →
+            view_of self.old ≡ view start earlier →
             view_of self.new ≡ view start (record { step = step.now; reply = reply } ∷ earlier)) }
     {
         laws();

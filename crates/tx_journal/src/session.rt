@@ -37,10 +37,14 @@ impl Model for Session {
 
     ghost Value = { SessionState };
 
-    ghost view = { λ session. session_state session.machine session.journal session.width session.count };
+    ghost view = { λ session. session_state session.machine session.journal session.width
+        session.count };
 
-    ghost invariant = { λ session. IsJournal (session_state session.machine session.journal session.width session.count)
-        × HasRoom (session_state session.machine session.journal session.width session.count) session.journal.live (vec_capacity session.journal.entries) (vec_capacity session.journal.inverses) };
+    ghost invariant = { λ session. IsJournal
+        (session_state session.machine session.journal session.width session.count)
+        × HasRoom (session_state session.machine session.journal session.width session.count)
+        session.journal.live (vec_capacity session.journal.entries)
+        (vec_capacity session.journal.inverses) };
 }
 
 impl Session {
@@ -144,7 +148,8 @@ impl Session {
     /// The machine as it is at the position, to be read.
     pub fn machine(&self) -> &Machine
         ensures machine { result.now ≡ self.now.machine }
-        ensures view { view_of result.now ≡ view (start_of self.now) (history_of (made_of self.now)) }
+        ensures view { view_of result.now
+            ≡ view (start_of self.now) (history_of (made_of self.now)) }
     {
         &self.machine
     }
@@ -153,7 +158,9 @@ impl Session {
     ///
     /// `NoMemory` where a growth is refused.
     pub fn state_text(&self, alloc: Global) -> Result<String, NoMemory>
-        ensures { IfOk result (λ text. string_bytes text ≡ state_text (view (start_of self.now) (history_of (made_of self.now)))) }
+        ensures { IfOk result (λ text.
+            string_bytes text ≡ state_text
+            (view (start_of self.now) (history_of (made_of self.now)))) }
     {
         print_state(alloc, self.machine())
     }

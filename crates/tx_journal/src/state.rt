@@ -26,7 +26,8 @@ pub fn print_state(alloc: Global, machine: &Machine) -> Result<String, NoMemory>
 /// Appends the text of a machine's state. The only error is that a growth of memory was refused:
 /// the text may then have some of the state behind what it had.
 pub fn put_state(text: &mut String, machine: &Machine) -> Result<(), AllocError>
-    ensures { OnOk result (string_bytes text.new ≡ string_bytes text.old ++ state_text (view_of machine.now)) }
+    ensures { OnOk result
+        (string_bytes text.new ≡ string_bytes text.old ++ state_text (view_of machine.now)) }
 {
     put(text, "state\n")?;
     let width = machine.processes();
@@ -39,7 +40,9 @@ pub fn put_state(text: &mut String, machine: &Machine) -> Result<(), AllocError>
 
 /// Appends the lines of each live transaction, by its rising starter. It goes over the marks twice.
 fn put_txns(text: &mut String, machine: &Machine, width: u16) -> Result<(), AllocError>
-    ensures { OnOk result (string_bytes text.new ≡ string_bytes text.old ++ txns_text width (slot_at machine.now.marks) (present (view_of machine.now)).held) }
+    ensures { OnOk result
+        (string_bytes text.new ≡ string_bytes text.old
+        ++ txns_text width (slot_at machine.now.marks) (present (view_of machine.now)).held) }
 {
     let marks = machine.marks();
     let links = Links::new(*text.allocator(), marks, width)?;

@@ -1,13 +1,12 @@
 //! Steps of a session.
 ghost use Rattle.std.specs.Prelude.{◌≡◌, ◌≢◌, ◌⊎◌, ◌↔◌, ◌++◌, ◌∷◌, [], IsOk, OnErr, OnOk, true};
-ghost use Rattle.tx_base.specs.declared.steps.Reply.TheVariants.{Aborted, No};
-ghost use Rattle.tx_base.specs.declared.steps.Step.TheVariants.{KernelAbort};
-ghost use Rattle.tx_journal.specs.Entries.{history_of};
+ghost use Rattle.tx_base.specs.declared.steps.Reply.TheVariants.{No};
+ghost use Rattle.tx_core.specs.Runs.{kernel_abort_on};
+ghost use Rattle.tx_journal.specs.Entries.{entry_by, history_of};
 ghost use Rattle.tx_journal.specs.Sessions.{IsAtEnd, SameBoot, start_of};
 ghost use Rattle.tx_live.specs.Content.{view_of};
 ghost use Rattle.tx_model.specs.Answer.{IsAccepted, answer};
 ghost use Rattle.tx_model.specs.Membership.{is_live};
-ghost use Rattle.tx_model.specs.View.{kernel_status};
 ghost use Rattle.tx_moment.specs.Moments.{HasMoments};
 ghost use Rattle.tx_step.specs.Steps.{IsKernelAbort, IsXabort};
 
@@ -26,8 +25,11 @@ impl Session {
     /// reserved first; but never to a member's sys_xabort, nor to the kernel's abort.
     pub fn step(&mut self, alloc: Global, worker: u16, step: &Step) -> Reply
         requires { IsAtEnd self.old }
-        ensures answer { (result ≡ No Refusal.NoMemory) ⊎ (answer (view_of self.old.machine) step.now ≡ result) }
-        ensures accepted { IsAccepted result → self.new.entries ≡ self.old.entries ++ record { step = step.now; worker = worker; reply = result } ∷ [] }
+        ensures answer { (result ≡ No Refusal.NoMemory)
+            ⊎ (answer (view_of self.old.machine) step.now ≡ result) }
+        ensures accepted { IsAccepted result →
+            self.new.entries ≡ self.old.entries
+            ++ record { step = step.now; worker = worker; reply = result } ∷ [] }
         ensures refused { (IsAccepted result → ⊥) → self.new ≡ self.old }
         ensures boot { SameBoot self.new self.old }
         ensures at_end { IsAtEnd self.new }
@@ -44,8 +46,11 @@ impl Session {
     /// many, since a reply is large.
     pub fn step_into(&mut self, alloc: Global, worker: u16, step: &Step, reply: &mut Reply)
         requires { IsAtEnd self.old }
-        ensures answer { (reply.new ≡ No Refusal.NoMemory) ⊎ (answer (view_of self.old.machine) step.now ≡ reply.new) }
-        ensures accepted { IsAccepted reply.new → self.new.entries ≡ self.old.entries ++ record { step = step.now; worker = worker; reply = reply.new } ∷ [] }
+        ensures answer { (reply.new ≡ No Refusal.NoMemory)
+            ⊎ (answer (view_of self.old.machine) step.now ≡ reply.new) }
+        ensures accepted { IsAccepted reply.new →
+            self.new.entries ≡ self.old.entries
+            ++ record { step = step.now; worker = worker; reply = reply.new } ∷ [] }
         ensures refused { (IsAccepted reply.new → ⊥) → self.new ≡ self.old }
         ensures boot { SameBoot self.new self.old }
         ensures at_end { IsAtEnd self.new }
@@ -71,7 +76,8 @@ impl Session {
     /// `NoTransaction` where the starter has no live transaction, with nothing changed.
     pub fn kernel_abort(&mut self, worker: u16, starter: Pid) -> Result<(), NoTransaction>
         requires { IsAtEnd self.old }
-        ensures ok { OnOk result (self.new.entries ≡ self.old.entries ++ record { step = KernelAbort starter; worker = worker; reply = Aborted (kernel_status (view_of self.old.machine) starter.0) } ∷ []) }
+        ensures ok { OnOk result (self.new.entries
+            ≡ self.old.entries ++ entry_by worker (kernel_abort_on self.old.machine starter) ∷ []) }
         ensures live { IsOk result ↔ (is_live (view_of self.old.machine).table starter.0 ≡ true) }
         ensures refused { OnErr result (self.new ≡ self.old) }
         ensures boot { SameBoot self.new self.old }

@@ -63,7 +63,8 @@ impl Session {
         ensures moved { OnOk result (position_of self.new ≡ position) }
         ensures beyond { (result ≡ Err goto.Beyond) ↔ (length self.old.entries < position) }
         ensures unmoved { result ≡ Err goto.Beyond → self.new ≡ self.old }
-        ensures stopped { result ≡ Err goto.NoMemory → IsBetween (position_of self.old) (position_of self.new) position }
+        ensures stopped { result ≡ Err goto.NoMemory →
+            IsBetween (position_of self.old) (position_of self.new) position }
         ensures journal { SameJournal self.new self.old }
     {
         if position > self.len() {
@@ -79,7 +80,8 @@ impl Session {
     /// Takes entries back until no more than so many are made.
     fn back_to(&mut self, position: usize)
         ensures moved { position ≤ position_of self.old → position_of self.new ≡ position }
-        ensures stayed { position_of self.old ≤ position → position_of self.new ≡ position_of self.old }
+        ensures stayed { position_of self.old ≤ position →
+            position_of self.new ≡ position_of self.old }
         ensures journal { SameJournal self.new self.old }
     {
         while self.position() > position {
@@ -94,7 +96,8 @@ impl Session {
         requires low { position_of self.old ≤ position }
         requires high { position ≤ length self.old.entries }
         ensures moved { OnOk result (position_of self.new ≡ position) }
-        ensures stopped { OnErr result ((position_of self.old ≤ position_of self.new) × (position_of self.new < position)) }
+        ensures stopped { OnErr result
+            ((position_of self.old ≤ position_of self.new) × (position_of self.new < position)) }
         ensures journal { SameJournal self.new self.old }
     {
         while self.position() < position {

@@ -30,8 +30,11 @@ impl<'a> Actor<'a> {
     pub fn at(parts: &'a Parts, pid: Pid, inside: Option<Inside<'a>>) -> Result<Actor<'a>, Refusal>
         requires { IsWhole parts.now }
         ensures ok { IfOk result (λ actor. IsActor actor) }
-        ensures same { IfOk result (λ actor. (actor.parts.now ≡ parts.now) × (actor.pid ≡ pid) × (actor.inside ≡ inside.entry)) }
-        ensures refused { IfErr result (λ why. (page : Page) (held : ℕ → List Sending) → effect_at (inside_of inside.entry) pid.0 page (state_of held parts.now) ≡ idle why) }
+        ensures same { IfOk result (λ actor.
+            (actor.parts.now ≡ parts.now) × (actor.pid ≡ pid) × (actor.inside ≡ inside.entry)) }
+        ensures refused { IfErr result (λ why.
+            (page : Page) (held : ℕ → List Sending) →
+            effect_at (inside_of inside.entry) pid.0 page (state_of held parts.now) ≡ idle why) }
     {
         let Some(proc) = parts.proc(pid) else {
             return Err(Refusal::NoProcess);

@@ -32,9 +32,13 @@ pub fn act(
     log: &mut Log,
 ) -> Result<Planned, Refusal>
     requires { IsWhole parts.old }
-    ensures ok { IfOk result (λ planned. Makes parts.old pid inside.entry (Do (Calls pid call.now) (inside_of inside.entry)) log.old log.new parts.new planned) }
+    ensures ok { IfOk result (λ planned.
+        Makes parts.old pid inside.entry (Do (Calls pid call.now) (inside_of inside.entry)) log.old
+        log.new parts.new planned) }
     ensures whole { IfOk result (λ planned. IsWhole parts.new) }
-    ensures refused { IfErr result (λ why. RefusesPage parts.old pid inside.entry (page_of_call call.now) why ⊎ ChoosesBadly parts.old why (chosen_in call.now)) }
+    ensures refused { IfErr result (λ why.
+        RefusesPage parts.old pid inside.entry (page_of_call call.now) why
+        ⊎ ChoosesBadly parts.old why (chosen_in call.now)) }
     ensures parts { OnErr result (parts.new ≡ parts.old) }
     ensures log { OnErr result (log.new ≡ log.old) }
 {
@@ -60,9 +64,12 @@ pub fn deliver(
     log: &mut Log,
 ) -> Result<Planned, Refusal>
     requires { IsWhole parts.old }
-    ensures ok { IfOk result (λ planned. Makes parts.old pid inside.entry (Do (Deliver pid signo) (inside_of inside.entry)) log.old log.new parts.new planned) }
+    ensures ok { IfOk result (λ planned.
+        Makes parts.old pid inside.entry (Do (Deliver pid signo) (inside_of inside.entry)) log.old
+        log.new parts.new planned) }
     ensures whole { IfOk result (λ planned. IsWhole parts.new) }
-    ensures refused { IfErr result (λ why. RefusesPage parts.old pid inside.entry (delivery_page signo.0) why) }
+    ensures refused { IfErr result (λ why.
+        RefusesPage parts.old pid inside.entry (delivery_page signo.0) why) }
     ensures parts { OnErr result (parts.new ≡ parts.old) }
     ensures log { OnErr result (log.new ≡ log.old) }
 {

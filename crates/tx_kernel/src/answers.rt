@@ -48,7 +48,9 @@ impl Actor<'_> {
 
     /// Appends the answer at the next point. After want of memory the log is as it was.
     pub(crate) fn push_answer(&self, ret: i64, log: &mut Log) -> Result<(), NoMemory>
-        ensures ok { OnOk result (log.new ≡ log.old ++ SetPart self.now.pid (SetAnswer (answer_after ret self.now)) ∷ []) }
+        ensures ok { OnOk result
+            (log.new ≡ log.old ++ SetPart self.now.pid (SetAnswer (answer_after ret self.now))
+            ∷ []) }
         ensures err { OnErr result (log.new ≡ log.old) }
     {
         self.push(Part::Answer(Answer::at(self.proc.regs.point, ret)), log)
@@ -73,8 +75,10 @@ impl Actor<'_> {
         log: &mut Log,
     ) -> Result<Outcome, NoMemory>
         requires { IsPlainPart part }
-        ensures page { (page : Rule) → ComesTo self.now page (λ c. changes (pos answer) (revised part c.process) []) →
-            IfOk result (λ outcome. PlansOwn self.now log.old log.new outcome (effect_by self.now page)) }
+        ensures page { (page : Rule) →
+            ComesTo self.now page (λ c. changes (pos answer) (revised part c.process) []) →
+            IfOk result (λ outcome.
+            PlansOwn self.now log.old log.new outcome (effect_by self.now page)) }
         ensures err { OnErr result (Extends log.old log.new) }
     {
         let answer = answer as i64;
@@ -88,7 +92,8 @@ impl Actor<'_> {
         ensures ok { IfOk result (λ outcome. PlansOwn self.now log.old log.new outcome
             (effect_by self.now (λ c. fails errno))) }
         ensures page { (page : Rule) → ComesTo self.now page (λ c. fails errno) →
-            IfOk result (λ outcome. PlansOwn self.now log.old log.new outcome (effect_by self.now page)) }
+            IfOk result (λ outcome.
+            PlansOwn self.now log.old log.new outcome (effect_by self.now page)) }
         ensures err { OnErr result (log.new ≡ log.old) }
     {
         self.plan_answer(failing(errno), log)
@@ -98,7 +103,8 @@ impl Actor<'_> {
     /// as it was.
     pub(crate) fn plan_done(&self, ret: i64, log: &mut Log) -> Result<Planned, Refusal>
         requires { IsActor self.now }
-        ensures ok { IfOk result (λ planned. (objects : State → List Object) → Plans self.now log.old log.new planned
+        ensures ok { IfOk result (λ planned.
+            (objects : State → List Object) → Plans self.now log.old log.new planned
             (effect_by self.now (λ c. answers ret)) objects) }
         ensures refused { IfErr result (λ why. why ≡ refusal.NoMemory) }
         ensures log { OnErr result (log.new ≡ log.old) }
@@ -113,7 +119,8 @@ impl Actor<'_> {
     /// the log is as it was.
     pub(crate) fn plan_failure(&self, errno: Errno, log: &mut Log) -> Result<Planned, Refusal>
         requires { IsActor self.now }
-        ensures ok { IfOk result (λ planned. (objects : State → List Object) → Plans self.now log.old log.new planned
+        ensures ok { IfOk result (λ planned.
+            (objects : State → List Object) → Plans self.now log.old log.new planned
             (effect_by self.now (λ c. fails errno)) objects) }
         ensures refused { IfErr result (λ why. why ≡ refusal.NoMemory) }
         ensures log { OnErr result (log.new ≡ log.old) }

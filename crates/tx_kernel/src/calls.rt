@@ -87,7 +87,8 @@ impl Actor<'_> {
     /// Plans any call, its post with it. A refusal may leave more in the log.
     fn plan_any(&self, alloc: Global, call: &Call, log: &mut Log) -> Result<Planned, Refusal>
         requires { IsActor self.now }
-        ensures ok { IfOk result (λ planned. PlansStep self.now log.old log.new planned.outcome planned.sends
+        ensures ok { IfOk result (λ planned.
+            PlansStep self.now log.old log.new planned.outcome planned.sends
             (effect_by self.now (page_of_call call.now).outcome)
             (names_by self.now (page_of_call call.now).names)) }
         ensures refused { IfErr result (λ why.
@@ -102,9 +103,12 @@ impl Actor<'_> {
                 Ok(self.plan_send(*target, *signo, *value, log)?)
             }
             _ => {
-                let planned = self.plan_common(alloc, call, log)?;
-                self.push_sends(&planned, log)?;
-                Ok(planned)
+                // A plan is large, and stays where it is made.
+                let planned = self.plan_common(alloc, call, log);
+                if let Ok(planned) = &planned {
+                    self.push_sends(planned, log)?;
+                }
+                planned
             }
         }
     }
@@ -118,9 +122,15 @@ impl Actor<'_> {
     /// NoMemory. The log is then as it was.
     pub fn plan_call(&self, alloc: Global, call: &Call, log: &mut Log) -> Result<Planned, Refusal>
         requires { IsActor self.now }
-        ensures ok { IfOk result (λ planned. PlansStep self.now log.old log.new planned.outcome planned.sends
-            (λ S. call_effect (inside_of self.now.inside) self.now.pid.0 call.now (me_of self.now) S) (λ S. call_objects (inside_of self.now.inside) call.now self.now.pid.0 (me_of self.now) S)) }
-        ensures refused { IfErr result (λ why. RefusedBy self.now why (λ S. call_effect (inside_of self.now.inside) self.now.pid.0 call.now (me_of self.now) S) ⊎ IsBadChoice self.now why (chosen_in call.now)) }
+        ensures ok { IfOk result (λ planned.
+            PlansStep self.now log.old log.new planned.outcome planned.sends
+            (λ S. call_effect (inside_of self.now.inside) self.now.pid.0 call.now (me_of self.now)
+            S) (λ S. call_objects (inside_of self.now.inside) call.now self.now.pid.0
+            (me_of self.now) S)) }
+        ensures refused { IfErr result (λ why.
+            RefusedBy self.now why
+            (λ S. call_effect (inside_of self.now.inside) self.now.pid.0 call.now (me_of self.now)
+            S) ⊎ IsBadChoice self.now why (chosen_in call.now)) }
         ensures numbers { IfOk result (λ planned. IsGoodChoice self.now (chosen_in call.now)) }
         ensures err { OnErr result (log.new ≡ log.old) }
     {
@@ -144,9 +154,12 @@ impl Actor<'_> {
         log: &mut Log,
     ) -> Result<Planned, Refusal>
         requires { IsActor self.now }
-        ensures ok { IfOk result (λ planned. PlansStep self.now log.old log.new planned.outcome planned.sends
-            (effect_by self.now (delivery signo.0)) (names_by self.now (delivery_page signo.0).names)) }
-        ensures refused { IfErr result (λ why. RefusedBy self.now why (effect_by self.now (delivery signo.0))) }
+        ensures ok { IfOk result (λ planned.
+            PlansStep self.now log.old log.new planned.outcome planned.sends
+            (effect_by self.now (delivery signo.0))
+            (names_by self.now (delivery_page signo.0).names)) }
+        ensures refused { IfErr result (λ why.
+            RefusedBy self.now why (effect_by self.now (delivery signo.0))) }
         ensures err { OnErr result (log.new ≡ log.old) }
     {
         let before = log.len();
@@ -160,9 +173,12 @@ impl Actor<'_> {
     /// Plans a delivery, its post with it. A refusal may leave more in the log.
     fn plan_delivered(&self, alloc: Global, signo: Signo, log: &mut Log) -> Result<Planned, Refusal>
         requires { IsActor self.now }
-        ensures ok { IfOk result (λ planned. PlansStep self.now log.old log.new planned.outcome planned.sends
-            (effect_by self.now (delivery signo.0)) (names_by self.now (delivery_page signo.0).names)) }
-        ensures refused { IfErr result (λ why. RefusedBy self.now why (effect_by self.now (delivery signo.0))) }
+        ensures ok { IfOk result (λ planned.
+            PlansStep self.now log.old log.new planned.outcome planned.sends
+            (effect_by self.now (delivery signo.0))
+            (names_by self.now (delivery_page signo.0).names)) }
+        ensures refused { IfErr result (λ why.
+            RefusedBy self.now why (effect_by self.now (delivery signo.0))) }
         ensures log { OnErr result (Extends log.old log.new) }
     {
         let planned = self.plan_taken(alloc, signo, log)?;

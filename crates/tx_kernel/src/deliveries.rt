@@ -45,8 +45,11 @@ impl Actor<'_> {
         log: &mut Log,
     ) -> Result<Planned, Refusal>
         requires { IsActor self.now }
-        ensures ok { IfOk result (λ planned. Plans self.now log.old log.new planned (effect_by self.now (delivery signo.0)) (names_by self.now (delivery_page signo.0).names)) }
-        ensures refused { IfErr result (λ why. RefusedBy self.now why (effect_by self.now (delivery signo.0))) }
+        ensures ok { IfOk result (λ planned.
+            Plans self.now log.old log.new planned (effect_by self.now (delivery signo.0))
+            (names_by self.now (delivery_page signo.0).names)) }
+        ensures refused { IfErr result (λ why.
+            RefusedBy self.now why (effect_by self.now (delivery signo.0))) }
         ensures log { OnErr result (Extends log.old log.new) }
     {
         let Some(value) = self.proc.pending.delivered(signo, self.proc.mask) else {
@@ -79,11 +82,14 @@ impl Actor<'_> {
         requires actor { IsActor self.now }
         requires other { self.now.pid.0 ≢ 1 }
         ensures ok { IfOk result (λ planned. Plans self.now log.old log.new planned
-            (effect_by self.now (λ c. reaction signo.0 value (disposition signo.0 (action_at signo.0 c.process))
+            (effect_by self.now (λ c.
+            reaction signo.0 value (disposition signo.0 (action_at signo.0 c.process))
             (record c { process = without_delivered signo.0 c.process })))
-            (names_by self.now (λ c. if is_fatal signo.0 (action_at signo.0 c.process) then ending_objects c else []))) }
+            (names_by self.now (λ c.
+            if is_fatal signo.0 (action_at signo.0 c.process) then ending_objects c else []))) }
         ensures refused { IfErr result (λ why. RefusedBy self.now why
-            (effect_by self.now (λ c. reaction signo.0 value (disposition signo.0 (action_at signo.0 c.process))
+            (effect_by self.now (λ c.
+            reaction signo.0 value (disposition signo.0 (action_at signo.0 c.process))
             (record c { process = without_delivered signo.0 c.process })))) }
         ensures log { OnErr result (Extends log.old log.new) }
     {
@@ -128,7 +134,8 @@ impl Actor<'_> {
         requires room { is_full (me_of self.now) ≡ false }
         ensures ok { IfOk result (λ outcome. PlansOwn self.now log.old log.new outcome
             (effect_by self.now (λ c. stands
-            (at_catch_point signo.0 catch.value catch.point catch.mask (without_delivered signo.0 c.process)) (reply.Done catch.value)))) }
+            (at_catch_point signo.0 catch.value catch.point catch.mask
+            (without_delivered signo.0 c.process)) (reply.Done catch.value)))) }
         ensures err { OnErr result (Extends log.old log.new) }
     {
         let Catch { point, mask, value } = catch;

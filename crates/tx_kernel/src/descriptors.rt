@@ -45,7 +45,8 @@ impl Actor<'_> {
         ensures refused { IfErr result (λ why.
             RefusedBy self.now why (effect_by self.now (pipe_rule pipe.0 read.0 write.0))
             ⊎ IsBadChoice self.now why (ChoosesPipe pipe.0 read.0 write.0)) }
-        ensures numbers { IfOk result (λ planned. IsGoodChoice self.now (ChoosesPipe pipe.0 read.0 write.0)) }
+        ensures numbers { IfOk result (λ planned.
+            IsGoodChoice self.now (ChoosesPipe pipe.0 read.0 write.0)) }
         ensures log { OnErr result (Extends log.old log.new) }
     {
         laws();
@@ -76,7 +77,8 @@ impl Actor<'_> {
         requires { IsActor self.now }
         ensures ok { IfOk result (λ planned. Plans self.now log.old log.new planned
             (effect_by self.now (dup fd)) (names_by self.now (desc_of fd))) }
-        ensures refused { IfErr result (λ why. RefusedBy self.now why (effect_by self.now (dup fd))) }
+        ensures refused { IfErr result (λ why.
+            RefusedBy self.now why (effect_by self.now (dup fd))) }
         ensures log { OnErr result (Extends log.old log.new) }
     {
         laws();
@@ -102,8 +104,10 @@ impl Actor<'_> {
         requires { IsActor self.now }
         ensures ok { IfOk result (λ planned. Plans self.now log.old log.new planned
             (effect_by self.now (dup2 fd other))
-            (names_by self.now (λ c. dup2_objects (descriptor fd) (descriptor other) c.process c.state))) }
-        ensures refused { IfErr result (λ why. RefusedBy self.now why (effect_by self.now (dup2 fd other))) }
+            (names_by self.now (λ c.
+            dup2_objects (descriptor fd) (descriptor other) c.process c.state))) }
+        ensures refused { IfErr result (λ why.
+            RefusedBy self.now why (effect_by self.now (dup2 fd other))) }
         ensures log { OnErr result (Extends log.old log.new) }
     {
         laws();
@@ -132,7 +136,8 @@ impl Actor<'_> {
         requires { IsActor self.now }
         ensures ok { IfOk result (λ planned. Plans self.now log.old log.new planned
             (effect_by self.now (close fd)) (names_by self.now (desc_and_pipe_of fd))) }
-        ensures refused { IfErr result (λ why. RefusedBy self.now why (effect_by self.now (close fd))) }
+        ensures refused { IfErr result (λ why.
+            RefusedBy self.now why (effect_by self.now (close fd))) }
         ensures log { OnErr result (Extends log.old log.new) }
     {
         laws();
@@ -158,7 +163,8 @@ impl Actor<'_> {
         requires { IsActor self.now }
         ensures ok { IfOk result (λ planned. Plans self.now log.old log.new planned
             (effect_by self.now (set_nonblock fd on)) (names_by self.now (desc_of fd))) }
-        ensures refused { IfErr result (λ why. RefusedBy self.now why (effect_by self.now (set_nonblock fd on))) }
+        ensures refused { IfErr result (λ why.
+            RefusedBy self.now why (effect_by self.now (set_nonblock fd on))) }
         ensures log { OnErr result (Extends log.old log.new) }
     {
         laws();
@@ -179,7 +185,8 @@ impl Actor<'_> {
 
     /// Whether the number of a pipe is in use, or that of one of two descriptions.
     pub(crate) fn has_pipe_in_use(&self, pipe: PipeNo, read: DescNo, write: DescNo) -> bool
-        ensures { (held : ℕ → List Sending) → result ≡ is_pipe_in_use pipe.0 read.0 write.0 (state_of held self.now.parts.now) }
+        ensures { (held : ℕ → List Sending) →
+            result ≡ is_pipe_in_use pipe.0 read.0 write.0 (state_of held self.now.parts.now) }
     {
         self.parts.pipes.get(pipe).is_some()
             || self.parts.descs.get(read).is_some()
@@ -246,7 +253,9 @@ impl Actor<'_> {
         log: &mut Log,
     ) -> Result<(), NoMemory>
         requires { AreNumbers news.now }
-        ensures ok { OnOk result (log.new ≡ log.old ++ endless_changes gone (described_by self.now.parts.now (put_descs news.now self.now.parts.now.descs))) }
+        ensures ok { OnOk result
+            (log.new ≡ log.old ++ endless_changes gone
+            (described_by self.now.parts.now (put_descs news.now self.now.parts.now.descs))) }
         ensures err { OnErr result (log.new ≡ log.old) }
     {
         let Some(desc) = gone else {
@@ -266,7 +275,8 @@ impl Actor<'_> {
         log: &mut Log,
     ) -> Result<(), NoMemory>
         requires { AreNumbers (rename_puts rename).descs }
-        ensures ok { OnOk result (log.new ≡ log.old ++ rename_changes self.now.pid self.now.parts.now given rename) }
+        ensures ok { OnOk result
+            (log.new ≡ log.old ++ rename_changes self.now.pid self.now.parts.now given rename) }
         ensures err { OnErr result (Extends log.old log.new) }
     {
         let Some(rename) = rename else {

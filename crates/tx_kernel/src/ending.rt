@@ -34,7 +34,9 @@ impl Actor<'_> {
     ) -> Result<Planned, Refusal>
         requires actor { IsActor self.now }
         requires other { self.now.pid.0 ≢ 1 }
-        ensures ok { IfOk result (λ planned. Plans self.now log.old log.new planned (effect_by self.now (λ c. does (ending status c))) (names_by self.now ending_objects)) }
+        ensures ok { IfOk result (λ planned.
+            Plans self.now log.old log.new planned
+            (effect_by self.now (λ c. does (ending status c))) (names_by self.now ending_objects)) }
         ensures refused { IfErr result (λ why. why ≡ refusal.NoMemory) }
         ensures log { OnErr result (Extends log.old log.new) }
     {
@@ -59,7 +61,10 @@ impl Actor<'_> {
     fn push_orphans(&self, log: &mut Log) -> Result<(), NoMemory>
         requires few { length self.now.parts.now.procs ≤ 256 }
         requires number { self.now.pid.0 ≤ length self.now.parts.now.procs }
-        ensures ok { OnOk result (log.new ≡ log.old ++ orphan_changes (children_below self.now.pid.0 (length self.now.parts.now.procs + 1) (plain self.now.parts.now))) }
+        ensures ok { OnOk result
+            (log.new ≡ log.old ++ orphan_changes
+            (children_below self.now.pid.0 (length self.now.parts.now.procs + 1)
+            (plain self.now.parts.now))) }
         ensures err { OnErr result (Extends log.old log.new) }
     {
         if self.parts.procs.child_count(self.pid) == 0 {
@@ -73,7 +78,9 @@ impl Actor<'_> {
 
     /// Appends the change that gives a process parent 1, where it is a child of the process.
     fn push_orphan(&self, child: Pid, log: &mut Log) -> Result<(), NoMemory>
-        ensures ok { OnOk result (log.new ≡ log.old ++ orphan_changes (child_at self.now.pid.0 child.0 (plain self.now.parts.now))) }
+        ensures ok { OnOk result
+            (log.new ≡ log.old ++ orphan_changes
+            (child_at self.now.pid.0 child.0 (plain self.now.parts.now))) }
         ensures err { OnErr result (log.new ≡ log.old) }
     {
         match self.parts.procs.parent_of(child) {
@@ -125,7 +132,8 @@ impl Actor<'_> {
 
     /// The pipe of the description that a descriptor names; nothing where it is free.
     fn pipe_of(&self, fd: usize) -> Option<PipeNo>
-        ensures { result ≡ pipe_through self.now.parts.now.descs (slice_index_or self.now.proc.now.descriptors fd None) }
+        ensures { result ≡ pipe_through self.now.parts.now.descs
+            (slice_index_or self.now.proc.now.descriptors fd None) }
     {
         let number = self.proc.descriptors.get(fd)?;
         let opened = self.parts.descs.get(number)?;
@@ -135,8 +143,13 @@ impl Actor<'_> {
     /// What the end of the process sends: SIGCHLD to its parent, unless that is process 1. A parent
     /// that is no member of the transaction is told when that commits. Own rule.
     pub(crate) fn tells_parent(&self) -> Sends
-        ensures at_once { notice_now (parent_notice (inside_of self.now.inside) self.now.proc.now.parent.0) self.now.proc.now.parent.0 ≡ sent_at_once result }
-        ensures at_commit { (S : State) → with_writes (notice_held (parent_notice (inside_of self.now.inside) self.now.proc.now.parent.0) self.now.proc.now.parent.0 S) S
+        ensures at_once { notice_now
+            (parent_notice (inside_of self.now.inside) self.now.proc.now.parent.0)
+            self.now.proc.now.parent.0 ≡ sent_at_once result }
+        ensures at_commit { (S : State) →
+            with_writes (notice_held
+            (parent_notice (inside_of self.now.inside) self.now.proc.now.parent.0)
+            self.now.proc.now.parent.0 S) S
             ≡ record S { held = held_after (inside_of self.now.inside) result S.held } }
     {
         let parent = self.proc.parent;

@@ -1,4 +1,4 @@
-//! What a process is asked to do, and the plan of it.
+//! What a process does in a step, and the plan of it.
 ghost use Rattle.std.specs.Prelude.{◌≡◌, IfErr, IfOk, OnErr};
 ghost use Rattle.tx_base.specs.declared.steps.Refusal.TheVariants.{NoMemory};
 ghost use Rattle.tx_kernel.specs.Actors.{IsActor, inside_of};
@@ -12,20 +12,20 @@ use std::alloc::Global;
 use tx_base::{Call, Refusal, Signo};
 use tx_change::Log;
 
-/// What a process is asked to do.
+/// What a process does in a step.
 #[derive(Clone, Copy)]
 pub enum Act<'a> {
-    /// To make a call.
+    /// It makes a call.
     Call(&'a Call),
-    /// To take a pending signal.
+    /// It takes a pending signal.
     Delivery(Signo),
-    /// To stand at its next point with this answer, and nothing else: so does a call of
+    /// It stands at its next point with this answer, and nothing else: so does a call of
     /// transactions.
     Answer(i64),
 }
 
 impl Actor<'_> {
-    /// Plans what the process is asked to do, as `plan_call` and `plan_delivery`: appends its
+    /// Plans what the process does, as `plan_call` and `plan_delivery`: appends its
     /// exchanges to the log, those of its post with them. Nothing is changed.
     ///
     /// Refuses as these do, and an answer by NoMemory alone. The log is then as it was.
@@ -47,7 +47,8 @@ impl Actor<'_> {
     /// Plans an answer, and nothing else. Refuses by NoMemory alone; the log is then as it was.
     fn plan_note(&self, ret: i64, log: &mut Log) -> Result<Planned, Refusal>
         requires { IsActor self.now }
-        ensures ok { IfOk result (λ planned. PlansEvent self.now log.old log.new planned (Note self.now.pid.0 ret)) }
+        ensures ok { IfOk result (λ planned.
+            PlansEvent self.now log.old log.new planned (Note self.now.pid.0 ret)) }
         ensures memory { IfErr result (λ why. why ≡ NoMemory) }
         ensures err { OnErr result (log.new ≡ log.old) }
     {

@@ -97,7 +97,8 @@ impl Actor<'_> {
     /// Plans these ids, and to answer 0.
     fn plan_ids(&self, cred: Cred, log: &mut Log) -> Result<Outcome, NoMemory>
         ensures page { (page : Rule) → ComesTo self.now page (with_ids (ids_of cred)) →
-            IfOk result (λ outcome. PlansOwn self.now log.old log.new outcome (effect_by self.now page)) }
+            IfOk result (λ outcome.
+            PlansOwn self.now log.old log.new outcome (effect_by self.now page)) }
         ensures err { OnErr result (Extends log.old log.new) }
     {
         self.plan_part(Part::Cred(cred), 0, log)

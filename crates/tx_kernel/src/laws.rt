@@ -34,7 +34,7 @@ pub fn booted_are_whole()
     well_formed();
 }
 
-/// The plan of what a process is asked to do, once its exchanges are made, is what that comes to: the
+/// The plan of what a process does, once its exchanges are made, is what that comes to: the
 /// log then has at its end what leads back.
 pub fn plans_are_made()
     ensures { PlansAreMade }

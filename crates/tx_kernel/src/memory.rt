@@ -124,8 +124,10 @@ impl Actor<'_> {
     fn plan_page(&self, new: NewPage, log: &mut Log) -> Result<Outcome, NoMemory>
         requires { new.number < 16 }
         ensures page { (page : Rule) →
-            ComesTo self.now page (λ c. with_memory (slice_set c.process.memory new.number new.page) c) →
-            IfOk result (λ outcome. PlansOwn self.now log.old log.new outcome (effect_by self.now page)) }
+            ComesTo self.now page
+            (λ c. with_memory (slice_set c.process.memory new.number new.page) c) →
+            IfOk result (λ outcome.
+            PlansOwn self.now log.old log.new outcome (effect_by self.now page)) }
         ensures err { OnErr result (Extends log.old log.new) }
     {
         self.plan_part(Part::Page(new.number, new.page), 0, log)
@@ -146,7 +148,8 @@ impl Actor<'_> {
 
     /// Appends the exchanges that put these pages in place.
     pub(crate) fn push_pages(&self, new: NewPages, log: &mut Log) -> Result<(), NoMemory>
-        ensures ok { OnOk result (log.new ≡ log.old ++ list_map (page_change self.now.pid) new.pages.items) }
+        ensures ok { OnOk result
+            (log.new ≡ log.old ++ list_map (page_change self.now.pid) new.pages.items) }
         ensures err { OnErr result (Extends log.old log.new) }
     {
         for page in new.pages {

@@ -17,7 +17,8 @@ impl Actor<'_> {
     /// It is asked before the plan, which may still refuse: the signal is then one that would be sent.
     pub fn sends_of_call(&self, call: &Call) -> Sends
         requires { IsActor self.now }
-        ensures { IsSentBy self.now result (λ S. call_effect (inside_of self.now.inside) self.now.pid.0 call.now (me_of self.now) S) }
+        ensures { IsSentBy self.now result (λ S.
+            call_effect (inside_of self.now.inside) self.now.pid.0 call.now (me_of self.now) S) }
     {
         own_calls();
         match call {
@@ -55,7 +56,8 @@ impl Actor<'_> {
     /// Whether a delivery of the signal now ends the process: it may be delivered, the transaction does
     /// not defer it, and its action ends the process. It takes no memory.
     pub fn is_ended_by(&self, signo: Signo) -> bool
-        ensures { result ≡ ends_by (inside_of self.now.inside) signo.0 (me_of self.now) (delivered_value signo.0 (me_of self.now)) }
+        ensures { result ≡ ends_by (inside_of self.now.inside) signo.0 (me_of self.now)
+            (delivered_value signo.0 (me_of self.now)) }
     {
         let Some(_value) = self.proc.pending.delivered(signo, self.proc.mask) else {
             return false;

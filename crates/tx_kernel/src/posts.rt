@@ -51,7 +51,8 @@ impl Face {
     /// NotPermitted where the sender may not signal the process; TryAgain for a realtime signal where
     /// 16 are queued. Signal 0, process 1 and a process that has ended need no room.
     pub fn answer(&self, sending: &Sending) -> Result<(), Errno>
-        ensures { (q : Process) → HasFace self.now q → answer_of result ≡ post_answer (sending_of sending.now) (Some q) }
+        ensures { (q : Process) → HasFace self.now q →
+            answer_of result ≡ post_answer (sending_of sending.now) (Some q) }
     {
         if !self.permits(sending) {
             return Err(Errno::NotPermitted);
@@ -65,7 +66,9 @@ impl Face {
     /// Whether a post to a process with this face gets to what is pending there: the sender may signal
     /// it, and the signal is not one that changes nothing.
     pub fn reaches(&self, sending: &Sending) -> bool
-        ensures { (q : Process) → HasFace self.now q → result ≡ may_signal (sender_of sending.now.from) q.ids && not (is_quiet (sending_of sending.now) q) }
+        ensures { (q : Process) → HasFace self.now q →
+            result ≡ may_signal (sender_of sending.now.from) q.ids
+            && not (is_quiet (sending_of sending.now) q) }
     {
         self.permits(sending) && !self.is_quiet(sending)
     }
@@ -82,7 +85,8 @@ impl Face {
 
     /// Whether the signal changes nothing: it only asks, or goes to process 1 or one that has ended.
     fn is_quiet(&self, sending: &Sending) -> bool
-        ensures { (q : Process) → HasFace self.now q → result ≡ is_quiet (sending_of sending.now) q }
+        ensures { (q : Process) → HasFace self.now q →
+            result ≡ is_quiet (sending_of sending.now) q }
     {
         sending.signo.0 == 0 || sending.target.0 == 1 || self.ended
     }
@@ -104,8 +108,12 @@ pub struct Posted {
 /// post changes nothing.
 pub fn post(parts: &mut Parts, sending: &Sending) -> Posted
     requires { sending.now.signo.0 < 64 }
-    ensures answer { (held : ℕ → List TheSending) → answer_of result.answer ≡ post_answer (sending_of sending.now) ((state_of held parts.old).procs sending.now.target.0) }
-    ensures state { (held : ℕ → List TheSending) → state_of held parts.new ≡ after_post (sending_of sending.now) (state_of held parts.old) }
+    ensures answer { (held : ℕ → List TheSending) →
+        answer_of result.answer
+        ≡ post_answer (sending_of sending.now)
+        ((state_of held parts.old).procs sending.now.target.0) }
+    ensures state { (held : ℕ → List TheSending) →
+        state_of held parts.new ≡ after_post (sending_of sending.now) (state_of held parts.old) }
     ensures back { undone parts.new (listed_change result.change) ≡ parts.old }
     ensures named { AreNamed parts.new (listed_change result.change) }
     ensures among { AreAmong (TheProc sending.now.target.0 ∷ []) (listed_change result.change) }
@@ -152,9 +160,12 @@ pub(crate) fn plan_at(parts: &Parts, sending: &Sending) -> Result<Option<Part>, 
 /// NotPermitted and TryAgain as at `Face::answer`; such a post changes nothing.
 pub fn plan_post(proc: &Proc, sending: &Sending) -> Result<Option<Part>, Errno>
     requires { sending.now.signo.0 < 64 }
-    ensures answer { answer_of (without_part result) ≡ post_answer (sending_of sending.now) (Some (process_of proc.now)) }
+    ensures answer { answer_of (without_part result)
+        ≡ post_answer (sending_of sending.now) (Some (process_of proc.now)) }
     ensures pending { IfOk result IsOfPending }
-    ensures after { (me : Process) → target_after (sending_of sending.now) (Some (seen_as proc.now me)) ≡ Some (posted result (seen_as proc.now me)) }
+    ensures after { (me : Process) →
+        target_after (sending_of sending.now) (Some (seen_as proc.now me))
+        ≡ Some (posted result (seen_as proc.now me)) }
 {
     let face = Face::of(proc);
     if let Err(errno) = face.answer(sending) {
@@ -169,9 +180,12 @@ pub fn plan_post(proc: &Proc, sending: &Sending) -> Result<Option<Part>, Errno>
 /// What a post that is let through is to exchange, where there is room for it.
 fn plan_pending(proc: &Proc, sending: &Sending) -> Part
     requires number { sending.now.signo.0 < 64 }
-    requires room { is_realtime sending.now.signo.0 ≡ true → length proc.now.pending.queued < QUEUED }
+    requires room { is_realtime sending.now.signo.0 ≡ true →
+        length proc.now.pending.queued < QUEUED }
     ensures pending { IsOfPending (Some result) }
-    ensures signal { (me : Process) → with_signal (sending_of sending.now) (seen_as proc.now me) ≡ revised result (seen_as proc.now me) }
+    ensures signal { (me : Process) →
+        with_signal (sending_of sending.now) (seen_as proc.now me)
+        ≡ revised result (seen_as proc.now me) }
 {
     if !is_realtime(sending.signo) {
         return Part::Pending(with(proc.pending.standard(), sending.signo));

@@ -25,10 +25,14 @@ impl Actor<'_> {
     /// `refusal_of_numbers` tells these.
     pub fn refusal_of_call(&self, call: &Call) -> Option<Refusal>
         requires { IsActor self.now }
-        ensures refused { IfSome result (λ why. (held : ℕ → List TheSending) → CountsHeld self.now.inside held →
-            call_effect (inside_of self.now.inside) self.now.pid.0 call.now (me_of self.now) (state_of held self.now.parts.now) ≡ idle why) }
-        ensures accepted { IfNone result ((held : ℕ → List TheSending) → CountsHeld self.now.inside held →
-            IsMade (call_effect (inside_of self.now.inside) self.now.pid.0 call.now (me_of self.now) (state_of held self.now.parts.now))) }
+        ensures refused { IfSome result (λ why.
+            (held : ℕ → List TheSending) → CountsHeld self.now.inside held →
+            call_effect (inside_of self.now.inside) self.now.pid.0 call.now (me_of self.now)
+            (state_of held self.now.parts.now) ≡ idle why) }
+        ensures accepted { IfNone result
+            ((held : ℕ → List TheSending) → CountsHeld self.now.inside held →
+            IsMade (call_effect (inside_of self.now.inside) self.now.pid.0 call.now (me_of self.now)
+            (state_of held self.now.parts.now))) }
         ensures memory { IfSome result (λ why. why ≢ Refusal.NoMemory) }
     {
         if self.has_number_in_use(call) {
@@ -44,7 +48,9 @@ impl Actor<'_> {
     /// or chosen twice, then NumberTaken where one is in use. It takes no memory.
     pub fn refusal_of_numbers(&self, call: &Call) -> Option<Refusal>
         requires { IsActor self.now }
-        ensures { (held : ℕ → List TheSending) → result ≡ number_refusal (length self.now.parts.now.procs) (state_of held self.now.parts.now) (chosen_in call.now) }
+        ensures { (held : ℕ → List TheSending) →
+            result ≡ number_refusal (length self.now.parts.now.procs)
+            (state_of held self.now.parts.now) (chosen_in call.now) }
     {
         if self.has_bad_number(call) {
             return Some(Refusal::BadNumber);
@@ -63,9 +69,11 @@ impl Actor<'_> {
     /// A delivery that its rule does not refuse is made, if there is memory.
     pub fn refusal_of_delivery(&self, signo: Signo) -> Option<Refusal>
         requires { IsActor self.now }
-        ensures refused { IfSome result (λ why. (held : ℕ → List TheSending) → CountsHeld self.now.inside held →
+        ensures refused { IfSome result (λ why.
+            (held : ℕ → List TheSending) → CountsHeld self.now.inside held →
             effect_by self.now (delivery signo.0) (state_of held self.now.parts.now) ≡ idle why) }
-        ensures accepted { IfNone result ((held : ℕ → List TheSending) → CountsHeld self.now.inside held →
+        ensures accepted { IfNone result
+            ((held : ℕ → List TheSending) → CountsHeld self.now.inside held →
             IsMade (effect_by self.now (delivery signo.0) (state_of held self.now.parts.now))) }
         ensures memory { IfSome result (λ why. why ≢ Refusal.NoMemory) }
     {
@@ -94,7 +102,8 @@ impl Actor<'_> {
 
     /// Whether a number that the call chooses is in use.
     fn has_number_in_use(&self, call: &Call) -> bool
-        ensures { (held : ℕ → List TheSending) → result ≡ is_choice_in_use (state_of held self.now.parts.now) (chosen_in call.now) }
+        ensures { (held : ℕ → List TheSending) →
+            result ≡ is_choice_in_use (state_of held self.now.parts.now) (chosen_in call.now) }
     {
         match call {
             Call::Fork(child) => !self.parts.procs.free(*child),
@@ -106,8 +115,10 @@ impl Actor<'_> {
     /// Whether a call waits. No number that it chooses may be in use.
     fn waits(&self, call: &Call) -> bool
         requires actor { IsActor self.now }
-        requires free { (held : ℕ → List TheSending) → is_choice_in_use (state_of held self.now.parts.now) (chosen_in call.now) ≡ false }
-        ensures { TellsWait self.now result (λ S. call_effect (inside_of self.now.inside) self.now.pid.0 call.now (me_of self.now) S) }
+        requires free { (held : ℕ → List TheSending) →
+            is_choice_in_use (state_of held self.now.parts.now) (chosen_in call.now) ≡ false }
+        ensures { TellsWait self.now result (λ S.
+            call_effect (inside_of self.now.inside) self.now.pid.0 call.now (me_of self.now) S) }
     {
         own_calls();
         match call {
@@ -161,7 +172,8 @@ impl Actor<'_> {
 
     /// Whether the signal is caught while four caught signals are unfinished.
     fn lacks_frame(&self, signo: Signo) -> bool
-        ensures { result ≡ lacks_frame (disposition signo.0 (action_at signo.0 (me_of self.now))) (me_of self.now) }
+        ensures { result ≡ lacks_frame (disposition signo.0 (action_at signo.0 (me_of self.now)))
+            (me_of self.now) }
     {
         match self.proc.actions.get(signo) {
             Action::Usual => false,

@@ -91,8 +91,8 @@ impl Actor<'_> {
         requires few { count ≤ 64 }
         requires good { is_good is_mapped self.now.proc.now.space address count ≡ true }
         ensures ok { IfOk result (λ outcome. PlansOwn self.now log.old log.new outcome
-            (effect_by self.now (λ c. stands
-            (with_answer (pos count) c.process) (reply.Out (record { items = bytes_at c.process.memory (address_of address) count }))))) }
+            (effect_by self.now (λ c. stands (with_answer (pos count) c.process)
+            (reply.Out (record { items = bytes_at c.process.memory (address_of address) count }))))) }
         ensures err { OnErr result (Extends log.old log.new) }
     {
         let address = number_below(ADDRESSES, address).unwrap_or(0);

@@ -117,7 +117,8 @@ impl Actor<'_> {
         log: &mut Log,
     ) -> Result<Planned, NoMemory>
         requires { IsActor self.now }
-        ensures ok { IfOk result (λ planned. PlansStep self.now log.old log.new planned.outcome planned.sends
+        ensures ok { IfOk result (λ planned.
+            PlansStep self.now log.old log.new planned.outcome planned.sends
             (effect_by self.now (sigqueue target signo value))
             (names_by self.now (λ c. held_objects c.inside))) }
         ensures log { OnErr result (Extends log.old log.new) }
@@ -151,7 +152,8 @@ impl Actor<'_> {
     fn plan_posted(&self, sending: &Sending, log: &mut Log) -> Result<Outcome, NoMemory>
         requires actor { IsActor self.now }
         requires signal { sending.now.signo.0 < 64 }
-        ensures ok { IfOk result (λ outcome. PlansPosted self.now log.old log.new sending.now outcome) }
+        ensures ok { IfOk result (λ outcome.
+            PlansPosted self.now log.old log.new sending.now outcome) }
         ensures err { OnErr result (Extends log.old log.new) }
     {
         laws();

@@ -48,7 +48,9 @@ impl Actor<'_> {
     fn plan_action(&self, signo: Signo, action: Action, log: &mut Log) -> Result<Outcome, NoMemory>
         ensures ok { IfOk result (λ outcome. PlansOwn self.now log.old log.new outcome
             (effect_by self.now (λ c. changes (pos 0)
-            (with_action signo.0 action (if is_ignored signo.0 action then without_signal signo.0 c.process else c.process)) []))) }
+            (with_action signo.0 action
+            (if is_ignored signo.0 action then without_signal signo.0 c.process else c.process))
+            []))) }
         ensures err { OnErr result (Extends log.old log.new) }
     {
         self.push_ignored(signo, action, log)?;
@@ -59,7 +61,9 @@ impl Actor<'_> {
 
     /// Appends the exchanges that discard the signal, where it is ignored.
     fn push_ignored(&self, signo: Signo, action: Action, log: &mut Log) -> Result<(), NoMemory>
-        ensures ok { OnOk result (PlansPart self.now log.old log.new (λ me. if is_ignored signo.0 action then without_signal signo.0 me else me)) }
+        ensures ok { OnOk result
+            (PlansPart self.now log.old log.new (λ me.
+            if is_ignored signo.0 action then without_signal signo.0 me else me)) }
         ensures err { OnErr result (Extends log.old log.new) }
     {
         if is_ignored(signo, action) {
@@ -81,7 +85,9 @@ impl Actor<'_> {
 
     /// Appends the exchanges that take each entry of the signal out of the queue.
     fn push_taken_out(&self, signo: Signo, log: &mut Log) -> Result<(), NoMemory>
-        ensures ok { OnOk result (PlansPart self.now log.old log.new (λ me. record me { queued = queued_others signo.0 me.queued })) }
+        ensures ok { OnOk result
+            (PlansPart self.now log.old log.new (λ me.
+            record me { queued = queued_others signo.0 me.queued })) }
         ensures err { OnErr result (Extends log.old log.new) }
     {
         let mut place = 0;

@@ -26,7 +26,8 @@ impl Actor<'_> {
         log: &mut Log,
     ) -> Result<Result<(), Errno>, NoMemory>
         requires { sending.now.signo.0 < 64 }
-        ensures ok { IfOk result (λ answer. PlansPost self.now.parts.now log.old log.new (sending_of sending.now) answer) }
+        ensures ok { IfOk result (λ answer.
+            PlansPost self.now.parts.now log.old log.new (sending_of sending.now) answer) }
         ensures err { OnErr result (log.new ≡ log.old) }
     {
         match plan_at(self.parts, sending) {
@@ -43,8 +44,11 @@ impl Actor<'_> {
     /// step. After want of memory the log has more at its end.
     pub(crate) fn push_sends(&self, planned: &Planned, log: &mut Log) -> Result<(), NoMemory>
         requires { HasSignal planned.now.sends }
-        ensures ok { OnOk result ((before : List TheChange) (rule : State → Effect) (objects : State → List Object) →
-            Plans self.now before log.old planned.now rule objects → PlansStep self.now before log.new planned.now.outcome planned.now.sends rule objects) }
+        ensures ok { OnOk result
+            ((before : List TheChange) (rule : State → Effect) (objects : State → List Object) →
+            Plans self.now before log.old planned.now rule objects →
+            PlansStep self.now before log.new planned.now.outcome planned.now.sends rule
+            objects) }
         ensures log { OnErr result (Extends log.old log.new) }
     {
         laws();

@@ -123,8 +123,10 @@ impl Actor<'_> {
     pub(crate) fn reading(&self, fd: i64, address: i64, count: i64) -> Result<Reading, Errno>
         requires { IsActor self.now }
         ensures effect { (held : ℕ → List TheSending) →
-            read fd address count (calling self.now held) ≡ reading_outcome address result (calling self.now held) }
-        ensures ready { IfOk result (λ reading. TakesFrom self.now (description_named (me_of self.now) (descriptor fd)) reading) }
+            read fd address count (calling self.now held)
+            ≡ reading_outcome address result (calling self.now held) }
+        ensures ready { IfOk result (λ reading.
+            TakesFrom self.now (description_named (me_of self.now) (descriptor fd)) reading) }
     {
         let desc = self.open_end(fd, Side::Read)?;
         self.reading_from(desc, address, count)
@@ -134,7 +136,8 @@ impl Actor<'_> {
     fn reading_from(&self, desc: Desc, address: i64, count: i64) -> Result<Reading, Errno>
         ensures effect { (fd : ℤ) (held : ℕ → List TheSending) →
             end_in is_read_side fd (calling self.now held) ≡ Some (description_of desc) →
-            read fd address count (calling self.now held) ≡ reading_outcome address result (calling self.now held) }
+            read fd address count (calling self.now held)
+            ≡ reading_outcome address result (calling self.now held) }
         ensures ready { IfOk result (λ reading. IsReadyToTake self.now desc.pipe reading) }
     {
         let Some(n) = number_below(PIPE_BYTES + 1, count) else {
@@ -153,7 +156,8 @@ impl Actor<'_> {
     fn taking(&self, desc: Desc, n: usize) -> Result<Reading, Errno>
         ensures effect { (fd address count : ℤ) (held : ℕ → List TheSending) →
             AsksFor self.now desc n fd address count held →
-            read fd address count (calling self.now held) ≡ reading_outcome address result (calling self.now held) }
+            read fd address count (calling self.now held)
+            ≡ reading_outcome address result (calling self.now held) }
         ensures ready { IfOk result (λ reading. IsReadyToTake self.now desc.pipe reading) }
     {
         let held = self.held(desc.pipe);
@@ -236,7 +240,9 @@ impl Actor<'_> {
     /// Appends the answer of a write that no reader is left for, and says what it comes to. After want
     /// of memory the log is as it was.
     fn push_broken(&self, log: &mut Log) -> Result<Planned, NoMemory>
-        ensures ok { IfOk result (λ planned. (log.new ≡ log.old ++ SetPart self.now.pid (SetAnswer (answer_after (error_answer BrokenPipe) self.now)) ∷ [])
+        ensures ok { IfOk result (λ planned.
+            (log.new ≡ log.old ++ SetPart self.now.pid
+            (SetAnswer (answer_after (error_answer BrokenPipe) self.now)) ∷ [])
             × (planned ≡ broken self.now)) }
         ensures err { OnErr result (log.new ≡ log.old) }
     {
@@ -270,7 +276,8 @@ impl Actor<'_> {
         log: &mut Log,
     ) -> Result<(), NoMemory>
         requires { CanPut self.now address pipe n }
-        ensures ok { OnOk result (log.new ≡ log.old ++ SetPipe pipe (Back 0 (put_bytes self.now address n)) ∷ []) }
+        ensures ok { OnOk result
+            (log.new ≡ log.old ++ SetPipe pipe (Back 0 (put_bytes self.now address n)) ∷ []) }
         ensures err { OnErr result (log.new ≡ log.old) }
     {
         let boxed = self.boxed_bytes(alloc, address, n)?;
@@ -294,8 +301,10 @@ impl Actor<'_> {
     pub(crate) fn writing(&self, fd: i64, address: i64, count: i64) -> Result<Writing, Errno>
         requires { IsActor self.now }
         ensures effect { (held : ℕ → List TheSending) →
-            write fd address count (calling self.now held) ≡ writing_outcome address result (calling self.now held) }
-        ensures ready { IfOk result (λ writing. PutsTo self.now (description_named (me_of self.now) (descriptor fd)) address writing) }
+            write fd address count (calling self.now held)
+            ≡ writing_outcome address result (calling self.now held) }
+        ensures ready { IfOk result (λ writing.
+            PutsTo self.now (description_named (me_of self.now) (descriptor fd)) address writing) }
     {
         let desc = self.open_end(fd, Side::Write)?;
         self.writing_to(desc, address, count)
@@ -305,7 +314,8 @@ impl Actor<'_> {
     fn writing_to(&self, desc: Desc, address: i64, count: i64) -> Result<Writing, Errno>
         ensures effect { (fd : ℤ) (held : ℕ → List TheSending) →
             end_in is_write_side fd (calling self.now held) ≡ Some (description_of desc) →
-            write fd address count (calling self.now held) ≡ writing_outcome address result (calling self.now held) }
+            write fd address count (calling self.now held)
+            ≡ writing_outcome address result (calling self.now held) }
         ensures ready { IfOk result (λ writing. IsReadyToPut self.now address desc.pipe writing) }
     {
         let Some(n) = number_below(PIPE_BYTES + 1, count) else {
@@ -341,7 +351,9 @@ impl Actor<'_> {
     ///
     /// BadDescriptor where the descriptor is not 0 to 15, is not open, or is not of this side.
     fn open_end(&self, fd: i64, side: Side) -> Result<Desc, Errno>
-        ensures { result ≡ end_at side (opened_at self.now.parts.now.descs (description_named (me_of self.now) (descriptor fd))) }
+        ensures { result ≡ end_at side
+            (opened_at self.now.parts.now.descs
+            (description_named (me_of self.now) (descriptor fd))) }
     {
         let d = self.proc.descriptors.look(fd)?;
         match self.parts.descs.get(d) {

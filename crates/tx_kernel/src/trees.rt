@@ -64,7 +64,8 @@ impl Actor<'_> {
 
     /// Whether a child can't have the number: it is not 1 to the width.
     pub(crate) fn is_bad_child(&self, child: Pid) -> bool
-        ensures { result ≡ is_bad_choice (length self.now.parts.now.procs) (ChoosesProcess child.0) }
+        ensures { result ≡ is_bad_choice (length self.now.parts.now.procs)
+            (ChoosesProcess child.0) }
     {
         child.0 == 0 || child.0 as usize > self.parts.procs.width()
     }
@@ -147,7 +148,8 @@ impl Actor<'_> {
     /// The process number that a program computed; nothing where it is not 1 to the width.
     pub fn numbered(&self, number: i64) -> Option<Pid>
         requires { length self.now.parts.now.procs ≤ 256 }
-        ensures { option_map (λ pid. pid.0) result ≡ pid_of (length self.now.parts.now.procs) number }
+        ensures { option_map (λ pid. pid.0) result
+            ≡ pid_of (length self.now.parts.now.procs) number }
     {
         let width = self.parts.procs.width();
         if number < 1 || number > width as i64 {
@@ -159,7 +161,8 @@ impl Actor<'_> {
     /// The child of a number that a program computed; nothing where the number is none of a child.
     pub(crate) fn child(&self, number: i64) -> Option<Child>
         requires { length self.now.parts.now.procs ≤ 256 }
-        ensures { result ≡ child_at self.now.pid.0 self.now.parts.now.procs (pid_of (length self.now.parts.now.procs) number) }
+        ensures { result ≡ child_at self.now.pid.0 self.now.parts.now.procs
+            (pid_of (length self.now.parts.now.procs) number) }
     {
         let pid = self.numbered(number)?;
         let child = self.parts.procs.get(pid)?;
@@ -179,7 +182,8 @@ impl Actor<'_> {
         requires ended { IsEndedChild self.now child.0 status }
         ensures ok { IfOk result (λ planned. Plans self.now log.old log.new planned
             (effect_by self.now (λ c. changes
-            (pos child.0) (with_status status c.process) (SetProc child.0 None ∷ []))) (λ S. TheProc child.0 ∷ [])) }
+            (pos child.0) (with_status status c.process) (SetProc child.0 None ∷ []))) (λ S.
+            TheProc child.0 ∷ [])) }
         ensures err { OnErr result (Extends log.old log.new) }
     {
         laws();

@@ -246,8 +246,11 @@ pub fn well_formed_table()
     ensures step { NextViewIsWellFormed }
     ensures listed { ViewsListEnough }
     ensures history { (start : State) (history : List Accepted) →
-        IsWellFormed start → HoldsNothing start → Lawful start history → IsWellFormedWith (table_of start history) (without start nobody history) }
-    ensures undelivered { (start : State) (history : List Accepted) (step : Step) (items : List Missed) →
         IsWellFormed start → HoldsNothing start → Lawful start history →
-        answer (view start history) step ≡ Committed (record { items = items }) → length items ≤ UNDELIVERED }
+        IsWellFormedWith (table_of start history) (without start nobody history) }
+    ensures undelivered { (start : State) (history : List Accepted) (step : Step)
+        (items : List Missed) →
+        IsWellFormed start → HoldsNothing start → Lawful start history →
+        answer (view start history) step ≡ Committed (record { items = items }) →
+        length items ≤ UNDELIVERED }
 {}

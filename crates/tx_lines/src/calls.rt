@@ -28,10 +28,13 @@ use tx_base::{Call, When};
 /// The call on memory of that name and with those arguments, or one that a later group has. Nothing
 /// where none is spelled so.
 pub fn memory_call(version: Version, name: &[u8], arguments: &[u8], call: &mut Call) -> bool
-    ensures found { IfSome (then_some result call.new) (λ c. name.now ++ 32 ∷ arguments.now ≡ call_text c) }
+    ensures found { IfSome (then_some result call.new) (λ c.
+        name.now ++ 32 ∷ arguments.now ≡ call_text c) }
     ensures fits { IfSome (then_some result call.new) FitsCall }
     ensures within { IfSome (then_some result call.new) (IsCallOf version) }
-    ensures only { (c : Call) → FitsCall c → IsCallOf version c → 1 ≤ group_of c → first_word (call_text c) ≡ Some (name.now, arguments.now) → then_some result call.new ≡ Some c }
+    ensures only { (c : Call) → FitsCall c → IsCallOf version c → 1 ≤ group_of c →
+        first_word (call_text c) ≡ Some (name.now, arguments.now) →
+        then_some result call.new ≡ Some c }
 {
     match name {
         b"map" => put(call, number(arguments).map(Call::Map)),
@@ -44,10 +47,13 @@ pub fn memory_call(version: Version, name: &[u8], arguments: &[u8], call: &mut C
 /// The call on processes of that name and with those arguments, or one that a later group has.
 /// Nothing where none is spelled so.
 fn process_call(version: Version, name: &[u8], arguments: &[u8], call: &mut Call) -> bool
-    ensures found { IfSome (then_some result call.new) (λ c. name.now ++ 32 ∷ arguments.now ≡ call_text c) }
+    ensures found { IfSome (then_some result call.new) (λ c.
+        name.now ++ 32 ∷ arguments.now ≡ call_text c) }
     ensures fits { IfSome (then_some result call.new) FitsCall }
     ensures within { IfSome (then_some result call.new) (IsCallOf version) }
-    ensures only { (c : Call) → FitsCall c → IsCallOf version c → 2 ≤ group_of c → first_word (call_text c) ≡ Some (name.now, arguments.now) → then_some result call.new ≡ Some c }
+    ensures only { (c : Call) → FitsCall c → IsCallOf version c → 2 ≤ group_of c →
+        first_word (call_text c) ≡ Some (name.now, arguments.now) →
+        then_some result call.new ≡ Some c }
 {
     match name {
         b"fork" => put(call, read_pid(arguments).map(Call::Fork)),
@@ -60,10 +66,13 @@ fn process_call(version: Version, name: &[u8], arguments: &[u8], call: &mut Call
 /// The call on ids of that name and with those arguments, or one that a later group has. Nothing
 /// where none is spelled so.
 fn id_call(version: Version, name: &[u8], arguments: &[u8], call: &mut Call) -> bool
-    ensures found { IfSome (then_some result call.new) (λ c. name.now ++ 32 ∷ arguments.now ≡ call_text c) }
+    ensures found { IfSome (then_some result call.new) (λ c.
+        name.now ++ 32 ∷ arguments.now ≡ call_text c) }
     ensures fits { IfSome (then_some result call.new) FitsCall }
     ensures within { IfSome (then_some result call.new) (IsCallOf version) }
-    ensures only { (c : Call) → FitsCall c → IsCallOf version c → 3 ≤ group_of c → first_word (call_text c) ≡ Some (name.now, arguments.now) → then_some result call.new ≡ Some c }
+    ensures only { (c : Call) → FitsCall c → IsCallOf version c → 3 ≤ group_of c →
+        first_word (call_text c) ≡ Some (name.now, arguments.now) →
+        then_some result call.new ≡ Some c }
 {
     match name {
         b"setuid" => put(call, number(arguments).map(Call::Setuid)),
@@ -77,10 +86,13 @@ fn id_call(version: Version, name: &[u8], arguments: &[u8], call: &mut Call) -> 
 /// The call on descriptors of that name and with those arguments, or one that a later group has.
 /// Nothing where none is spelled so.
 fn descriptor_call(version: Version, name: &[u8], arguments: &[u8], call: &mut Call) -> bool
-    ensures found { IfSome (then_some result call.new) (λ c. name.now ++ 32 ∷ arguments.now ≡ call_text c) }
+    ensures found { IfSome (then_some result call.new) (λ c.
+        name.now ++ 32 ∷ arguments.now ≡ call_text c) }
     ensures fits { IfSome (then_some result call.new) FitsCall }
     ensures within { IfSome (then_some result call.new) (IsCallOf version) }
-    ensures only { (c : Call) → FitsCall c → IsCallOf version c → 4 ≤ group_of c → first_word (call_text c) ≡ Some (name.now, arguments.now) → then_some result call.new ≡ Some c }
+    ensures only { (c : Call) → FitsCall c → IsCallOf version c → 4 ≤ group_of c →
+        first_word (call_text c) ≡ Some (name.now, arguments.now) →
+        then_some result call.new ≡ Some c }
 {
     if name == b"pipe".as_slice() {
         return put(call, descriptors::pipe(arguments));
@@ -103,10 +115,13 @@ fn descriptor_call(version: Version, name: &[u8], arguments: &[u8], call: &mut C
 /// The call that moves bytes of that name and with those arguments, or one that a later group has.
 /// Nothing where none is spelled so.
 fn transfer_call(version: Version, name: &[u8], arguments: &[u8], call: &mut Call) -> bool
-    ensures found { IfSome (then_some result call.new) (λ c. name.now ++ 32 ∷ arguments.now ≡ call_text c) }
+    ensures found { IfSome (then_some result call.new) (λ c.
+        name.now ++ 32 ∷ arguments.now ≡ call_text c) }
     ensures fits { IfSome (then_some result call.new) FitsCall }
     ensures within { IfSome (then_some result call.new) (IsCallOf version) }
-    ensures only { (c : Call) → FitsCall c → IsCallOf version c → 5 ≤ group_of c → first_word (call_text c) ≡ Some (name.now, arguments.now) → then_some result call.new ≡ Some c }
+    ensures only { (c : Call) → FitsCall c → IsCallOf version c → 5 ≤ group_of c →
+        first_word (call_text c) ≡ Some (name.now, arguments.now) →
+        then_some result call.new ≡ Some c }
 {
     match name {
         b"read" => put(call, transfers::read(arguments)),
@@ -118,10 +133,13 @@ fn transfer_call(version: Version, name: &[u8], arguments: &[u8], call: &mut Cal
 /// The call on signals of that name and with those arguments, or one that a later group has. Nothing
 /// where none is spelled so.
 fn signal_call(version: Version, name: &[u8], arguments: &[u8], call: &mut Call) -> bool
-    ensures found { IfSome (then_some result call.new) (λ c. name.now ++ 32 ∷ arguments.now ≡ call_text c) }
+    ensures found { IfSome (then_some result call.new) (λ c.
+        name.now ++ 32 ∷ arguments.now ≡ call_text c) }
     ensures fits { IfSome (then_some result call.new) FitsCall }
     ensures within { IfSome (then_some result call.new) (IsCallOf version) }
-    ensures only { (c : Call) → FitsCall c → IsCallOf version c → 6 ≤ group_of c → first_word (call_text c) ≡ Some (name.now, arguments.now) → then_some result call.new ≡ Some c }
+    ensures only { (c : Call) → FitsCall c → IsCallOf version c → 6 ≤ group_of c →
+        first_word (call_text c) ≡ Some (name.now, arguments.now) →
+        then_some result call.new ≡ Some c }
 {
     if name == b"kill".as_slice() {
         return put(call, signals::kill(arguments));
@@ -141,10 +159,13 @@ fn signal_call(version: Version, name: &[u8], arguments: &[u8], call: &mut Call)
 /// The call of a script or on the console of that name and with those arguments. Nothing where none is
 /// spelled so.
 fn script_call(version: Version, name: &[u8], arguments: &[u8], call: &mut Call) -> bool
-    ensures found { IfSome (then_some result call.new) (λ c. name.now ++ 32 ∷ arguments.now ≡ call_text c) }
+    ensures found { IfSome (then_some result call.new) (λ c.
+        name.now ++ 32 ∷ arguments.now ≡ call_text c) }
     ensures fits { IfSome (then_some result call.new) FitsCall }
     ensures within { IfSome (then_some result call.new) (IsCallOf version) }
-    ensures only { (c : Call) → FitsCall c → IsCallOf version c → 7 ≤ group_of c → first_word (call_text c) ≡ Some (name.now, arguments.now) → then_some result call.new ≡ Some c }
+    ensures only { (c : Call) → FitsCall c → IsCallOf version c → 7 ≤ group_of c →
+        first_word (call_text c) ≡ Some (name.now, arguments.now) →
+        then_some result call.new ≡ Some c }
 {
     if name == b"console_write".as_slice() {
         return put(call, script::console_write(arguments));
@@ -164,7 +185,8 @@ pub fn bare_call(text: &[u8], call: &mut Call) -> bool
     ensures found { IfSome (then_some result call.new) (λ c. text.now ≡ call_text c) }
     ensures fits { IfSome (then_some result call.new) FitsCall }
     ensures within { (version : Version) → IfSome (then_some result call.new) (IsCallOf version) }
-    ensures only { (c : Call) → FitsCall c → 1 ≤ group_of c → first_word text.now ≡ None → text.now ≡ call_text c → then_some result call.new ≡ Some c }
+    ensures only { (c : Call) → FitsCall c → 1 ≤ group_of c → first_word text.now ≡ None →
+        text.now ≡ call_text c → then_some result call.new ≡ Some c }
 {
     if text == b"getpid".as_slice() {
         return put(call, Some(Call::Getpid));
@@ -238,7 +260,8 @@ fn put_bare_call(text: &mut String, call: &Call) -> Result<(), AllocError>
 impl Numbers<'_> {
     /// The call with its numbers put in.
     pub fn put_in(self, call: Call) -> Call
-        ensures { result ≡ with_numbers (number_at self.entry.slots.now self.entry.spellings.now) call }
+        ensures { result ≡ with_numbers (number_at self.entry.slots.now self.entry.spellings.now)
+            call }
     {
         match call {
             Call::Map(page) => Call::Map(self.at(0, page)),

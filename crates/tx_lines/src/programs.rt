@@ -58,7 +58,8 @@ fn copy_instructions(
 /// failure of the source, and its 1,001st interruption, is `Reader`.
 pub fn read_program<S: Source>(alloc: Global, source: &mut S) -> Result<Program, Fault>
     requires { IsFresh (S.counts source.old) }
-    ensures { ReadsProgramFrom (S.left source.old) (S.counts source.old) result (S.counts source.new) }
+    ensures { ReadsProgramFrom (S.left source.old) (S.counts source.old) result
+        (S.counts source.new) }
 {
     let text = read_whole(alloc, source)?;
     read_program_text(alloc, text.as_slice())

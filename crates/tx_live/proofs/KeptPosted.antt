@@ -117,10 +117,3 @@ boxed_unposted boxed txn kept None is back ids =
 boxed_unposted boxed txn kept (Some unpost) is back ids =
     subst (λ (t : Txn). unposted (Some unpost) kept.pending ≡ t.kept.pending → kept.ids ≡ t.kept.ids → unposted_at unpost (keeping boxed t kept) ≡ boxed) (sym is)
     (λ p i j. keeping boxed boxed.txn.value (record { ids = i j; pending = p j })) back ids
-
-pub slot_starter : (old new : List (Option BoxedTxn)) (n : ℕ) (boxed after : BoxedTxn) → slot_at old n ≡ Some boxed → new ≡ with_slot old n (Some after) →
-    (1 ≤ n) × (n ≤ length new)
-slot_starter old new n boxed after there now =
-    let bounds : (1 ≤ n) × (n ≤ length old) = slot_there old n boxed there in
-    let long : length new ≡ length old = ap length now ∙ length-with_slot old n (Some after) in
-    (bounds.0, subst (λ (k : ℕ). n ≤ k) (sym long) bounds.1)

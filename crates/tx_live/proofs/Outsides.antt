@@ -1,5 +1,5 @@
 -- A step outside of transactions.
-use Rattle.std.proofs.Common.{◌≡◌, ℕ, ◌≤◌, Bool, true, false, List, [], ◌++◌, length, Option, Some, None, option_map, refl, sym, ap, subst, ◌∙◌}
+use Rattle.std.proofs.Common.{◌≡◌, ℕ, ◌≤◌, Bool, true, false, List, [], ◌++◌, length, Option, Some, None, option_map, Result, Ok, Err, OnOk, IfOk, is_err, refl, sym, ap, subst, ◌∙◌}
 use Rattle.tx_base.specs.Slots.{slot_at}
 use Rattle.tx_base.specs.declared.marks.Mark.{Mark}
 use Rattle.tx_base.specs.declared.names.Pid.{Pid}
@@ -148,3 +148,12 @@ pub outside_answers : (old new : Content) (pid : Pid) (event : Event) (plan : Li
 unfolding reply_of
 outside_answers old new pid event plan planned makes parts =
     subst (λ (p : Parts). Answers old event pid (record new { parts = p }) planned.outcome) (sym parts) (makes.gives (held_of old) tt).reply
+
+-- what is so where a step is made is so of a refused one
+pub made_nothing : {T E : Type 0} (P : Type 0) (r : Result T E) → is_err r ≡ true → OnOk r P
+made_nothing P (Ok x) failed = cc
+made_nothing P (Err e) failed = tt
+
+pub answers_nothing : {T E : Type 0} (P : T → Type 0) (r : Result T E) → is_err r ≡ true → IfOk r P
+answers_nothing P (Ok x) failed = cc
+answers_nothing P (Err e) failed = tt

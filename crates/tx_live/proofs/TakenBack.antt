@@ -31,16 +31,6 @@ same_slots one other long same = ext_get_or None one other long (λ i few. same 
 pub put_changed : (old taken new : List (Option BoxedTxn)) (n : ℕ) (slot : Option BoxedTxn) → taken ≡ with_slot old n None → new ≡ with_slot taken n slot → new ≡ with_slot old n slot
 put_changed old taken new n slot emptied now = now ∙ ap (λ (slots : List (Option BoxedTxn)). with_slot slots n slot) emptied ∙ slot_twice old n None slot
 
--- the slot of a box is there also while the box is taken out
-pub slot_still_high : (old taken : List (Option BoxedTxn)) (n : ℕ) (boxed : BoxedTxn) → slot_at old n ≡ Some boxed → taken ≡ with_slot old n None → n ≤ length taken
-slot_still_high old taken n boxed there emptied = subst (λ (k : ℕ). n ≤ k) (sym (ap length emptied ∙ length-with_slot old n None)) (slot_there old n boxed there).1
-
--- a post to what is kept was taken back
-pub post_taken : (old taken new : List (Option BoxedTxn)) (n : ℕ) (change : BoxedTxn → BoxedTxn) (boxed after : BoxedTxn) → slot_at old n ≡ Some boxed → after ≡ change boxed →
-    taken ≡ with_slot old n None → new ≡ with_slot taken n (Some after) → new ≡ with_slot old n (option_map change (slot_at old n))
-post_taken old taken new n change boxed after there is emptied now =
-    put_changed old taken new n (Some after) emptied now ∙ ap (λ (b : BoxedTxn). with_slot old n (Some b)) is ∙ ap (λ (slot : Option BoxedTxn). with_slot old n (option_map change slot)) (sym there)
-
 -- a step inside of a transaction was taken back
 pub inside_taken : LiveLaws → (k new prior : Content) (starter : Pid) (count : ℕ) (before : Objects) (marked : Option Marked) (held : Bool) (boxed other : BoxedTxn) (txn after : Txn) →
     slot_at k.txns starter.0 ≡ Some boxed → txn ≡ boxed.txn.value → new.parts ≡ undone k.parts (last_of count txn.log) → new.marks ≡ remarked marked k.marks →

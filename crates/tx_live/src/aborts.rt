@@ -2,7 +2,7 @@
 ghost use Rattle.std.specs.Prelude.{◌≡◌, ◌≤◌, ℕ, length, IsSome};
 ghost use Rattle.tx_base.specs.Slots.{slot_at};
 ghost use Rattle.tx_change.specs.Exchange.{parts_after, AreNamed};
-ghost use Rattle.tx_live.specs.Aborts.{answered_from, standing, standing_at, IsLedBack};
+ghost use Rattle.tx_live.specs.Aborts.{standing, standing_at, IsLedBack};
 ghost use Rattle.tx_live.specs.Content.{content_of, IsShaped};
 ghost use Rattle.tx_live.specs.Made.{IsMade};
 ghost use Rattle.tx_model.specs.Events.{Note};
@@ -25,7 +25,9 @@ impl Content {
         requires shaped { IsShaped self.old }
         requires kept { IsKept (content_of self.old) }
         requires live { IsSome (slot_at self.old.txns starter.0) }
-        ensures { (status process : ℕ) → IsMade self.old (Aborts starter.0 status) (Note starter.0 ret) process self.new inverse.new }
+        ensures { (status process : ℕ) →
+            IsMade self.old (Aborts starter.0 status) (Note starter.0 ret) process self.new
+            inverse.new }
     {
         laws();
         let mut boxed = self.txns.take(starter).unwrap();

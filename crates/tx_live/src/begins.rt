@@ -42,8 +42,11 @@ impl Content {
         requires whole { IsWhole self.old.parts }
         requires running { IsRunning (slot_at self.old.parts.procs pid.0) }
         requires alone { IsAlone self.old pid.0 }
-        ensures made { OnOk result (IsMade self.old (Within pid.0 (Begins defers)) (Note pid.0 (pos 0)) pid.0 self.new inverse.new) }
-        ensures answer { OnOk result (Answers self.old (Note pid.0 (pos 0)) pid self.new (Done (pos 0))) }
+        ensures made { OnOk result
+            (IsMade self.old (Within pid.0 (Begins defers)) (Note pid.0 (pos 0)) pid.0 self.new
+            inverse.new) }
+        ensures answer { OnOk result
+            (Answers self.old (Note pid.0 (pos 0)) pid self.new (Done (pos 0))) }
         ensures err { OnErr result (self.new ≡ self.old) }
     {
         laws();

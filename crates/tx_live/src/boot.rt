@@ -31,7 +31,8 @@ impl Content {
         ensures shaped { IfOk result IsShaped }
         ensures whole { IfOk result (λ content. IsWhole content.parts) }
         ensures alone { IfOk result (λ content. (s : ℕ) → IsAlone content s) }
-        ensures unowned { IfOk result (λ content. (own : Option ℕ) (event : Event) → IsUnowned content own event) }
+        ensures unowned { IfOk result (λ content.
+            (own : Option ℕ) (event : Event) → IsUnowned content own event) }
         ensures kept { IfOk result (λ content. IsKept (content_of content)) }
         ensures view { IfOk result (λ content. view_of content ≡ view (boot_state width count) []) }
         ensures processes { IfOk result (λ content. length content.parts.procs ≡ width) }

@@ -27,7 +27,7 @@ use tx_kernel::{Act, Planned};
 use tx_txn::Txn;
 
 impl Content {
-    /// Makes what the last member whose part is open is asked to do, which ends that part, and commits the
+    /// Makes the act of the last member whose part is open, which ends that part, and commits the
     /// starter's transaction: what it held is posted, in order, and what it owned is nobody's. Puts what
     /// takes the step back into its place; its outbox says how each post was answered. Where the step's
     /// own signals are delivered, the reply lists those of the outbox that could not be.
@@ -47,13 +47,22 @@ impl Content {
         requires whole { IsWhole self.old.parts }
         requires running { IsRunning (slot_at self.old.parts.procs pid.0) }
         requires live { IsSome (slot_at self.old.txns starter.0) }
-        requires unowned { IsUnowned self.old (Some starter.0) (event_of (inside_in self.old starter) pid act.now) }
+        requires unowned { IsUnowned self.old (Some starter.0)
+            (event_of (inside_in self.old starter) pid act.now) }
         requires end { IsEnd (event_of (inside_in self.old starter) pid act.now) (now_of self.old) }
-        requires signals { HaveSignals ((made (event_of (inside_in self.old starter) pid act.now) (now_of self.old) (now_of self.old)).held starter.0) }
-        ensures made { OnOk result (Fits (Commits starter.0) (event_of (inside_in self.old starter) pid act.now) pid.0 (view_of self.old) →
-            IsMade self.old (Commits starter.0) (Commit starter.0 (event_of (inside_in self.old starter) pid act.now)) pid.0 self.new inverse.new) }
-        ensures answer { OnOk result (AreAnswered (event_of (inside_in self.old starter) pid act.now) (now_of self.old) →
-            reply_of (Commit starter.0 (event_of (inside_in self.old starter) pid act.now)) (now_of self.old) ≡ Committed (record { items = missed_of inverse.new })) }
+        requires signals { HaveSignals
+            ((made (event_of (inside_in self.old starter) pid act.now) (now_of self.old)
+            (now_of self.old)).held starter.0) }
+        ensures made { OnOk result
+            (Fits (Commits starter.0) (event_of (inside_in self.old starter) pid act.now) pid.0
+            (view_of self.old) →
+            IsMade self.old (Commits starter.0)
+            (Commit starter.0 (event_of (inside_in self.old starter) pid act.now)) pid.0
+            self.new inverse.new) }
+        ensures answer { OnOk result
+            (AreAnswered (event_of (inside_in self.old starter) pid act.now) (now_of self.old) →
+            reply_of (Commit starter.0 (event_of (inside_in self.old starter) pid act.now))
+            (now_of self.old) ≡ Committed (record { items = missed_of inverse.new })) }
         ensures err { OnErr result (self.new ≡ self.old) }
     {
         laws();
@@ -87,7 +96,7 @@ struct Last {
     count: usize,
 }
 
-/// Makes what the last member is asked to do.
+/// Makes the act of the last member.
 ///
 /// NoMemory where `make_in` refuses; all is then as it was.
 fn make_last(
@@ -100,7 +109,8 @@ fn make_last(
 ) -> Result<Last, NoMemory>
     requires whole { IsWhole parts.old }
     requires running { IsRunning (slot_at parts.old.procs pid.0) }
-    ensures made { IfOk result (λ last. MakesLast parts.old parts.new marks.now pid act.now txn.old txn.new last) }
+    ensures made { IfOk result (λ last.
+        MakesLast parts.old parts.new marks.now pid act.now txn.old txn.new last) }
     ensures parts { OnErr result (parts.new ≡ parts.old) }
     ensures txn { OnErr result (txn.new ≡ txn.old) }
 {

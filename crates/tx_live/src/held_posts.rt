@@ -19,7 +19,8 @@ pub(crate) fn post_held(parts: &mut Parts, txns: &mut TxnTable, outbox: &mut Out
     requires signals { HaveSignals (map sending_of outbox.old.sendings) }
     requires posts { length outbox.old.posts ≡ length outbox.old.sendings }
     ensures sendings { outbox.new.sendings ≡ outbox.old.sendings }
-    ensures posts { PostsAll parts.old parts.new txns.old txns.new outbox.old.sendings outbox.new.posts }
+    ensures posts { PostsAll parts.old parts.new txns.old txns.new outbox.old.sendings
+        outbox.new.posts }
 {
     laws();
     for place in 0..outbox.held().len() {

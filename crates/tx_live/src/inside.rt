@@ -1,5 +1,5 @@
 //! Steps inside of a transaction.
-ghost use Rattle.std.specs.Prelude.{◌≡◌, ◌≤◌, ◌++◌, ◌∷◌, [], ◌-◌, ℕ, true, length, map, Some, None, IfErr, IfOk, OnErr, OnOk, IsSome};
+ghost use Rattle.std.specs.Prelude.{◌≡◌, ◌++◌, ◌-◌, true, length, Some, IfErr, IfOk, OnErr, OnOk, IsSome};
 ghost use Rattle.tx_base.specs.Slots.{slot_at};
 ghost use Rattle.tx_kernel.specs.Actors.{IsWhole};
 ghost use Rattle.tx_kernel.specs.Acts.{event_of};
@@ -25,7 +25,7 @@ use tx_reserve::{Objects, Reservations};
 use tx_txn::{Outbox, Txn};
 
 impl Content {
-    /// Makes what a member that runs is asked to do, in the starter's transaction, which is live after
+    /// Makes the act of a member that runs, in the starter's transaction, which is live after
     /// it. The footprint is that of the step, and no other transaction owns anything of it. Answers its
     /// outcome, and puts what takes it back into its place.
     ///
@@ -47,11 +47,17 @@ impl Content {
         requires running { IsRunning (slot_at self.old.parts.procs pid.0) }
         requires live { IsSome (slot_at self.old.txns starter.0) }
         requires child { HasChild (length self.old.marks) progress }
-        requires footprint { IsFootprint self.old (event_of (inside_in self.old starter) pid act.now) footprint.now }
+        requires footprint { IsFootprint self.old
+            (event_of (inside_in self.old starter) pid act.now) footprint.now }
         requires free { IsFree self.old starter.0 footprint.now }
-        ensures made { OnOk result (Fits (Within starter.0 (part_of progress)) (event_of (inside_in self.old starter) pid act.now) pid.0 (view_of self.old) →
-            IsMade self.old (Within starter.0 (part_of progress)) (event_of (inside_in self.old starter) pid act.now) pid.0 self.new inverse.new) }
-        ensures answer { IfOk result (λ outcome. Answers self.old (event_of (inside_in self.old starter) pid act.now) pid self.new outcome) }
+        ensures made { OnOk result
+            (Fits (Within starter.0 (part_of progress))
+            (event_of (inside_in self.old starter) pid act.now) pid.0 (view_of self.old) →
+            IsMade self.old (Within starter.0 (part_of progress))
+            (event_of (inside_in self.old starter) pid act.now) pid.0 self.new inverse.new) }
+        ensures answer { IfOk result (λ outcome.
+            Answers self.old (event_of (inside_in self.old starter) pid act.now) pid self.new
+            outcome) }
         ensures refused { IfErr result (RefusesStep self.old
             (event_of (inside_in self.old starter) pid act.now)) }
         ensures err { OnErr result (self.new ≡ self.old) }
@@ -100,7 +106,7 @@ struct Stepped {
     before: Objects,
 }
 
-/// Makes what a member is asked to do, and reserves the footprint.
+/// Makes the act of a member, and reserves the footprint.
 ///
 /// Refuses as `make_in`; all is then as it was.
 fn step_in(
@@ -116,7 +122,9 @@ fn step_in(
     requires whole { IsWhole parts.old }
     requires running { IsRunning (slot_at parts.old.procs pid.0) }
     requires own { Owns txn.old.starter.0 owners.old txn.old.objects }
-    ensures made { IfOk result (λ stepped. StepsIn parts.old parts.new marks.now owners.old owners.new pid act.now footprint.now txn.old txn.new stepped) }
+    ensures made { IfOk result (λ stepped.
+        StepsIn parts.old parts.new marks.now owners.old owners.new pid act.now footprint.now
+        txn.old txn.new stepped) }
     ensures refused { IfErr result (RefusesIn parts.old marks.now pid act.now txn.old) }
     ensures parts { OnErr result (parts.new ≡ parts.old) }
     ensures owners { OnErr result (owners.new ≡ owners.old) }
@@ -134,7 +142,7 @@ fn step_in(
     })
 }
 
-/// Makes what a member is asked to do: its exchanges are in the log then, and what it hands out is held.
+/// Makes the act of a member: its exchanges are in the log then, and what it hands out is held.
 ///
 /// Refuses as the plan, and by NoMemory where the place of what it hands out is refused; all is then as
 /// it was.
@@ -148,7 +156,8 @@ pub(crate) fn make_in(
 ) -> Result<Planned, Refusal>
     requires whole { IsWhole parts.old }
     requires running { IsRunning (slot_at parts.old.procs pid.0) }
-    ensures made { IfOk result (λ planned. MakesIn parts.old parts.new marks.now pid act.now txn.old txn.new planned) }
+    ensures made { IfOk result (λ planned.
+        MakesIn parts.old parts.new marks.now pid act.now txn.old txn.new planned) }
     ensures refused { IfErr result (RefusesIn parts.old marks.now pid act.now txn.old) }
     ensures parts { OnErr result (parts.new ≡ parts.old) }
     ensures txn { OnErr result (txn.new ≡ txn.old) }
@@ -166,7 +175,8 @@ pub(crate) fn make_in(
 
 /// Holds what a step hands out. After want of memory the outbox is as it was.
 fn hold_sends(outbox: &mut Outbox, sends: &Sends) -> Result<(), NoMemory>
-    ensures sendings { OnOk result (outbox.new.sendings ≡ outbox.old.sendings ++ handed_out sends.now) }
+    ensures sendings { OnOk result
+        (outbox.new.sendings ≡ outbox.old.sendings ++ handed_out sends.now) }
     ensures posts { OnOk result (outbox.new.posts ≡ outbox.old.posts ++ unmade_of sends.now) }
     ensures err { OnErr result (outbox.new ≡ outbox.old) }
 {

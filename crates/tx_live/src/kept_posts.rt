@@ -1,7 +1,7 @@
 //! Posts to what is kept of the starters of live transactions.
 ghost use Rattle.std.specs.Prelude.{◌≡◌, ◌∷◌, [], ◌<◌, IfSome, Some};
 ghost use Rattle.tx_kernel.specs.Plans.{HasSignal, sending_of, sent_at_once};
-ghost use Rattle.tx_live.specs.Inverses.{unposted_at, unposted_if, unposted_in, HasStarter};
+ghost use Rattle.tx_live.specs.Inverses.{unposted_if, unposted_in, HasStarter};
 ghost use Rattle.tx_live.specs.Made.{posted_one, PostsKept};
 
 use crate::content::BoxedTxn;
@@ -45,13 +45,8 @@ pub(crate) fn post_kept(txns: &mut TxnTable, sending: &Sending) -> Option<KeptPo
     if txns.get(starter).is_none() {
         return None;
     }
-    let mut boxed = txns.take(starter).unwrap();
-    let post = post_boxed(&mut boxed, sending);
-    txns.put(starter, boxed);
-    match post {
-        Some(unpost) => Some(KeptPost { starter, unpost }),
-        None => None,
-    }
+    let unpost = post_boxed(txns.value_mut(starter), sending)?;
+    Some(KeptPost { starter, unpost })
 }
 
 /// Posts a signal, whose number must be below 64, to what is kept of a transaction's starter.
@@ -68,16 +63,8 @@ pub(crate) fn take_post(txns: &mut TxnTable, post: KeptPost)
     requires { HasStarter txns.old (Some post) }
     ensures { txns.new ≡ unposted_in (Some post) txns.old }
 {
-    if let Some(boxed) = txns.take(post.starter) {
-        txns.put(post.starter, without_post(boxed, post));
+    if txns.get(post.starter).is_some() {
+        let boxed = txns.value_mut(post.starter);
+        boxed.txn.kept.unpost(post.unpost);
     }
-}
-
-/// The box where the last post to what is kept of the starter was taken back.
-fn without_post(boxed: BoxedTxn, post: KeptPost) -> BoxedTxn
-    ensures { result ≡ unposted_at post.unpost boxed }
-{
-    let mut boxed = boxed;
-    boxed.txn.kept.unpost(post.unpost);
-    boxed
 }

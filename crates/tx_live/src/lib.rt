@@ -6,9 +6,9 @@
 //! of each starter of a live transaction its `Txn` of tx_txn, in a box, so that no table and no
 //! inverse moves one. `content_of` reads it as the kernel of tx_txn's laws.
 //!
-//! A step is made by what it is to the transactions. Each of these functions plans what the process
-//! is asked to do (`Act` of tx_kernel: a call, a delivery, or an answer and nothing else),
-//! exchanges it, and gives the inverse, which `undo` takes:
+//! A step is made by what it is to the transactions. Each of these functions plans the act of the
+//! process (`Act` of tx_kernel: a call, a delivery, or an answer and nothing else), exchanges it, and
+//! gives the inverse, which `undo` takes:
 //!
 //! - `make_outside`, of a process in no transaction: its signal, if it sends one, is posted to what
 //!   is kept of the target too, where that is the starter of a live transaction. The inverse is the

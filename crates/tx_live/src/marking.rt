@@ -34,7 +34,9 @@ pub(crate) fn mark_progress(
     requires low { 1 ≤ pid.0 }
     requires high { pid.0 ≤ length marks.old }
     requires child { HasChild (length marks.old) progress }
-    ensures marks { (n : ℕ) → slot_at marks.new n ≡ marks_after (Within starter.0 (part_of progress)) pid.0 (slot_at marks.old) n }
+    ensures marks { (n : ℕ) →
+        slot_at marks.new n ≡ marks_after (Within starter.0 (part_of progress)) pid.0
+        (slot_at marks.old) n }
     ensures length { length marks.new ≡ length marks.old }
     ensures back { remarked result marks.new ≡ marks.old }
     ensures mark { HasMark marks.new result }

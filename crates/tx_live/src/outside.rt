@@ -19,7 +19,7 @@ use tx_change::Log;
 use tx_kernel::{Act, Outcome};
 
 impl Content {
-    /// Makes what a process that runs is asked to do, and that is in no transaction. Answers its outcome,
+    /// Makes the act of a process that runs and is in no transaction. Answers its outcome,
     /// and puts what takes it back into its place: where the inverse of another step outside stands
     /// there, the room of its log is used again.
     ///
@@ -36,8 +36,10 @@ impl Content {
         requires running { IsRunning (slot_at self.old.parts.procs pid.0) }
         requires kept { IsKept (content_of self.old) }
         requires unowned { IsUnowned self.old None (event_of None pid act.now) }
-        ensures made { OnOk result (IsMade self.old Outside (event_of None pid act.now) pid.0 self.new inverse.new) }
-        ensures answer { IfOk result (λ outcome. Answers self.old (event_of None pid act.now) pid self.new outcome) }
+        ensures made { OnOk result
+            (IsMade self.old Outside (event_of None pid act.now) pid.0 self.new inverse.new) }
+        ensures answer { IfOk result (λ outcome.
+            Answers self.old (event_of None pid act.now) pid self.new outcome) }
         ensures refused { IfErr result (RefusesStep self.old (event_of None pid act.now)) }
         ensures err { OnErr result (self.new ≡ self.old) }
     {
@@ -47,19 +49,16 @@ impl Content {
         }
         let mut log = self.txns.fresh_log(alloc)?;
         let mut post = None;
-        match self.make_logged(alloc, pid, act, &mut log, &mut post) {
-            Ok(outcome) => {
-                self.put_inverse(inverse, Inverse::Outside { log, post });
-                Ok(outcome)
-            }
-            Err(why) => {
-                self.txns.keep_log(log);
-                Err(why)
-            }
+        let made = self.make_logged(alloc, pid, act, &mut log, &mut post);
+        if made.is_err() {
+            self.txns.keep_log(log);
+            return made;
         }
+        self.put_inverse(inverse, Inverse::Outside { log, post });
+        made
     }
 
-    /// Makes what a process that runs is asked to do, and that is in no transaction, with an empty log.
+    /// Makes the act of a process that runs and is in no transaction, with an empty log.
     /// Puts what takes it back into the log, and where its post to what is kept of a starter stands.
     /// Refuses as the plan; the content is then as it was.
     fn make_logged(
@@ -76,8 +75,11 @@ impl Content {
         requires kept { IsKept (content_of self.old) }
         requires unowned { IsUnowned self.old None (event_of None pid act.now) }
         requires empty { log.old ≡ [] }
-        ensures made { OnOk result (IsMade self.old Outside (event_of None pid act.now) pid.0 self.new (Inverse.Outside log.new post.new)) }
-        ensures answer { IfOk result (λ outcome. Answers self.old (event_of None pid act.now) pid self.new outcome) }
+        ensures made { OnOk result
+            (IsMade self.old Outside (event_of None pid act.now) pid.0 self.new
+            (Inverse.Outside log.new post.new)) }
+        ensures answer { IfOk result (λ outcome.
+            Answers self.old (event_of None pid act.now) pid self.new outcome) }
         ensures refused { IfErr result (RefusesStep self.old (event_of None pid act.now)) }
         ensures err { OnErr result (self.new ≡ self.old) }
     {

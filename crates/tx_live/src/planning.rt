@@ -11,7 +11,7 @@ use tx_base::{Pid, Refusal};
 use tx_change::{Log, Parts};
 use tx_kernel::{Act, Actor, Inside, Planned, plans_are_made};
 
-/// Plans what a process that runs is asked to do: its exchanges are at the end of the log then.
+/// Plans the act of a process that runs: its exchanges are at the end of the log then.
 ///
 /// Refuses as `Actor::plan`; the log is then as it was.
 pub(crate) fn plan(
@@ -24,7 +24,9 @@ pub(crate) fn plan(
 ) -> Result<Planned, Refusal>
     requires whole { IsWhole parts.now }
     requires running { IsRunning (slot_at parts.now.procs pid.0) }
-    ensures planned { IfOk result (λ planned. IsPlanned parts.now pid inside.entry (event_of (inside_of inside.entry) pid act.now) log.old log.new planned) }
+    ensures planned { IfOk result (λ planned.
+        IsPlanned parts.now pid inside.entry (event_of (inside_of inside.entry) pid act.now) log.old
+        log.new planned) }
     ensures refused { IfErr result (RefusesEvent parts.now inside.entry
         (event_of (inside_of inside.entry) pid act.now)) }
     ensures named { OnOk result (AreNamed parts.now (drop (length log.old) log.new)) }

@@ -1,7 +1,7 @@
 //! The live transactions by number, and the room that steps left.
 ghost use Rattle.std.specs.Option.{option_copied};
 ghost use Rattle.std.specs.Borrow.{sem};
-ghost use Rattle.std.specs.Prelude.{◌≡◌, ◌≤◌, ◌↔◌, ℕ, false, [], None, Some, IfOk, IsSome, IsTrue, length, replicate};
+ghost use Rattle.std.specs.Prelude.{◌≡◌, ◌≤◌, ◌↔◌, ℕ, [], None, Some, IfOk, IsSome, IsTrue, length, replicate};
 ghost use Rattle.tx_base.specs.Slots.{slot_at, with_slot};
 ghost use Rattle.tx_live.specs.Begins.{StartsOf};
 

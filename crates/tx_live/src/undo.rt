@@ -66,7 +66,8 @@ impl Content {
         held: bool,
     )
         requires { GoesWith self.old (Inside starter count before marked held) }
-        ensures { (prior : Content) → Undoes self.old (Inside starter count before marked held) prior → self.new ≡ prior }
+        ensures { (prior : Content) →
+            Undoes self.old (Inside starter count before marked held) prior → self.new ≡ prior }
     {
         laws();
         let boxed = self.txns.value_mut(starter);
@@ -97,7 +98,8 @@ impl Content {
     /// Takes the commit of this transaction back.
     fn undo_committed(&mut self, boxed: BoxedTxn, count: usize, held: bool)
         requires { GoesWith self.old (Committed boxed count held) }
-        ensures { (prior : Content) → Undoes self.old (Committed boxed count held) prior → self.new ≡ prior }
+        ensures { (prior : Content) → Undoes self.old (Committed boxed count held) prior →
+            self.new ≡ prior }
     {
         laws();
         let mut boxed = boxed;
@@ -112,7 +114,8 @@ impl Content {
     /// Takes the abort of this transaction back.
     fn undo_aborted(&mut self, boxed: BoxedTxn, stood: Answer)
         requires { GoesWith self.old (Aborted boxed stood) }
-        ensures { (prior : Content) → Undoes self.old (Aborted boxed stood) prior → self.new ≡ prior }
+        ensures { (prior : Content) → Undoes self.old (Aborted boxed stood) prior →
+            self.new ≡ prior }
     {
         laws();
         let mut boxed = boxed;
@@ -137,7 +140,10 @@ fn take_step(
     requires few { count ≤ length txn.old.log }
     requires named { AreNamed parts.old txn.old.log }
     ensures parts { parts.new ≡ undone parts.old (last_of count txn.old.log) }
-    ensures owners { (o : Object) → owner_of owners.new o ≡ (if is_in txn.old.objects o && not (is_in before o) then None else owner_of owners.old o) }
+    ensures owners { (o : Object) →
+        owner_of owners.new o
+        ≡ (if is_in txn.old.objects o && not (is_in before o)
+        then None else owner_of owners.old o) }
     ensures sized { length owners.new ≡ 352 }
     ensures txn { txn.new ≡ step_back count before held txn.old }
 {
@@ -152,7 +158,10 @@ fn take_last(txn: &mut Txn, parts: &mut Parts, count: usize, held: bool)
     requires few { count ≤ length txn.old.log }
     requires named { AreNamed parts.old txn.old.log }
     ensures parts { parts.new ≡ undone parts.old (last_of count txn.old.log) }
-    ensures txn { txn.new ≡ record txn.old { log = first_of count txn.old.log; outbox = less_last held txn.old.outbox } }
+    ensures txn { txn.new ≡ record txn.old {
+      log = first_of count txn.old.log;
+      outbox = less_last held txn.old.outbox;
+    } }
 {
     txn.log.give_back(parts, count);
     if held {

@@ -341,7 +341,8 @@ impl Space {
         bytes: &[u8],
     ) -> Result<SmallVec<NewPage, 2>, NoMemory>
         requires { start + length bytes.now ≤ 1024 }
-        ensures after { IfOk result (λ pages. with_pages self.now pages.items ≡ put_bytes self.now start bytes.now) }
+        ensures after { IfOk result (λ pages.
+            with_pages self.now pages.items ≡ put_bytes self.now start bytes.now) }
         ensures numbers { IfOk result (λ pages. AreNumbered pages.items) }
     {
         let _ = &self.pages;

@@ -30,7 +30,8 @@ pub fn front_twice()
         let now = front_exchanged count bytes held in
         let given = front_given count bytes held in
         let next = count_given count bytes held in
-        (front_exchanged next given now ≡ held) × (front_given next given now ≡ bytes) × (count_given next given now ≡ count) }
+        (front_exchanged next given now ≡ held) × (front_given next given now ≡ bytes)
+        × (count_given next given now ≡ count) }
 {}
 
 /// Two exchanges of bytes at the back are nothing: the pipe, the other bytes and the number come
@@ -40,5 +41,6 @@ pub fn back_twice()
         let now = back_exchanged count bytes held in
         let given = back_given count bytes held in
         let next = count_given count bytes held in
-        (back_exchanged next given now ≡ held) × (back_given next given now ≡ bytes) × (count_given next given now ≡ count) }
+        (back_exchanged next given now ≡ held) × (back_given next given now ≡ bytes)
+        × (count_given next given now ≡ count) }
 {}

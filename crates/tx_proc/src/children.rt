@@ -55,7 +55,8 @@ impl ChildCounts {
 
     /// Counts one child more of a parent.
     fn raise(&mut self, parent: Pid)
-        requires { parent.0 < length self.old → slice_index_or self.old parent.0 0 < length self.old }
+        requires { parent.0 < length self.old →
+            slice_index_or self.old parent.0 0 < length self.old }
         ensures { self.new ≡ slice_set self.old parent.0 (slice_index_or self.old parent.0 0 + 1) }
     {
         let place = parent.0 as usize;

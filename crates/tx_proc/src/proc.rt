@@ -49,7 +49,8 @@ impl Proc {
     /// this is: a copy with the answer 0 at the point after the call, to which no signal is pending
     /// (POSIX.1-2017, XSH, fork()).
     pub fn child(&self, parent: Pid, space: Space) -> Proc
-        ensures { process_of result ≡ record (child_of parent.0 (process_of self.now)) { memory = space } }
+        ensures { process_of result
+            ≡ record (child_of parent.0 (process_of self.now)) { memory = space } }
     {
         let answer = Answer::at(self.regs.point, 0);
         Proc {
@@ -197,7 +198,8 @@ fn swap_answer(regs: &mut Regs, answer: &mut Answer)
 #[inline(never)] // inlined, each exchange of a part would save the registers that it takes
 #[tactic(auto, using(crate::proofs::Limits::queue_fits, crate::proofs::Limits::entry_fits))]
 fn swap_entry(pending: &mut Pending, place: usize, entry: &mut Option<Queued>)
-    ensures pending { pending.new ≡ record pending.old { queued = queue_swapped place entry.old pending.old.queued } }
+    ensures pending { pending.new
+        ≡ record pending.old { queued = queue_swapped place entry.old pending.old.queued } }
     ensures entry { entry.new ≡ queue_given place entry.old pending.old.queued }
 {
     let _fits = pending.queued();

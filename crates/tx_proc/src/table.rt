@@ -132,7 +132,9 @@ impl ProcTable {
         requires low { 1 ≤ pid.0 }
         requires high { pid.0 ≤ length self.old }
         requires place { HasPlace part.old }
-        ensures exchanged { self.new ≡ with_slot self.old pid.0 (option_map (λ proc. edited_once proc part.old) (slot_at self.old pid.0)) }
+        ensures exchanged { self.new
+            ≡ with_slot self.old pid.0
+            (option_map (λ proc. edited_once proc part.old) (slot_at self.old pid.0)) }
         ensures given { part.new ≡ part_in (slot_at self.old pid.0) part.old }
     {
         let ProcTable { slots, children } = self;
@@ -146,7 +148,9 @@ impl ProcTable {
     pub fn swap_pending(&mut self, pid: Pid, pending: &mut Pending)
         requires low { 1 ≤ pid.0 }
         requires high { pid.0 ≤ length self.old }
-        ensures exchanged { self.new ≡ with_slot self.old pid.0 (option_map (with_pending pending.old) (slot_at self.old pid.0)) }
+        ensures exchanged { self.new
+            ≡ with_slot self.old pid.0
+            (option_map (with_pending pending.old) (slot_at self.old pid.0)) }
         ensures given { pending.new ≡ pending_in (slot_at self.old pid.0) pending.old }
     {
         if let Some(boxed) = &mut self.slots[pid.0 as usize - 1] {
@@ -171,7 +175,8 @@ fn exchange_part(boxed: &mut BoxedProc, part: &mut Part, children: &mut ChildCou
     requires counted { HasOne (Some boxed.old.parent) children.old }
     ensures proc { boxed.new ≡ edited_once boxed.old part.old }
     ensures part { part.new ≡ part_of boxed.old part.old }
-    ensures children { Recounts (Some boxed.old.parent) (Some boxed.new.parent) children.old children.new }
+    ensures children { Recounts (Some boxed.old.parent) (Some boxed.new.parent) children.old
+        children.new }
 {
     if let Part::Parent(coming) = part {
         children.recount(Some(boxed.parent()), Some(*coming));

@@ -24,15 +24,18 @@ impl Counts {
     pub fn count(&mut self, number: u16)
         requires number { IsNumber number }
         requires room { slice_index self.old.by_place (number - 1) + 1 < 2 ^ 64 }
-        ensures { (list : List ℕ) → HasCounted self.old.by_place list → HasCounted self.new.by_place (list ++ number ∷ []) }
+        ensures { (list : List ℕ) → HasCounted self.old.by_place list →
+            HasCounted self.new.by_place (list ++ number ∷ []) }
     {
         self.by_place[usize::from(number) - 1] += 1;
     }
 
     /// Counts what another has counted, too.
     pub fn add(&mut self, other: &Counts)
-        requires room { (place : ℕ) → place < 256 → slice_index self.old.by_place place + slice_index other.now.by_place place < 2 ^ 64 }
-        ensures { (mine theirs : List ℕ) → HasCounted self.old.by_place mine → HasCounted other.now.by_place theirs → HasCounted self.new.by_place (mine ++ theirs) }
+        requires room { (place : ℕ) → place < 256 →
+            slice_index self.old.by_place place + slice_index other.now.by_place place < 2 ^ 64 }
+        ensures { (mine theirs : List ℕ) → HasCounted self.old.by_place mine →
+            HasCounted other.now.by_place theirs → HasCounted self.new.by_place (mine ++ theirs) }
     {
         for (place, count) in other.by_place.iter().enumerate() {
             self.by_place[place] += *count;

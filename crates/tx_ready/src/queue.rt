@@ -34,7 +34,8 @@ impl ReadyQueue {
     ) -> Result<(ReadyQueue, Station), NoMemory>
         requires count { IsNumber count }
         ensures queue { IfOk result (λ opened. IsStationOf opened.0 opened.1) }
-        ensures numbers { IfOk result (λ opened. opened.1.hand ≡ hand 65536 (range_with_len 1 count) []) }
+        ensures numbers { IfOk result (λ opened.
+            opened.1.hand ≡ hand 65536 (range_with_len 1 count) []) }
         ensures each { IfOk result (λ opened. HoldsEach count opened.1.hand) }
     {
         let (ring, pass) = Ring::ruled(alloc, usize::from(count))?;
@@ -59,7 +60,8 @@ impl ReadyQueue {
         ensures other { station.new.hand ≡ keeps station.old.hand }
         ensures begins { result.hand ≡ begins }
         ensures back { GivesBack result.hand }
-        ensures each { (count : ℕ) → HoldsEach count station.old.hand → HoldsEach count station.new.hand }
+        ensures each { (count : ℕ) → HoldsEach count station.old.hand →
+            HoldsEach count station.new.hand }
     {
         let pass = self.ring.another::<Cut>(&mut station.pass);
         Station {
@@ -76,7 +78,8 @@ impl ReadyQueue {
         requires room { length station.old.hand.put < 2 ^ 63 }
         ensures queue { IsStationOf self.now station.new }
         ensures put { station.new.hand ≡ puts station.old.hand pid.0 }
-        ensures back { (held : Hand) → GivesBack held → station.old.hand ≡ takes held pid.0 → GivesBack station.new.hand }
+        ensures back { (held : Hand) → GivesBack held → station.old.hand ≡ takes held pid.0 →
+            GivesBack station.new.hand }
     {
         self.push(rt, &mut station.pass, pid.0);
         station.pushed.count(pid.0);
@@ -88,9 +91,11 @@ impl ReadyQueue {
         requires queue { IsStationOf self.now station.old }
         requires room { length station.old.hand.taken < 2 ^ 63 }
         ensures queue { IsStationOf self.now station.new }
-        ensures taken { MatchOption result (station.new.hand ≡ station.old.hand) (λ pid. station.new.hand ≡ takes station.old.hand pid.0) }
+        ensures taken { MatchOption result (station.new.hand ≡ station.old.hand) (λ pid.
+            station.new.hand ≡ takes station.old.hand pid.0) }
         ensures number { IfSome result (λ pid. IsNumber pid.0) }
-        ensures empty { IfNone result (station.old.hand.parts ≡ 65536 → GivesBack station.old.hand) }
+        ensures empty { IfNone result
+            (station.old.hand.parts ≡ 65536 → GivesBack station.old.hand) }
     {
         let number = self.ring.pop_as::<Takes, R>(rt, &mut station.pass)?;
         station.popped.count(number);
@@ -104,7 +109,8 @@ impl ReadyQueue {
         requires taken_room { length station.old.hand.taken + length other.hand.taken < 2 ^ 64 }
         ensures queue { IsStationOf self.now station.new }
         ensures both { station.new.hand ≡ both station.old.hand other.hand }
-        ensures each { (count : ℕ) → HoldsEach count station.old.hand → GivesBack other.hand → HoldsEach count station.new.hand }
+        ensures each { (count : ℕ) → HoldsEach count station.old.hand → GivesBack other.hand →
+            HoldsEach count station.new.hand }
     {
         station.pushed.add(&other.pushed);
         station.popped.add(&other.popped);
@@ -117,7 +123,8 @@ impl ReadyQueue {
         requires queue { IsStationOf self station }
         requires whole { station.hand.parts ≡ 65536 }
         ensures tally { IsTally station.hand result }
-        ensures each { (count : ℕ) → count ≤ 256 → HoldsEach count station.hand → LeavesEach count result }
+        ensures each { (count : ℕ) → count ≤ 256 → HoldsEach count station.hand →
+            LeavesEach count result }
     {
         let Station {
             mut pass,

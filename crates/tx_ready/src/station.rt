@@ -21,5 +21,6 @@ impl Model for Station {
 
     ghost view = { λ station. record { queue = station.pass.table_id; hand = knows station.pass } };
 
-    ghost invariant = { λ station. IsKept station.pass station.pushed.by_place station.popped.by_place };
+    ghost invariant = { λ station. IsKept station.pass station.pushed.by_place
+        station.popped.by_place };
 }

@@ -5,3 +5,4 @@ pub mod Rows
 pub mod Silent
 pub mod Within
 pub mod SameOwners
+pub mod AnyStep

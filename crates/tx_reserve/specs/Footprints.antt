@@ -6,8 +6,11 @@ use Rattle.tx_base.specs.declared.names.Sending.{Sending}
 use Rattle.tx_base.specs.declared.names.Signo.{Signo}
 use Rattle.tx_base.specs.declared.steps.Call.{Call}
 use Rattle.tx_base.specs.declared.steps.Call.TheVariants as call
+use Rattle.tx_base.specs.declared.steps.Step.{Step}
+use Rattle.tx_base.specs.declared.steps.Step.TheVariants.{Call as Calls, Deliver, KernelAbort}
+use Rattle.tx_change.specs.Exchange.{IsPid, sizes_of}
 use Rattle.tx_change.specs.declared.parts.Parts.{Parts}
-use Rattle.tx_kernel.specs.Actors.{inside_of, me_of}
+use Rattle.tx_kernel.specs.Actors.{IsWhole, inside_of, me_of}
 use Rattle.tx_kernel.specs.Plans.{sending_of}
 use Rattle.tx_kernel.specs.declared.actor.Actor.{Actor}
 use Rattle.tx_model.specs.Deliveries.{delivered_value, ends_by}
@@ -23,6 +26,12 @@ table_of parts marks = record { width = length parts.procs; marks = slot_at mark
 -- the table of the marks, for who makes the step
 abbrev pub table_at : Actor → List (Option Mark) → Table
 table_at actor marks = table_of actor.parts.now marks
+
+-- the actor is the process of its number, which runs or has ended
+pub record IsPlaced (actor : Actor) : Type 0 where
+  pub whole : IsWhole actor.parts.now
+  pub number : IsPid (sizes_of actor.parts.now) actor.pid.0
+  pub there : slot_at actor.parts.now.procs actor.pid.0 ≡ Some actor.proc.now
 
 -- the step is made inside of the transaction that the marks say
 abbrev pub IsInside : Actor → List (Option Mark) → Type 0
@@ -58,6 +67,17 @@ GoesWithCall actor marks call last held = GoesIf (ends_part actor.pid.0 call) ac
 
 abbrev pub GoesWithDelivery : Actor → List (Option Mark) → Signo → Option (List Sending) → (ℕ → List TheSending) → Type 0
 GoesWithDelivery actor marks signo last held = GoesIf (ends_actor actor signo) actor marks last held
+
+-- this is what the transaction holds that a process of this mark is a member of
+abbrev pub HoldsBy : Option Mark → List Sending → (ℕ → List TheSending) → Type 0
+HoldsBy None sends held = Unit {0}
+HoldsBy (Some mark) sends held = held mark.starter.0 ≡ map sending_of sends
+
+-- this is what the transaction holds that the process of the step is a member of
+abbrev pub HoldsFor : List (Option Mark) → Step → List Sending → (ℕ → List TheSending) → Type 0
+HoldsFor marks (Calls p call) sends held = HoldsBy (slot_at marks p.0) sends held
+HoldsFor marks (Deliver p signo) sends held = HoldsBy (slot_at marks p.0) sends held
+HoldsFor marks (KernelAbort starter) sends held = Unit {0}
 
 -- the set has these objects, those of numbers that there may not be left out
 pub record IsSetOf (objects : Objects) (these : List Object) : Type 0 where

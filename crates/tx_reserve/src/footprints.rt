@@ -1,11 +1,10 @@
 //! The footprint of a step: the objects that a member's step reserves, a row for each call.
 ghost use Rattle.std.specs.Option.{option_copied};
-ghost use Rattle.std.specs.Prelude.{◌≡◌, ◌≤◌, false, not, ◌∷◌, ◌++◌, [], ℕ, List, if◌then◌else◌, ◌==◌, map, length};
-ghost use Rattle.tx_base.specs.Slots.{slot_at};
+ghost use Rattle.std.specs.Prelude.{◌≡◌, ◌≤◌, false, not, ◌∷◌, [], ℕ, List, if◌then◌else◌, ◌==◌, map, length};
 ghost use Rattle.tx_base.specs.declared.steps.Step.TheVariants.{Call as Calls, Deliver};
 ghost use Rattle.tx_change.specs.States.{state_of};
 ghost use Rattle.tx_desc.specs.Places.{number_in};
-ghost use Rattle.tx_kernel.specs.Actors.{IsActor, inside_of, me_of};
+ghost use Rattle.tx_kernel.specs.Actors.{inside_of, me_of};
 ghost use Rattle.tx_kernel.specs.Plans.{sending_of};
 ghost use Rattle.tx_model.specs.Descriptors.{desc_objects, desc_pipe_objects, descriptor, option_list, description_named, open_in};
 ghost use Rattle.tx_model.specs.Words.{dup2_objects, pipe_objects, fork_objects, waitpid_objects};
@@ -15,7 +14,7 @@ ghost use Rattle.tx_model.specs.Membership.{is_of};
 ghost use Rattle.tx_model.specs.Processes.{children_of, pid_of, procs_of};
 ghost use Rattle.tx_model.specs.Book.{sendable};
 ghost use Rattle.tx_model.specs.State.{Object as TheObject, Proc, Sending as TheSending, has_parent};
-ghost use Rattle.tx_reserve.specs.Footprints.{Adds, GoesIf, GoesWith, GoesWithCall, GoesWithDelivery, IsInside, IsSetOf, table_at};
+ghost use Rattle.tx_reserve.specs.Footprints.{Adds, GoesIf, GoesWith, GoesWithCall, GoesWithDelivery, IsInside, IsPlaced, IsSetOf, table_at};
 ghost use Rattle.tx_reserve.specs.Objects.{is_in};
 
 use crate::objects::{Object, Objects};
@@ -36,12 +35,13 @@ pub fn footprint_of_call(
     call: &Call,
     set: &mut Objects,
 )
-    requires actor { IsActor actor.now }
+    requires actor { IsPlaced actor.now }
     requires inside { IsInside actor.now marks.now }
     requires empty { (o : TheObject) → is_in set.old o ≡ false }
     ensures { (held : ℕ → List TheSending) →
         GoesWithCall actor.now marks.now call.now (option_copied last.entry) held →
-        IsSetOf set.new (footprint (table_at actor.now marks.now) (Calls actor.now.pid call.now) (state_of held actor.now.parts.now)) }
+        IsSetOf set.new (footprint (table_at actor.now marks.now) (Calls actor.now.pid call.now)
+        (state_of held actor.now.parts.now)) }
 {
     set.insert(Object::Proc(actor.pid));
     add_call(actor, marks, last, call, set);
@@ -56,12 +56,13 @@ pub fn footprint_of_delivery(
     signo: Signo,
     set: &mut Objects,
 )
-    requires actor { IsActor actor.now }
+    requires actor { IsPlaced actor.now }
     requires inside { IsInside actor.now marks.now }
     requires empty { (o : TheObject) → is_in set.old o ≡ false }
     ensures { (held : ℕ → List TheSending) →
         GoesWithDelivery actor.now marks.now signo (option_copied last.entry) held →
-        IsSetOf set.new (footprint (table_at actor.now marks.now) (Deliver actor.now.pid signo) (state_of held actor.now.parts.now)) }
+        IsSetOf set.new (footprint (table_at actor.now marks.now) (Deliver actor.now.pid signo)
+        (state_of held actor.now.parts.now)) }
 {
     set.insert(Object::Proc(actor.pid));
     add_delivery(actor, marks, last, signo, set);
@@ -75,11 +76,13 @@ fn add_call(
     call: &Call,
     set: &mut Objects,
 )
-    requires actor { IsActor actor.now }
+    requires actor { IsPlaced actor.now }
     requires inside { IsInside actor.now marks.now }
     ensures { (held : ℕ → List TheSending) →
         GoesWithCall actor.now marks.now call.now (option_copied last.entry) held →
-        Adds set.old set.new (call_row (table_at actor.now marks.now) actor.now.pid.0 call.now (me_of actor.now) (state_of held actor.now.parts.now)) }
+        Adds set.old set.new
+        (call_row (table_at actor.now marks.now) actor.now.pid.0 call.now (me_of actor.now)
+        (state_of held actor.now.parts.now)) }
 {
     match call {
         Call::Fork(child) => add_fork(actor, *child, set),
@@ -107,11 +110,13 @@ fn add_delivery(
     signo: Signo,
     set: &mut Objects,
 )
-    requires actor { IsActor actor.now }
+    requires actor { IsPlaced actor.now }
     requires inside { IsInside actor.now marks.now }
     ensures { (held : ℕ → List TheSending) →
         GoesWithDelivery actor.now marks.now signo (option_copied last.entry) held →
-        Adds set.old set.new (delivery_row (table_at actor.now marks.now) actor.now.pid.0 signo.0 (me_of actor.now) (state_of held actor.now.parts.now)) }
+        Adds set.old set.new
+        (delivery_row (table_at actor.now marks.now) actor.now.pid.0 signo.0 (me_of actor.now)
+        (state_of held actor.now.parts.now)) }
 {
     if actor.is_ended_by(signo) {
         add_ending(actor, marks, last, set);
@@ -128,11 +133,14 @@ fn add_fork(actor: &Actor, child: Pid, set: &mut Objects)
 
 /// Puts what an exit names into a set: nothing where process 1 makes it.
 fn add_exit(actor: &Actor, marks: &Slots<Mark>, last: Option<&[Sending]>, set: &mut Objects)
-    requires actor { IsActor actor.now }
+    requires actor { IsPlaced actor.now }
     requires inside { IsInside actor.now marks.now }
     ensures { (held : ℕ → List TheSending) →
         GoesIf (not (actor.now.pid.0 == 1)) actor.now marks.now (option_copied last.entry) held →
-        Adds set.old set.new (if actor.now.pid.0 == 1 then [] else ending_row (table_at actor.now marks.now) actor.now.pid.0 (me_of actor.now) (state_of held actor.now.parts.now)) }
+        Adds set.old set.new
+        (if actor.now.pid.0 == 1 then []
+        else ending_row (table_at actor.now marks.now) actor.now.pid.0 (me_of actor.now)
+        (state_of held actor.now.parts.now)) }
 {
     if actor.pid.0 == 1 {
         return;
@@ -142,8 +150,9 @@ fn add_exit(actor: &Actor, marks: &Slots<Mark>, last: Option<&[Sending]>, set: &
 
 /// Puts the process of a number that a program computed into a set.
 fn add_waitpid(actor: &Actor, number: i64, set: &mut Objects)
-    requires { IsActor actor.now }
-    ensures { (held : ℕ → List TheSending) → Adds set.old set.new (waitpid_objects number (state_of held actor.now.parts.now)) }
+    requires { IsPlaced actor.now }
+    ensures { (held : ℕ → List TheSending) →
+        Adds set.old set.new (waitpid_objects number (state_of held actor.now.parts.now)) }
 {
     if let Some(child) = actor.numbered(number) {
         set.insert(Object::Proc(child));
@@ -162,7 +171,10 @@ fn add_pipe(pipe: PipeNo, read: DescNo, write: DescNo, set: &mut Objects)
 /// Puts what a dup2 names into a set: the description of the one descriptor, and what the other
 /// gives up.
 fn add_dup2(actor: &Actor, fd: i64, other: i64, set: &mut Objects)
-    ensures { (held : ℕ → List TheSending) → Adds set.old set.new (dup2_objects (descriptor fd) (descriptor other) (me_of actor.now) (state_of held actor.now.parts.now)) }
+    ensures { (held : ℕ → List TheSending) →
+        Adds set.old set.new
+        (dup2_objects (descriptor fd) (descriptor other) (me_of actor.now)
+        (state_of held actor.now.parts.now)) }
 {
     add_desc(description(actor, fd), set);
     if fd == other {
@@ -174,9 +186,11 @@ fn add_dup2(actor: &Actor, fd: i64, other: i64, set: &mut Objects)
 /// Puts the target of a kill or a sigqueue into a set, where they are of a good process number and a
 /// signal that may be sent.
 fn add_send(actor: &Actor, marks: &Slots<Mark>, target: i64, signo: i64, set: &mut Objects)
-    requires actor { IsActor actor.now }
+    requires actor { IsPlaced actor.now }
     requires inside { IsInside actor.now marks.now }
-    ensures { Adds set.old set.new (send_row (table_at actor.now marks.now) actor.now.pid.0 (pid_of (length actor.now.parts.now.procs) target) (sendable signo)) }
+    ensures { Adds set.old set.new
+        (send_row (table_at actor.now marks.now) actor.now.pid.0
+        (pid_of (length actor.now.parts.now.procs) target) (sendable signo)) }
 {
     let Some(target) = actor.numbered(target) else {
         return;
@@ -190,10 +204,13 @@ fn add_send(actor: &Actor, marks: &Slots<Mark>, target: i64, signo: i64, set: &m
 /// Puts what the end of the process names into a set: what its descriptors name, its children, its
 /// parent, and what is posted where it commits.
 fn add_ending(actor: &Actor, marks: &Slots<Mark>, last: Option<&[Sending]>, set: &mut Objects)
-    requires actor { IsActor actor.now }
+    requires actor { IsPlaced actor.now }
     requires inside { IsInside actor.now marks.now }
-    ensures { (held : ℕ → List TheSending) → GoesWith actor.now marks.now (option_copied last.entry) held →
-        Adds set.old set.new (ending_row (table_at actor.now marks.now) actor.now.pid.0 (me_of actor.now) (state_of held actor.now.parts.now)) }
+    ensures { (held : ℕ → List TheSending) →
+        GoesWith actor.now marks.now (option_copied last.entry) held →
+        Adds set.old set.new
+        (ending_row (table_at actor.now marks.now) actor.now.pid.0 (me_of actor.now)
+        (state_of held actor.now.parts.now)) }
 {
     add_open_and_pipes(actor, set);
     add_children(actor, set);
@@ -204,7 +221,10 @@ fn add_ending(actor: &Actor, marks: &Slots<Mark>, last: Option<&[Sending]>, set:
 /// Puts the parent that is told at once of the end of the process into a set.
 fn add_parent(actor: &Actor, marks: &Slots<Mark>, set: &mut Objects)
     requires { IsInside actor.now marks.now }
-    ensures { Adds set.old set.new (if actor.now.proc.now.parent.0 == 1 then [] else target_row (table_at actor.now marks.now) actor.now.pid.0 actor.now.proc.now.parent.0) }
+    ensures { Adds set.old set.new
+        (if actor.now.proc.now.parent.0 == 1 then []
+        else target_row (table_at actor.now marks.now) actor.now.pid.0
+        actor.now.proc.now.parent.0) }
 {
     let parent = actor.proc.parent;
     if parent.0 == 1 {
@@ -217,8 +237,12 @@ fn add_parent(actor: &Actor, marks: &Slots<Mark>, set: &mut Objects)
 /// parent that is told then.
 fn add_last(actor: &Actor, marks: &Slots<Mark>, last: Option<&[Sending]>, set: &mut Objects)
     requires { IsInside actor.now marks.now }
-    ensures { (held : ℕ → List TheSending) → GoesWith actor.now marks.now (option_copied last.entry) held →
-        Adds set.old set.new (commit_row (table_at actor.now marks.now) actor.now.pid.0 (told_for_later (table_at actor.now marks.now) actor.now.pid.0 actor.now.proc.now.parent.0) (state_of held actor.now.parts.now)) }
+    ensures { (held : ℕ → List TheSending) →
+        GoesWith actor.now marks.now (option_copied last.entry) held →
+        Adds set.old set.new
+        (commit_row (table_at actor.now marks.now) actor.now.pid.0
+        (told_for_later (table_at actor.now marks.now) actor.now.pid.0
+        actor.now.proc.now.parent.0) (state_of held actor.now.parts.now)) }
 {
     let Some(sends) = last else {
         return;
@@ -230,7 +254,10 @@ fn add_last(actor: &Actor, marks: &Slots<Mark>, last: Option<&[Sending]>, set: &
 /// Puts the parent that is told of the end of the process when that commits into a set.
 fn add_told(actor: &Actor, marks: &Slots<Mark>, set: &mut Objects)
     requires { IsInside actor.now marks.now }
-    ensures { Adds set.old set.new (targets (table_at actor.now marks.now) actor.now.pid.0 (told_for_later (table_at actor.now marks.now) actor.now.pid.0 actor.now.proc.now.parent.0)) }
+    ensures { Adds set.old set.new
+        (targets (table_at actor.now marks.now) actor.now.pid.0
+        (told_for_later (table_at actor.now marks.now) actor.now.pid.0
+        actor.now.proc.now.parent.0)) }
 {
     let parent = actor.proc.parent;
     if parent.0 == 1 {
@@ -243,8 +270,11 @@ fn add_told(actor: &Actor, marks: &Slots<Mark>, set: &mut Objects)
 
 /// Puts the targets of what is held into a set, where a sys_xend commits it.
 fn add_commit(actor: &Actor, marks: &Slots<Mark>, last: Option<&[Sending]>, set: &mut Objects)
-    ensures { (held : ℕ → List TheSending) → GoesWith actor.now marks.now (option_copied last.entry) held →
-        Adds set.old set.new (commit_row (table_at actor.now marks.now) actor.now.pid.0 [] (state_of held actor.now.parts.now)) }
+    ensures { (held : ℕ → List TheSending) →
+        GoesWith actor.now marks.now (option_copied last.entry) held →
+        Adds set.old set.new
+        (commit_row (table_at actor.now marks.now) actor.now.pid.0 []
+        (state_of held actor.now.parts.now)) }
 {
     if let Some(sends) = last {
         add_sends(actor, marks, sends, set);
@@ -253,7 +283,8 @@ fn add_commit(actor: &Actor, marks: &Slots<Mark>, last: Option<&[Sending]>, set:
 
 /// Puts the targets of sends into a set, but for the live starters of other transactions.
 fn add_sends(actor: &Actor, marks: &Slots<Mark>, sends: &[Sending], set: &mut Objects)
-    ensures { Adds set.old set.new (targets (table_at actor.now marks.now) actor.now.pid.0 (map sending_of sends.now)) }
+    ensures { Adds set.old set.new
+        (targets (table_at actor.now marks.now) actor.now.pid.0 (map sending_of sends.now)) }
 {
     for sending in sends {
         add_posted(actor, marks, sending.target, set);
@@ -278,7 +309,9 @@ fn add_desc(number: Option<DescNo>, set: &mut Objects)
 
 /// Puts a description, if there is one, and its pipe into a set.
 fn add_desc_and_pipe(actor: &Actor, number: Option<DescNo>, set: &mut Objects)
-    ensures { (held : ℕ → List TheSending) → Adds set.old set.new (desc_pipe_objects (option_list (number_in number)) (state_of held actor.now.parts.now)) }
+    ensures { (held : ℕ → List TheSending) →
+        Adds set.old set.new
+        (desc_pipe_objects (option_list (number_in number)) (state_of held actor.now.parts.now)) }
 {
     let Some(number) = number else {
         return;
@@ -301,7 +334,10 @@ fn add_open(descriptors: &FdTable, set: &mut Objects)
 
 /// Puts what the descriptors name into a set, with the pipes.
 fn add_open_and_pipes(actor: &Actor, set: &mut Objects)
-    ensures { (held : ℕ → List TheSending) → Adds set.old set.new (desc_pipe_objects (open_in actor.now.proc.now.descriptors) (state_of held actor.now.parts.now)) }
+    ensures { (held : ℕ → List TheSending) →
+        Adds set.old set.new
+        (desc_pipe_objects (open_in actor.now.proc.now.descriptors)
+        (state_of held actor.now.parts.now)) }
 {
     actor.proc.descriptors.sized();
     for fd in 0..DESCRIPTORS {
@@ -313,7 +349,9 @@ fn add_open_and_pipes(actor: &Actor, set: &mut Objects)
 fn add_children(actor: &Actor, set: &mut Objects)
     requires few { length actor.now.parts.now.procs ≤ 256 }
     requires number { actor.now.pid.0 ≤ length actor.now.parts.now.procs }
-    ensures { (held : ℕ → List TheSending) → Adds set.old set.new (procs_of (children_of actor.now.pid.0 (state_of held actor.now.parts.now))) }
+    ensures { (held : ℕ → List TheSending) →
+        Adds set.old set.new
+        (procs_of (children_of actor.now.pid.0 (state_of held actor.now.parts.now))) }
 {
     if actor.pid.0 == 1 {
         return;
@@ -328,7 +366,10 @@ fn add_children(actor: &Actor, set: &mut Objects)
 
 /// Puts a process into a set, where it is a child of the process.
 fn add_child(actor: &Actor, child: Pid, set: &mut Objects)
-    ensures { (held : ℕ → List TheSending) → Adds set.old set.new (if has_parent actor.now.pid.0 ((state_of held actor.now.parts.now).procs child.0) then Proc child.0 ∷ [] else []) }
+    ensures { (held : ℕ → List TheSending) →
+        Adds set.old set.new
+        (if has_parent actor.now.pid.0 ((state_of held actor.now.parts.now).procs child.0)
+        then Proc child.0 ∷ [] else []) }
 {
     if is_child(actor, child) {
         set.insert(Object::Proc(child));
@@ -337,7 +378,8 @@ fn add_child(actor: &Actor, child: Pid, set: &mut Objects)
 
 /// Whether it is a child of the process.
 fn is_child(actor: &Actor, child: Pid) -> bool
-    ensures { (held : ℕ → List TheSending) → result ≡ has_parent actor.now.pid.0 ((state_of held actor.now.parts.now).procs child.0) }
+    ensures { (held : ℕ → List TheSending) →
+        result ≡ has_parent actor.now.pid.0 ((state_of held actor.now.parts.now).procs child.0) }
 {
     match actor.parts.procs.parent_of(child) {
         Some(parent) => parent == actor.pid,
@@ -349,7 +391,8 @@ fn is_child(actor: &Actor, child: Pid) -> bool
 /// of another transaction.
 fn add_target(actor: &Actor, marks: &Slots<Mark>, target: Pid, set: &mut Objects)
     requires { IsInside actor.now marks.now }
-    ensures { Adds set.old set.new (target_row (table_at actor.now marks.now) actor.now.pid.0 target.0) }
+    ensures { Adds set.old set.new
+        (target_row (table_at actor.now marks.now) actor.now.pid.0 target.0) }
 {
     if is_for_later(actor, target) {
         return;
@@ -359,7 +402,9 @@ fn add_target(actor: &Actor, marks: &Slots<Mark>, target: Pid, set: &mut Objects
 
 /// Puts the target of a post into a set, unless it is the live starter of another transaction.
 fn add_posted(actor: &Actor, marks: &Slots<Mark>, target: Pid, set: &mut Objects)
-    ensures { Adds set.old set.new (if is_other_starter (table_at actor.now marks.now) actor.now.pid.0 target.0 then [] else Proc target.0 ∷ []) }
+    ensures { Adds set.old set.new
+        (if is_other_starter (table_at actor.now marks.now) actor.now.pid.0 target.0 then []
+        else Proc target.0 ∷ []) }
 {
     if is_other_starter(actor, marks, target) {
         return;

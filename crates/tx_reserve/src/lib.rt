@@ -1,9 +1,7 @@
 #![tactic(auto)]
 //! What the steps of transactions reserve: sets of objects, who owns each, and the footprint of a
-//! step. Nothing but `Reservations::new` takes memory.
-//!
-//! What the steps of transactions reserve. Nothing but `Reservations::new` takes memory, and each
-//! call costs the objects of its set and never the size of a table.
+//! step. Nothing but `Reservations::new` takes memory, and each call costs the objects of its set and
+//! never the size of a table, but for `footprint`.
 //!
 //! `Objects` is a set of processes 1 to 256, descriptions 0 to 63 and pipes 0 to 31: a bit for
 //! each, 44 bytes that are copied. Contracts say of each object whether it is in (`is_in`); what
@@ -23,13 +21,19 @@
 //! commit, so only there does it matter what is given: the held sends exactly where no other member's
 //! part is open (`GoesWithCall`, `GoesWithDelivery`). A caller need not look at the other members for
 //! any other step. Calls that name nothing but their process cost one bit.
+//!
+//! `footprint` is the footprint of any step, also of one whose process is missing or has ended. The
+//! machine does not ask it: it has found the process, and knows from what the step is to the
+//! transactions whether it commits, where `footprint` looks at each mark.
 
 mod footprints;
 mod laws;
 mod objects;
 mod reservations;
+mod step_footprint;
 
 pub use footprints::{footprint_of_call, footprint_of_delivery};
 pub use laws::{footprints_are_within, owners_are_told};
 pub use objects::{Object, Objects};
 pub use reservations::Reservations;
+pub use step_footprint::footprint;

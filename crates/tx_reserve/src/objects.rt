@@ -1,7 +1,7 @@
 //! Sets of objects.
 ghost use Rattle.std.specs.Prelude.{◌≡◌, ◌<◌, ◌≤◌, ◌*◌, ◌↔◌, ◌||◌, ◌&&◌, ◌==◌, ℕ, true, false, not, if◌then◌else◌, sum, IsTrue, IfNone, IfSome};
 ghost use Rattle.tx_model.specs.State.{Object as TheObject, Proc, same_object};
-ghost use Rattle.tx_reserve.specs.Objects.{TakesOut, has_place, is_in, is_small, object_of, place_of, weight};
+ghost use Rattle.tx_reserve.specs.Objects.{TakesOut, has_place, is_in, is_small, object_of, place_of};
 
 use tx_base::{DescNo, Pid, PipeNo};
 
@@ -68,7 +68,9 @@ impl Objects {
 
     /// Puts an object into the set. A number that none may have changes nothing.
     pub fn insert(&mut self, object: Object)
-        ensures { (o : TheObject) → is_in self.new o ≡ (if same_object o (object_of object) then is_small o else is_in self.old o) }
+        ensures { (o : TheObject) →
+            is_in self.new o ≡ (if same_object o (object_of object) then is_small o
+            else is_in self.old o) }
     {
         if let Some(place) = object.place() {
             self.put_place(place);
@@ -141,7 +143,8 @@ impl Objects {
     /// The first place of the first so many words whose bit is set.
     fn first_place(&self, count: usize) -> Option<usize>
         requires { count ≤ 11 }
-        ensures none { IfNone result ((q : ℕ) → q < 32 * count → has_place self.now.words q ≡ false) }
+        ensures none { IfNone result
+            ((q : ℕ) → q < 32 * count → has_place self.now.words q ≡ false) }
         ensures within { IfSome result (λ place. place < 32 * count) }
         ensures set { IfSome result (λ place. has_place self.now.words place ≡ true) }
     {
@@ -157,11 +160,14 @@ impl Objects {
     /// Clears the first bit that is set in the first so many words, and answers its place.
     fn take_place(&mut self, count: usize) -> Option<usize>
         requires { count ≤ 11 }
-        ensures none { IfNone result ((q : ℕ) → q < 32 * count → has_place self.old.words q ≡ false) }
+        ensures none { IfNone result
+            ((q : ℕ) → q < 32 * count → has_place self.old.words q ≡ false) }
         ensures same { IfNone result (self.new ≡ self.old) }
         ensures within { IfSome result (λ place. place < 32 * count) }
         ensures set { IfSome result (λ place. has_place self.old.words place ≡ true) }
-        ensures cleared { IfSome result (λ place. (q : ℕ) → has_place self.new.words q ≡ (if q == place then false else has_place self.old.words q)) }
+        ensures cleared { IfSome result (λ place.
+            (q : ℕ) → has_place self.new.words q
+            ≡ (if q == place then false else has_place self.old.words q)) }
         ensures falls { IfSome result (λ place. sum self.new.words < sum self.old.words) }
     {
         let place = self.first_place(count)?;
@@ -172,7 +178,8 @@ impl Objects {
     /// Sets the bit of a place.
     fn put_place(&mut self, place: usize)
         requires { place < 352 }
-        ensures { (q : ℕ) → has_place self.new.words q ≡ (if q == place then true else has_place self.old.words q) }
+        ensures { (q : ℕ) → has_place self.new.words q
+            ≡ (if q == place then true else has_place self.old.words q) }
     {
         self.words[place / BITS] |= 1 << (place % BITS);
     }

@@ -61,7 +61,10 @@ impl Reservations {
 
     /// Gives the object this owner; an object of a number that none may have stays nobody's.
     fn set_owner(&mut self, object: Object, owner: Option<Pid>)
-        ensures { (o : TheObject) → owner_of self.new o ≡ (if same_object o (object_of object) then (if is_small o then option_map number_of owner else None) else owner_of self.old o) }
+        ensures { (o : TheObject) →
+            owner_of self.new o ≡ (if same_object o (object_of object)
+            then (if is_small o then option_map number_of owner else None)
+            else owner_of self.old o) }
     {
         if let Some(place) = object.place() {
             self.places[place] = owner;
@@ -71,7 +74,9 @@ impl Reservations {
     /// The least starter but this own one that owns one of the objects: the one that a busy step
     /// names. Nothing where nobody else owns one.
     pub fn conflict(&self, objects: &Objects, own: Option<Pid>) -> Option<Pid>
-        ensures { IsLeast (is_in objects.now) (λ o. unless (option_map number_of own) (owner_of self.now o)) (option_map number_of result) }
+        ensures { IsLeast (is_in objects.now)
+            (λ o. unless (option_map number_of own) (owner_of self.now o))
+            (option_map number_of result) }
     {
         let mut least = None;
         let mut rest = *objects;
@@ -83,7 +88,8 @@ impl Reservations {
 
     /// The object's owner, unless it is this own one: who a busy step names that names this object alone.
     pub fn other_owner(&self, object: Object, own: Option<Pid>) -> Option<Pid>
-        ensures { option_map number_of result ≡ unless (option_map number_of own) (owner_of self.now (object_of object)) }
+        ensures { option_map number_of result
+            ≡ unless (option_map number_of own) (owner_of self.now (object_of object)) }
     {
         let owner = self.owner(object)?;
         if own == Some(owner) {
@@ -95,8 +101,12 @@ impl Reservations {
 
     /// Makes the objects the starter's, and answers which of them nobody owned before.
     pub fn take(&mut self, starter: Pid, objects: &Objects) -> Objects
-        ensures taken { (o : TheObject) → owner_of self.new o ≡ (if is_in objects.now o then Some starter.0 else owner_of self.old o) }
-        ensures fresh { (o : TheObject) → is_in result o ≡ (if is_some (owner_of self.old o) then false else is_in objects.now o) }
+        ensures taken { (o : TheObject) →
+            owner_of self.new o ≡ (if is_in objects.now o then Some starter.0
+            else owner_of self.old o) }
+        ensures fresh { (o : TheObject) →
+            is_in result o ≡ (if is_some (owner_of self.old o) then false
+            else is_in objects.now o) }
     {
         let mut fresh = Objects::new();
         let mut rest = *objects;
@@ -111,7 +121,8 @@ impl Reservations {
 
     /// Makes the objects nobody's.
     pub fn release(&mut self, objects: &Objects)
-        ensures { (o : TheObject) → owner_of self.new o ≡ (if is_in objects.now o then None else owner_of self.old o) }
+        ensures { (o : TheObject) →
+            owner_of self.new o ≡ (if is_in objects.now o then None else owner_of self.old o) }
     {
         let mut rest = *objects;
         while let Some(object) = rest.pop() {
@@ -122,7 +133,8 @@ impl Reservations {
 
 /// The lesser of two numbers, of which either may be missing.
 fn lesser(a: Option<Pid>, b: Option<Pid>) -> Option<Pid>
-    ensures { option_map number_of result ≡ lesser_of (option_map number_of a) (option_map number_of b) }
+    ensures { option_map number_of result
+        ≡ lesser_of (option_map number_of a) (option_map number_of b) }
 {
     match (a, b) {
         (None, b) => b,

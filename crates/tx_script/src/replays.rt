@@ -13,7 +13,8 @@ use tx_lines::{Fault, Sink, Source, read_schedule, read_whole, write_whole};
 pub fn replay<S: Source, W: Sink>(alloc: Global, source: &mut S, sink: &mut W) -> Result<(), Fault>
     requires source { IsFresh (S.counts source.old) }
     requires sink { IsFresh (W.counts sink.old) }
-    ensures { Answers schedules (S.left source.old) (S.counts source.old) (W.written sink.old) (W.counts sink.old) result (S.counts source.new) (W.written sink.new) (W.counts sink.new) }
+    ensures { Answers schedules (S.left source.old) (S.counts source.old) (W.written sink.old)
+        (W.counts sink.old) result (S.counts source.new) (W.written sink.new) (W.counts sink.new) }
 {
     let text = read_whole(alloc, source)?;
     let report = replay_text(alloc, text.as_slice())?;

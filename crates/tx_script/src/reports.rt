@@ -22,7 +22,8 @@ use tx_text::put_reply;
 /// last one. The only fault is `NoMemory`.
 pub fn report(alloc: Global, schedule: &Schedule) -> Result<String, Fault>
     requires { FitsHeader schedule.now.header }
-    ensures text { IfOk result (λ text. string_bytes text ≡ report_text schedule.now.header schedule.now.steps.items) }
+    ensures text { IfOk result (λ text.
+        string_bytes text ≡ report_text schedule.now.header schedule.now.steps.items) }
     ensures fault { IfErr result (λ fault. fault ≡ NoMemory) }
 {
     let mut machine = boot(alloc, schedule.header)?;
@@ -52,9 +53,12 @@ fn put_replies(
     machine: &mut Machine,
     steps: &[Step],
 ) -> Result<(), Fault>
-    ensures text { OnOk result ((start : State) (earlier : List Accepted) → IsAfter start earlier machine.old →
-        string_bytes text.new ≡ string_bytes text.old ++ lines_text 1 (answers_of start earlier steps.now)) }
-    ensures after { OnOk result ((start : State) (earlier : List Accepted) → IsAfter start earlier machine.old →
+    ensures text { OnOk result
+        ((start : State) (earlier : List Accepted) → IsAfter start earlier machine.old →
+        string_bytes text.new ≡ string_bytes text.old
+        ++ lines_text 1 (answers_of start earlier steps.now)) }
+    ensures after { OnOk result
+        ((start : State) (earlier : List Accepted) → IsAfter start earlier machine.old →
         IsAfter start (history_of start earlier steps.now) machine.new) }
     ensures fault { IfErr result (λ fault. fault ≡ NoMemory) }
 {
@@ -76,7 +80,8 @@ fn make_step(
     inverse: &mut Inverse,
 ) -> Result<(), Fault>
     ensures answer { OnOk result (reply.new ≡ answer (view_of machine.old) step.now) }
-    ensures after { OnOk result ((start : State) (earlier : List Accepted) → IsAfter start earlier machine.old →
+    ensures after { OnOk result
+        ((start : State) (earlier : List Accepted) → IsAfter start earlier machine.old →
         IsAfter start (history_with earlier step.now reply.new) machine.new) }
     ensures fault { IfErr result (λ fault. fault ≡ NoMemory) }
 {
@@ -89,7 +94,8 @@ fn make_step(
 
 /// Appends the line of the reply to a step. Steps count from 1.
 fn put_reply_line(text: &mut String, number: u64, reply: &Reply) -> Result<(), AllocError>
-    ensures { OnOk result (string_bytes text.new ≡ string_bytes text.old ++ line_text number reply.now) }
+    ensures { OnOk result
+        (string_bytes text.new ≡ string_bytes text.old ++ line_text number reply.now) }
 {
     put_count(text, number)?;
     if let Reply::Done(ret) = reply {

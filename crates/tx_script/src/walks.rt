@@ -25,7 +25,9 @@ const WORKER: u16 = 1;
 /// `NoMemory`.
 pub fn answer_walk(alloc: Global, walk: &Walk) -> Result<String, Fault>
     requires { FitsHeader walk.now.schedule.header }
-    ensures text { IfOk result (λ text. string_bytes text ≡ walk_answers walk.now.schedule.header walk.now.schedule.steps.items walk.now.commands.items) }
+    ensures text { IfOk result (λ text.
+        string_bytes text ≡ walk_answers walk.now.schedule.header walk.now.schedule.steps.items
+        walk.now.commands.items) }
     ensures fault { IfErr result (λ fault. fault ≡ NoMemory) }
 {
     let mut session = boot(alloc, walk.schedule.header)?;
@@ -54,7 +56,9 @@ fn boot(alloc: Global, header: Header) -> Result<Session, Fault>
 /// Makes the steps at the end of the journal.
 fn make_steps(alloc: Global, session: &mut Session, steps: &[Step]) -> Result<(), Fault>
     requires { IsAtEnd session.old }
-    ensures history { OnOk result (history_of session.new.entries ≡ history_after (start_of session.old) (history_of session.old.entries) steps.now) }
+    ensures history { OnOk result
+        (history_of session.new.entries
+        ≡ history_after (start_of session.old) (history_of session.old.entries) steps.now) }
     ensures boot { SameBoot session.new session.old }
     ensures at_end { IsAtEnd session.new }
     ensures fault { IfErr result (λ fault. fault ≡ NoMemory) }
@@ -68,7 +72,10 @@ fn make_steps(alloc: Global, session: &mut Session, steps: &[Step]) -> Result<()
 /// Makes a step at the end of the journal.
 fn make_step(alloc: Global, session: &mut Session, step: &Step) -> Result<(), Fault>
     requires { IsAtEnd session.old }
-    ensures history { OnOk result (history_of session.new.entries ≡ history_with (history_of session.old.entries) step.now (answer (view (start_of session.old) (history_of session.old.entries)) step.now)) }
+    ensures history { OnOk result
+        (history_of session.new.entries
+        ≡ history_with (history_of session.old.entries) step.now
+        (answer (view (start_of session.old) (history_of session.old.entries)) step.now)) }
     ensures boot { SameBoot session.new session.old }
     ensures at_end { IsAtEnd session.new }
     ensures fault { IfErr result (λ fault. fault ≡ NoMemory) }
@@ -87,7 +94,10 @@ fn put_answers(
     session: &mut Session,
     commands: &[Command],
 ) -> Result<(), Fault>
-    ensures text { OnOk result (string_bytes text.new ≡ string_bytes text.old ++ answers_at (start_of session.old) (history_of session.old.entries) (position_of session.old) commands.now) }
+    ensures text { OnOk result
+        (string_bytes text.new ≡ string_bytes text.old
+        ++ answers_at (start_of session.old) (history_of session.old.entries)
+        (position_of session.old) commands.now) }
     ensures fault { IfErr result (λ fault. fault ≡ NoMemory) }
 {
     for command in commands {
@@ -103,8 +113,13 @@ fn put_answer(
     session: &mut Session,
     command: Command,
 ) -> Result<(), Fault>
-    ensures text { OnOk result (string_bytes text.new ≡ string_bytes text.old ++ command_answer (start_of session.old) (history_of session.old.entries) (position_of session.old) command) }
-    ensures moved { OnOk result (position_of session.new ≡ position_after (history_of session.old.entries) (position_of session.old) command) }
+    ensures text { OnOk result
+        (string_bytes text.new ≡ string_bytes text.old
+        ++ command_answer (start_of session.old) (history_of session.old.entries)
+        (position_of session.old) command) }
+    ensures moved { OnOk result
+        (position_of session.new
+        ≡ position_after (history_of session.old.entries) (position_of session.old) command) }
     ensures journal { SameJournal session.new session.old }
     ensures fault { IfErr result (λ fault. fault ≡ NoMemory) }
 {
@@ -120,8 +135,12 @@ fn put_answer(
 
 /// Takes the newest entry back that is made, and appends the position.
 fn back(text: &mut String, session: &mut Session) -> Result<(), AllocError>
-    ensures text { OnOk result (string_bytes text.new ≡ string_bytes text.old ++ command_answer (start_of session.old) (history_of session.old.entries) (position_of session.old) command.Back) }
-    ensures moved { position_of session.new ≡ position_after (history_of session.old.entries) (position_of session.old) command.Back }
+    ensures text { OnOk result
+        (string_bytes text.new ≡ string_bytes text.old
+        ++ command_answer (start_of session.old) (history_of session.old.entries)
+        (position_of session.old) command.Back) }
+    ensures moved { position_of session.new
+        ≡ position_after (history_of session.old.entries) (position_of session.old) command.Back }
     ensures journal { SameJournal session.new session.old }
 {
     match session.back() {
@@ -132,8 +151,14 @@ fn back(text: &mut String, session: &mut Session) -> Result<(), AllocError>
 
 /// Makes the next entry again, and appends the position.
 fn forward(alloc: Global, text: &mut String, session: &mut Session) -> Result<(), Fault>
-    ensures text { OnOk result (string_bytes text.new ≡ string_bytes text.old ++ command_answer (start_of session.old) (history_of session.old.entries) (position_of session.old) command.Forward) }
-    ensures moved { OnOk result (position_of session.new ≡ position_after (history_of session.old.entries) (position_of session.old) command.Forward) }
+    ensures text { OnOk result
+        (string_bytes text.new ≡ string_bytes text.old
+        ++ command_answer (start_of session.old) (history_of session.old.entries)
+        (position_of session.old) command.Forward) }
+    ensures moved { OnOk result
+        (position_of session.new
+        ≡ position_after (history_of session.old.entries) (position_of session.old)
+        command.Forward) }
     ensures journal { SameJournal session.new session.old }
     ensures fault { IfErr result (λ fault. fault ≡ NoMemory) }
 {
@@ -147,8 +172,14 @@ fn forward(alloc: Global, text: &mut String, session: &mut Session) -> Result<()
 
 /// Goes to a position, and appends it.
 fn goto(alloc: Global, text: &mut String, session: &mut Session, position: u64) -> Result<(), Fault>
-    ensures text { OnOk result (string_bytes text.new ≡ string_bytes text.old ++ command_answer (start_of session.old) (history_of session.old.entries) (position_of session.old) (command.Goto position)) }
-    ensures moved { OnOk result (position_of session.new ≡ position_after (history_of session.old.entries) (position_of session.old) (command.Goto position)) }
+    ensures text { OnOk result
+        (string_bytes text.new ≡ string_bytes text.old
+        ++ command_answer (start_of session.old) (history_of session.old.entries)
+        (position_of session.old) (command.Goto position)) }
+    ensures moved { OnOk result
+        (position_of session.new
+        ≡ position_after (history_of session.old.entries) (position_of session.old)
+        (command.Goto position)) }
     ensures journal { SameJournal session.new session.old }
     ensures fault { IfErr result (λ fault. fault ≡ NoMemory) }
 {
@@ -162,7 +193,8 @@ fn goto(alloc: Global, text: &mut String, session: &mut Session, position: u64) 
 
 /// Appends the line of the position.
 fn put_position(text: &mut String, session: &Session) -> Result<(), AllocError>
-    ensures text { OnOk result (string_bytes text.new ≡ string_bytes text.old ++ position_text (position_of session.now)) }
+    ensures text { OnOk result
+        (string_bytes text.new ≡ string_bytes text.old ++ position_text (position_of session.now)) }
     ensures inside { OnOk result (position_of session.now ≤ length session.now.entries) }
 {
     put(text, "at ")?;
@@ -173,7 +205,9 @@ fn put_position(text: &mut String, session: &Session) -> Result<(), AllocError>
 /// Appends the entries with the steps of a transaction put directly before the entry that commits it, or that
 /// the entry of that number commits none.
 fn moved(alloc: Global, text: &mut String, session: &Session, number: u64) -> Result<(), Fault>
-    ensures text { OnOk result (string_bytes text.new ≡ string_bytes text.old ++ moved_text (moved_at (start_of session.now) (history_of session.now.entries) number)) }
+    ensures text { OnOk result
+        (string_bytes text.new ≡ string_bytes text.old
+        ++ moved_text (moved_at (start_of session.now) (history_of session.now.entries) number)) }
     ensures fault { IfErr result (λ fault. fault ≡ NoMemory) }
 {
     match session.moved(alloc, number as usize) {
@@ -186,7 +220,12 @@ fn moved(alloc: Global, text: &mut String, session: &Session, number: u64) -> Re
 
 /// Appends the line of a history in which the steps of a transaction stand together.
 fn put_moved(text: &mut String, moved: &Moved) -> Result<(), AllocError>
-    ensures { OnOk result (string_bytes text.new ≡ string_bytes text.old ++ told_text (record { numbers = moved.now.entries.items; one_moment = moved.now.one_moment })) }
+    ensures { OnOk result
+        (string_bytes text.new ≡ string_bytes text.old
+        ++ told_text (record {
+          numbers = moved.now.entries.items;
+          one_moment = moved.now.one_moment;
+        })) }
 {
     let kind = if moved.one_moment {
         "moved one "

@@ -28,7 +28,8 @@ impl Model for Frame {
 
     ghost view = { λ frame. record { registers = frame.registers; mask = bits_of frame.mask } };
 
-    ghost inverse = { λ frame. record { registers = frame.registers; mask = set_of_bits frame.mask } };
+    ghost inverse = { λ frame.
+        record { registers = frame.registers; mask = set_of_bits frame.mask } };
 }
 
 impl Default for Frame {

@@ -16,10 +16,12 @@ ghost use Rattle.tx_signal.specs.Parts.{PendingView, alone, answer_of, pending_o
 pub fn swap_entry_twice()
     ensures queue { (place : ℕ) (entry : Option Queued) (queue : List Queued) →
         length queue ≤ QUEUED →
-        entry_swapped place (entry_given place entry queue) (entry_swapped place entry queue) ≡ queue }
+        entry_swapped place (entry_given place entry queue) (entry_swapped place entry queue)
+        ≡ queue }
     ensures entry { (place : ℕ) (entry : Option Queued) (queue : List Queued) →
         length queue ≤ QUEUED →
-        entry_given place (entry_given place entry queue) (entry_swapped place entry queue) ≡ entry }
+        entry_given place (entry_given place entry queue) (entry_swapped place entry queue)
+        ≡ entry }
 {}
 
 /// An exchange never makes the queue longer than it may be.
@@ -46,7 +48,8 @@ pub fn last_place_posts()
         length view.queued < QUEUED →
         with_pending_part (record view {
           queued =
-              entry_swapped (length view.queued) (Some (record { signo = signo; value = value })) view.queued;
+              entry_swapped (length view.queued) (Some (record { signo = signo; value = value }))
+              view.queued;
         }) me
         ≡ with_queued (sending_of signo value target from) (with_pending_part view me) }
 {}

@@ -33,7 +33,8 @@ impl Model for Pending {
 
     ghost Value = { PendingView };
 
-    ghost view = { λ pending. record { standard = bits_of pending.standard; queued = pending.queued.items } };
+    ghost view = { λ pending.
+        record { standard = bits_of pending.standard; queued = pending.queued.items } };
 }
 
 impl Pending {
@@ -181,7 +182,8 @@ impl Pending {
     /// Delivery.
     pub fn deliverable(&self, signo: Signo, mask: SigSet) -> bool
         ensures { (me : Process) →
-            result ≡ is_some (delivered_value signo.0 (with_pending_under (bits_of mask) self.now me)) }
+            result ≡ is_some (delivered_value signo.0
+            (with_pending_under (bits_of mask) self.now me)) }
     {
         self.delivered(signo, mask).is_some()
     }
@@ -193,7 +195,8 @@ impl Pending {
         ensures first { IfSome result (λ place.
             entry_swapped place None self.now.queued ≡ without_first signo.0 self.now.queued) }
         ensures entry { IfSome result (λ place.
-            IsSomeAnd (entry_given place None self.now.queued) (IsFirstOf signo.0 self.now.queued)) }
+            IsSomeAnd (entry_given place None self.now.queued)
+            (IsFirstOf signo.0 self.now.queued)) }
         ensures none { IfNone result (first_value signo.0 self.now.queued ≡ None) }
         ensures pending { is_some result ≡ is_some (first_value signo.0 self.now.queued) }
         ensures left { IfNone result (self.now.queued ≡ without_first signo.0 self.now.queued) }

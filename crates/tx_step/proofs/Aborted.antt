@@ -24,12 +24,12 @@ use Rattle.tx_model.specs.Numbers.{negative}
 use Rattle.tx_model.specs.SignalSets.{is_in_set, kill_signo}
 use Rattle.tx_model.specs.View.{View, event_on, first_reply, is_doomed, kernel_status, role_on}
 use Rattle.tx_step.proofs.Taken.{answered, stepped}
-use Rattle.tx_step.specs.Asks.{step_of}
+use Rattle.tx_step.specs.Requests.{step_of}
 use Rattle.tx_step.specs.Laws.{StepLaws}
 use Rattle.tx_step.specs.Steps.{IsStep}
 use Rattle.tx_step.specs.Through.{IsLetThrough}
-use Rattle.tx_step.specs.declared.asked.Asked.{Asked}
-use Rattle.tx_step.specs.declared.asked.Asked.TheVariants.{Call, Delivery}
+use Rattle.tx_step.specs.declared.request.Request.{Request}
+use Rattle.tx_step.specs.declared.request.Request.TheVariants.{Call, Delivery}
 use Rattle.tx_txn.specs.Content.{IsKept}
 use Rattle.tx_txn.specs.Marks.{table_at}
 
@@ -66,8 +66,8 @@ kind_aborts t p step Aborting r None s e = cc
 kind_aborts t p step Aborting r (Some m) s e = let same : m.starter.0 ≡ s = cc in (eq-eqb m.starter.0 s same, ap (λ (n : ℕ). Note n (negative called_by_status)) same)
 
 -- and so is a step
-abort_told : (V : View) (pid : Pid) (asked : Asked) (s status : ℕ) → role_on V (step_of pid asked) ≡ Aborts s status →
-    (is_of s (V.table.marks pid.0) ≡ true) × (event_on V (step_of pid asked) ≡ Note s (negative called_by_status))
+abort_told : (V : View) (pid : Pid) (request : Request) (s status : ℕ) → role_on V (step_of pid request) ≡ Aborts s status →
+    (is_of s (V.table.marks pid.0) ≡ true) × (event_on V (step_of pid request) ≡ Note s (negative called_by_status))
 unfolding aborted
 abort_told V pid (Call call) s status is =
     let told = kind_aborts V.table pid.0 (Calls pid call.now) (kind_of call.now) (first_reply V (Calls pid call.now)) (V.table.marks pid.0) s (ap aborted is) in
@@ -103,10 +103,10 @@ abbrev pub negated : ℤ → ℤ
 negated r = to_z w64 (of_z w64 (pos 0 -ℤ to_z w64 (of_z w64 r)))
 
 module _ (laws : StepLaws) (k : Content) (is : IsContent k) where
-  module _ (pid starter : Pid) (asked : Asked) (through : IsLetThrough k pid asked (the.Aborts starter)) where
-    told : (is_of starter.0 (slot_at k.marks pid.0) ≡ true) × (event_on (view_of k) (step_of pid asked) ≡ Note starter.0 (negative called_by_status))
+  module _ (pid starter : Pid) (request : Request) (through : IsLetThrough k pid request (the.Aborts starter)) where
+    told : (is_of starter.0 (slot_at k.marks pid.0) ≡ true) × (event_on (view_of k) (step_of pid request) ≡ Note starter.0 (negative called_by_status))
     unfolding view_of states_view
-    told = abort_told (view_of k) pid asked starter.0 called_by_status (sym through.is)
+    told = abort_told (view_of k) pid request starter.0 called_by_status (sym through.is)
 
     -- its transaction is there
     pub called_live : IsSome (slot_at k.txns starter.0)
@@ -115,12 +115,12 @@ module _ (laws : StepLaws) (k : Content) (is : IsContent k) where
 
     -- an abort by a member is a step
     pub called_step : (ret : ℤ) → ret ≡ negative called_by_status → (new : Content) (inverse : Inverse) →
-        ((process : ℕ) → IsMade k (Aborts starter.0 called_by_status) (Note starter.0 ret) process new inverse) → IsStep k (step_of pid asked) (Aborted called_by_status) inverse new
+        ((process : ℕ) → IsMade k (Aborts starter.0 called_by_status) (Note starter.0 ret) process new inverse) → IsStep k (step_of pid request) (Aborted called_by_status) inverse new
     called_step ret is_ret new inverse made =
-        stepped laws k is (step_of pid asked) (Aborts starter.0 called_by_status) (Note starter.0 (negative called_by_status)) (sym through.is) told.1 (Aborted called_by_status)
-        (answered laws k is pid asked (the.Aborts starter) through (Aborts starter.0 called_by_status) (Note starter.0 (negative called_by_status)) (sym through.is) told.1) tt
+        stepped laws k is (step_of pid request) (Aborts starter.0 called_by_status) (Note starter.0 (negative called_by_status)) (sym through.is) told.1 (Aborted called_by_status)
+        (answered laws k is pid request (the.Aborts starter) through (Aborts starter.0 called_by_status) (Note starter.0 (negative called_by_status)) (sym through.is) told.1) tt
         (λ no_abort. cc) new inverse
-        (λ fits. subst (λ (r : ℤ). IsMade k (Aborts starter.0 called_by_status) (Note starter.0 r) (process_of (step_of pid asked)) new inverse) is_ret (made (process_of (step_of pid asked))))
+        (λ fits. subst (λ (r : ℤ). IsMade k (Aborts starter.0 called_by_status) (Note starter.0 r) (process_of (step_of pid request)) new inverse) is_ret (made (process_of (step_of pid request))))
 
   -- an abort by the kernel is a step
   pub kernel_step : (starter : Pid) (status : ℕ) → is_live (view_of k).table starter.0 ≡ true → kernel_status (view_of k) starter.0 ≡ status →

@@ -26,13 +26,13 @@ use Rattle.tx_model.specs.State.{Object, Proc, Desc, Pipe, Held}
 use Rattle.tx_model.specs.View.{View, event_on, first_reply, has_two_answers, in_way, some_object, role_on}
 use Rattle.tx_reserve.specs.Reservations.{owner_of}
 use Rattle.tx_step.proofs.RefusedSteps.{refused_late}
-use Rattle.tx_step.proofs.Taken.{answered, fitting, process_asked, runs_seen, sound, stepped, reserved_own}
-use Rattle.tx_step.specs.Asks.{step_of}
+use Rattle.tx_step.proofs.Taken.{answered, fitting, process_requested, runs_seen, sound, stepped, reserved_own}
+use Rattle.tx_step.specs.Requests.{step_of}
 use Rattle.tx_step.specs.Laws.{StepLaws}
 use Rattle.tx_step.specs.Steps.{IsRefused, IsStep}
 use Rattle.tx_step.specs.Through.{IsLetThrough}
-use Rattle.tx_step.specs.declared.asked.Asked.{Asked}
-use Rattle.tx_step.specs.declared.asked.Asked.TheVariants.{Call, Delivery}
+use Rattle.tx_step.specs.declared.request.Request.{Request}
+use Rattle.tx_step.specs.declared.request.Request.TheVariants.{Call, Delivery}
 
 -- whether a step of this role begins a transaction
 begins : Role → Bool
@@ -71,8 +71,8 @@ kind_begins t p step Aborting r None e = cc
 kind_begins t p step Aborting r (Some m) e = cc
 
 -- and so is a step
-begun_told : (V : View) (pid : Pid) (asked : Asked) (s : ℕ) (defers : Bool) → role_on V (step_of pid asked) ≡ Within s (Begins defers) →
-    (V.table.marks pid.0 ≡ None) × (event_on V (step_of pid asked) ≡ Note pid.0 (pos 0))
+begun_told : (V : View) (pid : Pid) (request : Request) (s : ℕ) (defers : Bool) → role_on V (step_of pid request) ≡ Within s (Begins defers) →
+    (V.table.marks pid.0 ≡ None) × (event_on V (step_of pid request) ≡ Note pid.0 (pos 0))
 unfolding begins
 begun_told V pid (Call call) s defers is =
     let told = kind_begins V.table pid.0 (Calls pid call.now) (kind_of call.now) (first_reply V (Calls pid call.now)) (V.table.marks pid.0) (ap begins is) in
@@ -88,18 +88,18 @@ in_way_of_note V p t r live none reserved =
     (λ j. is_blocking (if live j then not (is_of t (none j)) else false) V (Note p r) t)
     ∙ ap (λ (b : Bool). if (if b then true else false) then true else has_two_answers V (Note p r) t) reserved
 
-module _ (laws : StepLaws) (k : Content) (is : IsContent k) (pid : Pid) (asked : Asked) (defers : Bool) (through : IsLetThrough k pid asked (the.Begins defers)) where
-  told : (slot_at k.marks pid.0 ≡ None) × (event_on (view_of k) (step_of pid asked) ≡ Note pid.0 (pos 0))
+module _ (laws : StepLaws) (k : Content) (is : IsContent k) (pid : Pid) (request : Request) (defers : Bool) (through : IsLetThrough k pid request (the.Begins defers)) where
+  told : (slot_at k.marks pid.0 ≡ None) × (event_on (view_of k) (step_of pid request) ≡ Note pid.0 (pos 0))
   unfolding view_of states_view
-  told = begun_told (view_of k) pid asked pid.0 defers (sym through.is)
+  told = begun_told (view_of k) pid request pid.0 defers (sym through.is)
 
-  answered_zero : answer (view_of k) (step_of pid asked) ≡ Done (pos 0)
+  answered_zero : answer (view_of k) (step_of pid request) ≡ Done (pos 0)
   unfolding reply_of effect
-  answered_zero = answered laws k is pid asked (the.Begins defers) through (Within pid.0 (Begins defers)) (Note pid.0 (pos 0)) (sym through.is) told.1
+  answered_zero = answered laws k is pid request (the.Begins defers) through (Within pid.0 (Begins defers)) (Note pid.0 (pos 0)) (sym through.is) told.1
 
   clear : IsClear (view_of k) (Note pid.0 (pos 0))
   clear =
-      (fitting laws k is (step_of pid asked) (Within pid.0 (Begins defers)) (Note pid.0 (pos 0)) (sym through.is) told.1 (subst IsAccepted (sym answered_zero) tt)).0
+      (fitting laws k is (step_of pid request) (Within pid.0 (Begins defers)) (Note pid.0 (pos 0)) (sym through.is) told.1 (subst IsAccepted (sym answered_zero) tt)).0
 
   -- its number is no live starter's
   dead : is_live (view_of k).table pid.0 ≡ false
@@ -141,14 +141,14 @@ module _ (laws : StepLaws) (k : Content) (is : IsContent k) (pid : Pid) (asked :
       owns (Held n) = refl
 
   -- its begin is a step
-  pub begun_step : (new : Content) (inverse : Inverse) → IsMade k (Within pid.0 (Begins defers)) (Note pid.0 (pos 0)) pid.0 new inverse → IsStep k (step_of pid asked) (Done (pos 0)) inverse new
+  pub begun_step : (new : Content) (inverse : Inverse) → IsMade k (Within pid.0 (Begins defers)) (Note pid.0 (pos 0)) pid.0 new inverse → IsStep k (step_of pid request) (Done (pos 0)) inverse new
   begun_step new inverse made =
-      stepped laws k is (step_of pid asked) (Within pid.0 (Begins defers)) (Note pid.0 (pos 0)) (sym through.is) told.1 (Done (pos 0)) answered_zero tt
-      (λ no_abort. runs_seen laws k is pid asked (the.Begins defers) through) new inverse
-      (λ fits. subst (λ (p : ℕ). IsMade k (Within pid.0 (Begins defers)) (Note pid.0 (pos 0)) p new inverse) (sym (process_asked pid asked)) made)
+      stepped laws k is (step_of pid request) (Within pid.0 (Begins defers)) (Note pid.0 (pos 0)) (sym through.is) told.1 (Done (pos 0)) answered_zero tt
+      (λ no_abort. runs_seen laws k is pid request (the.Begins defers) through) new inverse
+      (λ fits. subst (λ (p : ℕ). IsMade k (Within pid.0 (Begins defers)) (Note pid.0 (pos 0)) p new inverse) (sym (process_requested pid request)) made)
 
   -- and where it is not made memory is wanted
-  pub refused : (old : Content) → old ≡ k → IsRefused k (step_of pid asked) NoMemory old
+  pub refused : (old : Content) → old ≡ k → IsRefused k (step_of pid request) NoMemory old
   unfolding effect reply_of
   refused old same =
-      refused_late laws k is pid asked (the.Begins defers) through (Within pid.0 (Begins defers)) (Note pid.0 (pos 0)) (sym through.is) told.1 refl refl NoMemory (inl (refl, tt)) old same
+      refused_late laws k is pid request (the.Begins defers) through (Within pid.0 (Begins defers)) (Note pid.0 (pos 0)) (sym through.is) told.1 refl refl NoMemory (inl (refl, tt)) old same

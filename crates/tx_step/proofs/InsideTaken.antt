@@ -29,20 +29,20 @@ use Rattle.tx_step.proofs.Clear.{free_own}
 use Rattle.tx_step.proofs.Members.{has_child, live_at, live_there, LiveAt}
 use Rattle.tx_step.proofs.OutsideTaken.{did_accept}
 use Rattle.tx_step.proofs.RefusedSteps.{refused_late}
-use Rattle.tx_step.proofs.Taken.{answered, numbers, process_asked, runs_seen, stepped}
-use Rattle.tx_step.proofs.Told.{asked_actor, event_told, good_choice, role_told, within_kind, OfMember}
-use Rattle.tx_step.specs.Asks.{IsActOf, is_own, kind_asked, step_of}
+use Rattle.tx_step.proofs.Taken.{answered, numbers, process_requested, runs_seen, stepped}
+use Rattle.tx_step.proofs.Told.{act_actor, event_told, good_choice, role_told, within_kind, OfMember}
+use Rattle.tx_step.specs.Requests.{IsActOf, is_own, kind_requested, step_of}
 use Rattle.tx_step.specs.Laws.{StepLaws}
 use Rattle.tx_step.specs.Steps.{IsRefused, IsStep, replied}
 use Rattle.tx_step.specs.Through.{IsLetThrough}
 use Rattle.tx_step.specs.declared.answered.Answered.TheVariants.{Acted}
-use Rattle.tx_step.specs.declared.asked.Asked.{Asked}
+use Rattle.tx_step.specs.declared.request.Request.{Request}
 use Rattle.tx_txn.specs.Marks.{table_at}
 
-module _ (laws : StepLaws) (k : Content) (is : IsContent k) (pid starter : Pid) (progress : Progress) (asked : Asked)
-    (through : IsLetThrough k pid asked (role.Inside starter progress)) where
-  told : OfMember (slot_at k.marks pid.0) starter.0 × (is_own (kind_asked asked) true ≡ true)
-  told = within_kind (table_at k.marks) pid.0 starter.0 (kind_asked asked) (first_reply (view_of k) (step_of pid asked)) (slot_at k.marks pid.0) progress (sym (through.is ∙ role_told k pid asked))
+module _ (laws : StepLaws) (k : Content) (is : IsContent k) (pid starter : Pid) (progress : Progress) (request : Request)
+    (through : IsLetThrough k pid request (role.Inside starter progress)) where
+  told : OfMember (slot_at k.marks pid.0) starter.0 × (is_own (kind_requested request) true ≡ true)
+  told = within_kind (table_at k.marks) pid.0 starter.0 (kind_requested request) (first_reply (view_of k) (step_of pid request)) (slot_at k.marks pid.0) progress (sym (through.is ∙ role_told k pid request))
 
   live : LiveAt k pid starter
   live = live_at k is pid starter told.0
@@ -52,39 +52,39 @@ module _ (laws : StepLaws) (k : Content) (is : IsContent k) (pid starter : Pid) 
 
   pub child_is : HasChild (length k.marks) progress
   child_is =
-      has_child (table_at k.marks) pid starter.0 (length k.marks) asked (first_reply (view_of k) (step_of pid asked)) (slot_at k.marks pid.0) progress told.0
-      (sym (through.is ∙ role_told k pid asked))
-      (ap (λ (w : ℕ). has_bad_number w (step_of pid asked)) is.shaped.marks ∙ numbers laws k is pid asked (role.Inside starter progress) through)
+      has_child (table_at k.marks) pid starter.0 (length k.marks) request (first_reply (view_of k) (step_of pid request)) (slot_at k.marks pid.0) progress told.0
+      (sym (through.is ∙ role_told k pid request))
+      (ap (λ (w : ℕ). has_bad_number w (step_of pid request)) is.shaped.marks ∙ numbers laws k is pid request (role.Inside starter progress) through)
 
-  module _ (act : Act) (acts : IsActOf asked true act) where
+  module _ (act : Act) (acts : IsActOf request true act) where
     -- its event
-    event_is : event_on (view_of k) (step_of pid asked) ≡ event_of (inside_in k starter) pid act
+    event_is : event_on (view_of k) (step_of pid request) ≡ event_of (inside_in k starter) pid act
     event_is =
-        event_told k pid asked (Within starter.0 (part_of progress)) Ended through.is
+        event_told k pid request (Within starter.0 (part_of progress)) Ended through.is
         ∙ sym (acts (table_at k.marks) pid (slot_at k.marks pid.0) Ended refl (ap is_some told.0.is) told.1)
         ∙ ap (λ (inside : Option Inside). event_of inside pid act) (sym live.inside)
 
-    pub footprint_is : (footprint : Objects) → IsFootprint k (event_on (view_of k) (step_of pid asked)) footprint → IsFootprint k (event_of (inside_in k starter) pid act) footprint
+    pub footprint_is : (footprint : Objects) → IsFootprint k (event_on (view_of k) (step_of pid request)) footprint → IsFootprint k (event_of (inside_in k starter) pid act) footprint
     footprint_is footprint = subst (λ (E : Event). IsFootprint k E footprint) event_is
 
     -- no other transaction owns anything of it
-    pub free : (footprint : Objects) → IsFootprint k (event_on (view_of k) (step_of pid asked)) footprint → IsFree k starter.0 footprint
+    pub free : (footprint : Objects) → IsFootprint k (event_on (view_of k) (step_of pid request)) footprint → IsFree k starter.0 footprint
     free footprint is_footprint =
         free_own laws k is (event_of (inside_in k starter) pid act) (ap (starter_in_way (view_of k)) (sym event_is) ∙ through.clear) starter.0 told.0.m
-        (ap (slot_at k.marks) (asked_actor (inside_in k starter) pid act) ∙ told.0.is) told.0.starter footprint (footprint_is footprint is_footprint)
+        (ap (slot_at k.marks) (act_actor (inside_in k starter) pid act) ∙ told.0.is) told.0.starter footprint (footprint_is footprint is_footprint)
 
     -- once it is made it is a step
     pub taken : (new : Content) (inverse : Inverse) (did : Outcome) →
         (Fits (Within starter.0 (part_of progress)) (event_of (inside_in k starter) pid act) pid.0 (view_of k) →
         IsMade k (Within starter.0 (part_of progress)) (event_of (inside_in k starter) pid act) pid.0 new inverse) →
-        Answers k (event_of (inside_in k starter) pid act) pid new did → IsStep k (step_of pid asked) (replied new pid.0 inverse (Acted did)) inverse new
+        Answers k (event_of (inside_in k starter) pid act) pid new did → IsStep k (step_of pid request) (replied new pid.0 inverse (Acted did)) inverse new
     taken new inverse did made answers =
         let R : Role = Within starter.0 (part_of progress) in
         let E : Event = event_of (inside_in k starter) pid act in
-        stepped laws k is (step_of pid asked) R E (sym through.is) event_is (replied new pid.0 inverse (Acted did))
-        (answered laws k is pid asked (role.Inside starter progress) through R E (sym through.is) event_is ∙ answers)
-        (did_accept _ did) (λ no. runs_seen laws k is pid asked (role.Inside starter progress) through) new inverse
-        (subst (λ (p : ℕ). Fits R E p (view_of k) → IsMade k R E p new inverse) (sym (process_asked pid asked)) made)
+        stepped laws k is (step_of pid request) R E (sym through.is) event_is (replied new pid.0 inverse (Acted did))
+        (answered laws k is pid request (role.Inside starter progress) through R E (sym through.is) event_is ∙ answers)
+        (did_accept _ did) (λ no. runs_seen laws k is pid request (role.Inside starter progress) through) new inverse
+        (subst (λ (p : ℕ). Fits R E p (view_of k) → IsMade k R E p new inverse) (sym (process_requested pid request)) made)
 
     -- where its plan was refused, it was not for its numbers
     pub was_refused : (old : Content) → old ≡ k → (why : Refusal) → RefusesStep k (event_of (inside_in k starter) pid act) why →
@@ -94,13 +94,13 @@ module _ (laws : StepLaws) (k : Content) (is : IsContent k) (pid starter : Pid) 
         (subst (λ (E : Event). WasRefused k E why) (ap (λ (inside : Option Inside). event_of inside pid act) live.inside) (record {
           good = ap (λ (E : Event). is_bad_choice (length k.parts.procs) (choice_of E))
               (ap (λ (inside : Option Inside). event_of inside pid act) live.inside ∙ acts (table_at k.marks) pid (slot_at k.marks pid.0) Ended refl (ap is_some told.0.is) told.1)
-              ∙ good_choice k pid (length k.parts.procs) asked Ended (numbers laws k is pid asked (role.Inside starter progress) through);
+              ∙ good_choice k pid (length k.parts.procs) request Ended (numbers laws k is pid request (role.Inside starter progress) through);
           refuses = refuses;
         }))
 
     -- and where it is not made it is refused for the reason of its rule
-    pub refused : (old : Content) → old ≡ k → (why : Refusal) → IsWhyNot (event_of (inside_by (table_at old.marks) (slot_at old.marks pid.0)) pid act) (now_of old) why → IsRefused k (step_of pid asked) why old
+    pub refused : (old : Content) → old ≡ k → (why : Refusal) → IsWhyNot (event_of (inside_by (table_at old.marks) (slot_at old.marks pid.0)) pid act) (now_of old) why → IsRefused k (step_of pid request) why old
     refused old same why tells =
-        refused_late laws k is pid asked (role.Inside starter progress) through (Within starter.0 (part_of progress)) (event_of (inside_in k starter) pid act) (sym through.is) event_is refl refl why
+        refused_late laws k is pid request (role.Inside starter progress) through (Within starter.0 (part_of progress)) (event_of (inside_in k starter) pid act) (sym through.is) event_is refl refl why
         (subst (λ (E : Event). IsWhyNot E (now_of k) why) (ap (λ (inside : Option Inside). event_of inside pid act) (sym live.inside))
         (subst (λ (c : Content). IsWhyNot (event_of (inside_by (table_at c.marks) (slot_at c.marks pid.0)) pid act) (now_of c) why) same tells)) old same

@@ -20,9 +20,9 @@ use Rattle.tx_model.specs.Words.{chosen_in, has_bad_number, kind_of, kind_role, 
 use Rattle.tx_model.specs.Membership.{Table, Within, Forks, Kind, Ordinary, Forking, Beginning, Leaving, Aborting, inside_by, is_live, is_of, others_open, says_ended}
 use Rattle.tx_model.specs.State.{is_between}
 use Rattle.tx_step.proofs.Told.{OfMember}
-use Rattle.tx_step.specs.Asks.{kind_asked, step_of}
-use Rattle.tx_step.specs.declared.asked.Asked.{Asked}
-use Rattle.tx_step.specs.declared.asked.Asked.TheVariants.{Call, Delivery}
+use Rattle.tx_step.specs.Requests.{kind_requested, step_of}
+use Rattle.tx_step.specs.declared.request.Request.{Request}
+use Rattle.tx_step.specs.declared.request.Request.TheVariants.{Call, Delivery}
 use Rattle.tx_txn.specs.Marks.{table_at}
 
 -- the live transaction of the starter, which the process's steps are made inside of
@@ -93,11 +93,11 @@ not_false true e = refl
 not_false false e = cc
 
 -- the child that a fork brings in has a number that there is
-pub has_child : (t : Table) (pid : Pid) (s width : ℕ) (asked : Asked) (r : Reply) (mark : Option Mark) (progress : TheProgress) → OfMember mark s →
-    kind_role t pid.0 (kind_asked asked) r mark ≡ Within s (part_of progress) → has_bad_number width (step_of pid asked) ≡ false → HasChild width progress
-has_child t pid s width asked r mark the.Continues member told good = tt
-has_child t pid s width asked r mark the.Parks member told good = tt
-has_child t pid s width asked r mark (the.Forks child) member told good = by asked told good
+pub has_child : (t : Table) (pid : Pid) (s width : ℕ) (request : Request) (r : Reply) (mark : Option Mark) (progress : TheProgress) → OfMember mark s →
+    kind_role t pid.0 (kind_requested request) r mark ≡ Within s (part_of progress) → has_bad_number width (step_of pid request) ≡ false → HasChild width progress
+has_child t pid s width request r mark the.Continues member told good = tt
+has_child t pid s width request r mark the.Parks member told good = tt
+has_child t pid s width request r mark (the.Forks child) member told good = by request told good
   where
     kind_is : (kind : Kind) → kind_role t pid.0 kind r mark ≡ Within s (Forks child.0) → kind ≡ Forking child.0
     kind_is kind h = forks_kind t pid.0 s child.0 kind r member.m (ap (kind_role t pid.0 kind r) (sym member.is) ∙ h)
@@ -105,6 +105,6 @@ has_child t pid s width asked r mark (the.Forks child) member told good = by ask
     chosen : (choice : Choice) → choice ≡ ChoosesProcess child.0 → is_bad_choice width choice ≡ false → (1 ≤ child.0) × (child.0 ≤ width)
     chosen choice e h = between_bounds width child.0 (not_false (is_between width child.0) (sym (ap (is_bad_choice width) e) ∙ h))
 
-    by : (asked : Asked) → kind_role t pid.0 (kind_asked asked) r mark ≡ Within s (Forks child.0) → has_bad_number width (step_of pid asked) ≡ false → (1 ≤ child.0) × (child.0 ≤ width)
+    by : (request : Request) → kind_role t pid.0 (kind_requested request) r mark ≡ Within s (Forks child.0) → has_bad_number width (step_of pid request) ≡ false → (1 ≤ child.0) × (child.0 ≤ width)
     by (Call called) h bad = chosen (chosen_in called.now) (fork_chooses called.now child.0 (kind_is (kind_of called.now) h)) bad
     by (Delivery signo) h bad = let no : Ordinary ≡ Forking child.0 = kind_is Ordinary h in cc

@@ -35,12 +35,12 @@ use Rattle.tx_model.specs.View.{View, event_on, next, present, role_on}
 use Rattle.tx_proc.specs.Parts.{process_in}
 use Rattle.tx_proc.specs.declared.proc.Proc.{Proc}
 use Rattle.tx_step.proofs.NamedObjects.{has_either, has_left, named_among, named_shared}
-use Rattle.tx_step.specs.Asks.{step_of}
+use Rattle.tx_step.specs.Requests.{step_of}
 use Rattle.tx_step.specs.Laws.{StepLaws}
 use Rattle.tx_step.specs.Steps.{FitsReply, IsNamedBy, InFootprint, GetsSend, WasTouched, IsStep}
 use Rattle.tx_step.specs.Through.{IsLetThrough}
-use Rattle.tx_step.specs.declared.asked.Asked.{Asked}
-use Rattle.tx_step.specs.declared.asked.Asked.TheVariants.{Call, Delivery}
+use Rattle.tx_step.specs.declared.request.Request.{Request}
+use Rattle.tx_step.specs.declared.request.Request.TheVariants.{Call, Delivery}
 use Rattle.tx_txn.specs.Content.{two_states_of, is_named, IsKept, OthersHoldNothing}
 use Rattle.tx_txn.specs.Steps.{next_content, IsNext, Logs}
 
@@ -61,15 +61,15 @@ no_reason true true true rest e = cc
 no_reason true true false rest e = (refl, refl)
 
 -- a call or a delivery is refused, or has the reply of its event
-pub answer_asked : (V : View) (pid : Pid) (asked : Asked) →
-    answer V (step_of pid asked) ≡ unless_refused (refusal V pid.0 (step_of pid asked)) (plain_reply called_by_status (role_on V (step_of pid asked)) (event_on V (step_of pid asked)) (present V))
+pub answer_requested : (V : View) (pid : Pid) (request : Request) →
+    answer V (step_of pid request) ≡ unless_refused (refusal V pid.0 (step_of pid request)) (plain_reply called_by_status (role_on V (step_of pid request)) (event_on V (step_of pid request)) (present V))
 unfolding answer
-answer_asked V pid (Call call) = refl
-answer_asked V pid (Delivery signo) = refl
+answer_requested V pid (Call call) = refl
+answer_requested V pid (Delivery signo) = refl
 
-pub process_asked : (pid : Pid) (asked : Asked) → process_of (step_of pid asked) ≡ pid.0
-process_asked pid (Call call) = refl
-process_asked pid (Delivery signo) = refl
+pub process_requested : (pid : Pid) (request : Request) → process_of (step_of pid request) ≡ pid.0
+process_requested pid (Call call) = refl
+process_requested pid (Delivery signo) = refl
 
 pub running_in : (slot : Option Proc) → is_running (process_in slot) ≡ true → IsRunning slot
 running_in None e = cc
@@ -186,28 +186,28 @@ module _ (laws : StepLaws) (k : Content) (is : IsContent k) where
       seen : (view_of new ≡ next (view_of k) step) × IsKept (content_of new)
       seen = next_seen step R E role event passed new inverse made
 
-  module _ (pid : Pid) (asked : Asked) (role : StepRole) (through : IsLetThrough k pid asked role) where
+  module _ (pid : Pid) (request : Request) (role : StepRole) (through : IsLetThrough k pid request role) where
     -- a step that is let through is answered as its event
-    pub answered : (R : Role) (E : Event) → role_on (view_of k) (step_of pid asked) ≡ R → event_on (view_of k) (step_of pid asked) ≡ E →
-        answer (view_of k) (step_of pid asked) ≡ plain_reply called_by_status R E (now_of k)
+    pub answered : (R : Role) (E : Event) → role_on (view_of k) (step_of pid request) ≡ R → event_on (view_of k) (step_of pid request) ≡ E →
+        answer (view_of k) (step_of pid request) ≡ plain_reply called_by_status R E (now_of k)
     answered R E is_role is_event =
-        answer_asked (view_of k) pid asked
+        answer_requested (view_of k) pid request
         ∙ (λ j. unless_refused (none j) (plain_reply called_by_status (is_role j) (is_event j) (now_seen j)))
       where
-        none : refusal (view_of k) pid.0 (step_of pid asked) ≡ None
-        none = laws.early (view_of k) pid.0 (step_of pid asked) ∙ (λ j. option_or (through.early j) (busy (through.clear j)))
+        none : refusal (view_of k) pid.0 (step_of pid request) ≡ None
+        none = laws.early (view_of k) pid.0 (step_of pid request) ∙ (λ j. option_or (through.early j) (busy (through.clear j)))
 
-    passes : (is_running ((present (view_of k)).procs pid.0) ≡ true) × (has_bad_number (view_of k).table.width (step_of pid asked) ≡ false)
-    passes = no_reason (is_there (view_of k) pid.0) (is_running ((present (view_of k)).procs pid.0)) (has_bad_number (view_of k).table.width (step_of pid asked)) _ through.early
+    passes : (is_running ((present (view_of k)).procs pid.0) ≡ true) × (has_bad_number (view_of k).table.width (step_of pid request) ≡ false)
+    passes = no_reason (is_there (view_of k) pid.0) (is_running ((present (view_of k)).procs pid.0)) (has_bad_number (view_of k).table.width (step_of pid request)) _ through.early
 
     -- its process runs
-    pub runs_seen : is_running ((present (view_of k)).procs (process_of (step_of pid asked))) ≡ true
-    runs_seen = ap (λ (p : ℕ). is_running ((present (view_of k)).procs p)) (process_asked pid asked) ∙ passes.0
+    pub runs_seen : is_running ((present (view_of k)).procs (process_of (step_of pid request))) ≡ true
+    runs_seen = ap (λ (p : ℕ). is_running ((present (view_of k)).procs p)) (process_requested pid request) ∙ passes.0
 
     pub runs : IsRunning (slot_at k.parts.procs pid.0)
     runs = running_in (slot_at k.parts.procs pid.0) (ap (λ (S : State). is_running (S.procs pid.0)) (sym now_seen) ∙ passes.0)
 
     -- and it chooses good numbers
-    pub numbers : has_bad_number (length k.parts.procs) (step_of pid asked) ≡ false
+    pub numbers : has_bad_number (length k.parts.procs) (step_of pid request) ≡ false
     unfolding view_of states_view
-    numbers = ap (λ (w : ℕ). has_bad_number w (step_of pid asked)) (sym is.shaped.marks) ∙ passes.1
+    numbers = ap (λ (w : ℕ). has_bad_number w (step_of pid request)) (sym is.shaped.marks) ∙ passes.1

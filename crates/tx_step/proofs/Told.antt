@@ -1,4 +1,4 @@
--- What a step of a process is to the transactions, and its event, by the kind of what it is asked and by its mark.
+-- What a step of a process is to the transactions, and its event, by the kind of its request and by the process's mark.
 use Rattle.std.proofs.Common.{◌≡◌, ℕ, Bool, true, false, Option, Some, None, refl, sym, ap, subst, ◌∙◌}
 use Rattle.tx_base.specs.Slots.{slot_at}
 use Rattle.tx_base.specs.declared.marks.Mark.{Mark}
@@ -22,9 +22,9 @@ use Rattle.tx_model.specs.Answer.{is_bad_choice}
 use Rattle.tx_model.specs.Words.{has_bad_number, kind_role, member_end_role, ordinary_role}
 use Rattle.tx_model.specs.State.{State}
 use Rattle.tx_model.specs.View.{event_on, first_reply, present, role_on}
-use Rattle.tx_step.specs.Asks.{is_own, kind_asked, step_of}
-use Rattle.tx_step.specs.declared.asked.Asked.{Asked}
-use Rattle.tx_step.specs.declared.asked.Asked.TheVariants.{Call, Delivery}
+use Rattle.tx_step.specs.Requests.{is_own, kind_requested, step_of}
+use Rattle.tx_step.specs.declared.request.Request.{Request}
+use Rattle.tx_step.specs.declared.request.Request.TheVariants.{Call, Delivery}
 use Rattle.tx_txn.specs.Marks.{table_at}
 
 -- the mark is one of the transaction of s
@@ -121,38 +121,38 @@ commits_end t p s step (Beginning d) (Some m) S e = tt
 commits_end t p s step Leaving (Some m) S e = tt
 commits_end t p s step Aborting (Some m) S e = tt
 
--- who makes what a process is asked is the process
-pub asked_actor : (inside : Option Inside) (pid : Pid) (asked : Act) → actor (event_of inside pid asked) ≡ pid.0
-asked_actor inside pid (act.Call call) = refl
-asked_actor inside pid (act.Delivery signo) = refl
-asked_actor inside pid (act.Answer ret) = refl
+-- who makes an act of a process is the process
+pub act_actor : (inside : Option Inside) (pid : Pid) (act : Act) → actor (event_of inside pid act) ≡ pid.0
+act_actor inside pid (act.Call call) = refl
+act_actor inside pid (act.Delivery signo) = refl
+act_actor inside pid (act.Answer ret) = refl
 
 module _ (k : Content) (pid : Pid) where
   -- what the step is to the transactions
-  pub role_told : (asked : Asked) →
-      role_on (view_of k) (step_of pid asked) ≡ kind_role (table_at k.marks) pid.0 (kind_asked asked) (first_reply (view_of k) (step_of pid asked)) (slot_at k.marks pid.0)
+  pub role_told : (request : Request) →
+      role_on (view_of k) (step_of pid request) ≡ kind_role (table_at k.marks) pid.0 (kind_requested request) (first_reply (view_of k) (step_of pid request)) (slot_at k.marks pid.0)
   unfolding view_of states_view
   role_told (Call call) = refl
   role_told (Delivery signo) = refl
 
   -- its event, in each role
-  pub event_told : (asked : Asked) (R : Role) (r : Reply) → R ≡ role_on (view_of k) (step_of pid asked) →
-      event_on (view_of k) (step_of pid asked) ≡ event_in R (step_event (table_at k.marks) (step_of pid asked) r)
+  pub event_told : (request : Request) (R : Role) (r : Reply) → R ≡ role_on (view_of k) (step_of pid request) →
+      event_on (view_of k) (step_of pid request) ≡ event_in R (step_event (table_at k.marks) (step_of pid request) r)
   unfolding view_of states_view
-  event_told (Call call) R r is = ap (λ (x : Role). event_in x (kind_event (table_at k.marks) pid.0 (step_of pid (Call call)) (kind_asked (Call call)) (slot_at k.marks pid.0))) (sym is)
+  event_told (Call call) R r is = ap (λ (x : Role). event_in x (kind_event (table_at k.marks) pid.0 (step_of pid (Call call)) (kind_requested (Call call)) (slot_at k.marks pid.0))) (sym is)
   event_told (Delivery signo) R r is = ap (λ (x : Role). event_in x (kind_event (table_at k.marks) pid.0 (step_of pid (Delivery signo)) Ordinary (slot_at k.marks pid.0))) (sym is)
 
-  step_told : (asked : Asked) (r : Reply) → step_event (table_at k.marks) (step_of pid asked) r ≡ kind_event (table_at k.marks) pid.0 (step_of pid asked) (kind_asked asked) (slot_at k.marks pid.0)
+  step_told : (request : Request) (r : Reply) → step_event (table_at k.marks) (step_of pid request) r ≡ kind_event (table_at k.marks) pid.0 (step_of pid request) (kind_requested request) (slot_at k.marks pid.0)
   step_told (Call call) r = refl
   step_told (Delivery signo) r = refl
 
   -- what chooses good numbers does so as an event
-  pub good_choice : (width : ℕ) (asked : Asked) (r : Reply) → has_bad_number width (step_of pid asked) ≡ false →
-      is_bad_choice width (choice_of (step_event (table_at k.marks) (step_of pid asked) r)) ≡ false
-  good_choice width asked r good =
-      ap (λ (E : Event). is_bad_choice width (choice_of E)) (step_told asked r) ∙ by (kind_asked asked) (slot_at k.marks pid.0)
+  pub good_choice : (width : ℕ) (request : Request) (r : Reply) → has_bad_number width (step_of pid request) ≡ false →
+      is_bad_choice width (choice_of (step_event (table_at k.marks) (step_of pid request) r)) ≡ false
+  good_choice width request r good =
+      ap (λ (E : Event). is_bad_choice width (choice_of E)) (step_told request r) ∙ by (kind_requested request) (slot_at k.marks pid.0)
     where
-      by : (kind : Kind) (mark : Option Mark) → is_bad_choice width (choice_of (kind_event (table_at k.marks) pid.0 (step_of pid asked) kind mark)) ≡ false
+      by : (kind : Kind) (mark : Option Mark) → is_bad_choice width (choice_of (kind_event (table_at k.marks) pid.0 (step_of pid request) kind mark)) ≡ false
       by Ordinary mark = good
       by (Forking child) mark = good
       by (Beginning defers) None = refl
@@ -163,16 +163,16 @@ module _ (k : Content) (pid : Pid) where
       by Aborting (Some m) = refl
 
   -- the first reply is that of this event
-  first_told : (asked : Asked) →
-      first_reply (view_of k) (step_of pid asked) ≡ reply_of (kind_event (table_at k.marks) pid.0 (step_of pid asked) (kind_asked asked) (slot_at k.marks pid.0)) (present (view_of k))
+  first_told : (request : Request) →
+      first_reply (view_of k) (step_of pid request) ≡ reply_of (kind_event (table_at k.marks) pid.0 (step_of pid request) (kind_requested request) (slot_at k.marks pid.0)) (present (view_of k))
   unfolding view_of states_view
   first_told (Call call) = refl
   first_told (Delivery signo) = refl
 
   -- a step that commits ends the part of its process
-  pub ends_told : (asked : Asked) (s : ℕ) (r : Reply) → Commits s ≡ role_on (view_of k) (step_of pid asked) →
-      IsEnd (step_event (table_at k.marks) (step_of pid asked) r) (present (view_of k))
-  ends_told asked s r is =
-      subst (λ (E : Event). IsEnd E (present (view_of k))) (sym (step_told asked r))
-      (commits_end (table_at k.marks) pid.0 s (step_of pid asked) (kind_asked asked) (slot_at k.marks pid.0) (present (view_of k))
-      (sym (is ∙ role_told asked ∙ ap (λ (r : Reply). kind_role (table_at k.marks) pid.0 (kind_asked asked) r (slot_at k.marks pid.0)) (first_told asked))))
+  pub ends_told : (request : Request) (s : ℕ) (r : Reply) → Commits s ≡ role_on (view_of k) (step_of pid request) →
+      IsEnd (step_event (table_at k.marks) (step_of pid request) r) (present (view_of k))
+  ends_told request s r is =
+      subst (λ (E : Event). IsEnd E (present (view_of k))) (sym (step_told request r))
+      (commits_end (table_at k.marks) pid.0 s (step_of pid request) (kind_requested request) (slot_at k.marks pid.0) (present (view_of k))
+      (sym (is ∙ role_told request ∙ ap (λ (r : Reply). kind_role (table_at k.marks) pid.0 (kind_requested request) r (slot_at k.marks pid.0)) (first_told request))))

@@ -6,7 +6,7 @@ pub mod InWay
 pub mod Roles
 pub mod Ways
 pub mod Late
-pub mod Asks
+pub mod Requests
 pub mod Laws
 pub mod Steps
 pub mod Through

@@ -7,13 +7,13 @@ ghost use Rattle.tx_step.specs.declared.roles.StepRole.TheVariants as role;
 ghost use Rattle.tx_live.specs.Content.{view_of};
 ghost use Rattle.tx_model.specs.Membership.{is_live};
 ghost use Rattle.tx_model.specs.View.{kernel_status};
-ghost use Rattle.tx_step.specs.Asks.{step_of};
+ghost use Rattle.tx_step.specs.Requests.{step_of};
 ghost use Rattle.tx_step.specs.Steps.{IsStep, Takes};
 ghost use Rattle.tx_step.specs.Through.{IsLetThrough};
 
 use crate::answered::Answered;
-use crate::asked::Asked;
 use crate::laws::laws;
+use crate::request::Request;
 use tx_base::{ABORTED_BY_CALL, ABORTED_BY_KERNEL, ABORTED_DOOMED, Pid};
 use tx_live::{Content, Inverse};
 
@@ -22,12 +22,12 @@ pub(crate) fn take_abort(
     content: &mut Content,
     pid: Pid,
     starter: Pid,
-    _asked: Asked,
+    _request: Request,
     inverse: &mut Inverse,
 ) -> Answered
     requires content { IsContent content.old }
-    requires through { IsLetThrough content.old pid _asked (role.Aborts starter) }
-    ensures { Takes content.old (step_of pid _asked.entry) (Ok result) inverse.new content.new }
+    requires through { IsLetThrough content.old pid _request (role.Aborts starter) }
+    ensures { Takes content.old (step_of pid _request.entry) (Ok result) inverse.new content.new }
 {
     laws();
     content.abort(starter, -i64::from(ABORTED_BY_CALL), inverse);
@@ -42,7 +42,8 @@ pub(crate) fn take_abort(
 /// no live transaction; the content is then as it was.
 pub fn take_kernel_abort(content: &mut Content, starter: Pid, inverse: &mut Inverse) -> Option<u16>
     requires { IsContent content.old }
-    ensures made { IfSome result (λ status. IsStep content.old (KernelAbort starter) (reply.Aborted status) inverse.new content.new) }
+    ensures made { IfSome result (λ status.
+        IsStep content.old (KernelAbort starter) (reply.Aborted status) inverse.new content.new) }
     ensures live { IsSome result ↔ (is_live (view_of content.old).table starter.0 ≡ true) }
     ensures none { IfNone result (content.new ≡ content.old) }
 {
@@ -56,7 +57,8 @@ pub fn take_kernel_abort(content: &mut Content, starter: Pid, inverse: &mut Inve
 /// and else 202. Nothing where the starter has no live transaction. It takes no memory. Own rule.
 pub fn kernel_status(content: &Content, starter: Pid) -> Option<u16>
     requires { IsContent content.now }
-    ensures status { IfSome result (λ status. status ≡ kernel_status (view_of content.now) starter.0) }
+    ensures status { IfSome result (λ status.
+        status ≡ kernel_status (view_of content.now) starter.0) }
     ensures live { IsSome result ↔ (is_live (view_of content.now).table starter.0 ≡ true) }
 {
     laws();

@@ -1,13 +1,13 @@
 //! Steps that begin a transaction.
 ghost use Rattle.tx_step.specs.Contents.{IsContent};
 ghost use Rattle.tx_step.specs.declared.roles.StepRole.TheVariants as role;
-ghost use Rattle.tx_step.specs.Asks.{step_of};
+ghost use Rattle.tx_step.specs.Requests.{step_of};
 ghost use Rattle.tx_step.specs.Steps.{Takes};
 ghost use Rattle.tx_step.specs.Through.{IsLetThrough};
 
 use crate::answered::Answered;
-use crate::asked::Asked;
 use crate::laws::laws;
+use crate::request::Request;
 use std::alloc::Global;
 use tx_base::{NoMemory, Pid, Refusal};
 use tx_kernel::Outcome;
@@ -21,12 +21,12 @@ pub(crate) fn take_begin(
     alloc: Global,
     pid: Pid,
     defers: bool,
-    _asked: Asked,
+    _request: Request,
     inverse: &mut Inverse,
 ) -> Result<Answered, Refusal>
     requires content { IsContent content.old }
-    requires through { IsLetThrough content.old pid _asked (role.Begins defers) }
-    ensures { Takes content.old (step_of pid _asked.entry) result inverse.new content.new }
+    requires through { IsLetThrough content.old pid _request (role.Begins defers) }
+    ensures { Takes content.old (step_of pid _request.entry) result inverse.new content.new }
 {
     laws();
     match content.begin(alloc, pid, defers, inverse) {

@@ -27,7 +27,9 @@ pub(crate) struct Faces {
 impl Faces {
     /// The faces of the process of a number, by what is kept of it.
     pub fn of(parts: &Parts, pid: Pid, kept: &Kept) -> Faces
-        ensures { (ms : List TheSending) → differ pid.0 ms result ≡ starter_differs pid.0 ms (process_in (slot_at parts.now.procs pid.0)) kept.now }
+        ensures { (ms : List TheSending) →
+            differ pid.0 ms result
+            ≡ starter_differs pid.0 ms (process_in (slot_at parts.now.procs pid.0)) kept.now }
     {
         Faces {
             present: face_of(parts, pid),
@@ -50,7 +52,9 @@ impl Faces {
 
     /// Posts these that are held to both. Whether one is answered otherwise at the one than at the other.
     fn post_all(&mut self, pid: Pid, held: &[Sending]) -> bool
-        ensures { (ms : List TheSending) → differ pid.0 (map sending_of held.now ++ ms) self.old ≡ (if result then true else differ pid.0 ms self.new) }
+        ensures { (ms : List TheSending) →
+            differ pid.0 (map sending_of held.now ++ ms) self.old
+            ≡ (if result then true else differ pid.0 ms self.new) }
     {
         for place in 0..held.len() {
             // Most are for others, and worth no call.
@@ -64,7 +68,9 @@ impl Faces {
     /// Posts a signal to both, if it is for the process. Whether it is answered otherwise at the one
     /// than at the other.
     fn post(&mut self, pid: Pid, sending: &Sending) -> bool
-        ensures { (ms : List TheSending) → differ pid.0 (sending_of sending.now ∷ ms) self.old ≡ (if result then true else differ pid.0 ms self.new) }
+        ensures { (ms : List TheSending) →
+            differ pid.0 (sending_of sending.now ∷ ms) self.old
+            ≡ (if result then true else differ pid.0 ms self.new) }
     {
         if sending.target != pid {
             return false;
@@ -81,8 +87,10 @@ impl Faces {
 
 /// The face of the process of a number, if there is one.
 fn face_of(parts: &Parts, pid: Pid) -> Option<Face>
-    ensures face { option_map face_as result ≡ face_of (process_in (slot_at parts.now.procs pid.0)) }
-    ensures queued { queued_at result ≡ length (pending_in (process_in (slot_at parts.now.procs pid.0))).queued }
+    ensures face { option_map face_as result
+        ≡ face_of (process_in (slot_at parts.now.procs pid.0)) }
+    ensures queued { queued_at result
+        ≡ length (pending_in (process_in (slot_at parts.now.procs pid.0))).queued }
 {
     match parts.proc(pid) {
         Some(proc) => Some(Face::of(proc)),
@@ -92,7 +100,8 @@ fn face_of(parts: &Parts, pid: Pid) -> Option<Face>
 
 /// How a post to a process is answered, by its face if there is such a process.
 fn answer(face: Option<Face>, sending: &Sending) -> Result<(), Errno>
-    ensures { answer_of result ≡ answer_at (sending_of sending.now) (option_map face_as face) (queued_at face) }
+    ensures { answer_of result
+        ≡ answer_at (sending_of sending.now) (option_map face_as face) (queued_at face) }
 {
     match face {
         Some(face) => face.answer(sending),

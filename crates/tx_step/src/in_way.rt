@@ -31,8 +31,10 @@ pub fn find_starter(
     held: &[Sending],
 ) -> Option<Pid>
     requires { IsKept (content_of content.now) }
-    ensures { (event : Event) → IsFootprint content.now event footprint.now → (effect event (now_of content.now)).sends ≡ sent first.now held.now →
-        IsOfMember content.now (option_map number_of own) event → option_map number_of result ≡ starter_in_way (view_of content.now) event }
+    ensures { (event : Event) → IsFootprint content.now event footprint.now →
+        (effect event (now_of content.now)).sends ≡ sent first.now held.now →
+        IsOfMember content.now (option_map number_of own) event →
+        option_map number_of result ≡ starter_in_way (view_of content.now) event }
 {
     answers_of_faces();
     let owner = content.owners.conflict(footprint, own);
@@ -44,7 +46,9 @@ pub fn find_starter(
 /// it is answered otherwise now than after the abort. A target is asked once for all its sends, since
 /// asking posts each send.
 fn least_target(content: &Content, own: Option<Pid>, first: &Sends, held: &[Sending]) -> Option<Pid>
-    ensures { option_map number_of result ≡ least_target (gives_two_answers content.now (option_map number_of own) (sent first.now held.now)) (sent first.now held.now) }
+    ensures { option_map number_of result
+        ≡ least_target (gives_two_answers content.now (option_map number_of own)
+        (sent first.now held.now)) (sent first.now held.now) }
 {
     let mut asked = Objects::new();
     let mut least = match first {
@@ -79,7 +83,9 @@ fn target(
     first: &Sends,
     held: &[Sending],
 ) -> Option<Pid>
-    ensures { option_map number_of result ≡ passing (gives_two_answers content.now (option_map number_of own) (sent first.now held.now)) pid.0 }
+    ensures { option_map number_of result
+        ≡ passing (gives_two_answers content.now (option_map number_of own)
+        (sent first.now held.now)) pid.0 }
 {
     if own == Some(pid) {
         return None;
@@ -95,7 +101,8 @@ fn target(
 
 /// The lesser of two numbers, of which either may be missing.
 fn lesser(a: Option<Pid>, b: Option<Pid>) -> Option<Pid>
-    ensures { option_map number_of result ≡ lesser_of (option_map number_of a) (option_map number_of b) }
+    ensures { option_map number_of result
+        ≡ lesser_of (option_map number_of a) (option_map number_of b) }
 {
     match (a, b) {
         (None, b) => b,

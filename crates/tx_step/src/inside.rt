@@ -4,20 +4,20 @@ ghost use Rattle.tx_step.specs.declared.roles.StepRole.TheVariants as role;
 ghost use Rattle.tx_live.specs.Content.{view_of};
 ghost use Rattle.tx_live.specs.Insides.{IsFootprint};
 ghost use Rattle.tx_model.specs.View.{event_on};
-ghost use Rattle.tx_step.specs.Asks.{step_of};
+ghost use Rattle.tx_step.specs.Requests.{step_of};
 ghost use Rattle.tx_step.specs.Steps.{Takes};
 ghost use Rattle.tx_step.specs.Through.{IsLetThrough};
 
 use crate::answered::Answered;
-use crate::asked::Asked;
 use crate::late::late_refusal;
 use crate::laws::laws;
+use crate::request::Request;
 use std::alloc::Global;
 use tx_base::{Pid, Refusal};
 use tx_live::{Content, Inverse, Progress};
 use tx_reserve::Objects;
 
-/// Makes what a member is asked to do, and reserves its footprint.
+/// Makes what a step requests of a member, and reserves its footprint.
 ///
 /// It is refused for the reason of its rule, and NoMemory where a growth is refused; the content is then
 /// as it was.
@@ -27,17 +27,18 @@ pub(crate) fn take_inside(
     pid: Pid,
     starter: Pid,
     progress: Progress,
-    asked: Asked,
+    request: Request,
     footprint: &Objects,
     inverse: &mut Inverse,
 ) -> Result<Answered, Refusal>
     requires content { IsContent content.old }
-    requires through { IsLetThrough content.old pid asked (role.Inside starter progress) }
-    requires footprint { IsFootprint content.old (event_on (view_of content.old) (step_of pid asked)) footprint.now }
-    ensures { Takes content.old (step_of pid asked.entry) result inverse.new content.new }
+    requires through { IsLetThrough content.old pid request (role.Inside starter progress) }
+    requires footprint { IsFootprint content.old
+        (event_on (view_of content.old) (step_of pid request)) footprint.now }
+    ensures { Takes content.old (step_of pid request.entry) result inverse.new content.new }
 {
     laws();
-    let act = asked.act(true);
+    let act = request.act(true);
     match content.make_inside(alloc, pid, starter, &act, progress, footprint, inverse) {
         Ok(outcome) => Ok(Answered::Acted(outcome)),
         Err(why) => Err(late_refusal(content, pid, &act, why)),

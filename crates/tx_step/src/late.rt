@@ -1,4 +1,4 @@
-//! Why what a process is asked to do was refused as it was planned.
+//! Why the act of a process was refused as it was planned.
 ghost use Rattle.tx_base.specs.Slots.{slot_at};
 ghost use Rattle.tx_step.specs.Contents.{IsContent};
 ghost use Rattle.tx_step.specs.Late.{IsWhyNot, TellsRule, WasRefused};
@@ -13,14 +13,17 @@ use tx_base::{Pid, Refusal};
 use tx_kernel::Act;
 use tx_live::Content;
 
-/// Why what a process that runs is asked to do was refused, whose plan was refused so: for that reason,
+/// Why the act of a process that runs was refused, whose plan was refused so: for that reason,
 /// and for the rule's where it was want of memory and the rule has one. It takes no memory.
 pub(crate) fn late_refusal(content: &Content, pid: Pid, act: &Act, why: Refusal) -> Refusal
     requires content { IsContent content.now }
     requires running { IsRunning (slot_at content.now.parts.procs pid.0) }
     requires refused { WasRefused content.now
-        (event_of (inside_by (table_at content.now.marks) (slot_at content.now.marks pid.0)) pid act.now) why }
-    ensures { IsWhyNot (event_of (inside_by (table_at content.now.marks) (slot_at content.now.marks pid.0)) pid act.now) (now_of content.now) result }
+        (event_of (inside_by (table_at content.now.marks) (slot_at content.now.marks pid.0)) pid
+        act.now) why }
+    ensures { IsWhyNot (event_of
+        (inside_by (table_at content.now.marks) (slot_at content.now.marks pid.0)) pid act.now)
+        (now_of content.now) result }
 {
     match why {
         Refusal::NoMemory => refusal_of_rule(content, pid, act).unwrap_or(Refusal::NoMemory),
@@ -28,11 +31,13 @@ pub(crate) fn late_refusal(content: &Content, pid: Pid, act: &Act, why: Refusal)
     }
 }
 
-/// Why the rule of what a process that runs is asked to do refuses it, if it does.
+/// Why the rule of an act of a process that runs refuses it, if it does.
 fn refusal_of_rule(content: &Content, pid: Pid, act: &Act) -> Option<Refusal>
     requires content { IsContent content.now }
     requires running { IsRunning (slot_at content.now.parts.procs pid.0) }
-    ensures { TellsRule (event_of (inside_by (table_at content.now.marks) (slot_at content.now.marks pid.0)) pid act.now) (now_of content.now) result }
+    ensures { TellsRule (event_of
+        (inside_by (table_at content.now.marks) (slot_at content.now.marks pid.0)) pid act.now)
+        (now_of content.now) result }
 {
     let actor = actor_of(content, pid);
     match act {

@@ -45,7 +45,6 @@
 
 mod aborts;
 mod answered;
-mod asked;
 mod begins;
 mod early;
 mod ends;
@@ -58,6 +57,7 @@ mod outside;
 mod own;
 mod refusal_laws;
 mod replies;
+mod request;
 mod roles;
 mod steps;
 mod ways;

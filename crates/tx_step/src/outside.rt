@@ -1,19 +1,19 @@
 //! Steps of processes that are in no transaction.
 ghost use Rattle.tx_step.specs.Contents.{IsContent};
 ghost use Rattle.tx_step.specs.declared.roles.StepRole.TheVariants as role;
-ghost use Rattle.tx_step.specs.Asks.{step_of};
+ghost use Rattle.tx_step.specs.Requests.{step_of};
 ghost use Rattle.tx_step.specs.Steps.{Takes};
 ghost use Rattle.tx_step.specs.Through.{IsLetThrough};
 
 use crate::answered::Answered;
-use crate::asked::Asked;
 use crate::late::late_refusal;
 use crate::laws::laws;
+use crate::request::Request;
 use std::alloc::Global;
 use tx_base::{Pid, Refusal};
 use tx_live::{Content, Inverse};
 
-/// Makes what a process is asked to do that is in no transaction.
+/// Makes what a step requests of a process that is in no transaction.
 ///
 /// It is refused for the reason of its rule, and NoMemory where a growth is refused; the content is then
 /// as it was.
@@ -21,15 +21,15 @@ pub(crate) fn take_outside(
     content: &mut Content,
     alloc: Global,
     pid: Pid,
-    asked: Asked,
+    request: Request,
     inverse: &mut Inverse,
 ) -> Result<Answered, Refusal>
     requires content { IsContent content.old }
-    requires through { IsLetThrough content.old pid asked role.Outside }
-    ensures { Takes content.old (step_of pid asked.entry) result inverse.new content.new }
+    requires through { IsLetThrough content.old pid request role.Outside }
+    ensures { Takes content.old (step_of pid request.entry) result inverse.new content.new }
 {
     laws();
-    let act = asked.act(false);
+    let act = request.act(false);
     match content.make_outside(alloc, pid, &act, inverse) {
         Ok(outcome) => Ok(Answered::Acted(outcome)),
         Err(why) => Err(late_refusal(content, pid, &act, why)),

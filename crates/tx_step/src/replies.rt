@@ -61,7 +61,8 @@ fn put_done(reply: &mut Reply, answer: i64)
 #[inline(never)] // inlined, it would have room for its list made for every reply
 fn put_committed(reply: &mut Reply, outbox: &Outbox)
     requires few { length (missed_in outbox.now.sendings outbox.now.posts) ≤ 33 }
-    ensures { reply.new ≡ Committed (record { items = missed_in outbox.now.sendings outbox.now.posts }) }
+    ensures { reply.new ≡ Committed
+        (record { items = missed_in outbox.now.sendings outbox.now.posts }) }
 {
     *reply = Reply::Committed {
         undelivered: outbox.undelivered(),
@@ -83,7 +84,11 @@ fn put_committed_alone(reply: &mut Reply)
 fn put_shown(reply: &mut Reply, proc: Option<&Proc>, shown: Shown)
     requires places { HasPlaces (option_copied proc) }
     requires few { shown.count ≤ 64 }
-    ensures { reply.new ≡ Out (record { items = bytes_from (memory_in (process_in (option_copied proc.entry))) shown.address shown.count }) }
+    ensures { reply.new ≡ Out
+        (record {
+          items = bytes_from (memory_in (process_in (option_copied proc.entry)))
+              shown.address shown.count;
+        }) }
 {
     *reply = Reply::Out(shown_bytes(proc, shown));
 }
@@ -92,7 +97,10 @@ fn put_shown(reply: &mut Reply, proc: Option<&Proc>, shown: Shown)
 fn shown_bytes(proc: Option<&Proc>, shown: Shown) -> ArrayVec<u8, 64>
     requires places { HasPlaces (option_copied proc) }
     requires few { shown.count ≤ 64 }
-    ensures { result ≡ record { items = bytes_from (memory_in (process_in (option_copied proc.entry))) shown.address shown.count } }
+    ensures { result ≡ record {
+      items = bytes_from
+          (memory_in (process_in (option_copied proc.entry))) shown.address shown.count;
+    } }
 {
     let mut bytes = ArrayVec::new();
     for place in 0..shown.count {
@@ -106,7 +114,8 @@ fn shown_bytes(proc: Option<&Proc>, shown: Shown) -> ArrayVec<u8, 64>
 /// The byte at an address of a process's memory; 0 where no page is mapped, or there is no process.
 fn byte_at(proc: Option<&Proc>, address: usize) -> u8
     requires { HasPlaces (option_copied proc) }
-    ensures { result ≡ byte_or_zero (loaded_byte (memory_in (process_in (option_copied proc.entry))) (Some address)) }
+    ensures { result ≡ byte_or_zero
+        (loaded_byte (memory_in (process_in (option_copied proc.entry))) (Some address)) }
 {
     match proc {
         Some(proc) if address < ADDRESSES => proc.space.load(address as i64).unwrap_or(0),

@@ -79,7 +79,8 @@ pub fn role_of_delivery(content: &Content, pid: Pid, signo: Signo) -> StepRole
 /// Whether a call of a process that is in no transaction begins one, and then whether that defers
 /// deliveries.
 pub(crate) fn beginning(call: &Call) -> Option<bool>
-    ensures { (table : Table) (p : ℕ) (reply : Reply) → role_as p (role_alone result) ≡ kind_role table p (kind_of call.now) reply None }
+    ensures { (table : Table) (p : ℕ) (reply : Reply) →
+        role_as p (role_alone result) ≡ kind_role table p (kind_of call.now) reply None }
 {
     match call {
         Call::SysXbegin => Some(false),
@@ -104,7 +105,9 @@ fn role_of_member(content: &Content, pid: Pid, mark: Mark, call: &Call) -> StepR
     requires shaped { IsShaped content.now }
     requires kept { IsKept (content_of content.now) }
     requires live { is_live (table_at content.now.marks) mark.starter.0 ≡ true }
-    ensures { role_as pid.0 result ≡ kind_role (table_at content.now.marks) pid.0 (kind_of call.now) (end_reply (ends_part pid.0 call.now)) (Some mark) }
+    ensures { role_as pid.0 result
+        ≡ kind_role (table_at content.now.marks) pid.0 (kind_of call.now)
+        (end_reply (ends_part pid.0 call.now)) (Some mark) }
 {
     match call {
         Call::Fork(child) => StepRole::Inside(mark.starter, Progress::Forks(*child)),
@@ -134,7 +137,8 @@ fn is_last_part(content: &Content, starter: Pid, pid: Pid) -> bool
     requires shaped { IsShaped content.now }
     requires kept { IsKept (content_of content.now) }
     requires live { is_live (table_at content.now.marks) starter.0 ≡ true }
-    ensures { result ≡ not (others_open (table_at content.now.marks) starter.0 pid.0 (length content.now.marks)) }
+    ensures { result ≡ not
+        (others_open (table_at content.now.marks) starter.0 pid.0 (length content.now.marks)) }
 {
     let boxed = content.txns.get(starter).unwrap();
     is_last_open(&content.marks, starter, pid, &boxed.txn.objects)
@@ -146,7 +150,8 @@ fn is_member_ended(content: &Content, pid: Pid, mark: Mark, proc: &Proc, signo: 
     requires kept { IsKept (content_of content.now) }
     requires live { is_live (table_at content.now.marks) mark.starter.0 ≡ true }
     requires marked { slot_at content.now.marks pid.0 ≡ Some mark }
-    ensures { result ≡ ends_by (inside_by (table_at content.now.marks) (Some mark)) signo.0 (process_of proc.now) (delivered_value signo.0 (process_of proc.now)) }
+    ensures { result ≡ ends_by (inside_by (table_at content.now.marks) (Some mark)) signo.0
+        (process_of proc.now) (delivered_value signo.0 (process_of proc.now)) }
 {
     let boxed = content.txns.get(mark.starter).unwrap();
     let actor = Actor {

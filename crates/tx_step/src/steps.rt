@@ -6,18 +6,18 @@ ghost use Rattle.tx_step.specs.Early.{early_refusal};
 ghost use Rattle.tx_live.specs.Content.{view_of};
 ghost use Rattle.tx_live.specs.Insides.{IsFootprint};
 ghost use Rattle.tx_model.specs.View.{event_on};
-ghost use Rattle.tx_step.specs.Asks.{step_of};
+ghost use Rattle.tx_step.specs.Requests.{step_of};
 ghost use Rattle.tx_step.specs.Steps.{Takes};
 ghost use Rattle.tx_step.specs.Through.{IsLetThrough};
 
 use crate::aborts::take_abort;
 use crate::answered::Answered;
-use crate::asked::Asked;
 use crate::begins::take_begin;
 use crate::ends::take_end;
 use crate::inside::take_inside;
 use crate::laws::laws;
 use crate::outside::take_outside;
+use crate::request::Request;
 use crate::roles::StepRole;
 use std::alloc::Global;
 use tx_base::{Call, Pid, Refusal, Signo};
@@ -39,7 +39,7 @@ pub fn take_call(
     requires { IsContent content.old }
     ensures { Takes content.old (Calls pid call.now) result inverse.new content.new }
 {
-    take_asked(content, alloc, pid, Asked::Call(call), inverse)
+    take_request(content, alloc, pid, Request::Call(call), inverse)
 }
 
 /// Delivers a signal to a process at which it is pending. Answers what the delivery is answered, and puts
@@ -58,80 +58,81 @@ pub fn take_delivery(
     requires { IsContent content.old }
     ensures { Takes content.old (Deliver pid signo) result inverse.new content.new }
 {
-    take_asked(content, alloc, pid, Asked::Delivery(signo), inverse)
+    take_request(content, alloc, pid, Request::Delivery(signo), inverse)
 }
 
-/// Makes what a process is asked to do, where nothing refuses it.
-fn take_asked(
+/// Makes what a step requests of a process, where nothing refuses it.
+fn take_request(
     content: &mut Content,
     alloc: Global,
     pid: Pid,
-    asked: Asked,
+    request: Request,
     inverse: &mut Inverse,
 ) -> Result<Answered, Refusal>
     requires { IsContent content.old }
-    ensures { Takes content.old (step_of pid asked.entry) result inverse.new content.new }
+    ensures { Takes content.old (step_of pid request.entry) result inverse.new content.new }
 {
     laws();
-    if let Some(why) = asked.early_refusal(content, pid) {
+    if let Some(why) = request.early_refusal(content, pid) {
         return Err(why);
     }
     if content.txns.is_idle() {
-        return take_alone(content, alloc, pid, asked, inverse);
+        return take_alone(content, alloc, pid, request, inverse);
     }
-    let role = asked.role(content, pid);
+    let role = request.role(content, pid);
     let mut footprint = Objects::new();
-    if let Some(starter) = asked.way(content, pid, role, &mut footprint) {
+    if let Some(starter) = request.way(content, pid, role, &mut footprint) {
         return Err(Refusal::Busy { starter });
     }
-    take_as(content, alloc, pid, role, asked, &footprint, inverse)
+    take_as(content, alloc, pid, role, request, &footprint, inverse)
 }
 
-/// Makes what a process is asked to do that nothing refuses early, where no transaction is live: so
+/// Makes what a step requests of a process, which nothing refuses early, where no transaction is live: so
 /// nobody is in its way.
 fn take_alone(
     content: &mut Content,
     alloc: Global,
     pid: Pid,
-    asked: Asked,
+    request: Request,
     inverse: &mut Inverse,
 ) -> Result<Answered, Refusal>
     requires content { IsContent content.old }
-    requires early { early_refusal (view_of content.old) pid.0 (step_of pid asked) ≡ None }
+    requires early { early_refusal (view_of content.old) pid.0 (step_of pid request) ≡ None }
     requires idle { IsIdle content.old }
-    ensures { Takes content.old (step_of pid asked.entry) result inverse.new content.new }
+    ensures { Takes content.old (step_of pid request.entry) result inverse.new content.new }
 {
     laws();
-    match asked.beginning(content, pid) {
-        Some(defers) => take_begin(content, alloc, pid, defers, asked, inverse),
-        None => take_outside(content, alloc, pid, asked, inverse),
+    match request.beginning(content, pid) {
+        Some(defers) => take_begin(content, alloc, pid, defers, request, inverse),
+        None => take_outside(content, alloc, pid, request, inverse),
     }
 }
 
-/// Makes what a process is asked to do, as what it is to the transactions.
+/// Makes what a step requests of a process, as what it is to the transactions.
 fn take_as(
     content: &mut Content,
     alloc: Global,
     pid: Pid,
     role: StepRole,
-    asked: Asked,
+    request: Request,
     footprint: &Objects,
     inverse: &mut Inverse,
 ) -> Result<Answered, Refusal>
     requires content { IsContent content.old }
-    requires through { IsLetThrough content.old pid asked role }
-    requires footprint { IsFootprint content.old (event_on (view_of content.old) (step_of pid asked)) footprint.now }
-    ensures { Takes content.old (step_of pid asked.entry) result inverse.new content.new }
+    requires through { IsLetThrough content.old pid request role }
+    requires footprint { IsFootprint content.old
+        (event_on (view_of content.old) (step_of pid request)) footprint.now }
+    ensures { Takes content.old (step_of pid request.entry) result inverse.new content.new }
 {
     match role {
-        StepRole::Outside => take_outside(content, alloc, pid, asked, inverse),
-        StepRole::Begins(defers) => take_begin(content, alloc, pid, defers, asked, inverse),
+        StepRole::Outside => take_outside(content, alloc, pid, request, inverse),
+        StepRole::Begins(defers) => take_begin(content, alloc, pid, defers, request, inverse),
         StepRole::Inside(starter, progress) => {
             take_inside(
-                content, alloc, pid, starter, progress, asked, footprint, inverse,
+                content, alloc, pid, starter, progress, request, footprint, inverse,
             )
         }
-        StepRole::Commits(starter) => take_end(content, alloc, pid, starter, asked, inverse),
-        StepRole::Aborts(starter) => Ok(take_abort(content, pid, starter, asked, inverse)),
+        StepRole::Commits(starter) => take_end(content, alloc, pid, starter, request, inverse),
+        StepRole::Aborts(starter) => Ok(take_abort(content, pid, starter, request, inverse)),
     }
 }

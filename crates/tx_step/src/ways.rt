@@ -1,6 +1,6 @@
 //! What a step names, and who is in its way.
 ghost use Rattle.std.specs.Option.{option_copied};
-ghost use Rattle.std.specs.Prelude.{◌≡◌, true, false, map, length, [], ◌∷◌, option_map};
+ghost use Rattle.std.specs.Prelude.{◌≡◌, false, map, length, [], ◌∷◌, option_map};
 ghost use Rattle.tx_base.specs.Slots.{slot_at};
 ghost use Rattle.tx_base.specs.declared.steps.Step.TheVariants.{Call as Calls, Deliver};
 ghost use Rattle.tx_step.specs.Contents.{IsContent};
@@ -46,11 +46,15 @@ pub fn way_of_call(
 ) -> Option<Pid>
     requires content { IsContent content.now }
     requires running { IsRunning (slot_at content.now.parts.procs pid.0) }
-    requires numbers { has_bad_number (length content.now.parts.procs) (Calls pid call.now) ≡ false }
+    requires numbers { has_bad_number (length content.now.parts.procs) (Calls pid call.now)
+        ≡ false }
     requires role { role_as pid.0 role ≡ role_on (view_of content.now) (Calls pid call.now) }
     requires empty { (o : TheObject) → is_in footprint.old o ≡ false }
-    ensures footprint { IsFootprint content.now (event_on (view_of content.now) (Calls pid call.now)) footprint.new }
-    ensures starter_in_way { option_map number_of result ≡ starter_in_way (view_of content.now) (event_on (view_of content.now) (Calls pid call.now)) }
+    ensures footprint { IsFootprint content.now
+        (event_on (view_of content.now) (Calls pid call.now)) footprint.new }
+    ensures starter_in_way { option_map number_of result
+        ≡ starter_in_way (view_of content.now)
+        (event_on (view_of content.now) (Calls pid call.now)) }
 {
     way_laws();
     match role {
@@ -76,8 +80,11 @@ pub fn way_of_delivery(
     requires running { IsRunning (slot_at content.now.parts.procs pid.0) }
     requires role { role_as pid.0 role ≡ role_on (view_of content.now) (Deliver pid signo) }
     requires empty { (o : TheObject) → is_in footprint.old o ≡ false }
-    ensures footprint { IsFootprint content.now (event_on (view_of content.now) (Deliver pid signo)) footprint.new }
-    ensures starter_in_way { option_map number_of result ≡ starter_in_way (view_of content.now) (event_on (view_of content.now) (Deliver pid signo)) }
+    ensures footprint { IsFootprint content.now (event_on (view_of content.now) (Deliver pid signo))
+        footprint.new }
+    ensures starter_in_way { option_map number_of result
+        ≡ starter_in_way (view_of content.now)
+        (event_on (view_of content.now) (Deliver pid signo)) }
 {
     way_laws();
     let actor = actor_of(content, pid);
@@ -97,12 +104,16 @@ fn way_of_others_call(
 ) -> Option<Pid>
     requires content { IsContent content.now }
     requires running { IsRunning (slot_at content.now.parts.procs pid.0) }
-    requires numbers { has_bad_number (length content.now.parts.procs) (Calls pid call.now) ≡ false }
+    requires numbers { has_bad_number (length content.now.parts.procs) (Calls pid call.now)
+        ≡ false }
     requires role { role_as pid.0 role ≡ role_on (view_of content.now) (Calls pid call.now) }
     requires no_abort { is_abort (role_on (view_of content.now) (Calls pid call.now)) ≡ false }
     requires empty { (o : TheObject) → is_in footprint.old o ≡ false }
-    ensures footprint { IsFootprint content.now (event_on (view_of content.now) (Calls pid call.now)) footprint.new }
-    ensures starter_in_way { option_map number_of result ≡ starter_in_way (view_of content.now) (event_on (view_of content.now) (Calls pid call.now)) }
+    ensures footprint { IsFootprint content.now
+        (event_on (view_of content.now) (Calls pid call.now)) footprint.new }
+    ensures starter_in_way { option_map number_of result
+        ≡ starter_in_way (view_of content.now)
+        (event_on (view_of content.now) (Calls pid call.now)) }
 {
     way_laws();
     let actor = actor_of(content, pid);
@@ -123,8 +134,10 @@ fn way_of_process(
     requires kept { IsKept (content_of content.now) }
     requires empty { (o : TheObject) → is_in footprint.old o ≡ false }
     ensures set { IsSetOf footprint.new (Proc process.0 ∷ []) }
-    ensures starter_in_way { (event : Event) → IsFootprint content.now event footprint.new → (effect event (now_of content.now)).sends ≡ [] →
-        IsOfMember content.now (option_map number_of own) event → option_map number_of result ≡ starter_in_way (view_of content.now) event }
+    ensures starter_in_way { (event : Event) → IsFootprint content.now event footprint.new →
+        (effect event (now_of content.now)).sends ≡ [] →
+        IsOfMember content.now (option_map number_of own) event →
+        option_map number_of result ≡ starter_in_way (view_of content.now) event }
 {
     answers_of_faces();
     footprint.insert(Object::Proc(process));
@@ -152,7 +165,8 @@ pub fn actor_of<'a>(content: &'a Content, pid: Pid) -> Actor<'a>
 fn inside_of<'a>(content: &'a Content, pid: Pid) -> Option<Inside<'a>>
     requires shaped { IsShaped content.now }
     requires kept { IsKept (content_of content.now) }
-    ensures inside { inside_of result ≡ inside_by (table_at content.now.marks) (slot_at content.now.marks pid.0) }
+    ensures inside { inside_of result
+        ≡ inside_by (table_at content.now.marks) (slot_at content.now.marks pid.0) }
     ensures held { CountsHeld result (held_of content.now) }
 {
     let mark = content.marks.get(pid)?;
@@ -198,8 +212,10 @@ fn find_in_way(
     first: &Sends,
 ) -> Option<Pid>
     requires { IsKept (content_of content.now) }
-    ensures { (event : Event) → IsFootprint content.now event footprint.now → (effect event (now_of content.now)).sends ≡ posted_with content.now role first.now →
-        IsOfMember content.now (starter_in (slot_at content.now.marks pid.0)) event → option_map number_of result ≡ starter_in_way (view_of content.now) event }
+    ensures { (event : Event) → IsFootprint content.now event footprint.now →
+        (effect event (now_of content.now)).sends ≡ posted_with content.now role first.now →
+        IsOfMember content.now (starter_in (slot_at content.now.marks pid.0)) event →
+        option_map number_of result ≡ starter_in_way (view_of content.now) event }
 {
     let own = starter_of(content, pid);
     match role {

@@ -25,7 +25,8 @@ fn opened() -> Result<(FdTable, Descs), Fail>
 fn is_alone(table: &FdTable, descs: &Descs)
     requires { Agrees (table.now ∷ []) descs.now }
     ensures backed { IsBacked 16 table.now descs.now }
-    ensures room { (fd : Option ℕ) (room : ℕ) → room ≤ 16 → HasRoom room (named_in table.now fd) descs.now }
+    ensures room { (fd : Option ℕ) (room : ℕ) → room ≤ 16 →
+        HasRoom room (named_in table.now fd) descs.now }
 {
     room_for_names();
     table.sized();

@@ -10,6 +10,7 @@ use tx_base::{Call, DescNo, NoMemory, Pid, PipeNo, Reply, Step};
 use tx_core::{Free, Machine, NoTransaction};
 use tx_journal::print_state;
 use tx_lines::read_schedule;
+use tx_reserve::{Object, footprint};
 
 #[test]
 fn runs_a_schedule(rt: HostRuntime) -> Result<(), Fail> {
@@ -129,5 +130,26 @@ fn picks_the_least_free_numbers(rt: HostRuntime) -> Result<(), Fail> {
     assert!(rt; other == Some([4, 1, 2, 3]), "reserved from others");
     let aborted = free_after(rt.alloc(), &taken_back(), 3)?;
     assert!(rt; aborted == Some([4, 0, 0, 1]));
+    Ok(())
+}
+
+#[test]
+fn a_kill_names_its_target(rt: HostRuntime) -> Result<(), Fail> {
+    let machine = Machine::boot(rt.alloc(), 3)?;
+    let step = Step::Call(Pid(2), Call::Kill(3, 10));
+    let named = footprint(machine.parts(), machine.marks(), &[], &step);
+    assert!(rt; named.has(Object::Proc(Pid(2))) && named.has(Object::Proc(Pid(3))));
+    assert!(rt; !named.has(Object::Proc(Pid(1))));
+    Ok(())
+}
+
+#[test]
+fn a_missing_process_names_itself_and_the_kernel_nothing(rt: HostRuntime) -> Result<(), Fail> {
+    let machine = Machine::boot(rt.alloc(), 3)?;
+    let missing = Step::Call(Pid(9), Call::Kill(3, 10));
+    let named = footprint(machine.parts(), machine.marks(), &[], &missing);
+    assert!(rt; named.has(Object::Proc(Pid(9))) && !named.has(Object::Proc(Pid(3))));
+    let abort = Step::KernelAbort(Pid(2));
+    assert!(rt; footprint(machine.parts(), machine.marks(), &[], &abort).is_empty());
     Ok(())
 }

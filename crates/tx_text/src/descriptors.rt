@@ -25,7 +25,8 @@ pub fn put_fds(text: &mut String, table: &FdTable) -> Result<(), AllocError>
 
 /// Appends the line of a descriptor, where it is open.
 fn put_fd_line(text: &mut String, fd: usize, name: Option<DescNo>) -> Result<(), AllocError>
-    ensures { OnOk result (string_bytes text.new ≡ string_bytes text.old ++ fd_line fd (number_in name)) }
+    ensures { OnOk result
+        (string_bytes text.new ≡ string_bytes text.old ++ fd_line fd (number_in name)) }
 {
     match name {
         Some(number) => {
@@ -41,7 +42,8 @@ fn put_fd_line(text: &mut String, fd: usize, name: Option<DescNo>) -> Result<(),
 
 /// Appends the line of each description, by rising number.
 pub fn put_descs(text: &mut String, descs: &Descs) -> Result<(), AllocError>
-    ensures { OnOk result (string_bytes text.new ≡ string_bytes text.old ++ descs_text (description_at descs.now)) }
+    ensures { OnOk result
+        (string_bytes text.new ≡ string_bytes text.old ++ descs_text (description_at descs.now)) }
 {
     for number in 0..DESCRIPTIONS {
         put_desc_line(text, number, descs.get(DescNo(number as u8)))?;
@@ -51,7 +53,8 @@ pub fn put_descs(text: &mut String, descs: &Descs) -> Result<(), AllocError>
 
 /// Appends the line of the number of a description: none where there is none.
 fn put_desc_line(text: &mut String, number: usize, opened: Option<Opened>) -> Result<(), AllocError>
-    ensures { OnOk result (string_bytes text.new ≡ string_bytes text.old ++ desc_line number (described opened)) }
+    ensures { OnOk result
+        (string_bytes text.new ≡ string_bytes text.old ++ desc_line number (described opened)) }
 {
     match opened {
         Some(opened) => put_desc(text, number, opened.desc),
@@ -61,7 +64,8 @@ fn put_desc_line(text: &mut String, number: usize, opened: Option<Opened>) -> Re
 
 /// Appends the line of a description.
 fn put_desc(text: &mut String, number: usize, desc: Desc) -> Result<(), AllocError>
-    ensures { OnOk result (string_bytes text.new ≡ string_bytes text.old ++ desc_text number (description_of desc)) }
+    ensures { OnOk result
+        (string_bytes text.new ≡ string_bytes text.old ++ desc_text number (description_of desc)) }
 {
     put(text, "desc ")?;
     put_count(text, number as u64)?;
@@ -90,7 +94,8 @@ fn wait(nonblock: bool) -> &'static str
 
 /// Appends the line of each pipe, by rising number.
 pub fn put_pipes(text: &mut String, pipes: &PipeTable) -> Result<(), AllocError>
-    ensures { OnOk result (string_bytes text.new ≡ string_bytes text.old ++ pipes_text (pipe_at pipes.now)) }
+    ensures { OnOk result
+        (string_bytes text.new ≡ string_bytes text.old ++ pipes_text (pipe_at pipes.now)) }
 {
     for number in 0..PIPES {
         put_pipe_line(text, number, pipes.get(PipeNo(number as u8)))?;
@@ -100,7 +105,9 @@ pub fn put_pipes(text: &mut String, pipes: &PipeTable) -> Result<(), AllocError>
 
 /// Appends the line of the number of a pipe: none where there is none.
 fn put_pipe_line(text: &mut String, number: usize, pipe: Option<&Pipe>) -> Result<(), AllocError>
-    ensures { OnOk result (string_bytes text.new ≡ string_bytes text.old ++ pipe_line number (option_copied pipe.entry)) }
+    ensures { OnOk result
+        (string_bytes text.new ≡ string_bytes text.old
+        ++ pipe_line number (option_copied pipe.entry)) }
 {
     match pipe {
         Some(pipe) => {

@@ -19,7 +19,8 @@ impl Links {
 
     /// The links of the marks of the numbers up to a width.
     pub fn new(alloc: Global, marks: &Slots<Mark>, width: u16) -> Result<Links, AllocError>
-        ensures { IfOk result (λ links. AreLinkedAbove 0 width (slot_at marks.now) links.firsts.items links.nexts.items) }
+        ensures { IfOk result (λ links.
+            AreLinkedAbove 0 width (slot_at marks.now) links.firsts.items links.nexts.items) }
     {
         let count = width as usize + 1;
         let mut firsts = vec![in alloc; count; count]?;

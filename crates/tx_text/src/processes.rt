@@ -19,7 +19,9 @@ use tx_proc::Proc;
 
 /// Appends the lines of the processes of the numbers up to a width, by rising number.
 pub fn put_procs(text: &mut String, parts: &Parts, width: u16) -> Result<(), AllocError>
-    ensures { OnOk result (string_bytes text.new ≡ string_bytes text.old ++ procs_text width (state_of (λ starter. []) parts.now).procs) }
+    ensures { OnOk result
+        (string_bytes text.new ≡ string_bytes text.old
+        ++ procs_text width (state_of (λ starter. []) parts.now).procs) }
 {
     for done in 0..width {
         let pid = Pid(done + 1);
@@ -30,7 +32,9 @@ pub fn put_procs(text: &mut String, parts: &Parts, width: u16) -> Result<(), All
 
 /// Appends the lines of a process number: none where there is no process.
 fn put_slot_lines(text: &mut String, pid: Pid, slot: Option<&Proc>) -> Result<(), AllocError>
-    ensures { OnOk result (string_bytes text.new ≡ string_bytes text.old ++ process_lines pid.0 (process_in (option_copied slot.entry))) }
+    ensures { OnOk result
+        (string_bytes text.new ≡ string_bytes text.old
+        ++ process_lines pid.0 (process_in (option_copied slot.entry))) }
 {
     match slot {
         Some(proc) => put_proc(text, pid, proc),
@@ -40,7 +44,9 @@ fn put_slot_lines(text: &mut String, pid: Pid, slot: Option<&Proc>) -> Result<()
 
 /// Appends the lines of a process.
 fn put_proc(text: &mut String, pid: Pid, proc: &Proc) -> Result<(), AllocError>
-    ensures { OnOk result (string_bytes text.new ≡ string_bytes text.old ++ process_text pid.0 (process_of proc.now)) }
+    ensures { OnOk result
+        (string_bytes text.new ≡ string_bytes text.old
+        ++ process_text pid.0 (process_of proc.now)) }
 {
     put_head(text, pid, proc)?;
     put_own(text, proc)
@@ -48,7 +54,8 @@ fn put_proc(text: &mut String, pid: Pid, proc: &Proc) -> Result<(), AllocError>
 
 /// Appends the first line of a process.
 fn put_head(text: &mut String, pid: Pid, proc: &Proc) -> Result<(), AllocError>
-    ensures { OnOk result (string_bytes text.new ≡ string_bytes text.old ++ head_text pid.0 (process_of proc.now)) }
+    ensures { OnOk result
+        (string_bytes text.new ≡ string_bytes text.old ++ head_text pid.0 (process_of proc.now)) }
 {
     put(text, "proc ")?;
     put_count(text, u64::from(pid.0))?;
@@ -59,7 +66,8 @@ fn put_head(text: &mut String, pid: Pid, proc: &Proc) -> Result<(), AllocError>
 
 /// Appends what follows the number and the parent of a process.
 fn put_end(text: &mut String, proc: &Proc) -> Result<(), AllocError>
-    ensures { OnOk result (string_bytes text.new ≡ string_bytes text.old ++ end_text proc.now.status proc.now.regs) }
+    ensures { OnOk result
+        (string_bytes text.new ≡ string_bytes text.old ++ end_text proc.now.status proc.now.regs) }
 {
     match proc.status {
         Some(status) => put_status(text, status),
@@ -83,7 +91,8 @@ fn put_status(text: &mut String, status: u16) -> Result<(), AllocError>
 
 /// Appends the lines of what a process has.
 fn put_own(text: &mut String, proc: &Proc) -> Result<(), AllocError>
-    ensures { OnOk result (string_bytes text.new ≡ string_bytes text.old ++ own_text (process_of proc.now)) }
+    ensures { OnOk result
+        (string_bytes text.new ≡ string_bytes text.old ++ own_text (process_of proc.now)) }
 {
     put_ids(text, proc.cred)?;
     put_slots_line(text, &proc.regs.slots)?;
@@ -94,7 +103,8 @@ fn put_own(text: &mut String, proc: &Proc) -> Result<(), AllocError>
 
 /// Appends the line of the ids, where one is not 0.
 fn put_ids(text: &mut String, cred: Cred) -> Result<(), AllocError>
-    ensures { OnOk result (string_bytes text.new ≡ string_bytes text.old ++ ids_line (ids_of cred)) }
+    ensures { OnOk result
+        (string_bytes text.new ≡ string_bytes text.old ++ ids_line (ids_of cred)) }
 {
     if are_root(cred) {
         return Ok(());
@@ -124,7 +134,8 @@ fn are_root(cred: Cred) -> bool
 
 /// Appends three ids, each after a space.
 fn put_three(text: &mut String, real: u16, effective: u16, saved: u16) -> Result<(), AllocError>
-    ensures { OnOk result (string_bytes text.new ≡ string_bytes text.old ++ three_ids real effective saved) }
+    ensures { OnOk result
+        (string_bytes text.new ≡ string_bytes text.old ++ three_ids real effective saved) }
 {
     put(text, " ")?;
     put_count(text, u64::from(real))?;
@@ -146,7 +157,9 @@ fn put_pages(text: &mut String, space: &Space) -> Result<(), AllocError>
 
 /// Appends the line of a page number: none where it is not mapped.
 fn put_page_line(text: &mut String, number: usize, page: Option<&Page>) -> Result<(), AllocError>
-    ensures { OnOk result (string_bytes text.new ≡ string_bytes text.old ++ page_line number (option_copied page.entry)) }
+    ensures { OnOk result
+        (string_bytes text.new ≡ string_bytes text.old
+        ++ page_line number (option_copied page.entry)) }
 {
     match page {
         Some(page) => put_page(text, number, page),
@@ -156,7 +169,8 @@ fn put_page_line(text: &mut String, number: usize, page: Option<&Page>) -> Resul
 
 /// Appends the line of a page.
 fn put_page(text: &mut String, number: usize, page: &Page) -> Result<(), AllocError>
-    ensures { OnOk result (string_bytes text.new ≡ string_bytes text.old ++ page_text number page.now) }
+    ensures { OnOk result
+        (string_bytes text.new ≡ string_bytes text.old ++ page_text number page.now) }
 {
     put(text, "page ")?;
     put_count(text, number as u64)?;

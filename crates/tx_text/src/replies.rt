@@ -38,7 +38,8 @@ pub fn put_reply(text: &mut String, reply: &Reply) -> Result<(), AllocError>
 
 /// Appends the held sends that could not be delivered, in order.
 fn put_undelivered(text: &mut String, undelivered: &[Missed]) -> Result<(), AllocError>
-    ensures { OnOk result (string_bytes text.new ≡ string_bytes text.old ++ undelivered_text undelivered.now) }
+    ensures { OnOk result
+        (string_bytes text.new ≡ string_bytes text.old ++ undelivered_text undelivered.now) }
 {
     for i in 0..undelivered.len() {
         put_missed(text, &undelivered[i])?;
@@ -48,7 +49,8 @@ fn put_undelivered(text: &mut String, undelivered: &[Missed]) -> Result<(), Allo
 
 /// Appends a held send that could not be delivered: its target, its signal and its error's number.
 fn put_missed(text: &mut String, missed: &Missed) -> Result<(), AllocError>
-    ensures { OnOk result (string_bytes text.new ≡ string_bytes text.old ++ missed_text missed.now) }
+    ensures { OnOk result
+        (string_bytes text.new ≡ string_bytes text.old ++ missed_text missed.now) }
 {
     put(text, " ")?;
     put_count(text, u64::from(missed.target.0))?;

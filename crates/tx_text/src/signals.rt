@@ -15,7 +15,8 @@ use tx_signal::{Actions, Frame, Queued};
 /// Appends the lines of a process's signals: its mask, actions, pending standard signals, queue and
 /// frames.
 pub fn put_signals(text: &mut String, proc: &Proc) -> Result<(), AllocError>
-    ensures { OnOk result (string_bytes text.new ≡ string_bytes text.old ++ signals_text (process_of proc.now)) }
+    ensures { OnOk result
+        (string_bytes text.new ≡ string_bytes text.old ++ signals_text (process_of proc.now)) }
 {
     put_set_line(text, "mask ", proc.mask)?;
     put_actions(text, &proc.actions)?;
@@ -26,7 +27,8 @@ pub fn put_signals(text: &mut String, proc: &Proc) -> Result<(), AllocError>
 
 /// Appends the line of a set after a word, where the set is not empty.
 fn put_set_line(text: &mut String, word: &str, set: SigSet) -> Result<(), AllocError>
-    ensures { OnOk result (string_bytes text.new ≡ string_bytes text.old ++ set_line word.now (bits_of set)) }
+    ensures { OnOk result
+        (string_bytes text.new ≡ string_bytes text.old ++ set_line word.now (bits_of set)) }
 {
     if set.is_empty() {
         return Ok(());
@@ -38,7 +40,8 @@ fn put_set_line(text: &mut String, word: &str, set: SigSet) -> Result<(), AllocE
 
 /// Appends the line of each action that is not the usual one, by rising signal.
 fn put_actions(text: &mut String, actions: &Actions) -> Result<(), AllocError>
-    ensures { OnOk result (string_bytes text.new ≡ string_bytes text.old ++ actions_text actions.now) }
+    ensures { OnOk result
+        (string_bytes text.new ≡ string_bytes text.old ++ actions_text actions.now) }
 {
     for number in 0..SIGNALS {
         let signo = Signo(number as u8);
@@ -49,7 +52,8 @@ fn put_actions(text: &mut String, actions: &Actions) -> Result<(), AllocError>
 
 /// Appends the line of the action of a signal, where it is not the usual one.
 fn put_action_line(text: &mut String, signo: Signo, action: Action) -> Result<(), AllocError>
-    ensures { OnOk result (string_bytes text.new ≡ string_bytes text.old ++ action_line signo.0 action) }
+    ensures { OnOk result
+        (string_bytes text.new ≡ string_bytes text.old ++ action_line signo.0 action) }
 {
     match action {
         Action::Usual => Ok(()),
@@ -72,7 +76,8 @@ fn put_action_line(text: &mut String, signo: Signo, action: Action) -> Result<()
 
 /// Appends the line of the queue, where there is an entry.
 fn put_queued_line(text: &mut String, entries: &[Queued]) -> Result<(), AllocError>
-    ensures { OnOk result (string_bytes text.new ≡ string_bytes text.old ++ queued_line entries.now) }
+    ensures { OnOk result
+        (string_bytes text.new ≡ string_bytes text.old ++ queued_line entries.now) }
 {
     if entries.is_empty() {
         return Ok(());
@@ -96,7 +101,8 @@ fn put_entry(text: &mut String, entry: &Queued) -> Result<(), AllocError>
 
 /// Appends the line of each frame, the oldest first.
 fn put_frames(text: &mut String, frames: &[Frame]) -> Result<(), AllocError>
-    ensures { OnOk result (string_bytes text.new ≡ string_bytes text.old ++ frames_text frames.now) }
+    ensures { OnOk result
+        (string_bytes text.new ≡ string_bytes text.old ++ frames_text frames.now) }
 {
     for i in 0..frames.len() {
         put_frame(text, &frames[i])?;

@@ -21,9 +21,13 @@ pub fn put_txn_lines(
     pid: Pid,
     sendings: &[Sending],
 ) -> Result<(), AllocError>
-    requires links { AreLinkedAbove 0 width (slot_at marks.now) links.now.firsts.items links.now.nexts.items }
+    requires links { AreLinkedAbove 0 width (slot_at marks.now) links.now.firsts.items
+        links.now.nexts.items }
     requires inside { pid.0 ≤ width }
-    ensures { OnOk result (string_bytes text.new ≡ string_bytes text.old ++ mark_text width (slot_at marks.now) pid.0 (map sending_of sendings.now) (slot_at marks.now pid.0)) }
+    ensures { OnOk result
+        (string_bytes text.new ≡ string_bytes text.old
+        ++ mark_text width (slot_at marks.now) pid.0 (map sending_of sendings.now)
+        (slot_at marks.now pid.0)) }
 {
     match marks.get(pid) {
         Some(mark) => {
@@ -46,9 +50,12 @@ fn put_txn(
     starter: Pid,
     defers: bool,
 ) -> Result<(), AllocError>
-    requires links { AreLinkedAbove 0 width (slot_at marks.now) links.now.firsts.items links.now.nexts.items }
+    requires links { AreLinkedAbove 0 width (slot_at marks.now) links.now.firsts.items
+        links.now.nexts.items }
     requires inside { starter.0 ≤ width }
-    ensures { OnOk result (string_bytes text.new ≡ string_bytes text.old ++ txn_text width (slot_at marks.now) starter.0 defers) }
+    ensures { OnOk result
+        (string_bytes text.new ≡ string_bytes text.old
+        ++ txn_text width (slot_at marks.now) starter.0 defers) }
 {
     put(text, "txn ")?;
     put_count(text, u64::from(starter.0))?;
@@ -76,9 +83,12 @@ fn put_members(
     starter: Pid,
     ended: bool,
 ) -> Result<(), AllocError>
-    requires links { AreLinkedAbove 0 width (slot_at marks.now) links.now.firsts.items links.now.nexts.items }
+    requires links { AreLinkedAbove 0 width (slot_at marks.now) links.now.firsts.items
+        links.now.nexts.items }
     requires inside { starter.0 ≤ width }
-    ensures { OnOk result (string_bytes text.new ≡ string_bytes text.old ++ members_text width (slot_at marks.now) starter.0 ended) }
+    ensures { OnOk result
+        (string_bytes text.new ≡ string_bytes text.old
+        ++ members_text width (slot_at marks.now) starter.0 ended) }
 {
     let mut some = false;
     let mut number = links.firsts[starter.0 as usize];
@@ -103,7 +113,9 @@ fn is_listed(mark: Option<&Mark>, starter: Pid, ended: bool) -> bool
 
 /// Appends the line of each send that is held, in order.
 fn put_helds(text: &mut String, sendings: &[Sending]) -> Result<(), AllocError>
-    ensures { OnOk result (string_bytes text.new ≡ string_bytes text.old ++ helds_text (map sending_of sendings.now)) }
+    ensures { OnOk result
+        (string_bytes text.new ≡ string_bytes text.old
+        ++ helds_text (map sending_of sendings.now)) }
 {
     for i in 0..sendings.len() {
         put_held(text, &sendings[i])?;
@@ -113,7 +125,8 @@ fn put_helds(text: &mut String, sendings: &[Sending]) -> Result<(), AllocError>
 
 /// Appends the line of a send that is held: its target, its signal and its value.
 fn put_held(text: &mut String, sending: &Sending) -> Result<(), AllocError>
-    ensures { OnOk result (string_bytes text.new ≡ string_bytes text.old ++ held_text (sending_of sending.now)) }
+    ensures { OnOk result
+        (string_bytes text.new ≡ string_bytes text.old ++ held_text (sending_of sending.now)) }
 {
     put(text, "held ")?;
     put_count(text, u64::from(sending.target.0))?;

@@ -81,8 +81,12 @@ impl Kept {
     /// takes the post back, where it changed anything.
     pub fn post(&mut self, sending: &Sending) -> Option<Unpost>
         requires { sending.now.signo.0 < 64 }
-        ensures received { (me : Process) → target_after (sending_of sending.now) (Some (kept_as self.old me)) ≡ Some (kept_as self.new me) }
-        ensures pending { self.new.pending ≡ pending_after (sending_of sending.now) (Some (running (ids_of self.old.ids))) self.old.pending }
+        ensures received { (me : Process) →
+            target_after (sending_of sending.now) (Some (kept_as self.old me))
+            ≡ Some (kept_as self.new me) }
+        ensures pending { self.new.pending
+            ≡ pending_after (sending_of sending.now) (Some (running (ids_of self.old.ids)))
+            self.old.pending }
         ensures ids { self.new.ids ≡ self.old.ids }
         ensures back { unposted result self.new.pending ≡ self.old.pending }
     {

@@ -33,10 +33,13 @@ impl Members {
     /// these objects, and not over the table.
     pub fn take(marks: &mut Slots<Mark>, starter: Pid, objects: &Objects) -> Members
         requires { IsCovered starter.0 marks.old objects.now }
-        ensures marks { (n : ℕ) → slot_at marks.new n ≡ mark_unless_of starter.0 (slot_at marks.old n) }
+        ensures marks { (n : ℕ) →
+            slot_at marks.new n ≡ mark_unless_of starter.0 (slot_at marks.old n) }
         ensures length { length marks.new ≡ length marks.old }
-        ensures joined { (n : ℕ) → is_in result.joined (Proc n) ≡ is_of starter.0 (slot_at marks.old n) }
-        ensures ended { (n : ℕ) → is_in result.ended (Proc n) ≡ ended_of starter.0 (slot_at marks.old n) }
+        ensures joined { (n : ℕ) →
+            is_in result.joined (Proc n) ≡ is_of starter.0 (slot_at marks.old n) }
+        ensures ended { (n : ℕ) →
+            is_in result.ended (Proc n) ≡ ended_of starter.0 (slot_at marks.old n) }
     {
         let mut members = Members::none();
         let mut rest = *objects;
@@ -49,10 +52,18 @@ impl Members {
     /// Takes the mark of a number out, if it is one of that starter's transaction.
     fn take_one(&mut self, marks: &mut Slots<Mark>, starter: Pid, pid: Pid)
         requires { pid.0 ≤ 256 }
-        ensures marks { (n : ℕ) → slot_at marks.new n ≡ (if n == pid.0 then mark_unless_of starter.0 (slot_at marks.old n) else slot_at marks.old n) }
+        ensures marks { (n : ℕ) →
+            slot_at marks.new n ≡ (if n == pid.0 then mark_unless_of starter.0 (slot_at marks.old n)
+            else slot_at marks.old n) }
         ensures length { length marks.new ≡ length marks.old }
-        ensures joined { (n : ℕ) → is_in self.new.joined (Proc n) ≡ (if n == pid.0 then is_of starter.0 (slot_at marks.old n) || is_in self.old.joined (Proc n) else is_in self.old.joined (Proc n)) }
-        ensures ended { (n : ℕ) → is_in self.new.ended (Proc n) ≡ (if n == pid.0 then ended_of starter.0 (slot_at marks.old n) || is_in self.old.ended (Proc n) else is_in self.old.ended (Proc n)) }
+        ensures joined { (n : ℕ) →
+            is_in self.new.joined (Proc n)
+            ≡ (if n == pid.0 then is_of starter.0 (slot_at marks.old n)
+            || is_in self.old.joined (Proc n) else is_in self.old.joined (Proc n)) }
+        ensures ended { (n : ℕ) →
+            is_in self.new.ended (Proc n)
+            ≡ (if n == pid.0 then ended_of starter.0 (slot_at marks.old n)
+            || is_in self.old.ended (Proc n) else is_in self.old.ended (Proc n)) }
     {
         let Some(mark) = marks.get(pid).copied() else {
             return;
@@ -71,7 +82,9 @@ impl Members {
     /// ones that there are.
     pub fn put_back(&self, marks: &mut Slots<Mark>, starter: Pid, defers: bool)
         requires { (n : ℕ) → is_in self.now.joined (Proc n) ≡ true → n ≤ length marks.old }
-        ensures marks { (n : ℕ) → slot_at marks.new n ≡ (if is_in self.now.joined (Proc n) then Some (mark_of starter self.now n defers) else slot_at marks.old n) }
+        ensures marks { (n : ℕ) →
+            slot_at marks.new n ≡ (if is_in self.now.joined (Proc n)
+            then Some (mark_of starter self.now n defers) else slot_at marks.old n) }
         ensures length { length marks.new ≡ length marks.old }
     {
         let mut rest = self.joined;
@@ -84,7 +97,9 @@ impl Members {
     fn put_one(&self, marks: &mut Slots<Mark>, starter: Pid, pid: Pid, defers: bool)
         requires low { 1 ≤ pid.0 }
         requires high { pid.0 ≤ length marks.old }
-        ensures marks { (n : ℕ) → slot_at marks.new n ≡ (if n == pid.0 then Some (mark_of starter self.now pid.0 defers) else slot_at marks.old n) }
+        ensures marks { (n : ℕ) →
+            slot_at marks.new n ≡ (if n == pid.0 then Some (mark_of starter self.now pid.0 defers)
+            else slot_at marks.old n) }
         ensures length { length marks.new ≡ length marks.old }
     {
         let ended = self.ended.has(Object::Proc(pid));
@@ -114,7 +129,8 @@ pub fn is_last_open(marks: &Slots<Mark>, starter: Pid, pid: Pid, objects: &Objec
 
 /// Whether the number is of another member of a starter's transaction, whose part is open.
 fn is_other_open(marks: &Slots<Mark>, starter: Pid, pid: Pid, other: Pid) -> bool
-    ensures { result ≡ (if other.0 == pid.0 then false else is_open_of starter.0 (slot_at marks.now other.0)) }
+    ensures { result ≡ (if other.0 == pid.0 then false
+        else is_open_of starter.0 (slot_at marks.now other.0)) }
 {
     if other == pid {
         return false;

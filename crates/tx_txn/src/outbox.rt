@@ -44,17 +44,23 @@ impl HeldPost {
 pub struct Outbox {
     sendings: Vec<Sending>,
     posts: Vec<HeldPost>,
+    /// How many of the signals members sent.
+    sent: usize,
 }
 
 impl Model for Outbox {
-    ghost use Rattle.std.specs.Prelude.{◌≡◌, length};
+    ghost use Rattle.std.specs.Prelude.{◌≡◌, length, map};
+    ghost use Rattle.tx_kernel.specs.Plans.{sending_of};
+    ghost use Rattle.tx_model.specs.Book.{member_sends};
     ghost use Rattle.tx_txn.specs.Outboxes.{Held};
 
     ghost Value = { Held };
 
-    ghost view = { λ outbox. record { sendings = outbox.sendings.items; posts = outbox.posts.items } };
+    ghost view = { λ outbox.
+        record { sendings = outbox.sendings.items; posts = outbox.posts.items } };
 
-    ghost invariant = { λ outbox. length outbox.posts.items ≡ length outbox.sendings.items };
+    ghost invariant = { λ outbox. (length outbox.posts.items ≡ length outbox.sendings.items)
+        × (outbox.sent ≡ member_sends (map sending_of outbox.sendings.items)) };
 }
 
 impl Outbox {
@@ -66,6 +72,7 @@ impl Outbox {
         Outbox {
             sendings: Vec::new(alloc),
             posts: Vec::new(alloc),
+            sent: 0,
         }
     }
 
@@ -75,6 +82,7 @@ impl Outbox {
     {
         self.sendings.clear();
         self.posts.clear();
+        self.sent = 0;
     }
 
     /// What is held, in order.
@@ -88,7 +96,7 @@ impl Outbox {
     pub fn sent_by_members(&self) -> usize
         ensures { result ≡ member_sends (map sending_of self.now.sendings) }
     {
-        count_sent(self.held())
+        self.sent
     }
 
     /// Holds one more signal. After want of memory the outbox is as it was.
@@ -98,20 +106,23 @@ impl Outbox {
         ensures err { OnErr result (self.new ≡ self.old) }
     {
         self.posts.push(HeldPost::unmade())?;
-        if self.sendings.push(sending).is_err() {
+        let Ok(()) = self.sendings.push(sending) else {
             self.posts.truncate(self.sendings.len());
             return Err(NoMemory);
-        }
+        };
+        self.sent += senders(&sending);
         Ok(())
     }
 
     /// Forgets the last signal. Nothing happens where none is held.
     pub fn forget_last(&mut self)
-        ensures sendings { self.new.sendings ≡ take (length self.old.sendings - 1) self.old.sendings }
+        ensures sendings { self.new.sendings
+            ≡ take (length self.old.sendings - 1) self.old.sendings }
         ensures posts { self.new.posts ≡ take (length self.old.posts - 1) self.old.posts }
     {
-        if let Some(_sending) = self.sendings.pop() {
+        if let Some(sending) = self.sendings.pop() {
             self.posts.truncate(self.sendings.len());
+            self.sent -= senders(&sending);
         }
     }
 
@@ -135,21 +146,11 @@ impl Outbox {
     }
 }
 
-/// How many of the signals members sent.
-fn count_sent(held: &[Sending]) -> usize
-    ensures { result ≡ member_sends (map sending_of held.now) }
-{
-    let mut sent = 0;
-    for place in 0..held.len() {
-        sent += senders(&held[place]);
-    }
-    sent
-}
-
 /// The signals whose posts were answered by an error, in order, with that error.
 fn list_missed(held: &[Sending], posts: &[HeldPost]) -> ArrayVec<Missed, 33>
     requires { length posts.now ≡ length held.now }
-    ensures { length (missed_in held.now posts.now) ≤ 33 → result ≡ record { items = missed_in held.now posts.now } }
+    ensures { length (missed_in held.now posts.now) ≤ 33 →
+        result ≡ record { items = missed_in held.now posts.now } }
 {
     let mut missed = ArrayVec::new();
     for place in 0..held.len() {

@@ -101,8 +101,11 @@ impl Txn {
     pub fn reserve(&mut self, owners: &mut Reservations, objects: &Objects) -> Objects
         requires { Owns self.old.starter.0 owners.old self.old.objects }
         ensures before { result ≡ self.old.objects }
-        ensures owners { (o : Object) → owner_of owners.new o ≡ (if is_in objects.now o then Some self.old.starter.0 else owner_of owners.old o) }
-        ensures objects { (o : Object) → is_in self.new.objects o ≡ (is_in self.old.objects o || is_in objects.now o) }
+        ensures owners { (o : Object) →
+            owner_of owners.new o
+            ≡ (if is_in objects.now o then Some self.old.starter.0 else owner_of owners.old o) }
+        ensures objects { (o : Object) →
+            is_in self.new.objects o ≡ (is_in self.old.objects o || is_in objects.now o) }
         ensures rest { self.new ≡ record self.old { objects = self.new.objects } }
     {
         let before = self.objects;
@@ -116,7 +119,10 @@ impl Txn {
 
     /// Gives up what was reserved since.
     pub fn give_up(&mut self, owners: &mut Reservations, before: Objects)
-        ensures owners { (o : Object) → owner_of owners.new o ≡ (if is_in self.old.objects o && not (is_in before o) then None else owner_of owners.old o) }
+        ensures owners { (o : Object) →
+            owner_of owners.new o
+            ≡ (if is_in self.old.objects o && not (is_in before o) then None
+            else owner_of owners.old o) }
         ensures rest { self.new ≡ record self.old { objects = before } }
     {
         owners.release(&self.objects.less(&before));
@@ -127,11 +133,18 @@ impl Txn {
     /// reserved is nobody's. It takes no memory, and goes over its objects alone.
     pub fn end(&mut self, marks: &mut Slots<Mark>, owners: &mut Reservations)
         requires { IsCovered self.old.starter.0 marks.old self.old.objects }
-        ensures marks { (n : ℕ) → slot_at marks.new n ≡ mark_unless_of self.old.starter.0 (slot_at marks.old n) }
+        ensures marks { (n : ℕ) →
+            slot_at marks.new n ≡ mark_unless_of self.old.starter.0 (slot_at marks.old n) }
         ensures length { length marks.new ≡ length marks.old }
-        ensures owners { (o : Object) → owner_of owners.new o ≡ (if is_in self.old.objects o then None else owner_of owners.old o) }
-        ensures joined { IsSomeAnd self.new.members (λ members. (n : ℕ) → is_in members.joined (Proc n) ≡ is_of self.old.starter.0 (slot_at marks.old n)) }
-        ensures ended { IsSomeAnd self.new.members (λ members. (n : ℕ) → is_in members.ended (Proc n) ≡ ended_of self.old.starter.0 (slot_at marks.old n)) }
+        ensures owners { (o : Object) →
+            owner_of owners.new o
+            ≡ (if is_in self.old.objects o then None else owner_of owners.old o) }
+        ensures joined { IsSomeAnd self.new.members (λ members.
+            (n : ℕ) → is_in members.joined (Proc n)
+            ≡ is_of self.old.starter.0 (slot_at marks.old n)) }
+        ensures ended { IsSomeAnd self.new.members (λ members.
+            (n : ℕ) → is_in members.ended (Proc n)
+            ≡ ended_of self.old.starter.0 (slot_at marks.old n)) }
         ensures rest { self.new ≡ record self.old { members = self.new.members } }
     {
         self.members = Some(Members::take(marks, self.starter, &self.objects));
@@ -140,10 +153,18 @@ impl Txn {
 
     /// Takes the end back: the marks of its members are put back, and what it reserved is its own.
     pub fn revive(&mut self, marks: &mut Slots<Mark>, owners: &mut Reservations)
-        requires { IfSome self.old.members (λ members. (n : ℕ) → is_in members.joined (Proc n) ≡ true → n ≤ length marks.old) }
-        ensures marks { IfSome self.old.members (λ members. (n : ℕ) → slot_at marks.new n ≡ (if is_in members.joined (Proc n) then Some (mark_of self.old.starter members n self.old.defers) else slot_at marks.old n)) }
+        requires { IfSome self.old.members (λ members.
+            (n : ℕ) → is_in members.joined (Proc n) ≡ true → n ≤ length marks.old) }
+        ensures marks { IfSome self.old.members (λ members.
+            (n : ℕ) → slot_at marks.new n
+            ≡ (if is_in members.joined (Proc n)
+            then Some (mark_of self.old.starter members n self.old.defers)
+            else slot_at marks.old n)) }
         ensures length { length marks.new ≡ length marks.old }
-        ensures owners { (o : Object) → owner_of owners.new o ≡ (if is_in self.old.objects o then Some self.old.starter.0 else owner_of owners.old o) }
+        ensures owners { (o : Object) →
+            owner_of owners.new o
+            ≡ (if is_in self.old.objects o then Some self.old.starter.0
+            else owner_of owners.old o) }
         ensures rest { self.new ≡ record self.old { members = None } }
     {
         if let Some(members) = self.members.take() {
@@ -159,9 +180,15 @@ impl Txn {
         requires low { 1 ≤ self.old.starter.0 }
         requires high { self.old.starter.0 ≤ length parts.old.procs }
         requires named { AreNamed parts.old self.old.log }
-        ensures parts { parts.new ≡ with_pending_at self.old.starter.0 self.old.kept.pending (undone parts.old self.old.log) }
+        ensures parts { parts.new
+            ≡ with_pending_at self.old.starter.0 self.old.kept.pending
+            (undone parts.old self.old.log) }
         ensures txn { self.new ≡ record self.old {
-          kept = record self.old.kept { pending = pending_in (slot_at (undone parts.old self.old.log).procs self.old.starter.0) self.old.kept.pending };
+          kept = record self.old.kept {
+            pending = pending_in
+                (slot_at (undone parts.old self.old.log).procs self.old.starter.0)
+                self.old.kept.pending;
+          };
           log = reverted parts.old self.old.log;
         } }
     {
@@ -178,7 +205,9 @@ impl Txn {
     /// Whether nothing was pending at the starter when it began, and nothing is now: to exchange
     /// these changes nothing.
     fn has_none_pending(&self, parts: &Parts) -> bool
-        ensures { IsTrue result → pending_in (slot_at parts.now.procs self.now.starter.0) self.now.kept.pending ≡ self.now.kept.pending }
+        ensures { IsTrue result →
+            pending_in (slot_at parts.now.procs self.now.starter.0) self.now.kept.pending
+            ≡ self.now.kept.pending }
     {
         if !self.kept.pending.is_empty() {
             return false;
@@ -194,10 +223,16 @@ impl Txn {
         requires low { 1 ≤ self.old.starter.0 }
         requires high { self.old.starter.0 ≤ length parts.old.procs }
         requires named { AreNamed parts.old self.old.log }
-        ensures parts { parts.new ≡ applied (with_pending_at self.old.starter.0 self.old.kept.pending parts.old) self.old.log }
+        ensures parts { parts.new
+            ≡ applied (with_pending_at self.old.starter.0 self.old.kept.pending parts.old)
+            self.old.log }
         ensures txn { self.new ≡ record self.old {
-          kept = record self.old.kept { pending = pending_in (slot_at parts.old.procs self.old.starter.0) self.old.kept.pending };
-          log = exchanged (with_pending_at self.old.starter.0 self.old.kept.pending parts.old) self.old.log;
+          kept = record self.old.kept {
+            pending = pending_in
+                (slot_at parts.old.procs self.old.starter.0) self.old.kept.pending;
+          };
+          log = exchanged (with_pending_at self.old.starter.0 self.old.kept.pending parts.old)
+              self.old.log;
         } }
     {
         parts

@@ -48,7 +48,9 @@ where
     requires put { length station.hand.put ≤ floor.now.processes }
     requires taken { station.hand.taken ≡ [] }
     ensures queue { IfOk result (λ crew. IsStationOf queue.now crew.station) }
-    ensures crew { IfOk result (λ crew. IsCrewOf post.number post.turns floor.now.total floor.now.processes crew.team.workers.items crew.team.share.parts crew.team.share.amount crew.station.hand) }
+    ensures crew { IfOk result (λ crew.
+        IsCrewOf post.number post.turns floor.now.total floor.now.processes crew.team.workers.items
+        crew.team.share.parts crew.team.share.amount crew.station.hand) }
 {
     let (mut share, mut station) = (share, station);
     if post.number == 0 {
@@ -73,7 +75,8 @@ where
             requires queue { IsStationOf queue.now at }
             requires begins { at.hand ≡ begins }
             ensures queue { IsStationOf queue.entry.now result.station }
-            ensures service { IsService post.number post.turns result.done.worker result.done.share.parts result.done.share.amount result.station.hand }
+            ensures service { IsService post.number post.turns result.done.worker
+                result.done.share.parts result.done.share.amount result.station.hand }
         { floor.serve(queue, post, worker, theirs, at) },
     );
     let Ok(handle) = started else {
@@ -95,11 +98,16 @@ fn together<J: Work, R, G>(
     requires one { 0 < post.number }
     requires processes { floor.now.processes ≤ 256 }
     requires others { IfOk others (λ crew. IsStationOf queue.now crew.station) }
-    requires crew { IfOk others (λ crew. IsCrewOf (post.number - 1) post.turns floor.now.total floor.now.processes crew.team.workers.items crew.team.share.parts crew.team.share.amount crew.station.hand) }
+    requires crew { IfOk others (λ crew.
+        IsCrewOf (post.number - 1) post.turns floor.now.total floor.now.processes
+        crew.team.workers.items crew.team.share.parts crew.team.share.amount crew.station.hand) }
     requires served { IsStationOf queue.now served.station }
-    requires service { IsService post.number post.turns served.done.worker served.done.share.parts served.done.share.amount served.station.hand }
+    requires service { IsService post.number post.turns served.done.worker served.done.share.parts
+        served.done.share.amount served.station.hand }
     ensures queue { IfOk result (λ crew. IsStationOf queue.now crew.station) }
-    ensures crew { IfOk result (λ crew. IsCrewOf post.number post.turns floor.now.total floor.now.processes crew.team.workers.items crew.team.share.parts crew.team.share.amount crew.station.hand) }
+    ensures crew { IfOk result (λ crew.
+        IsCrewOf post.number post.turns floor.now.total floor.now.processes crew.team.workers.items
+        crew.team.share.parts crew.team.share.amount crew.station.hand) }
 {
     let Served { done, station: at } = served;
     let Crew { team, mut station } = others?;

@@ -74,7 +74,8 @@ impl<J: Work> Desk<J> {
         requires part { 0 < share.old.parts }
         requires low { 1 ≤ worker.old.number }
         requires high { worker.old.number ≤ worker.old.total }
-        ensures counted { share.new.amount + vec_len worker.old.notes ≡ share.old.amount + vec_len worker.new.notes }
+        ensures counted { share.new.amount + vec_len worker.old.notes
+            ≡ share.old.amount + vec_len worker.new.notes }
         ensures parts { share.new.parts ≡ share.old.parts }
         ensures number { worker.new.number ≡ worker.old.number }
         ensures total { worker.new.total ≡ worker.old.total }
@@ -98,11 +99,13 @@ impl<J: Work> Desk<J> {
     ) -> Result<Took, NoMemory>
         requires program { J.program ≡ Some program.now }
         requires part { 0 < share.old.parts }
-        ensures counted { share.new.amount + vec_len worker.old.notes ≡ share.old.amount + vec_len worker.new.notes }
+        ensures counted { share.new.amount + vec_len worker.old.notes
+            ≡ share.old.amount + vec_len worker.new.notes }
         ensures parts { share.new.parts ≡ share.old.parts }
         ensures number { worker.new.number ≡ worker.old.number }
         ensures few { vec_len worker.new.notes ≤ vec_len worker.old.notes + 1 }
-        ensures idle { IfOk result (λ took. took ≡ Idle → vec_len worker.new.notes ≡ vec_len worker.old.notes) }
+        ensures idle { IfOk result (λ took.
+            took ≡ Idle → vec_len worker.new.notes ≡ vec_len worker.old.notes) }
     {
         let before = self.session.len();
         let took = turn_of(alloc, &mut self.session, worker, program, pid)?;

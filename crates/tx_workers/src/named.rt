@@ -16,7 +16,8 @@ use tx_proc::Proc;
 
 /// The process of a number, where there is one and it runs.
 pub(crate) fn running(machine: &Machine, pid: Pid) -> Option<&Proc>
-    ensures { process_in (option_copied result) ≡ running ((present (view_of machine.now)).procs pid.0) }
+    ensures { process_in (option_copied result)
+        ≡ running ((present (view_of machine.now)).procs pid.0) }
 {
     let proc = machine.parts().proc(pid)?;
     match proc.status {
@@ -29,7 +30,8 @@ pub(crate) fn running(machine: &Machine, pid: Pid) -> Option<&Proc>
 /// delivered now, or else its next call. Nothing where that call chooses a number and none is free, and
 /// for process 1 past the last instruction; another process exits there.
 pub(crate) fn named(program: &Program, machine: &Machine, pid: Pid, proc: &Proc) -> Option<Step>
-    ensures { result ≡ named_for program.now.instructions.items (view_of machine.now) pid.0 (Some (process_of proc.now)) }
+    ensures { result ≡ named_for program.now.instructions.items (view_of machine.now) pid.0
+        (Some (process_of proc.now)) }
 {
     if let Some(signo) = offered(proc, machine.marks().get(pid)) {
         return Some(Step::Deliver(pid, signo));
@@ -40,7 +42,8 @@ pub(crate) fn named(program: &Program, machine: &Machine, pid: Pid, proc: &Proc)
 
 /// The call of a process with those registers.
 fn instructed(program: &Program, machine: &Machine, pid: Pid, regs: &Regs) -> Option<Call>
-    ensures { result ≡ instructed (view_of machine.now) pid.0 regs.now (slice_get program.now.instructions.items regs.now.point) }
+    ensures { result ≡ instructed (view_of machine.now) pid.0 regs.now
+        (slice_get program.now.instructions.items regs.now.point) }
 {
     match instruction_at(program, regs.point) {
         Some(instruction) => choose(machine, pid, instruction.filled(&regs.slots)),

@@ -12,7 +12,8 @@ use tx_core::Machine;
 /// The worker's next running process after the one whose turn was last. The numbers go round.
 pub(crate) fn next_process(machine: &Machine, worker: &Worker) -> Option<Pid>
     requires { 1 ≤ worker.now.total }
-    ensures { option_map process_number result ≡ next_process (view_of machine.now) worker.now.number worker.now.total worker.now.last }
+    ensures { option_map process_number result
+        ≡ next_process (view_of machine.now) worker.now.number worker.now.total worker.now.last }
 {
     let width = u32::from(machine.processes());
     for places in 0..width {

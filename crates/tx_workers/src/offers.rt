@@ -19,7 +19,9 @@ const IN_ORDER: [u8; 20] = [
 /// now. One that is caught is passed over where there is no room for what is saved then, and one that
 /// the transaction defers.
 pub(crate) fn offered(proc: &Proc, mark: Option<&Mark>) -> Option<Signo>
-    ensures { (t : Table) → option_map signal_number result ≡ offered (inside_by t (option_copied mark.entry)) (process_of proc.now) }
+    ensures { (t : Table) →
+        option_map signal_number result
+        ≡ offered (inside_by t (option_copied mark.entry)) (process_of proc.now) }
 {
     for i in 0..IN_ORDER.len() {
         let signo = Signo(IN_ORDER[i]);
@@ -32,7 +34,8 @@ pub(crate) fn offered(proc: &Proc, mark: Option<&Mark>) -> Option<Signo>
 
 /// Whether a turn may deliver the signal.
 fn is_offered(proc: &Proc, mark: Option<&Mark>, signo: Signo) -> bool
-    ensures { (t : Table) → result ≡ is_offered (inside_by t (option_copied mark.entry)) (process_of proc.now) signo.0 }
+    ensures { (t : Table) →
+        result ≡ is_offered (inside_by t (option_copied mark.entry)) (process_of proc.now) signo.0 }
 {
     if !proc.pending.deliverable(signo, proc.mask) || is_deferred(mark, signo) {
         return false;

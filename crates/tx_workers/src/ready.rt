@@ -38,7 +38,8 @@ pub fn run_queue<R: Threads + Wait + Sync, G: Gate + Sync>(
     gate: &G,
 ) -> Result<(Worked, Tally), WorkFault>
     requires { IsAtEnd session }
-    ensures worked { IfOk result (λ both. IsWorked program.now session workers turns both.0.session both.0.workers.items) }
+    ensures worked { IfOk result (λ both.
+        IsWorked program.now session workers turns both.0.session both.0.workers.items) }
     ensures tallied { IfOk result (λ both. IsTallied session.width both.0.workers.items both.1) }
 {
     let post = Post {
@@ -65,7 +66,8 @@ fn serve_named<J: Work + Send + Sync, R: Threads + Wait + Sync, G: Gate + Sync>(
     requires program { J.program ≡ Some program.now }
     requires given { J.given ≡ Some session }
     requires at_end { IsAtEnd session }
-    ensures worked { IfOk result (λ both. IsWorked program.now session post.number post.turns both.0.session both.0.workers.items) }
+    ensures worked { IfOk result (λ both.
+        IsWorked program.now session post.number post.turns both.0.session both.0.workers.items) }
     ensures tallied { IfOk result (λ both. IsTallied session.width both.0.workers.items both.1) }
 {
     let start = session.len();
@@ -109,7 +111,9 @@ fn serve_scoped<J: Work + Send + Sync, R: Threads + Wait + Sync, G: Gate + Sync>
     requires put { length station.hand.put ≤ floor.now.processes }
     requires taken { station.hand.taken ≡ [] }
     ensures queue { IfOk result (λ crew. IsStationOf queue.now crew.station) }
-    ensures crew { IfOk result (λ crew. IsCrewOf post.number post.turns floor.now.total floor.now.processes crew.team.workers.items crew.team.share.parts crew.team.share.amount crew.station.hand) }
+    ensures crew { IfOk result (λ crew.
+        IsCrewOf post.number post.turns floor.now.total floor.now.processes crew.team.workers.items
+        crew.team.share.parts crew.team.share.amount crew.station.hand) }
 {
     thread::scope(
         thread::scope_env(),
@@ -126,7 +130,10 @@ fn serve_scoped<J: Work + Send + Sync, R: Threads + Wait + Sync, G: Gate + Sync>
             requires put { length station.hand.put ≤ floor.now.processes }
             requires taken { station.hand.taken ≡ [] }
             ensures queue { IfOk result (λ crew. IsStationOf queue.entry.now crew.station) }
-            ensures crew { IfOk result (λ crew. IsCrewOf post.number post.turns floor.entry.now.total floor.entry.now.processes crew.team.workers.items crew.team.share.parts crew.team.share.amount crew.station.hand) }
+            ensures crew { IfOk result (λ crew.
+                IsCrewOf post.number post.turns floor.entry.now.total floor.entry.now.processes
+                crew.team.workers.items crew.team.share.parts crew.team.share.amount
+                crew.station.hand) }
         { serve_down(scope, floor, queue, post, share, station) },
     )
 }

@@ -36,7 +36,8 @@ pub fn run_workers<R: Threads + Wait + Sync, G: Gate + Sync>(
     gate: &G,
 ) -> Result<Worked, WorkFault>
     requires { IsAtEnd session }
-    ensures { IfOk result (λ worked. IsWorked program.now session workers turns worked.session worked.workers.items) }
+    ensures { IfOk result (λ worked.
+        IsWorked program.now session workers turns worked.session worked.workers.items) }
 {
     let post = Post {
         number: workers,
@@ -62,7 +63,8 @@ fn run_named<J: Work + Send + Sync, R: Threads + Wait + Sync, G: Gate + Sync>(
     requires program { J.program ≡ Some program.now }
     requires given { J.given ≡ Some session }
     requires at_end { IsAtEnd session }
-    ensures { IfOk result (λ worked. IsWorked program.now session post.number post.turns worked.session worked.workers.items) }
+    ensures { IfOk result (λ worked.
+        IsWorked program.now session post.number post.turns worked.session worked.workers.items) }
 {
     let start = session.len();
     let processes = session.processes();
@@ -91,7 +93,8 @@ fn run_scoped<J: Work + Send + Sync, R: Threads + Wait + Sync, G: Gate + Sync>(
     requires parts { share.parts ≡ post.number + 1 }
     requires none { share.amount ≡ 0 }
     requires high { post.number ≤ floor.now.total }
-    ensures { IfOk result (λ team. IsTeam post.number post.turns team.workers.items team.share.parts team.share.amount) }
+    ensures { IfOk result (λ team.
+        IsTeam post.number post.turns team.workers.items team.share.parts team.share.amount) }
 {
     thread::scope(
         thread::scope_env(),
@@ -101,7 +104,9 @@ fn run_scoped<J: Work + Send + Sync, R: Threads + Wait + Sync, G: Gate + Sync>(
             requires parts { share.parts ≡ post.number + 1 }
             requires none { share.amount ≡ 0 }
             requires high { post.number ≤ floor.now.total }
-            ensures { IfOk result (λ team. IsTeam post.number post.turns team.workers.items team.share.parts team.share.amount) }
+            ensures { IfOk result (λ team.
+                IsTeam post.number post.turns team.workers.items team.share.parts
+                team.share.amount) }
         { run_down(scope, floor, post, share) },
     )
 }

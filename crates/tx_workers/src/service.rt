@@ -35,7 +35,8 @@ impl<J: Work> Promise<Served<J>> for Service<'_> {
 
     ghost kept_by = { λ service served.
         IsStationOf service.queue.now served.station
-        × IsService service.post.number service.post.turns served.done.worker served.done.share.parts served.done.share.amount served.station.hand };
+        × IsService service.post.number service.post.turns served.done.worker
+        served.done.share.parts served.done.share.amount served.station.hand };
 }
 
 impl<'s, J: Work, R: Wait, G: Gate> Floor<'s, J, R, G> {
@@ -57,7 +58,8 @@ impl<'s, J: Work, R: Wait, G: Gate> Floor<'s, J, R, G> {
         requires queue { IsStationOf queue.now station }
         requires begins { station.hand ≡ begins }
         ensures queue { IsStationOf queue.now result.station }
-        ensures service { IsService post.number post.turns result.done.worker result.done.share.parts result.done.share.amount result.station.hand }
+        ensures service { IsService post.number post.turns result.done.worker
+            result.done.share.parts result.done.share.amount result.station.hand }
     {
         let (mut worker, mut share, mut station) = (worker, share, station);
         let mut made = Ok(());
@@ -93,7 +95,8 @@ impl<'s, J: Work, R: Wait, G: Gate> Floor<'s, J, R, G> {
         requires back { GivesBack station.old.hand }
         requires room_put { length station.old.hand.put < 2 ^ 62 }
         requires room_taken { length station.old.hand.taken < 2 ^ 62 }
-        ensures counted { share.new.amount + vec_len worker.old.notes ≡ share.old.amount + vec_len worker.new.notes }
+        ensures counted { share.new.amount + vec_len worker.old.notes
+            ≡ share.old.amount + vec_len worker.new.notes }
         ensures shares { share.new.parts ≡ share.old.parts }
         ensures number { worker.new.number ≡ worker.old.number }
         ensures few { vec_len worker.new.notes ≤ vec_len worker.old.notes + 1 }
@@ -102,7 +105,8 @@ impl<'s, J: Work, R: Wait, G: Gate> Floor<'s, J, R, G> {
         ensures back { GivesBack station.new.hand }
         ensures few_put { length station.new.hand.put ≤ length station.old.hand.put + 256 }
         ensures few_taken { length station.new.hand.taken ≤ length station.old.hand.taken + 256 }
-        ensures enough { vec_len worker.new.notes + length station.old.hand.taken ≤ vec_len worker.old.notes + length station.new.hand.taken }
+        ensures enough { vec_len worker.new.notes + length station.old.hand.taken
+            ≤ vec_len worker.old.notes + length station.new.hand.taken }
     {
         for _ in 0..self.processes {
             let Some(pid) = queue.take(self.rt, station) else {

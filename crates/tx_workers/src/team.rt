@@ -38,7 +38,8 @@ where
     requires parts { share.parts ≡ post.number + 1 }
     requires none { share.amount ≡ 0 }
     requires high { post.number ≤ floor.now.total }
-    ensures { IfOk result (λ team. IsTeam post.number post.turns team.workers.items team.share.parts team.share.amount) }
+    ensures { IfOk result (λ team.
+        IsTeam post.number post.turns team.workers.items team.share.parts team.share.amount) }
 {
     let mut share = share;
     if post.number == 0 {
@@ -59,7 +60,8 @@ where
             requires notes { worker.notes.items ≡ [] }
             requires part { theirs.parts ≡ 1 }
             requires none { theirs.amount ≡ 0 }
-            ensures { IsWorkOf post.number post.turns result.worker result.share.parts result.share.amount }
+            ensures { IsWorkOf post.number post.turns result.worker result.share.parts
+                result.share.amount }
         { floor.work(post, worker, theirs) },
     );
     let Ok(handle) = started else {
@@ -77,10 +79,14 @@ pub(crate) fn joined<J: Work>(
     post: Post,
 ) -> Result<Team<J>, WorkFault>
     requires one { 0 < post.number }
-    requires others { IfOk others (λ team. IsTeam (post.number - 1) post.turns team.workers.items team.share.parts team.share.amount) }
+    requires others { IfOk others (λ team.
+        IsTeam (post.number - 1) post.turns team.workers.items team.share.parts team.share.amount) }
     requires done { IsWorkOf post.number post.turns done.worker done.share.parts done.share.amount }
-    ensures team { IfOk result (λ team. IsTeam post.number post.turns team.workers.items team.share.parts team.share.amount) }
-    ensures noted { IfOk others (λ team. IfOk result (λ more. noted more.workers.items ≡ noted team.workers.items + vec_len done.worker.notes)) }
+    ensures team { IfOk result (λ team.
+        IsTeam post.number post.turns team.workers.items team.share.parts team.share.amount) }
+    ensures noted { IfOk others (λ team.
+        IfOk result (λ more.
+        noted more.workers.items ≡ noted team.workers.items + vec_len done.worker.notes)) }
     ensures fault { IfErr others (λ fault. result ≡ Err fault) }
     ensures memory { IsOk others → IsErr done.made → result ≡ Err NoMemory }
 {

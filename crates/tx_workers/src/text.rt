@@ -14,7 +14,8 @@ use tx_text::put_reply;
 /// the position. Nothing is written where the fault is `NoMemory`; the only other one is `Writer`.
 pub fn write_run<W: Sink>(alloc: Global, session: &Session, sink: &mut W) -> Result<(), Fault>
     requires { IsFresh (W.counts sink.old) }
-    ensures { WritesText (W.written sink.old) (W.counts sink.old) (run_text session.now) result (W.written sink.new) (W.counts sink.new) }
+    ensures { WritesText (W.written sink.old) (W.counts sink.old) (run_text session.now) result
+        (W.written sink.new) (W.counts sink.new) }
 {
     let text = run_text(alloc, session)?;
     write_whole(sink, text.as_bytes())
@@ -33,7 +34,9 @@ fn run_text(alloc: Global, session: &Session) -> Result<String, Fault>
 
 /// Appends the lines of all entries.
 fn put_entries(text: &mut String, session: &Session) -> Result<(), AllocError>
-    ensures { OnOk result (string_bytes text.new ≡ string_bytes text.old ++ numbered entry_line 1 session.now.entries) }
+    ensures { OnOk result
+        (string_bytes text.new ≡ string_bytes text.old
+        ++ numbered entry_line 1 session.now.entries) }
 {
     for i in 0..session.len() {
         if let Some(entry) = session.entry(i + 1) {
@@ -51,7 +54,9 @@ fn put_run_line(
     step: &Step,
     reply: &Reply,
 ) -> Result<(), AllocError>
-    ensures { OnOk result (string_bytes text.new ≡ string_bytes text.old ++ run_line number worker step.now reply.now) }
+    ensures { OnOk result
+        (string_bytes text.new ≡ string_bytes text.old
+        ++ run_line number worker step.now reply.now) }
 {
     put_count(text, number)?;
     put(text, " w")?;

@@ -40,10 +40,15 @@ pub fn turn(
     requires low { 1 ≤ worker.old.number }
     requires high { worker.old.number ≤ worker.old.total }
     ensures adds { OnOk result (Adds
-        (adds_by_next program.now.instructions.items (view_of session.old.machine) worker.old.number (next_process (view_of session.old.machine) worker.old.number worker.old.total worker.old.last))
-        (last_after worker.old.last (next_process (view_of session.old.machine) worker.old.number worker.old.total worker.old.last))
+        (adds_by_next program.now.instructions.items (view_of session.old.machine) worker.old.number
+        (next_process (view_of session.old.machine) worker.old.number worker.old.total
+        worker.old.last))
+        (last_after worker.old.last
+        (next_process (view_of session.old.machine) worker.old.number worker.old.total
+        worker.old.last))
         session.old worker.old session.new worker.new) }
-    ensures view { view_of session.old.machine ≡ view_after (start_of session.old) session.old.entries }
+    ensures view { view_of session.old.machine
+        ≡ view_after (start_of session.old) session.old.entries }
     ensures session { OnErr result (session.new ≡ session.old) }
     ensures worker { OnErr result (SameWorker worker.new worker.old) }
 {
@@ -69,9 +74,13 @@ pub fn turn_of(
     pid: Pid,
 ) -> Result<Took, NoMemory>
     requires at_end { IsAtEnd session.old }
-    ensures adds { OnOk result (Adds (turn_adds program.now.instructions.items (view_of session.old.machine) worker.old.number pid.0) worker.old.last session.old worker.old session.new worker.new) }
-    ensures view { view_of session.old.machine ≡ view_after (start_of session.old) session.old.entries }
-    ensures took { IfOk result (λ took. took ≡ took_by (is_running ((present (view_of session.old.machine)).procs pid.0))) }
+    ensures adds { OnOk result
+        (Adds (turn_adds program.now.instructions.items (view_of session.old.machine)
+        worker.old.number pid.0) worker.old.last session.old worker.old session.new worker.new) }
+    ensures view { view_of session.old.machine
+        ≡ view_after (start_of session.old) session.old.entries }
+    ensures took { IfOk result (λ took.
+        took ≡ took_by (is_running ((present (view_of session.old.machine)).procs pid.0))) }
     ensures session { OnErr result (session.new ≡ session.old) }
     ensures worker { OnErr result (SameWorker worker.new worker.old) }
 {
@@ -94,7 +103,10 @@ fn take(
     step: Step,
 ) -> Result<(), NoMemory>
     requires at_end { IsAtEnd session.old }
-    ensures adds { OnOk result (Adds (adds_by (view_of session.old.machine) worker.old.number pid.0 step (answer (view_of session.old.machine) step)) worker.old.last session.old worker.old session.new worker.new) }
+    ensures adds { OnOk result
+        (Adds (adds_by (view_of session.old.machine) worker.old.number pid.0 step
+        (answer (view_of session.old.machine) step)) worker.old.last session.old worker.old
+        session.new worker.new) }
     ensures session { OnErr result (session.new ≡ session.old) }
     ensures worker { OnErr result (SameWorker worker.new worker.old) }
 {
@@ -114,7 +126,9 @@ fn take(
 fn abort(alloc: Global, session: &mut Session, worker: &mut Worker, pid: Pid)
     requires at_end { IsAtEnd session.old }
     requires room { length worker.old.notes.items < vec_capacity worker.old.notes }
-    ensures { Adds (abort_of (view_of session.old.machine) worker.old.number ((view_of session.old.machine).table.marks pid.0)) worker.old.last session.old worker.old session.new worker.new }
+    ensures { Adds (abort_of (view_of session.old.machine) worker.old.number
+        ((view_of session.old.machine).table.marks pid.0)) worker.old.last session.old worker.old
+        session.new worker.new }
 {
     let Some(starter) = session.machine().txn_of(pid) else {
         return;
@@ -128,7 +142,8 @@ fn abort(alloc: Global, session: &mut Session, worker: &mut Worker, pid: Pid)
 /// Notes a step, unless it was refused: there must be room.
 fn note(worker: &mut Worker, step: Step, reply: Reply)
     requires { length worker.old.notes.items < vec_capacity worker.old.notes }
-    ensures notes { worker.new.notes.items ≡ worker.old.notes.items ++ map accepted_of (entry_of worker.old.number step reply) }
+    ensures notes { worker.new.notes.items ≡ worker.old.notes.items
+        ++ map accepted_of (entry_of worker.old.number step reply) }
     ensures number { worker.new.number ≡ worker.old.number }
     ensures total { worker.new.total ≡ worker.old.total }
     ensures last { worker.new.last ≡ worker.old.last }

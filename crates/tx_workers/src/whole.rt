@@ -45,7 +45,9 @@ where
     W: Sink,
     requires source { IsFresh (S.counts source.old) }
     requires sink { IsFresh (W.counts sink.old) }
-    ensures { RunsText (S.left source.old) (S.counts source.old) (W.written sink.old) (W.counts sink.old) workers turns result (S.counts source.new) (W.written sink.new) (W.counts sink.new) }
+    ensures { RunsText (S.left source.old) (S.counts source.old) (W.written sink.old)
+        (W.counts sink.old) workers turns result (S.counts source.new) (W.written sink.new)
+        (W.counts sink.new) }
 {
     let session = run_from(rt, alloc, source, workers, turns)?;
     match write_run(alloc, &session, sink) {
@@ -67,7 +69,8 @@ where
     R: Threads + Wait + Sync,
     S: Source,
     requires { IsFresh (S.counts source.old) }
-    ensures { RunsFrom (S.left source.old) (S.counts source.old) workers turns result (S.counts source.new) }
+    ensures { RunsFrom (S.left source.old) (S.counts source.old) workers turns result
+        (S.counts source.new) }
 {
     let program = match read_program(alloc, source) {
         Ok(program) => program,

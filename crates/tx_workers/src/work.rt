@@ -44,7 +44,8 @@ impl Post {
 impl<J: Work> Promise<Done<J>> for Post {
     ghost use Rattle.tx_workers.specs.Teams.{IsWorkOf};
 
-    ghost kept_by = { λ post done. IsWorkOf post.number post.turns done.worker done.share.parts done.share.amount };
+    ghost kept_by = { λ post done. IsWorkOf post.number post.turns done.worker done.share.parts
+        done.share.amount };
 }
 
 /// What all workers of a run share.
@@ -71,7 +72,8 @@ impl<'s, J: Work, R: Wait, G: Gate> Floor<'s, J, R, G> {
         requires notes { worker.notes.items ≡ [] }
         requires part { share.parts ≡ 1 }
         requires none { share.amount ≡ 0 }
-        ensures { IsWorkOf post.number post.turns result.worker result.share.parts result.share.amount }
+        ensures { IsWorkOf post.number post.turns result.worker result.share.parts
+            result.share.amount }
     {
         let (mut worker, mut share) = (worker, share);
         let mut made = Ok(());

@@ -31,10 +31,14 @@ pub fn checked<J: Work>(
     team: Team<J>,
 ) -> Result<Worked, WorkFault>
     requires program { J.program ≡ Some program.now }
-    requires given { (given : SessionState) × (J.given ≡ Some given) × (start ≡ length given.entries) }
+    requires given { (given : SessionState) × (J.given ≡ Some given)
+        × (start ≡ length given.entries) }
     requires parts { J.parts ≡ post.number + 1 }
-    requires team { IsTeam post.number post.turns team.workers.items team.share.parts team.share.amount }
-    ensures worked { (given : SessionState) → J.given ≡ Some given → IfOk result (λ worked. IsWorked program.now given post.number post.turns worked.session worked.workers.items) }
+    requires team { IsTeam post.number post.turns team.workers.items team.share.parts
+        team.share.amount }
+    ensures worked { (given : SessionState) → J.given ≡ Some given →
+        IfOk result (λ worked.
+        IsWorked program.now given post.number post.turns worked.session worked.workers.items) }
     ensures workers { IfOk result (λ worked. worked.workers.items ≡ team.workers.items) }
 {
     let Team { workers, share } = team;

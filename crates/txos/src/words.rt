@@ -31,7 +31,8 @@ pub struct Crew {
 /// What the words ask for. The first word is the program's own name.
 pub fn read_words(alloc: Global, words: &[String]) -> Result<Asked, Error>
     ensures reads { FailsBy (fault_of command_line (map string_bytes words.now)) result }
-    ensures asked { IfOk result (λ asked. named (map string_bytes words.now) ≡ Some (name_of asked)) }
+    ensures asked { IfOk result (λ asked.
+        named (map string_bytes words.now) ≡ Some (name_of asked)) }
 {
     let command = new_command(alloc)?;
     let matches = command.try_get_matches_from(words)?;

@@ -24,7 +24,8 @@ pub trait Source {
     /// Reads bytes to the front of the buffer. None are read only at the end, or into no room.
     fn read(&mut self, buffer: &mut [u8]) -> Flow
         requires { HasRoom (counts self.old) }
-        ensures { Reads (left self.old) (counts self.old) result (left self.new) (counts self.new) buffer.new };
+        ensures { Reads (left self.old) (counts self.old) result (left self.new) (counts self.new)
+            buffer.new };
 }
 
 /// What bytes are written to. A contract names the bytes that it holds, where they are known, and
@@ -40,5 +41,6 @@ pub trait Sink {
     /// Writes bytes from the front of those that are given.
     fn write(&mut self, bytes: &[u8]) -> Flow
         requires { HasRoom (counts self.old) }
-        ensures { Writes (written self.old) (counts self.old) bytes.now result (written self.new) (counts self.new) };
+        ensures { Writes (written self.old) (counts self.old) bytes.now result (written self.new)
+            (counts self.new) };
 }

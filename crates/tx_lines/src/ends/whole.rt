@@ -18,7 +18,8 @@ pub const INTERRUPTIONS: u64 = 1_000;
 /// of the source may be gone after an error.
 pub fn read_whole<S: Source>(alloc: Global, source: &mut S) -> Result<Vec<u8>, Fault>
     requires { IsFresh (S.counts source.old) }
-    ensures { ReadsWhole (S.left source.old) (S.counts source.old) result (S.left source.new) (S.counts source.new) }
+    ensures { ReadsWhole (S.left source.old) (S.counts source.old) result (S.left source.new)
+        (S.counts source.new) }
 {
     let mut text = Vec::new(alloc);
     let mut interruptions = 0;
@@ -49,7 +50,8 @@ pub fn read_whole<S: Source>(alloc: Global, source: &mut S) -> Result<Vec<u8>, F
 /// `INTERRUPTIONS`, is `Writer`; a front of the text is written then.
 pub fn write_whole<S: Sink>(sink: &mut S, text: &[u8]) -> Result<(), Fault>
     requires { IsFresh (S.counts sink.old) }
-    ensures { WritesWhole (S.written sink.old) (S.counts sink.old) text.now result (S.written sink.new) (S.counts sink.new) }
+    ensures { WritesWhole (S.written sink.old) (S.counts sink.old) text.now result
+        (S.written sink.new) (S.counts sink.new) }
 {
     let mut at = 0;
     let mut interruptions = 0;

@@ -20,7 +20,8 @@ pub fn put_bytes(text: &mut String, bytes: &[u8]) -> Result<(), AllocError>
 /// growth of memory was refused: the text may then have the digits of the first bytes behind what it
 /// had.
 pub fn put_digits(text: &mut String, bytes: &[u8]) -> Result<(), AllocError>
-    ensures { OnOk result (string_bytes text.new ≡ string_bytes text.old ++ encode_lower bytes.now) }
+    ensures { OnOk result
+        (string_bytes text.new ≡ string_bytes text.old ++ encode_lower bytes.now) }
 {
     let mut rest = bytes;
     while let Some((byte, later)) = rest.split_first() {

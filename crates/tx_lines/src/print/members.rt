@@ -22,7 +22,8 @@ pub fn put_member(
     listed: bool,
     number: u16,
 ) -> Result<bool, AllocError>
-    ensures text { OnOk result (string_bytes text.new ≡ string_bytes text.old ++ member_text some listed number) }
+    ensures text { OnOk result
+        (string_bytes text.new ≡ string_bytes text.old ++ member_text some listed number) }
     ensures some { IfOk result (λ after. after ≡ some_after some listed) }
 {
     if !listed {
@@ -55,8 +56,11 @@ pub fn dash(some: bool) -> &'static str
 
 /// Appends a signal where it is in the set, and says whether the list has one now.
 fn put_signal(text: &mut String, some: bool, set: SigSet, signo: Signo) -> Result<bool, AllocError>
-    ensures text { OnOk result (string_bytes text.new ≡ string_bytes text.old ++ member_text some (is_in_set (bits_of set) signo.0) signo.0) }
-    ensures some { IfOk result (λ after. after ≡ some_after some (is_in_set (bits_of set) signo.0)) }
+    ensures text { OnOk result
+        (string_bytes text.new ≡ string_bytes text.old
+        ++ member_text some (is_in_set (bits_of set) signo.0) signo.0) }
+    ensures some { IfOk result (λ after.
+        after ≡ some_after some (is_in_set (bits_of set) signo.0)) }
 {
     put_member(text, some, has(set, signo), u16::from(signo.0))
 }

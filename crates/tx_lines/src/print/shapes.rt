@@ -9,7 +9,8 @@ use std::alloc::AllocError;
 
 /// Appends a count or the number of a thing, and a space.
 pub fn put_count_first(text: &mut String, count: u64) -> Result<(), AllocError>
-    ensures { OnOk result (string_bytes text.new ≡ string_bytes text.old ++ (decimal count ++ 32 ∷ [])) }
+    ensures { OnOk result
+        (string_bytes text.new ≡ string_bytes text.old ++ (decimal count ++ 32 ∷ [])) }
 {
     put_count(text, count)?;
     put(text, " ")
@@ -17,7 +18,9 @@ pub fn put_count_first(text: &mut String, count: u64) -> Result<(), AllocError>
 
 /// Appends a call's name, a number, and a space.
 pub fn put_number_first(text: &mut String, name: &str, number: i64) -> Result<(), AllocError>
-    ensures { OnOk result (string_bytes text.new ≡ string_bytes text.old ++ (name.now ++ (signed_decimal number ++ 32 ∷ []))) }
+    ensures { OnOk result
+        (string_bytes text.new ≡ string_bytes text.old
+        ++ (name.now ++ (signed_decimal number ++ 32 ∷ []))) }
 {
     put_one(text, name, number)?;
     put(text, " ")
@@ -25,7 +28,8 @@ pub fn put_number_first(text: &mut String, name: &str, number: i64) -> Result<()
 
 /// Appends a call's name, and one number.
 pub fn put_one(text: &mut String, name: &str, number: i64) -> Result<(), AllocError>
-    ensures { OnOk result (string_bytes text.new ≡ string_bytes text.old ++ (name.now ++ signed_decimal number)) }
+    ensures { OnOk result
+        (string_bytes text.new ≡ string_bytes text.old ++ (name.now ++ signed_decimal number)) }
 {
     put(text, name)?;
     put_number(text, number)
@@ -38,7 +42,9 @@ pub fn put_number_word(
     number: i64,
     word: &str,
 ) -> Result<(), AllocError>
-    ensures { OnOk result (string_bytes text.new ≡ string_bytes text.old ++ (name.now ++ (signed_decimal number ++ 32 ∷ word.now))) }
+    ensures { OnOk result
+        (string_bytes text.new ≡ string_bytes text.old
+        ++ (name.now ++ (signed_decimal number ++ 32 ∷ word.now))) }
 {
     put_number_first(text, name, number)?;
     put(text, word)
@@ -46,7 +52,8 @@ pub fn put_number_word(
 
 /// Appends a call's name, and two numbers.
 pub fn put_two(text: &mut String, name: &str, first: i64, second: i64) -> Result<(), AllocError>
-    ensures { OnOk result (string_bytes text.new ≡ string_bytes text.old ++ (name.now ++ pair_text first second)) }
+    ensures { OnOk result
+        (string_bytes text.new ≡ string_bytes text.old ++ (name.now ++ pair_text first second)) }
 {
     put(text, name)?;
     put_pair(text, first, second)
@@ -60,7 +67,9 @@ pub fn put_three(
     second: i64,
     third: i64,
 ) -> Result<(), AllocError>
-    ensures { OnOk result (string_bytes text.new ≡ string_bytes text.old ++ (name.now ++ triple_text first second third)) }
+    ensures { OnOk result
+        (string_bytes text.new ≡ string_bytes text.old
+        ++ (name.now ++ triple_text first second third)) }
 {
     put_number_first(text, name, first)?;
     put_pair(text, second, third)
@@ -68,7 +77,8 @@ pub fn put_three(
 
 /// Appends two numbers.
 fn put_pair(text: &mut String, first: i64, second: i64) -> Result<(), AllocError>
-    ensures { OnOk result (string_bytes text.new ≡ string_bytes text.old ++ pair_text first second) }
+    ensures { OnOk result
+        (string_bytes text.new ≡ string_bytes text.old ++ pair_text first second) }
 {
     put_number(text, first)?;
     put(text, " ")?;

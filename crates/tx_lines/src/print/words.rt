@@ -19,11 +19,22 @@ pub fn put(text: &mut String, word: &str) -> Result<(), AllocError>
 pub fn put_number(text: &mut String, number: i64) -> Result<(), AllocError>
     ensures { OnOk result (string_bytes text.new ≡ string_bytes text.old ++ signed_decimal number) }
 {
-    if number == 0 {
-        return put(text, "0"); // the answer of most calls
+    match u8::try_from(number) {
+        // Most answers are a digit, which is worth no buffer.
+        Ok(digit) if digit < 10 => put_digit(text, digit),
+        _ => {
+            let mut buffer = Buffer::new();
+            text.push_str(buffer.format(number))
+        }
     }
-    let mut buffer = Buffer::new();
-    text.push_str(buffer.format(number))
+}
+
+/// Appends a decimal digit.
+fn put_digit(text: &mut String, digit: u8) -> Result<(), AllocError>
+    requires { digit < 10 }
+    ensures { OnOk result (string_bytes text.new ≡ string_bytes text.old ++ decimal digit) }
+{
+    text.push((b'0' + digit) as char)
 }
 
 /// Appends a count or a process number in decimal digits. The only error is that a growth of memory

@@ -11,11 +11,14 @@ const BYTES: usize = 64;
 /// Puts the bytes that a word spells, 1 to 64, where they are to stand. Answers whether it spells some.
 pub fn read_bytes(word: &[u8], bytes: &mut ArrayVec<u8, 64>) -> bool
     requires { bytes.old.items ≡ [] }
-    ensures found { IfSome (then_some result bytes.new) (λ bytes. word.now ≡ encode_lower bytes.items) }
+    ensures found { IfSome (then_some result bytes.new) (λ bytes.
+        word.now ≡ encode_lower bytes.items) }
     ensures fits { IfSome (then_some result bytes.new) (λ bytes. IsBytes bytes.items) }
     ensures some { IfSome (then_some result bytes.new) (λ bytes. 0 < length bytes.items) }
     ensures few { IfSome (then_some result bytes.new) (λ bytes. length bytes.items ≤ 64) }
-    ensures only { (spelled : List ℕ) → IsBytes spelled → 0 < length spelled → length spelled ≤ 64 → word.now ≡ encode_lower spelled → IsSomeAnd (then_some result bytes.new) (λ found. found.items ≡ spelled) }
+    ensures only { (spelled : List ℕ) → IsBytes spelled → 0 < length spelled → length spelled ≤ 64 →
+        word.now ≡ encode_lower spelled →
+        IsSomeAnd (then_some result bytes.new) (λ found. found.items ≡ spelled) }
 {
     if word.is_empty() {
         return false;
@@ -34,9 +37,11 @@ fn pairs(word: &[u8], bytes: &mut ArrayVec<u8, 64>) -> bool
     requires none { bytes.old.items ≡ [] }
     requires even { length word.now % 2 ≡ 0 }
     requires few { length word.now ≤ 128 }
-    ensures found { IfSome (then_some result bytes.new) (λ bytes. word.now ≡ encode_lower bytes.items) }
+    ensures found { IfSome (then_some result bytes.new) (λ bytes.
+        word.now ≡ encode_lower bytes.items) }
     ensures fits { IfSome (then_some result bytes.new) (λ bytes. IsBytes bytes.items) }
-    ensures only { (spelled : List ℕ) → IsBytes spelled → word.now ≡ encode_lower spelled → IsSomeAnd (then_some result bytes.new) (λ found. found.items ≡ spelled) }
+    ensures only { (spelled : List ℕ) → IsBytes spelled → word.now ≡ encode_lower spelled →
+        IsSomeAnd (then_some result bytes.new) (λ found. found.items ≡ spelled) }
 {
     for at in 0..word.len() / 2 {
         let Some(high) = digit(word[2 * at]) else {
@@ -54,7 +59,8 @@ fn pairs(word: &[u8], bytes: &mut ArrayVec<u8, 64>) -> bool
 fn digit(byte: u8) -> Option<u8>
     ensures found { IfSome result (λ number. byte ≡ slice_index lower_digits number) }
     ensures small { IfSome result (λ number. number < 16) }
-    ensures only { (number : ℕ) → number < 16 → byte ≡ slice_index lower_digits number → result ≡ Some number }
+    ensures only { (number : ℕ) → number < 16 → byte ≡ slice_index lower_digits number →
+        result ≡ Some number }
 {
     match byte {
         b'0'..=b'9' => Some(byte - b'0'),

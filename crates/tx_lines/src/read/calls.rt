@@ -31,7 +31,8 @@ pub fn read_call(version: Version, text: &[u8], call: &mut Call) -> bool
     ensures found { IfSome (then_some result call.new) (λ c. text.now ≡ call_text c) }
     ensures fits { IfSome (then_some result call.new) FitsCall }
     ensures within { IfSome (then_some result call.new) (IsCallOf version) }
-    ensures only { (c : Call) → FitsCall c → IsCallOf version c → text.now ≡ call_text c → then_some result call.new ≡ Some c }
+    ensures only { (c : Call) → FitsCall c → IsCallOf version c → text.now ≡ call_text c →
+        then_some result call.new ≡ Some c }
 {
     if let Some(arguments) = after_front(b"store ", text) {
         return store(arguments, call);
@@ -50,7 +51,8 @@ fn named_call(version: Version, text: &[u8], call: &mut Call) -> bool
     ensures found { IfSome (then_some result call.new) (λ c. text.now ≡ call_text c) }
     ensures fits { IfSome (then_some result call.new) FitsCall }
     ensures within { IfSome (then_some result call.new) (IsCallOf version) }
-    ensures only { (c : Call) → FitsCall c → IsCallOf version c → 1 ≤ group_of c → text.now ≡ call_text c → then_some result call.new ≡ Some c }
+    ensures only { (c : Call) → FitsCall c → IsCallOf version c → 1 ≤ group_of c →
+        text.now ≡ call_text c → then_some result call.new ≡ Some c }
 {
     match split_word(text) {
         Some((name, arguments)) => memory_call(version, name, arguments, call),

@@ -30,7 +30,8 @@ pub enum Command {
 pub fn read_command(version: Version, line: &[u8]) -> Option<Command>
     ensures found { IfSome result (λ c. line.now ≡ command_text c) }
     ensures fits { IfSome result (FitsCommand version) }
-    ensures only { (c : Command) → FitsCommand version c → line.now ≡ command_text c → result ≡ Some c }
+    ensures only { (c : Command) → FitsCommand version c → line.now ≡ command_text c →
+        result ≡ Some c }
 {
     if line == b"back".as_slice() {
         return Some(Command::Back);
@@ -51,7 +52,8 @@ pub fn read_command(version: Version, line: &[u8]) -> Option<Command>
 fn goto(line: &[u8]) -> Option<Command>
     ensures found { IfSome result (λ c. line.now ≡ command_text c) }
     ensures fits { (version : TheVersion) → IfSome result (FitsCommand version) }
-    ensures only { (position : ℕ) → position < 2 ^ 63 → line.now ≡ codes "goto " ++ decimal position → result ≡ Some (Command.Goto position) }
+    ensures only { (position : ℕ) → position < 2 ^ 63 →
+        line.now ≡ codes "goto " ++ decimal position → result ≡ Some (Command.Goto position) }
 {
     let word = after_front(b"goto ", line)?;
     let position = read_position(word)?;
@@ -62,7 +64,8 @@ fn goto(line: &[u8]) -> Option<Command>
 fn moved(version: Version, line: &[u8]) -> Option<u64>
     ensures found { IfSome result (λ number. line.now ≡ codes "moved " ++ decimal number) }
     ensures fits { IfSome result (λ number. (version ≡ Two) × (number < 2 ^ 63)) }
-    ensures only { (number : ℕ) → version ≡ Two → number < 2 ^ 63 → line.now ≡ codes "moved " ++ decimal number → result ≡ Some number }
+    ensures only { (number : ℕ) → version ≡ Two → number < 2 ^ 63 →
+        line.now ≡ codes "moved " ++ decimal number → result ≡ Some number }
 {
     let Version::Two = version else {
         return None;

@@ -15,7 +15,8 @@ use tx_base::{PROCESSES, Pid, WIDE_PROCESSES};
 
 /// The header in the first line of a text of that kind, and the text after that line.
 pub fn first_header(kind: TextKind, text: &[u8]) -> Result<(Header, &[u8]), Fault>
-    ensures { MatchResult result (λ r. SpellsHeader kind text.now r.0 r.1.now) (FaultsAtHeader kind text.now) }
+    ensures { MatchResult result (λ r. SpellsHeader kind text.now r.0 r.1.now)
+        (FaultsAtHeader kind text.now) }
 {
     let (line, rest) = line_of(1, text)?;
     match read_header(kind, line) {
@@ -38,7 +39,8 @@ fn read_of(kind: TextKind, version: Version, line: &[u8]) -> Option<Header>
     ensures found { IfSome result (λ h. line.now ≡ header_text kind h) }
     ensures fits { IfSome result FitsHeader }
     ensures same { IfSome result (λ h. h.version ≡ version) }
-    ensures only { (h : Header) → h.version ≡ version → FitsHeader h → line.now ≡ header_text kind h → result ≡ Some h }
+    ensures only { (h : Header) → h.version ≡ version → FitsHeader h →
+        line.now ≡ header_text kind h → result ≡ Some h }
 {
     let word = after_front(front(kind, version), line)?;
     let count = read_count(word, most(version))?;

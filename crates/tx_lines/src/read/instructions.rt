@@ -22,7 +22,8 @@ pub fn read_instruction(version: Version, line: &[u8]) -> Option<Instruction>
     requires { length line.now ≤ 512 }
     ensures found { IfSome result (λ i. line.now ≡ instruction_text i) }
     ensures good { IfSome result (IsInstruction version) }
-    ensures only { (i : Instruction) → IsInstruction version i → line.now ≡ instruction_text i → result ≡ Some i }
+    ensures only { (i : Instruction) → IsInstruction version i → line.now ≡ instruction_text i →
+        result ≡ Some i }
 {
     let mut plain = ArrayVec::new();
     let mut spellings = ArrayVec::new();
@@ -46,7 +47,8 @@ fn read_plain(version: Version, text: &[u8], call: &mut Call) -> bool
     ensures fits { IfSome (then_some result call.new) FitsCall }
     ensures within { IfSome (then_some result call.new) (IsCallOf version) }
     ensures later { IfSome (then_some result call.new) ChoosesLater }
-    ensures only { (c : Call) → FitsCall c → IsCallOf version c → ChoosesLater c → text.now ≡ plain_text c → then_some result call.new ≡ Some c }
+    ensures only { (c : Call) → FitsCall c → IsCallOf version c → ChoosesLater c →
+        text.now ≡ plain_text c → then_some result call.new ≡ Some c }
 {
     if text == b"fork".as_slice() {
         return put(call, Some(Call::Fork(Pid(0))));
@@ -71,7 +73,8 @@ fn chooses_numbers(call: &Call) -> bool
 /// Whether the arguments of a call may be spelled so, one by one.
 fn may_all_be(spellings: &[Spelling], call: &Call) -> bool
     ensures sound { IsTrue result → MayAllBe spellings.now (program_arguments call.now) }
-    ensures complete { length spellings.now ≤ length (program_arguments call.now) → MayAllBe spellings.now (program_arguments call.now) → IsTrue result }
+    ensures complete { length spellings.now ≤ length (program_arguments call.now) →
+        MayAllBe spellings.now (program_arguments call.now) → IsTrue result }
 {
     for place in 0..spellings.len() {
         if !may_be(&spellings[place], kind_of(call, place)) {
@@ -94,7 +97,8 @@ fn may_be(spelling: &Spelling, kind: Kind) -> bool
 
 /// What the argument at that place of a call is, where it has one there. Places count from 0.
 fn kind_of(call: &Call, place: usize) -> Kind
-    ensures { (argument : Argument) → slice_get (program_arguments call.now) place ≡ Some argument → result ≡ spec.kind_of argument }
+    ensures { (argument : Argument) → slice_get (program_arguments call.now) place ≡ Some argument →
+        result ≡ spec.kind_of argument }
 {
     match call {
         Call::Jump(_, _) => kind_in_jump(place),

@@ -15,7 +15,8 @@ use tx_base::Pid;
 pub fn split_unsigned(line: &[u8]) -> Option<(u64, &[u8])>
     ensures found { IfSome result (λ r. line.now ≡ decimal r.0 ++ 32 ∷ r.1.now) }
     ensures fits { IfSome result (λ r. r.0 < 10 ^ 19) }
-    ensures only { (n : ℕ) (rest : List ℕ) → n < 10 ^ 19 → line.now ≡ decimal n ++ 32 ∷ rest → IsSomeAnd result (λ r. (r.0 ≡ n) × (r.1.now ≡ rest)) }
+    ensures only { (n : ℕ) (rest : List ℕ) → n < 10 ^ 19 → line.now ≡ decimal n ++ 32 ∷ rest →
+        IsSomeAnd result (λ r. (r.0 ≡ n) × (r.1.now ≡ rest)) }
 {
     if line.len() > 1 && line[1] == b' ' && line[0].is_ascii_digit() {
         return Some((u64::from(line[0] - b'0'), &line[2..])); // what most lines begin with
@@ -28,7 +29,8 @@ pub fn split_unsigned(line: &[u8]) -> Option<(u64, &[u8])>
 fn split_two(line: &[u8]) -> Option<(u64, &[u8])>
     ensures found { IfSome result (λ r. line.now ≡ decimal r.0 ++ 32 ∷ r.1.now) }
     ensures fits { IfSome result (λ r. r.0 < 10 ^ 19) }
-    ensures only { (n : ℕ) (rest : List ℕ) → 10 ≤ n → n < 10 ^ 19 → line.now ≡ decimal n ++ 32 ∷ rest → IsSomeAnd result (λ r. (r.0 ≡ n) × (r.1.now ≡ rest)) }
+    ensures only { (n : ℕ) (rest : List ℕ) → 10 ≤ n → n < 10 ^ 19 →
+        line.now ≡ decimal n ++ 32 ∷ rest → IsSomeAnd result (λ r. (r.0 ≡ n) × (r.1.now ≡ rest)) }
 {
     if line.len() > 2 && line[2] == b' ' && line[0] > b'0' && are_digits(line[0], line[1]) {
         let number = 10 * (line[0] - b'0') + (line[1] - b'0');
@@ -49,7 +51,8 @@ fn are_digits(first: u8, second: u8) -> bool
 fn split_longer(line: &[u8]) -> Option<(u64, &[u8])>
     ensures found { IfSome result (λ r. line.now ≡ decimal r.0 ++ 32 ∷ r.1.now) }
     ensures fits { IfSome result (λ r. r.0 < 10 ^ 19) }
-    ensures only { (n : ℕ) (rest : List ℕ) → 10 ≤ n → n < 10 ^ 19 → line.now ≡ decimal n ++ 32 ∷ rest → IsSomeAnd result (λ r. (r.0 ≡ n) × (r.1.now ≡ rest)) }
+    ensures only { (n : ℕ) (rest : List ℕ) → 10 ≤ n → n < 10 ^ 19 →
+        line.now ≡ decimal n ++ 32 ∷ rest → IsSomeAnd result (λ r. (r.0 ≡ n) × (r.1.now ≡ rest)) }
 {
     let (number, count) = digits_before_space(line)?;
     if count == 0 {
@@ -69,7 +72,8 @@ fn digits_before_space(line: &[u8]) -> Option<(u64, usize)>
     ensures few { IfSome result (λ r. r.1 < 20) }
     ensures inside { IfSome result (λ r. r.1 < length line.now) }
     ensures space { IfSome result (λ r. slice_index line.now r.1 ≡ 32) }
-    ensures only { (n : ℕ) (rest : List ℕ) → n < 10 ^ 19 → line.now ≡ decimal n ++ 32 ∷ rest → IsSomeAnd result (λ r. r.1 ≡ length (decimal n)) }
+    ensures only { (n : ℕ) (rest : List ℕ) → n < 10 ^ 19 → line.now ≡ decimal n ++ 32 ∷ rest →
+        IsSomeAnd result (λ r. r.1 ≡ length (decimal n)) }
 {
     let mut number = 0;
     for i in 0..line.len() {
@@ -93,7 +97,8 @@ fn digits_before_space(line: &[u8]) -> Option<(u64, usize)>
 pub fn split_pid(line: &[u8]) -> Option<(Pid, &[u8])>
     ensures found { IfSome result (λ r. line.now ≡ decimal r.0.0 ++ 32 ∷ r.1.now) }
     ensures fits { IfSome result (λ r. r.0.0 < 2 ^ 16) }
-    ensures only { (p : Pid) (rest : List ℕ) → p.0 < 2 ^ 16 → line.now ≡ decimal p.0 ++ 32 ∷ rest → IsSomeAnd result (λ r. (r.0 ≡ p) × (r.1.now ≡ rest)) }
+    ensures only { (p : Pid) (rest : List ℕ) → p.0 < 2 ^ 16 → line.now ≡ decimal p.0 ++ 32 ∷ rest →
+        IsSomeAnd result (λ r. (r.0 ≡ p) × (r.1.now ≡ rest)) }
 {
     let (number, rest) = split_unsigned(line)?;
     let number = u16::try_from(number).ok()?;
@@ -105,7 +110,8 @@ pub fn split_pid(line: &[u8]) -> Option<(Pid, &[u8])>
 pub fn split_byte(line: &[u8]) -> Option<(u8, &[u8])>
     ensures found { IfSome result (λ r. line.now ≡ decimal r.0 ++ 32 ∷ r.1.now) }
     ensures fits { IfSome result (λ r. r.0 < 2 ^ 8) }
-    ensures only { (n : ℕ) (rest : List ℕ) → n < 2 ^ 8 → line.now ≡ decimal n ++ 32 ∷ rest → IsSomeAnd result (λ r. (r.0 ≡ n) × (r.1.now ≡ rest)) }
+    ensures only { (n : ℕ) (rest : List ℕ) → n < 2 ^ 8 → line.now ≡ decimal n ++ 32 ∷ rest →
+        IsSomeAnd result (λ r. (r.0 ≡ n) × (r.1.now ≡ rest)) }
 {
     let (number, rest) = split_unsigned(line)?;
     let number = u8::try_from(number).ok()?;
@@ -117,7 +123,8 @@ pub fn split_byte(line: &[u8]) -> Option<(u8, &[u8])>
 pub fn split_point(line: &[u8]) -> Option<(u32, &[u8])>
     ensures found { IfSome result (λ r. line.now ≡ decimal r.0 ++ 32 ∷ r.1.now) }
     ensures fits { IfSome result (λ r. r.0 < 2 ^ 32) }
-    ensures only { (n : ℕ) (rest : List ℕ) → n < 2 ^ 32 → line.now ≡ decimal n ++ 32 ∷ rest → IsSomeAnd result (λ r. (r.0 ≡ n) × (r.1.now ≡ rest)) }
+    ensures only { (n : ℕ) (rest : List ℕ) → n < 2 ^ 32 → line.now ≡ decimal n ++ 32 ∷ rest →
+        IsSomeAnd result (λ r. (r.0 ≡ n) × (r.1.now ≡ rest)) }
 {
     let (number, rest) = split_unsigned(line)?;
     let point = u32::try_from(number).ok()?;

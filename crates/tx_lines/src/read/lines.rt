@@ -31,7 +31,8 @@ pub fn next_line(number: u64, count: usize, left: &[u8]) -> Result<(&[u8], &[u8]
 /// The first line of a text, which has that number, and the text after its end.
 #[inline(always)]
 pub fn line_of(number: u64, text: &[u8]) -> Result<(&[u8], &[u8]), Fault>
-    ensures { MatchResult result (λ r. IsLine text.now r.0.now r.1.now) (FaultsAtLine number text.now) }
+    ensures { MatchResult result (λ r. IsLine text.now r.0.now r.1.now)
+        (FaultsAtLine number text.now) }
 {
     let (line, rest) = take_line(text);
     if line.len() > LINE_BYTES {

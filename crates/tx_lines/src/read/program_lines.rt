@@ -36,7 +36,9 @@ pub fn read_lines(
     version: Version,
     text: &[u8],
 ) -> Result<(Vec<Line>, IndexMap<Name, u32>), Fault>
-    ensures { MatchResult result (λ r. AreLines version r.0.items × (text.now ≡ lines_of line_text r.0.items) × (r.1.entries ≡ labels_of r.0.items)) (FaultsBy (FaultsAfterLines version text.now)) }
+    ensures { MatchResult result
+        (λ r. AreLines version r.0.items × (text.now ≡ lines_of line_text r.0.items)
+        × (r.1.entries ≡ labels_of r.0.items)) (FaultsBy (FaultsAfterLines version text.now)) }
 {
     let mut lines = Vec::new(alloc);
     let mut labels = IndexMap::new(alloc);
@@ -91,10 +93,13 @@ fn push_line(
     requires few { length lines.old.items ≤ 1280 }
     requires labels { labels.old.entries ≡ labels_of lines.old.items }
     requires distinct { IsDistinct same_name (keys_of labels.old.entries) }
-    ensures added { OnOk result (Adds line_text (IsLineOf version) line.now lines.old.items lines.new.items) }
+    ensures added { OnOk result
+        (Adds line_text (IsLineOf version) line.now lines.old.items lines.new.items) }
     ensures labels { OnOk result (labels.new.entries ≡ labels_of lines.new.items) }
     ensures distinct { OnOk result (IsDistinct same_name (keys_of labels.new.entries)) }
-    ensures fault { IfErr result (λ fault. (fault ≡ NoMemory) ⊎ ((fault ≡ NotALine (length lines.old.items + 2)) × (IsNoLineOf version line.now ⊎ IsSecondLabel lines.old.items line.now))) }
+    ensures fault { IfErr result (λ fault.
+        (fault ≡ NoMemory) ⊎ ((fault ≡ NotALine (length lines.old.items + 2))
+        × (IsNoLineOf version line.now ⊎ IsSecondLabel lines.old.items line.now))) }
 {
     match read_line(version, line) {
         Some(Line::Label(name)) => {
@@ -125,9 +130,13 @@ fn push(line: Line, lines: &mut Vec<Line>) -> Result<(), Fault>
 fn push_label(name: &Name, count: usize, labels: &mut IndexMap<Name, u32>) -> Result<(), Fault>
     requires among { length labels.old.entries ≤ count }
     requires few { count ≤ 1280 }
-    ensures labels { OnOk result (labels.new.entries ≡ labels.old.entries ++ (name.now, count - length labels.old.entries) ∷ []) }
+    ensures labels { OnOk result
+        (labels.new.entries ≡ labels.old.entries ++ (name.now, count - length labels.old.entries)
+        ∷ []) }
     ensures distinct { OnOk result (IsDistinct same_name (keys_of labels.new.entries)) }
-    ensures fault { IfErr result (λ fault. (fault ≡ NoMemory) ⊎ ((fault ≡ NotALine (count + 2)) × ((number : ℕ) × (lookup (same_name name.now) labels.old.entries ≡ Some number)))) }
+    ensures fault { IfErr result (λ fault.
+        (fault ≡ NoMemory) ⊎ ((fault ≡ NotALine (count + 2))
+        × ((number : ℕ) × (lookup (same_name name.now) labels.old.entries ≡ Some number)))) }
 {
     if labels.contains_key(name) {
         return Err(Fault::NotALine {

@@ -38,8 +38,11 @@ fn link(
     labels: &IndexMap<Name, u32>,
 ) -> Result<Vec<Instruction>, Fault>
     requires { length lines.now ≤ 1280 }
-    ensures linked { IfOk result (λ v. map (spec.linked labels.now.entries) (instructions_of lines.now) ≡ map Some v.items) }
-    ensures fault { IfErr result (λ fault. (fault ≡ NoMemory) ⊎ ((number : ℕ) × (fault ≡ NoLabel number) × IsFirstUser labels.now.entries lines.now number)) }
+    ensures linked { IfOk result (λ v.
+        map (spec.linked labels.now.entries) (instructions_of lines.now) ≡ map Some v.items) }
+    ensures fault { IfErr result (λ fault.
+        (fault ≡ NoMemory) ⊎ ((number : ℕ) × (fault ≡ NoLabel number)
+        × IsFirstUser labels.now.entries lines.now number)) }
 {
     let mut instructions = Vec::new(alloc);
     for at in 0..lines.len() {
@@ -61,8 +64,11 @@ fn push_linked(
     labels: &IndexMap<Name, u32>,
     instructions: &mut Vec<Instruction>,
 ) -> Result<(), Fault>
-    ensures more { OnOk result (map Some instructions.new.items ≡ map Some instructions.old.items ++ linked_line labels.now.entries line.now) }
-    ensures fault { IfErr result (λ fault. (fault ≡ NoMemory) ⊎ ((fault ≡ NoLabel number) × IsUser labels.now.entries line.now)) }
+    ensures more { OnOk result
+        (map Some instructions.new.items ≡ map Some instructions.old.items
+        ++ linked_line labels.now.entries line.now) }
+    ensures fault { IfErr result (λ fault.
+        (fault ≡ NoMemory) ⊎ ((fault ≡ NoLabel number) × IsUser labels.now.entries line.now)) }
 {
     let Line::Instruction(instruction) = line else {
         return Ok(());

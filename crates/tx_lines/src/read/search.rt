@@ -7,7 +7,8 @@ use std::simd::prelude::*;
 /// Where the first byte of that kind stands. Nothing where there is none.
 #[inline(never)] // inlined, its loops would keep the offsets that its callers go on with
 pub fn find(mark: u8, text: &[u8]) -> Option<usize>
-    ensures place { option_map (λ at. (take at text.now, drop (at + 1) text.now)) result ≡ parts_at mark text.now }
+    ensures place { option_map (λ at. (take at text.now, drop (at + 1) text.now)) result
+        ≡ parts_at mark text.now }
     ensures inside { IfSome result (λ at. at < length text.now) }
 {
     let mut at = 0;
@@ -26,7 +27,8 @@ pub fn find(mark: u8, text: &[u8]) -> Option<usize>
 fn find_by_eight(from: usize, mark: u8, text: &[u8]) -> Option<usize>
     requires inside { from ≤ length text.now }
     requires before { (k : ℕ) → k < from → slice_index text.now k ≢ mark }
-    ensures place { option_map (λ at. (take at text.now, drop (at + 1) text.now)) result ≡ parts_at mark text.now }
+    ensures place { option_map (λ at. (take at text.now, drop (at + 1) text.now)) result
+        ≡ parts_at mark text.now }
     ensures inside { IfSome result (λ at. at < length text.now) }
 {
     if text.len() - from < 8 {
@@ -44,7 +46,8 @@ fn find_by_eight(from: usize, mark: u8, text: &[u8]) -> Option<usize>
 fn find_by_four(from: usize, mark: u8, text: &[u8]) -> Option<usize>
     requires inside { from ≤ length text.now }
     requires before { (k : ℕ) → k < from → slice_index text.now k ≢ mark }
-    ensures place { option_map (λ at. (take at text.now, drop (at + 1) text.now)) result ≡ parts_at mark text.now }
+    ensures place { option_map (λ at. (take at text.now, drop (at + 1) text.now)) result
+        ≡ parts_at mark text.now }
     ensures inside { IfSome result (λ at. at < length text.now) }
 {
     if text.len() - from < 4 {
@@ -62,7 +65,8 @@ fn find_by_four(from: usize, mark: u8, text: &[u8]) -> Option<usize>
 /// there is none.
 fn find_from(from: usize, mark: u8, text: &[u8]) -> Option<usize>
     requires { (k : ℕ) → k < from → slice_index text.now k ≢ mark }
-    ensures place { option_map (λ at. (take at text.now, drop (at + 1) text.now)) result ≡ parts_at mark text.now }
+    ensures place { option_map (λ at. (take at text.now, drop (at + 1) text.now)) result
+        ≡ parts_at mark text.now }
     ensures inside { IfSome result (λ at. at < length text.now) }
 {
     for i in from..text.len() {

@@ -36,8 +36,10 @@ fn is_dash(word: &[u8]) -> bool
 
 /// The set of the signals that a list spells, each above a number and below the next.
 fn read_members(above: u8, list: &[u8]) -> Option<SigSet>
-    ensures found { IfSome result (λ set. (n : ℕ) × (ns : List ℕ) × AreListed above list.now n ns × (bits_of set ≡ set_of (n ∷ ns))) }
-    ensures only { (n : ℕ) (ns : List ℕ) → AreListed above list.now n ns → result ≡ Some (set_of_bits (set_of (n ∷ ns))) }
+    ensures found { IfSome result (λ set.
+        (n : ℕ) × (ns : List ℕ) × AreListed above list.now n ns × (bits_of set ≡ set_of (n ∷ ns))) }
+    ensures only { (n : ℕ) (ns : List ℕ) → AreListed above list.now n ns →
+        result ≡ Some (set_of_bits (set_of (n ∷ ns))) }
 {
     match split_at(b',', list) {
         Some((word, rest)) => {
@@ -58,7 +60,8 @@ fn read_above(above: u8, word: &[u8]) -> Option<Signo>
     ensures known { IfSome result (λ signo. is_known signo.0 ≡ true) }
     ensures above { IfSome result (λ signo. above < signo.0) }
     ensures small { IfSome result (λ signo. signo.0 < 64) }
-    ensures only { (signo : Signo) → signo.0 < 2 ^ 8 → is_known signo.0 ≡ true → above < signo.0 → word.now ≡ decimal signo.0 → result ≡ Some signo }
+    ensures only { (signo : Signo) → signo.0 < 2 ^ 8 → is_known signo.0 ≡ true → above < signo.0 →
+        word.now ≡ decimal signo.0 → result ≡ Some signo }
 {
     let signo = Signo(read_byte(word)?);
     if !is_known(signo) {

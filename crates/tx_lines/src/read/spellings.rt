@@ -24,8 +24,10 @@ pub fn put_plain(
     requires no_text { plain.old.items ≡ [] }
     requires no_spelling { spellings.old.items ≡ [] }
     ensures few { result ≡ nat_le (length (words_of line.now).1) 4 }
-    ensures plain { IsTrue result → plain.new.items ≡ joined (words_of line.now).0 (map plain_word (words_of line.now).1) }
-    ensures spellings { IsTrue result → spellings.new.items ≡ map spec.spelling_of (words_of line.now).1 }
+    ensures plain { IsTrue result →
+        plain.new.items ≡ joined (words_of line.now).0 (map plain_word (words_of line.now).1) }
+    ensures spellings { IsTrue result →
+        spellings.new.items ≡ map spec.spelling_of (words_of line.now).1 }
 {
     match split_word(line) {
         Some((name, arguments)) => {
@@ -47,9 +49,14 @@ fn put_arguments(
 ) -> bool
     requires room { length plain.old.items + 1 + length text.now ≤ 512 }
     requires few { length spellings.old.items ≤ 4 }
-    ensures few { result ≡ nat_le (length spellings.old.items + 1 + length (words_of text.now).1) 4 }
-    ensures plain { IsTrue result → plain.new.items ≡ plain.old.items ++ 32 ∷ joined (plain_word (words_of text.now).0) (map plain_word (words_of text.now).1) }
-    ensures spellings { IsTrue result → spellings.new.items ≡ spellings.old.items ++ spec.spelling_of (words_of text.now).0 ∷ map spec.spelling_of (words_of text.now).1 }
+    ensures few { result
+        ≡ nat_le (length spellings.old.items + 1 + length (words_of text.now).1) 4 }
+    ensures plain { IsTrue result →
+        plain.new.items ≡ plain.old.items ++ 32
+        ∷ joined (plain_word (words_of text.now).0) (map plain_word (words_of text.now).1) }
+    ensures spellings { IsTrue result →
+        spellings.new.items ≡ spellings.old.items ++ spec.spelling_of (words_of text.now).0
+        ∷ map spec.spelling_of (words_of text.now).1 }
 {
     if spellings.is_full() {
         return false;
@@ -71,7 +78,8 @@ fn put_argument(word: &[u8], plain: &mut ArrayVec<u8, 512>, spellings: &mut Arra
     requires room { length plain.old.items + 1 + length word.now ≤ 512 }
     requires few { length spellings.old.items < 4 }
     ensures plain { plain.new.items ≡ plain.old.items ++ 32 ∷ plain_word word.now }
-    ensures spellings { spellings.new.items ≡ spellings.old.items ++ spec.spelling_of word.now ∷ [] }
+    ensures spellings { spellings.new.items ≡ spellings.old.items ++ spec.spelling_of word.now
+        ∷ [] }
 {
     let spelling = spelling_of(word);
     plain.push(b' ');

@@ -26,7 +26,8 @@ pub fn split_word(line: &[u8]) -> Option<(&[u8], &[u8])>
 
 /// What follows that front of a line. Nothing where the line does not begin so.
 pub fn after_front<'a>(front: &[u8], line: &'a [u8]) -> Option<&'a [u8]>
-    ensures { MatchOption result ((rest : List ℕ) → line.now ≢ front.now ++ rest) (λ rest. line.now ≡ front.now ++ rest.now) }
+    ensures { MatchOption result ((rest : List ℕ) → line.now ≢ front.now ++ rest) (λ rest.
+        line.now ≡ front.now ++ rest.now) }
 {
     line.strip_prefix(front)
 }
@@ -37,7 +38,9 @@ pub fn after_front<'a>(front: &[u8], line: &'a [u8]) -> Option<&'a [u8]>
 pub fn split_number(line: &[u8]) -> Option<(i64, &[u8])>
     ensures found { IfSome result (λ r. line.now ≡ signed_decimal r.0 ++ 32 ∷ r.1.now) }
     ensures fits { IfSome result (λ r. FitsSigned w64 r.0) }
-    ensures only { (z : ℤ) (rest : List ℕ) → FitsSigned w64 z → line.now ≡ signed_decimal z ++ 32 ∷ rest → IsSomeAnd result (λ r. (r.0 ≡ z) × (r.1.now ≡ rest)) }
+    ensures only { (z : ℤ) (rest : List ℕ) → FitsSigned w64 z →
+        line.now ≡ signed_decimal z ++ 32 ∷ rest →
+        IsSomeAnd result (λ r. (r.0 ≡ z) × (r.1.now ≡ rest)) }
 {
     match split_unsigned(line) {
         Some((number, rest)) => Some((i64::try_from(number).ok()?, rest)),
@@ -51,7 +54,9 @@ pub fn split_number(line: &[u8]) -> Option<(i64, &[u8])>
 fn split_any(line: &[u8]) -> Option<(i64, &[u8])>
     ensures found { IfSome result (λ r. line.now ≡ signed_decimal r.0 ++ 32 ∷ r.1.now) }
     ensures fits { IfSome result (λ r. FitsSigned w64 r.0) }
-    ensures only { (z : ℤ) (rest : List ℕ) → FitsSigned w64 z → line.now ≡ signed_decimal z ++ 32 ∷ rest → IsSomeAnd result (λ r. (r.0 ≡ z) × (r.1.now ≡ rest)) }
+    ensures only { (z : ℤ) (rest : List ℕ) → FitsSigned w64 z →
+        line.now ≡ signed_decimal z ++ 32 ∷ rest →
+        IsSomeAnd result (λ r. (r.0 ≡ z) × (r.1.now ≡ rest)) }
 {
     let (first, rest) = split_word(line)?;
     let number = number(first)?;
@@ -62,7 +67,8 @@ fn split_any(line: &[u8]) -> Option<(i64, &[u8])>
 pub fn pair(text: &[u8]) -> Option<(i64, i64)>
     ensures found { IfSome result (λ r. text.now ≡ pair_text r.0 r.1) }
     ensures fits { IfSome result (λ r. FitsSigned w64 r.0 × FitsSigned w64 r.1) }
-    ensures only { (a b : ℤ) → FitsSigned w64 a → FitsSigned w64 b → text.now ≡ pair_text a b → IsSomeAnd result (λ r. (r.0 ≡ a) × (r.1 ≡ b)) }
+    ensures only { (a b : ℤ) → FitsSigned w64 a → FitsSigned w64 b → text.now ≡ pair_text a b →
+        IsSomeAnd result (λ r. (r.0 ≡ a) × (r.1 ≡ b)) }
 {
     let (first, rest) = split_number(text)?;
     let second = number(rest)?;
@@ -72,8 +78,10 @@ pub fn pair(text: &[u8]) -> Option<(i64, i64)>
 /// The three numbers that a text spells. Nothing where it is another text.
 pub fn triple(text: &[u8]) -> Option<(i64, i64, i64)>
     ensures found { IfSome result (λ r. text.now ≡ triple_text r.0 r.1 r.2) }
-    ensures fits { IfSome result (λ r. FitsSigned w64 r.0 × FitsSigned w64 r.1 × FitsSigned w64 r.2) }
-    ensures only { (a b c : ℤ) → FitsSigned w64 a → FitsSigned w64 b → FitsSigned w64 c → text.now ≡ triple_text a b c → IsSomeAnd result (λ r. (r.0 ≡ a) × (r.1 ≡ b) × (r.2 ≡ c)) }
+    ensures fits { IfSome result (λ r.
+        FitsSigned w64 r.0 × FitsSigned w64 r.1 × FitsSigned w64 r.2) }
+    ensures only { (a b c : ℤ) → FitsSigned w64 a → FitsSigned w64 b → FitsSigned w64 c →
+        text.now ≡ triple_text a b c → IsSomeAnd result (λ r. (r.0 ≡ a) × (r.1 ≡ b) × (r.2 ≡ c)) }
 {
     let (first, rest) = split_number(text)?;
     let (second, third) = pair(rest)?;

@@ -22,7 +22,8 @@ pub fn read_step(version: Version, line: &[u8]) -> Option<Step>
     ensures found { IfSome result (λ s. line.now ≡ step_text s) }
     ensures fits { IfSome result FitsStep }
     ensures within { IfSome result (IsOf version) }
-    ensures only { (s : Step) → FitsStep s → IsOf version s → line.now ≡ step_text s → result ≡ Some s }
+    ensures only { (s : Step) → FitsStep s → IsOf version s → line.now ≡ step_text s →
+        result ≡ Some s }
 {
     let mut step = Step::Call(Pid(0), Call::Getpid);
     if read_step_into(version, line, &mut step) {
@@ -38,7 +39,8 @@ pub fn read_step_into(version: Version, line: &[u8], step: &mut Step) -> bool
     ensures found { IfSome (then_some result step.new) (λ s. line.now ≡ step_text s) }
     ensures fits { IfSome (then_some result step.new) FitsStep }
     ensures within { IfSome (then_some result step.new) (IsOf version) }
-    ensures only { (s : Step) → FitsStep s → IsOf version s → line.now ≡ step_text s → then_some result step.new ≡ Some s }
+    ensures only { (s : Step) → FitsStep s → IsOf version s → line.now ≡ step_text s →
+        then_some result step.new ≡ Some s }
 {
     match split_pid(line) {
         Some((pid, rest)) => process_step(version, pid, rest, step),
@@ -51,7 +53,8 @@ fn kernel_step(line: &[u8], step: &mut Step) -> bool
     ensures found { IfSome (then_some result step.new) (λ s. line.now ≡ step_text s) }
     ensures fits { IfSome (then_some result step.new) FitsStep }
     ensures within { (version : Version) → IfSome (then_some result step.new) (IsOf version) }
-    ensures only { (p : Pid) → p.0 < 2 ^ 16 → line.now ≡ step_text (Step.KernelAbort p) → then_some result step.new ≡ Some (Step.KernelAbort p) }
+    ensures only { (p : Pid) → p.0 < 2 ^ 16 → line.now ≡ step_text (Step.KernelAbort p) →
+        then_some result step.new ≡ Some (Step.KernelAbort p) }
 {
     match after_front(b"kernel ", line) {
         Some(word) => kernel_abort(word, step),
@@ -61,10 +64,12 @@ fn kernel_step(line: &[u8], step: &mut Step) -> bool
 
 /// Puts the abort of the transaction of the starter that a word spells where it is to stand.
 fn kernel_abort(word: &[u8], step: &mut Step) -> bool
-    ensures found { IfSome (then_some result step.new) (λ s. codes "kernel " ++ word.now ≡ step_text s) }
+    ensures found { IfSome (then_some result step.new) (λ s.
+        codes "kernel " ++ word.now ≡ step_text s) }
     ensures fits { IfSome (then_some result step.new) FitsStep }
     ensures within { (version : Version) → IfSome (then_some result step.new) (IsOf version) }
-    ensures only { (p : Pid) → p.0 < 2 ^ 16 → word.now ≡ decimal p.0 → then_some result step.new ≡ Some (Step.KernelAbort p) }
+    ensures only { (p : Pid) → p.0 < 2 ^ 16 → word.now ≡ decimal p.0 →
+        then_some result step.new ≡ Some (Step.KernelAbort p) }
 {
     match read_pid(word) {
         Some(starter) => {
@@ -78,11 +83,15 @@ fn kernel_abort(word: &[u8], step: &mut Step) -> bool
 /// Puts the step of a process that a text spells, without its first word, where it is to stand.
 fn process_step(version: Version, pid: Pid, rest: &[u8], step: &mut Step) -> bool
     requires { pid.0 < 2 ^ 16 }
-    ensures found { IfSome (then_some result step.new) (λ s. decimal pid.0 ++ 32 ∷ rest.now ≡ step_text s) }
+    ensures found { IfSome (then_some result step.new) (λ s.
+        decimal pid.0 ++ 32 ∷ rest.now ≡ step_text s) }
     ensures fits { IfSome (then_some result step.new) FitsStep }
     ensures within { IfSome (then_some result step.new) (IsOf version) }
-    ensures call { (c : Call) → FitsCall c → IsCallOf version c → rest.now ≡ call_text c → then_some result step.new ≡ Some (Step.Call pid c) }
-    ensures delivery { (signo : Signo) → signo.0 < 2 ^ 8 → rest.now ≡ codes "deliver " ++ decimal signo.0 → then_some result step.new ≡ Some (Step.Deliver pid signo) }
+    ensures call { (c : Call) → FitsCall c → IsCallOf version c → rest.now ≡ call_text c →
+        then_some result step.new ≡ Some (Step.Call pid c) }
+    ensures delivery { (signo : Signo) → signo.0 < 2 ^ 8 →
+        rest.now ≡ codes "deliver " ++ decimal signo.0 →
+        then_some result step.new ≡ Some (Step.Deliver pid signo) }
 {
     match after_front(b"deliver ", rest) {
         Some(word) => delivery(pid, word, step),
@@ -93,10 +102,12 @@ fn process_step(version: Version, pid: Pid, rest: &[u8], step: &mut Step) -> boo
 /// Puts the delivery of the signal that a word spells where it is to stand.
 fn delivery(pid: Pid, word: &[u8], step: &mut Step) -> bool
     requires { pid.0 < 2 ^ 16 }
-    ensures found { IfSome (then_some result step.new) (λ s. decimal pid.0 ++ 32 ∷ (codes "deliver " ++ word.now) ≡ step_text s) }
+    ensures found { IfSome (then_some result step.new) (λ s.
+        decimal pid.0 ++ 32 ∷ (codes "deliver " ++ word.now) ≡ step_text s) }
     ensures fits { IfSome (then_some result step.new) FitsStep }
     ensures within { (version : Version) → IfSome (then_some result step.new) (IsOf version) }
-    ensures only { (signo : Signo) → signo.0 < 2 ^ 8 → word.now ≡ decimal signo.0 → then_some result step.new ≡ Some (Step.Deliver pid signo) }
+    ensures only { (signo : Signo) → signo.0 < 2 ^ 8 → word.now ≡ decimal signo.0 →
+        then_some result step.new ≡ Some (Step.Deliver pid signo) }
 {
     match read_byte(word) {
         Some(number) => {
@@ -110,10 +121,12 @@ fn delivery(pid: Pid, word: &[u8], step: &mut Step) -> bool
 /// Puts the call of a process that a text spells where it is to stand.
 fn call_step(version: Version, pid: Pid, rest: &[u8], step: &mut Step) -> bool
     requires { pid.0 < 2 ^ 16 }
-    ensures found { IfSome (then_some result step.new) (λ s. decimal pid.0 ++ 32 ∷ rest.now ≡ step_text s) }
+    ensures found { IfSome (then_some result step.new) (λ s.
+        decimal pid.0 ++ 32 ∷ rest.now ≡ step_text s) }
     ensures fits { IfSome (then_some result step.new) FitsStep }
     ensures within { IfSome (then_some result step.new) (IsOf version) }
-    ensures only { (c : Call) → FitsCall c → IsCallOf version c → rest.now ≡ call_text c → then_some result step.new ≡ Some (Step.Call pid c) }
+    ensures only { (c : Call) → FitsCall c → IsCallOf version c → rest.now ≡ call_text c →
+        then_some result step.new ≡ Some (Step.Call pid c) }
 {
     make_call(pid, step);
     match step {

@@ -32,7 +32,8 @@ pub fn read_schedule(alloc: Global, text: &[u8]) -> Result<Schedule, Fault>
 
 /// The steps in the lines of a text of that version, after its header.
 fn read_steps(alloc: Global, version: Version, text: &[u8]) -> Result<Vec<Step>, Fault>
-    ensures { MatchResult result (λ r. AreSteps version r.items × (text.now ≡ steps_text r.items)) (FaultsBy (FaultsAmong step_text (AreSteps version) (FaultsAtStep version) text.now)) }
+    ensures { MatchResult result (λ r. AreSteps version r.items × (text.now ≡ steps_text r.items))
+        (FaultsBy (FaultsAmong step_text (AreSteps version) (FaultsAtStep version) text.now)) }
 {
     let mut steps = Vec::with_capacity(alloc, LINES.min(text.len() / STEP_BYTES))?;
     let mut left = text;
@@ -50,8 +51,11 @@ fn read_steps(alloc: Global, version: Version, text: &[u8]) -> Result<Vec<Step>,
 #[inline(always)] // a call of its own costs each line of a schedule 30 instructions
 pub fn push_step(version: Version, line: &[u8], steps: &mut Vec<Step>) -> Result<(), Fault>
     requires { length steps.old.items < 4096 }
-    ensures added { OnOk result (Adds step_text (FitsStepOf version) line.now steps.old.items steps.new.items) }
-    ensures fault { IfErr result (λ fault. (fault ≡ NoMemory) ⊎ ((fault ≡ NotALine (length steps.old.items + 2)) × IsNoStep version line.now)) }
+    ensures added { OnOk result
+        (Adds step_text (FitsStepOf version) line.now steps.old.items steps.new.items) }
+    ensures fault { IfErr result (λ fault.
+        (fault ≡ NoMemory) ⊎ ((fault ≡ NotALine (length steps.old.items + 2))
+        × IsNoStep version line.now)) }
 {
     let count = steps.len();
     if steps.push(Step::Call(Pid(0), Call::Getpid)).is_err() {

@@ -37,7 +37,10 @@ fn steps_before_commands(
     version: Version,
     text: &[u8],
 ) -> Result<(Vec<Step>, &[u8]), Fault>
-    ensures { MatchResult result (λ r. AreSteps version r.0.items × (text.now ≡ before_commands r.0.items r.1.now)) (FaultsBy (FaultsAmong step_text (AreSteps version) (FaultsBeforeCommands version) text.now)) }
+    ensures { MatchResult result
+        (λ r. AreSteps version r.0.items × (text.now ≡ before_commands r.0.items r.1.now))
+        (FaultsBy (FaultsAmong step_text (AreSteps version) (FaultsBeforeCommands version)
+        text.now)) }
 {
     let mut steps = Vec::new(alloc);
     let mut left = text;
@@ -89,7 +92,10 @@ fn read_commands(
     text: &[u8],
 ) -> Result<Vec<Command>, Fault>
     requires { number ≤ 4099 }
-    ensures { MatchResult result (λ r. AreCommands version r.items × (text.now ≡ lines_of command_text r.items)) (FaultsBy (FaultsAmong command_text (AreCommands version) (FaultsAtCommand version number) text.now)) }
+    ensures { MatchResult result
+        (λ r. AreCommands version r.items × (text.now ≡ lines_of command_text r.items))
+        (FaultsBy (FaultsAmong command_text (AreCommands version) (FaultsAtCommand version number)
+        text.now)) }
 {
     let mut commands = Vec::new(alloc);
     let mut left = text;

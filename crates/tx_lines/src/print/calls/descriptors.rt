@@ -15,7 +15,9 @@ pub fn put_pipe(
     read: DescNo,
     write: DescNo,
 ) -> Result<(), AllocError>
-    ensures { OnOk result (string_bytes text.new ≡ string_bytes text.old ++ (codes "pipe " ++ (decimal pipe.0 ++ 32 ∷ (decimal read.0 ++ 32 ∷ decimal write.0)))) }
+    ensures { OnOk result
+        (string_bytes text.new ≡ string_bytes text.old
+        ++ (codes "pipe " ++ (decimal pipe.0 ++ 32 ∷ (decimal read.0 ++ 32 ∷ decimal write.0)))) }
 {
     put(text, "pipe ")?;
     put_count_first(text, u64::from(pipe.0))?;
@@ -25,7 +27,9 @@ pub fn put_pipe(
 
 /// Appends the call that makes a description nonblocking or not.
 pub fn put_set_nonblock(text: &mut String, fd: i64, on: bool) -> Result<(), AllocError>
-    ensures { OnOk result (string_bytes text.new ≡ string_bytes text.old ++ (codes "set_nonblock " ++ (signed_decimal fd ++ 32 ∷ switch_text on))) }
+    ensures { OnOk result
+        (string_bytes text.new ≡ string_bytes text.old
+        ++ (codes "set_nonblock " ++ (signed_decimal fd ++ 32 ∷ switch_text on))) }
 {
     put_number_word(text, "set_nonblock ", fd, switch(on))
 }

@@ -10,7 +10,9 @@ use std::alloc::AllocError;
 
 /// Appends the call that says whether a page may be written.
 pub fn put_protect(text: &mut String, page: i64, writable: bool) -> Result<(), AllocError>
-    ensures { OnOk result (string_bytes text.new ≡ string_bytes text.old ++ (codes "protect " ++ (signed_decimal page ++ 32 ∷ access_text writable))) }
+    ensures { OnOk result
+        (string_bytes text.new ≡ string_bytes text.old
+        ++ (codes "protect " ++ (signed_decimal page ++ 32 ∷ access_text writable))) }
 {
     put_number_word(text, "protect ", page, access(writable))
 }
@@ -24,7 +26,9 @@ fn access(writable: bool) -> &'static str
 
 /// Appends the call that stores bytes: where there is none, nothing stands for them.
 pub fn put_store(text: &mut String, address: i64, bytes: &[u8]) -> Result<(), AllocError>
-    ensures { OnOk result (string_bytes text.new ≡ string_bytes text.old ++ (codes "store " ++ (signed_decimal address ++ 32 ∷ encode_lower bytes.now))) }
+    ensures { OnOk result
+        (string_bytes text.new ≡ string_bytes text.old
+        ++ (codes "store " ++ (signed_decimal address ++ 32 ∷ encode_lower bytes.now))) }
 {
     put_number_first(text, "store ", address)?;
     put_digits(text, bytes)

@@ -10,7 +10,8 @@ use tx_base::Pid;
 
 /// Appends the call that makes a child.
 pub fn put_fork(text: &mut String, child: Pid) -> Result<(), AllocError>
-    ensures { OnOk result (string_bytes text.new ≡ string_bytes text.old ++ (codes "fork " ++ decimal child.0)) }
+    ensures { OnOk result
+        (string_bytes text.new ≡ string_bytes text.old ++ (codes "fork " ++ decimal child.0)) }
 {
     put(text, "fork ")?;
     put_count(text, u64::from(child.0))
@@ -18,7 +19,9 @@ pub fn put_fork(text: &mut String, child: Pid) -> Result<(), AllocError>
 
 /// Appends the call that takes the status of a child.
 pub fn put_waitpid(text: &mut String, target: i64, nohang: bool) -> Result<(), AllocError>
-    ensures { OnOk result (string_bytes text.new ≡ string_bytes text.old ++ (codes "waitpid " ++ (signed_decimal target ++ 32 ∷ waiting_text nohang))) }
+    ensures { OnOk result
+        (string_bytes text.new ≡ string_bytes text.old
+        ++ (codes "waitpid " ++ (signed_decimal target ++ 32 ∷ waiting_text nohang))) }
 {
     put_number_word(text, "waitpid ", target, waiting(nohang))
 }

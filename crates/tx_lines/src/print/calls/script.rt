@@ -10,14 +10,18 @@ use tx_base::When;
 
 /// Appends the call that shows bytes.
 pub fn put_console_write(text: &mut String, address: i64, count: i64) -> Result<(), AllocError>
-    ensures { OnOk result (string_bytes text.new ≡ string_bytes text.old ++ (codes "console_write " ++ pair_text address count)) }
+    ensures { OnOk result
+        (string_bytes text.new ≡ string_bytes text.old
+        ++ (codes "console_write " ++ pair_text address count)) }
 {
     put_two(text, "console_write ", address, count)
 }
 
 /// Appends the call that goes on at another point.
 pub fn put_jump(text: &mut String, point: u32, when: When) -> Result<(), AllocError>
-    ensures { OnOk result (string_bytes text.new ≡ string_bytes text.old ++ (codes "jump " ++ (decimal point ++ 32 ∷ when_text when))) }
+    ensures { OnOk result
+        (string_bytes text.new ≡ string_bytes text.old
+        ++ (codes "jump " ++ (decimal point ++ 32 ∷ when_text when))) }
 {
     put(text, "jump ")?;
     put_count_first(text, u64::from(point))?;

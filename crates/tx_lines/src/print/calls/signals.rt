@@ -17,14 +17,18 @@ pub fn put_sigqueue(
     signo: i64,
     value: i64,
 ) -> Result<(), AllocError>
-    ensures { OnOk result (string_bytes text.new ≡ string_bytes text.old ++ (codes "sigqueue " ++ triple_text target signo value)) }
+    ensures { OnOk result
+        (string_bytes text.new ≡ string_bytes text.old
+        ++ (codes "sigqueue " ++ triple_text target signo value)) }
 {
     put_three(text, "sigqueue ", target, signo, value)
 }
 
 /// Appends the call that says what is done about a signal.
 pub fn put_sigaction(text: &mut String, signo: i64, action: Action) -> Result<(), AllocError>
-    ensures { OnOk result (string_bytes text.new ≡ string_bytes text.old ++ (codes "sigaction " ++ (signed_decimal signo ++ 32 ∷ action_text action))) }
+    ensures { OnOk result
+        (string_bytes text.new ≡ string_bytes text.old
+        ++ (codes "sigaction " ++ (signed_decimal signo ++ 32 ∷ action_text action))) }
 {
     put_number_first(text, "sigaction ", signo)?;
     put_action(text, action)
@@ -47,7 +51,9 @@ fn put_action(text: &mut String, action: Action) -> Result<(), AllocError>
 
 /// Appends the call that changes the mask.
 pub fn put_sigprocmask(text: &mut String, how: How, set: SigSet) -> Result<(), AllocError>
-    ensures { OnOk result (string_bytes text.new ≡ string_bytes text.old ++ (codes "sigprocmask " ++ (how_text how ++ 32 ∷ set_text set))) }
+    ensures { OnOk result
+        (string_bytes text.new ≡ string_bytes text.old
+        ++ (codes "sigprocmask " ++ (how_text how ++ 32 ∷ set_text set))) }
 {
     put(text, "sigprocmask ")?;
     put_change(text, how, set)
@@ -55,7 +61,8 @@ pub fn put_sigprocmask(text: &mut String, how: How, set: SigSet) -> Result<(), A
 
 /// Appends how a mask is changed, and by which set.
 fn put_change(text: &mut String, how: How, set: SigSet) -> Result<(), AllocError>
-    ensures { OnOk result (string_bytes text.new ≡ string_bytes text.old ++ (how_text how ++ 32 ∷ set_text set)) }
+    ensures { OnOk result
+        (string_bytes text.new ≡ string_bytes text.old ++ (how_text how ++ 32 ∷ set_text set)) }
 {
     put(text, way(how))?;
     put(text, " ")?;

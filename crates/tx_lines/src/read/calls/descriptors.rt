@@ -19,7 +19,9 @@ pub fn pipe(arguments: &[u8]) -> Option<Call>
     ensures found { IfSome result (λ c. codes "pipe " ++ arguments.now ≡ call_text c) }
     ensures fits { IfSome result FitsCall }
     ensures within { (version : Version) → IfSome result (IsCallOf version) }
-    ensures only { (pipe : PipeNo) (read write : DescNo) → FitsCall (Call.Pipe pipe read write) → arguments.now ≡ decimal pipe.0 ++ 32 ∷ (decimal read.0 ++ 32 ∷ decimal write.0) → result ≡ Some (Call.Pipe pipe read write) }
+    ensures only { (pipe : PipeNo) (read write : DescNo) → FitsCall (Call.Pipe pipe read write) →
+        arguments.now ≡ decimal pipe.0 ++ 32 ∷ (decimal read.0 ++ 32 ∷ decimal write.0) →
+        result ≡ Some (Call.Pipe pipe read write) }
 {
     let (pipe, rest) = split_byte(arguments)?;
     let (read, word) = split_byte(rest)?;
@@ -32,7 +34,8 @@ pub fn dup2(arguments: &[u8]) -> Option<Call>
     ensures found { IfSome result (λ c. codes "dup2 " ++ arguments.now ≡ call_text c) }
     ensures fits { IfSome result FitsCall }
     ensures within { (version : Version) → IfSome result (IsCallOf version) }
-    ensures only { (from to : ℤ) → FitsCall (Call.Dup2 from to) → arguments.now ≡ pair_text from to → result ≡ Some (Call.Dup2 from to) }
+    ensures only { (from to : ℤ) → FitsCall (Call.Dup2 from to) →
+        arguments.now ≡ pair_text from to → result ≡ Some (Call.Dup2 from to) }
 {
     let (from, to) = pair(arguments)?;
     Some(Call::Dup2(from, to))
@@ -43,7 +46,9 @@ pub fn set_nonblock(arguments: &[u8]) -> Option<Call>
     ensures found { IfSome result (λ c. codes "set_nonblock " ++ arguments.now ≡ call_text c) }
     ensures fits { IfSome result FitsCall }
     ensures within { (version : Version) → IfSome result (IsCallOf version) }
-    ensures only { (fd : ℤ) (on : Bool) → FitsSigned w64 fd → arguments.now ≡ signed_decimal fd ++ 32 ∷ switch_text on → result ≡ Some (Call.SetNonblock fd on) }
+    ensures only { (fd : ℤ) (on : Bool) → FitsSigned w64 fd →
+        arguments.now ≡ signed_decimal fd ++ 32 ∷ switch_text on →
+        result ≡ Some (Call.SetNonblock fd on) }
 {
     let (fd, word) = split_number(arguments)?;
     Some(Call::SetNonblock(fd, switch(word)?))

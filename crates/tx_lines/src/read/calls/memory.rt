@@ -16,10 +16,13 @@ use tx_base::Call;
 
 /// The call that says whether a page may be written, by the text of its arguments.
 pub fn protect(arguments: &[u8], call: &mut Call) -> bool
-    ensures found { IfSome (then_some result call.new) (λ c. codes "protect " ++ arguments.now ≡ call_text c) }
+    ensures found { IfSome (then_some result call.new) (λ c.
+        codes "protect " ++ arguments.now ≡ call_text c) }
     ensures fits { IfSome (then_some result call.new) FitsCall }
     ensures within { (version : Version) → IfSome (then_some result call.new) (IsCallOf version) }
-    ensures only { (page : ℤ) (writable : Bool) → FitsSigned w64 page → arguments.now ≡ signed_decimal page ++ 32 ∷ access_text writable → then_some result call.new ≡ Some (Call.Protect page writable) }
+    ensures only { (page : ℤ) (writable : Bool) → FitsSigned w64 page →
+        arguments.now ≡ signed_decimal page ++ 32 ∷ access_text writable →
+        then_some result call.new ≡ Some (Call.Protect page writable) }
 {
     let Some((page, word)) = split_number(arguments) else {
         return false;
@@ -46,10 +49,13 @@ fn access(word: &[u8]) -> Option<bool>
 /// The call that stores bytes, by the text of its arguments.
 #[inline(always)] // `read_call` alone calls it, and stands in each of its callers
 pub fn store(arguments: &[u8], call: &mut Call) -> bool
-    ensures found { IfSome (then_some result call.new) (λ c. codes "store " ++ arguments.now ≡ call_text c) }
+    ensures found { IfSome (then_some result call.new) (λ c.
+        codes "store " ++ arguments.now ≡ call_text c) }
     ensures fits { IfSome (then_some result call.new) FitsCall }
     ensures within { (version : Version) → IfSome (then_some result call.new) (IsCallOf version) }
-    ensures only { (address : ℤ) (bytes : ArrayVec ℕ) → FitsCall (Call.Store address bytes) → arguments.now ≡ signed_decimal address ++ 32 ∷ encode_lower bytes.items → then_some result call.new ≡ Some (Call.Store address bytes) }
+    ensures only { (address : ℤ) (bytes : ArrayVec ℕ) → FitsCall (Call.Store address bytes) →
+        arguments.now ≡ signed_decimal address ++ 32 ∷ encode_lower bytes.items →
+        then_some result call.new ≡ Some (Call.Store address bytes) }
 {
     let Some((address, word)) = split_number(arguments) else {
         return false;

@@ -15,7 +15,9 @@ pub fn waitpid(arguments: &[u8]) -> Option<Call>
     ensures found { IfSome result (λ c. codes "waitpid " ++ arguments.now ≡ call_text c) }
     ensures fits { IfSome result FitsCall }
     ensures within { (version : Version) → IfSome result (IsCallOf version) }
-    ensures only { (target : ℤ) (nohang : Bool) → FitsSigned w64 target → arguments.now ≡ signed_decimal target ++ 32 ∷ waiting_text nohang → result ≡ Some (Call.Waitpid target nohang) }
+    ensures only { (target : ℤ) (nohang : Bool) → FitsSigned w64 target →
+        arguments.now ≡ signed_decimal target ++ 32 ∷ waiting_text nohang →
+        result ≡ Some (Call.Waitpid target nohang) }
 {
     let (target, word) = split_number(arguments)?;
     Some(Call::Waitpid(target, nohang(word)?))

@@ -17,7 +17,8 @@ pub fn console_write(arguments: &[u8]) -> Option<Call>
     ensures found { IfSome result (λ c. codes "console_write " ++ arguments.now ≡ call_text c) }
     ensures fits { IfSome result FitsCall }
     ensures within { (version : Version) → IfSome result (IsCallOf version) }
-    ensures only { (address count : ℤ) → FitsCall (Call.ConsoleWrite address count) → arguments.now ≡ pair_text address count → result ≡ Some (Call.ConsoleWrite address count) }
+    ensures only { (address count : ℤ) → FitsCall (Call.ConsoleWrite address count) →
+        arguments.now ≡ pair_text address count → result ≡ Some (Call.ConsoleWrite address count) }
 {
     let (address, count) = pair(arguments)?;
     Some(Call::ConsoleWrite(address, count))
@@ -28,7 +29,9 @@ pub fn jump(arguments: &[u8]) -> Option<Call>
     ensures found { IfSome result (λ c. codes "jump " ++ arguments.now ≡ call_text c) }
     ensures fits { IfSome result FitsCall }
     ensures within { (version : Version) → IfSome result (IsCallOf version) }
-    ensures only { (point : ℕ) (when : When) → FitsCall (Call.Jump point when) → arguments.now ≡ decimal point ++ 32 ∷ when_text when → result ≡ Some (Call.Jump point when) }
+    ensures only { (point : ℕ) (when : When) → FitsCall (Call.Jump point when) →
+        arguments.now ≡ decimal point ++ 32 ∷ when_text when →
+        result ≡ Some (Call.Jump point when) }
 {
     let (point, text) = split_point(arguments)?;
     Some(Call::Jump(point, when(text)?))

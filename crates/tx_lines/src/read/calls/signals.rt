@@ -20,7 +20,8 @@ pub fn kill(arguments: &[u8]) -> Option<Call>
     ensures found { IfSome result (λ c. codes "kill " ++ arguments.now ≡ call_text c) }
     ensures fits { IfSome result FitsCall }
     ensures within { (version : Version) → IfSome result (IsCallOf version) }
-    ensures only { (target signo : ℤ) → FitsCall (Call.Kill target signo) → arguments.now ≡ pair_text target signo → result ≡ Some (Call.Kill target signo) }
+    ensures only { (target signo : ℤ) → FitsCall (Call.Kill target signo) →
+        arguments.now ≡ pair_text target signo → result ≡ Some (Call.Kill target signo) }
 {
     let (target, signo) = pair(arguments)?;
     Some(Call::Kill(target, signo))
@@ -31,7 +32,9 @@ pub fn sigqueue(arguments: &[u8]) -> Option<Call>
     ensures found { IfSome result (λ c. codes "sigqueue " ++ arguments.now ≡ call_text c) }
     ensures fits { IfSome result FitsCall }
     ensures within { (version : Version) → IfSome result (IsCallOf version) }
-    ensures only { (target signo value : ℤ) → FitsCall (Call.Sigqueue target signo value) → arguments.now ≡ triple_text target signo value → result ≡ Some (Call.Sigqueue target signo value) }
+    ensures only { (target signo value : ℤ) → FitsCall (Call.Sigqueue target signo value) →
+        arguments.now ≡ triple_text target signo value →
+        result ≡ Some (Call.Sigqueue target signo value) }
 {
     let (target, signo, value) = triple(arguments)?;
     Some(Call::Sigqueue(target, signo, value))
@@ -42,7 +45,9 @@ pub fn sigaction(arguments: &[u8]) -> Option<Call>
     ensures found { IfSome result (λ c. codes "sigaction " ++ arguments.now ≡ call_text c) }
     ensures fits { IfSome result FitsCall }
     ensures within { (version : Version) → IfSome result (IsCallOf version) }
-    ensures only { (signo : ℤ) (action : Action) → FitsCall (Call.Sigaction signo action) → arguments.now ≡ signed_decimal signo ++ 32 ∷ action_text action → result ≡ Some (Call.Sigaction signo action) }
+    ensures only { (signo : ℤ) (action : Action) → FitsCall (Call.Sigaction signo action) →
+        arguments.now ≡ signed_decimal signo ++ 32 ∷ action_text action →
+        result ≡ Some (Call.Sigaction signo action) }
 {
     let (signo, text) = split_number(arguments)?;
     Some(Call::Sigaction(signo, action(text)?))
@@ -52,7 +57,8 @@ pub fn sigaction(arguments: &[u8]) -> Option<Call>
 fn action(text: &[u8]) -> Option<Action>
     ensures found { IfSome result (λ action. text.now ≡ action_text action) }
     ensures fits { IfSome result FitsAction }
-    ensures only { (action : Action) → FitsAction action → text.now ≡ action_text action → result ≡ Some action }
+    ensures only { (action : Action) → FitsAction action → text.now ≡ action_text action →
+        result ≡ Some action }
 {
     match text {
         b"default" => Some(Action::Usual),
@@ -65,7 +71,8 @@ fn action(text: &[u8]) -> Option<Action>
 fn catch(arguments: &[u8]) -> Option<Action>
     ensures found { IfSome result (λ action. codes "catch " ++ arguments.now ≡ action_text action) }
     ensures fits { IfSome result FitsAction }
-    ensures only { (action : Action) → FitsAction action → codes "catch " ++ arguments.now ≡ action_text action → result ≡ Some action }
+    ensures only { (action : Action) → FitsAction action →
+        codes "catch " ++ arguments.now ≡ action_text action → result ≡ Some action }
 {
     let (point, word) = split_point(arguments)?;
     let mask = read_set(word)?;
@@ -77,7 +84,9 @@ pub fn sigprocmask(arguments: &[u8]) -> Option<Call>
     ensures found { IfSome result (λ c. codes "sigprocmask " ++ arguments.now ≡ call_text c) }
     ensures fits { IfSome result FitsCall }
     ensures within { (version : Version) → IfSome result (IsCallOf version) }
-    ensures only { (how : How) (set : SigSet) → FitsCall (Call.Sigprocmask how set) → arguments.now ≡ how_text how ++ 32 ∷ set_text set → result ≡ Some (Call.Sigprocmask how set) }
+    ensures only { (how : How) (set : SigSet) → FitsCall (Call.Sigprocmask how set) →
+        arguments.now ≡ how_text how ++ 32 ∷ set_text set →
+        result ≡ Some (Call.Sigprocmask how set) }
 {
     let (first, rest) = split_word(arguments)?;
     let way = how(first)?;

@@ -15,10 +15,12 @@ use tx_base::Call;
 /// whether one does.
 #[inline(always)] // as `store`
 pub fn transaction_call(version: Version, word: &[u8], call: &mut Call) -> bool
-    ensures found { IfSome (then_some result call.new) (λ c. codes "sys_x" ++ word.now ≡ call_text c) }
+    ensures found { IfSome (then_some result call.new) (λ c.
+        codes "sys_x" ++ word.now ≡ call_text c) }
     ensures fits { IfSome (then_some result call.new) FitsCall }
     ensures within { IfSome (then_some result call.new) (IsCallOf version) }
-    ensures only { (c : Call) → IsCallOf version c → codes "sys_x" ++ word.now ≡ call_text c → then_some result call.new ≡ Some c }
+    ensures only { (c : Call) → IsCallOf version c → codes "sys_x" ++ word.now ≡ call_text c →
+        then_some result call.new ≡ Some c }
 {
     if let Some(rest) = after_front(b"begin", word) {
         return begin(version, rest, call);
@@ -32,10 +34,12 @@ pub fn transaction_call(version: Version, word: &[u8], call: &mut Call) -> bool
 /// Puts the call that begins a transaction and whose text goes on so where it is to stand. Answers
 /// whether one does.
 fn begin(version: Version, rest: &[u8], call: &mut Call) -> bool
-    ensures found { IfSome (then_some result call.new) (λ c. codes "sys_xbegin" ++ rest.now ≡ call_text c) }
+    ensures found { IfSome (then_some result call.new) (λ c.
+        codes "sys_xbegin" ++ rest.now ≡ call_text c) }
     ensures fits { IfSome (then_some result call.new) FitsCall }
     ensures within { IfSome (then_some result call.new) (IsCallOf version) }
-    ensures only { (c : Call) → IsCallOf version c → codes "sys_xbegin" ++ rest.now ≡ call_text c → then_some result call.new ≡ Some c }
+    ensures only { (c : Call) → IsCallOf version c → codes "sys_xbegin" ++ rest.now ≡ call_text c →
+        then_some result call.new ≡ Some c }
 {
     if rest.is_empty() {
         return put(call, Some(Call::SysXbegin));

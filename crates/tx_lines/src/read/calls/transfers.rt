@@ -13,7 +13,8 @@ pub fn read(arguments: &[u8]) -> Option<Call>
     ensures found { IfSome result (λ c. codes "read " ++ arguments.now ≡ call_text c) }
     ensures fits { IfSome result FitsCall }
     ensures within { (version : Version) → IfSome result (IsCallOf version) }
-    ensures only { (fd address count : ℤ) → FitsCall (Call.Read fd address count) → arguments.now ≡ triple_text fd address count → result ≡ Some (Call.Read fd address count) }
+    ensures only { (fd address count : ℤ) → FitsCall (Call.Read fd address count) →
+        arguments.now ≡ triple_text fd address count → result ≡ Some (Call.Read fd address count) }
 {
     let (fd, address, count) = triple(arguments)?;
     Some(Call::Read(fd, address, count))
@@ -24,7 +25,8 @@ pub fn write(arguments: &[u8]) -> Option<Call>
     ensures found { IfSome result (λ c. codes "write " ++ arguments.now ≡ call_text c) }
     ensures fits { IfSome result FitsCall }
     ensures within { (version : Version) → IfSome result (IsCallOf version) }
-    ensures only { (fd address count : ℤ) → FitsCall (Call.Write fd address count) → arguments.now ≡ triple_text fd address count → result ≡ Some (Call.Write fd address count) }
+    ensures only { (fd address count : ℤ) → FitsCall (Call.Write fd address count) →
+        arguments.now ≡ triple_text fd address count → result ≡ Some (Call.Write fd address count) }
 {
     let (fd, address, count) = triple(arguments)?;
     Some(Call::Write(fd, address, count))

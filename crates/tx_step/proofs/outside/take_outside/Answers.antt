@@ -10,28 +10,28 @@ use Rattle.tx_step.specs.declared.answered.Answered.TheVariants.{Acted}
 use Rattle.tx_step.proofs.outside.take_outside.Goals as goal
 
 pub make_outside-requires-clause-running : goal.make_outside-requires-clause-running
-make_outside-requires-clause-running c = runs c.laws.ensures c.args.content.now c.requires.content c.args.pid c.args.asked role.Outside c.requires.through
+make_outside-requires-clause-running c = runs c.laws.ensures c.args.content.now c.requires.content c.args.pid c.args.request role.Outside c.requires.through
 
 pub make_outside-requires-clause-unowned : goal.make_outside-requires-clause-unowned
-make_outside-requires-clause-unowned c = unowned c.laws.ensures c.args.content.now c.requires.content c.args.pid c.args.asked c.requires.through c.act-act.result c.act-act.ensures
+make_outside-requires-clause-unowned c = unowned c.laws.ensures c.args.content.now c.requires.content c.args.pid c.args.request c.requires.through c.act-act.result c.act-act.ensures
 
 pub late_refusal-requires-clause-running : goal.late_refusal-requires-clause-running
 late_refusal-requires-clause-running c =
     subst (λ (k : Content). IsRunning (slot_at k.parts.procs c.args.pid.0)) (sym c.in-Err.ensures.err)
-    (runs c.laws.ensures c.args.content.now c.requires.content c.args.pid c.args.asked role.Outside c.requires.through)
+    (runs c.laws.ensures c.args.content.now c.requires.content c.args.pid c.args.request role.Outside c.requires.through)
 
 pub late_refusal-requires-clause-refused : goal.late_refusal-requires-clause-refused
 late_refusal-requires-clause-refused c =
-    was_refused c.laws.ensures c.args.content.now c.requires.content c.args.pid c.args.asked c.requires.through c.act-act.result c.act-act.ensures
+    was_refused c.laws.ensures c.args.content.now c.requires.content c.args.pid c.args.request c.requires.through c.act-act.result c.act-act.ensures
     c.make_outside.new.self c.in-Err.ensures.err c.in-Err.why c.in-Err.ensures.refused
 
 pub returns-in-Ok : goal.returns-in-Ok
 returns-in-Ok c =
-    of_process c.args.content.now c.args.pid c.args.asked c.make_outside.new.self c.make_outside.new.inverse (Acted c.in-Ok.outcome)
-    (taken c.laws.ensures c.args.content.now c.requires.content c.args.pid c.args.asked c.requires.through c.act-act.result c.act-act.ensures
+    of_process c.args.content.now c.args.pid c.args.request c.make_outside.new.self c.make_outside.new.inverse (Acted c.in-Ok.outcome)
+    (taken c.laws.ensures c.args.content.now c.requires.content c.args.pid c.args.request c.requires.through c.act-act.result c.act-act.ensures
     c.make_outside.new.self c.make_outside.new.inverse c.in-Ok.outcome c.in-Ok.ensures.made c.in-Ok.ensures.answer)
 
 pub returns-in-Err : goal.returns-in-Err
 returns-in-Err c =
-    refused c.laws.ensures c.args.content.now c.requires.content c.args.pid c.args.asked c.requires.through c.act-act.result c.act-act.ensures
+    refused c.laws.ensures c.args.content.now c.requires.content c.args.pid c.args.request c.requires.through c.act-act.result c.act-act.ensures
     c.make_outside.new.self c.in-Err.ensures.err c.late_refusal.result c.late_refusal.ensures

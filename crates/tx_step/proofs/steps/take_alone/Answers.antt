@@ -3,23 +3,23 @@ use Rattle.tx_model.specs.View.{event_on}
 use Rattle.tx_live.specs.Content.{view_of}
 use Rattle.tx_step.proofs.Idle.{idle_clear}
 use Rattle.tx_step.proofs.RefusedSteps.{runs_early}
-use Rattle.tx_step.specs.Asks.{step_of}
+use Rattle.tx_step.specs.Requests.{step_of}
 use Rattle.tx_step.specs.Roles.{role_alone, role_as}
 use Rattle.tx_step.proofs.steps.take_alone.Goals as goal
 
 pub beginning-requires-clause-running : goal.beginning-requires-clause-running
-beginning-requires-clause-running c = runs_early c.laws.ensures c.args.content.now c.requires.content c.args.pid c.args.asked (sym c.requires.early)
+beginning-requires-clause-running c = runs_early c.laws.ensures c.args.content.now c.requires.content c.args.pid c.args.request (sym c.requires.early)
 
 pub take_begin-requires-clause-through : goal.take_begin-requires-clause-through
 take_begin-requires-clause-through c = record {
   early = c.requires.early;
-  clear = idle_clear c.args.content.now c.requires.content c.requires.idle (event_on (view_of c.args.content.now) (step_of c.args.pid c.args.asked));
+  clear = idle_clear c.args.content.now c.requires.content c.requires.idle (event_on (view_of c.args.content.now) (step_of c.args.pid c.args.request));
   is = ap (λ begins. role_as c.args.pid.0 (role_alone begins)) (sym c.in-Some.is) ∙ c.beginning.ensures;
 }
 
 pub take_outside-requires-clause-through : goal.take_outside-requires-clause-through
 take_outside-requires-clause-through c = record {
   early = c.requires.early;
-  clear = idle_clear c.args.content.now c.requires.content c.requires.idle (event_on (view_of c.args.content.now) (step_of c.args.pid c.args.asked));
+  clear = idle_clear c.args.content.now c.requires.content c.requires.idle (event_on (view_of c.args.content.now) (step_of c.args.pid c.args.request));
   is = ap (λ begins. role_as c.args.pid.0 (role_alone begins)) (sym c.in-None.is) ∙ c.beginning.ensures;
 }

@@ -1,4 +1,4 @@
--- What a process is asked to do, as a step, and as what the kernel makes of it.
+-- What a step requests of its process, as a step, and as what the kernel makes of it.
 use Rattle.std.specs.Prelude.{◌≡◌, Bool, true, not, Option, is_some}
 use Rattle.tx_base.specs.declared.marks.Mark.{Mark}
 use Rattle.tx_base.specs.declared.names.Pid.{Pid}
@@ -9,17 +9,17 @@ use Rattle.tx_kernel.specs.Acts.{event_of}
 use Rattle.tx_kernel.specs.declared.events.Act.{Act}
 use Rattle.tx_model.specs.Membership.{Table, Kind, Ordinary, Forking, Beginning, Leaving, Aborting, inside_by, step_event}
 use Rattle.tx_model.specs.Words.{kind_of}
-use Rattle.tx_step.specs.declared.asked.Asked.{Asked}
-use Rattle.tx_step.specs.declared.asked.Asked.TheVariants.{Call, Delivery}
+use Rattle.tx_step.specs.declared.request.Request.{Request}
+use Rattle.tx_step.specs.declared.request.Request.TheVariants.{Call, Delivery}
 
--- the step in which a process does so
-abbrev pub step_of : Pid → Asked → Step
+-- the step that requests this of the process
+abbrev pub step_of : Pid → Request → Step
 step_of pid (Call call) = Calls pid call.now
 step_of pid (Delivery signo) = Deliver pid signo
 
-abbrev pub kind_asked : Asked → Kind
-kind_asked (Call call) = kind_of call.now
-kind_asked (Delivery signo) = Ordinary
+abbrev pub kind_requested : Request → Kind
+kind_requested (Call call) = kind_of call.now
+kind_requested (Delivery signo) = Ordinary
 
 -- whether a call of this kind is made by its process alone: it neither begins nor aborts a transaction of a process that is a
 -- member, or is none
@@ -30,7 +30,7 @@ is_own (Beginning defers) member = member
 is_own Leaving member = true
 is_own Aborting member = not member
 
--- what such a process does is what it is asked, as its mark tells: who has one is a member
-abbrev pub IsActOf : Asked → Bool → Act → Type 0
-IsActOf asked member act = (t : Table) (pid : Pid) (mark : Option Mark) (reply : Reply) → t.marks pid.0 ≡ mark → is_some mark ≡ member →
-    is_own (kind_asked asked) member ≡ true → event_of (inside_by t mark) pid act ≡ step_event t (step_of pid asked) reply
+-- the act of such a process is what is requested of it, as its mark tells: who has one is a member
+abbrev pub IsActOf : Request → Bool → Act → Type 0
+IsActOf request member act = (t : Table) (pid : Pid) (mark : Option Mark) (reply : Reply) → t.marks pid.0 ≡ mark → is_some mark ≡ member →
+    is_own (kind_requested request) member ≡ true → event_of (inside_by t mark) pid act ≡ step_event t (step_of pid request) reply

@@ -1,4 +1,4 @@
-//! What a process is asked to do.
+//! What a step requests of its process.
 ghost use Rattle.std.specs.Prelude.{◌≡◌, Option, true, false, is_some, length, option_map};
 ghost use Rattle.tx_base.specs.Slots.{slot_at};
 ghost use Rattle.tx_base.specs.declared.marks.Mark.{Mark as TheMark};
@@ -17,7 +17,7 @@ ghost use Rattle.tx_model.specs.State.{Object as TheObject};
 ghost use Rattle.tx_model.specs.View.{event_on, starter_in_way, role_on};
 ghost use Rattle.tx_reserve.specs.Objects.{is_in};
 ghost use Rattle.tx_reserve.specs.Reservations.{number_of};
-ghost use Rattle.tx_step.specs.Asks.{IsActOf, is_own, step_of};
+ghost use Rattle.tx_step.specs.Requests.{IsActOf, is_own, step_of};
 
 use crate::early::{early_refusal_of_call, early_refusal_of_delivery};
 use crate::refusal_laws::{contents_are_whole, laws};
@@ -29,9 +29,9 @@ use tx_laws::endings;
 use tx_live::Content;
 use tx_reserve::Objects;
 
-/// What a process is asked to do: to make a call, or to take a pending signal.
+/// What a step requests of its process: to make a call, or to take a pending signal.
 #[derive(Clone, Copy)]
-pub(crate) enum Asked<'a> {
+pub(crate) enum Request<'a> {
     Call(&'a Call),
     Delivery(Signo),
 }
@@ -39,15 +39,15 @@ pub(crate) enum Asked<'a> {
 /// EINVAL: the answer of a call of transactions that means nothing.
 const MEANS_NOTHING: i64 = -22;
 
-impl<'a> Asked<'a> {
-    /// The same as what a process does that is a member of a live transaction, or is none: a call of
+impl<'a> Request<'a> {
+    /// The act that it comes to, of a process that is a member of a live transaction, or is none: a call of
     /// transactions is an answer. One that begins or aborts a transaction is made otherwise.
     pub(crate) fn act(self, is_member: bool) -> Act<'a>
         ensures { IsActOf self.entry is_member result }
     {
         match self {
-            Asked::Call(call) => act_of_call(call, is_member),
-            Asked::Delivery(signo) => Act::Delivery(signo),
+            Request::Call(call) => act_of_call(call, is_member),
+            Request::Delivery(signo) => Act::Delivery(signo),
         }
     }
 
@@ -58,8 +58,8 @@ impl<'a> Asked<'a> {
     {
         contents_are_whole();
         match self {
-            Asked::Call(call) => early_refusal_of_call(content, pid, call),
-            Asked::Delivery(signo) => early_refusal_of_delivery(content, pid, signo),
+            Request::Call(call) => early_refusal_of_call(content, pid, call),
+            Request::Delivery(signo) => early_refusal_of_delivery(content, pid, signo),
         }
     }
 
@@ -70,8 +70,8 @@ impl<'a> Asked<'a> {
         ensures { role_as pid.0 result ≡ role_on (view_of content.now) (step_of pid self.entry) }
     {
         match self {
-            Asked::Call(call) => role_of_call(content, pid, call),
-            Asked::Delivery(signo) => role_of_delivery(content, pid, signo),
+            Request::Call(call) => role_of_call(content, pid, call),
+            Request::Delivery(signo) => role_of_delivery(content, pid, signo),
         }
     }
 
@@ -80,13 +80,14 @@ impl<'a> Asked<'a> {
         requires content { IsContent content.now }
         requires running { IsRunning (slot_at content.now.parts.procs pid.0) }
         requires idle { IsIdle content.now }
-        ensures { role_as pid.0 (role_alone result) ≡ role_on (view_of content.now) (step_of pid self.entry) }
+        ensures { role_as pid.0 (role_alone result)
+            ≡ role_on (view_of content.now) (step_of pid self.entry) }
     {
         laws();
         endings();
         match self {
-            Asked::Call(call) => beginning(call),
-            Asked::Delivery(_) => None,
+            Request::Call(call) => beginning(call),
+            Request::Delivery(_) => None,
         }
     }
 
@@ -101,23 +102,29 @@ impl<'a> Asked<'a> {
     ) -> Option<Pid>
         requires content { IsContent content.now }
         requires running { IsRunning (slot_at content.now.parts.procs pid.0) }
-        requires numbers { has_bad_number (length content.now.parts.procs) (step_of pid self) ≡ false }
+        requires numbers { has_bad_number (length content.now.parts.procs) (step_of pid self)
+            ≡ false }
         requires role { role_as pid.0 role ≡ role_on (view_of content.now) (step_of pid self) }
         requires empty { (o : TheObject) → is_in footprint.old o ≡ false }
-        ensures footprint { IsFootprint content.now (event_on (view_of content.now) (step_of pid self.entry)) footprint.new }
-        ensures starter_in_way { option_map number_of result ≡ starter_in_way (view_of content.now) (event_on (view_of content.now) (step_of pid self.entry)) }
+        ensures footprint { IsFootprint content.now
+            (event_on (view_of content.now) (step_of pid self.entry)) footprint.new }
+        ensures starter_in_way { option_map number_of result
+            ≡ starter_in_way (view_of content.now)
+            (event_on (view_of content.now) (step_of pid self.entry)) }
     {
         match self {
-            Asked::Call(call) => way_of_call(content, pid, call, role, footprint),
-            Asked::Delivery(signo) => way_of_delivery(content, pid, signo, role, footprint),
+            Request::Call(call) => way_of_call(content, pid, call, role, footprint),
+            Request::Delivery(signo) => way_of_delivery(content, pid, signo, role, footprint),
         }
     }
 }
 
 /// What a process does in a call.
 fn act_of_call(call: &Call, is_member: bool) -> Act<'_>
-    ensures { (t : Table) (pid : ThePid) (mark : Option TheMark) → is_some mark ≡ is_member → is_own (kind_of call.now) is_member ≡ true →
-        event_of (inside_by t mark) pid result ≡ kind_event t pid.0 (Calls pid call.now) (kind_of call.now) mark }
+    ensures { (t : Table) (pid : ThePid) (mark : Option TheMark) → is_some mark ≡ is_member →
+        is_own (kind_of call.now) is_member ≡ true →
+        event_of (inside_by t mark) pid result
+        ≡ kind_event t pid.0 (Calls pid call.now) (kind_of call.now) mark }
 {
     match call {
         Call::SysXend if is_member => Act::Answer(0),

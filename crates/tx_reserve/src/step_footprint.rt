@@ -1,0 +1,165 @@
+//! The footprint of any step, whether or not its process is there.
+ghost use Rattle.std.specs.Option.{option_copied};
+ghost use Rattle.std.specs.Prelude.{◌≡◌, ◌≤◌, ◌==◌, ℕ, List, None, false, if◌then◌else◌, length, IfSome, IsNone};
+ghost use Rattle.tx_base.specs.Slots.{slot_at};
+ghost use Rattle.tx_base.specs.declared.steps.Step.TheVariants.{Call as Calls, Deliver};
+ghost use Rattle.tx_change.specs.States.{state_of};
+ghost use Rattle.tx_change.specs.declared.parts.Parts.{Parts as TheParts};
+ghost use Rattle.tx_kernel.specs.Actors.{IsWhole, inside_of};
+ghost use Rattle.tx_model.specs.Footprints.{footprint};
+ghost use Rattle.tx_model.specs.Membership.{inside_by, is_open_of, others_open};
+ghost use Rattle.tx_model.specs.State.{Object as TheObject, Sending as TheSending};
+ghost use Rattle.tx_reserve.specs.Footprints.{GoesBy, HoldsBy, HoldsFor, IsInside, IsPlaced, IsSetOf, table_of};
+ghost use Rattle.tx_reserve.specs.Objects.{is_in};
+
+use crate::footprints::{footprint_of_call, footprint_of_delivery};
+use crate::objects::{Object, Objects};
+use tx_base::{Call, Mark, Pid, Sending, Signo, Slots, Step};
+use tx_change::Parts;
+use tx_kernel::{Actor, Inside};
+
+/// The footprint of any step: the objects that it reserves, if its process is a member. A process that
+/// is missing names itself alone, and the kernel's abort names nothing.
+///
+/// `held` is what the transaction holds that the process is a member of; with a process that is in none
+/// it may be anything. It takes no memory. Own rule.
+pub fn footprint(parts: &Parts, marks: &Slots<Mark>, held: &[Sending], step: &Step) -> Objects
+    requires { IsWhole parts.now }
+    ensures { (all : ℕ → List TheSending) → HoldsFor marks.now step.now held.now all →
+        IsSetOf result (footprint (table_of parts.now marks.now) step.now
+        (state_of all parts.now)) }
+{
+    let mut set = Objects::new();
+    match step {
+        Step::Call(pid, call) => put_call(parts, marks, held, *pid, call, &mut set),
+        Step::Deliver(pid, signo) => put_delivery(parts, marks, held, *pid, *signo, &mut set),
+        Step::KernelAbort(_) => {}
+    }
+    set
+}
+
+/// Puts the footprint of a call into an empty set.
+fn put_call(
+    parts: &Parts,
+    marks: &Slots<Mark>,
+    held: &[Sending],
+    pid: Pid,
+    call: &Call,
+    set: &mut Objects,
+)
+    requires whole { IsWhole parts.now }
+    requires empty { (o : TheObject) → is_in set.old o ≡ false }
+    ensures { (all : ℕ → List TheSending) → HoldsBy (slot_at marks.now pid.0) held.now all →
+        IsSetOf set.new (footprint (table_of parts.now marks.now) (Calls pid call.now)
+        (state_of all parts.now)) }
+{
+    let last = last_by(parts, marks, held, pid);
+    match actor_at(parts, marks, pid) {
+        Some(actor) => footprint_of_call(&actor, marks, last, call, set),
+        None => set.insert(Object::Proc(pid)),
+    }
+}
+
+/// Puts the footprint of a delivery of the signal into an empty set.
+fn put_delivery(
+    parts: &Parts,
+    marks: &Slots<Mark>,
+    held: &[Sending],
+    pid: Pid,
+    signo: Signo,
+    set: &mut Objects,
+)
+    requires whole { IsWhole parts.now }
+    requires empty { (o : TheObject) → is_in set.old o ≡ false }
+    ensures { (all : ℕ → List TheSending) → HoldsBy (slot_at marks.now pid.0) held.now all →
+        IsSetOf set.new (footprint (table_of parts.now marks.now) (Deliver pid signo)
+        (state_of all parts.now)) }
+{
+    let last = last_by(parts, marks, held, pid);
+    match actor_at(parts, marks, pid) {
+        Some(actor) => footprint_of_delivery(&actor, marks, last, signo, set),
+        None => set.insert(Object::Proc(pid)),
+    }
+}
+
+/// The process of a number, which runs or has ended, with the transaction that it is a member of.
+fn actor_at<'a>(parts: &'a Parts, marks: &'a Slots<Mark>, pid: Pid) -> Option<Actor<'a>>
+    requires { IsWhole parts.now }
+    ensures placed { IfSome result (λ actor. IsPlaced actor) }
+    ensures inside { IfSome result (λ actor. IsInside actor marks.now) }
+    ensures parts { IfSome result (λ actor. actor.parts.now ≡ parts.now) }
+    ensures number { IfSome result (λ actor. actor.pid ≡ pid) }
+    ensures none { IsNone result → slot_at parts.now.procs pid.0 ≡ None }
+{
+    let proc = parts.proc(pid)?;
+    let inside = inside_at(marks, pid);
+    Some(Actor {
+        parts,
+        pid,
+        proc,
+        inside,
+    })
+}
+
+/// The transaction that a process is a member of, if it is one. No row asks how much that holds.
+fn inside_at<'a>(marks: &'a Slots<Mark>, pid: Pid) -> Option<Inside<'a>>
+    ensures { (parts : TheParts) →
+        inside_of result ≡ inside_by (table_of parts marks.now) (slot_at marks.now pid.0) }
+{
+    let mark = marks.get(pid)?;
+    Some(Inside {
+        starter: mark.starter,
+        marks,
+        held: 0,
+        defers: mark.defers,
+    })
+}
+
+/// What a step commits that ends the part of this process: all that is held, where it is a member and no
+/// other member's part is open.
+fn last_by<'a>(
+    parts: &Parts,
+    marks: &Slots<Mark>,
+    held: &'a [Sending],
+    pid: Pid,
+) -> Option<&'a [Sending]>
+    requires { length parts.now.procs ≤ 256 }
+    ensures { (all : ℕ → List TheSending) → HoldsBy (slot_at marks.now pid.0) held.now all →
+        GoesBy (table_of parts.now marks.now) pid.0 (slot_at marks.now pid.0) (option_copied result)
+        all }
+{
+    let mark = marks.get(pid)?;
+    if others_open(parts, marks, mark.starter, pid) {
+        return None;
+    }
+    Some(held)
+}
+
+/// Whether the part of another member of the starter's transaction is open.
+fn others_open(parts: &Parts, marks: &Slots<Mark>, starter: Pid, pid: Pid) -> bool
+    requires { length parts.now.procs ≤ 256 }
+    ensures { result ≡ others_open (table_of parts.now marks.now) starter.0 pid.0
+        (length parts.now.procs) }
+{
+    let mut is_any = false;
+    for below in 0..parts.procs.width() {
+        if is_other_open(marks, starter, pid, Pid(below as u16 + 1)) {
+            is_any = true;
+        }
+    }
+    is_any
+}
+
+/// Whether this is another member of the starter's transaction, whose part is open.
+fn is_other_open(marks: &Slots<Mark>, starter: Pid, pid: Pid, other: Pid) -> bool
+    ensures { result ≡ (if other.0 == pid.0 then false
+        else is_open_of starter.0 (slot_at marks.now other.0)) }
+{
+    if other == pid {
+        return false;
+    }
+    match marks.get(other) {
+        Some(mark) => !mark.ended && mark.starter == starter,
+        None => false,
+    }
+}
