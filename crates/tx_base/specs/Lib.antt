@@ -3,3 +3,4 @@ pub mod Lends
 pub mod Numbers
 pub mod Signals
 pub mod Slots
+pub mod SlotFacts

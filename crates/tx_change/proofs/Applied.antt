@@ -1,15 +1,16 @@
 -- Exchanges one after another, and back.
 use Rattle.std.proofs.Common.{◌≡◌, ℕ, List, [], ◌∷◌, ◌++◌, Option, Some, None, length, ap, refl, ◌∙◌, sym, subst, length-set}
-use Rattle.tx_base.proofs.SlotFacts.{length-with_slot}
+use Rattle.tx_base.specs.SlotFacts.{length-with_slot}
 use Rattle.tx_change.proofs.Twice.{back}
 use Rattle.tx_change.specs.declared.change.Change.{Change}
 use Rattle.tx_change.specs.declared.change.Change.TheVariants.{Slot, Part, Description, Pipe}
 use Rattle.tx_change.specs.declared.parts.Parts.{Parts}
 use Rattle.tx_change.specs.Exchange.{parts_after, change_after, Sizes, sizes_of, IsWithin, IsNamed, AreWithin, AreNamed, applied, exchanged, undone, reverted}
+use Rattle.tx_change.specs.PartLaws.{PartLaws}
 use Rattle.tx_proc.specs.Parts.{part_in, HasPlace}
 use Rattle.tx_proc.specs.declared.proc.Part.{Part as ProcPart}
 use Rattle.tx_proc.specs.declared.proc.Proc.{Proc}
-use Rattle.tx_proc.proofs.Twice.{place_of_part}
+use Rattle.tx_proc.specs.PartFacts.{place_of_part}
 
 -- there are as many numbers as before
 pub still_sized : (parts : Parts) (change : Change) → sizes_of (parts_after parts change) ≡ sizes_of parts
@@ -65,20 +66,20 @@ AreWithin-reverted sizes parts (change ∷ changes) named =
     (IsWithin-exchanged sizes (undone parts changes) change named.0, AreWithin-reverted sizes parts changes named.1)
 
 -- to exchange all again, the last one first, puts the parts back
-pub undone_exchanged : (parts : Parts) (changes : List Change) → AreNamed parts changes → undone (applied parts changes) (exchanged parts changes) ≡ parts
-undone_exchanged parts [] named = refl
-undone_exchanged parts (change ∷ changes) named =
+pub undone_exchanged : (laws : PartLaws) (parts : Parts) (changes : List Change) → AreNamed parts changes → undone (applied parts changes) (exchanged parts changes) ≡ parts
+undone_exchanged laws parts [] named = refl
+undone_exchanged laws parts (change ∷ changes) named =
     let next : Parts = parts_after parts change in
-    let rest = undone_exchanged next changes (AreNamed-sized parts next changes (still_sized parts change) named.1) in
-    ap (λ (p : Parts). parts_after p (change_after parts change)) rest ∙ back parts change named.0
+    let rest = undone_exchanged laws next changes (AreNamed-sized parts next changes (still_sized parts change) named.1) in
+    ap (λ (p : Parts). parts_after p (change_after parts change)) rest ∙ back laws parts change named.0
 
 -- to exchange what was taken back again, the first one first, puts the parts back too
-pub applied_reverted : (parts : Parts) (changes : List Change) → AreNamed parts changes → applied (undone parts changes) (reverted parts changes) ≡ parts
-applied_reverted parts [] named = refl
-applied_reverted parts (change ∷ changes) named =
+pub applied_reverted : (laws : PartLaws) (parts : Parts) (changes : List Change) → AreNamed parts changes → applied (undone parts changes) (reverted parts changes) ≡ parts
+applied_reverted laws parts [] named = refl
+applied_reverted laws parts (change ∷ changes) named =
     let before : Parts = undone parts changes in
-    ap (λ (p : Parts). applied p (reverted parts changes)) (back before change (IsNamed-sized parts before change (sizes-undone parts changes) named.0))
-    ∙ applied_reverted parts changes named.1
+    ap (λ (p : Parts). applied p (reverted parts changes)) (back laws before change (IsNamed-sized parts before change (sizes-undone parts changes) named.0))
+    ∙ applied_reverted laws parts changes named.1
 
 pub applied-append : (parts : Parts) (front behind : List Change) → applied parts (front ++ behind) ≡ applied (applied parts front) behind
 applied-append parts [] behind = refl

@@ -8,7 +8,7 @@ use Rattle.tx_change.specs.Exchange.{pipe_at}
 use Rattle.tx_change.specs.Laws.{HasPlaces}
 use Rattle.tx_change.specs.States.{state_of}
 use Rattle.tx_change.specs.declared.parts.Parts.{Parts}
-use Rattle.tx_base.proofs.SlotFacts.{slot_at-with_slot}
+use Rattle.tx_base.specs.SlotFacts.{slot_at-with_slot}
 use Rattle.tx_desc.specs.Descriptions.{described}
 use Rattle.tx_desc.specs.declared.opened.Opened.{Opened}
 use Rattle.tx_model.specs.State.{Process, Object, Proc as TheProc, Desc, Pipe as ThePipe, Held, boot_state, booted_process, is_between}

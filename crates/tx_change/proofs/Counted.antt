@@ -4,18 +4,18 @@ use Rattle.std.proofs.lemmas.List.Sums.{sum_by-append}
 use Rattle.std.specs.List.{All, Contains}
 use Rattle.tx_base.specs.Slots.{slot_at, with_slot}
 use Rattle.tx_base.specs.declared.names.Pid.{Pid}
-use Rattle.tx_base.proofs.SlotFacts.{slot_now, slot_other, length-with_slot}
+use Rattle.tx_base.specs.SlotFacts.{slot_now, slot_other, length-with_slot}
 use Rattle.tx_change.proofs.Tables.{split, others_same, tables_same, tables_few, tables_all, tables_contain}
 use Rattle.tx_change.specs.Counts.{tables_below, tables_of, CountsAgree, with_names, RunsAt, IsNameless, AreNameless}
 use Rattle.tx_change.proofs.Applied.{still_sized}
 use Rattle.tx_change.specs.Exchange.{parts_after, applied, sizes_of, Sizes, AreWithin, IsPid, IsNamed, AreNamed}
 use Rattle.tx_change.specs.Laws.{HaveAllPlaces, HasPlaces}
+use Rattle.tx_change.specs.PartLaws.{PartLaws}
 use Rattle.tx_change.specs.States.{state_of}
 use Rattle.tx_change.specs.declared.change.Change.{Change}
 use Rattle.tx_change.specs.declared.change.Change.TheVariants.{Slot, Part, Description, Pipe}
 use Rattle.tx_change.specs.declared.parts.Parts.{Parts}
-use Rattle.tx_desc.proofs.Counting.{agrees_same, backed_room}
-use Rattle.tx_desc.proofs.Totals.{room, none_agrees, names-empty}
+use Rattle.tx_desc.specs.CountFacts.{agrees_same}
 use Rattle.tx_desc.specs.Counts.{Agrees, HasRoom, IsBacked, count_in, names_in, table_of, others_below, others_of}
 use Rattle.tx_desc.specs.Places.{Descriptors, named_in}
 use Rattle.tx_desc.specs.declared.opened.Opened.{Opened}
@@ -155,34 +155,34 @@ sized_in (Some proc) places = by (is_some proc.status)
     by true = λ k d below. absurd (omega (arith, below))
     by false = one
 
-pub room_for_names : (parts : Parts) (n : ℕ) (table : Descriptors) → IsPid (sizes_of parts) n → CountsAgree parts → HaveAllPlaces parts → length parts.procs ≤ 256 →
+pub room_for_names : (laws : PartLaws) (parts : Parts) (n : ℕ) (table : Descriptors) → IsPid (sizes_of parts) n → CountsAgree parts → HaveAllPlaces parts → length parts.procs ≤ 256 →
     RunsAt parts n table → IsBacked 16 table parts.descs
-room_for_names parts n table there agree places few here =
+room_for_names laws parts n table there agree places few here =
     let most : length (tables_below (suc (length parts.procs)) (plain parts)) ≤ length parts.procs = tables_few (length parts.procs) (plain parts) refl in
     let next : length parts.procs + 1 ≡ suc (length parts.procs) = omega arith in
     let fits : length (tables_of parts) ≤ 256 = rw next (omega (arith, most, few)) in
-    room (tables_of parts) parts.descs table agree fits
+    laws.rooms (tables_of parts) parts.descs table agree fits
     (tables_all (λ (each : Descriptors). length each ≡ 16) (length parts.procs + 1) (plain parts) (λ q. sized_in (slot_at parts.procs q) (places q)))
     (tables_contain n (length parts.procs + 1) (plain parts) table (let high = there.high in omega (arith, high))
     (subst (λ (ts : List Descriptors). Contains ts table) (sym (running_at parts n table here)) (0, omega arith, refl)))
 
-pub room_for_name : (parts : Parts) (n : ℕ) (table : Descriptors) (fd : Option ℕ) (room : ℕ) → room ≤ 16 → IsPid (sizes_of parts) n → CountsAgree parts →
+pub room_for_name : (laws : PartLaws) (parts : Parts) (n : ℕ) (table : Descriptors) (fd : Option ℕ) (room : ℕ) → room ≤ 16 → IsPid (sizes_of parts) n → CountsAgree parts →
     HaveAllPlaces parts → length parts.procs ≤ 256 → RunsAt parts n table → HasRoom room (named_in table fd) parts.descs
-room_for_name parts n table fd room less there agree places few here =
-    backed_room fd room 16 table parts.descs less (room_for_names parts n table there agree places few here)
+room_for_name laws parts n table fd room less there agree places few here =
+    laws.room table parts.descs fd room less (room_for_names laws parts n table there agree places few here)
 
 -- the booted parts
-pub counts_booted : (parts : Parts) (width count : ℕ) → plain parts ≡ boot_state width count → parts.descs ≡ replicate 64 None → CountsAgree parts
+pub counts_booted : (parts : Parts) (width count : ℕ) → Agrees [] (replicate 64 None) → plain parts ≡ boot_state width count → parts.descs ≡ replicate 64 None → CountsAgree parts
 unfolding tables_below
-counts_booted parts width count is none =
+counts_booted parts width count nobody is none =
     subst (λ (descs : List (Option Opened)). Agrees (tables_of parts) descs) (sym none)
-    (none_agrees 64 (tables_of parts) (λ d. nothing d (length parts.procs + 1)))
+    (agrees_same [] (tables_of parts) (replicate 64 None) (λ d. nothing d (length parts.procs + 1)) nobody)
   where
     at : (d n : ℕ) → names_in d (table_of ((plain parts).procs n)) ≡ 0
     at d n = ap (λ (S : State). names_in d (table_of (S.procs n))) is ∙ by (is_between count n)
       where
         by : (b : Bool) → names_in d (table_of (if b then Some (booted_process n) else None)) ≡ 0
-        by true = names-empty d 1 16
+        by true = refl
         by false = refl
 
     nothing : (d n : ℕ) → names_in d (tables_below n (plain parts)) ≡ 0

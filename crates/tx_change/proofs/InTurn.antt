@@ -3,7 +3,7 @@ use Rattle.std.proofs.Common.{◌≡◌, ◌≢◌, ℕ, ◌+◌, Bool, true, fa
 use Rattle.std.proofs.lemmas.Bool.{ne_eqb}
 use Rattle.tx_base.specs.Slots.{slot_at}
 use Rattle.tx_base.specs.declared.names.Pid.{Pid}
-use Rattle.tx_base.proofs.SlotFacts.{slot_at-with_slot}
+use Rattle.tx_base.specs.SlotFacts.{slot_at-with_slot}
 use Rattle.tx_change.proofs.Applied.{still_sized, length-applied, AreNamed-sized, AreWithin-append}
 use Rattle.tx_change.proofs.Counted.{plain, table_in, names_same, same_table_in}
 use Rattle.tx_change.proofs.Tables.{split, others_same}
@@ -12,7 +12,7 @@ use Rattle.tx_change.specs.Exchange.{parts_after, applied, sizes_of, Sizes, IsPi
 use Rattle.tx_change.specs.declared.change.Change.{Change}
 use Rattle.tx_change.specs.declared.change.Change.TheVariants.{Slot, Part, Description, Pipe}
 use Rattle.tx_change.specs.declared.parts.Parts.{Parts}
-use Rattle.tx_desc.proofs.Counting.{names-cons, keeps_over}
+use Rattle.tx_desc.specs.CountFacts.{names-cons, keeps_over}
 use Rattle.tx_desc.specs.Counts.{Agrees, count_in, names_in, KeepsCounts, others_below, others_of}
 use Rattle.tx_desc.specs.Places.{Descriptors}
 use Rattle.tx_desc.specs.Plans.{AreFds, AreNumbers, put_names, put_descs}

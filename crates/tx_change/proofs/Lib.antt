@@ -12,3 +12,4 @@ pub mod InLists
 pub mod Logged
 pub mod Placed
 pub mod CountsBack
+pub mod Stacked

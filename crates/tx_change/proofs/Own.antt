@@ -1,7 +1,7 @@
 -- Exchanges of parts of one process.
 use Rattle.std.proofs.Common.{◌≡◌, ℕ, ◌≤◌, List, [], ◌∷◌, Option, Some, None, option_map, length, ap, refl, ◌∙◌, sym}
 use Rattle.tx_base.specs.Slots.{slot_at, with_slot}
-use Rattle.tx_base.proofs.SlotFacts.{slot_twice, slot_same, slot_now, length-with_slot}
+use Rattle.tx_base.specs.SlotFacts.{slot_twice, slot_same, slot_now, length-with_slot}
 use Rattle.tx_change.proofs.Applied.{place_in_part}
 use Rattle.tx_change.specs.declared.change.Change.{Change}
 use Rattle.tx_change.specs.declared.change.Change.TheVariants.{Slot, Part, Description, Pipe}
@@ -9,7 +9,7 @@ use Rattle.tx_change.specs.declared.parts.Parts.{Parts}
 use Rattle.tx_change.specs.Exchange.{parts_after, change_after, object_of, Sizes, sizes_of, IsWithin, AreNamed, applied, exchanged, undone, reverted}
 use Rattle.tx_change.specs.Own.{edited_by, edited, edited_back, IsOf, AreOf}
 use Rattle.tx_model.specs.State.{Proc as TheProc}
-use Rattle.tx_proc.proofs.Twice.{still_sized}
+use Rattle.tx_proc.specs.PartFacts.{still_sized}
 use Rattle.tx_proc.specs.Laws.{IsSized}
 use Rattle.tx_proc.specs.declared.proc.Proc.{Proc}
 

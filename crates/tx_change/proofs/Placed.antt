@@ -1,7 +1,7 @@
 -- Processes keep their places.
 use Rattle.std.proofs.Common.{◌≡◌, ◌≤◌, ℕ, Bool, true, false, List, [], ◌∷◌, length, option_map, Option, Some, None, ◌==◌, if◌then◌else◌, refl, ap, ◌∙◌, sym, subst}
 use Rattle.tx_base.specs.Slots.{slot_at, with_slot}
-use Rattle.tx_base.proofs.SlotFacts.{slot_at-with_slot}
+use Rattle.tx_base.specs.SlotFacts.{slot_at-with_slot}
 use Rattle.tx_change.specs.Exchange.{parts_after, change_after, applied, exchanged, undone, reverted, Sizes, IsWithin, AreWithin, IsNamed, AreNamed}
 use Rattle.tx_change.specs.Laws.{HasPlaces, HasPlacesFor, HaveAllPlaces, BringsPlaces, BringPlaces}
 use Rattle.tx_change.specs.declared.change.Change.{Change}
@@ -10,6 +10,7 @@ use Rattle.tx_change.specs.declared.parts.Parts.{Parts}
 use Rattle.tx_change.proofs.Applied.{still_sized, sizes-undone}
 use Rattle.tx_change.proofs.Twice.{back, twice}
 use Rattle.tx_change.proofs.Own.{once_sized}
+use Rattle.tx_change.specs.PartLaws.{PartLaws}
 use Rattle.tx_proc.specs.Parts.{edited_once}
 use Rattle.tx_proc.specs.declared.proc.Part.{Part as ThePart}
 use Rattle.tx_proc.specs.declared.proc.Proc.{Proc}
@@ -73,13 +74,13 @@ has_places parts (Description number opened) places = tt
 has_places parts (Pipe number part) places = tt
 
 -- to exchange what was taken back again gives the changes back too
-pub log_comes_back : (parts : Parts) (changes : List Change) → AreNamed parts changes → BringPlaces changes → HaveAllPlaces parts →
+pub log_comes_back : (laws : PartLaws) (parts : Parts) (changes : List Change) → AreNamed parts changes → BringPlaces changes → HaveAllPlaces parts →
     exchanged (undone parts changes) (reverted parts changes) ≡ changes
-log_comes_back parts [] named brings places = refl
-log_comes_back parts (change ∷ changes) named brings places =
+log_comes_back laws parts [] named brings places = refl
+log_comes_back laws parts (change ∷ changes) named brings places =
     let before : Parts = undone parts changes in
     let there : IsNamed before change = named_undone parts change changes named.0 in
     let again : change_after (parts_after before change) (change_after before change) ≡ change
-    = twice before change there (has_places before change (undone_placed parts changes named.1 brings.1 places)) in
-    (λ i. again i ∷ exchanged (back before change there i) (reverted parts changes))
-    ∙ ap (λ (cs : List Change). change ∷ cs) (log_comes_back parts changes named.1 brings.1 places)
+    = twice laws before change there (has_places before change (undone_placed parts changes named.1 brings.1 places)) in
+    (λ i. again i ∷ exchanged (back laws before change there i) (reverted parts changes))
+    ∙ ap (λ (cs : List Change). change ∷ cs) (log_comes_back laws parts changes named.1 brings.1 places)

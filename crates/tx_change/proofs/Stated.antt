@@ -3,7 +3,7 @@ use Rattle.std.proofs.Common.{◌≡◌, ℕ, ◌<◌, ◌≤◌, Bool, true, fa
 use Rattle.std.proofs.lemmas.Bool.{eqb-false, cases_Bool}
 use Rattle.std.proofs.lemmas.List.{get_or-set_same, get_or-set_other}
 use Rattle.tx_base.specs.Slots.{slot_at, with_slot}
-use Rattle.tx_base.proofs.SlotFacts.{length-with_slot, slot_at-with_slot}
+use Rattle.tx_base.specs.SlotFacts.{length-with_slot, slot_at-with_slot}
 use Rattle.tx_change.proofs.Applied.{still_sized, AreNamed-sized}
 use Rattle.tx_change.specs.Exchange.{parts_after, pipe_at, object_of, applied, IsNamed, AreNamed}
 use Rattle.tx_change.specs.Pipes.{piped_in}
@@ -15,7 +15,7 @@ use Rattle.tx_desc.specs.Descriptions.{described, description_at}
 use Rattle.tx_desc.specs.declared.opened.Opened.{Opened}
 use Rattle.tx_model.specs.State.{Process, State, Sending, Object, Proc as TheProc, Desc, Pipe as ThePipe, Held, same_object}
 use Rattle.tx_model.specs.StateLaws.{state_ext, EqualAt}
-use Rattle.tx_proc.proofs.Revised.{revised_in}
+use Rattle.tx_proc.specs.PartFacts.{revised_in}
 use Rattle.tx_proc.specs.Parts.{process_in}
 use Rattle.tx_proc.specs.declared.proc.Proc.{Proc}
 

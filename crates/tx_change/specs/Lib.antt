@@ -6,3 +6,6 @@ pub mod States
 pub mod Laws
 pub mod Counts
 pub mod CountsBack
+pub mod Stacks
+pub mod PartLaws
+pub mod ChildFacts

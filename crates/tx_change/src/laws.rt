@@ -2,37 +2,52 @@
 ghost use Rattle.tx_change.specs.Counts.{CountsKept, CountsForked, CountsEnded, CountsRemoved, CountsElsewhere, CountsNameless, SlotInTurn, DescsInTurn, CountsInTurn, PlansAreNamed, PlansInTurn, CountsPlanned, CountsReplaced, RoomForNames, RoomForName, CountsWithOthers};
 ghost use Rattle.tx_change.specs.CountsBack.{BackElsewhere, CountsLedBack, CountsOfNames};
 ghost use Rattle.tx_change.specs.Laws.{AppliedAppended, ApplyThenRevert, BackIsWrite, ChangedAppended, ChangesComeBack, ChangesState, ChangesStateInTurn, Commute, ExchangedAppended, ExchangedBring, ExchangedStayNamed, ExchangesBack, FrontIsRead, ListNamesItsObjects, NamedAppended, NamesItsObject, NothingElse, PartsReplaceProcess, PlacesStay, PlacesStayBack, RevertThenApply, RevertedAppended, RevertedStayNamed, SizesStay, SizesStayBack, TwiceIsNothing, UndoneAppended};
+ghost use Rattle.tx_change.specs.Stacks.{LoggedBackAndForward, MovedAreThere, MovedBackAndForward, MovedIsOnTop, RestIsBelow};
+
+use crate::part_laws::part_laws;
 
 /// Two exchanges of one part are nothing: the parts and the change come back.
 pub fn twice_is_nothing()
     ensures { TwiceIsNothing }
-{}
+{
+    part_laws();
+}
 
 /// To exchange a change again puts the parts back.
 pub fn exchanges_back()
     ensures { ExchangesBack }
-{}
+{
+    part_laws();
+}
 
 /// An exchange leaves every part as it was that is another one: that is, what a change of such a
 /// part would find there. A process number holds all parts of its process.
 pub fn nothing_else()
     ensures { NothingElse }
-{}
+{
+    part_laws();
+}
 
 /// It makes no difference which of two parts is exchanged first, where neither holds the other.
 pub fn commute()
     ensures { Commute }
-{}
+{
+    part_laws();
+}
 
 /// To revert changes that were applied puts the parts back.
 pub fn apply_then_revert()
     ensures { ApplyThenRevert }
-{}
+{
+    part_laws();
+}
 
 /// To apply changes that were reverted puts the parts back.
 pub fn revert_then_apply()
     ensures { RevertThenApply }
-{}
+{
+    part_laws();
+}
 
 /// What exchanges make of the state that the parts mean, in words of that state alone.
 pub fn changes_state()
@@ -81,7 +96,9 @@ pub fn counts_in_turn()
 pub fn room_for_names()
     ensures all { RoomForNames }
     ensures one { RoomForName }
-{}
+{
+    part_laws();
+}
 
 /// What a list of changes does that is made of two, the first does and then the other one: to the
 /// parts and to the changes, forward and back, and to the state. There are as many numbers as before.
@@ -127,7 +144,9 @@ pub fn places_stay()
 pub fn changes_come_back()
     ensures named { RevertedStayNamed }
     ensures again { ChangesComeBack }
-{}
+{
+    part_laws();
+}
 
 /// Counts of names depend on which processes run, on their descriptors and on the descriptions alone. Where
 /// they agree before and after a step, and before it with a log led back, they agree after it with that
@@ -138,3 +157,15 @@ pub fn counts_led_back()
     ensures back { CountsLedBack }
     ensures elsewhere { BackElsewhere }
 {}
+
+/// What was moved back from a log onto a stack is on top of it, in order, and what stood there is below.
+/// To move it forward again puts the parts back; and the log too, where each process has its places.
+pub fn moved_back_and_forward()
+    ensures top { MovedIsOnTop }
+    ensures rest { RestIsBelow }
+    ensures there { MovedAreThere }
+    ensures parts { MovedBackAndForward }
+    ensures log { LoggedBackAndForward }
+{
+    part_laws();
+}

@@ -6,13 +6,14 @@
 //! `Change` names one part of it (what a process number has, a part of a process, a description
 //! with its count, what a pipe number has or some bytes of its pipe) and owns another value for it.
 //! `swap` exchanges the owned value with the present one. It takes no memory and can't fail. Laws,
-//! on functions with empty bodies: twice is nothing; every part that a change could name, but the
+//! on functions that do nothing: twice is nothing; every part that a change could name, but the
 //! one that it does name, stays; two exchanges commute where neither part holds the other (a
 //! process number holds the parts of its process); and what an exchange makes of the state that the
 //! parts mean, in words of that state alone, so that a call's rule is met by speaking of states.
 //! `apply` swaps the changes of a list from the first to the last, `revert` from the last to the
 //! first. A `Log` is such a list that grows: plans are pushed at its end, it makes them from a
-//! place on (`make_from`), and it leads old parts back (`lead_back`, `give_back`).
+//! place on (`make_from`), and it leads old parts back (`lead_back`, `give_back`). `move_back` leads
+//! them back onto a stack of changes, and `move_forward` makes them again from there.
 //!
 //! `CountsAgree` says of the parts that each description has as many names as descriptors of
 //! running processes name it. `places_stay` is that changes leave each process a place for each
@@ -29,6 +30,7 @@
 mod change;
 mod laws;
 mod log;
+mod part_laws;
 mod parts;
 mod pipes;
 mod run;
@@ -37,8 +39,8 @@ pub use change::Change;
 pub use laws::{
     appended, apply_then_revert, bytes_are_read_and_written, changes_come_back, changes_state,
     commute, counts_agree, counts_in_turn, counts_led_back, counts_with_others, exchanges_back,
-    lists_change_state, names_its_object, nothing_else, places_stay, revert_then_apply,
-    room_for_names, stays_named, twice_is_nothing,
+    lists_change_state, moved_back_and_forward, names_its_object, nothing_else, places_stay,
+    revert_then_apply, room_for_names, stays_named, twice_is_nothing,
 };
 pub use log::Log;
 pub use parts::Parts;

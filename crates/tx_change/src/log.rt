@@ -1,6 +1,7 @@
 //! Old parts of the kernel, the oldest first.
-ghost use Rattle.std.specs.Prelude.{◌≡◌, ◌≤◌, ◌-◌, ◌++◌, ◌∷◌, [], length, take, drop, IfOk, OnOk, OnErr};
+ghost use Rattle.std.specs.Prelude.{◌≡◌, ◌≤◌, ◌+◌, ◌-◌, ◌++◌, ◌∷◌, [], length, take, drop, reverse, vec_capacity, IfOk, OnOk, OnErr};
 ghost use Rattle.tx_change.specs.Exchange.{applied, exchanged, undone, reverted, AreNamed};
+ghost use Rattle.tx_change.specs.Stacks.{below_top, top_of};
 
 use crate::change::Change;
 use crate::parts::Parts;
@@ -83,6 +84,48 @@ impl Log {
         lead_back_last(&mut self.changes, parts, count);
     }
 
+    /// Leads the last few old parts back, and moves what was there onto a stack of changes, which must
+    /// have room for it: the oldest is on top then. It takes no memory.
+    pub fn move_back(&mut self, parts: &mut Parts, count: usize, stack: &mut Vec<Change>)
+        requires few { count ≤ length self.old }
+        requires named { AreNamed parts.old self.old }
+        requires room { length stack.old.items + count ≤ vec_capacity stack.old }
+        ensures parts { parts.new ≡ undone parts.old (drop (length self.old - count) self.old) }
+        ensures log { self.new ≡ take (length self.old - count) self.old }
+        ensures stack { stack.new.items ≡ stack.old.items
+            ++ reverse (reverted parts.old (drop (length self.old - count) self.old)) }
+        ensures capacity { vec_capacity stack.new ≡ vec_capacity stack.old }
+    {
+        move_last_back(&mut self.changes, parts, count, stack);
+    }
+
+    /// Makes as many changes again as were moved onto the stack, the topmost first, and moves what was
+    /// there to the end of the log.
+    ///
+    /// NoMemory where a growth of the log is refused; all is then as it was.
+    pub fn move_forward(
+        &mut self,
+        parts: &mut Parts,
+        count: usize,
+        stack: &mut Vec<Change>,
+    ) -> Result<(), NoMemory>
+        requires few { count ≤ length stack.old.items }
+        requires named { AreNamed parts.old (top_of count stack.old.items) }
+        ensures parts { OnOk result (parts.new ≡ applied parts.old (top_of count stack.old.items)) }
+        ensures log { OnOk result
+            (self.new ≡ self.old ++ exchanged parts.old (top_of count stack.old.items)) }
+        ensures stack { OnOk result (stack.new.items ≡ below_top count stack.old.items) }
+        ensures capacity { vec_capacity stack.new ≡ vec_capacity stack.old }
+        ensures err { OnErr result (self.new ≡ self.old) }
+        ensures parts_err { OnErr result (parts.new ≡ parts.old) }
+        ensures stack_err { OnErr result (stack.new ≡ stack.old) }
+    {
+        let log = &mut self.changes;
+        log.reserve(count)?;
+        move_last_forward(log, parts, count, stack);
+        Ok(())
+    }
+
     /// Leads all back. The log then has what was there.
     pub fn lead_back(&mut self, parts: &mut Parts)
         requires { AreNamed parts.old self.old }
@@ -125,6 +168,56 @@ fn lead_back_last(changes: &mut Vec<Change>, parts: &mut Parts, count: usize)
     for _done in 0..count {
         if let Some(mut change) = changes.pop() {
             change.swap(parts);
+        }
+    }
+}
+
+/// Leads the last few old parts back, the last one first, and moves each onto the stack.
+fn move_last_back(
+    changes: &mut Vec<Change>,
+    parts: &mut Parts,
+    count: usize,
+    stack: &mut Vec<Change>,
+)
+    requires few { count ≤ length changes.old.items }
+    requires named { AreNamed parts.old changes.old.items }
+    requires room { length stack.old.items + count ≤ vec_capacity stack.old }
+    ensures parts { parts.new
+        ≡ undone parts.old (drop (length changes.old.items - count) changes.old.items) }
+    ensures log { changes.new.items ≡ take (length changes.old.items - count) changes.old.items }
+    ensures stack { stack.new.items ≡ stack.old.items
+        ++ reverse (reverted parts.old
+        (drop (length changes.old.items - count) changes.old.items)) }
+    ensures capacity { vec_capacity stack.new ≡ vec_capacity stack.old }
+{
+    for _done in 0..count {
+        if let Some(mut change) = changes.pop() {
+            change.swap(parts);
+            stack.push_reserved(change);
+        }
+    }
+}
+
+/// Makes the topmost changes of the stack, and moves each to the end of the log, which has room.
+fn move_last_forward(
+    changes: &mut Vec<Change>,
+    parts: &mut Parts,
+    count: usize,
+    stack: &mut Vec<Change>,
+)
+    requires few { count ≤ length stack.old.items }
+    requires named { AreNamed parts.old (top_of count stack.old.items) }
+    requires room { length changes.old.items + count ≤ vec_capacity changes.old }
+    ensures parts { parts.new ≡ applied parts.old (top_of count stack.old.items) }
+    ensures log { changes.new.items ≡ changes.old.items
+        ++ exchanged parts.old (top_of count stack.old.items) }
+    ensures stack { stack.new.items ≡ below_top count stack.old.items }
+    ensures capacity { vec_capacity stack.new ≡ vec_capacity stack.old }
+{
+    for _done in 0..count {
+        if let Some(mut change) = stack.pop() {
+            change.swap(parts);
+            changes.push_reserved(change);
         }
     }
 }

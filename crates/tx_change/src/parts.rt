@@ -7,7 +7,7 @@ ghost use Rattle.tx_model.specs.State.{boot_state};
 use crate::pipes::PipeTable;
 use std::alloc::Global;
 use tx_base::{NoMemory, Pid};
-use tx_desc::Descs;
+use tx_desc::{Descs, none_named_at_first};
 use tx_proc::{BoxedProc, Proc, ProcTable};
 
 /// The parts of the kernel: what each number of a process, of a description and of
@@ -35,6 +35,7 @@ impl Parts {
         ensures places { IfOk result (λ parts. HaveAllPlaces parts) }
         ensures counts { IfOk result (λ parts. CountsAgree parts) }
     {
+        none_named_at_first();
         let mut procs = ProcTable::new(alloc, width)?;
         for done in 0..count {
             let boxed = BoxedProc::new(alloc, Proc::booted(Pid(done + 1)))?;

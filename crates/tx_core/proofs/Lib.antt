@@ -3,3 +3,4 @@ pub mod FreeNumbers
 pub mod LeastNumbers
 pub mod Steps
 pub mod SoFar
+pub mod MadeAgain

@@ -8,6 +8,7 @@ use Rattle.tx_model.specs.State.{is_number}
 use Rattle.tx_desc.specs.declared.opened.Opened.{Opened}
 use Rattle.tx_desc.specs.Places.{Descriptors, named_in}
 use Rattle.tx_desc.specs.Descriptions.{changed_at, with_more, with_fewer, with_flag}
+use Rattle.tx_desc.specs.CountFacts.{names-cons, same_names, keeps_over}
 use Rattle.tx_desc.specs.Counts.{count_in, names_in, HasNames, HasRoom, KeepsCounts, Agrees, IsEnough, IsBacked}
 
 -- one where what a descriptor has names the description
@@ -16,9 +17,6 @@ hit d x = cond (is_number d x) 1 0
 
 pub count-cons : (d : ℕ) (x : Option ℕ) (t : Descriptors) → count_in d (x ∷ t) ≡ hit d x + count_in d t
 count-cons d x t = sum_by-cons (hit d) x t
-
-pub names-cons : (d : ℕ) (t : Descriptors) (ts : List Descriptors) → names_in d (t ∷ ts) ≡ count_in d t + names_in d ts
-names-cons d t ts = sum_by-cons (count_in d) t ts
 
 pub hit_same : (d : ℕ) → hit d (Some d) ≡ 1
 hit_same d = rw (eq-eqb d d refl) refl
@@ -65,9 +63,6 @@ hit_is d x is = ap (hit d) is ∙ hit_same d
 more_names : (m n : ℕ) (p : Option Opened) → m ≡ 1 + n → HasNames n p → IsEnough 1 1 p → HasNames m (with_more 1 p)
 more_names m n None one h k = absurd (omega (arith, k))
 more_names m n (Some o) one h k = (omega (arith, h.0), omega (arith, h.1))
-
-pub same_names : (m n : ℕ) (p : Option Opened) → m ≡ n → HasNames n p → HasNames m p
-same_names m n p e h = subst (λ (k : ℕ). HasNames k p) (sym e) h
 
 fewer_names : (m n : ℕ) (p : Option Opened) → m ≡ 1 + n → HasNames m p → HasNames n (with_fewer 1 p)
 fewer_names m n None one h = absurd (omega (arith, h))
@@ -177,15 +172,6 @@ flag_keeps on x D = record {
       (λ e is others h. flag_names on (count_in e [] + others) (get_or D e None) h) (λ e other others h. h);
 }
 
--- whatever other processes name
-pub keeps_over : (t u : Descriptors) (ts us : List Descriptors) (D E : List (Option Opened)) (rest : ℕ → ℕ) →
-    ((e : ℕ) → names_in e ts ≡ count_in e t + rest e) → ((e : ℕ) → names_in e us ≡ count_in e u + rest e) → KeepsCounts t u D E → Agrees ts D → Agrees us E
-keeps_over t u ts us D E rest before after keeps a = record {
-  counted = λ e.
-      same_names (names_in e us) (count_in e u + rest e) (get_or E e None) (after e)
-      (keeps.each e (rest e) (same_names (count_in e t + rest e) (names_in e ts) (get_or D e None) (sym (before e)) (a.counted e)));
-}
-
 no_names : (ts : List Descriptors) (e : ℕ) → names_in e ts ≡ count_in e [] + names_in e ts
 no_names ts e = let none : count_in e [] ≡ 0 = refl in omega arith
 
@@ -200,10 +186,6 @@ keeps_go t ts D E = keeps_over t [] (t ∷ ts) ts D E (λ e. names_in e ts) (λ 
 
 pub keeps_stay : (ts : List Descriptors) (D E : List (Option Opened)) → KeepsCounts [] [] D E → Agrees ts D → Agrees ts E
 keeps_stay ts D E = keeps_over [] [] ts ts D E (λ e. names_in e ts) (no_names ts) (no_names ts)
-
--- the order of the tables does not matter
-pub agrees_same : (ts us : List Descriptors) (D : List (Option Opened)) → ((e : ℕ) → names_in e us ≡ names_in e ts) → Agrees ts D → Agrees us D
-agrees_same ts us D same a = record { counted = λ e. same_names (names_in e us) (names_in e ts) (get_or D e None) (same e) (a.counted e) }
 
 -- what one descriptor names is counted among what all name
 pub hit-le : (e f : ℕ) (t : Descriptors) → hit e (get_or t f None) ≤ count_in e t

@@ -8,7 +8,8 @@ use Rattle.tx_model.specs.State.{Process, State, SetProc, write_one, is_number}
 use Rattle.tx_model.specs.Words.{names_below, is_named_below}
 use Rattle.tx_desc.specs.Places.{Descriptors}
 use Rattle.tx_desc.specs.Counts.{count_in, names_in, table_of, others_below, others_of, HasNamed}
-use Rattle.tx_desc.proofs.Counting.{hit, names-cons}
+use Rattle.tx_desc.proofs.Counting.{hit}
+use Rattle.tx_desc.specs.CountFacts.{names-cons}
 
 either_some : (m n : ℕ) → (if nat_lt 0 m then true else nat_lt 0 n) ≡ nat_lt 0 (m + n)
 either_some zero n = let same : n ≡ 0 + n = omega arith in ap (nat_lt 0) same

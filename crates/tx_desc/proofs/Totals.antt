@@ -9,7 +9,8 @@ use Rattle.tx_model.specs.State.{is_number}
 use Rattle.tx_desc.specs.declared.opened.Opened.{Opened}
 use Rattle.tx_desc.specs.Places.{Descriptors}
 use Rattle.tx_desc.specs.Counts.{count_in, names_in, HasNames, Agrees, IsEnough, IsBacked}
-use Rattle.tx_desc.proofs.Counting.{count-cons, names-cons, agrees_same}
+use Rattle.tx_desc.proofs.Counting.{count-cons}
+use Rattle.tx_desc.specs.CountFacts.{agrees_same, names-cons}
 
 get_or-empty : (n d : ℕ) → get_or (replicate {A = Option Opened} n None) d None ≡ None
 get_or-empty zero d = refl

@@ -15,7 +15,8 @@ use Rattle.tx_desc.specs.Places.{Descriptors}
 use Rattle.tx_desc.specs.Plans.{put_descs, entries_of, AreNumbers}
 use Rattle.tx_desc.specs.Descriptions.{HasDescs, described, recounted, with_fewer}
 use Rattle.tx_desc.specs.Counts.{count_in, HasNames, KeepsCounts, Agrees, IsBacked, HasNamed}
-use Rattle.tx_desc.proofs.Counting.{count-cons, hit, hit_is, hit_cases, same_names, keeps_go, room_entry, room_inside}
+use Rattle.tx_desc.proofs.Counting.{count-cons, hit, hit_is, hit_cases, keeps_go, room_entry, room_inside}
+use Rattle.tx_desc.specs.CountFacts.{same_names}
 use Rattle.tx_desc.proofs.Gone.{IsIn, Sheds, fewer_cases, shed_descs}
 
 -- planned descriptions, one more at the end

@@ -4,3 +4,5 @@ pub mod EndCounts
 pub mod Counts
 pub mod Outcomes
 pub mod Plans
+pub mod CountFacts
+pub mod Laws

@@ -1,10 +1,11 @@
 //! What holds of the counts, as the contracts of functions that do nothing.
-ghost use Rattle.std.specs.Prelude.{◌≡◌, ◌<◌, ◌≤◌, ◌↔◌, ℕ, List, [], ◌∷◌, Option, Some, None, All, Contains, IsSome, IsPermutation, length, replicate, slice_index_or};
+ghost use Rattle.std.specs.Prelude.{◌≡◌, ◌<◌, ◌↔◌, ℕ, List, [], ◌∷◌, Option, Some, None, IsSome, IsPermutation, length, replicate, slice_index_or};
 ghost use Rattle.tx_desc.specs.declared.opened.Opened.{Opened};
 ghost use Rattle.tx_model.specs.State.{Process, State, SetProc, write_one};
-ghost use Rattle.tx_desc.specs.Counts.{Agrees, HasNamed, HasRoom, IsBacked, KeepsCounts, names_in, others_of};
+ghost use Rattle.tx_desc.specs.Counts.{Agrees, HasNamed, KeepsCounts, names_in, others_of};
+ghost use Rattle.tx_desc.specs.Laws.{RoomForName, RoomForNames};
 ghost use Rattle.tx_desc.specs.Outcomes.{RunsWith};
-ghost use Rattle.tx_desc.specs.Places.{Descriptors, named_in};
+ghost use Rattle.tx_desc.specs.Places.{Descriptors};
 
 /// With no description, the counts are right where there is no process, and where each one has its
 /// descriptors free.
@@ -42,12 +43,8 @@ pub fn counts_kept()
 /// of one of them require holds; and with it what a call on one of its descriptors requires, open or
 /// not.
 pub fn room_for_names()
-    ensures all { (tables : List Descriptors) (descs : List (Option Opened)) (table : Descriptors) →
-        Agrees tables descs →
-        length tables ≤ 256 → All (λ each. length each ≡ 16) tables → Contains tables table →
-        IsBacked 16 table descs }
-    ensures one { (table : Descriptors) (descs : List (Option Opened)) (fd : Option ℕ) (room : ℕ) →
-        room ≤ 16 → IsBacked 16 table descs → HasRoom room (named_in table fd) descs }
+    ensures all { RoomForNames }
+    ensures one { RoomForName }
 {}
 
 /// Whether the counts are right does not depend on the order of the processes.

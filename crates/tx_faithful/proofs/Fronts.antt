@@ -8,8 +8,7 @@ use Rattle.std.proofs.lemmas.Bool.{both_ways}
 use Rattle.std.proofs.lemmas.Bool.Decides.{nat_tests}
 use Rattle.std.proofs.lemmas.Fmt.{decimal_injective, digits_decimal, signed_decimal_injective}
 use Rattle.std.proofs.lemmas.Str.Parse.{digit_at}
-use Rattle.tx_lines.proofs.Digits.{own}
-use Rattle.tx_lines.proofs.Spelled.{mag_small}
+use Rattle.tx_lines.specs.NumberFacts.{mag_small, own}
 
 -- each byte passes the test
 abbrev pub Passes : (ℕ → Bool) → List ℕ → Type 0

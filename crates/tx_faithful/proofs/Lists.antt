@@ -10,8 +10,8 @@ use Rattle.std.proofs.lemmas.Fmt.{decimal_nonempty, digits_decimal}
 use Rattle.std.proofs.lemmas.List.{get_or_append_left}
 use Rattle.std.proofs.lemmas.Nat.Bits.{bit_at-lt, same_from_bits}
 use Rattle.std.proofs.lemmas.Str.Parse.{digit_at}
-use Rattle.tx_lines.proofs.Digits.{own}
-use Rattle.tx_lines.proofs.SignalLists.{members_rise}
+use Rattle.tx_lines.specs.NumberFacts.{own}
+use Rattle.tx_lines.specs.SetFacts.{members_rise}
 use Rattle.tx_lines.specs.Lists.{list_text, more_text}
 use Rattle.tx_lines.specs.ListedSets.{AreRising}
 use Rattle.tx_lines.specs.Sets.{bits_text, members}

@@ -9,6 +9,7 @@ use Rattle.tx_journal.specs.Walks.{WalksBack}
 use Rattle.tx_journal.specs.declared.entry.Entry.{Entry}
 use Rattle.tx_live.specs.Content.{view_of}
 use Rattle.tx_live.specs.Inverses.{Undoes}
+use Rattle.tx_live.specs.Redone.{EndsWhole}
 use Rattle.tx_live.specs.declared.content.Content.{Content}
 use Rattle.tx_live.specs.declared.inverse.Inverse.{Inverse}
 use Rattle.tx_model.specs.Answer.{Lawful}
@@ -45,9 +46,9 @@ module _ (k : SessionState) (e : Entry) (inverse : Inverse) (new : Content) wher
   more_at_end at_end = length-append k.inverses (inverse ∷ []) ∙ ap (λ (n : ℕ). n + 1) at_end ∙ sym (length-append k.entries (e ∷ []))
 
   pub journal_more : IsJournal k → IsAtEnd k → Lawful (start_of k) (accepted_of e ∷ history_of k.entries) → view_of new ≡ view (start_of k) (accepted_of e ∷ history_of k.entries) →
-      LeadsBack new inverse → Undoes new inverse k.machine → IsJournal more
+      LeadsBack new inverse → Undoes new inverse k.machine → EndsWhole new inverse → IsJournal more
   unfolding WalksBack
-  journal_more is at_end lawful seen leads undoes = record {
+  journal_more is at_end lawful seen leads undoes whole_end = record {
     low = is.low;
     high = is.high;
     wide = is.wide;
@@ -63,7 +64,7 @@ module _ (k : SessionState) (e : Entry) (inverse : Inverse) (new : Content) wher
       before = subst (λ (es : List Entry). WalksBack (start_of k) k.machine (reverse k.inverses) (history_of es)) (all_made k at_end) is.walks
 
       first : WalksBack (start_of k) new (inverse ∷ reverse k.inverses) (accepted_of e ∷ history_of k.entries)
-      first = (seen, leads, (k.machine, undoes, before))
+      first = (seen, leads, (k.machine, undoes, before), whole_end)
 
       walked : WalksBack (start_of k) new (reverse (k.inverses ++ inverse ∷ [])) (accepted_of e ∷ history_of k.entries)
       walked = subst (λ (xs : List Inverse). WalksBack (start_of k) new xs (accepted_of e ∷ history_of k.entries)) (sym (reverse-append k.inverses (inverse ∷ []))) first

@@ -1,5 +1,5 @@
 -- What a session keeps after a step.
-use Rattle.std.proofs.Common.{◌≡◌, ℕ, ◌+◌, ◌≤◌, ◌∷◌, Bool, true, false, List, Result, Ok, Err, OnOk, OnErr, length, arith, refl, sym, ap, subst, ◌∙◌}
+use Rattle.std.proofs.Common.{◌≡◌, ℕ, ◌+◌, ◌≤◌, ◌∷◌, Bool, true, false, List, Result, Ok, Err, OnOk, OnErr, length, refl, sym, ap, subst, ◌∙◌}
 use Rattle.std.specs.Prelude.{vec_capacity}
 use Rattle.tx_base.specs.declared.steps.Accepted.{Accepted}
 use Rattle.tx_journal.proofs.Extended.{history_more, journal_more, more, seen_at_end}
@@ -26,22 +26,6 @@ IsKeptSo machine j width count = IsJournal (session_state machine j width count)
 table_seen : (k : SessionState) → view_of k.machine ≡ view (start_of k) (history_of k.entries) → (view_of k.machine).table ≡ table_of (start_of k) (history_of k.entries)
 unfolding view
 table_seen k seen = ap (λ (V : View). V.table) seen
-
--- where there is more room
-pub kept_roomier : (machine : Content) (j after : Journal) (width count : ℕ) → IsKeptSo machine j width count → SameRecord after j → vec_capacity j.entries ≤ vec_capacity after.entries → vec_capacity j.inverses ≤ vec_capacity after.inverses
-    → IsKeptSo machine after width count
-kept_roomier machine j after width count is stays entries inverses =
-    let back : session_state machine j width count ≡ session_state machine after width count
-    = λ i. record { machine = machine; entries = sym stays.entries i; inverses = sym stays.inverses i; width = width; count = count } in (
-      subst IsJournal back is.0,
-      subst (λ (k : SessionState). HasRoom k after.live (vec_capacity after.entries) (vec_capacity after.inverses)) back
-          (subst (λ (live : ℕ). HasRoom (session_state machine j width count) live (vec_capacity after.entries) (vec_capacity after.inverses)) (sym stays.live)
-          (record {
-            counted = is.1.counted;
-            entries = let room = is.1.entries in omega (arith, room, entries);
-            inverses = let room = is.1.inverses in omega (arith, room, inverses);
-          })),
-    )
 
 module _ (laws : SessionLaws) (machine : Content) (j : Journal) (width count : ℕ) (is : IsKeptSo machine j width count) (at_end : IsAtEnd (session_state machine j width count)) where
   seen : view_of machine ≡ view (boot_state width count) (history_of j.entries.items)
@@ -80,7 +64,7 @@ module _ (laws : SessionLaws) (machine : Content) (j : Journal) (width count : �
       = λ i. record { machine = new; entries = sym added.entries i; inverses = sym added.inverses i; width = width; count = count } in
       let there : view_of new ≡ view (boot_state width count) (history_of after.entries.items)
       = next.1 ∙ ap (view (boot_state width count)) (sym (history_more j.entries.items entry) ∙ ap history_of (sym added.entries)) in (
-        subst IsJournal same (journal_more (session_state machine j width count) entry added.inverse new is.0 at_end next.0 next.1 added.leads added.undoes),
+        subst IsJournal same (journal_more (session_state machine j width count) entry added.inverse new is.0 at_end next.0 next.1 added.leads added.undoes added.whole),
         record {
           counted = subst (λ (t : Table). lives t ≤ after.live) (table_seen (session_state new after width count) there) added.counted.lives;
           entries = added.counted.places.entries;

@@ -10,6 +10,7 @@ pub mod Kept
 pub mod Lives
 pub mod Made
 pub mod Walked
+pub mod Aheads
 pub mod Parting
 pub mod Noting
 pub mod StateSpelled

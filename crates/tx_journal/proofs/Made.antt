@@ -96,6 +96,7 @@ module _ (laws : SessionLaws) (old new : Content) (j : Journal) (step : Step) (r
       inverses = inverses;
       leads = leads;
       undoes = made.back;
+      whole = made.whole;
       counted = record {
         lives = subst (λ (V : View). lives V.table ≤ after.live) (sym made.next) less;
         places = record { entries = here (vec_capacity after.entries) (by_entries ready); inverses = here (vec_capacity after.inverses) (by_inverses ready) };

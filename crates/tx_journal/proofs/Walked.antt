@@ -14,6 +14,7 @@ use Rattle.tx_journal.specs.Walks.{WalksBack}
 use Rattle.tx_journal.specs.declared.entry.Entry.{Entry}
 use Rattle.tx_live.specs.Content.{view_of}
 use Rattle.tx_live.specs.Inverses.{Undoes}
+use Rattle.tx_live.specs.Redone.{EndsWhole}
 use Rattle.tx_live.specs.declared.content.Content.{Content}
 use Rattle.tx_live.specs.declared.inverse.Inverse.{Inverse}
 use Rattle.tx_model.specs.Answer.{IsAccepted, Lawful, answer}
@@ -40,7 +41,7 @@ lawful_to start entries n lawful = lawful_before start (history_of (drop n entri
 
 -- the session without its newest inverse
 module _ (k : SessionState) (is : IsJournal k) (rest : List Inverse) (inverse : Inverse) (parts : k.inverses ≡ rest ++ inverse ∷ []) where
-  fewer : position_of k ≡ length rest + 1
+  pub fewer : position_of k ≡ length rest + 1
   fewer = ap length parts ∙ length-append rest (inverse ∷ [])
 
   walked : WalksBack (start_of k) k.machine (inverse ∷ reverse rest) (history_of (take (length rest + 1) k.entries))
@@ -48,16 +49,20 @@ module _ (k : SessionState) (is : IsJournal k) (rest : List Inverse) (inverse : 
       (subst (λ (n : ℕ). WalksBack (start_of k) k.machine (reverse k.inverses) (history_of (take n k.entries))) fewer is.walks)
 
   first_walk : (entries : List Entry) → entries ≡ k.entries → LeadsBack k.machine inverse × ((before : Content) × Undoes k.machine inverse before × WalksBack (start_of k) before (reverse rest) (history_of (take (length rest) k.entries)))
+      × EndsWhole k.machine inverse
   unfolding WalksBack
   first_walk [] none = let f = fewer in let few = is.few in let no : length k.entries ≡ 0 = ap length (sym none) in absurd (omega (arith, f, few, no))
   first_walk (d ∷ entries) some =
       let under : length rest < length k.entries = let f = fewer in let few = is.few in omega (arith, f, few) in
       let at : WalksBack (start_of k) k.machine (inverse ∷ reverse rest) (accepted_of (get_or k.entries (length rest) d) ∷ history_of (take (length rest) k.entries))
       = subst (WalksBack (start_of k) k.machine (inverse ∷ reverse rest)) (history_to k.entries (length rest) d under) walked in
-      (at.1, at.2)
+      (at.1, at.2, at.3)
 
   pub leads_back : LeadsBack k.machine inverse
   leads_back = (first_walk k.entries refl).0
+
+  pub ends_whole : EndsWhole k.machine inverse
+  ends_whole = (first_walk k.entries refl).2
 
   abbrev pub less : Content → SessionState
   less before = record { machine = before; entries = k.entries; inverses = rest; width = k.width; count = k.count }
@@ -75,7 +80,7 @@ module _ (k : SessionState) (is : IsJournal k) (rest : List Inverse) (inverse : 
       }
 
 -- the session after it made the next entry
-within : (entries : List Entry) (n : ℕ) (entry : Entry) → Some entry ≡ slice_get entries n → n < length entries
+pub within : (entries : List Entry) (n : ℕ) (entry : Entry) → Some entry ≡ slice_get entries n → n < length entries
 within entries n entry at = by (slice_get_cases entries n).1
   where
     by : ((x : Entry) × (n < length entries) × (slice_get entries n ≡ Some x) × (get_or entries n x ≡ x)) ⊎ ((length entries ≤ n) × (slice_get entries n ≡ None)) → n < length entries
@@ -89,10 +94,10 @@ module _ (k : SessionState) (is : IsJournal k) (entry : Entry) (next : Some entr
   under : position_of k < length k.entries
   under = within k.entries (position_of k) entry next
 
-  seen : view_of k.machine ≡ view (start_of k) earlier
+  pub seen : view_of k.machine ≡ view (start_of k) earlier
   seen = walks_view (start_of k) k.machine (reverse k.inverses) earlier is.walks
 
-  next_history : history_of (take (position_of k + 1) k.entries) ≡ accepted_of entry ∷ earlier
+  pub next_history : history_of (take (position_of k + 1) k.entries) ≡ accepted_of entry ∷ earlier
   next_history = history_to k.entries (position_of k) entry under ∙ ap (λ (e : Entry). accepted_of e ∷ earlier) (get_or_from_slice_get k.entries (position_of k) entry entry (sym next))
 
   next_lawful : Lawful (start_of k) (accepted_of entry ∷ earlier)
@@ -104,20 +109,18 @@ module _ (k : SessionState) (is : IsJournal k) (entry : Entry) (next : Some entr
   its_reply reply accepted (inl refused) = absurd (subst IsAccepted refused accepted)
   its_reply reply accepted (inr answered) = sym answered ∙ ap (λ (V : View). answer V entry.step) seen ∙ next_lawful.1
 
-  pub journal_next : (new : Content) (inverse : Inverse) (reply : Reply) → IsAccepted reply → (reply ≡ No NoMemory) ⊎ (answer (view_of k.machine) entry.step ≡ reply) →
-      ((start : State) (earlier : List Accepted) → Lawful start earlier → view_of k.machine ≡ view start earlier →
-      Lawful start (record { step = entry.step; reply = reply } ∷ earlier) × (view_of new ≡ view start (record { step = entry.step; reply = reply } ∷ earlier))) →
-      LeadsBack new inverse → Undoes new inverse k.machine →
+  -- the session once the entry is made again
+  pub journal_made : (new : Content) (inverse : Inverse) → view_of new ≡ view (start_of k) (accepted_of entry ∷ earlier) → LeadsBack new inverse → Undoes new inverse k.machine → EndsWhole new inverse →
       IsJournal (record { machine = new; entries = k.entries; inverses = k.inverses ++ inverse ∷ []; width = k.width; count = k.count })
-  unfolding Lawful WalksBack
-  journal_next new inverse reply accepted answered along leads undoes = record {
+  unfolding WalksBack
+  journal_made new inverse view_new leads undoes whole = record {
     low = is.low;
     high = is.high;
     wide = is.wide;
     few = let u = under in let l = longer in omega (arith, u, l);
     lawful = is.lawful;
     walks = subst (λ (xs : List Inverse). WalksBack (start_of k) new xs (history_of (take (length (k.inverses ++ inverse ∷ [])) k.entries))) (sym (reverse-append k.inverses (inverse ∷ [])))
-        (subst (WalksBack (start_of k) new (inverse ∷ reverse k.inverses)) (sym here) (view_new, leads, (k.machine, undoes, is.walks)));
+        (subst (WalksBack (start_of k) new (inverse ∷ reverse k.inverses)) (sym here) (view_new, leads, (k.machine, undoes, is.walks), whole));
   }
     where
       longer : length (k.inverses ++ inverse ∷ []) ≡ position_of k + 1
@@ -126,5 +129,13 @@ module _ (k : SessionState) (is : IsJournal k) (entry : Entry) (next : Some entr
       here : history_of (take (length (k.inverses ++ inverse ∷ [])) k.entries) ≡ accepted_of entry ∷ earlier
       here = ap (λ (n : ℕ). history_of (take n k.entries)) longer ∙ next_history
 
+  pub journal_next : (new : Content) (inverse : Inverse) (reply : Reply) → IsAccepted reply → (reply ≡ No NoMemory) ⊎ (answer (view_of k.machine) entry.step ≡ reply) →
+      ((start : State) (earlier : List Accepted) → Lawful start earlier → view_of k.machine ≡ view start earlier →
+      Lawful start (record { step = entry.step; reply = reply } ∷ earlier) × (view_of new ≡ view start (record { step = entry.step; reply = reply } ∷ earlier))) →
+      LeadsBack new inverse → Undoes new inverse k.machine → EndsWhole new inverse →
+      IsJournal (record { machine = new; entries = k.entries; inverses = k.inverses ++ inverse ∷ []; width = k.width; count = k.count })
+  unfolding Lawful
+  journal_next new inverse reply accepted answered along leads undoes whole = journal_made new inverse view_new leads undoes whole
+    where
       view_new : view_of new ≡ view (start_of k) (accepted_of entry ∷ earlier)
       view_new = (along (start_of k) earlier next_lawful.0 seen).1 ∙ ap (λ (r : Reply). view (start_of k) (record { step = entry.step; reply = r } ∷ earlier)) (its_reply reply accepted answered)

@@ -6,5 +6,6 @@ pub mod Lives
 pub mod Moved
 pub mod Noted
 pub mod Rooms
+pub mod Aheads
 pub mod Sessions
 pub mod Walks

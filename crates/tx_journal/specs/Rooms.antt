@@ -7,6 +7,7 @@ use Rattle.tx_journal.specs.declared.entry.Entry.{Entry}
 use Rattle.tx_journal.specs.declared.journal.Journal.{Journal}
 use Rattle.tx_live.specs.Content.{view_of}
 use Rattle.tx_live.specs.Inverses.{Undoes}
+use Rattle.tx_live.specs.Redone.{EndsWhole}
 use Rattle.tx_live.specs.declared.content.Content.{Content}
 use Rattle.tx_live.specs.declared.inverse.Inverse.{Inverse}
 use Rattle.tx_model.specs.Membership.{Table}
@@ -38,4 +39,5 @@ pub record IsAdded (k : Content) (j : Journal) (entry : Entry) (new : Content) (
   pub inverses : after.inverses.items ≡ j.inverses.items ++ inverse ∷ []
   pub leads : LeadsBack new inverse
   pub undoes : Undoes new inverse k
+  pub whole : EndsWhole new inverse
   pub counted : IsCounted new after

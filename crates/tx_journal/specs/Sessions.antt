@@ -1,13 +1,16 @@
 -- What a session keeps, and what is so of it.
-use Rattle.std.specs.Prelude.{◌≡◌, ◌⊎◌, ℕ, ◌+◌, ◌≤◌, List, length, reverse, take}
+use Rattle.std.specs.Prelude.{◌≡◌, ◌⊎◌, ℕ, ◌+◌, ◌≤◌, List, drop, length, map, reverse, take}
+use Rattle.tx_base.specs.declared.steps.Accepted.{Accepted}
+use Rattle.tx_change.specs.declared.change.Change.{Change}
 use Rattle.tx_core.specs.Machines.{IsWidth}
-use Rattle.tx_journal.specs.Entries.{history_of}
+use Rattle.tx_journal.specs.Entries.{accepted_of, history_of}
 use Rattle.tx_journal.specs.Lives.{lives}
-use Rattle.tx_journal.specs.Walks.{WalksBack}
+use Rattle.tx_journal.specs.Walks.{WalksBack, WalksOn}
 use Rattle.tx_journal.specs.declared.entry.Entry.{Entry}
 use Rattle.tx_journal.specs.declared.journal.Journal.{Journal}
 use Rattle.tx_live.specs.declared.content.Content.{Content}
 use Rattle.tx_live.specs.declared.inverse.Inverse.{Inverse}
+use Rattle.tx_live.specs.declared.undone.Undone.{Undone}
 use Rattle.tx_model.specs.Answer.{Lawful}
 use Rattle.tx_model.specs.History.{table_of}
 use Rattle.tx_model.specs.State.{State, boot_state}
@@ -45,6 +48,14 @@ pub record IsJournal (k : SessionState) : Type 0 where
   pub few : position_of k ≤ length k.entries
   pub lawful : Lawful (start_of k) (history_of k.entries)
   pub walks : WalksBack (start_of k) k.machine (reverse k.inverses) (history_of (made_of k))
+
+-- the entries that are to be made again, the next one first
+abbrev pub later_of : SessionState → List Accepted
+later_of k = map accepted_of (drop (position_of k) k.entries)
+
+-- what is kept makes the entries again that follow, the next one last
+abbrev pub IsAhead : SessionState → List Undone → List Change → Type 0
+IsAhead k undone stack = WalksOn (start_of k) k.machine (reverse undone) stack (history_of (made_of k)) (later_of k)
 
 -- where so many transactions are counted, at least those that are live after the last entry, and there is room for so many entries and
 -- places for so many inverses: there is room for the abort of each of them

@@ -8,10 +8,11 @@
 //! - `boot` and `boot_wide` make a session before its first step. `step` makes a step as the
 //!   machine does and adds its entry; `step_into` puts the reply where the caller has a place for
 //!   it. `kernel_abort` makes the kernel's abort and adds its entry, without memory.
-//! - `back` undoes the newest entry that is made; `forward` makes the next one again by its step,
-//!   whose answer is the entry's reply since the journal is lawful; `goto` goes step by step, so it
-//!   pays for the entries between. Nothing is replayed from the start, and no state is kept but the
-//!   machine's.
+//! - `back` undoes the newest entry that is made, and keeps what makes it again, if there is room
+//!   (`reserve_forward` makes it). `forward` makes the next one again from there, by exchange, and
+//!   else by its step, whose answer is the entry's reply since the journal is lawful; `goto` goes
+//!   step by step, so it pays for the entries between. Nothing is replayed from the start, and no
+//!   state is kept but the machine's.
 //! - The place of an entry is reserved before its step, or for many steps at once by `reserve`: a
 //!   list that grows as it needs would have room for twice its entries, and for a while both rooms.
 //!   A transaction that begins takes one place more, for its abort, so an abort never wants memory.
@@ -39,6 +40,7 @@
 //! step is of, whether the step begins that transaction, whether it commits it, and whether it
 //! tells its moment. What a commit posts is read from the outbox before it is made.
 
+mod ahead;
 mod entry;
 mod faults;
 mod journal;

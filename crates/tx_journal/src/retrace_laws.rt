@@ -2,7 +2,7 @@
 ghost use Rattle.tx_journal.specs.RetraceLaws.{RetraceLaws};
 
 use tx_laws::{answers_of_states, next_view};
-use tx_step::booted_is_content;
+use tx_step::{booted_is_content, posts_are_told};
 
 /// The laws on which the proofs stand. It does nothing.
 pub(crate) fn laws()
@@ -11,4 +11,5 @@ pub(crate) fn laws()
     next_view();
     answers_of_states();
     booted_is_content();
+    posts_are_told();
 }

@@ -10,6 +10,7 @@ ghost use Rattle.tx_model.specs.View.{view};
 ghost use Rattle.tx_moment.specs.Moments.{HasMoments};
 ghost use Rattle.tx_text.specs.State.{state_text};
 
+use crate::ahead::Ahead;
 use crate::entry::Entry;
 use crate::journal::Journal;
 use crate::laws::laws;
@@ -29,11 +30,12 @@ pub struct Session {
     width: u16,
     /// With how many it was booted.
     count: u16,
+    pub(crate) ahead: Ahead,
 }
 
 impl Model for Session {
     ghost use Rattle.std.specs.Prelude.{vec_capacity};
-    ghost use Rattle.tx_journal.specs.Sessions.{HasRoom, IsJournal, SessionState, session_state};
+    ghost use Rattle.tx_journal.specs.Sessions.{HasRoom, IsAhead, IsJournal, SessionState, session_state};
 
     ghost Value = { SessionState };
 
@@ -44,7 +46,9 @@ impl Model for Session {
         (session_state session.machine session.journal session.width session.count)
         × HasRoom (session_state session.machine session.journal session.width session.count)
         session.journal.live (vec_capacity session.journal.entries)
-        (vec_capacity session.journal.inverses) };
+        (vec_capacity session.journal.inverses)
+        × IsAhead (session_state session.machine session.journal session.width session.count)
+        session.ahead.undone.items session.ahead.stack.items };
 }
 
 impl Session {
@@ -66,6 +70,7 @@ impl Session {
             journal: Journal::new(alloc),
             width: PROCESSES,
             count,
+            ahead: Ahead::new(alloc),
         })
     }
 
@@ -84,6 +89,7 @@ impl Session {
             journal: Journal::new(alloc),
             width: WIDE_PROCESSES,
             count,
+            ahead: Ahead::new(alloc),
         })
     }
 
@@ -99,6 +105,20 @@ impl Session {
             return Err(NoMemory);
         };
         self.journal.grow(count)
+    }
+
+    /// Makes room to keep what makes the entries after this position again, once they are taken back, so
+    /// that a walk back to it and forward pays for what their steps changed alone. Without it each step is
+    /// made anew. It pays for the entries between.
+    ///
+    /// `NoMemory` where a growth is refused; nothing has changed then.
+    pub fn reserve_forward(&mut self, position: usize) -> Result<(), NoMemory>
+        ensures { self.new ≡ self.old }
+    {
+        let Some(walked) = self.journal.inverses.get(position..) else {
+            return Ok(());
+        };
+        self.ahead.grow(walked)
     }
 
     /// The number of processes with which it was booted.

@@ -24,15 +24,41 @@ impl Session {
         let Some(inverse) = self.journal.inverses.pop() else {
             return Err(AtStart);
         };
-        self.machine.undo(inverse);
+        self.ahead.take_back(&mut self.machine, inverse);
         Ok(())
     }
 
-    /// Makes the entry after the position again: its step has the reply that it had.
+    /// Makes the entry after the position again: by exchange, where what was taken back is kept, and else
+    /// by its step, which has the reply that it had.
     ///
     /// `AtEnd` where all entries are made, and `NoMemory` where a growth is refused, with nothing
     /// changed.
     pub fn forward(&mut self, alloc: Global) -> Result<(), ForwardFault>
+        ensures moved { OnOk result (position_of self.new ≡ position_of self.old + 1) }
+        ensures end { (result ≡ Err forward.AtEnd) ↔ IsAtEnd self.old }
+        ensures refused { OnErr result (self.new ≡ self.old) }
+        ensures journal { SameJournal self.new self.old }
+    {
+        let Some(undone) = self.ahead.undone.pop() else {
+            return self.make_next(alloc);
+        };
+        match self.machine.redo(undone, &mut self.ahead.stack) {
+            Ok(inverse) => {
+                self.journal.inverses.push_reserved(inverse);
+                Ok(())
+            }
+            Err(undone) => {
+                self.ahead.undone.push_reserved(undone);
+                Err(ForwardFault::NoMemory)
+            }
+        }
+    }
+
+    /// Makes the entry after the position anew: its step has the reply that it had.
+    ///
+    /// `AtEnd` where all entries are made, and `NoMemory` where a growth is refused, with nothing
+    /// changed.
+    fn make_next(&mut self, alloc: Global) -> Result<(), ForwardFault>
         ensures moved { OnOk result (position_of self.new ≡ position_of self.old + 1) }
         ensures end { (result ≡ Err forward.AtEnd) ↔ IsAtEnd self.old }
         ensures refused { OnErr result (self.new ≡ self.old) }
@@ -51,6 +77,7 @@ impl Session {
         if !is_made {
             return Err(ForwardFault::NoMemory);
         }
+        self.ahead.clear();
         self.journal.inverses.push_reserved(inverse);
         Ok(())
     }

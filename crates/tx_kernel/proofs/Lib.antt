@@ -12,6 +12,7 @@ pub mod Returned
 pub mod PostAnswers
 pub mod Sent
 pub mod PostPlans
+pub mod PendingAlone
 pub mod StepPlans
 pub mod PostedWhole
 pub mod Told

@@ -14,3 +14,4 @@ pub mod Endings
 pub mod Calls
 pub mod Refusals
 pub mod Acts
+pub mod PostFacts

@@ -1,5 +1,5 @@
 -- What of a process decides the answer of a post, and what a post is to exchange.
-use Rattle.std.specs.Prelude.{◌≡◌, List, [], ◌∷◌, ◌++◌, Option, Some, None, Result, Ok, Err, IfOk, IsSome, is_some, length, option_map}
+use Rattle.std.specs.Prelude.{◌≡◌, ℕ, List, [], ◌∷◌, ◌++◌, Option, Some, None, Result, Ok, Err, IfOk, IsSome, is_some, length, option_map}
 use Rattle.tx_base.specs.Slots.{slot_at}
 use Rattle.tx_base.specs.declared.errors.Errno.{Errno}
 use Rattle.tx_change.specs.Counts.{AreNameless}
@@ -12,11 +12,11 @@ use Rattle.tx_cred.specs.Cred.{ids_of}
 use Rattle.tx_kernel.specs.declared.posts.Face.{Face}
 use Rattle.tx_model.specs.Posts.{post_answer, target_after}
 use Rattle.tx_model.specs.State.{Process, Sending}
-use Rattle.tx_proc.specs.Parts.{revised}
+use Rattle.tx_proc.specs.Parts.{revised, with_pending}
 use Rattle.tx_proc.specs.declared.proc.Part.{Part}
 use Rattle.tx_proc.specs.declared.proc.Part.TheVariants.{Pending, Queued}
 use Rattle.tx_proc.specs.declared.proc.Proc.{Proc}
-use Rattle.tx_signal.specs.Parts.{answer_of}
+use Rattle.tx_signal.specs.Parts.{answer_of, PendingView}
 
 -- the process has these ids, has ended or not, and has so many entries in its queue
 pub record HasFace (face : Face) (q : Process) : Type 0 where
@@ -78,3 +78,10 @@ pub record PlansAt (parts : Parts) (m : Sending) (result : Result (Option Part) 
 abbrev pub listed_change : Option Change → List Change
 listed_change None = []
 listed_change (Some change) = change ∷ []
+
+-- the parts are the same but for what is pending at processes
+pub record IsButPending (before after : Parts) : Type 0 where
+  pub width : length after.procs ≡ length before.procs
+  pub each : (n : ℕ) → (pending : PendingView) × (slot_at after.procs n ≡ option_map (with_pending pending) (slot_at before.procs n))
+  pub descs : after.descs ≡ before.descs
+  pub pipes : after.pipes ≡ before.pipes

@@ -103,12 +103,9 @@ impl Actor<'_> {
                 Ok(self.plan_send(*target, *signo, *value, log)?)
             }
             _ => {
-                // A plan is large, and stays where it is made.
-                let planned = self.plan_common(alloc, call, log);
-                if let Ok(planned) = &planned {
-                    self.push_sends(planned, log)?;
-                }
-                planned
+                let planned = self.plan_common(alloc, call, log)?;
+                self.push_sends(&planned, log)?;
+                Ok(planned)
             }
         }
     }

@@ -3,7 +3,7 @@
 ghost use Rattle.std.specs.Prelude.{◌≡◌, ◌&&◌, ◌∷◌, [], ℕ, List, ◌<◌, not, true, Some, IfOk, length};
 ghost use Rattle.tx_kernel.specs.Actors.{IsWhole};
 ghost use Rattle.tx_kernel.specs.Plans.{sending_of, sender_of, AreAmong};
-ghost use Rattle.tx_kernel.specs.Posts.{HasFace, IsOfPending, PlansAt, listed_change, posted, seen_as, without_part};
+ghost use Rattle.tx_kernel.specs.Posts.{HasFace, IsButPending, IsOfPending, PlansAt, listed_change, posted, seen_as, without_part};
 ghost use Rattle.tx_change.specs.Counts.{CountsAgree};
 ghost use Rattle.tx_change.specs.Exchange.{AreNamed, undone};
 ghost use Rattle.tx_change.specs.Laws.{HaveAllPlaces};
@@ -120,6 +120,7 @@ pub fn post(parts: &mut Parts, sending: &Sending) -> Posted
     ensures counts { CountsAgree parts.old → CountsAgree parts.new }
     ensures places { HaveAllPlaces parts.old → HaveAllPlaces parts.new }
     ensures whole { IsSendable (sending_of sending.now) → IsWhole parts.old → IsWhole parts.new }
+    ensures rest { IsButPending parts.old parts.new }
 {
     laws();
     well_formed();

@@ -3,17 +3,14 @@ use Rattle.std.proofs.Common.{◌≡◌, ℕ, zero, suc, ◌+◌, ◌-◌, ◌*�
 use Rattle.std.proofs.lemmas.Fmt.{decimal-digits_value, decimal_digit, decimal_nonempty, digits_decimal, digits_value-decimal, first_decimal, length-decimal-le}
 use Rattle.std.proofs.lemmas.Int.Digits.{digits_more, digits_value_more}
 use Rattle.std.proofs.lemmas.Str.{digit_value_digit}
-use Rattle.std.proofs.lemmas.Str.Parse.{IsNumeralModel, digit_at, digits_value_short, numerals_by_value, tells_digits}
+use Rattle.std.proofs.lemmas.Str.Parse.{digit_at, digits_value_short}
 use Rattle.std.proofs.lemmas.List.{take_all, length-take}
 use Rattle.std.specs.Char.{digit_value}
 use Rattle.std.specs.Fmt.{decimal, signed_decimal}
 use Rattle.std.specs.Prelude.{ℤ, pos, negsuc, FitsSigned}
 use Rattle.std.specs.Int.{w64, IsInRange}
 use Rattle.std.specs.Str.Parse.{AllDigits, digits_value}
-use Rattle.tx_lines.proofs.Spelled.{mag_small}
-
-pub own : IsNumeralModel (AllDigits 10) (digits_value 10)
-own = numerals_by_value (AllDigits 10) tells_digits
+use Rattle.tx_lines.specs.NumberFacts.{mag_small, own}
 
 -- so far: the first i bytes are digits, and that is their number
 pub record ReadsSoFar (word : List ℕ) (i number : ℕ) : Type 0 where

@@ -8,7 +8,7 @@ use Rattle.std.specs.Fmt.{decimal, signed_decimal}
 use Rattle.std.specs.Prelude.{ℤ, pos, negsuc, FitsSigned}
 use Rattle.std.specs.Int.{w64}
 use Rattle.std.proofs.lemmas.Fmt.{decimal_is_IsNumeral}
-use Rattle.tx_lines.proofs.Spelled.{mag_small}
+use Rattle.tx_lines.specs.NumberFacts.{mag_small}
 use Rattle.tx_lines.specs.Words.{parts_at, with_front}
 
 parts_at-at : (mark : ℕ) (bytes : List ℕ) (i : ℕ) → ((k : ℕ) → k < i → get_or bytes k 0 ≡ mark → ⊥) → i < length bytes → get_or bytes i 0 ≡ mark →

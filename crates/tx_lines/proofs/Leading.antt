@@ -10,9 +10,9 @@ use Rattle.std.proofs.Math.Seq.{drop-append-add, get_or-append_seam}
 use Rattle.std.proofs.lemmas.Str.Parse.{digit_at, digits_value_short}
 use Rattle.std.proofs.lemmas.Fmt.{decimal_digit, decimal_step}
 use Rattle.tx_lines.specs.Words.{parts_at}
-use Rattle.tx_lines.proofs.Digits.{own, spelled_by_digits, spelled_digits, spelled_length, spelled_zero}
+use Rattle.tx_lines.proofs.Digits.{spelled_by_digits, spelled_digits, spelled_length, spelled_zero}
 use Rattle.tx_lines.proofs.FirstWord.{free_decimal, parts_at-word, same_parts}
-use Rattle.tx_lines.proofs.Spelled.{mag_small}
+use Rattle.tx_lines.specs.NumberFacts.{mag_small, own}
 
 module _ (line : List ℕ) (n : ℕ) (rest : List ℕ) (small : n < 10 ^ 19) (e : line ≡ decimal n ++ 32 ∷ rest) where
   -- the space stands after the digits

@@ -12,7 +12,6 @@ pub mod PlainWords
 pub mod ProgramLines
 pub mod ProgramParts
 pub mod SignalLists
-pub mod Spelled
 pub mod StepParts
 pub mod WalkParts
 pub mod Written

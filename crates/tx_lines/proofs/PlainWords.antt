@@ -14,8 +14,8 @@ use Rattle.tx_lines.specs.ListedSets.{AreRising}
 use Rattle.tx_lines.specs.Lists.{list_text, more_text}
 use Rattle.tx_lines.specs.Sets.{members, set_text}
 use Rattle.tx_lines.proofs.FirstWord.{free_digits, IsFree}
-use Rattle.tx_lines.proofs.SignalLists.{members_rise}
-use Rattle.tx_lines.proofs.Spelled.{mag_small}
+use Rattle.tx_lines.specs.SetFacts.{members_rise}
+use Rattle.tx_lines.specs.NumberFacts.{mag_small}
 
 -- it has neither a space, nor a dollar, nor an at sign
 pub record IsPlain (word : List ℕ) : Type 0 where

@@ -19,7 +19,7 @@ use Rattle.tx_lines.specs.declared.read.header.Version.{Version}
 use Rattle.tx_lines.proofs.CallWords.{few_arguments, good_arguments, other_name, plain_name, AreGood, IsGood}
 use Rattle.tx_lines.proofs.FirstWord.{parts_at-free, parts_at-word, IsFree}
 use Rattle.tx_lines.proofs.LineWords.{words_split, words_whole}
-use Rattle.tx_lines.proofs.Spelled.{mag_small}
+use Rattle.tx_lines.specs.NumberFacts.{mag_small}
 use Rattle.tx_lines.proofs.PlainWords.{and_parts, is_free, is_plain, plain, plain_decimal, IsPlain}
 
 -- no word has a space

@@ -1,6 +1,5 @@
 -- Lists of signals that rise, and the sets of them.
-use Rattle.std.proofs.Common.{◌≡◌, ℕ, ◌<◌, ◌≤◌, ◌^◌, ◌⊎◌, max, Bool, true, false, cond, ◌&&◌, ◌||◌, ◌==◌, List, [], ◌∷◌, ◌++◌, Some, None, codes, refl, sym, ap, ◌∙◌, inl, inr, eq-eqb, eqb-true, get_or, length, subst, arith}
-use Rattle.std.specs.Prelude.{nat_lt}
+use Rattle.std.proofs.Common.{◌≡◌, ℕ, ◌<◌, ◌^◌, ◌⊎◌, max, Bool, true, false, cond, ◌||◌, ◌==◌, List, [], ◌∷◌, ◌++◌, Some, None, codes, refl, sym, ap, ◌∙◌, inl, inr, eq-eqb, eqb-true, get_or, length, subst, arith}
 use Rattle.std.specs.List.{filter}
 use Rattle.std.specs.Int.{bit_at}
 use Rattle.std.specs.Fmt.{decimal}
@@ -17,9 +16,9 @@ use Rattle.tx_model.specs.SignalSets.{standard_signals, realtime_signals, is_in_
 use Rattle.tx_lines.specs.Lists.{list_text, more_text}
 use Rattle.tx_lines.specs.Sets.{members, set_text}
 use Rattle.tx_lines.specs.ListedSets.{AreListed, AreRising, FitsSet}
+use Rattle.tx_lines.specs.SetFacts.{all_rising, members_rise}
 use Rattle.tx_lines.specs.Words.{parts_at}
 use Rattle.tx_lines.proofs.FirstWord.{free_decimal, parts_at-free, parts_at-word, same_parts, split_parts}
-use borrow.Author.Tests.{ltb-true}
 
 or_cases : (a b : Bool) → (a || b) ≡ true → (a ≡ true) ⊎ (b ≡ true)
 or_cases true b h = inl refl
@@ -36,46 +35,6 @@ or_left false b h = absurd (both_ways false refl h)
 not_true : (b : Bool) → (b ≡ true → ⊥) → b ≡ false
 not_true true h = absurd (h refl)
 not_true false h = refl
-
-and_parts : (a b : Bool) → (a && b) ≡ true → (a ≡ true) × (b ≡ true)
-and_parts true b h = (refl, h)
-and_parts false b h = absurd (both_ways false refl h)
-
--- a number that rises from above another rises from above a lower one
-lower : (above below : ℕ) (signos : List ℕ) → below ≤ above → AreRising above signos → AreRising below signos
-lower above below [] less rising = tt
-lower above below (signo ∷ signos) less rising = let first : above < signo = rising.0 in (omega arith, rising.1, rising.2, rising.3)
-
--- whether known signals rise
-rises : ℕ → List ℕ → Bool
-rises above [] = true
-rises above (signo ∷ signos) = nat_lt above signo && (nat_lt signo 256 && (is_known signo && rises signo signos))
-
-sound : (above : ℕ) (signos : List ℕ) → rises above signos ≡ true → AreRising above signos
-unfolding rises
-sound above [] h = tt
-sound above (signo ∷ signos) h =
-    let a = and_parts (nat_lt above signo) (nat_lt signo 256 && (is_known signo && rises signo signos)) h in
-    let b = and_parts (nat_lt signo 256) (is_known signo && rises signo signos) a.1 in
-    let d = and_parts (is_known signo) (rises signo signos) b.1 in
-    (ltb-true above signo a.0, ltb-true signo 256 b.0, d.0, sound signo signos d.1)
-
-all_rising : AreRising 0 (standard_signals ++ realtime_signals)
-unfolding rises
-all_rising = sound 0 (standard_signals ++ realtime_signals) refl
-
-rising_filter : (p : ℕ → Bool) (above : ℕ) (signos : List ℕ) → AreRising above signos → AreRising above (filter p signos)
-rising_filter p above [] rising = tt
-rising_filter p above (signo ∷ signos) rising = by (filter p signos) (rising_filter p signo signos rising.3) (p signo)
-  where
-    by : (rest : List ℕ) → AreRising signo rest → (b : Bool) → AreRising above (cond b (signo ∷ rest) rest)
-    by rest after true = (rising.0, rising.1, rising.2, after)
-    by rest after false = let first : above < signo = rising.0 in lower signo above rest (omega arith) after
-
--- the members of a set rise
-pub members_rise : (set : ℕ) → AreRising 0 (members set)
-unfolding members
-members_rise set = rising_filter (λ signo. is_in_set set signo) 0 (standard_signals ++ realtime_signals) all_rising
 
 -- each is above the number
 above_all : (above : ℕ) (signos : List ℕ) (k : ℕ) → AreRising above signos → is_one_of signos k ≡ true → above < k

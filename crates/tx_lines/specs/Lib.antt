@@ -15,3 +15,5 @@ pub mod Walks
 pub mod Whole
 pub mod Words
 pub mod ListedSets
+pub mod NumberFacts
+pub mod SetFacts

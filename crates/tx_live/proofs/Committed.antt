@@ -3,7 +3,7 @@ use Rattle.std.proofs.Common.{◌≡◌, ℕ, suc, ◌+◌, ◌-◌, ◌≤◌, 
 use Rattle.std.proofs.lemmas.Bool.{both_ways, cases_Bool}
 use Rattle.std.proofs.lemmas.List.{drop_at, take_at}
 use Rattle.std.specs.Prelude.{IsSomeAnd}
-use Rattle.tx_base.proofs.SlotFacts.{length-with_slot, slot_at-with_slot, slot_same, slot_twice}
+use Rattle.tx_base.specs.SlotFacts.{length-with_slot, slot_at-with_slot, slot_same, slot_there, slot_twice}
 use Rattle.tx_base.specs.Slots.{slot_at, with_slot}
 use Rattle.tx_base.specs.declared.marks.Mark.{Mark}
 use Rattle.tx_base.specs.declared.names.Missed.{Missed}
@@ -28,13 +28,12 @@ use Rattle.tx_laws.specs.Commuting.{named_by}
 use Rattle.tx_laws.specs.Fits.{Fits, IsIn}
 use Rattle.tx_laws.specs.Footprints.{is_shared}
 use Rattle.tx_laws.specs.TwoStates.{made, states_view}
-use Rattle.tx_live.proofs.Ended.{joined_few, other_stays, owner_freed, revives, unmarks}
+use Rattle.tx_live.proofs.Ended.{is_gone, joined_few, other_stays, owner_freed, revives, unmarks}
 use Rattle.tx_live.proofs.Ends.{commit_lists, commit_made, commit_sends}
 use Rattle.tx_live.proofs.Insides.{held_back, held_now, map_append, unmade_handed}
-use Rattle.tx_live.proofs.KeptPosted.{slot_there}
 use Rattle.tx_live.proofs.Others.{counts_stay, slot_stays, txn_stays}
 use Rattle.tx_live.proofs.Outsides.{held_posted, own_same, same_content, targets_are, txns_posted}
-use Rattle.tx_live.proofs.PostedAll.{among_behind, among_both, among_front}
+use Rattle.tx_live.proofs.PostedAll.{among_behind, among_both, among_front, posts_as}
 use Rattle.tx_live.proofs.Undelivered.{missed_are}
 use Rattle.tx_live.specs.Commits.{AreAnswered, MakesLast}
 use Rattle.tx_live.specs.Content.{content_of, held_in, held_of, now_of, owner_at, own_held, txn_of, view_of, IsShaped, IsTxn}
@@ -42,7 +41,9 @@ use Rattle.tx_live.specs.HeldPosts.{HaveSignals, IsEnd, PostsAll}
 use Rattle.tx_live.specs.Insides.{handed_out, inside_in, is_handed_out, MakesIn}
 use Rattle.tx_live.specs.Inverses.{first_of, last_of, post_changes, uncommitted, unposted_all, with_txn, HasNumbers, HasPosts, UndoesCommitted}
 use Rattle.tx_live.specs.Laws.{LiveLaws}
-use Rattle.tx_live.specs.Made.{posted_at, IsMade, IsUnowned}
+use Rattle.tx_live.specs.KeptPosts.{posted_at}
+use Rattle.tx_live.specs.Made.{IsMade, IsUnowned}
+use Rattle.tx_live.specs.Redone.{WasPosted}
 use Rattle.tx_live.specs.declared.commits.Last.{Last}
 use Rattle.tx_live.specs.declared.content.BoxedTxn.{BoxedTxn}
 use Rattle.tx_live.specs.declared.content.Content.{Content}
@@ -207,7 +208,8 @@ module _ (laws : LiveLaws) (old new : Content) (middle : Parts) (between : List 
       (marks : (n : ℕ) → slot_at new.marks n ≡ mark_unless_of led.starter.0 (slot_at old.marks n)) (marks_long : length new.marks ≡ length old.marks)
       (owners : (o : Object) → owner_of new.owners o ≡ (if is_in led.objects o then None else owner_of old.owners o)) (sized : length new.owners ≡ 352)
       (rest : after ≡ record led { members = after.members })
-      (unowned : IsUnowned old (Some s) event) (end : IsEnd event S) (member : is_of s (slot_at old.marks (actor event)) ≡ true) where
+      (unowned : IsUnowned old (Some s) event) (end : IsEnd event S) (member : is_of s (slot_at old.marks (actor event)) ≡ true)
+      (signals : HaveSignals (map sending_of stepped.outbox.sendings)) where
     abbrev ms : List Sending
     ms = map sending_of stepped.outbox.sendings
 
@@ -445,6 +447,19 @@ module _ (laws : LiveLaws) (old new : Content) (middle : Parts) (between : List 
             (subst (λ (xs : List TheSending). Rattle.tx_live.specs.Inverses.HaveStarters new.txns xs led.outbox.posts) (sym sent) all.starters);
       }
 
+      was_posted : WasPosted new after
+      was_posted = record {
+        signals = subst (λ (ms : List TheSending). HaveSignals (map sending_of ms)) (sym sent_after) signals;
+        posts = posts_as middle (undone new.parts (post_changes after.outbox.posts)) new.parts between (unposted_all after.outbox.sendings after.outbox.posts new.txns) new.txns
+            stepped.outbox.sendings after.outbox.sendings led.outbox.posts after.outbox.posts
+            (sym all.back ∙ ap (λ (h : HeldSends). undone new.parts (post_changes h.posts)) (sym outbox_after))
+            (sym all.unkept ∙ (λ j. unposted_all (sym sent_after j) (sym outbox_after j).posts new.txns))
+            (sym sent_after) (ap (λ (h : HeldSends). h.posts) (sym outbox_after)) all;
+      }
+        where
+          sent_after : after.outbox.sendings ≡ stepped.outbox.sendings
+          sent_after = ap (λ (h : HeldSends). h.sendings) outbox_after ∙ sent
+
       pub commit_with : IsMade old (Commits s) (Commit s event) pid.0 new (Committed (with_txn boxed after) last.count (is_handed_out last.planned.sends))
       commit_with = record {
         records = [];
@@ -454,6 +469,7 @@ module _ (laws : LiveLaws) (old new : Content) (middle : Parts) (between : List 
         goes = has_posts;
         back = (members, undoes);
         local = subst (AreAmong (named_by (Commit s event) S)) (sym (λ j. last_is j ++ post_changes (outbox_after j).posts)) among_all;
+        whole = (members, is_gone old new s boxed led after shaped there starter_led objects_led defers_led marks marks_long owners rest members has_members joined ended slot_none, was_posted);
       }
 
     pub commit_ends : IsSomeAnd after.members (λ members. (n : ℕ) → is_in members.joined (Proc n) ≡ is_of led.starter.0 (slot_at old.marks n)) →
@@ -475,12 +491,13 @@ module _ (laws : LiveLaws) (old new : Content) (middle : Parts) (between : List 
       IsSomeAnd after.members (λ members. (n : ℕ) → is_in members.joined (Proc n) ≡ is_of led.starter.0 (slot_at old.marks n)) →
       IsSomeAnd after.members (λ members. (n : ℕ) → is_in members.ended (Proc n) ≡ ended_of led.starter.0 (slot_at old.marks n)) →
       IsUnowned old (Some s) (event_of (inside_in old starter) pid a) → IsEnd (event_of (inside_in old starter) pid a) S → Fits (Commits s) (event_of (inside_in old starter) pid a) pid.0 (view_of old) →
+      HaveSignals (map sending_of stepped.outbox.sendings) →
       IsMade old (Commits s) (Commit s (event_of (inside_in old starter) pid a)) pid.0 new (Committed (with_txn boxed after) last.count (is_handed_out last.planned.sends))
   unfolding view_of states_view
-  commit_done emptied sent led_rest all marks marks_long owners sized rest joined ended unowned end fits =
+  commit_done emptied sent led_rest all marks marks_long owners sized rest joined ended unowned end fits signals =
       subst (λ (ev : Event). IsMade old (Commits s) (Commit s ev) pid.0 new (Committed (with_txn boxed after) last.count (is_handed_out last.planned.sends))) (sym event_is)
       (commit_ends emptied sent led_rest all marks marks_long owners sized rest (subst (IsUnowned old (Some s)) event_is unowned) (subst (λ (ev : Event). IsEnd ev S) event_is end)
-      (ap (λ (ev : Event). is_of s (slot_at old.marks (actor ev))) (sym event_is) ∙ fits) joined ended)
+      (ap (λ (ev : Event). is_of s (slot_at old.marks (actor ev))) (sym event_is) ∙ fits) signals joined ended)
 
 -- a transaction with another outbox has its own rest
 pub rest_of : (led stepped : Txn) (outbox : HeldSends) → led ≡ record stepped { outbox = outbox } → led ≡ record stepped { outbox = led.outbox }

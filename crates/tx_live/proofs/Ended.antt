@@ -8,17 +8,18 @@ use Rattle.tx_base.specs.declared.names.Pid.{Pid}
 use Rattle.tx_change.specs.Counts.{CountsAgree}
 use Rattle.tx_change.specs.Exchange.{sizes_of, undone}
 use Rattle.tx_laws.specs.TwoStates.{freed, is_owner}
-use Rattle.tx_live.proofs.KeptPosted.{slot_there}
+use Rattle.tx_base.specs.SlotFacts.{slot_there}
 use Rattle.tx_live.proofs.Others.{DefersSo, Stays}
 use Rattle.tx_live.specs.Content.{owner_at, own_held, IsShaped, IsTxn}
 use Rattle.tx_live.specs.Inverses.{Revives}
+use Rattle.tx_live.specs.Redone.{IsGone}
 use Rattle.tx_live.specs.declared.content.BoxedTxn.{BoxedTxn}
 use Rattle.tx_live.specs.declared.content.Content.{Content}
 use Rattle.tx_model.specs.Membership.{is_of, mark_unless_of}
 use Rattle.tx_model.specs.State.{Object, Proc, Desc, Pipe, Held}
 use Rattle.tx_reserve.specs.Objects.{is_in}
 use Rattle.tx_reserve.specs.Reservations.{owner_of}
-use Rattle.tx_txn.specs.Marks.{ended_of, mark_of, IsCovered}
+use Rattle.tx_txn.specs.Marks.{ended_of, mark_of}
 use Rattle.tx_txn.specs.declared.members.Members.{Members}
 use Rattle.tx_txn.specs.declared.txn.Txn.{Txn}
 
@@ -39,6 +40,19 @@ unmarked_was s (Some k) m e = by (k.starter.0 == s) e
     by : (b : Bool) → (if b then None else Some k) ≡ Some m → Some k ≡ Some m
     by true e = cc
     by false e = e
+
+-- no mark of the transaction is left
+none_left : (s : ℕ) (x : Option Mark) → is_of s (mark_unless_of s x) ≡ false
+none_left s None = refl
+none_left s (Some m) = by (m.starter.0 == s) refl
+  where
+    by : (b : Bool) → (m.starter.0 == s) ≡ b → is_of s (if b then None else Some m) ≡ false
+    by true e = refl
+    by false e = e
+
+mark_gone : (s : ℕ) (x : Option Mark) → is_of s x ≡ true → mark_unless_of s x ≡ None
+mark_gone s None of = refl
+mark_gone s (Some m) of = rw of refl
 
 -- the mark of a member, from who joined and who ended
 mark_again : (s : ℕ) (starter : Pid) (members : Members) (n : ℕ) (defers : Bool) (x : Option Mark) → starter.0 ≡ s → is_in members.joined (Proc n) ≡ is_of s x → is_in members.ended (Proc n) ≡ ended_of s x →
@@ -77,11 +91,6 @@ owned_again s (Some t) = by (t == s) refl
     by : (b : Bool) → (t == s) ≡ b → Some t ≡ (if b then Some s else (if b then None else Some t))
     by true e = ap Some (eqb-true t s e)
     by false e = refl
-
--- the transaction's objects cover its members
-pub is_covered : (k : Content) (s : ℕ) (txn : Txn) (t : ℕ) → t ≡ s → IsTxn k s txn → IsCovered t k.marks txn.objects
-is_covered k s txn t is was = subst (λ (n : ℕ). IsCovered n k.marks txn.objects) (sym is)
-    (λ p of. was.objects (Proc p) ∙ ap (is_owner s) (was.own p of) ∙ eq-eqb s s refl)
 
 -- a transaction in the slot of s, before it ends and after
 module _ (old new : Content) (s : ℕ) (boxed : BoxedTxn) (led after : Txn) (shaped : IsShaped old) (there : slot_at old.txns s ≡ Some boxed)
@@ -160,3 +169,13 @@ module _ (old new : Content) (s : ℕ) (boxed : BoxedTxn) (led after : Txn) (sha
         marked : (n : ℕ) (x : Option Mark) → slot_at old.marks n ≡ x → is_of led.starter.0 x ≡ true → n ≤ length old.marks
         marked n None e of = cc
         marked n (Some m) e of = (slot_there old.marks n m e).1
+
+    -- nothing of the transaction is left
+    pub is_gone : slot_at new.txns s ≡ None → IsGone new after members
+    is_gone none = record {
+      ended = has_members;
+      slot = ap (slot_at new.txns) after_s ∙ none;
+      marks = λ n. ap (λ (k : ℕ). is_of k (slot_at new.marks n)) after_s ∙ ap (is_of s) (unmarks n) ∙ none_left s (slot_at old.marks n);
+      joined = λ n in_it. unmarks n ∙ mark_gone s (slot_at old.marks n) (sym (joined n ∙ ap (λ (k : ℕ). is_of k (slot_at old.marks n)) led_s) ∙ in_it);
+      owners = λ o in_it. owns o ∙ ap (λ (b : Bool). if b then None else owner_of old.owners o) (sym (ap (λ (t : Txn). is_in t.objects o) rest ∙ objects_are o) ∙ in_it);
+    }

@@ -1,7 +1,7 @@
 -- The first step of a transaction.
 use Rattle.std.proofs.Common.{◌≡◌, ◌≢◌, ℕ, zero, suc, pos, ◌≤◌, Bool, true, false, ◌||◌, ◌==◌, if◌then◌else◌, List, [], ◌∷◌, length, map, drop, Option, Some, None, option_map, refl, sym, ap, subst, ◌∙◌, inl, inr, eq-eqb, eqb-true, arith, lt-ltb}
 use Rattle.std.proofs.lemmas.Bool.{both_ways, cases_Bool}
-use Rattle.tx_base.proofs.SlotFacts.{length-with_slot, slot_at-with_slot, slot_same, slot_twice}
+use Rattle.tx_base.specs.SlotFacts.{length-with_slot, slot_at-with_slot, slot_same, slot_there, slot_twice}
 use Rattle.tx_base.specs.Slots.{slot_at, with_slot}
 use Rattle.tx_base.specs.declared.marks.Mark.{Mark}
 use Rattle.tx_base.specs.declared.names.Pid.{Pid}
@@ -19,7 +19,6 @@ use Rattle.tx_kernel.specs.declared.planned.Planned.{Planned}
 use Rattle.tx_laws.specs.Commuting.{named_by}
 use Rattle.tx_laws.specs.Footprints.{is_shared}
 use Rattle.tx_laws.specs.TwoStates.{is_owner, made}
-use Rattle.tx_live.proofs.KeptPosted.{slot_there}
 use Rattle.tx_live.proofs.Others.{counts_stay, txn_stays, Stays}
 use Rattle.tx_live.proofs.Outsides.{same_content, targets_are}
 use Rattle.tx_live.specs.Begins.{is_only, IsAlone, IsBegun, Starts, StartsOf}
@@ -338,6 +337,7 @@ module _ (laws : LiveLaws) (old new : Content) (pid : Pid) (defers : Bool) (boxe
     );
     back = (box1, undoes);
     local = subst (AreAmong (Proc s ∷ [])) (sym (ap log_in slot_s ∙ log_is)) among;
+    whole = tt;
   }
     where
       none_few : 0 ≤ length after.log

@@ -2,7 +2,7 @@
 use Rattle.std.proofs.Common.{◌≡◌, ◌≢◌, ◌⊎◌, ℕ, ◌+◌, ◌-◌, ◌≤◌, Bool, true, false, not, ◌&&◌, ◌||◌, ◌==◌, if◌then◌else◌, List, [], ◌∷◌, ◌++◌, length, length-append, drop, take, map, Option, Some, None, option_map, refl, sym, ap, subst, ◌∙◌, inl, inr, eq-eqb, eqb-true, append_assoc, arith}
 use Rattle.std.proofs.lemmas.Bool.{both_ways, cases_Bool}
 use Rattle.std.proofs.lemmas.List.{drop_at, take_at}
-use Rattle.tx_base.proofs.SlotFacts.{length-with_slot, slot_at-with_slot, slot_same, slot_twice}
+use Rattle.tx_base.specs.SlotFacts.{length-with_slot, slot_at-with_slot, slot_same, slot_there, slot_twice}
 use Rattle.tx_base.specs.Slots.{slot_at, with_slot}
 use Rattle.tx_base.specs.declared.marks.Mark.{Mark}
 use Rattle.tx_base.specs.declared.names.Pid.{Pid}
@@ -23,7 +23,7 @@ use Rattle.tx_laws.specs.Commuting.{named_by}
 use Rattle.tx_laws.specs.Fits.{FitsWithin}
 use Rattle.tx_laws.specs.Footprints.{is_shared}
 use Rattle.tx_laws.specs.TwoStates.{is_owner, made, states_view}
-use Rattle.tx_live.proofs.KeptPosted.{slot_kept, slot_there}
+use Rattle.tx_live.proofs.KeptPosted.{slot_kept}
 use Rattle.tx_live.proofs.Others.{counts_stay, txn_stays, DefersSo, Stays}
 use Rattle.tx_live.proofs.Outsides.{same_content, targets_are}
 use Rattle.tx_live.specs.Content.{content_of, held_in, held_of, now_of, owner_at, own_held, txn_of, view_of, IsShaped, IsTxn}
@@ -83,13 +83,13 @@ unmade_handed (AtOnce m) = refl
 unmade_handed (AtCommit m) = refl
 
 -- without its last one
-but_last : {A : Type 0} (xs : List A) (x : A) → take (length (xs ++ x ∷ []) - 1) (xs ++ x ∷ []) ≡ xs
+pub but_last : {A : Type 0} (xs : List A) (x : A) → take (length (xs ++ x ∷ []) - 1) (xs ++ x ∷ []) ≡ xs
 but_last xs x = take_at xs (x ∷ []) (length (xs ++ x ∷ []) - 1) (sym (long (length-append xs (x ∷ []))))
   where
     long : length (xs ++ x ∷ []) ≡ length xs + 1 → length (xs ++ x ∷ []) - 1 ≡ length xs
     long e = omega (arith, e)
 
-no_more : {A : Type 0} (xs : List A) → xs ++ [] ≡ xs
+pub no_more : {A : Type 0} (xs : List A) → xs ++ [] ≡ xs
 no_more [] = refl
 no_more (x ∷ xs) = ap (λ ys. x ∷ ys) (no_more xs)
 
@@ -627,6 +627,7 @@ module _ (laws : LiveLaws) (old new : Content) (pid starter : Pid) (act : Act) (
       goes = ((box1, has_log), has_mark);
       back = (box1, undoes);
       local = subst (AreAmong (objects event S ++ processes_of (effect event S).sends)) (sym (ap (last_in stepped.count) slot_s ∙ last_is)) among;
+      whole = tt;
     }
 
   inside_answers : Answers old event pid new stepped.planned.outcome

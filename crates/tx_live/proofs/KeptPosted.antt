@@ -1,10 +1,11 @@
 -- Posts to what is kept, in the table of the transactions.
-use Rattle.std.proofs.Common.{◌≡◌, ℕ, zero, suc, ◌<◌, ◌≤◌, false, List, [], ◌∷◌, length, if◌then◌else◌, ◌==◌, Option, Some, None, is_some, option_map, Bor, refl, sym, ap, subst, ◌∙◌, inl, inr, eq-eqb, eqb-true, arith}
+use Rattle.std.proofs.Common.{◌≡◌, ℕ, ◌≤◌, false, List, [], ◌∷◌, length, if◌then◌else◌, ◌==◌, Option, Some, None, is_some, option_map, Bor, refl, sym, ap, subst, ◌∙◌, inl, inr, eq-eqb, eqb-true}
 use Rattle.std.proofs.lemmas.Bool.{both_ways, cases_Bool}
-use Rattle.tx_base.proofs.SlotFacts.{length-with_slot, slot_at-with_slot, slot_now, slot_same, slot_twice}
+use Rattle.tx_base.specs.SlotFacts.{length-with_slot, slot_at-with_slot, slot_now, slot_same, slot_there, slot_twice}
 use Rattle.tx_base.specs.Slots.{slot_at, with_slot}
 use Rattle.tx_live.specs.Inverses.{unposted_at, unposted_if}
-use Rattle.tx_live.specs.Made.{posted_at, posted_one, PostsKept}
+use Rattle.tx_live.specs.KeptPosts.{posted_at, posted_one, PostsKept}
+use Rattle.tx_live.specs.Redone.{reposted_at}
 use Rattle.tx_live.specs.declared.content.BoxedTxn.{BoxedTxn}
 use Rattle.tx_model.specs.State.{Sending}
 use Rattle.tx_txn.specs.declared.kept.Unpost.{Unpost}
@@ -12,19 +13,10 @@ use Rattle.std.specs.Box.{with_value}
 use Rattle.std.specs.Option.{option_copied}
 use Rattle.tx_cred.specs.Cred.{ids_of}
 use Rattle.tx_txn.specs.Faces.{pending_after, pending_by, running}
-use Rattle.tx_txn.specs.KeptParts.{unposted}
+use Rattle.tx_txn.specs.KeptParts.{posted_again, unposted}
+use Rattle.tx_txn.specs.declared.kept.Repost.{Repost}
 use Rattle.tx_txn.specs.declared.kept.Kept.{Kept}
 use Rattle.tx_txn.specs.declared.txn.Txn.{Txn}
-
-slot_in : {A : Type 0} (slots : List (Option A)) (n : ℕ) (x : A) → slot_at slots (suc n) ≡ Some x → n < length slots
-slot_in [] n x h = cc
-slot_in (y ∷ slots) zero x h = omega arith
-slot_in (y ∷ slots) (suc n) x h = let z = slot_in slots n x h in omega arith
-
--- a number whose slot has something is one that there is
-pub slot_there : {A : Type 0} (slots : List (Option A)) (n : ℕ) (x : A) → slot_at slots n ≡ Some x → (1 ≤ n) × (n ≤ length slots)
-slot_there slots zero x h = cc
-slot_there slots (suc n) x h = let z = slot_in slots n x h in (omega arith, omega arith)
 
 none_at : (n : ℕ) (slot : Option BoxedTxn) → slot ≡ option_map (posted_at n []) slot
 unfolding pending_by
@@ -78,12 +70,12 @@ slot_posted old new m boxed after there is now = record {
         ]
 
 -- and back
-pub slot_unposted : (old new : List (Option BoxedTxn)) (n : ℕ) (boxed after : BoxedTxn) (unpost : Unpost) → slot_at old n ≡ Some boxed → unposted_at unpost after ≡ boxed →
-    new ≡ with_slot old n (Some after) → with_slot new n (option_map (unposted_at unpost) (slot_at new n)) ≡ old
-slot_unposted old new n boxed after unpost there back now =
+pub slot_back : (old new : List (Option BoxedTxn)) (n : ℕ) (boxed after : BoxedTxn) (change : BoxedTxn → BoxedTxn) → slot_at old n ≡ Some boxed → change after ≡ boxed →
+    new ≡ with_slot old n (Some after) → with_slot new n (option_map change (slot_at new n)) ≡ old
+slot_back old new n boxed after change there back now =
     let bounds : (1 ≤ n) × (n ≤ length old) = slot_there old n boxed there in
     let at : slot_at new n ≡ Some after = ap (λ (txns : List (Option BoxedTxn)). slot_at txns n) now ∙ slot_now old n (Some after) bounds.0 bounds.1 in
-    ap (λ (x : Option BoxedTxn). with_slot new n (option_map (unposted_at unpost) x)) at
+    ap (λ (x : Option BoxedTxn). with_slot new n (option_map change x)) at
     ∙ ap (λ (b : BoxedTxn). with_slot new n (Some b)) back
     ∙ ap (λ (txns : List (Option BoxedTxn)). with_slot txns n (Some boxed)) now
     ∙ slot_twice old n (Some after) (Some boxed)
@@ -117,3 +109,10 @@ boxed_unposted boxed txn kept None is back ids =
 boxed_unposted boxed txn kept (Some unpost) is back ids =
     subst (λ (t : Txn). unposted (Some unpost) kept.pending ≡ t.kept.pending → kept.ids ≡ t.kept.ids → unposted_at unpost (keeping boxed t kept) ≡ boxed) (sym is)
     (λ p i j. keeping boxed boxed.txn.value (record { ids = i j; pending = p j })) back ids
+
+-- a post that was taken back, and what makes it again
+pub boxed_reposted : (boxed : BoxedTxn) (txn : Txn) (kept : Kept) (repost : Repost) → txn ≡ boxed.txn.value →
+    posted_again repost kept.pending ≡ txn.kept.pending → kept.ids ≡ txn.kept.ids → reposted_at repost (keeping boxed txn kept) ≡ boxed
+boxed_reposted boxed txn kept repost is again ids =
+    subst (λ (t : Txn). posted_again repost kept.pending ≡ t.kept.pending → kept.ids ≡ t.kept.ids → reposted_at repost (keeping boxed t kept) ≡ boxed) (sym is)
+    (λ p i j. keeping boxed boxed.txn.value (record { ids = i j; pending = p j })) again ids

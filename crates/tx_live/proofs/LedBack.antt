@@ -2,7 +2,7 @@
 use Rattle.std.proofs.Common.{◌≡◌, ◌≢◌, ℕ, ℤ, ◌≤◌, Bool, true, false, ◌==◌, if◌then◌else◌, List, [], ◌∷◌, length, Option, Some, None, option_map, ◌⊎◌, refl, sym, ap, subst, ◌∙◌, inl, inr, eq-eqb, eqb-true}
 use Rattle.std.proofs.lemmas.Bool.{both_ways, cases_Bool}
 use Rattle.std.specs.Prelude.{IsSomeAnd}
-use Rattle.tx_base.proofs.SlotFacts.{length-with_slot, slot_at-with_slot, slot_same, slot_twice}
+use Rattle.tx_base.specs.SlotFacts.{length-with_slot, slot_at-with_slot, slot_same, slot_there, slot_twice}
 use Rattle.tx_base.specs.Slots.{slot_at, with_slot}
 use Rattle.tx_base.specs.declared.names.Pid.{Pid}
 use Rattle.tx_change.specs.Counts.{CountsAgree}
@@ -14,8 +14,7 @@ use Rattle.tx_change.specs.declared.change.Change.{Change}
 use Rattle.tx_change.specs.declared.change.Change.TheVariants as change
 use Rattle.tx_change.specs.declared.parts.Parts.{Parts}
 use Rattle.tx_laws.specs.TwoStates.{freed, made}
-use Rattle.tx_live.proofs.Ended.{joined_few, other_stays, owner_freed, revives, unmarks}
-use Rattle.tx_live.proofs.KeptPosted.{slot_there}
+use Rattle.tx_live.proofs.Ended.{is_gone, joined_few, other_stays, owner_freed, revives, unmarks}
 use Rattle.tx_live.proofs.Others.{elsewhere_or, owned_named, txn_stays, Stays}
 use Rattle.tx_live.proofs.Outsides.{same_content}
 use Rattle.tx_live.specs.Aborts.{answered_from, forth_parts, forth_txn, led_parts, led_txn, standing, standing_at, IsLedBack}
@@ -68,16 +67,16 @@ places_noted pending answer None has = tt
 places_noted pending answer (Some proc) has = record { slots = has.slots; pages = has.pages; descriptors = has.descriptors; actions = has.actions }
 
 -- the process stands again as it did
-stands_again : (answer : TheAnswer) (x : Option TheProc) → option_map (λ proc. edited_once proc (Answer (standing x))) (option_map (λ proc. edited_once proc (Answer answer)) x) ≡ x
+pub stands_again : (answer : TheAnswer) (x : Option TheProc) → option_map (λ proc. edited_once proc (Answer (standing x))) (option_map (λ proc. edited_once proc (Answer answer)) x) ≡ x
 stands_again answer None = refl
 stands_again answer (Some proc) = refl
 
 -- what was pending is pending again
-pending_again : (pending : PendingView) (x : Option TheProc) → with_pending_in (pending_in x pending) (with_pending_in pending x) ≡ x
+pub pending_again : (pending : PendingView) (x : Option TheProc) → with_pending_in (pending_in x pending) (with_pending_in pending x) ≡ x
 pending_again pending None = refl
 pending_again pending (Some proc) = refl
 
-pending_came : (pending : PendingView) (x : Option TheProc) → pending_in (with_pending_in pending x) (pending_in x pending) ≡ pending
+pub pending_came : (pending : PendingView) (x : Option TheProc) → pending_in (with_pending_in pending x) (pending_in x pending) ≡ pending
 pending_came pending None = refl
 pending_came pending (Some proc) = refl
 
@@ -424,6 +423,7 @@ module _ (laws : LiveLaws) (old new : Content) (starter : Pid) (ret : ℤ) (boxe
       goes = numbers;
       back = (members, undoes);
       local = local;
+      whole = (members, is_gone old new s boxed led after shaped there led_starter led_objects led_defers marks marks_long owners rest members has_members joined ended (slots s ∙ rw (eq-eqb s s refl) refl));
     }
 
   pub abort_made : IsSomeAnd after.members (λ members. (n : ℕ) → is_in members.joined (Proc n) ≡ is_of led.starter.0 (slot_at old.marks n)) →

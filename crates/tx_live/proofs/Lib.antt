@@ -11,6 +11,13 @@ pub mod PostedAll
 pub mod Ends
 pub mod Committed
 pub mod TakenBack
+pub mod OutsideAgain
+pub mod BegunAgain
+pub mod InsideAgain
+pub mod AbortedAgain
+pub mod CommittedAgain
+pub mod CommittedMade
+pub mod MadeAgain
 pub mod PostsTaken
 pub mod Undelivered
 pub mod LiveCounts

@@ -6,7 +6,7 @@ use Rattle.std.proofs.lemmas.List.Sums.{sum_by-set, count_by-le-length, get_or-l
 use Rattle.std.specs.Option.{option_copied}
 use Rattle.std.specs.Borrow.{Bor}
 use Rattle.std.specs.Prelude.{◌↔◌, IsTrue}
-use Rattle.tx_base.proofs.SlotFacts.{length-with_slot}
+use Rattle.tx_base.specs.SlotFacts.{length-with_slot}
 use Rattle.tx_base.specs.Slots.{slot_at, with_slot}
 use Rattle.tx_live.specs.Tables.{IsCounted, live_count}
 use Rattle.tx_live.specs.declared.content.BoxedTxn.{BoxedTxn}

@@ -16,7 +16,7 @@ use Rattle.tx_laws.specs.Footprints.{is_shared}
 use Rattle.tx_laws.specs.TwoStates.{is_owner, made}
 use Rattle.tx_live.specs.Content.{content_of, now_of, owner_at, txn_of, IsShaped, IsTxn}
 use Rattle.tx_live.specs.Laws.{LiveLaws}
-use Rattle.tx_live.specs.Made.{posted_at}
+use Rattle.tx_live.specs.KeptPosts.{posted_at}
 use Rattle.tx_live.specs.declared.content.BoxedTxn.{BoxedTxn}
 use Rattle.tx_live.specs.declared.content.Content.{Content}
 use Rattle.tx_model.specs.Events.{Event, effect, objects}
@@ -44,7 +44,7 @@ pub record Stays (old new : Content) (n : ℕ) (txn : Txn) : Type 0 where
   pub owns : (o : Object) → is_owner n (owner_of new.owners o) ≡ is_owner n (owner_of old.owners o)
   pub counts : CountsAgree (undone new.parts txn.log)
 
-owned_by : (n : ℕ) (x : Option ℕ) → is_owner n x ≡ true → x ≡ Some n
+pub owned_by : (n : ℕ) (x : Option ℕ) → is_owner n x ≡ true → x ≡ Some n
 owned_by n None h = cc
 owned_by n (Some t) h = ap Some (eqb-true t n h)
 

@@ -1,5 +1,5 @@
 -- A step outside of transactions.
-use Rattle.std.proofs.Common.{◌≡◌, ℕ, ◌≤◌, Bool, true, false, List, [], ◌++◌, length, Option, Some, None, option_map, Result, Ok, Err, OnOk, IfOk, is_err, refl, sym, ap, subst, ◌∙◌}
+use Rattle.std.proofs.Common.{◌≡◌, ℕ, ◌≤◌, Bool, true, false, List, [], ◌++◌, length, Option, Some, None, option_map, refl, sym, ap, subst, ◌∙◌}
 use Rattle.tx_base.specs.Slots.{slot_at}
 use Rattle.tx_base.specs.declared.marks.Mark.{Mark}
 use Rattle.tx_base.specs.declared.names.Pid.{Pid}
@@ -21,7 +21,8 @@ use Rattle.tx_live.specs.Content.{content_of, held_in, held_of, now_of, owner_at
 use Rattle.tx_live.proofs.Others.{counts_stay, slot_stays, txn_stays, Stays}
 use Rattle.tx_live.specs.Inverses.{unposted_in, HasStarter}
 use Rattle.tx_live.specs.Laws.{LiveLaws}
-use Rattle.tx_live.specs.Made.{posted_at, Answers, IsMade, IsUnowned, PostsKept}
+use Rattle.tx_live.specs.KeptPosts.{posted_at, PostsKept}
+use Rattle.tx_live.specs.Made.{Answers, IsMade, IsUnowned}
 use Rattle.tx_live.specs.declared.content.BoxedTxn.{BoxedTxn}
 use Rattle.tx_live.specs.declared.content.Content.{Content}
 use Rattle.tx_live.specs.declared.inverse.Inverse.TheVariants.{Outside as OutsideBack}
@@ -95,6 +96,7 @@ outside_made laws old new pid event plan log planned post shaped kept unowned ma
   goes = (named, starter);
   back = λ j. record { parts = back j; marks = marks j; owners = owners j; txns = unposts j };
   local = among;
+  whole = tt;
 }
   where
     kept_is : log ≡ makes.kept
@@ -148,12 +150,3 @@ pub outside_answers : (old new : Content) (pid : Pid) (event : Event) (plan : Li
 unfolding reply_of
 outside_answers old new pid event plan planned makes parts =
     subst (λ (p : Parts). Answers old event pid (record new { parts = p }) planned.outcome) (sym parts) (makes.gives (held_of old) tt).reply
-
--- what is so where a step is made is so of a refused one
-pub made_nothing : {T E : Type 0} (P : Type 0) (r : Result T E) → is_err r ≡ true → OnOk r P
-made_nothing P (Ok x) failed = cc
-made_nothing P (Err e) failed = tt
-
-pub answers_nothing : {T E : Type 0} (P : T → Type 0) (r : Result T E) → is_err r ≡ true → IfOk r P
-answers_nothing P (Ok x) failed = cc
-answers_nothing P (Err e) failed = tt

@@ -6,28 +6,21 @@ use Rattle.tx_base.specs.declared.names.Pid.{Pid}
 use Rattle.tx_change.specs.Exchange.{applied, exchanged}
 use Rattle.tx_change.specs.declared.change.Change.{Change}
 use Rattle.tx_change.specs.declared.parts.Parts.{Parts}
-use Rattle.tx_kernel.specs.Actors.{CountsHeld, IsActor, IsWhole}
+use Rattle.tx_kernel.specs.Actors.{CountsHeld}
 use Rattle.tx_kernel.specs.Acts.{Makes, RefusesEvent, event_of}
 use Rattle.tx_base.specs.declared.steps.Refusal.{Refusal}
 use Rattle.tx_kernel.specs.declared.events.Act.{Act}
-use Rattle.tx_kernel.specs.declared.actor.Actor.{Actor}
 use Rattle.tx_kernel.specs.declared.inside.Inside.{Inside}
 use Rattle.tx_kernel.specs.declared.planned.Planned.{Planned}
-use Rattle.tx_live.proofs.KeptPosted.{slot_there}
 use Rattle.tx_live.specs.Content.{held_in, held_of, IsShaped}
 use Rattle.tx_live.specs.Insides.{RefusesIn, inside_in}
 use Rattle.tx_live.specs.declared.content.BoxedTxn.{BoxedTxn}
 use Rattle.tx_live.specs.declared.content.Content.{Content}
-use Rattle.tx_live.specs.Made.{IsPlanned, IsRunning, RefusesStep}
+use Rattle.tx_live.specs.Made.{IsPlanned, RefusesStep}
 use Rattle.tx_model.specs.Book.{member_sends}
 use Rattle.tx_model.specs.Effects.{Inside as TheInside}
 use Rattle.tx_model.specs.Events.{Event}
 use Rattle.tx_txn.specs.Txns.{inside_at}
-
-pub is_actor : (actor : Actor) → IsWhole actor.parts.now → slot_at actor.parts.now.procs actor.pid.0 ≡ Some actor.proc.now → IsRunning (slot_at actor.parts.now.procs actor.pid.0) → IsActor actor
-is_actor actor whole there running =
-    let bounds = slot_there actor.parts.now.procs actor.pid.0 actor.proc.now there in
-    record { whole = whole; number = record { low = bounds.0; high = bounds.1 }; there = there; runs = subst IsRunning there running }
 
 -- a plan at the end of an empty log is all of it
 pub makes_all : (parts : Parts) (pid : Pid) (inside : Option Inside) (event : Event) (before between : List Change) (planned : Planned) → before ≡ [] →

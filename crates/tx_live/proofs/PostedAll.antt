@@ -11,17 +11,20 @@ use Rattle.tx_change.specs.States.{state_of}
 use Rattle.tx_change.specs.declared.change.Change.{Change}
 use Rattle.tx_change.specs.declared.parts.Parts.{Parts}
 use Rattle.tx_kernel.specs.Plans.{sending_of, AreAmong}
-use Rattle.tx_kernel.specs.Posts.{listed_change}
+use Rattle.tx_kernel.specs.PostFacts.{but_none}
+use Rattle.tx_kernel.specs.Posts.{listed_change, IsButPending}
 use Rattle.tx_live.specs.HeldPosts.{HaveSignals, PostsAll}
 use Rattle.tx_live.specs.Inverses.{kept_post, post_changes, unposted_in, HasStarter}
 use Rattle.tx_live.specs.Laws.{LiveLaws}
-use Rattle.tx_live.specs.Made.{posted_at, PostsKept}
+use Rattle.tx_live.specs.KeptPosts.{posted_at, PostsKept}
 use Rattle.tx_live.specs.declared.content.BoxedTxn.{BoxedTxn}
 use Rattle.tx_live.specs.declared.kept_posts.KeptPost.{KeptPost}
 use Rattle.tx_model.specs.Words.{processes_of}
 use Rattle.tx_model.specs.Posts.{post_answers, after_post, post_answer, after_posts}
 use Rattle.tx_model.specs.State.{Object, Proc, Sending as TheSending, has_object, same_object}
-use Rattle.tx_signal.specs.Parts.{answer_of}
+use Rattle.tx_proc.specs.Parts.{with_pending}
+use Rattle.tx_proc.specs.declared.proc.Proc.{Proc as TheProc}
+use Rattle.tx_signal.specs.Parts.{answer_of, PendingView}
 use Rattle.tx_txn.specs.Faces.{pending_by}
 use Rattle.tx_txn.specs.declared.outbox.HeldPost.{HeldPost}
 
@@ -57,6 +60,19 @@ pub among_both : (os : List Object) (front behind : List Change) → AreAmong os
 among_both os [] behind first last = last
 among_both os (change ∷ front) behind first last = (first.0, among_both os front behind first.1 last)
 
+-- what changes but what is pending, and then changes that again, changes that alone
+but_both : (before middle after : Parts) → IsButPending before middle → IsButPending middle after → IsButPending before after
+but_both before middle after first last = record {
+  width = last.width ∙ first.width;
+  each = λ n. ((last.each n).0, (last.each n).1 ∙ ap (option_map (with_pending (last.each n).0)) (first.each n).1 ∙ over (first.each n).0 (last.each n).0 (slot_at before.procs n));
+  descs = last.descs ∙ first.descs;
+  pipes = last.pipes ∙ first.pipes;
+}
+  where
+    over : (one other : PendingView) (x : Option TheProc) → option_map (with_pending other) (option_map (with_pending one) x) ≡ option_map (with_pending other) x
+    over one other None = refl
+    over one other (Some proc) = refl
+
 -- nothing is posted
 pub posts_none : (parts : Parts) (txns : List (Option BoxedTxn)) → PostsAll parts parts txns txns [] []
 unfolding after_posts post_answers pending_by
@@ -72,6 +88,7 @@ posts_none parts txns = record {
   kept = record { width = refl; each = λ n. at n (slot_at txns n) };
   unkept = refl;
   starters = tt;
+  rest = but_none parts;
 }
   where
     at : (n : ℕ) (slot : Option BoxedTxn) → slot ≡ option_map (posted_at n []) slot
@@ -100,6 +117,7 @@ posts_next laws before middle after old between new m ms one rest first last = r
   };
   unkept = ap (unposted_in (kept_post m one.kept)) last.unkept ∙ first.unkept;
   starters = (starter (kept_post m one.kept) first.starters.0, last.starters);
+  rest = but_both before middle after first.rest last.rest;
 }
   where
     no_more : {A : Type 0} (xs : List A) → xs ++ [] ≡ xs
@@ -137,11 +155,11 @@ pub posts_one : (before after : Parts) (old new : List (Option BoxedTxn)) (m : S
     ((held : ℕ → List TheSending) → answer_of made.answer ≡ post_answer (sending_of m) ((state_of held before).procs m.target.0)) →
     ((held : ℕ → List TheSending) → state_of held after ≡ after_post (sending_of m) (state_of held before)) →
     undone after (listed_change made.change) ≡ before → AreNamed after (listed_change made.change) → AreAmong (Proc m.target.0 ∷ []) (listed_change made.change) →
-    (CountsAgree before → CountsAgree after) → (HaveAllPlaces before → HaveAllPlaces after) →
+    (CountsAgree before → CountsAgree after) → (HaveAllPlaces before → HaveAllPlaces after) → IsButPending before after →
     PostsKept old new (sending_of m ∷ []) → unposted_in kept new ≡ old → HasStarter new kept → IfSome kept (λ after_post. after_post.starter ≡ m.target) → made.kept ≡ option_map (λ after_post. after_post.unpost) kept →
     PostsAll before after old new (m ∷ []) (made ∷ [])
 unfolding after_posts post_answers
-posts_one before after old new m made kept answer state back named among counts places posted unpost starter target is = record {
+posts_one before after old new m made kept answer state back named among counts places rest posted unpost starter target is = record {
   long = refl;
   state = state;
   answered = λ held. ap (λ (r : ℤ). r ∷ []) (answer held);
@@ -153,6 +171,7 @@ posts_one before after old new m made kept answer state back named among counts 
   kept = posted;
   unkept = ap (λ (k : Option KeptPost). unposted_in k new) same ∙ unpost;
   starters = (subst (HasStarter new) (sym same) starter, tt);
+  rest = rest;
 }
   where
     no_more : {A : Type 0} (xs : List A) → xs ++ [] ≡ xs
@@ -185,3 +204,12 @@ posts_over before now old txns sendings after_posts place all long ahead =
     no_more : (xs : List HeldPost) → xs ++ [] ≡ xs
     no_more [] = refl
     no_more (x ∷ xs) = ap (λ (ys : List HeldPost). x ∷ ys) (no_more xs)
+
+-- the same of posts, as they are told otherwise
+pub posts_as : (before also after : Parts) (old other new : List (Option BoxedTxn)) (sendings sent : List Sending) (posts made : List HeldPost) → before ≡ also → old ≡ other → sendings ≡ sent → posts ≡ made →
+    PostsAll before after old new sendings posts → PostsAll also after other new sent made
+posts_as before also after old other new sendings sent posts made parts txns same is all =
+    subst (λ (p : Parts). PostsAll p after other new sent made) parts
+    (subst (λ (ts : List (Option BoxedTxn)). PostsAll before after ts new sent made) txns
+    (subst (λ (ms : List Sending). PostsAll before after old new ms made) same
+    (subst (λ (ps : List HeldPost). PostsAll before after old new sendings ps) is all)))

@@ -1,7 +1,7 @@
 -- The posts of a commit, taken back from the last one on.
 use Rattle.std.proofs.Common.{◌≡◌, ℕ, zero, suc, ◌+◌, ◌≤◌, ◌<◌, List, [], ◌∷◌, ◌++◌, arith, append_assoc, drop, take, length, map, slice_index_or, slice_set, Option, Some, None, option_map, refl, sym, ap, subst, ◌∙◌}
 use Rattle.std.proofs.lemmas.List.{drop_all, drop_more, get_or_at, length-take-le, set_at, take_all, take_more}
-use Rattle.tx_base.proofs.SlotFacts.{length-with_slot}
+use Rattle.tx_base.specs.SlotFacts.{length-with_slot}
 use Rattle.tx_base.specs.Slots.{slot_at}
 use Rattle.tx_base.specs.declared.names.Sending.{Sending}
 use Rattle.tx_change.specs.Exchange.{sizes_of, undone, Sizes, AreNamed, AreWithin}
@@ -28,7 +28,7 @@ no_more [] = refl
 no_more (x ∷ xs) = ap (λ ys. x ∷ ys) (no_more xs)
 
 -- posts that are taken back leave the table as wide as it is
-one_long : (post : Option KeptPost) (txns : List (Option BoxedTxn)) → length (unposted_in post txns) ≡ length txns
+pub one_long : (post : Option KeptPost) (txns : List (Option BoxedTxn)) → length (unposted_in post txns) ≡ length txns
 one_long None txns = refl
 one_long (Some post) txns = length-with_slot txns post.starter.0 (option_map (unposted_at post.unpost) (slot_at txns post.starter.0))
 

@@ -1,13 +1,12 @@
 -- Steps taken back.
-use Rattle.std.proofs.Common.{◌≡◌, ℕ, suc, ◌≤◌, Bool, not, ◌&&◌, if◌then◌else◌, List, length, Option, Some, None, option_map, sym, ap, subst, ◌∙◌}
+use Rattle.std.proofs.Common.{◌≡◌, ℕ, suc, Bool, not, ◌&&◌, if◌then◌else◌, List, length, Option, Some, None, sym, ap, subst, ◌∙◌}
 use Rattle.std.proofs.lemmas.List.{ext_get_or}
 use Rattle.std.proofs.lemmas.Option.{same_Some}
 use Rattle.std.specs.Prelude.{IfSome}
-use Rattle.tx_base.proofs.SlotFacts.{length-with_slot, slot_twice}
+use Rattle.tx_base.specs.SlotFacts.{slot_twice}
 use Rattle.tx_base.specs.Slots.{slot_at, with_slot}
 use Rattle.tx_base.specs.declared.names.Pid.{Pid}
 use Rattle.tx_change.specs.Exchange.{applied, undone}
-use Rattle.tx_live.proofs.KeptPosted.{slot_there}
 use Rattle.tx_live.specs.Aborts.{forth_parts, forth_txn}
 use Rattle.tx_live.specs.Inverses.{first_of, last_of, less_last, none_made, post_changes, remarked, step_back, unposted_all, with_txn, Revives, UndoesAborted, UndoesBegun, UndoesCommitted, UndoesInside}
 use Rattle.tx_live.specs.Laws.{LiveLaws}
@@ -24,7 +23,7 @@ use Rattle.tx_txn.specs.declared.members.Members.{Members}
 use Rattle.tx_txn.specs.declared.txn.Txn.{Txn}
 
 -- tables are the same where each number has the same
-same_slots : {A : Type 0} (one other : List (Option A)) → length one ≡ length other → ((n : ℕ) → slot_at one n ≡ slot_at other n) → one ≡ other
+pub same_slots : {A : Type 0} (one other : List (Option A)) → length one ≡ length other → ((n : ℕ) → slot_at one n ≡ slot_at other n) → one ≡ other
 same_slots one other long same = ext_get_or None one other long (λ i few. same (suc i))
 
 -- a box that was taken out of its slot, changed and put back

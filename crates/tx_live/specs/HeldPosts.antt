@@ -7,8 +7,9 @@ use Rattle.tx_change.specs.Laws.{HaveAllPlaces}
 use Rattle.tx_change.specs.States.{state_of}
 use Rattle.tx_change.specs.declared.parts.Parts.{Parts}
 use Rattle.tx_kernel.specs.Plans.{sending_of, AreAmong}
+use Rattle.tx_kernel.specs.Posts.{IsButPending}
 use Rattle.tx_live.specs.Inverses.{post_changes, unposted_all, HaveStarters}
-use Rattle.tx_live.specs.Made.{PostsKept}
+use Rattle.tx_live.specs.KeptPosts.{PostsKept}
 use Rattle.tx_live.specs.declared.content.BoxedTxn.{BoxedTxn}
 use Rattle.tx_model.specs.Words.{processes_of}
 use Rattle.tx_model.specs.Membership.{says_ended}
@@ -46,3 +47,4 @@ pub record PostsAll (before after : Parts) (old new : List (Option BoxedTxn)) (s
   pub kept : PostsKept old new (map sending_of sendings)
   pub unkept : unposted_all sendings made new ≡ old
   pub starters : HaveStarters new sendings made
+  pub rest : IsButPending before after

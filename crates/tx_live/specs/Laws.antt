@@ -1,6 +1,7 @@
 -- The laws that the contents stand on.
 use Rattle.tx_change.specs.CountsBack.{BackElsewhere, CountsLedBack, CountsOfNames}
-use Rattle.tx_change.specs.Laws.{ChangesComeBack, ChangesState, NamedAppended, PlacesStayBack, RevertedStayNamed, RevertThenApply, SizesStay, SizesStayBack, UndoneAppended}
+use Rattle.tx_change.specs.Laws.{ApplyThenRevert, ChangesComeBack, ChangesState, ExchangedStayNamed, ExchangesBack, NamedAppended, PlacesStayBack, RevertedStayNamed, RevertThenApply, SizesStay, SizesStayBack, UndoneAppended}
+use Rattle.tx_change.specs.Stacks.{LoggedBackAndForward, MovedAreThere, MovedBackAndForward, MovedIsOnTop, RestIsBelow}
 use Rattle.tx_laws.specs.LawsOfEvents.{MembersSendToMembers}
 use Rattle.tx_laws.specs.LawsOfTwoStates.{PresentIsNow}
 use Rattle.tx_reserve.specs.Laws.{OwnersAreTold}
@@ -28,3 +29,11 @@ pub record LiveLaws : Type 0 where
   pub abort : LogLeadsBack
   pub forward : LogGoesForward
   pub told : OwnersAreTold
+  pub revert_again : ApplyThenRevert
+  pub exchange_again : ExchangesBack
+  pub on_top : MovedIsOnTop
+  pub below : RestIsBelow
+  pub moved : MovedAreThere
+  pub moved_parts : MovedBackAndForward
+  pub moved_log : LoggedBackAndForward
+  pub exchanged : ExchangedStayNamed

@@ -2,11 +2,14 @@ pub mod Content
 pub mod Aborts
 pub mod Inverses
 pub mod Progresses
+pub mod KeptPosts
 pub mod Made
 pub mod Insides
 pub mod Begins
 pub mod Laws
 pub mod Lends
 pub mod HeldPosts
+pub mod Redone
 pub mod Commits
 pub mod Tables
+pub mod ContentFacts

@@ -1,11 +1,10 @@
 -- What a step makes of the content, by what it is to the transactions.
-use Rattle.std.specs.Prelude.{◌≡◌, ◌⊎◌, ◌++◌, ℕ, true, List, Option, Some, None, option_map, length, take, drop}
+use Rattle.std.specs.Prelude.{◌≡◌, ◌⊎◌, ◌++◌, ℕ, true, List, Option, Some, None, length, take, drop}
 use Rattle.tx_base.specs.Slots.{slot_at}
 use Rattle.tx_base.specs.declared.names.Pid.{Pid}
 use Rattle.tx_change.specs.Exchange.{applied, exchanged}
 use Rattle.tx_change.specs.declared.change.Change.{Change}
 use Rattle.tx_change.specs.declared.parts.Parts.{Parts}
-use Rattle.tx_cred.specs.Cred.{ids_of}
 use Rattle.tx_base.specs.declared.steps.Refusal.{Refusal}
 use Rattle.tx_base.specs.declared.steps.Refusal.TheVariants.{NoMemory}
 use Rattle.tx_kernel.specs.Acts.{Makes, choice_of}
@@ -17,17 +16,16 @@ use Rattle.tx_laws.specs.Commuting.{named_by}
 use Rattle.tx_live.specs.Content.{content_of, now_of, owner_at, IsShaped}
 use Rattle.tx_reserve.specs.Reservations.{unless}
 use Rattle.tx_txn.specs.Content.{is_named}
-use Rattle.tx_live.specs.Inverses.{changes_of, with_kept_pending, GoesWith, Undoes}
-use Rattle.tx_live.specs.declared.content.BoxedTxn.{BoxedTxn}
+use Rattle.tx_live.specs.Inverses.{changes_of, GoesWith, Undoes}
+use Rattle.tx_live.specs.Redone.{EndsWhole}
 use Rattle.tx_live.specs.declared.content.Content.{Content}
 use Rattle.tx_live.specs.declared.inverse.Inverse.{Inverse}
 use Rattle.tx_model.specs.Effects.{idle}
 use Rattle.tx_model.specs.Events.{Event, effect, objects, reply_of}
 use Rattle.tx_model.specs.Membership.{Role, Outside, Within, Commits, Aborts}
-use Rattle.tx_model.specs.State.{Object, Sending, has_object}
+use Rattle.tx_model.specs.State.{Object, has_object}
 use Rattle.tx_proc.specs.Parts.{process_in}
 use Rattle.tx_proc.specs.declared.proc.Proc.{Proc}
-use Rattle.tx_txn.specs.Faces.{pending_after, pending_by, running}
 use Rattle.tx_txn.specs.Steps.{next_content, Logs}
 
 -- nobody but this one owns anything that the event reads and writes
@@ -45,19 +43,6 @@ IsPlanned parts pid inside event before between planned = (after : Parts) (now :
     after ≡ applied parts (drop (length before) between) → now ≡ take (length before) between ++ exchanged parts (drop (length before) between) →
     Makes parts pid inside event before now after planned
 
--- the transaction where this was posted to what is kept of its starter
-abbrev pub posted_one : Sending → BoxedTxn → BoxedTxn
-posted_one m boxed = with_kept_pending (pending_after m (Some (running (ids_of boxed.txn.value.kept.ids))) boxed.txn.value.kept.pending) boxed
-
--- the transaction in the slot of n, where these sends were posted to what is kept of its starter
-abbrev pub posted_at : ℕ → List Sending → BoxedTxn → BoxedTxn
-posted_at n ms boxed = with_kept_pending (pending_by n ms (Some (running (ids_of boxed.txn.value.kept.ids))) boxed.txn.value.kept.pending) boxed
-
--- the sends were posted to what is kept of live starters
-pub record PostsKept (old new : List (Option BoxedTxn)) (ms : List Sending) : Type 0 where
-  pub width : length new ≡ length old
-  pub each : (n : ℕ) → slot_at new n ≡ option_map (posted_at n ms) (slot_at old n)
-
 -- the changes are of what the event names; those of an abort are of what its transaction owns
 abbrev pub AreLocal : Role → Event → Content → List Change → Type 0
 AreLocal Outside event k changes = AreAmong (named_by event (now_of k)) changes
@@ -74,6 +59,7 @@ pub record IsMade (old : Content) (role : Role) (event : Event) (process : ℕ) 
   pub goes : GoesWith new inverse
   pub back : Undoes new inverse old
   pub local : AreLocal role event old (changes_of new inverse)
+  pub whole : EndsWhole new inverse
 
 -- why a step was not made: for want of memory, by the rule of its event, or since a number that it chooses is bad
 abbrev pub RefusesStep : Content → Event → Refusal → Type 0

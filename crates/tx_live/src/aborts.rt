@@ -54,7 +54,7 @@ fn take_back(txn: &mut Txn, parts: &mut Parts, ret: i64) -> Answer
 }
 
 /// The point and the answer of a process; those of the start where there is none.
-fn stands(parts: &Parts, pid: Pid) -> Answer
+pub(crate) fn stands(parts: &Parts, pid: Pid) -> Answer
     ensures { result ≡ standing (slot_at parts.now.procs pid.0) }
 {
     match parts.proc(pid) {

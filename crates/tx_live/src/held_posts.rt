@@ -83,7 +83,7 @@ fn take_one(parts: &mut Parts, txns: &mut TxnTable, sending: &Sending, made: Hel
 {
     if let Some(unpost) = made.kept {
         let starter = sending.target;
-        take_post(txns, KeptPost { starter, unpost });
+        let _taken = take_post(txns, KeptPost { starter, unpost });
     }
     if let Some(change) = made.change {
         let mut change = change;

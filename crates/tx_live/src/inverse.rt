@@ -58,6 +58,7 @@ impl Inverse {
 impl Content {
     /// Puts an inverse into a place. What stood there is let go, but for room of it that the next steps
     /// can use, if it is not large. The content stays as it is.
+    #[inline(always)] // each step puts one, and a call of its own costs 47
     pub(crate) fn put_inverse(&mut self, place: &mut Inverse, inverse: Inverse)
         ensures content { self.new ≡ self.old }
         ensures place { place.new ≡ inverse }

@@ -1,20 +1,29 @@
 //! Posts to what is kept of the starters of live transactions.
-ghost use Rattle.std.specs.Prelude.{◌≡◌, ◌∷◌, [], ◌<◌, IfSome, Some};
+ghost use Rattle.std.specs.Prelude.{◌≡◌, ◌∷◌, [], ◌<◌, ◌≤◌, length, IfSome, Some};
 ghost use Rattle.tx_kernel.specs.Plans.{HasSignal, sending_of, sent_at_once};
-ghost use Rattle.tx_live.specs.Inverses.{unposted_if, unposted_in, HasStarter};
-ghost use Rattle.tx_live.specs.Made.{posted_one, PostsKept};
+ghost use Rattle.tx_live.specs.Inverses.{unposted_at, unposted_if, unposted_in, HasStarter};
+ghost use Rattle.tx_live.specs.KeptPosts.{posted_one, PostsKept};
+ghost use Rattle.tx_live.specs.Redone.{reposted_at, reposted_by, reposted_in};
 
 use crate::content::BoxedTxn;
 use crate::table::TxnTable;
 use tx_base::{Pid, Sending};
 use tx_kernel::Sends;
-use tx_txn::Unpost;
+use tx_txn::{Repost, Unpost};
 
 /// A post to what is kept of the starter of a live transaction.
 #[derive(Clone, Copy)]
 pub struct KeptPost {
     pub starter: Pid,
     pub unpost: Unpost,
+}
+
+/// A post to what is kept of a starter that was taken back, and what makes it again, if the starter has a
+/// live transaction.
+#[derive(Clone, Copy)]
+pub struct TakenPost {
+    pub post: KeptPost,
+    pub posted: Option<Repost>,
 }
 
 /// Posts what a step sends at once to what is kept of its target, if that is the starter of a live
@@ -58,13 +67,53 @@ fn post_boxed(boxed: &mut BoxedTxn, sending: &Sending) -> Option<Unpost>
     boxed.txn.kept.post(sending)
 }
 
-/// Takes the last post to what is kept of a starter back. Nothing happens where it has no transaction.
-pub(crate) fn take_post(txns: &mut TxnTable, post: KeptPost)
+/// Takes the last post to what is kept of a starter back, and answers what makes it again. Nothing happens
+/// where the starter has no transaction.
+pub(crate) fn take_post(txns: &mut TxnTable, post: KeptPost) -> TakenPost
     requires { HasStarter txns.old (Some post) }
-    ensures { txns.new ≡ unposted_in (Some post) txns.old }
+    ensures taken { txns.new ≡ unposted_in (Some post) txns.old }
+    ensures post { result.post ≡ post }
+    ensures again { reposted_in (Some result) txns.new ≡ txns.old }
 {
-    if txns.get(post.starter).is_some() {
-        let boxed = txns.value_mut(post.starter);
-        boxed.txn.kept.unpost(post.unpost);
+    if txns.get(post.starter).is_none() {
+        return TakenPost { post, posted: None };
+    }
+    let posted = unpost_boxed(txns.value_mut(post.starter), post.unpost);
+    TakenPost {
+        post,
+        posted: Some(posted),
+    }
+}
+
+/// Takes the last post to what is kept of a transaction's starter back. Answers what makes it again.
+fn unpost_boxed(boxed: &mut BoxedTxn, unpost: Unpost) -> Repost
+    ensures taken { boxed.new ≡ unposted_at unpost boxed.old }
+    ensures again { reposted_at result boxed.new ≡ boxed.old }
+{
+    boxed.txn.kept.unpost(unpost)
+}
+
+/// Makes a post to what is kept of a starter again that was taken back. Answers what takes it back.
+pub(crate) fn remake_post(txns: &mut TxnTable, taken: TakenPost) -> KeptPost
+    requires { HasStarter txns.old (Some taken.post) }
+    ensures again { txns.new ≡ reposted_in (Some taken) txns.old }
+    ensures post { result ≡ taken.post }
+{
+    let TakenPost { post, posted } = taken;
+    if let Some(posted) = posted {
+        remake_post_at(txns, post.starter, posted);
+    }
+    post
+}
+
+/// Makes a post to what is kept of this starter again. Nothing happens where it has no transaction.
+fn remake_post_at(txns: &mut TxnTable, starter: Pid, posted: Repost)
+    requires low { 1 ≤ starter.0 }
+    requires high { starter.0 ≤ length txns.old }
+    ensures { txns.new ≡ reposted_by starter (Some posted) txns.old }
+{
+    if txns.get(starter).is_some() {
+        let boxed = txns.value_mut(starter);
+        boxed.txn.kept.repost(posted);
     }
 }

@@ -2,8 +2,8 @@
 ghost use Rattle.tx_live.specs.Laws.{LiveLaws};
 
 use tx_change::{
-    appended, apply_then_revert, changes_come_back, changes_state, counts_led_back, places_stay,
-    revert_then_apply,
+    appended, apply_then_revert, changes_come_back, changes_state, counts_led_back, exchanges_back,
+    moved_back_and_forward, places_stay, revert_then_apply, stays_named,
 };
 use tx_laws::{answers_of_states, inside};
 use tx_reserve::owners_are_told;
@@ -19,8 +19,11 @@ pub(crate) fn laws()
     changes_come_back();
     changes_state();
     counts_led_back();
+    exchanges_back();
+    moved_back_and_forward();
     places_stay();
     revert_then_apply();
+    stays_named();
     inside();
     events_are_made();
     events_leave_rest();

@@ -29,6 +29,13 @@
 //!   the members and the owners out. The inverse is the box, with the point and the answer at which
 //!   the starter stood.
 //!
+//! `take_back` takes an inverse as `undo` does, and answers what makes the step again by exchange
+//! (`Undone`), which `redo` takes: a log of new parts, or the transaction itself, or, of a step
+//! inside and of a commit, how many changes on top of a stack are its own. So a step that was taken
+//! back is made again with no plan and no judgement, and the content is to the value what it was. A
+//! commit posts again what it held; a post changes nothing but what is pending, which the state
+//! tells. An abort leads back again.
+//!
 //! The inverse is put where the caller has a place for it, since it is large. What stood in the place
 //! is let go, but for its room: a step outside uses the log of the one before it in the same place; and
 //! the boxes stand in a `TxnTable`, which keeps beside them the box of one transaction that ended and
@@ -55,11 +62,15 @@ mod laws;
 mod marking;
 mod outside;
 mod planning;
+mod redo;
 mod table;
+mod take_back;
 mod undo;
+mod undone;
 
 pub use content::{BoxedTxn, Content};
 pub use inverse::Inverse;
-pub use kept_posts::KeptPost;
+pub use kept_posts::{KeptPost, TakenPost};
 pub use marking::{Marked, Progress};
 pub use table::TxnTable;
+pub use undone::Undone;

@@ -49,7 +49,7 @@ pub(crate) fn mark_progress(
 }
 
 /// Puts this mark at a number. Answers what was there.
-#[tactic(auto, using(tx_base::proofs::SlotFacts::slot_twice, tx_base::proofs::SlotFacts::slot_same))]
+#[tactic(auto, using(tx_base::specs::SlotFacts::slot_twice, tx_base::specs::SlotFacts::slot_same))]
 fn swap_mark(marks: &mut Slots<Mark>, pid: Pid, mark: Option<Mark>) -> Marked
     requires low { 1 ≤ pid.0 }
     requires high { pid.0 ≤ length marks.old }

@@ -49,13 +49,16 @@ impl Content {
         }
         let mut log = self.txns.fresh_log(alloc)?;
         let mut post = None;
-        let made = self.make_logged(alloc, pid, act, &mut log, &mut post);
-        if made.is_err() {
-            self.txns.keep_log(log);
-            return made;
+        match self.make_logged(alloc, pid, act, &mut log, &mut post) {
+            Ok(outcome) => {
+                self.put_inverse(inverse, Inverse::Outside { log, post });
+                Ok(outcome)
+            }
+            Err(why) => {
+                self.txns.keep_log(log);
+                Err(why)
+            }
         }
-        self.put_inverse(inverse, Inverse::Outside { log, post });
-        made
     }
 
     /// Makes the act of a process that runs and is in no transaction, with an empty log.

@@ -3,6 +3,7 @@ ghost use Rattle.std.specs.Prelude.{◌≡◌, ◌≤◌, ◌&&◌, not, length,
 ghost use Rattle.tx_change.specs.Exchange.{applied, undone, AreNamed};
 ghost use Rattle.tx_live.specs.Aborts.{forth_parts, forth_txn};
 ghost use Rattle.tx_live.specs.Inverses.{before_outside, first_of, last_of, less_last, remarked, step_back, GoesWith, HasMark, Undoes};
+ghost use Rattle.tx_live.specs.Redone.{mark_there};
 ghost use Rattle.tx_live.specs.declared.content.Content.{Content};
 ghost use Rattle.tx_live.specs.declared.inverse.Inverse.TheVariants.{Aborted, Begun, Committed, Inside, Outside};
 ghost use Rattle.tx_model.specs.State.{Object};
@@ -52,7 +53,7 @@ impl Content {
         let mut log = log;
         log.lead_back(&mut self.parts);
         if let Some(post) = post {
-            take_post(&mut self.txns, post);
+            let _taken = take_post(&mut self.txns, post);
         }
     }
 
@@ -79,7 +80,7 @@ impl Content {
             before,
             held,
         );
-        put_mark(&mut self.marks, marked);
+        let _left = put_mark(&mut self.marks, marked);
     }
 
     /// Takes the first step of the starter's transaction back, and lets the transaction go.
@@ -112,7 +113,7 @@ impl Content {
     }
 
     /// Takes the abort of this transaction back.
-    fn undo_aborted(&mut self, boxed: BoxedTxn, stood: Answer)
+    pub(crate) fn undo_aborted(&mut self, boxed: BoxedTxn, stood: Answer)
         requires { GoesWith self.old (Aborted boxed stood) }
         ensures { (prior : Content) → Undoes self.old (Aborted boxed stood) prior →
             self.new ≡ prior }
@@ -165,19 +166,19 @@ fn take_last(txn: &mut Txn, parts: &mut Parts, count: usize, held: bool)
 {
     txn.log.give_back(parts, count);
     if held {
-        txn.outbox.forget_last();
+        let _sending = txn.outbox.forget_last();
     }
 }
 
-/// Puts a mark back that a step changed, if it changed one.
-fn put_mark(marks: &mut Slots<Mark>, marked: Option<Marked>)
+/// Puts a mark back that a step changed, if it changed one. Answers the mark that stood there.
+pub(crate) fn put_mark(marks: &mut Slots<Mark>, marked: Option<Marked>) -> Option<Marked>
     requires { HasMark marks.old marked }
-    ensures { marks.new ≡ remarked marked marks.old }
+    ensures marks { marks.new ≡ remarked marked marks.old }
+    ensures there { result ≡ mark_there marked marks.old }
 {
-    if let Some(marked) = marked {
-        let mut mark = marked.mark;
-        marks.swap(marked.pid, &mut mark);
-    }
+    let Marked { pid, mut mark } = marked?;
+    marks.swap(pid, &mut mark);
+    Some(Marked { pid, mark })
 }
 
 /// Makes all again that an abort led back: its starter stands as it did, and all changes of its log

@@ -3,6 +3,7 @@ use Rattle.std.proofs.Common.{◌≡◌, ℕ, ◌+◌, ◌-◌, ◌≤◌, Bool,
 use Rattle.std.proofs.lemmas.Bool.{le-ltb, lt-ltb, ltb-true, ltb-false}
 use Rattle.std.proofs.lemmas.List.{drop_at, take_at, take-append-drop, length-take-le}
 use Rattle.tx_pipe.specs.Exchanges.{can_exchange, front_exchanged, back_exchanged, front_given, back_given, count_given}
+use Rattle.tx_pipe.specs.Laws.{BackComesBack, FrontComesBack}
 use Rattle.tx_base.specs.declared.limits.TheConstants.{PIPE_BYTES}
 
 -- what a test of an exchange says
@@ -26,16 +27,6 @@ can : (count : ℕ) (bytes held : List ℕ) → Room count bytes held → can_ex
 can count bytes held r =
     rw (le-ltb (length held) count r.there, le-ltb PIPE_BYTES (length held) r.fits)
     (lt-ltb (length bytes + (length held - count)) (PIPE_BYTES + 1) (let last = r.comes in omega (arith, last)))
-
-abbrev FrontComesBack : ℕ → List ℕ → List ℕ → Type 0
-FrontComesBack count bytes held =
-    let now = front_exchanged count bytes held in let given = front_given count bytes held in let next = count_given count bytes held in
-    (front_exchanged next given now ≡ held) × (front_given next given now ≡ bytes) × (count_given next given now ≡ count)
-
-abbrev BackComesBack : ℕ → List ℕ → List ℕ → Type 0
-BackComesBack count bytes held =
-    let now = back_exchanged count bytes held in let given = back_given count bytes held in let next = count_given count bytes held in
-    (back_exchanged next given now ≡ held) × (back_given next given now ≡ bytes) × (count_given next given now ≡ count)
 
 module _ (count : ℕ) (bytes held : List ℕ) where
   length-behind : length (drop count held) ≡ length held - count

@@ -1,6 +1,6 @@
 //! What undoes a read, a write and an exchange, as the contracts of functions that do nothing.
 ghost use Rattle.std.specs.Prelude.{◌≡◌, ◌-◌, ◌+◌, ◌≤◌, ℕ, List, ◌++◌, length, min, take, drop};
-ghost use Rattle.tx_pipe.specs.Exchanges.{front_exchanged, back_exchanged, front_given, back_given, count_given};
+ghost use Rattle.tx_pipe.specs.Laws.{BackTwice, FrontTwice};
 ghost use Rattle.tx_base.specs.declared.limits.TheConstants.{PIPE_BYTES};
 
 /// Putting back the bytes that a read took gives the pipe from before it: the bytes at the front
@@ -26,21 +26,11 @@ pub fn take_back_undoes_write()
 /// Two exchanges of bytes at the front are nothing: the pipe, the other bytes and the number come
 /// back.
 pub fn front_twice()
-    ensures { (count : ℕ) (bytes held : List ℕ) →
-        let now = front_exchanged count bytes held in
-        let given = front_given count bytes held in
-        let next = count_given count bytes held in
-        (front_exchanged next given now ≡ held) × (front_given next given now ≡ bytes)
-        × (count_given next given now ≡ count) }
+    ensures { FrontTwice }
 {}
 
 /// Two exchanges of bytes at the back are nothing: the pipe, the other bytes and the number come
 /// back.
 pub fn back_twice()
-    ensures { (count : ℕ) (bytes held : List ℕ) →
-        let now = back_exchanged count bytes held in
-        let given = back_given count bytes held in
-        let next = count_given count bytes held in
-        (back_exchanged next given now ≡ held) × (back_given next given now ≡ bytes)
-        × (count_given next given now ≡ count) }
+    ensures { BackTwice }
 {}

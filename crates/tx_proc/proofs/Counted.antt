@@ -1,13 +1,9 @@
 -- The counts of children, where a slot is replaced.
-use Rattle.std.proofs.Common.{nat_lt, ◌≡◌, ℕ, zero, suc, ◌+◌, ◌-◌, ◌≤◌, Bool, true, false, List, Option, Some, None, if◌then◌else◌, ◌==◌, get_or, length, arith, refl, inl, inr}
-use Rattle.std.proofs.lemmas.Bool.{cases_Bool, ltb-true, ltb-false}
-use Rattle.std.proofs.lemmas.List.{get_or_past}
-use Rattle.std.proofs.lemmas.List.Sums.{sum_by-set, count_by-le-length, get_or-le-sum_by}
-use Rattle.tx_base.proofs.SlotFacts.{length-with_slot}
+use Rattle.std.proofs.Common.{◌≡◌, ℕ, zero, suc, ◌+◌, ◌-◌, ◌≤◌, List, Option, Some, None, if◌then◌else◌, get_or, length, arith, refl}
+use Rattle.std.proofs.lemmas.List.Sums.{sum_by-set, count_by-le-length}
+use Rattle.tx_base.specs.SlotFacts.{length-with_slot}
 use Rattle.tx_base.specs.Slots.{slot_at, with_slot}
 use Rattle.tx_base.specs.declared.names.Pid.{Pid}
-use Rattle.tx_model.specs.State.{has_parent}
-use Rattle.tx_proc.specs.Parts.{process_in}
 use Rattle.tx_proc.specs.Children.{is_child_of, child_count, parent_in, one_of, IsCounted, Recounts, HasOne}
 use Rattle.tx_proc.specs.declared.proc.Proc.{Proc}
 
@@ -68,19 +64,3 @@ has_one slots n counts low high is =
           let fits = count_fits p slots in
           omega (arith, now, fits, wide);
     }
-
--- where a number has no children, no slot has one
-pub no_child : (p : ℕ) (slots : List (Option Proc)) (n : ℕ) → child_count p slots ≡ 0 → has_parent p (process_in (slot_at slots n)) ≡ false
-no_child p slots zero none = refl
-no_child p slots (suc n) none = elim (cases_Bool (nat_lt n (length slots))) [
-  | inl there ↦ let hits = get_or-le-sum_by (hit p) slots n None (ltb-true n (length slots) there) in by (get_or slots n None) (omega (arith, hits, none))
-  | inr past ↦ rw (get_or_past slots n None (ltb-false n (length slots) past)) refl
-]
-  where
-    by : (slot : Option Proc) → hit p slot ≤ 0 → has_parent p (process_in slot) ≡ false
-    by None small = refl
-    by (Some proc) small = test (proc.parent.0 == p) small
-      where
-        test : (b : Bool) → (if b then 1 else 0) ≤ 0 → b ≡ false
-        test true small = absurd (omega (arith, small))
-        test false small = refl

@@ -1,5 +1,4 @@
 pub mod Names
 pub mod Limits
 pub mod Twice
-pub mod Revised
 pub mod Counted

@@ -1,11 +1,10 @@
 -- Two exchanges of one part are nothing, one leaves all else, and those of two parts commute.
-use Rattle.std.proofs.Common.{◌≡◌, ℕ, ℤ, zero, suc, ◌+◌, ◌-◌, ◌≤◌, Bool, true, false, List, [], ◌∷◌, ◌++◌, Option, Some, None, get_or, slice_get, slice_set, nat_le, if◌then◌else◌, nat_lt, length, take, ◌<◌, arith, ap, refl, sym, ◌∙◌, length-set, length-append}
+use Rattle.std.proofs.Common.{◌≡◌, ℕ, ℤ, zero, suc, ◌+◌, ◌-◌, ◌≤◌, Bool, true, false, List, [], ◌∷◌, ◌++◌, Option, Some, None, get_or, slice_get, slice_set, nat_le, if◌then◌else◌, nat_lt, length, take, ◌<◌, arith, ap, refl, sym, ◌∙◌, length-append}
 use Rattle.std.proofs.lemmas.Bool.{eqb-false, leb-true, le-ltb, lt-ltb, ltb-true, ltb-false}
 use Rattle.std.proofs.Math.Seq.{take-length}
 use Rattle.std.proofs.lemmas.List.Edits.{length-remove, length-insert}
 use Rattle.std.specs.List.{remove, insert}
 use Rattle.std.proofs.lemmas.Option.{slice_get-get_or}
-use Rattle.tx_signal.proofs.ExchangeFacts.{entry_back}
 use Rattle.std.proofs.lemmas.List.{take_more, length-take-le, set-set, set_comm, set-get_or, get_or-set_same, get_or-set_other, take_at}
 use Rattle.tx_base.specs.declared.signals.Action.{Action as Act}
 use Rattle.tx_base.specs.declared.limits.TheConstants.{QUEUED, FRAMES}
@@ -19,6 +18,7 @@ use Rattle.tx_proc.specs.declared.proc.Part.{Part}
 use Rattle.tx_proc.specs.declared.proc.Part.TheVariants.{Answer, Register, Page, Descriptor, Action, Queued, Frame}
 use Rattle.tx_proc.specs.declared.proc.Proc.{Proc}
 use Rattle.tx_signal.specs.Entries.{entry_swapped}
+use Rattle.tx_signal.specs.Laws.{EntryComesBack, QueueComesBack}
 
 -- an exchange makes no queue too long
 entry_swapped_fits : (place : ℕ) (entry : Option Entry) (queue : List Entry) → length queue ≤ QUEUED → length (entry_swapped place entry queue) ≤ QUEUED
@@ -36,22 +36,6 @@ entry_swapped_fits place (Some entry) queue fits = by (nat_le place (length queu
         omega (arith, more, room)
     by true e false f = fits
     by false e c f = fits
-
--- the queue and the entry come back
-queue_twice : (place : ℕ) (entry : Option Entry) (queue : List Entry) →
-    (queue_swapped place (queue_given place entry queue) (queue_swapped place entry queue) ≡ queue)
-    × (queue_given place (queue_given place entry queue) (queue_swapped place entry queue) ≡ entry)
-queue_twice place entry queue = by (nat_lt QUEUED (length queue)) refl
-  where
-    by : (b : Bool) → nat_lt QUEUED (length queue) ≡ b →
-        (queue_swapped place (queue_given place entry queue) (queue_swapped place entry queue) ≡ queue)
-        × (queue_given place (queue_given place entry queue) (queue_swapped place entry queue) ≡ entry)
-    by true e = rw e (rw e (refl, refl))
-    by false e =
-        let fits = ltb-false QUEUED (length queue) e in
-        let still = le-ltb QUEUED (length (entry_swapped place entry queue)) (entry_swapped_fits place entry queue fits) in
-        let twice = entry_back place entry queue fits in
-        rw e (rw still (twice.0, twice.1))
 
 -- the newest frame is taken out and put in again
 frame_back : (frames : List Saved) (frame : Saved) → length frames - 1 < length frames → take (length frames - 1) frames ++ get_or frames (length frames - 1) frame ∷ [] ≡ frames
@@ -101,35 +85,51 @@ read_back [] place item = refl
 read_back (first ∷ items) zero item = refl
 read_back (first ∷ items) (suc place) item = read_back items place item
 
-pub edited_twice : (proc : Proc) (part : Part) → edited_once (edited_once proc part) (part_of proc part) ≡ proc
-edited_twice proc (Register slot) =
-    ap (λ (slots : List ℤ). record proc { regs = record proc.regs { slots = slots } })
-    (set-set proc.regs.slots slot.number slot.value (get_or proc.regs.slots slot.number slot.value) ∙ set-get_or proc.regs.slots slot.number slot.value)
-edited_twice proc (Page number page) =
-    ap (λ (space : List (Option PageView)). record proc { space = space }) (set-set proc.space number page (get_or proc.space number None) ∙ set-get_or proc.space number None)
-edited_twice proc (Descriptor number name) =
-    ap (λ (descriptors : List (Option ℕ)). record proc { descriptors = descriptors })
-    (set-set proc.descriptors number (number_in name) _
-    ∙ ap (slice_set proc.descriptors number) (number_back (get_or proc.descriptors number None)) ∙ set-get_or proc.descriptors number None)
-edited_twice proc (Action signo action) =
-    ap (λ (actions : List Act). record proc { actions = actions })
-    (set-set proc.actions signo.0 action (get_or proc.actions signo.0 action) ∙ set-get_or proc.actions signo.0 action)
-edited_twice proc (Queued place entry) =
-    ap (λ (queue : List Entry). record proc { pending = record proc.pending { queued = queue } }) (queue_twice place entry proc.pending.queued).0
-edited_twice proc (Frame frame) = ap (λ (frames : List Saved). record proc { frames = frames }) (frames_twice frame proc.frames).0
-edited_twice proc part = refl
+module _ (queue_back : QueueComesBack) (entry_back : EntryComesBack) where
+  -- the queue and the entry come back
+  queue_twice : (place : ℕ) (entry : Option Entry) (queue : List Entry) →
+      (queue_swapped place (queue_given place entry queue) (queue_swapped place entry queue) ≡ queue)
+      × (queue_given place (queue_given place entry queue) (queue_swapped place entry queue) ≡ entry)
+  queue_twice place entry queue = by (nat_lt QUEUED (length queue)) refl
+    where
+      by : (b : Bool) → nat_lt QUEUED (length queue) ≡ b →
+          (queue_swapped place (queue_given place entry queue) (queue_swapped place entry queue) ≡ queue)
+          × (queue_given place (queue_given place entry queue) (queue_swapped place entry queue) ≡ entry)
+      by true e = rw e (rw e (refl, refl))
+      by false e =
+          let fits = ltb-false QUEUED (length queue) e in
+          let still = le-ltb QUEUED (length (entry_swapped place entry queue)) (entry_swapped_fits place entry queue fits) in
+          rw e (rw still (queue_back place entry queue fits, entry_back place entry queue fits))
 
-pub part_twice : (proc : Proc) (part : Part) → IsSized proc → HasPlace part → part_of (edited_once proc part) (part_of proc part) ≡ part
-part_twice proc (Register slot) sized below = ap (λ (v : ℤ). Register (record slot { value = v })) (read_back proc.regs.slots slot.number slot.value)
-part_twice proc (Page number page) sized below =
-    let pages = sized.pages in ap (Page number) (get_or-set_same proc.space number page None (omega arith))
-part_twice proc (Descriptor number name) sized below =
-    let descriptors = sized.descriptors in
-    ap (λ (x : Option ℕ). Descriptor number (desc_in x)) (get_or-set_same proc.descriptors number (number_in name) None (omega arith)) ∙ ap (Descriptor number) (desc_same name)
-part_twice proc (Action signo action) sized below = ap (Action signo) (read_back proc.actions signo.0 action)
-part_twice proc (Queued place entry) sized below = ap (Queued place) (queue_twice place entry proc.pending.queued).1
-part_twice proc (Frame frame) sized below = ap Frame (frames_twice frame proc.frames).1
-part_twice proc part sized below = refl
+  pub edited_twice : (proc : Proc) (part : Part) → edited_once (edited_once proc part) (part_of proc part) ≡ proc
+  edited_twice proc (Register slot) =
+      ap (λ (slots : List ℤ). record proc { regs = record proc.regs { slots = slots } })
+      (set-set proc.regs.slots slot.number slot.value (get_or proc.regs.slots slot.number slot.value) ∙ set-get_or proc.regs.slots slot.number slot.value)
+  edited_twice proc (Page number page) =
+      ap (λ (space : List (Option PageView)). record proc { space = space }) (set-set proc.space number page (get_or proc.space number None) ∙ set-get_or proc.space number None)
+  edited_twice proc (Descriptor number name) =
+      ap (λ (descriptors : List (Option ℕ)). record proc { descriptors = descriptors })
+      (set-set proc.descriptors number (number_in name) _
+      ∙ ap (slice_set proc.descriptors number) (number_back (get_or proc.descriptors number None)) ∙ set-get_or proc.descriptors number None)
+  edited_twice proc (Action signo action) =
+      ap (λ (actions : List Act). record proc { actions = actions })
+      (set-set proc.actions signo.0 action (get_or proc.actions signo.0 action) ∙ set-get_or proc.actions signo.0 action)
+  edited_twice proc (Queued place entry) =
+      ap (λ (queue : List Entry). record proc { pending = record proc.pending { queued = queue } }) (queue_twice place entry proc.pending.queued).0
+  edited_twice proc (Frame frame) = ap (λ (frames : List Saved). record proc { frames = frames }) (frames_twice frame proc.frames).0
+  edited_twice proc part = refl
+
+  pub part_twice : (proc : Proc) (part : Part) → IsSized proc → HasPlace part → part_of (edited_once proc part) (part_of proc part) ≡ part
+  part_twice proc (Register slot) sized below = ap (λ (v : ℤ). Register (record slot { value = v })) (read_back proc.regs.slots slot.number slot.value)
+  part_twice proc (Page number page) sized below =
+      let pages = sized.pages in ap (Page number) (get_or-set_same proc.space number page None (omega arith))
+  part_twice proc (Descriptor number name) sized below =
+      let descriptors = sized.descriptors in
+      ap (λ (x : Option ℕ). Descriptor number (desc_in x)) (get_or-set_same proc.descriptors number (number_in name) None (omega arith)) ∙ ap (Descriptor number) (desc_same name)
+  part_twice proc (Action signo action) sized below = ap (Action signo) (read_back proc.actions signo.0 action)
+  part_twice proc (Queued place entry) sized below = ap (Queued place) (queue_twice place entry proc.pending.queued).1
+  part_twice proc (Frame frame) sized below = ap Frame (frames_twice frame proc.frames).1
+  part_twice proc part sized below = refl
 
 pub nothing_else : (proc : Proc) (part other : Part) → is_same_part part other ≡ false → part_of (edited_once proc part) other ≡ part_of proc other
 nothing_else proc (Page number page) (Page k new) apart =
@@ -156,22 +156,3 @@ commute proc (Register slot) (Register new) apart =
 -- two others are the same, or have nothing of one another
 commute proc part (Answer new) apart = cc
 commute proc part other apart = cc
-
--- an exchanged part has the same number
-pub place_of_part : (proc : Proc) (part : Part) → HasPlace part → HasPlace (part_of proc part)
-place_of_part proc (Register slot) place = place
-place_of_part proc (Page number page) place = place
-place_of_part proc (Descriptor number name) place = place
-place_of_part proc part place = tt
-
--- a process still has a place for each number
-pub still_sized : (proc : Proc) (part : Part) → IsSized proc → IsSized (edited_once proc part)
-still_sized proc (Register slot) sized =
-    record { slots = length-set proc.regs.slots slot.number slot.value ∙ sized.slots; pages = sized.pages; descriptors = sized.descriptors; actions = sized.actions }
-still_sized proc (Page number page) sized =
-    record { slots = sized.slots; pages = length-set proc.space number page ∙ sized.pages; descriptors = sized.descriptors; actions = sized.actions }
-still_sized proc (Descriptor number name) sized =
-    record { slots = sized.slots; pages = sized.pages; descriptors = length-set proc.descriptors number (number_in name) ∙ sized.descriptors; actions = sized.actions }
-still_sized proc (Action signo action) sized =
-    record { slots = sized.slots; pages = sized.pages; descriptors = sized.descriptors; actions = length-set proc.actions signo.0 action ∙ sized.actions }
-still_sized proc part sized = record { slots = sized.slots; pages = sized.pages; descriptors = sized.descriptors; actions = sized.actions }

@@ -22,6 +22,6 @@ mod proc;
 mod table;
 
 pub use boxed::{BoxedFrame, BoxedProc};
-pub use laws::{commute, nothing_else, twice_is_nothing};
+pub use laws::{commute, exchanges_back, nothing_else, twice_is_nothing};
 pub use proc::{Answer, Part, Proc, Register};
 pub use table::ProcTable;

@@ -1,5 +1,5 @@
 -- The footprint of a step whose process may be missing.
-use Rattle.std.proofs.Common.{◌≡◌, ℕ, suc, ◌+◌, Bool, true, false, if◌then◌else◌, ◌==◌, refl, sym, ◌∙◌, subst}
+use Rattle.std.proofs.Common.{◌≡◌, ℕ, suc, Bool, true, false, if◌then◌else◌, ◌==◌, refl, sym, ◌∙◌, subst}
 use Rattle.tx_base.specs.declared.names.Pid.{Pid}
 use Rattle.tx_change.specs.declared.parts.Parts.{Parts}
 use Rattle.tx_model.specs.Membership.{Table, is_open_of, others_open}

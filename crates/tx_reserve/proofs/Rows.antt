@@ -7,7 +7,7 @@ use Rattle.tx_base.specs.declared.marks.Mark.{Mark}
 use Rattle.tx_base.specs.declared.names.Sending.{Sending as TheSending}
 use Rattle.tx_change.specs.States.{state_of}
 use Rattle.tx_change.specs.declared.parts.Parts.{Parts}
-use Rattle.tx_kernel.proofs.Childless.{no_children}
+use Rattle.tx_change.specs.ChildFacts.{no_children}
 use Rattle.tx_kernel.specs.Plans.{sending_of}
 use Rattle.tx_model.specs.Footprints.{commit_row_of, is_for_later, send_row, target_row, told_for_later}
 use Rattle.tx_model.specs.Descriptors.{desc_objects, desc_pipe_objects, descriptor, option_list, description_named, open_in, other_than, pipe_of, pipes_of}

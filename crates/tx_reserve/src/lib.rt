@@ -24,16 +24,18 @@
 //!
 //! `footprint` is the footprint of any step, also of one whose process is missing or has ended. The
 //! machine does not ask it: it has found the process, and knows from what the step is to the
-//! transactions whether it commits, where `footprint` looks at each mark.
+//! transactions whether it commits, where `footprint` looks at each mark (`is_other_open`).
 
 mod footprints;
 mod laws;
 mod objects;
+mod open_parts;
 mod reservations;
 mod step_footprint;
 
 pub use footprints::{footprint_of_call, footprint_of_delivery};
 pub use laws::{footprints_are_within, owners_are_told};
 pub use objects::{Object, Objects};
+pub use open_parts::is_other_open;
 pub use reservations::Reservations;
 pub use step_footprint::footprint;

@@ -1,19 +1,20 @@
 //! The footprint of any step, whether or not its process is there.
 ghost use Rattle.std.specs.Option.{option_copied};
-ghost use Rattle.std.specs.Prelude.{◌≡◌, ◌≤◌, ◌==◌, ℕ, List, None, false, if◌then◌else◌, length, IfSome, IsNone};
+ghost use Rattle.std.specs.Prelude.{◌≡◌, ◌≤◌, ℕ, List, None, false, length, IfSome, IsNone};
 ghost use Rattle.tx_base.specs.Slots.{slot_at};
 ghost use Rattle.tx_base.specs.declared.steps.Step.TheVariants.{Call as Calls, Deliver};
 ghost use Rattle.tx_change.specs.States.{state_of};
 ghost use Rattle.tx_change.specs.declared.parts.Parts.{Parts as TheParts};
 ghost use Rattle.tx_kernel.specs.Actors.{IsWhole, inside_of};
 ghost use Rattle.tx_model.specs.Footprints.{footprint};
-ghost use Rattle.tx_model.specs.Membership.{inside_by, is_open_of, others_open};
+ghost use Rattle.tx_model.specs.Membership.{inside_by};
 ghost use Rattle.tx_model.specs.State.{Object as TheObject, Sending as TheSending};
 ghost use Rattle.tx_reserve.specs.Footprints.{GoesBy, HoldsBy, HoldsFor, IsInside, IsPlaced, IsSetOf, table_of};
 ghost use Rattle.tx_reserve.specs.Objects.{is_in};
 
 use crate::footprints::{footprint_of_call, footprint_of_delivery};
 use crate::objects::{Object, Objects};
+use crate::open_parts::others_open;
 use tx_base::{Call, Mark, Pid, Sending, Signo, Slots, Step};
 use tx_change::Parts;
 use tx_kernel::{Actor, Inside};
@@ -133,33 +134,4 @@ fn last_by<'a>(
         return None;
     }
     Some(held)
-}
-
-/// Whether the part of another member of the starter's transaction is open.
-fn others_open(parts: &Parts, marks: &Slots<Mark>, starter: Pid, pid: Pid) -> bool
-    requires { length parts.now.procs ≤ 256 }
-    ensures { result ≡ others_open (table_of parts.now marks.now) starter.0 pid.0
-        (length parts.now.procs) }
-{
-    let mut is_any = false;
-    for below in 0..parts.procs.width() {
-        if is_other_open(marks, starter, pid, Pid(below as u16 + 1)) {
-            is_any = true;
-        }
-    }
-    is_any
-}
-
-/// Whether this is another member of the starter's transaction, whose part is open.
-fn is_other_open(marks: &Slots<Mark>, starter: Pid, pid: Pid, other: Pid) -> bool
-    ensures { result ≡ (if other.0 == pid.0 then false
-        else is_open_of starter.0 (slot_at marks.now other.0)) }
-{
-    if other == pid {
-        return false;
-    }
-    match marks.get(other) {
-        Some(mark) => !mark.ended && mark.starter == starter,
-        None => false,
-    }
 }

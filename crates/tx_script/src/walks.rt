@@ -33,6 +33,8 @@ pub fn answer_walk(alloc: Global, walk: &Walk) -> Result<String, Fault>
     let mut session = boot(alloc, walk.schedule.header)?;
     session.reserve(walk.schedule.steps.len())?;
     make_steps(alloc, &mut session, walk.schedule.steps.as_slice())?;
+    // Where it is refused, a walk forward makes each step anew.
+    let _room = session.reserve_forward(0);
     let mut text = String::new(alloc);
     put_answers(alloc, &mut text, &mut session, walk.commands.as_slice())?;
     Ok(text)

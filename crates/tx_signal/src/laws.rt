@@ -8,20 +8,15 @@ ghost use Rattle.tx_model.specs.Signals.{without_signal, maskable_action, queued
 ghost use Rattle.tx_model.specs.Posts.{is_quiet, room_answer};
 ghost use Rattle.tx_model.specs.Words.{with_queued};
 ghost use Rattle.tx_model.specs.State.{Process, Queued, Sender};
-ghost use Rattle.tx_signal.specs.Entries.{entry_given, entry_swapped, place_of};
+ghost use Rattle.tx_signal.specs.Entries.{entry_swapped, place_of};
+ghost use Rattle.tx_signal.specs.Laws.{EntryComesBack, QueueComesBack};
 ghost use Rattle.tx_signal.specs.Parts.{PendingView, alone, answer_of, pending_of, post_result, sending_of, with_actions, with_pending_part};
 
 /// A second exchange of an entry at the same place takes the first one back: the queue and the
 /// entry are those from before both.
 pub fn swap_entry_twice()
-    ensures queue { (place : ℕ) (entry : Option Queued) (queue : List Queued) →
-        length queue ≤ QUEUED →
-        entry_swapped place (entry_given place entry queue) (entry_swapped place entry queue)
-        ≡ queue }
-    ensures entry { (place : ℕ) (entry : Option Queued) (queue : List Queued) →
-        length queue ≤ QUEUED →
-        entry_given place (entry_given place entry queue) (entry_swapped place entry queue)
-        ≡ entry }
+    ensures queue { QueueComesBack }
+    ensures entry { EntryComesBack }
 {}
 
 /// An exchange never makes the queue longer than it may be.

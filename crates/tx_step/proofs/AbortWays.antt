@@ -5,7 +5,7 @@ use Rattle.tx_base.specs.declared.marks.Mark.{Mark}
 use Rattle.tx_step.proofs.MetObjects.{same_is}
 use Rattle.tx_step.proofs.Refusals.{between}
 use Rattle.tx_step.specs.InWay.{IsOfMember, starter_in}
-use Rattle.tx_live.proofs.KeptPosted.{slot_there}
+use Rattle.tx_base.specs.SlotFacts.{slot_there}
 use Rattle.tx_live.specs.Content.{now_of, IsShaped}
 use Rattle.tx_live.specs.Insides.{IsFootprint}
 use Rattle.tx_live.specs.declared.content.Content.{Content}

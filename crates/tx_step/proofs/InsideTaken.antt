@@ -1,5 +1,5 @@
 -- A step of a member, after which its transaction is live.
-use Rattle.std.proofs.Common.{◌≡◌, ℕ, true, false, length, Option, IsSome, is_some, refl, sym, ap, subst, ◌∙◌}
+use Rattle.std.proofs.Common.{◌≡◌, ℕ, true, length, Option, IsSome, is_some, refl, sym, ap, subst, ◌∙◌}
 use Rattle.tx_base.specs.Slots.{slot_at}
 use Rattle.tx_base.specs.declared.names.Pid.{Pid}
 use Rattle.tx_base.specs.declared.steps.Refusal.{Refusal}

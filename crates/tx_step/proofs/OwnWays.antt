@@ -27,7 +27,6 @@ use Rattle.tx_model.specs.State.{Object, Proc, Process, has_object, same_object}
 use Rattle.tx_model.specs.View.{event_on, starter_in_way, role_on}
 use Rattle.tx_proc.specs.Parts.{process_in, process_of}
 use Rattle.tx_proc.specs.declared.proc.Proc.{Proc as TheProc}
-use Rattle.tx_reserve.proofs.Rows.{adds_one, set_of}
 use Rattle.tx_reserve.specs.Footprints.{IsSetOf, table_of}
 use Rattle.tx_reserve.specs.Objects.{is_in, is_small, place_of}
 use Rattle.tx_reserve.specs.Reservations.{IsLeast, lesser_of, number_of, owner_of, unless}
@@ -39,7 +38,16 @@ use Rattle.tx_txn.specs.Marks.{table_at}
 -- one process was put into an empty set
 pub set_alone : (before set : Objects) (p : ℕ) → ((o : Object) → is_in before o ≡ false) →
     ((o : Object) → is_in set o ≡ (if same_object o (Proc p) then is_small o else is_in before o)) → IsSetOf set (Proc p ∷ [])
-set_alone before set p empty put = set_of before (Proc p ∷ []) empty (adds_one before set (Proc p) put)
+unfolding has_object
+set_alone before set p empty put = record {
+  each = λ o. put o ∙ ap (λ (was : Bool). if same_object o (Proc p) then is_small o else was) (empty o) ∙ by (same_object o (Proc p)) (is_small o);
+}
+  where
+    by : (same small : Bool) → (if same then small else false) ≡ (if small then (if same then true else false) else false)
+    by true true = refl
+    by true false = refl
+    by false true = refl
+    by false false = refl
 
 -- what is in such a set is that process
 alone_is : (set : Objects) (p : ℕ) (o : Object) → IsSetOf set (Proc p ∷ []) → is_in set o ≡ true → o ≡ Proc p

@@ -18,7 +18,7 @@ use Rattle.tx_kernel.specs.Actors.{IsActor}
 use Rattle.tx_kernel.specs.Refusals.{number_refusal}
 use Rattle.tx_kernel.specs.declared.actor.Actor.{Actor}
 use Rattle.tx_laws.specs.TwoStates.{states_view}
-use Rattle.tx_live.proofs.KeptPosted.{slot_there}
+use Rattle.tx_base.specs.SlotFacts.{slot_there}
 use Rattle.tx_live.specs.Content.{content_of, held_of, txn_of, view_of, IsShaped}
 use Rattle.tx_live.specs.declared.content.BoxedTxn.{BoxedTxn}
 use Rattle.tx_live.specs.declared.content.Content.{Content}

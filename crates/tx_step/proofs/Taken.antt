@@ -167,6 +167,7 @@ module _ (laws : StepLaws) (k : Content) (is : IsContent k) where
     goes = made.goes;
     back = made.back;
     local = λ o named. local step R E role event runs (changes_of new inverse) made.local o named;
+    whole = made.whole;
   }
     where
       fits : (reply : Reply) → answer (view_of k) step ≡ reply → FitsReply reply

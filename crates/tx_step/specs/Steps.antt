@@ -16,6 +16,7 @@ use Rattle.tx_laws.specs.Fits.{ends_it}
 use Rattle.tx_live.specs.Commits.{missed_of}
 use Rattle.tx_live.specs.Content.{view_of}
 use Rattle.tx_live.specs.Inverses.{changes_of, GoesWith, Undoes}
+use Rattle.tx_live.specs.Redone.{EndsWhole}
 use Rattle.tx_live.specs.declared.content.Content.{Content}
 use Rattle.tx_live.specs.declared.inverse.Inverse.{Inverse}
 use Rattle.tx_model.specs.Answer.{answer, IsAccepted}
@@ -63,6 +64,7 @@ pub record IsStep (old : Content) (step : Step) (reply : Reply) (inverse : Inver
   pub goes : GoesWith new inverse
   pub back : Undoes new inverse old
   pub local : IsLocal old step new inverse
+  pub whole : EndsWhole new inverse
 
 -- the step is a sys_xabort by a member
 abbrev pub IsXabort : Content → Step → Type 0

@@ -2,21 +2,27 @@
 use Rattle.std.specs.Prelude.{◌≡◌, ◌++◌, ℕ, List, [], Option, Some, None}
 use Rattle.tx_base.specs.Slots.{slot_at}
 use Rattle.tx_base.specs.declared.names.Pid.{Pid}
+use Rattle.tx_base.specs.declared.names.Signo.{Signo}
 use Rattle.tx_base.specs.declared.steps.Call.{Call}
+use Rattle.tx_base.specs.declared.steps.Step.TheVariants.{Call as Calls, Deliver}
 use Rattle.tx_step.specs.Faces.{sent_at_commit}
+use Rattle.tx_step.specs.Roles.{role_as}
 use Rattle.tx_step.specs.declared.roles.StepRole.{StepRole}
 use Rattle.tx_step.specs.declared.roles.StepRole.TheVariants.{Outside, Begins, Inside, Commits, Aborts}
-use Rattle.tx_kernel.specs.Actors.{CountsHeld, IsActor, inside_of}
+use Rattle.tx_kernel.specs.Actors.{CountsHeld, IsActor, inside_of, me_of}
 use Rattle.tx_kernel.specs.Plans.{sent_at_once}
+use Rattle.tx_kernel.specs.Sends.{IsSentBy}
 use Rattle.tx_kernel.specs.declared.planned.Sends.{Sends}
 use Rattle.tx_kernel.specs.declared.actor.Actor.{Actor}
-use Rattle.tx_live.specs.Content.{held_of}
+use Rattle.tx_live.specs.Content.{held_of, now_of, view_of}
 use Rattle.tx_live.specs.declared.content.Content.{Content}
-use Rattle.tx_model.specs.Words.{call_effect}
+use Rattle.tx_model.specs.Words.{call_effect, delivery_effect}
 use Rattle.tx_model.specs.Effects.{Inside as TheInside}
+use Rattle.tx_model.specs.Events.{effect}
 use Rattle.tx_model.specs.Footprints.{call_row}
 use Rattle.tx_model.specs.Membership.{Table, inside_by}
 use Rattle.tx_model.specs.State.{Process, Sending, State}
+use Rattle.tx_model.specs.View.{event_on, role_on}
 use Rattle.tx_txn.specs.Marks.{table_at}
 
 -- what the step sends at once; and where it commits, what is held then
@@ -44,3 +50,17 @@ pub record IsOwnActor (k : Content) (pid : Pid) (actor : Actor) : Type 0 where
 pub record ConcernsItself (call : Call) : Type 0 where
   pub names : (t : Table) (p : ℕ) (me : Process) (S : State) → call_row t p call me S ≡ []
   pub sends : (inside : Option TheInside) (p : ℕ) (me : Process) (S : State) → (call_effect inside p call me S).sends ≡ []
+
+-- what is posted with a call, by its role and by what it sends first
+abbrev pub CallIsPosted : Type 0
+CallIsPosted = (k : Content) (pid : Pid) (actor : Actor) → IsOwnActor k pid actor → (called : Call) (role : StepRole) (first : Sends) →
+    role_as pid.0 role ≡ role_on (view_of k) (Calls pid called) →
+    IsSentBy actor first (λ S. call_effect (inside_of actor.inside) actor.pid.0 called (me_of actor) S) →
+    (effect (event_on (view_of k) (Calls pid called)) (now_of k)).sends ≡ posted_with k role first
+
+-- and with a delivery
+abbrev pub DeliveryIsPosted : Type 0
+DeliveryIsPosted = (k : Content) (pid : Pid) (actor : Actor) → IsOwnActor k pid actor → (signo : Signo) (role : StepRole) (first : Sends) →
+    role_as pid.0 role ≡ role_on (view_of k) (Deliver pid signo) →
+    IsSentBy actor first (λ S. delivery_effect (inside_of actor.inside) actor.pid.0 signo.0 (me_of actor) S) →
+    (effect (event_on (view_of k) (Deliver pid signo)) (now_of k)).sends ≡ posted_with k role first

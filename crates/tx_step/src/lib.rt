@@ -23,7 +23,8 @@
 //! There the owner of that one process is all that is asked for. What is so of every content that
 //! steps lead to is said here too (`IsContent`), since it is what these answers stand on, and that it
 //! is so of a kernel as it is booted (`booted_is_content`). `actor_of` finds a process that runs,
-//! with the transaction that it is a member of.
+//! with the transaction that it is a member of; what is posted with a step of it is a law
+//! (`posts_are_told`).
 //!
 //! Why a step's plan was refused is told by `late_refusal`: the plan's reason; where that is want of
 //! memory, the rule is asked, and its reason told if it has one.
@@ -64,7 +65,7 @@ mod ways;
 
 pub use aborts::{kernel_status, take_kernel_abort};
 pub use answered::Answered;
-pub use refusal_laws::{booted_is_content, contents_are_whole};
+pub use refusal_laws::{booted_is_content, contents_are_whole, posts_are_told};
 pub use replies::put_reply;
 pub use roles::{StepRole, role_of_call, role_of_delivery};
 pub use steps::{take_call, take_delivery};

@@ -1,7 +1,9 @@
-//! The laws that early refusals stand on, and how they stand to all refusals; and what is so of contents.
+//! The laws that early refusals stand on, and how they stand to all refusals; what is so of contents;
+//! and what is posted with a step.
 ghost use Rattle.tx_step.specs.Contents.{BootedIsContent, ContentsAreWhole};
 ghost use Rattle.tx_step.specs.Early.{RefusalIsEarly};
 ghost use Rattle.tx_step.specs.RefusalLaws.{JudgeLaws, WayLaws};
+ghost use Rattle.tx_step.specs.Ways.{CallIsPosted, DeliveryIsPosted};
 
 use tx_laws::{answers_of_states, endings, footprints, inside, well_formed, well_formed_table};
 use tx_reserve::footprints_are_within;
@@ -47,3 +49,10 @@ pub fn booted_is_content()
     well_formed();
     well_formed_table();
 }
+
+/// What is posted with a call or a delivery of a process that runs is what it sends first, at once or
+/// at the commit, and where it commits what the transaction holds.
+pub fn posts_are_told()
+    ensures call { CallIsPosted }
+    ensures delivery { DeliveryIsPosted }
+{}

@@ -63,18 +63,29 @@ fn run_of(alloc: Global, schedule: &Schedule) -> Result<Ran, NoMemory> {
     }
 }
 
+/// What a session tells after a walk to the start and back.
+fn told_after_a_walk(alloc: Global, session: &mut Session) -> Result<String, Fail> {
+    go(alloc, session, 0)?;
+    let end = session.len();
+    go(alloc, session, end)?;
+    Ok(told_by(alloc, session)?)
+}
+
 /// Whether a session of the schedule tells what its run tells, and again after a walk to the start and
-/// back.
+/// back: one that makes its steps anew, and one that exchanges what was taken back.
 fn are_alike(alloc: Global, text: &str) -> Result<bool, Fail> {
     let schedule = read_schedule(alloc, text.as_bytes())?;
     let run = told(alloc, &run_of(alloc, &schedule)?)?;
     let mut session = session_of(alloc, schedule.header, schedule.steps.as_slice())?;
     let made = told_by(alloc, &session)?;
-    go(alloc, &mut session, 0)?;
-    let end = session.len();
-    go(alloc, &mut session, end)?;
-    let walked = told_by(alloc, &session)?;
-    Ok(run.as_str() == made.as_str() && run.as_str() == walked.as_str())
+    let anew = told_after_a_walk(alloc, &mut session)?;
+    session.reserve_forward(0)?;
+    let exchanged = told_after_a_walk(alloc, &mut session)?;
+    Ok(
+        [made, anew, exchanged]
+            .iter()
+            .all(|it| it.as_str() == run.as_str()),
+    )
 }
 
 #[test]

@@ -148,16 +148,11 @@ fn stands_after(alloc: Global, session: &Session, steps: &[Step]) -> bool {
     }
 }
 
-#[test]
-fn a_walk_stops_between(rt: HostRuntime) {
-    let steps = side_by_side();
-    let mut session = booted(&rt, rt.alloc());
-    if make_steps(rt.alloc(), &mut session, &steps).is_some() {
-        return;
-    }
+/// Walks from the end to the first entry and to the end again, and looks at where it stands.
+fn walk_and_look(rt: &impl Abort, alloc: Global, session: &mut Session, steps: &[Step]) {
     let end = session.len();
-    assert!(rt; end == 12 && go(rt.alloc(), &mut session, 1) == Ok(()));
-    let moved = go(rt.alloc(), &mut session, end);
+    assert!(rt; end == 12 && go(alloc, session, 1) == Ok(()));
+    let moved = go(alloc, session, end);
     let position = session.position();
     match moved {
         Ok(()) => assert!(rt; position == end),
@@ -165,9 +160,28 @@ fn a_walk_stops_between(rt: HostRuntime) {
     }
     assert!(rt; position >= 1);
     let (made, _left) = steps.split_at(position.min(steps.len()));
-    assert!(rt; stands_after(rt.alloc(), &session, made), "at {position}");
-    assert!(rt; go(rt.alloc(), &mut session, end) == Ok(()) || position == end);
-    assert!(rt; is_text(told_by(rt.alloc(), &session), SIDE_BY_SIDE));
+    assert!(rt; stands_after(alloc, session, made), "at {position}");
+    assert!(rt; go(alloc, session, end) == Ok(()) || position == end);
+    assert!(rt; is_text(told_by(alloc, session), SIDE_BY_SIDE));
+}
+
+#[test]
+fn a_walk_stops_between(rt: HostRuntime) {
+    let steps = side_by_side();
+    let mut session = booted(&rt, rt.alloc());
+    if make_steps(rt.alloc(), &mut session, &steps).is_none() {
+        walk_and_look(&rt, rt.alloc(), &mut session, &steps);
+    }
+}
+
+#[test]
+fn a_walk_by_exchange_stops_between(rt: HostRuntime) {
+    let steps = side_by_side();
+    let mut session = booted(&rt, rt.alloc());
+    if make_steps(rt.alloc(), &mut session, &steps).is_none() {
+        let _room = session.reserve_forward(0);
+        walk_and_look(&rt, rt.alloc(), &mut session, &steps);
+    }
 }
 
 /// A space of two pages, of which each holds a byte, and its copy.

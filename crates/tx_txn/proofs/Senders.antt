@@ -1,5 +1,5 @@
 -- How many of what is held members sent.
-use Rattle.std.proofs.Common.{◌≡◌, ◌≤◌, ℕ, ◌+◌, List, [], ◌∷◌, ◌++◌, length, map, arith, pos, Option, Some, None}
+use Rattle.std.proofs.Common.{◌≡◌, ◌≤◌, ◌+◌, List, [], ◌∷◌, ◌++◌, length, map, arith, pos, Option, Some, None}
 use Rattle.tx_base.specs.declared.names.Sending.{Sending as TheSending}
 use Rattle.tx_kernel.specs.Plans.{sender_of, sending_of}
 use Rattle.tx_model.specs.Book.{sender_count, member_sends}

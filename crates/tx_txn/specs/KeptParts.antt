@@ -6,6 +6,8 @@ use Rattle.tx_model.specs.State.{Process}
 use Rattle.tx_signal.specs.Entries.{entry_swapped}
 use Rattle.tx_signal.specs.Parts.{PendingView}
 use Rattle.tx_txn.specs.declared.kept.Kept.{Kept}
+use Rattle.tx_txn.specs.declared.kept.Repost.{Repost}
+use Rattle.tx_txn.specs.declared.kept.Repost.TheVariants as repost
 use Rattle.tx_txn.specs.declared.kept.Unpost.{Unpost}
 use Rattle.tx_txn.specs.declared.kept.Unpost.TheVariants.{Standard, Queued}
 
@@ -18,3 +20,8 @@ abbrev pub unposted : Option Unpost → PendingView → PendingView
 unposted None pending = pending
 unposted (Some (Standard set)) pending = record pending { standard = bits_of set }
 unposted (Some (Queued place)) pending = record pending { queued = entry_swapped place None pending.queued }
+
+-- what is pending after a post that was taken back is made again
+abbrev pub posted_again : Repost → PendingView → PendingView
+posted_again (repost.Standard set) pending = record pending { standard = bits_of set }
+posted_again (repost.Queued place entry) pending = record pending { queued = entry_swapped place entry pending.queued }

@@ -8,13 +8,13 @@ ghost use Rattle.tx_model.specs.State.{Process};
 ghost use Rattle.tx_model.specs.View.{has_pending};
 ghost use Rattle.tx_cred.specs.Cred.{ids_of};
 ghost use Rattle.tx_txn.specs.Faces.{pending_after, running};
-ghost use Rattle.tx_txn.specs.KeptParts.{kept_as, unposted};
+ghost use Rattle.tx_txn.specs.KeptParts.{kept_as, posted_again, unposted};
 
 use tx_base::{SIGKILL, Sending, SigSet};
 use tx_cred::Cred;
 use tx_kernel::Face;
 use tx_proc::Proc;
-use tx_signal::{Pending, has, is_realtime, swap_entry_twice};
+use tx_signal::{Pending, Queued, has, is_realtime, swap_entry_twice};
 
 /// What is kept of the process that began a transaction: it runs there, with the ids that it had.
 /// Signals from outside are posted here too, and stay after an abort.
@@ -33,6 +33,15 @@ pub enum Unpost {
     Standard(SigSet),
     /// The place of the queue at which the signal was put.
     Queued(usize),
+}
+
+/// What a post had put that was taken back, so that it can be made again.
+#[derive(Clone, Copy)]
+pub enum Repost {
+    /// The standard signals that were pending after it.
+    Standard(SigSet),
+    /// The place of the queue, and the entry that stood there.
+    Queued(usize, Option<Queued>),
 }
 
 impl Kept {
@@ -106,14 +115,35 @@ impl Kept {
         }
     }
 
-    /// Takes the last post back.
-    pub fn unpost(&mut self, unpost: Unpost)
+    /// Takes the last post back. Answers what makes it again.
+    pub fn unpost(&mut self, unpost: Unpost) -> Repost
         ensures ids { self.new.ids ≡ self.old.ids }
         ensures pending { self.new.pending ≡ unposted (Some unpost) self.old.pending }
+        ensures again { posted_again result self.new.pending ≡ self.old.pending }
     {
+        swap_entry_twice();
         match unpost {
-            Unpost::Standard(mut standard) => self.pending.swap_standard(&mut standard),
-            Unpost::Queued(place) => self.pending.swap_entry(place, &mut None),
+            Unpost::Standard(mut standard) => {
+                self.pending.swap_standard(&mut standard);
+                Repost::Standard(standard)
+            }
+            Unpost::Queued(place) => {
+                let _fits = self.pending.queued();
+                let mut entry = None;
+                self.pending.swap_entry(place, &mut entry);
+                Repost::Queued(place, entry)
+            }
+        }
+    }
+
+    /// Makes a post again that was taken back.
+    pub fn repost(&mut self, posted: Repost)
+        ensures ids { self.new.ids ≡ self.old.ids }
+        ensures pending { self.new.pending ≡ posted_again posted self.old.pending }
+    {
+        match posted {
+            Repost::Standard(mut standard) => self.pending.swap_standard(&mut standard),
+            Repost::Queued(place, mut entry) => self.pending.swap_entry(place, &mut entry),
         }
     }
 }

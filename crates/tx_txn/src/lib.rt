@@ -39,6 +39,7 @@
 //!
 //! - `Kept`: the ids that a starter had as it began, and what would be pending at it after an
 //!   abort. `post` is the posting rule there, and answers what takes the post back (`Unpost`);
+//!   `unpost` answers what makes it again (`Repost`), and `repost` does;
 //!   `face` is what decides an answer; `is_doomed` asks for SIGKILL.
 //! - `Outbox`: what is held until the commit, in order. With each signal stands a place for what
 //!   its post will change (`HeldPost`), made as it is held, so that a commit needs no memory.
@@ -55,7 +56,7 @@ mod members;
 mod outbox;
 mod txn;
 
-pub use kept::{Kept, Unpost};
+pub use kept::{Kept, Repost, Unpost};
 pub use laws::{
     answers_of_faces, events_are_made, events_leave_rest, logs_keep, logs_lead_back,
     posts_by_faces, start_is_kept,

@@ -1,13 +1,13 @@
 //! The marks of a transaction's members.
 ghost use Rattle.std.specs.Prelude.{◌≡◌, ◌≤◌, ℕ, not, true, false, length, if◌then◌else◌, ◌==◌, ◌||◌, Some};
 ghost use Rattle.tx_base.specs.Slots.{slot_at};
-ghost use Rattle.tx_model.specs.Membership.{is_of, is_open_of, others_open, mark_unless_of};
-ghost use Rattle.tx_model.specs.State.{Object as TheObject, Proc, same_object};
+ghost use Rattle.tx_model.specs.Membership.{is_of, others_open, mark_unless_of};
+ghost use Rattle.tx_model.specs.State.{Object as TheObject, Proc};
 ghost use Rattle.tx_reserve.specs.Objects.{is_in};
 ghost use Rattle.tx_txn.specs.Marks.{IsCovered, ended_of, mark_of, table_at};
 
 use tx_base::{Mark, Pid, Slots};
-use tx_reserve::{Object, Objects};
+use tx_reserve::{Object, Objects, is_other_open};
 
 /// Who the members of a transaction were as it ended, and whose part had ended, so that their marks
 /// can be put back.
@@ -125,18 +125,4 @@ pub fn is_last_open(marks: &Slots<Mark>, starter: Pid, pid: Pid, objects: &Objec
         }
     }
     true
-}
-
-/// Whether the number is of another member of a starter's transaction, whose part is open.
-fn is_other_open(marks: &Slots<Mark>, starter: Pid, pid: Pid, other: Pid) -> bool
-    ensures { result ≡ (if other.0 == pid.0 then false
-        else is_open_of starter.0 (slot_at marks.now other.0)) }
-{
-    if other == pid {
-        return false;
-    }
-    match marks.get(other) {
-        Some(mark) => mark.starter == starter && !mark.ended,
-        None => false,
-    }
 }

@@ -1,5 +1,5 @@
 //! The signals that a transaction holds until it commits.
-ghost use Rattle.std.specs.Prelude.{◌≡◌, ◌<◌, ◌≤◌, ◌++◌, ◌∷◌, [], ◌-◌, None, Ok, OnOk, OnErr, length, map, take, slice_set, slice_index_or};
+ghost use Rattle.std.specs.Prelude.{◌≡◌, ◌<◌, ◌≤◌, ◌++◌, ◌∷◌, [], ◌+◌, ◌-◌, None, Ok, OnOk, OnErr, length, map, option_to_list, take, slice_set, slice_index_or};
 ghost use Rattle.tx_model.specs.Book.{sender_count, member_sends};
 ghost use Rattle.tx_kernel.specs.Plans.{sender_of, sending_of};
 ghost use Rattle.tx_txn.specs.Outboxes.{missed_in, unmade};
@@ -114,16 +114,19 @@ impl Outbox {
         Ok(())
     }
 
-    /// Forgets the last signal. Nothing happens where none is held.
-    pub fn forget_last(&mut self)
+    /// Forgets the last signal, and answers it. Nothing happens where none is held.
+    pub fn forget_last(&mut self) -> Option<Sending>
         ensures sendings { self.new.sendings
             ≡ take (length self.old.sendings - 1) self.old.sendings }
         ensures posts { self.new.posts ≡ take (length self.old.posts - 1) self.old.posts }
+        ensures last { self.old.sendings ≡ self.new.sendings ++ option_to_list result }
+        ensures long { length self.new.posts + length (option_to_list result)
+            ≡ length self.old.posts }
     {
-        if let Some(sending) = self.sendings.pop() {
-            self.posts.truncate(self.sendings.len());
-            self.sent -= senders(&sending);
-        }
+        let sending = self.sendings.pop()?;
+        self.posts.truncate(self.sendings.len());
+        self.sent -= senders(&sending);
+        Some(sending)
     }
 
     /// Exchanges what the post of the signal at a place came to.

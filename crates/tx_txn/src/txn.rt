@@ -1,5 +1,5 @@
 //! A live transaction.
-ghost use Rattle.std.specs.Prelude.{◌≡◌, ◌≤◌, ◌&&◌, ◌||◌, ℕ, true, false, not, if◌then◌else◌, Some, None, [], IfSome, IsSomeAnd, IsTrue, is_some, length, map};
+ghost use Rattle.std.specs.Prelude.{◌≡◌, ◌≤◌, ◌&&◌, ◌||◌, ℕ, true, false, not, if◌then◌else◌, Some, None, [], IfSome, IsSomeAnd, IsTrue, length, map};
 ghost use Rattle.tx_base.specs.Slots.{slot_at};
 ghost use Rattle.tx_change.specs.Exchange.{AreNamed, applied, exchanged, reverted, undone};
 ghost use Rattle.tx_kernel.specs.Actors.{transaction_of};
@@ -127,6 +127,20 @@ impl Txn {
     {
         owners.release(&self.objects.less(&before));
         self.objects = before;
+    }
+
+    /// Reserves what was given up: these objects are its own then. Answers what was reserved before.
+    pub fn take_again(&mut self, owners: &mut Reservations, objects: Objects) -> Objects
+        ensures before { result ≡ self.old.objects }
+        ensures owners { (o : Object) →
+            owner_of owners.new o
+            ≡ (if is_in objects o then Some self.old.starter.0 else owner_of owners.old o) }
+        ensures rest { self.new ≡ record self.old { objects = objects } }
+    {
+        let before = self.objects;
+        let _fresh = owners.take(self.starter, &objects);
+        self.objects = objects;
+        before
     }
 
     /// Ends the transaction, whose members are among its objects: its marks are taken out, and what it

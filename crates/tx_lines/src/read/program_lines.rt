@@ -18,10 +18,10 @@ use indexmap::IndexMap;
 use std::alloc::Global;
 
 /// How many instructions a program may have.
-const INSTRUCTIONS: usize = 1_024;
+pub const INSTRUCTIONS: usize = 1_024;
 
 /// How many labels a program may have.
-const LABELS: usize = 256;
+pub const LABELS: usize = 256;
 
 /// The number of the first line after the header.
 pub const FIRST_LINE: u64 = 2;

@@ -6,4 +6,4 @@ pub returns-clause-named : goal.returns-clause-named
 returns-clause-named c = AreWithin-reverted
 
 pub returns-clause-again : goal.returns-clause-again
-returns-clause-again c = log_comes_back
+returns-clause-again c = log_comes_back c.part_laws.ensures

@@ -2,6 +2,8 @@ use Rattle.std.proofs.Common.{ℕ, [], ◌∷◌, eq-eqb, refl, subst, sym}
 use Rattle.tx_change.specs.declared.change.Change.{Change}
 use Rattle.tx_kernel.proofs.PostPlans.{part_posted, part_back, part_named, failed_state}
 use Rattle.tx_kernel.proofs.PostedWhole.{posted_whole}
+use Rattle.tx_kernel.proofs.PendingAlone.{but_pending}
+use Rattle.tx_kernel.specs.PostFacts.{but_none}
 use Rattle.tx_kernel.specs.Plans.{sending_of, AreAmong}
 use Rattle.tx_model.specs.State.{Proc, has_object}
 use Rattle.tx_kernel.proofs.posts.post.Goals as goal
@@ -45,3 +47,14 @@ unfolding has_object
 returns-in-Ok-Some-clause-among c =
     let n : ℕ = c.args.sending.now.target.0 in
     subst (λ (change : Change). AreAmong (Proc n ∷ []) (change ∷ [])) (sym c.swap.ensures.change) (rw (eq-eqb n n refl) refl, tt)
+
+pub returns-in-Ok-Some-clause-rest : goal.returns-in-Ok-Some-clause-rest
+returns-in-Ok-Some-clause-rest c =
+    but_pending c.args.parts.now c.swap.new.parts (sending_of c.args.sending.now) c.args.sending.now.target c.in-Ok-Some.field-0 c.in-Ok-Some.part refl c.in-Ok-Some.field-0-is c.in-Ok-Some.ensures
+    c.swap.ensures.parts
+
+pub returns-in-Ok-None-clause-rest : goal.returns-in-Ok-None-clause-rest
+returns-in-Ok-None-clause-rest c = but_none c.args.parts.now
+
+pub returns-in-Err-clause-rest : goal.returns-in-Err-clause-rest
+returns-in-Err-clause-rest c = but_none c.args.parts.now

@@ -1,7 +1,7 @@
 use Rattle.std.proofs.Common.{◌≡◌, Option, refl, sym, subst, ◌∙◌}
 use Rattle.tx_kernel.specs.Plans.{sending_of}
-use Rattle.tx_live.proofs.KeptPosted.{absent_posted, gone, slot_posted, slot_unposted}
-use Rattle.tx_live.specs.Inverses.{unposted_if}
+use Rattle.tx_live.proofs.KeptPosted.{absent_posted, gone, slot_posted, slot_back}
+use Rattle.tx_live.specs.Inverses.{unposted_at, unposted_if}
 use Rattle.tx_txn.specs.declared.kept.Unpost.{Unpost}
 use Rattle.tx_live.proofs.kept_posts.post_kept.Goals as goal
 
@@ -18,5 +18,5 @@ returns-clause-posted c =
 
 pub returns-clause-back : goal.returns-clause-back
 returns-clause-back c =
-    slot_unposted c.args.txns.now _ c.args.sending.now.target.0 c.value_mut.result.now c.post_boxed.new.boxed c.in_ok-unpost.unpost c.value_mut.ensures.value
+    slot_back c.args.txns.now _ c.args.sending.now.target.0 c.value_mut.result.now c.post_boxed.new.boxed (unposted_at c.in_ok-unpost.unpost) c.value_mut.ensures.value
     (subst (λ (r : Option Unpost). unposted_if r c.post_boxed.new.boxed ≡ c.value_mut.result.now) c.in_ok-unpost.was c.post_boxed.ensures.back) refl

@@ -2,7 +2,7 @@ use Rattle.std.proofs.Common.{sym, subst}
 use Rattle.tx_kernel.specs.Plans.{sent_at_once}
 use Rattle.tx_kernel.specs.declared.planned.Sends.{Sends}
 use Rattle.tx_live.proofs.KeptPosted.{none_posted}
-use Rattle.tx_live.specs.Made.{PostsKept}
+use Rattle.tx_live.specs.KeptPosts.{PostsKept}
 use Rattle.tx_live.proofs.kept_posts.post_sends.Goals as goal
 
 pub returns-in-Nothing-clause-posted : goal.returns-in-Nothing-clause-posted

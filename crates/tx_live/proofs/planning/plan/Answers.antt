@@ -5,7 +5,8 @@ use Rattle.tx_kernel.specs.Actors.{inside_of, IsActor}
 use Rattle.tx_kernel.specs.Acts.{PlansEvent, event_of}
 use Rattle.tx_kernel.specs.declared.actor.Actor.{Actor}
 use Rattle.tx_live.specs.Made.{IsPlanned}
-use Rattle.tx_live.proofs.Planned.{is_actor, kept_front}
+use Rattle.tx_live.proofs.Planned.{kept_front}
+use Rattle.tx_live.specs.ContentFacts.{is_actor}
 use Rattle.tx_live.proofs.planning.plan.Goals as goal
 
 pub returns-clause-planned : goal.returns-clause-planned

@@ -2,7 +2,7 @@ use Rattle.std.proofs.Common.{◌≡◌, ℕ, ◌+◌, ◌≤◌, [], None, repl
 use Rattle.tx_base.specs.Slots.{slot_at}
 use Rattle.tx_change.specs.Boot.{booted_slot}
 use Rattle.tx_proc.specs.Parts.{process_of, process_in}
-use Rattle.tx_base.proofs.SlotFacts.{length-with_slot}
+use Rattle.tx_base.specs.SlotFacts.{length-with_slot}
 use Rattle.tx_change.proofs.Booted.{booted_next, booted_places, booted_state}
 use Rattle.tx_change.proofs.Counted.{counts_booted}
 use Rattle.tx_change.specs.States.{state_of}
@@ -39,6 +39,6 @@ pub returns-clause-counts : goal.returns-clause-counts
 returns-clause-counts c =
     let ended = c.loop-done.auto.done-end in
     let over = c.loop-done-test.false in
-    counts_booted _ c.args.width c.args.count
+    counts_booted _ c.args.width c.args.count c.none_named_at_first.ensures.none
     (state_is _ c.args.width c.args.count c.loop-done.done c.loop-done.invariant.width (omega arith) c.loop-done.invariant.procs c.new-2.ensures c.new-3.ensures)
     c.new-2.ensures

@@ -1,22 +1,30 @@
 use Rattle.std.proofs.Common.{sym, subst}
 use Rattle.tx_base.specs.declared.steps.Reply.TheVariants.{Aborted}
 use Rattle.tx_base.specs.declared.steps.Step.TheVariants.{KernelAbort}
+use Rattle.tx_journal.proofs.Aheads.{none_at_end, nothing_ahead}
 use Rattle.tx_journal.proofs.Kept.{counted_now, kept_answered, sound_now}
-use Rattle.tx_journal.specs.Sessions.{IsAtEnd}
+use Rattle.tx_journal.specs.Sessions.{session_state, IsAtEnd}
 use Rattle.tx_live.specs.Content.{view_of}
 use Rattle.tx_model.specs.View.{kernel_status}
 use Rattle.tx_journal.proofs.session.Session.kernel_abort.Goals as goal
 
 pub abort-requires-clause-sound : goal.abort-requires-clause-sound
 abort-requires-clause-sound c =
-    sound_now c.laws.ensures c.self.inside.machine c.self.inside.journal c.self.inside.width c.self.inside.count c.self.invariant (subst IsAtEnd (sym c.self.view_is) c.requires)
+    sound_now c.laws.ensures c.self.inside.machine c.self.inside.journal c.self.inside.width c.self.inside.count (c.self.invariant.0, c.self.invariant.1) (subst IsAtEnd (sym c.self.view_is) c.requires)
 
 pub abort-requires-clause-counted : goal.abort-requires-clause-counted
 abort-requires-clause-counted c =
-    counted_now c.laws.ensures c.self.inside.machine c.self.inside.journal c.self.inside.width c.self.inside.count c.self.invariant (subst IsAtEnd (sym c.self.view_is) c.requires)
+    counted_now c.laws.ensures c.self.inside.machine c.self.inside.journal c.self.inside.width c.self.inside.count (c.self.invariant.0, c.self.invariant.1) (subst IsAtEnd (sym c.self.view_is) c.requires)
 
 pub invariant_of-self : goal.invariant_of-self
 invariant_of-self c =
-    kept_answered c.laws.ensures c.self.inside.machine c.self.inside.journal c.self.inside.width c.self.inside.count c.self.invariant (subst IsAtEnd (sym c.self.view_is) c.requires)
+    let at_end = subst IsAtEnd (sym c.self.view_is) c.requires in
+    let kept =
+    kept_answered c.laws.ensures c.self.inside.machine c.self.inside.journal c.self.inside.width c.self.inside.count (c.self.invariant.0, c.self.invariant.1) (subst IsAtEnd (sym c.self.view_is) c.requires)
     (record { step = KernelAbort c.args.starter; worker = c.args.worker; reply = Aborted (kernel_status (view_of c.self.inside.machine) c.args.starter.0) }) c.abort.new.machine c.abort.new.journal c.abort.result
-    c.abort.ensures.added c.abort.ensures.machine c.abort.ensures.journal c.abort.ensures.history
+    c.abort.ensures.added c.abort.ensures.machine c.abort.ensures.journal c.abort.ensures.history in (
+      kept.0,
+      kept.1,
+      nothing_ahead (session_state c.abort.new.machine c.abort.new.journal c.self.inside.width c.self.inside.count) c.self.inside.ahead.undone.items c.self.inside.ahead.stack.items
+          (none_at_end (session_state c.self.inside.machine c.self.inside.journal c.self.inside.width c.self.inside.count) c.self.inside.ahead.undone.items c.self.inside.ahead.stack.items at_end c.self.invariant.2),
+    )

@@ -1,18 +1,26 @@
 use Rattle.std.proofs.Common.{sym, subst}
+use Rattle.tx_journal.proofs.Aheads.{none_at_end, nothing_ahead}
 use Rattle.tx_journal.proofs.Kept.{counted_now, kept_after, sound_now}
-use Rattle.tx_journal.specs.Sessions.{IsAtEnd}
+use Rattle.tx_journal.specs.Sessions.{session_state, IsAtEnd}
 use Rattle.tx_journal.proofs.session.Session.step_into.Goals as goal
 
 pub record-made-requires-clause-sound : goal.record-made-requires-clause-sound
 record-made-requires-clause-sound c =
-    sound_now c.laws.ensures c.self.inside.machine c.self.inside.journal c.self.inside.width c.self.inside.count c.self.invariant (subst IsAtEnd (sym c.self.view_is) c.requires)
+    sound_now c.laws.ensures c.self.inside.machine c.self.inside.journal c.self.inside.width c.self.inside.count (c.self.invariant.0, c.self.invariant.1) (subst IsAtEnd (sym c.self.view_is) c.requires)
 
 pub record-made-requires-clause-counted : goal.record-made-requires-clause-counted
 record-made-requires-clause-counted c =
-    counted_now c.laws.ensures c.self.inside.machine c.self.inside.journal c.self.inside.width c.self.inside.count c.self.invariant (subst IsAtEnd (sym c.self.view_is) c.requires)
+    counted_now c.laws.ensures c.self.inside.machine c.self.inside.journal c.self.inside.width c.self.inside.count (c.self.invariant.0, c.self.invariant.1) (subst IsAtEnd (sym c.self.view_is) c.requires)
 
 pub invariant_of-self : goal.invariant_of-self
 invariant_of-self c =
-    kept_after c.laws.ensures c.self.inside.machine c.self.inside.journal c.self.inside.width c.self.inside.count c.self.invariant (subst IsAtEnd (sym c.self.view_is) c.requires)
+    let at_end = subst IsAtEnd (sym c.self.view_is) c.requires in
+    let kept =
+    kept_after c.laws.ensures c.self.inside.machine c.self.inside.journal c.self.inside.width c.self.inside.count (c.self.invariant.0, c.self.invariant.1) (subst IsAtEnd (sym c.self.view_is) c.requires)
     (record { step = c.args.step.now; worker = c.args.worker; reply = c.record-made.new.reply }) c.record-made.new.machine c.record-made.new.journal c.record-made.result
-    c.record-made.ensures.added c.record-made.ensures.machine c.record-made.ensures.journal c.record-made.ensures.counted c.record-made.ensures.history
+    c.record-made.ensures.added c.record-made.ensures.machine c.record-made.ensures.journal c.record-made.ensures.counted c.record-made.ensures.history in (
+      kept.0,
+      kept.1,
+      nothing_ahead (session_state c.record-made.new.machine c.record-made.new.journal c.self.inside.width c.self.inside.count) c.self.inside.ahead.undone.items c.self.inside.ahead.stack.items
+          (none_at_end (session_state c.self.inside.machine c.self.inside.journal c.self.inside.width c.self.inside.count) c.self.inside.ahead.undone.items c.self.inside.ahead.stack.items at_end c.self.invariant.2),
+    )

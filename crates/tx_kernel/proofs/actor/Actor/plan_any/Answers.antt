@@ -1,15 +1,12 @@
 use Rattle.std.proofs.Common.{◌≡◌, false, sym, subst, rules}
 use Rattle.std.proofs.lemmas.Int.{to_z-of_z}
-use Rattle.std.proofs.lemmas.Result.{IfOk-at_ok}
 use Rattle.std.specs.Int.{w64}
 use Rattle.std.specs.Prelude.{FitsSigned}
 use Rattle.tx_base.specs.declared.steps.Call.{Call}
 use Rattle.tx_kernel.proofs.Ends.{extends_by}
 use Rattle.tx_kernel.specs.Calls.{sends_on_demand}
 use Rattle.tx_kernel.specs.Actors.{effect_by, names_by}
-use Rattle.tx_kernel.specs.Plans.{Plans}
 use Rattle.tx_kernel.specs.Steps.{PlansStep}
-use Rattle.tx_kernel.specs.declared.planned.Planned.{Planned}
 use Rattle.tx_model.specs.Book.{page_of_call}
 use Rattle.tx_kernel.proofs.actor.Actor.plan_any.Goals as goal
 
@@ -36,22 +33,16 @@ pub returns-in_ok-push_sends-in_default : goal.returns-in_ok-push_sends-in_defau
 returns-in_ok-push_sends-in_default c =
     let actor = c.args.self.now in
     let page = page_of_call c.args.call.now in
-    let few : sends_on_demand c.args.call.now ≡ false = search rules in
-    let plans = IfOk-at_ok (λ (planned : Planned). Plans actor c.args.log.now c.plan_common-planned.new.log planned (effect_by actor page.outcome) (names_by actor page.names)) c.in-Ok.is
-    (c.plan_common-planned.ensures.ok few) in
     record {
-      ok = rw c.in-Ok.is (c.in_ok-push_sends-in_default.ensures.ok c.args.log.now (effect_by actor page.outcome) (names_by actor page.names) plans);
-      refused = c.plan_common-planned.ensures.refused;
-      numbers = c.plan_common-planned.ensures.numbers;
-      log = rw c.in-Ok.is tt;
+      ok = c.in_ok-push_sends-in_default.ensures.ok c.args.log.now (effect_by actor page.outcome) (names_by actor page.names) (c.in_ok-planned-in_default.ensures.ok (search rules));
+      refused = tt;
+      numbers = c.in_ok-planned-in_default.ensures.numbers;
+      log = tt;
     }
 
 pub returns-in_err-push_sends-in_default : goal.returns-in_err-push_sends-in_default
 returns-in_err-push_sends-in_default c =
-    let actor = c.args.self.now in
-    let page = page_of_call c.args.call.now in
     let few : sends_on_demand c.args.call.now ≡ false = search rules in
-    let plans = IfOk-at_ok (λ (planned : Planned). Plans actor c.args.log.now c.plan_common-planned.new.log planned (effect_by actor page.outcome) (names_by actor page.names)) c.in-Ok.is
-    (c.plan_common-planned.ensures.ok few) in
+    let plans = c.in_ok-planned-in_default.ensures.ok few in
     let longer = c.in_err-push_sends-in_default.ensures.log in
-    search (rules, extends_by c.args.log.now c.plan_common-planned.new.log c.push_sends.new.log longer.more (record { more = plans.plan; added = plans.added }) longer.added)
+    search (rules, extends_by c.args.log.now c.plan_common.new.log c.push_sends.new.log longer.more (record { more = plans.plan; added = plans.added }) longer.added)

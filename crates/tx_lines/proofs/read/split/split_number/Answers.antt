@@ -5,7 +5,7 @@ use Rattle.std.specs.Result.{is_ok, result_ok}
 use Rattle.std.proofs.lemmas.Int.{to_z-of_z}
 use Rattle.std.proofs.lemmas.Result.{Ok-from_Ok_iff}
 use Rattle.tx_lines.proofs.Leading.{number_front}
-use Rattle.tx_lines.proofs.Spelled.{pos_fits}
+use Rattle.tx_lines.specs.NumberFacts.{pos_fits}
 use Rattle.tx_lines.proofs.read.split.split_number.Goals as goal
 
 pub returns-in_err-ok-in-Some-clause-only : goal.returns-in_err-ok-in-Some-clause-only

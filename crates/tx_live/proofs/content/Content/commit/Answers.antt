@@ -1,9 +1,9 @@
 use Rattle.std.proofs.Common.{◌≡◌, Bool, List, Option, Some, None, ap, subst, sym, ◌∙◌}
-use Rattle.tx_base.proofs.SlotFacts.{slot_twice}
+use Rattle.tx_base.specs.SlotFacts.{slot_twice}
 use Rattle.tx_base.specs.Slots.{with_slot}
 use Rattle.tx_kernel.specs.Acts.{event_of}
 use Rattle.tx_live.proofs.Committed.{commit_answers, commit_done, places_are, rest_of, signals_are}
-use Rattle.tx_live.proofs.Ended.{is_covered}
+use Rattle.tx_live.specs.ContentFacts.{is_covered}
 use Rattle.tx_live.proofs.Insides.{put_back}
 use Rattle.tx_live.specs.Commits.{MakesLast}
 use Rattle.tx_live.specs.HeldPosts.{PostsAll}
@@ -79,7 +79,9 @@ returns-clause-made c = λ fits.
     c.requires.shaped c.requires.kept (sym c.take.ensures.taken ∙ c.unwrap-boxed.ensures) steps c.take.ensures.emptied
     (ap (λ (h : Held). h.sendings) outbox ∙ c.post_held.ensures.sendings) (rest_of c.deref_mut-3.result.now c.deref_mut-2.result.now c.post_held.new.outbox c.deref_mut-3.ensures.value)
     (subst (λ (h : Held). PostsAll c.make_last-made.new.parts new.parts c.take.new.self new.txns c.deref_mut-2.result.now.outbox.sendings h.posts) (sym outbox) c.post_held.ensures.posts)
-    c.end.ensures.marks c.end.ensures.length c.end.ensures.owners c.sized.ensures c.end.ensures.rest c.end.ensures.joined c.end.ensures.ended c.requires.unowned c.requires.end fits))
+    c.end.ensures.marks c.end.ensures.length c.end.ensures.owners c.sized.ensures c.end.ensures.rest c.end.ensures.joined c.end.ensures.ended c.requires.unowned c.requires.end fits
+    (signals_are c.laws.ensures old old c.make_last-made.new.parts old.txns c.args.pid c.args.starter c.args.act.now c.unwrap-boxed.result c.deref_mut-2.result.now c.deref_mut-2.result.now c.deref_mut-2.result.now c.in-Ok.field-0
+    c.requires.shaped c.requires.kept (sym c.take.ensures.taken ∙ c.unwrap-boxed.ensures) steps c.requires.signals)))
 
 pub returns-clause-answer : goal.returns-clause-answer
 returns-clause-answer c =

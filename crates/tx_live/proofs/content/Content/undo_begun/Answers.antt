@@ -1,5 +1,5 @@
 use Rattle.std.proofs.Common.{sym, ap, ◌∙◌}
-use Rattle.tx_live.proofs.KeptPosted.{slot_there}
+use Rattle.tx_base.specs.SlotFacts.{slot_there}
 use Rattle.tx_live.proofs.TakenBack.{begun_taken}
 use Rattle.tx_live.specs.declared.content.Content.{Content}
 use Rattle.tx_txn.specs.declared.txn.Txn.{Txn}

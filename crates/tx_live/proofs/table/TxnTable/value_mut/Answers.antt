@@ -1,5 +1,5 @@
 use Rattle.std.proofs.Common.{is_some, ap, refl}
-use Rattle.tx_live.proofs.KeptPosted.{slot_there}
+use Rattle.tx_base.specs.SlotFacts.{slot_there}
 use Rattle.tx_live.proofs.LiveCounts.{one_replaced}
 use Rattle.tx_live.proofs.table.TxnTable.value_mut.Goals as goal
 

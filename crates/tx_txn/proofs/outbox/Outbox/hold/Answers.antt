@@ -1,4 +1,4 @@
-use Rattle.std.proofs.Common.{List, length, map, ap, ◌∙◌, arith, rules}
+use Rattle.std.proofs.Common.{List, map, ap, ◌∙◌, arith, rules}
 use Rattle.tx_base.specs.declared.names.Sending.{Sending}
 use Rattle.tx_kernel.specs.Plans.{sender_of, sending_of}
 use Rattle.tx_model.specs.Book.{member_sends}

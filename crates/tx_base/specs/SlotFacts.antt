@@ -1,5 +1,6 @@
--- A slot that is replaced, and the others.
-use Rattle.std.proofs.Common.{◌≡◌, ◌≢◌, ℕ, zero, suc, ◌-◌, ◌≤◌, List, Option, None, length, if◌then◌else◌, ◌==◌, arith, refl, ap, ◌∙◌, inl, inr, eq-eqb, eqb-true}
+-- Facts of slots: of one that is replaced, of the others, and of one that has something. They follow
+-- from the definitions and are proved here, so nobody has to believe them.
+use Rattle.std.proofs.Common.{◌≡◌, ◌≢◌, ℕ, zero, suc, ◌-◌, ◌<◌, ◌≤◌, List, [], ◌∷◌, Option, Some, None, length, if◌then◌else◌, ◌==◌, arith, refl, ap, ◌∙◌, inl, inr, eq-eqb, eqb-true}
 use Rattle.std.proofs.lemmas.Bool.{both_ways, cases_Bool}
 use Rattle.std.proofs.lemmas.List.{set-set, set-get_or, get_or-set_same, get_or-set_other, length-set}
 use Rattle.tx_base.specs.Slots.{slot_at, with_slot}
@@ -35,3 +36,13 @@ slot_at-with_slot slots p x n low high = elim (cases_Bool (n == p)) [
   | inl e ↦ rw e (ap (slot_at (with_slot slots p x)) (eqb-true n p e) ∙ slot_now slots p x low high)
   | inr e ↦ rw e (slot_other slots p n x low (λ z. both_ways (n == p) e (eq-eqb n p z)))
 ]
+
+slot_in : {A : Type 0} (slots : List (Option A)) (n : ℕ) (x : A) → slot_at slots (suc n) ≡ Some x → n < length slots
+slot_in [] n x h = cc
+slot_in (y ∷ slots) zero x h = omega arith
+slot_in (y ∷ slots) (suc n) x h = let z = slot_in slots n x h in omega arith
+
+-- a number whose slot has something is one that there is
+pub slot_there : {A : Type 0} (slots : List (Option A)) (n : ℕ) (x : A) → slot_at slots n ≡ Some x → (1 ≤ n) × (n ≤ length slots)
+slot_there slots zero x h = cc
+slot_there slots (suc n) x h = let z = slot_in slots n x h in (omega arith, omega arith)

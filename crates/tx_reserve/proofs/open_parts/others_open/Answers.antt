@@ -1,9 +1,9 @@
-use Rattle.std.proofs.Common.{◌+◌, refl, arith}
+use Rattle.std.proofs.Common.{refl, arith}
 use Rattle.tx_model.specs.Membership.{others_open}
 use Rattle.tx_reserve.specs.Footprints.{table_of}
 use Rattle.tx_reserve.proofs.AnyStep.{either_else, either_then, one_more}
-use Rattle.tx_reserve.proofs.step_footprint.others_open.Goals as goal
-use Rattle.tx_reserve.proofs.step_footprint.others_open.Goals.{then-is_other_open, else-is_other_open}
+use Rattle.tx_reserve.proofs.open_parts.others_open.Goals as goal
+use Rattle.tx_reserve.proofs.open_parts.others_open.Goals.{then-is_other_open, else-is_other_open}
 
 pub loop-below-init : goal.loop-below-init
 unfolding others_open

@@ -1,0 +1,341 @@
+//! The redo of a step that was taken back, by exchange.
+ghost use Rattle.std.specs.Prelude.{◌≡◌, ◌≤◌, ◌++◌, [], List, length, Some, None, is_some, if◌then◌else◌, vec_capacity, IfErr, IfOk, OnErr, OnOk};
+ghost use Rattle.tx_change.specs.Exchange.{applied, exchanged, AreNamed};
+ghost use Rattle.tx_change.specs.Stacks.{below_top, top_of};
+ghost use Rattle.tx_change.specs.declared.change.Change.{Change};
+ghost use Rattle.tx_live.specs.Content.{IsShaped};
+ghost use Rattle.tx_live.specs.Inverses.{HasStarter};
+ghost use Rattle.tx_live.specs.Redone.{after_outside, moved_by, moved_of, post_in, reposted_in, step_again, with_last, GoesAgain, IsTakenBack, Redoes, TakesBack};
+ghost use Rattle.tx_live.specs.declared.content.Content.{Content};
+ghost use Rattle.tx_live.specs.declared.inverse.Inverse.{Inverse as TheInverse};
+ghost use Rattle.tx_live.specs.declared.undone.Undone.TheVariants as taken;
+ghost use Rattle.tx_model.specs.State.{Object};
+ghost use Rattle.tx_reserve.specs.Objects.{is_in};
+ghost use Rattle.tx_reserve.specs.Reservations.{owner_of};
+ghost use Rattle.tx_txn.specs.Outboxes.{Held};
+
+use crate::aborts::{stand, stands};
+use crate::content::{BoxedTxn, Content};
+use crate::held_posts::post_held;
+use crate::inverse::Inverse;
+use crate::kept_posts::{KeptPost, TakenPost, remake_post};
+use crate::laws::laws;
+use crate::marking::Marked;
+use crate::table::TxnTable;
+use crate::undo::put_mark;
+use crate::undone::Undone;
+use tx_base::{Mark, NoMemory, Pid, Sending};
+use tx_change::{Change, Log, Parts};
+use tx_proc::Answer;
+use tx_reserve::{Objects, Reservations};
+use tx_txn::{Members, Outbox, Txn};
+
+impl Content {
+    /// Makes a step again that was taken back, on the content before it: it reads no plan and judges
+    /// nothing. Answers the inverse, and takes the changes of a step inside off the stack. It takes no
+    /// memory but room that a step inside had in its transaction.
+    ///
+    /// Where that is refused, what makes the step again is handed back, and all is as it was.
+    pub fn redo(&mut self, undone: Undone, stack: &mut Vec<Change>) -> Result<Inverse, Undone>
+        requires { GoesAgain self.old undone stack.old.items }
+        ensures made { (after : Content) (inverse : TheInverse) →
+            Redoes self.old undone stack.old.items after inverse → OnOk result (self.new ≡ after) }
+        ensures back { IsShaped self.old → (after : Content) (rest : List Change) →
+            IsTakenBack self.old undone stack.old.items after rest →
+            IfOk result (TakesBack self.old self.new) }
+        ensures moved { IfOk result (λ made. moved_of made ≡ moved_by undone) }
+        ensures stack { OnOk result
+            (stack.new.items ≡ below_top (moved_by undone) stack.old.items) }
+        ensures capacity { vec_capacity stack.new ≡ vec_capacity stack.old }
+        ensures err { OnErr result (self.new ≡ self.old) }
+        ensures stack_err { OnErr result (stack.new ≡ stack.old) }
+        ensures undone_err { IfErr result (λ back. back ≡ undone) }
+    {
+        match undone {
+            Undone::Outside { log, post } => Ok(self.redo_outside(log, post)),
+            Undone::Inside {
+                starter,
+                count,
+                after,
+                marked,
+                held,
+            } => match self.redo_inside(starter, count, after, marked, held, stack) {
+                Ok(inverse) => Ok(inverse),
+                Err(NoMemory) => Err(Undone::Inside {
+                    starter,
+                    count,
+                    after,
+                    marked,
+                    held,
+                }),
+            },
+            Undone::Begun { boxed, mark } => Ok(self.redo_begun(boxed, mark)),
+            Undone::Committed {
+                starter,
+                count,
+                held,
+            } => match self.redo_committed(starter, count, held, stack) {
+                Ok(inverse) => Ok(inverse),
+                Err(NoMemory) => Err(Undone::Committed {
+                    starter,
+                    count,
+                    held,
+                }),
+            },
+            Undone::Aborted {
+                starter,
+                stands,
+                members,
+            } => Ok(self.redo_aborted(starter, stands, members)),
+        }
+    }
+
+    /// Makes a step outside of transactions again.
+    fn redo_outside(&mut self, log: Log, post: Option<TakenPost>) -> Inverse
+        requires { GoesAgain self.old (taken.Outside log post) [] }
+        ensures made { self.new ≡ after_outside self.old log post }
+        ensures inverse { result ≡ Inverse.Outside (exchanged self.old.parts log) (post_in post) }
+    {
+        let mut log = log;
+        log.lead_forward(&mut self.parts);
+        let post = remake_post_if(&mut self.txns, post);
+        Inverse::Outside { log, post }
+    }
+
+    /// Makes a step inside of the starter's transaction again, whose changes are on top of the stack.
+    ///
+    /// NoMemory where a growth is refused; all is then as it was.
+    fn redo_inside(
+        &mut self,
+        starter: Pid,
+        count: usize,
+        objects: Objects,
+        marked: Option<Marked>,
+        held: Option<Sending>,
+        stack: &mut Vec<Change>,
+    ) -> Result<Inverse, NoMemory>
+        requires { GoesAgain self.old (taken.Inside starter count objects marked held)
+            stack.old.items }
+        ensures made { (after : Content) (inverse : TheInverse) →
+            Redoes self.old (taken.Inside starter count objects marked held) stack.old.items after
+            inverse →
+            OnOk result (self.new ≡ after) }
+        ensures inverse { (after : Content) (inverse : TheInverse) →
+            Redoes self.old (taken.Inside starter count objects marked held) stack.old.items after
+            inverse →
+            IfOk result (λ made. made ≡ inverse) }
+        ensures moved { IfOk result (λ made. moved_of made ≡ count) }
+        ensures stack { OnOk result (stack.new.items ≡ below_top count stack.old.items) }
+        ensures capacity { vec_capacity stack.new ≡ vec_capacity stack.old }
+        ensures err { OnErr result (self.new ≡ self.old) }
+        ensures stack_err { OnErr result (stack.new ≡ stack.old) }
+    {
+        laws();
+        let boxed = self.txns.value_mut(starter);
+        let made = remake_step(
+            &mut boxed.txn,
+            &mut self.parts,
+            &mut self.owners,
+            count,
+            objects,
+            held,
+            stack,
+        );
+        let before = match made {
+            Ok(before) => before,
+            Err(NoMemory) => return Err(NoMemory),
+        };
+        let marked = put_mark(&mut self.marks, marked);
+        Ok(Inverse::Inside {
+            starter,
+            count,
+            before,
+            marked,
+            held: held.is_some(),
+        })
+    }
+
+    /// Makes the first step of this transaction again, which is live then.
+    fn redo_begun(&mut self, boxed: BoxedTxn, mark: Option<Mark>) -> Inverse
+        requires { GoesAgain self.old (taken.Begun boxed mark) [] }
+        ensures made { (after : Content) (inverse : TheInverse) →
+            Redoes self.old (taken.Begun boxed mark) [] after inverse → self.new ≡ after }
+        ensures inverse { result ≡ Inverse.Begun boxed.txn.value.starter }
+    {
+        laws();
+        let mut boxed = boxed;
+        let mut mark = mark;
+        let starter = boxed.txn.starter;
+        boxed.txn.log.lead_forward(&mut self.parts);
+        let _fresh = self.owners.take(starter, &boxed.txn.objects);
+        self.owners.sized();
+        self.marks.swap(starter, &mut mark);
+        self.txns.put(starter, boxed);
+        Inverse::Begun { starter }
+    }
+
+    /// Makes the commit of the starter's transaction again: the changes of its last step are on top of the
+    /// stack, and what it held is posted.
+    ///
+    /// NoMemory where a growth is refused; all is then as it was.
+    fn redo_committed(
+        &mut self,
+        starter: Pid,
+        count: usize,
+        held: Option<Sending>,
+        stack: &mut Vec<Change>,
+    ) -> Result<Inverse, NoMemory>
+        requires { GoesAgain self.old (taken.Committed starter count held) stack.old.items }
+        ensures made { (after : Content) (inverse : TheInverse) →
+            Redoes self.old (taken.Committed starter count held) stack.old.items after inverse →
+            OnOk result (self.new ≡ after) }
+        ensures back { IsShaped self.old → IfOk result (TakesBack self.old self.new) }
+        ensures moved { IfOk result (λ made. moved_of made ≡ count) }
+        ensures stack { OnOk result (stack.new.items ≡ below_top count stack.old.items) }
+        ensures capacity { vec_capacity stack.new ≡ vec_capacity stack.old }
+        ensures err { OnErr result (self.new ≡ self.old) }
+        ensures stack_err { OnErr result (stack.new ≡ stack.old) }
+    {
+        laws();
+        let mut boxed = self.txns.take(starter).unwrap();
+        let made = remake_last(&mut boxed.txn, &mut self.parts, count, held, stack);
+        let Ok(()) = made else {
+            self.txns.put(starter, boxed);
+            return Err(NoMemory);
+        };
+        post_held(&mut self.parts, &mut self.txns, &mut boxed.txn.outbox);
+        boxed.txn.end(&mut self.marks, &mut self.owners);
+        self.owners.sized();
+        Ok(Inverse::Committed {
+            boxed,
+            count,
+            held: held.is_some(),
+        })
+    }
+
+    /// Makes the abort of the starter's transaction again: its starter stands so then, and these were its
+    /// members.
+    fn redo_aborted(&mut self, starter: Pid, answer: Answer, members: Option<Members>) -> Inverse
+        requires { GoesAgain self.old (taken.Aborted starter answer members) [] }
+        ensures made { (after : Content) (inverse : TheInverse) →
+            Redoes self.old (taken.Aborted starter answer members) [] after inverse →
+            self.new ≡ after }
+        ensures inverse { (after : Content) (inverse : TheInverse) →
+            Redoes self.old (taken.Aborted starter answer members) [] after inverse →
+            result ≡ inverse }
+        ensures moved { moved_of result ≡ 0 }
+    {
+        laws();
+        let mut boxed = self.txns.take(starter).unwrap();
+        boxed.txn.lead_back(&mut self.parts);
+        let stood = stands(&self.parts, starter);
+        stand(&mut self.parts, starter, answer);
+        boxed.txn.end(&mut self.marks, &mut self.owners);
+        self.owners.sized();
+        boxed.txn.members = members;
+        Inverse::Aborted { boxed, stood }
+    }
+}
+
+/// Makes a post to what is kept of a starter again, if there was one. Answers what takes it back.
+fn remake_post_if(txns: &mut TxnTable, post: Option<TakenPost>) -> Option<KeptPost>
+    requires { HasStarter txns.old (post_in post) }
+    ensures again { txns.new ≡ reposted_in post txns.old }
+    ensures post { result ≡ post_in post }
+{
+    match post {
+        Some(taken) => Some(remake_post(txns, taken)),
+        None => None,
+    }
+}
+
+/// Makes the last step of a member again, whose changes are on top of the stack, and reserves these
+/// objects. Answers what was reserved before.
+///
+/// NoMemory where a growth is refused; all is then as it was.
+fn remake_step(
+    txn: &mut Txn,
+    parts: &mut Parts,
+    owners: &mut Reservations,
+    count: usize,
+    objects: Objects,
+    held: Option<Sending>,
+    stack: &mut Vec<Change>,
+) -> Result<Objects, NoMemory>
+    requires few { count ≤ length stack.old.items }
+    requires named { AreNamed parts.old (top_of count stack.old.items) }
+    ensures parts { OnOk result (parts.new ≡ applied parts.old (top_of count stack.old.items)) }
+    ensures owners { OnOk result
+        ((o : Object) → owner_of owners.new o
+        ≡ (if is_in objects o then Some txn.old.starter.0 else owner_of owners.old o)) }
+    ensures sized { OnOk result (length owners.new ≡ 352) }
+    ensures txn { OnOk result
+        (txn.new ≡ step_again parts.old (top_of count stack.old.items) objects held txn.old) }
+    ensures stack { OnOk result (stack.new.items ≡ below_top count stack.old.items) }
+    ensures before { IfOk result (λ before. before ≡ txn.old.objects) }
+    ensures capacity { vec_capacity stack.new ≡ vec_capacity stack.old }
+    ensures parts_err { OnErr result (parts.new ≡ parts.old) }
+    ensures owners_err { OnErr result (owners.new ≡ owners.old) }
+    ensures txn_err { OnErr result (txn.new ≡ txn.old) }
+    ensures stack_err { OnErr result (stack.new ≡ stack.old) }
+{
+    remake_last(txn, parts, count, held, stack)?;
+    let before = txn.take_again(owners, objects);
+    owners.sized();
+    Ok(before)
+}
+
+/// Makes the last step of a transaction again, whose changes are on top of the stack, and holds what it
+/// handed out.
+///
+/// NoMemory where a growth is refused; all is then as it was.
+fn remake_last(
+    txn: &mut Txn,
+    parts: &mut Parts,
+    count: usize,
+    held: Option<Sending>,
+    stack: &mut Vec<Change>,
+) -> Result<(), NoMemory>
+    requires few { count ≤ length stack.old.items }
+    requires named { AreNamed parts.old (top_of count stack.old.items) }
+    ensures parts { OnOk result (parts.new ≡ applied parts.old (top_of count stack.old.items)) }
+    ensures txn { OnOk result
+        (txn.new ≡ record txn.old {
+          log = txn.old.log
+              ++ exchanged parts.old (top_of count stack.old.items);
+          outbox = with_last held
+              txn.old.outbox;
+        }) }
+    ensures stack { OnOk result (stack.new.items ≡ below_top count stack.old.items) }
+    ensures capacity { vec_capacity stack.new ≡ vec_capacity stack.old }
+    ensures parts_err { OnErr result (parts.new ≡ parts.old) }
+    ensures txn_err { OnErr result (txn.new ≡ txn.old) }
+    ensures stack_err { OnErr result (stack.new ≡ stack.old) }
+{
+    hold_again(&mut txn.outbox, held)?;
+    if txn.log.move_forward(parts, count, stack).is_err() {
+        forget_again(&mut txn.outbox, held);
+        return Err(NoMemory);
+    }
+    Ok(())
+}
+
+/// Holds this too, if there is one. After want of memory the outbox is as it was.
+fn hold_again(outbox: &mut Outbox, held: Option<Sending>) -> Result<(), NoMemory>
+    ensures held { OnOk result (outbox.new ≡ with_last held outbox.old) }
+    ensures err { OnErr result (outbox.new ≡ outbox.old) }
+{
+    match held {
+        Some(sending) => outbox.hold(sending),
+        None => Ok(()),
+    }
+}
+
+/// Forgets what was held last, if there is one.
+fn forget_again(outbox: &mut Outbox, held: Option<Sending>)
+    ensures { (before : Held) → outbox.old ≡ with_last held before → outbox.new ≡ before }
+{
+    if held.is_some() {
+        let _last = outbox.forget_last();
+    }
+}

@@ -1,0 +1,272 @@
+//! The undo of a step that is kept, so that it can be made again by exchange.
+ghost use Rattle.std.specs.Prelude.{◌≡◌, ◌≤◌, ◌+◌, ◌&&◌, List, not, length, None, if◌then◌else◌, vec_capacity};
+ghost use Rattle.tx_change.specs.Exchange.{undone, AreNamed};
+ghost use Rattle.tx_change.specs.Stacks.{moved_onto};
+ghost use Rattle.tx_change.specs.declared.change.Change.{Change};
+ghost use Rattle.tx_live.specs.Content.{IsShaped};
+ghost use Rattle.tx_live.specs.Inverses.{before_outside, first_of, last_of, less_last, step_back, unposted_in, GoesWith, HasStarter, Undoes};
+ghost use Rattle.tx_live.specs.Redone.{moved_by, moved_of, post_in, reposted_in, IsLastOf, IsTakenBack, EndsWhole};
+ghost use Rattle.tx_live.specs.declared.content.Content.{Content};
+ghost use Rattle.tx_live.specs.declared.inverse.Inverse.TheVariants.{Aborted, Begun, Committed, Inside, Outside};
+ghost use Rattle.tx_model.specs.State.{Object};
+ghost use Rattle.tx_reserve.specs.Objects.{is_in};
+ghost use Rattle.tx_reserve.specs.Reservations.{owner_of};
+
+use crate::aborts::stands;
+use crate::content::{BoxedTxn, Content};
+use crate::held_posts::take_posts;
+use crate::inverse::Inverse;
+use crate::kept_posts::{KeptPost, TakenPost, take_post};
+use crate::laws::laws;
+use crate::marking::Marked;
+use crate::table::TxnTable;
+use crate::undo::put_mark;
+use crate::undone::Undone;
+use tx_base::{Pid, Sending};
+use tx_change::{Change, Log, Parts};
+use tx_proc::Answer;
+use tx_reserve::{Objects, Reservations};
+use tx_txn::Txn;
+
+impl Content {
+    /// Takes the step back whose inverse this is, as `undo` does, and answers what makes it again. The
+    /// changes of a step inside are moved onto the stack, which must have room for them: see
+    /// `Inverse::moved`. It takes no memory and is never refused.
+    pub fn take_back(&mut self, inverse: Inverse, stack: &mut Vec<Change>) -> Undone
+        requires fits { GoesWith self.old inverse }
+        requires room { length stack.old.items + moved_of inverse ≤ vec_capacity stack.old }
+        ensures before { (before : Content) → Undoes self.old inverse before → self.new ≡ before }
+        ensures again { IsShaped self.old → EndsWhole self.old inverse →
+            (before : Content) → IsShaped before → Undoes self.old inverse before →
+            IsTakenBack before result stack.new.items self.old stack.old.items }
+        ensures moved { moved_by result ≡ moved_of inverse }
+        ensures long { length stack.new.items ≡ length stack.old.items + moved_of inverse }
+        ensures capacity { vec_capacity stack.new ≡ vec_capacity stack.old }
+    {
+        match inverse {
+            Inverse::Outside { log, post } => self.take_back_outside(log, post),
+            Inverse::Inside {
+                starter,
+                count,
+                before,
+                marked,
+                held,
+            } => self.take_back_inside(starter, count, before, marked, held, stack),
+            Inverse::Begun { starter } => self.take_back_begun(starter),
+            Inverse::Committed { boxed, count, held } => {
+                self.take_back_committed(boxed, count, held, stack)
+            }
+            Inverse::Aborted { boxed, stood } => self.take_back_aborted(boxed, stood),
+        }
+    }
+
+    /// Takes a step outside of transactions back, and answers what makes it again.
+    fn take_back_outside(&mut self, log: Log, post: Option<KeptPost>) -> Undone
+        requires { GoesWith self.old (Outside log post) }
+        ensures before { self.new ≡ before_outside self.old log post }
+        ensures again { (before : Content) (stack : List Change) →
+            Undoes self.old (Outside log post) before →
+            IsTakenBack before result stack self.old stack }
+        ensures moved { moved_by result ≡ 0 }
+    {
+        laws();
+        let mut log = log;
+        log.lead_back(&mut self.parts);
+        let post = take_post_if(&mut self.txns, post);
+        Undone::Outside { log, post }
+    }
+
+    /// Takes a step inside of the starter's transaction back, and answers what makes it again with the
+    /// changes that it moves onto the stack.
+    fn take_back_inside(
+        &mut self,
+        starter: Pid,
+        count: usize,
+        before: Objects,
+        marked: Option<Marked>,
+        held: bool,
+        stack: &mut Vec<Change>,
+    ) -> Undone
+        requires fits { GoesWith self.old (Inside starter count before marked held) }
+        requires room { length stack.old.items + count ≤ vec_capacity stack.old }
+        ensures before { (prior : Content) →
+            Undoes self.old (Inside starter count before marked held) prior → self.new ≡ prior }
+        ensures again { IsShaped self.old → (prior : Content) →
+            Undoes self.old (Inside starter count before marked held) prior →
+            IsTakenBack prior result stack.new.items self.old stack.old.items }
+        ensures moved { moved_by result ≡ count }
+        ensures long { length stack.new.items ≡ length stack.old.items + count }
+        ensures capacity { vec_capacity stack.new ≡ vec_capacity stack.old }
+    {
+        laws();
+        let boxed = self.txns.value_mut(starter);
+        let after = boxed.txn.objects;
+        let last = move_step(
+            &mut boxed.txn,
+            &mut self.parts,
+            &mut self.owners,
+            count,
+            before,
+            held,
+            stack,
+        );
+        let marked = put_mark(&mut self.marks, marked);
+        Undone::Inside {
+            starter,
+            count,
+            after,
+            marked,
+            held: last,
+        }
+    }
+
+    /// Takes the first step of the starter's transaction back, and answers what makes it again, which
+    /// owns the transaction.
+    fn take_back_begun(&mut self, starter: Pid) -> Undone
+        requires { GoesWith self.old (Begun starter) }
+        ensures before { (prior : Content) → Undoes self.old (Begun starter) prior →
+            self.new ≡ prior }
+        ensures again { IsShaped self.old → (prior : Content) (stack : List Change) →
+            Undoes self.old (Begun starter) prior →
+            IsTakenBack prior result stack self.old stack }
+        ensures moved { moved_by result ≡ 0 }
+    {
+        laws();
+        let mut boxed = self.txns.take(starter).unwrap();
+        boxed.txn.log.lead_back(&mut self.parts);
+        self.owners.release(&boxed.txn.objects);
+        self.owners.sized();
+        let mark = self.marks.take(starter);
+        Undone::Begun { boxed, mark }
+    }
+
+    /// Takes the commit of this transaction back, and answers what makes it again with the changes that
+    /// it moves onto the stack.
+    fn take_back_committed(
+        &mut self,
+        boxed: BoxedTxn,
+        count: usize,
+        held: bool,
+        stack: &mut Vec<Change>,
+    ) -> Undone
+        requires fits { GoesWith self.old (Committed boxed count held) }
+        requires room { length stack.old.items + count ≤ vec_capacity stack.old }
+        ensures before { (prior : Content) → Undoes self.old (Committed boxed count held) prior →
+            self.new ≡ prior }
+        ensures again { IsShaped self.old → EndsWhole self.old (Committed boxed count held) →
+            (prior : Content) → IsShaped prior →
+            Undoes self.old (Committed boxed count held) prior →
+            IsTakenBack prior result stack.new.items self.old stack.old.items }
+        ensures moved { moved_by result ≡ count }
+        ensures long { length stack.new.items ≡ length stack.old.items + count }
+        ensures capacity { vec_capacity stack.new ≡ vec_capacity stack.old }
+    {
+        laws();
+        let mut boxed = boxed;
+        let starter = boxed.txn.starter;
+        take_posts(&mut self.parts, &mut self.txns, &mut boxed.txn.outbox);
+        let last = move_last(&mut boxed.txn, &mut self.parts, count, held, stack);
+        boxed.txn.revive(&mut self.marks, &mut self.owners);
+        self.owners.sized();
+        self.txns.put(starter, boxed);
+        Undone::Committed {
+            starter,
+            count,
+            held: last,
+        }
+    }
+
+    /// Takes the abort of this transaction back, and answers what makes it again.
+    fn take_back_aborted(&mut self, boxed: BoxedTxn, stood: Answer) -> Undone
+        requires { GoesWith self.old (Aborted boxed stood) }
+        ensures before { (prior : Content) → Undoes self.old (Aborted boxed stood) prior →
+            self.new ≡ prior }
+        ensures again { IsShaped self.old → EndsWhole self.old (Aborted boxed stood) →
+            (prior : Content) (stack : List Change) → IsShaped prior →
+            Undoes self.old (Aborted boxed stood) prior →
+            IsTakenBack prior result stack self.old stack }
+        ensures moved { moved_by result ≡ 0 }
+    {
+        laws();
+        let starter = boxed.txn.starter;
+        let members = boxed.txn.members;
+        let stands = stands(&self.parts, starter);
+        self.undo_aborted(boxed, stood);
+        Undone::Aborted {
+            starter,
+            stands,
+            members,
+        }
+    }
+}
+
+/// Takes a post to what is kept of a starter back, if there was one, and answers what makes it again.
+fn take_post_if(txns: &mut TxnTable, post: Option<KeptPost>) -> Option<TakenPost>
+    requires { HasStarter txns.old post }
+    ensures taken { txns.new ≡ unposted_in post txns.old }
+    ensures post { post_in result ≡ post }
+    ensures again { reposted_in result txns.new ≡ txns.old }
+{
+    let post = post?;
+    Some(take_post(txns, post))
+}
+
+/// Takes the last step of a member back: moves so many of the log's last changes onto the stack, and gives
+/// up what was not reserved before. Answers what it handed out, if it did.
+fn move_step(
+    txn: &mut Txn,
+    parts: &mut Parts,
+    owners: &mut Reservations,
+    count: usize,
+    before: Objects,
+    held: bool,
+    stack: &mut Vec<Change>,
+) -> Option<Sending>
+    requires few { count ≤ length txn.old.log }
+    requires named { AreNamed parts.old txn.old.log }
+    requires room { length stack.old.items + count ≤ vec_capacity stack.old }
+    ensures parts { parts.new ≡ undone parts.old (last_of count txn.old.log) }
+    ensures owners { (o : Object) →
+        owner_of owners.new o
+        ≡ (if is_in txn.old.objects o && not (is_in before o) then None
+        else owner_of owners.old o) }
+    ensures sized { length owners.new ≡ 352 }
+    ensures txn { txn.new ≡ step_back count before held txn.old }
+    ensures stack { stack.new.items
+        ≡ moved_onto stack.old.items parts.old (last_of count txn.old.log) }
+    ensures capacity { vec_capacity stack.new ≡ vec_capacity stack.old }
+    ensures last { IsLastOf held txn.old.outbox result }
+{
+    let last = move_last(txn, parts, count, held, stack);
+    txn.give_up(owners, before);
+    owners.sized();
+    last
+}
+
+/// Takes the last step of a transaction back: moves so many of the log's last changes onto the stack.
+/// Answers what it handed out, if it did.
+fn move_last(
+    txn: &mut Txn,
+    parts: &mut Parts,
+    count: usize,
+    held: bool,
+    stack: &mut Vec<Change>,
+) -> Option<Sending>
+    requires few { count ≤ length txn.old.log }
+    requires named { AreNamed parts.old txn.old.log }
+    requires room { length stack.old.items + count ≤ vec_capacity stack.old }
+    ensures parts { parts.new ≡ undone parts.old (last_of count txn.old.log) }
+    ensures txn { txn.new
+        ≡ record txn.old {
+          log = first_of count txn.old.log;
+          outbox = less_last held
+              txn.old.outbox;
+        } }
+    ensures stack { stack.new.items
+        ≡ moved_onto stack.old.items parts.old (last_of count txn.old.log) }
+    ensures capacity { vec_capacity stack.new ≡ vec_capacity stack.old }
+    ensures last { IsLastOf held txn.old.outbox result }
+{
+    txn.log.move_back(parts, count, stack);
+    if held { txn.outbox.forget_last() } else { None }
+}
