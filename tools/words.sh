@@ -25,12 +25,12 @@ is_number() {
 help_words() {
     case $#:${1-} in
         0:) tell txos ;;
-        1:replay | 1:debug | 1:run | 1:help) tell "$1" ;;
+        1:replay | 1:debug | 1:run | 1:check | 1:explain | 1:version | 1:help) tell "$1" ;;
         *) refuse txos "'$*' is no command that there is help for" ;;
     esac
 }
 
-# The words after `replay` or `debug`, which take none.
+# The words after `replay`, `debug`, `check` or `version`, which take none.
 lone_words() {
     local command=$1
     shift
@@ -39,6 +39,23 @@ lone_words() {
         *:-h | *:--help) tell "$command" ;;
         *) refuse "$command" "'$1' is not understood after $command" ;;
     esac
+}
+
+# The words after `explain`: one, or none. A number may have `-` before it.
+explain_words() {
+    local word
+    case $#:${1-} in
+        1:-[0-9]*) return ;;
+    esac
+    for word in "$@"; do
+        case $word in
+            -h | --help) tell explain ;;
+            --) break ;;
+            -?*) refuse explain "'$word' is not understood after explain" ;;
+        esac
+    done
+    [ "${1-}" != -- ] || shift
+    [ $# -le 1 ] || [ "$#:$2" = 2:-- ] || refuse explain "'$2' is not understood after explain"
 }
 
 # The words after `run`: its two numbers, each once.
@@ -72,7 +89,9 @@ answer_words() {
     case $1 in
         -h | --help) tell txos ;;
         help) help_words "${@:2}" ;;
-        replay | debug) lone_words "$@" ;;
+        replay | debug | check | version) lone_words "$@" ;;
+        explain) explain_words "${@:2}" ;;
+        -V | --version) tell own_version ;;
         run) run_words "${@:2}" ;;
         *) refuse txos "'$1' is no command" ;;
     esac

@@ -9,6 +9,8 @@
 #![tactic(auto)]
 
 #[cfg(test)]
+mod checks;
+#[cfg(test)]
 mod descriptors;
 #[cfg(test)]
 mod ends;
@@ -20,6 +22,8 @@ mod journals;
 mod kernel;
 #[cfg(test)]
 mod machine;
+#[cfg(test)]
+mod meanings;
 #[cfg(test)]
 mod memory;
 #[cfg(test)]

@@ -6,7 +6,8 @@ use Rattle.std.specs.List.{fold, list_all}
 use Rattle.std.specs.Str.{bytes_eq}
 use Rattle.std.proofs.lemmas.Slice.Eq.{bytes_eq-Decides}
 use Rattle.clap.specs.Faults.{check_fault, defaults_fault, entered_fault, fault_of, is_simple_and_free, level_fault, other_fault, settle_fault, turn_fault, walk_fault, word_fault}
-use Rattle.clap.specs.Kinds.{Kinds, or_else}
+use Rattle.clap.specs.Kinds.{HasKind, Kinds, or_else}
+use Rattle.clap.specs.declared.error.Error.{Error}
 use Rattle.clap.specs.Lexer.{long_of, short_of}
 use Rattle.clap.specs.Matches.{subcommand_name_of}
 use Rattle.clap.specs.Simple.{App, HasMatchesOf, Shape, app_of, app_of_fields, argument_words, built, entered, is_simple, label_of, names_of, on_top, rows_at, subcommand_of, subcommand_rows, with_subcommand}
@@ -232,6 +233,9 @@ parse_names a words m is has =
 
 pub no_fault : (a : App) (words : List Text) → a ≡ command_line → (is_simple_and_free a ≡ true → fault_of a words ≡ []) → fault_of command_line words ≡ []
 no_fault a words is passes = ap (λ (x : App). fault_of x words) (sym is) ∙ passes (ap is_simple_and_free is)
+
+pub fault_kind : (a : App) (words : List Text) (error : Error) → a ≡ command_line → (is_simple_and_free a ≡ true → HasKind (fault_of a words) error) → HasKind (fault_of command_line words) error
+fault_kind a words error is kind = subst (λ (x : App). HasKind (fault_of x words) error) is (kind (ap is_simple_and_free is))
 
 -- ---- the command that the program builds
 

@@ -1,11 +1,13 @@
 -- The words of the program's command line.
-use Rattle.std.specs.Prelude.{ℕ, List, [], ◌∷◌, Option, Some, codes, fold, option_map, pos, true}
+use Rattle.std.specs.Char.{is_ascii_digit}
+use Rattle.std.specs.Str.{bytes_eq}
+use Rattle.std.specs.Prelude.{◌==◌, ◌&&◌, if◌then◌else◌, Bool, false, None, ℕ, List, [], ◌∷◌, Option, Some, codes, fold, option_map, pos, true}
 use Rattle.clap.specs.Simple.{Shape, new_rule, new_shape, on_top}
 use Rattle.clap.specs.Walk.{Rule}
 use Rattle.clap.specs.Words.{App, Text, new_app, subcommand_of, with_subcommand}
 use Rattle.clap.specs.declared.builder.value_parser.ValueParser.TheVariants.{Signed}
 use Rattle.txos.specs.declared.words.Asked.{Asked}
-use Rattle.txos.specs.declared.words.Asked.TheVariants.{Debug, Replay, Run}
+use Rattle.txos.specs.declared.words.Asked.TheVariants.{Check, Debug, Explain, Replay, Run, Version}
 
 -- an option that is required, whose value is a number from 1 to that one
 abbrev pub number_option : Text → ℕ → Rule
@@ -15,26 +17,59 @@ number_option name most = record (new_rule name) {
   required = true;
 }
 
+-- a command with no words of its own
+abbrev pub text_line : Text → Shape
+text_line name = new_shape name
+
+-- the command that runs a program, with the first of its numbers
+abbrev pub workers_line : Shape
+workers_line = record (new_shape (codes "run")) { rules = number_option (codes "workers") 16 ∷ [] }
+
 -- the command that runs a program
 abbrev pub run_line : Shape
 run_line = record (new_shape (codes "run")) { rules = number_option (codes "workers") 16 ∷ number_option (codes "turns") 10000 ∷ [] }
 
+-- the command that explains a word, which may be missing
+abbrev pub explain_line : Shape
+explain_line = record (new_shape (codes "explain")) { rules = new_rule (codes "word") ∷ [] }
+
 -- the commands, in the order in which they are added
 abbrev pub commands : List Shape
-commands = new_shape (codes "replay") ∷ new_shape (codes "debug") ∷ run_line ∷ []
+commands =
+    text_line (codes "replay") ∷ text_line (codes "debug") ∷ run_line ∷ text_line (codes "check") ∷ explain_line
+    ∷ text_line (codes "version") ∷ []
+
+-- the program's name, and that a command is wanted; clap adds its own `--version`
+abbrev pub top_line : App
+top_line = on_top (λ top. record top { subcommand_required = true; has_version = true }) (new_app (codes "txos"))
 
 -- one of the commands, which is required; clap adds its own `help`
 abbrev pub command_line : App
-command_line = fold with_subcommand
-    (on_top (λ top. record top { subcommand_required = true }) (new_app (codes "txos")))
-    commands
+command_line = fold with_subcommand top_line commands
 
 -- the word of a command
 abbrev pub name_of : Asked → Text
 name_of Replay = codes "replay"
 name_of Debug = codes "debug"
 name_of (Run crew) = codes "run"
+name_of Check = codes "check"
+name_of (Explain word) = codes "explain"
+name_of Version = codes "version"
 
 -- the command that the words name
 abbrev pub named : List Text → Option Text
 named words = option_map (λ found. found.0) (subcommand_of command_line words)
+
+-- `-` and then a digit, and maybe more
+abbrev pub begins_negative : Text → Bool
+begins_negative [] = false
+begins_negative (first ∷ []) = false
+begins_negative (first ∷ second ∷ rest) = first == 45 && is_ascii_digit second
+
+abbrev pub number_behind : Text → Text → Option Text
+number_behind command word = if bytes_eq command (codes "explain") && begins_negative word then Some word else None
+
+-- the number with `-` before it that words ask to be explained
+abbrev pub asked_number : List Text → Option Text
+asked_number (name ∷ command ∷ word ∷ []) = number_behind command word
+asked_number words = None

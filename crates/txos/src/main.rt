@@ -1,10 +1,11 @@
 //! The program: reads its words, and then a text.
 //!
-//! The program. `main` is thin: it reads the words with `clap`, calls `replay`, `debug` or
-//! `run_program` over the standard streams, and answers a status.
+//! The program. `main` is thin: it reads the words with `clap`, calls `replay`, `debug`,
+//! `run_program` or `check` over the standard streams, or writes what a word means, and answers a
+//! status.
 #![tactic(auto)]
 
-ghost use Rattle.std.specs.Prelude.{◌≡◌, OnErr, OnOk};
+ghost use Rattle.std.specs.Prelude.{◌≡◌, IfOk, OnErr, OnOk, false, true};
 ghost use Rattle.std.specs.Process.{exit_status};
 ghost use Rattle.tx_lines.specs.Ends.{IsFresh};
 
@@ -17,10 +18,12 @@ use std::process::ExitCode;
 use std::sync::Wait;
 use std::thread::Threads;
 use std::{env, io};
-use tx_lines::{Fault, OverRead, OverWrite, Sink, Source};
+use tx_check::check;
+use tx_explain::{explain, listing, nearest};
+use tx_lines::{Fault, OverRead, OverWrite, Sink, Source, write_whole};
 use tx_script::{debug, replay};
 use tx_workers::run_program;
-use words::{Asked, Crew, read_words};
+use words::{Asked, Crew, VERSION_LINE, number_asked, read_words};
 
 /// The status of a fault.
 const FAULTY: u8 = 1;
@@ -42,6 +45,10 @@ fn main(rt: HostRuntime) -> ExitCode {
     let Ok(words) = given.collect::<Vec<String>>(rt.alloc()) else {
         return out_of_memory(&rt);
     };
+    if let Some(word) = number_asked(words.as_slice()) {
+        let mut sink = OverWrite::new(io::writer(&rt));
+        return tell(&rt, rt.alloc(), Some(word), &mut sink);
+    }
     match read_words(rt.alloc(), words.as_slice()) {
         Ok(asked) => {
             let mut source = OverRead::new(rt.reader());
@@ -59,7 +66,13 @@ fn main(rt: HostRuntime) -> ExitCode {
 }
 
 /// Answers the text of a source.
-fn answer<R, S, W>(rt: &R, alloc: Global, asked: Asked, source: &mut S, sink: &mut W) -> ExitCode
+fn answer<R, S, W>(
+    rt: &R,
+    alloc: Global,
+    asked: Asked<'_>,
+    source: &mut S,
+    sink: &mut W,
+) -> ExitCode
 where
     R: Eprint + Threads + Wait + Sync,
     S: Source,
@@ -73,7 +86,39 @@ where
         Asked::Run(Crew { workers, turns }) => {
             status_of(rt, run_program(rt, alloc, source, sink, workers, turns))
         }
+        Asked::Check => status_of_check(rt, check(alloc, source, sink)),
+        Asked::Explain(word) => tell(rt, alloc, word, sink),
+        Asked::Version => status_of(rt, write_whole(sink, VERSION_LINE.as_bytes())),
     }
+}
+
+/// Writes what a word means, or without one the list of all words. A word that is not explained is
+/// one that is not understood.
+fn tell<R, W>(rt: &R, alloc: Global, word: Option<&str>, sink: &mut W) -> ExitCode
+where
+    R: Eprint,
+    W: Sink,
+    requires { IsFresh (W.counts sink.old) }
+{
+    let Some(word) = word else {
+        return status_of(rt, write_whole(sink, listing().as_bytes()));
+    };
+    let Some(text) = explain(word) else {
+        return unexplained(rt, alloc, word);
+    };
+    status_of(rt, write_whole(sink, text.as_bytes()))
+}
+
+/// Says that a word is not explained, and which one may be meant.
+fn unexplained(rt: &impl Eprint, alloc: Global, word: &str) -> ExitCode {
+    let Ok(near) = nearest(alloc, word) else {
+        return out_of_memory(rt);
+    };
+    let _ = eprintln!(rt; "error: '{word}' is not explained; 'txos explain' lists the words");
+    if let Some(near) = near {
+        let _ = eprintln!(rt; "  tip: a similar word exists: '{near}'");
+    }
+    ExitCode::from(UNREAD)
 }
 
 /// The status of a command's answer. A fault is printed.
@@ -87,6 +132,19 @@ fn status_of<E: Display + Drop>(rt: &impl Eprint, answer: Result<(), E>) -> Exit
             let _ = eprintln!(rt; "txos: {fault}");
             ExitCode::from(FAULTY)
         }
+    }
+}
+
+/// The status of a check: that of a fault too where the text can't be read. A fault is printed.
+fn status_of_check(rt: &impl Eprint, answer: Result<bool, Fault>) -> ExitCode
+    ensures read { IfOk answer (λ is_read. is_read ≡ true → exit_status result ≡ 0) }
+    ensures unread { IfOk answer (λ is_read. is_read ≡ false → exit_status result ≡ FAULTY) }
+    ensures fault { OnErr answer (exit_status result ≡ FAULTY) }
+{
+    match answer {
+        Ok(false) => ExitCode::from(FAULTY),
+        Ok(true) => ExitCode::SUCCESS,
+        Err(fault) => status_of(rt, Err(fault)),
     }
 }
 

@@ -1,22 +1,36 @@
 //! The words that the program is given.
-ghost use Rattle.std.specs.Prelude.{◌≡◌, IfOk, Some, false, map, string_bytes};
+ghost use Rattle.std.specs.Prelude.{◌≡◌, IfOk, Some, false, map, option_map, string_bytes};
 ghost use Rattle.clap.specs.Words.{FailsBy, app_of, fault_of};
 ghost use Rattle.clap.specs.declared.builder.command.Command.TheViews.{out-Command};
-ghost use Rattle.txos.specs.CommandLine.{command_line, name_of, named, run_line};
+ghost use Rattle.txos.specs.CommandLine.{asked_number, begins_negative, command_line, explain_line};
+ghost use Rattle.txos.specs.CommandLine.{name_of, named, number_behind, run_line, text_line};
+ghost use Rattle.txos.specs.CommandLine.{top_line, workers_line};
 
 use clap::error::Error;
 use clap::{Arg, ArgMatches, Command, value_parser};
 use std::alloc::{AllocError, Global};
 
+/// The version of the program.
+const VERSION: &str = "1.0.0";
+
+/// The line that tells the version, as clap writes it.
+pub const VERSION_LINE: &str = "txos 1.0.0\n";
+
 /// What the program is asked to do.
 #[derive(Clone, Copy)]
-pub enum Asked {
+pub enum Asked<'a> {
     /// To read a schedule, make its steps, and write the replies and the state.
     Replay,
     /// To read a schedule and commands, and write what each command answers.
     Debug,
     /// To read a program, run it by workers, and write what they did.
     Run(Crew),
+    /// To read a text, and write what is wrong with each of its lines that is at fault.
+    Check,
+    /// To write what a word means, or the list of all words.
+    Explain(Option<&'a str>),
+    /// To write the version.
+    Version,
 }
 
 /// By how many workers a program is run, and how many turns each takes.
@@ -29,7 +43,7 @@ pub struct Crew {
 }
 
 /// What the words ask for. The first word is the program's own name.
-pub fn read_words(alloc: Global, words: &[String]) -> Result<Asked, Error>
+pub fn read_words<'a>(alloc: Global, words: &'a [String]) -> Result<Asked<'a>, Error>
     ensures reads { FailsBy (fault_of command_line (map string_bytes words.now)) result }
     ensures asked { IfOk result (λ asked.
         named (map string_bytes words.now) ≡ Some (name_of asked)) }
@@ -40,8 +54,42 @@ pub fn read_words(alloc: Global, words: &[String]) -> Result<Asked, Error>
         Some("replay") => Ok(Asked::Replay),
         Some("debug") => Ok(Asked::Debug),
         Some("run") => Ok(Asked::Run(crew_of(&matches)?)),
+        Some("check") => Ok(Asked::Check),
+        Some("explain") => Ok(Asked::Explain(word_of(&matches))),
+        Some("version") => Ok(Asked::Version),
         // Words that name no command, or ask for help, are an `Err` of clap's.
         _ => unreachable!(),
+    }
+}
+
+/// The number with `-` before it that the words ask to be explained, if they do: clap would take
+/// such a word for an option.
+pub fn number_asked(words: &[String]) -> Option<&str>
+    ensures { option_map (λ word. word.now) result ≡ asked_number (map string_bytes words.now) }
+{
+    match words {
+        [_, command, word] => number_behind(command.as_str(), word.as_str()),
+        _ => None,
+    }
+}
+
+/// The word, where it is a number with `-` before it behind `explain`.
+fn number_behind<'a>(command: &str, word: &'a str) -> Option<&'a str>
+    ensures { option_map (λ word. word.now) result ≡ number_behind command.now word.entry.now }
+{
+    if command == "explain" && is_negative(word) {
+        return Some(word);
+    }
+    None
+}
+
+/// Whether a word is `-` and then a digit, and maybe more.
+fn is_negative(word: &str) -> bool
+    ensures { result ≡ begins_negative word.now }
+{
+    match word.as_bytes() {
+        [b'-', digit, ..] => digit.is_ascii_digit(),
+        _ => false,
     }
 }
 
@@ -54,16 +102,88 @@ fn crew_of(matches: &ArgMatches<'_>) -> Result<Crew, AllocError> {
     })
 }
 
+/// The word that the words of `explain` give, if any.
+fn word_of<'a>(matches: &ArgMatches<'a>) -> Option<&'a str> {
+    matches.subcommand_matches("explain")?.get_str("word")
+}
+
 /// The program's command line: one of its commands, which is required.
 fn new_command<'a>(alloc: Global) -> Result<Command<'a>, AllocError>
     ensures { IfOk result (λ command. app_of command ≡ command_line) }
 {
-    let command = Command::new(alloc, "txos")
-        .subcommand_required(true)
-        .subcommand(Command::new(alloc, "replay"))?
-        .subcommand(Command::new(alloc, "debug"))?
-        .subcommand(run_command(alloc)?)?;
+    let command = top_command(alloc)
+        .subcommand(text_command(alloc, "replay", REPLAY)?)?
+        .subcommand(text_command(alloc, "debug", DEBUG)?)?
+        .subcommand(run_command(alloc)?)?
+        .subcommand(text_command(alloc, "check", CHECK)?)?
+        .subcommand(explain_command(alloc)?)?
+        .subcommand(text_command(alloc, "version", PRINT_VERSION)?)?;
     Ok(command)
+}
+
+/// The program's command line, without its commands.
+fn top_command<'a>(alloc: Global) -> Command<'a>
+    ensures { app_of result ≡ top_line }
+{
+    Command::new(alloc, "txos")
+        .subcommand_required(true)
+        .about("A kernel held in memory, with transactions over processes")
+        .version(VERSION)
+}
+
+/// What help says of a command: a line of what it does, and an example.
+#[derive(Clone, Copy)]
+struct Told {
+    about: &'static str,
+    example: &'static str,
+}
+
+const REPLAY: Told = Told {
+    about: "Reads a schedule from standard input, and writes its replies and the last state",
+    example: "Example: txos replay < examples/first.txos",
+};
+
+const DEBUG: Told = Told {
+    about: "Reads a schedule and commands from standard input, and walks back and forward",
+    example: "Example: txos debug < examples/commit_and_abort.walk",
+};
+
+const RUN: Told = Told {
+    about: "Reads a program from standard input, runs it by workers, and writes what they did",
+    example: "Example: txos run --workers 1 --turns 24 < examples/fall_back.program",
+};
+
+const CHECK: Told = Told {
+    about: "Reads a text from standard input, and says of each line at fault what is wrong",
+    example: "Example: txos check < examples/first.txos",
+};
+
+const EXPLAIN: Told = Told {
+    about: "Says what a word or a number of a text, a report or a fault means",
+    example: "Example: txos explain N8",
+};
+
+const PRINT_VERSION: Told = Told {
+    about: "Writes the version of the program",
+    example: "Example: txos version",
+};
+
+/// A command with no words of its own.
+fn text_command<'a>(alloc: Global, name: &'a str, told: Told) -> Result<Command<'a>, AllocError>
+    ensures shape { IfOk result (λ command. (app_of command).top ≡ text_line name.now) }
+    ensures local { IfOk result (λ command. (out-Command command).has_globals ≡ false) }
+{
+    Ok(told_command(alloc, name, told))
+}
+
+/// A command of that name, with what help says of it.
+fn told_command<'a>(alloc: Global, name: &'a str, told: Told) -> Command<'a>
+    ensures shape { (app_of result).top ≡ text_line name.now }
+    ensures local { (out-Command result).has_globals ≡ false }
+{
+    Command::new(alloc, name)
+        .about(told.about)
+        .after_help(told.example)
 }
 
 /// The command that runs a program, with its two numbers, both required.
@@ -71,13 +191,34 @@ fn run_command<'a>(alloc: Global) -> Result<Command<'a>, AllocError>
     ensures shape { IfOk result (λ command. (app_of command).top ≡ run_line) }
     ensures local { IfOk result (λ command. (out-Command command).has_globals ≡ false) }
 {
-    let workers = Arg::new(alloc, "workers")
-        .long("workers")
-        .required(true)
-        .value_parser(value_parser!(u16).range(1..=16));
     let turns = Arg::new(alloc, "turns")
         .long("turns")
+        .help("How many turns each worker takes, 1 to 10000")
         .required(true)
         .value_parser(value_parser!(u32).range(1..=10_000));
-    Command::new(alloc, "run").arg(workers)?.arg(turns)
+    workers_command(alloc)?.arg(turns)
+}
+
+/// The command that runs a program, with the first of its numbers.
+fn workers_command<'a>(alloc: Global) -> Result<Command<'a>, AllocError>
+    ensures shape { IfOk result (λ command. (app_of command).top ≡ workers_line) }
+    ensures local { IfOk result (λ command. (out-Command command).has_globals ≡ false) }
+{
+    let workers = Arg::new(alloc, "workers")
+        .long("workers")
+        .help("How many workers, 1 to 16")
+        .required(true)
+        .value_parser(value_parser!(u16).range(1..=16));
+    told_command(alloc, "run", RUN).arg(workers)
+}
+
+/// The command that says what a word means, with the word, which may be missing.
+fn explain_command<'a>(alloc: Global) -> Result<Command<'a>, AllocError>
+    ensures shape { IfOk result (λ command. (app_of command).top ≡ explain_line) }
+    ensures local { IfOk result (λ command. (out-Command command).has_globals ≡ false) }
+{
+    let word = Arg::new(alloc, "word").help(
+        "A refusal, a fault, an error, a call, a word of a text; none: lists all",
+    );
+    told_command(alloc, "explain", EXPLAIN).arg(word)
 }

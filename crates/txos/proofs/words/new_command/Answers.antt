@@ -1,9 +1,11 @@
-use Rattle.txos.proofs.CommandNamed.{added, added_as, required}
+use Rattle.txos.proofs.CommandNamed.{added_as}
 use Rattle.txos.proofs.words.new_command.Goals as goal
 
 pub returns : goal.returns
 returns c =
-    let top = required _ _ _ c.new.ensures.app c.subcommand_required.ensures in
-    let replay = added _ _ _ _ _ top c.new-2.ensures.app c.new-2.ensures.local c.in_ok-subcommand.ensures in
-    let debug = added _ _ _ _ _ replay c.new-3.ensures.app c.new-3.ensures.local c.in_ok-subcommand-2.ensures in
-    added_as _ _ _ _ _ debug c.in_ok-run_command.ensures.shape c.in_ok-run_command.ensures.local c.in_ok-command.ensures
+    let replay = added_as _ _ _ _ _ c.top_command.ensures c.in_ok-text_command.ensures.shape c.in_ok-text_command.ensures.local c.in_ok-subcommand.ensures in
+    let debug = added_as _ _ _ _ _ replay c.in_ok-text_command-2.ensures.shape c.in_ok-text_command-2.ensures.local c.in_ok-subcommand-2.ensures in
+    let run = added_as _ _ _ _ _ debug c.in_ok-run_command.ensures.shape c.in_ok-run_command.ensures.local c.in_ok-subcommand-3.ensures in
+    let check = added_as _ _ _ _ _ run c.in_ok-text_command-3.ensures.shape c.in_ok-text_command-3.ensures.local c.in_ok-subcommand-4.ensures in
+    let explain = added_as _ _ _ _ _ check c.in_ok-explain_command.ensures.shape c.in_ok-explain_command.ensures.local c.in_ok-subcommand-5.ensures in
+    added_as _ _ _ _ _ explain c.in_ok-text_command-4.ensures.shape c.in_ok-text_command-4.ensures.local c.in_ok-command.ensures

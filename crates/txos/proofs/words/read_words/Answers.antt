@@ -1,5 +1,5 @@
-use Rattle.std.proofs.Common.{rules, ◌∙◌, inl, inr, map, string_bytes, subst, sym}
-use Rattle.txos.proofs.CommandNamed.{SomeOneOf, command_names, no_fault, no_fault_names, parse_names}
+use Rattle.std.proofs.Common.{rules, ◌≡◌, ◌∙◌, ℕ, List, Some, Bor, ap, codes, inl, inr, map, option_map, string_bytes, subst, sym}
+use Rattle.txos.proofs.CommandNamed.{SomeOneOf, command_names, fault_kind, no_fault, no_fault_names, parse_names}
 use Rattle.txos.proofs.words.read_words.Goals as goal
 
 pub returns-in-Some-replay-clause-reads : goal.returns-in-Some-replay-clause-reads
@@ -11,6 +11,26 @@ returns-in-Some-debug-clause-reads c = no_fault _ _ c.in_ok-command.ensures c.in
 pub returns-in-Some-run-clause-reads : goal.returns-in-Some-run-clause-reads
 returns-in-Some-run-clause-reads c = no_fault _ _ c.in_ok-command.ensures c.in_ok-matches.ensures.kinds
 
+pub returns-in-Some-check-clause-reads : goal.returns-in-Some-check-clause-reads
+returns-in-Some-check-clause-reads c = no_fault _ _ c.in_ok-command.ensures c.in_ok-matches.ensures.kinds
+
+pub returns-in-Some-explain-clause-reads : goal.returns-in-Some-explain-clause-reads
+returns-in-Some-explain-clause-reads c = no_fault _ _ c.in_ok-command.ensures c.in_ok-matches.ensures.kinds
+
+pub returns-in-Some-version-clause-reads : goal.returns-in-Some-version-clause-reads
+returns-in-Some-version-clause-reads c = no_fault _ _ c.in_ok-command.ensures c.in_ok-matches.ensures.kinds
+
+pub returns-in_err-matches-clause-reads : goal.returns-in_err-matches-clause-reads
+returns-in_err-matches-clause-reads c =
+    let kind = fault_kind _ _ c.in_err-matches.field-0.0 c.in_ok-command.ensures c.in_err-matches.ensures.kinds in
+    search (rules, kind)
+
+pub returns-in-Some-explain-clause-asked : goal.returns-in-Some-explain-clause-asked
+returns-in-Some-explain-clause-asked c =
+    let name : c.in-Some-explain.field-0.now ≡ codes "explain" = search rules in
+    parse_names _ _ _ c.in_ok-command.ensures c.in_ok-matches.ensures.matches ∙ sym c.subcommand_name.ensures
+    ∙ ap (option_map (λ (s : Bor (List ℕ)). s.now)) c.in-Some-explain.is ∙ ap (λ (t : List ℕ). Some t) name
+
 pub unreachable-requires : goal.unreachable-requires
 unreachable-requires c =
     let is = c.in_ok-command.ensures in
@@ -21,11 +41,20 @@ unreachable-requires c =
           let one = rw w.in_default.is at met in
           elim one [
             | inl replay ↦ absurd (w.in_default.not-replay (search (rules, replay)))
-            | inr other ↦ elim other [
+            | inr two ↦ elim two [
               | inl debug ↦ absurd (w.in_default.not-debug (search (rules, debug)))
-              | inr last ↦ elim last [
+              | inr three ↦ elim three [
                 | inl run ↦ absurd (w.in_default.not-run (search (rules, run)))
-                | inr none ↦ none
+                | inr four ↦ elim four [
+                  | inl check ↦ absurd (w.in_default.not-check (search (rules, check)))
+                  | inr five ↦ elim five [
+                    | inl explain ↦ absurd (w.in_default.not-explain (search (rules, explain)))
+                    | inr six ↦ elim six [
+                      | inl version ↦ absurd (w.in_default.not-version (search (rules, version)))
+                      | inr none ↦ none
+                    ]
+                  ]
+                ]
               ]
             ]
           ]

@@ -1,0 +1,5 @@
+pub mod Appended
+pub mod Found
+pub mod Heard
+pub mod InLine
+pub mod Numbered

@@ -1,0 +1,38 @@
+-- Whether a line is right by itself, by what is to stand in its place.
+use Rattle.std.specs.Prelude.{◌≡◌, List, ℕ, ◌⊎◌}
+use Rattle.tx_base.specs.declared.steps.Step.{Step}
+use Rattle.tx_check.specs.declared.places.Part.{Part}
+use Rattle.tx_check.specs.declared.places.Part.TheVariants as parts
+use Rattle.tx_lines.specs.Lines.{step_text}
+use Rattle.tx_lines.specs.Programs.{line_text, IsLineOf}
+use Rattle.tx_lines.specs.Schedule.{FitsStepOf}
+use Rattle.tx_lines.specs.Walks.{command_text, debug_line, FitsCommand}
+use Rattle.tx_lines.specs.declared.instructions.Line.{Line}
+use Rattle.tx_lines.specs.declared.read.command.Command.{Command}
+use Rattle.tx_lines.specs.declared.read.header.Version.{Version}
+
+-- the line spells a step of that version
+pub record SpellsStep (version : Version) (line : List ℕ) : Type 0 where
+  pub step : Step
+  pub fits : FitsStepOf version step
+  pub spelled : line ≡ step_text step
+
+-- the line spells a command of that version
+pub record SpellsCommand (version : Version) (line : List ℕ) : Type 0 where
+  pub command : Command
+  pub fits : FitsCommand version command
+  pub spelled : line ≡ command_text command
+
+-- the line spells an instruction of that version, or a label
+pub record SpellsLine (version : Version) (line : List ℕ) : Type 0 where
+  pub one : Line
+  pub fits : IsLineOf version one
+  pub spelled : line ≡ line_text one
+
+-- the line is one that may stand there; first lines are not read by themselves
+abbrev pub IsRight : Part → Version → List ℕ → Type 0
+IsRight (parts.Header kind) version line = ⊥
+IsRight parts.Step version line = (line ≡ debug_line) ⊎ SpellsStep version line
+IsRight parts.Command version line = SpellsCommand version line
+IsRight parts.ProgramLine version line = SpellsLine version line
+IsRight parts.Link version line = SpellsLine version line

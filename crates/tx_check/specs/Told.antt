@@ -1,0 +1,85 @@
+-- What is told of a text: a line for each line at fault.
+use Rattle.std.specs.Prelude.{◌≡◌, ℕ, ◌<◌, ◌≤◌, Bool, true, not, List, [], ◌∷◌, ◌++◌, length, nat_eq, codes, All, ◌⊎◌, ◌+◌}
+use Rattle.std.specs.Fmt.{decimal}
+use Rattle.std.specs.List.{list_all}
+use Rattle.tx_check.specs.Kinds.{kind_of}
+use Rattle.tx_check.specs.Numbered.{line_at}
+use Rattle.tx_check.specs.Reads.{line_of, IsAtFault, IsRead}
+use Rattle.tx_lines.specs.Schedule.{lines_of}
+use Rattle.tx_lines.specs.declared.faults.Fault.{Fault}
+
+-- what is told of one line: its number, a column, and a sentence
+pub record Told : Type 0 where
+  pub line : ℕ
+  pub column : ℕ
+  pub sentence : List ℕ
+
+-- the spelling of that, without its line's end
+abbrev pub told_text : Told → List ℕ
+told_text told = codes "line " ++ (decimal told.line ++ (codes ", column " ++ (decimal told.column ++ (codes ": " ++ told.sentence))))
+
+-- whether a byte is no end of a line
+abbrev pub is_no_end : ℕ → Bool
+is_no_end byte = not (nat_eq byte 10)
+
+-- some bytes stand in one line
+abbrev pub IsInLine : List ℕ → Type 0
+IsInLine bytes = list_all is_no_end bytes ≡ true
+
+-- columns count from 1, and the column after the last byte stands for the line's end
+abbrev pub IsColumn : List ℕ → ℕ → Type 0
+IsColumn line column = (1 ≤ column) × (column ≤ length line + 1)
+
+-- what is told of a line of these bytes stands in one line, and names a column of that one
+pub record IsTold (bytes : List ℕ) (told : Told) : Type 0 where
+  pub column : IsColumn bytes told.column
+  pub in_line : IsInLine told.sentence
+
+-- so is what is told of a line of a text
+abbrev pub IsToldIn : List ℕ → Told → Type 0
+IsToldIn text told = IsTold (line_at told.line text) told
+
+-- one thing more is told, of the line of that number and those bytes
+pub record Tells (line : ℕ) (bytes old new : List ℕ) : Type 0 where
+  pub told : Told
+  pub at : told.line ≡ line
+  pub good : IsTold bytes told
+  pub more : new ≡ old ++ (told_text told ++ 10 ∷ [])
+
+-- the lines that are told of rise, each above the one before
+abbrev pub AreRising : ℕ → List Told → Type 0
+AreRising above [] = Unit {0}
+AreRising above (told ∷ others) = (above < told.line) × AreRising told.line others
+
+-- the last line that is told of, where that one is told before
+abbrev pub last_line : ℕ → List Told → ℕ
+last_line before [] = before
+last_line before (told ∷ others) = last_line told.line others
+
+-- what is told of some lines of a text, that line first
+pub record TellsFrom (text : List ℕ) (line : ℕ) (told : List ℕ) : Type 0 where
+  pub first : Told
+  pub others : List Told
+  pub at : first.line ≡ line
+  pub rising : AreRising line others
+  pub good : All (IsToldIn text) (first ∷ others)
+  pub spelled : told ≡ lines_of told_text (first ∷ others)
+
+-- what is told of some lines up to that one
+pub record TellsUpTo (text : List ℕ) (line last : ℕ) (told : List ℕ) : Type 0 where
+  pub from : TellsFrom text line told
+  pub up_to : last_line line from.others ≤ last
+
+-- what is told of lines before that one goes on to it
+abbrev pub TellsOn : List ℕ → ℕ → List ℕ → List ℕ → Type 0
+TellsOn text number old new = (line last : ℕ) → last < number → TellsUpTo text line last old → TellsUpTo text line number new
+
+-- the text is at fault, and the line of that is told first
+pub record TellsFault (text told : List ℕ) : Type 0 where
+  pub fault : Fault
+  pub is_fault : IsAtFault (kind_of text) text fault
+  pub tells : TellsFrom text (line_of fault) told
+
+-- nothing is told of a text of its kind; of another, the line of its fault, and others after it
+abbrev pub IsToldOf : List ℕ → List ℕ → Type 0
+IsToldOf text told = (IsRead (kind_of text) text × (told ≡ [])) ⊎ TellsFault text told

@@ -1,0 +1,130 @@
+//! What is wrong with a line, by what is to stand in its place.
+ghost use Rattle.std.specs.Prelude.{◌≡◌, ◌≤◌, IfNone, IfSome, IsTrue, length};
+ghost use Rattle.tx_check.specs.Right.{IsRight};
+ghost use Rattle.tx_check.specs.Told.{IsColumn};
+
+mod bytes;
+mod calls;
+mod commands;
+mod fields;
+mod headers;
+mod labels;
+mod numbers;
+mod program_lines;
+mod shapes;
+mod signals;
+mod steps;
+
+use crate::diagnose::commands::command_trouble;
+use crate::diagnose::headers::header_trouble;
+use crate::diagnose::labels::{link_trouble, second_label};
+use crate::diagnose::program_lines::program_line_trouble;
+use crate::diagnose::shapes::shape_trouble;
+use crate::diagnose::steps::step_trouble;
+use crate::places::{Part, Place, TextLine, is_debug};
+use crate::trouble::{LineTrouble, Trouble};
+use tx_lines::{LINE_BYTES, read_command, read_line, read_step};
+
+/// What is wrong with the line of a text at that place. Nothing where it is right.
+pub fn trouble_of<'a>(text: &'a [u8], place: &Place, line: TextLine<'a>) -> Option<Trouble<'a>>
+    ensures column { IfSome result (λ trouble. IsColumn line.entry.bytes.now trouble.column) }
+    ensures right { IfNone result
+        (IsRight place.now.part place.now.version line.entry.bytes.now) }
+    ensures short { IfNone result (length line.entry.bytes.now ≤ 512) }
+    ensures ended { IfNone result (IsTrue line.entry.is_ended) }
+{
+    if line.bytes.len() > LINE_BYTES {
+        return Some(Trouble::of_line(LINE_BYTES + 1, LineTrouble::TooLong));
+    }
+    if let Some(trouble) = place.one_too_many(line.bytes) {
+        return Some(Trouble::of_line(1, trouble));
+    }
+    if !is_right(place, line.bytes) {
+        return Some(trouble_in(place, line.bytes, line.is_ended));
+    }
+    match trouble_between(text, place, line.number, line.bytes) {
+        Some(trouble) => Some(trouble),
+        None => no_end(line.bytes, line.is_ended),
+    }
+}
+
+/// Whether a line is right by itself.
+fn is_right(place: &Place, line: &[u8]) -> bool
+    requires { length line.now ≤ 512 }
+    ensures { IsTrue result → IsRight place.now.part place.now.version line.now }
+{
+    match place.part {
+        Part::Header(_kind) => false,
+        Part::Step => is_debug(line) || read_step(place.version, line).is_some(),
+        Part::Command => read_command(place.version, line).is_some(),
+        Part::ProgramLine | Part::Link => read_line(place.version, line).is_some(),
+    }
+}
+
+/// What is wrong with a line that is not right: with its bytes, its words or its end, or else with
+/// the whole of it.
+fn trouble_in<'a>(place: &Place, line: &'a [u8], is_ended: bool) -> Trouble<'a>
+    ensures { IsColumn line.now result.column }
+{
+    if let Part::Header(_kind) = place.part
+        && line.is_empty()
+    {
+        return Trouble::of_line(1, LineTrouble::NoHeader);
+    }
+    if let Some(trouble) = shape_trouble(line) {
+        return trouble;
+    }
+    if let Some(trouble) = trouble_in_words(place, line) {
+        return trouble;
+    }
+    match no_end(line, is_ended) {
+        Some(trouble) => trouble,
+        None => unknown(),
+    }
+}
+
+/// What is told of a line without an end.
+fn no_end(line: &[u8], is_ended: bool) -> Option<Trouble<'static>>
+    ensures column { IfSome result (λ trouble. IsColumn line.now trouble.column) }
+    ensures ended { IfNone result (IsTrue is_ended) }
+{
+    if is_ended {
+        return None;
+    }
+    Some(Trouble::of_line(line.len() + 1, LineTrouble::NoEnd))
+}
+
+/// What is told of a line at fault where nothing else is found that is wrong with it.
+pub fn unknown() -> Trouble<'static>
+    ensures { result.column ≡ 1 }
+{
+    Trouble::of_line(1, LineTrouble::NoneOfTheGrammar)
+}
+
+/// What is wrong with a line that is right by itself, beside the other lines of the text.
+fn trouble_between<'a>(
+    text: &'a [u8],
+    place: &Place,
+    number: u64,
+    line: &'a [u8],
+) -> Option<Trouble<'a>>
+    ensures { IfSome result (λ trouble. IsColumn line.now trouble.column) }
+{
+    match place.part {
+        Part::ProgramLine => second_label(text, number, line),
+        Part::Link => link_trouble(text, line),
+        _ => None,
+    }
+}
+
+/// What is wrong with the words of a line.
+fn trouble_in_words<'a>(place: &Place, line: &'a [u8]) -> Option<Trouble<'a>>
+    ensures { IfSome result (λ trouble. IsColumn line.now trouble.column) }
+{
+    match place.part {
+        Part::Header(kind) => header_trouble(kind, line),
+        Part::Step => step_trouble(place.version, line),
+        Part::Command => command_trouble(place.version, line),
+        Part::ProgramLine | Part::Link => program_line_trouble(place.version, line),
+    }
+}

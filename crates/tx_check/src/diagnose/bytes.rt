@@ -1,0 +1,46 @@
+//! What is wrong with a word that is to be bytes in hex digits.
+ghost use Rattle.std.specs.Prelude.{◌≡◌, IfSome};
+
+use crate::trouble::{Trouble, What, WordTrouble};
+use crate::words::Word;
+use arrayvec::ArrayVec;
+use tx_lines::read_bytes;
+
+/// How many digits a word may have.
+const DIGITS: usize = 128;
+
+/// What is wrong where bytes are wanted.
+pub fn bytes_trouble<'a>(word: Word<'a>) -> Option<Trouble<'a>>
+    ensures { IfSome result (λ trouble. trouble.column ≡ word.entry.column) }
+{
+    if read_bytes(word.bytes, &mut ArrayVec::new()) {
+        return None;
+    }
+    if let Some(characters) = quoted(word.bytes) {
+        return Some(Trouble {
+            column: word.column,
+            what: What::InHex(characters),
+        });
+    }
+    Some(Trouble::of_word(word, digits_trouble(word.bytes)))
+}
+
+/// The characters of a word that begins with a quotation mark, and may end with one.
+fn quoted(word: &[u8]) -> Option<&[u8]> {
+    let behind = word.strip_prefix(b"\"".as_slice())?;
+    Some(behind.strip_suffix(b"\"".as_slice()).unwrap_or(behind))
+}
+
+/// What is wrong with the digits of a word that is no bytes.
+fn digits_trouble(word: &[u8]) -> WordTrouble {
+    if !word.iter().all(|byte| byte.is_ascii_hexdigit()) {
+        return WordTrouble::NoHexDigits;
+    }
+    if word.iter().any(|byte| byte.is_ascii_uppercase()) {
+        return WordTrouble::UpperCase;
+    }
+    if word.len() > DIGITS {
+        return WordTrouble::TooManyBytes;
+    }
+    WordTrouble::OddDigits
+}

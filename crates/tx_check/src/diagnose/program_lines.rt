@@ -1,0 +1,41 @@
+//! What is wrong with an instruction or a label of a program.
+ghost use Rattle.std.specs.Prelude.{◌≡◌, IfSome};
+ghost use Rattle.tx_check.specs.Told.{IsColumn};
+
+use crate::diagnose::calls::{call_trouble, takes};
+use crate::trouble::{LineTrouble, Trouble, WordTrouble};
+use crate::words::{Word, count_words, word_at};
+use tx_lines::{TextKind, Version, read_name, read_pid};
+
+/// What is wrong with the words of a line of a program after the first.
+pub fn program_line_trouble<'a>(version: Version, line: &'a [u8]) -> Option<Trouble<'a>>
+    ensures { IfSome result (λ trouble. IsColumn line.now trouble.column) }
+{
+    let first = word_at(line, 0)?;
+    if first.bytes == b"label".as_slice() {
+        return label_trouble(first, line);
+    }
+    if first.bytes == b"debug".as_slice() {
+        return Some(Trouble::of_line(first.column, LineTrouble::DebugInProgram));
+    }
+    if first.bytes == b"kernel".as_slice() || read_pid(first.bytes).is_some() {
+        return Some(Trouble::of_line(first.column, LineTrouble::StepInProgram));
+    }
+    call_trouble(TextKind::Program, version, line, 0)
+}
+
+/// What is wrong with the line of a label.
+fn label_trouble<'a>(first: Word<'a>, line: &'a [u8]) -> Option<Trouble<'a>>
+    requires { IsColumn line.now first.column }
+    ensures { IfSome result (λ trouble. IsColumn line.now trouble.column) }
+{
+    let behind = count_words(line) - 1;
+    if behind != 1 {
+        return Some(takes(first, "NAME", behind));
+    }
+    let name = word_at(line, 1)?;
+    match read_name(name.bytes) {
+        Some(_name) => None,
+        None => Some(Trouble::of_word(name, WordTrouble::NoName)),
+    }
+}

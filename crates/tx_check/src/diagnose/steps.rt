@@ -1,0 +1,55 @@
+//! What is wrong with a step of a schedule.
+ghost use Rattle.std.specs.Prelude.{◌≡◌, IfSome};
+ghost use Rattle.tx_check.specs.Told.{IsColumn};
+
+use crate::diagnose::calls::{arguments_trouble, call_trouble, takes};
+use crate::diagnose::numbers::no_number;
+use crate::forms::{COMMANDS, form_of};
+use crate::trouble::{LineTrouble, Trouble, WordTrouble};
+use crate::words::{Word, count_words, word_at};
+use tx_lines::{TextKind, Version, read_pid};
+
+/// What is wrong with the words of a line that is to be a step.
+pub fn step_trouble<'a>(version: Version, line: &'a [u8]) -> Option<Trouble<'a>>
+    ensures { IfSome result (λ trouble. IsColumn line.now trouble.column) }
+{
+    let first = word_at(line, 0)?;
+    if first.bytes == b"kernel".as_slice() {
+        return kernel_trouble(first, line);
+    }
+    if read_pid(first.bytes).is_none() {
+        return Some(no_process(first));
+    }
+    if count_words(line) == 1 {
+        return Some(Trouble::of_line(line.len() + 1, LineTrouble::NoCall));
+    }
+    call_trouble(TextKind::Schedule, version, line, 1)
+}
+
+/// What is wrong with a step of the kernel.
+fn kernel_trouble<'a>(first: Word<'a>, line: &'a [u8]) -> Option<Trouble<'a>>
+    requires { IsColumn line.now first.column }
+    ensures { IfSome result (λ trouble. IsColumn line.now trouble.column) }
+{
+    let behind = count_words(line) - 1;
+    if behind != 1 {
+        return Some(takes(first, "P", behind));
+    }
+    arguments_trouble(TextKind::Schedule, "P", line, 0)
+}
+
+/// What is wrong with a first word that is no process: what it would be elsewhere, or the number.
+fn no_process<'a>(first: Word<'a>) -> Trouble<'a>
+    ensures { result.column ≡ first.entry.column }
+{
+    if first.bytes == b"label".as_slice() {
+        return Trouble::of_line(first.column, LineTrouble::LabelInSchedule);
+    }
+    if form_of(COMMANDS.as_slice(), first.bytes).is_some() {
+        return Trouble::of_line(first.column, LineTrouble::CommandTooSoon);
+    }
+    match first.bytes {
+        [b'-' | b'0'..=b'9', ..] => no_number(first, "0 to 65535"),
+        _ => Trouble::of_word(first, WordTrouble::NoProcess),
+    }
+}

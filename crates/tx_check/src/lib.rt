@@ -1,0 +1,29 @@
+//! What is told of a text that can't be read, for people: a line of the answer for each line at
+//! fault, with its number, the column of the word at fault, and what was expected there.
+//!
+//! `check_text` asks the reader of the text's kind first (`kinds.rt` says which kind a text is).
+//! Where it reads the text, nothing is told. Else the line of its fault is told first, and then the
+//! lines behind it are read one by one (`places.rt` knows what is to stand where), and those at
+//! fault are told too. `words.rt` cuts a line into words with their columns, and `diagnose/` looks
+//! at the words and says what is wrong: a `Trouble`. It asks the readers of tx_lines about each
+//! word, so that nothing passes as right that the grammar refuses. `sentences.rt` has the words in
+//! which a trouble is told. One table has the form of each call's arguments (`forms.rt`), and
+//! `near.rt` finds the name that is nearest to a mistyped one.
+#![tactic(auto)]
+
+mod checks;
+mod command;
+mod diagnose;
+mod forms;
+mod kinds;
+mod near;
+mod places;
+mod sentences;
+mod tell;
+mod trouble;
+mod words;
+
+pub use checks::check_text;
+pub use command::check;
+pub use forms::CALLS;
+pub use kinds::{Kind, kind_of};

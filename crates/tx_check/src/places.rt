@@ -1,0 +1,149 @@
+//! What is to stand in a line, by the kind of its text and the lines before it.
+ghost use Rattle.std.specs.Prelude.{◌≡◌, ◌<◌, ◌↔◌, IsTrue, length};
+ghost use Rattle.tx_check.specs.Numbered as spec;
+ghost use Rattle.tx_lines.specs.Schedule.{first_line};
+ghost use Rattle.tx_lines.specs.Walks.{debug_line};
+
+use crate::kinds::Kind;
+use crate::trouble::LineTrouble;
+use tx_lines::{INSTRUCTIONS, LABELS, LINES, TextKind, Version, first_header, take_line};
+
+/// A line of a text.
+#[derive(Clone, Copy)]
+pub struct TextLine<'a> {
+    /// Lines count from 1.
+    pub number: u64,
+    pub bytes: &'a [u8],
+    /// Whether it has an end.
+    pub is_ended: bool,
+}
+
+/// What a line is to be.
+#[derive(Clone, Copy)]
+pub enum Part {
+    /// The first line of such a text.
+    Header(TextKind),
+    /// A step, or the line before commands.
+    Step,
+    /// A command.
+    Command,
+    /// An instruction or a label.
+    ProgramLine,
+    /// A line of a program that is right but for the label that it may name.
+    Link,
+}
+
+/// The place of a line in a text.
+#[derive(Clone, Copy)]
+pub struct Place {
+    pub part: Part,
+    /// The version of the text: the second where the first line does not say it.
+    pub version: Version,
+    /// How many lines of its part stand before it, but labels.
+    count: usize,
+    /// How many labels stand before it.
+    labels: usize,
+}
+
+impl TextLine<'_> {
+    /// The first line of what is left of a text, which has that number.
+    pub fn first_of(number: u64, left: &[u8]) -> TextLine<'_>
+        ensures number { result.number ≡ number }
+        ensures bytes { result.bytes.now ≡ first_line left.now }
+    {
+        let (bytes, rest) = take_line(left);
+        TextLine {
+            number,
+            bytes,
+            is_ended: rest.is_some(),
+        }
+    }
+}
+
+impl Place {
+    /// The place of the first line of a text.
+    pub fn first(kind: Kind, text: &[u8]) -> Place {
+        let kind = match kind {
+            Kind::Program => TextKind::Program,
+            _ => TextKind::Schedule,
+        };
+        Place {
+            part: Part::Header(kind),
+            version: version_of(kind, text),
+            count: 0,
+            labels: 0,
+        }
+    }
+
+    /// The place of the line after that one.
+    pub fn after(self, line: &[u8]) -> Place {
+        let mut next = self;
+        match self.part {
+            Part::Header(TextKind::Schedule) => next.part = Part::Step,
+            Part::Header(TextKind::Program) => next.part = Part::ProgramLine,
+            Part::Step if is_debug(line) => {
+                next.part = Part::Command;
+                next.count = 0;
+            }
+            Part::ProgramLine if is_label(line) => next.labels = self.labels.saturating_add(1),
+            _ => next.count = self.count.saturating_add(1),
+        }
+        next
+    }
+
+    /// Whether a line that was one too many stands before it.
+    pub fn is_past_all(&self) -> bool {
+        match self.part {
+            Part::ProgramLine => self.count > INSTRUCTIONS || self.labels > LABELS,
+            _ => self.count > LINES,
+        }
+    }
+
+    /// What is told of a line that is one too many, whatever it says.
+    pub fn one_too_many(&self, line: &[u8]) -> Option<LineTrouble> {
+        let trouble = match self.part {
+            Part::Step if self.count >= LINES && !is_debug(line) => { LineTrouble::TooManySteps }
+            Part::Command if self.count >= LINES => LineTrouble::TooManyCommands,
+            Part::ProgramLine if is_label(line) && self.labels >= LABELS => {
+                LineTrouble::TooManyLabels
+            }
+            Part::ProgramLine if !is_label(line) && self.count >= INSTRUCTIONS => {
+                LineTrouble::TooManyInstructions
+            }
+            _ => return None,
+        };
+        Some(trouble)
+    }
+}
+
+/// The version of a text: the second where the first line does not say it.
+fn version_of(kind: TextKind, text: &[u8]) -> Version {
+    match first_header(kind, text) {
+        Ok((header, _rest)) => header.version,
+        Err(_fault) => Version::Two,
+    }
+}
+
+/// Whether a line is the one between steps and commands.
+pub fn is_debug(line: &[u8]) -> bool
+    ensures { IsTrue result ↔ (line.now ≡ debug_line) }
+{
+    line == b"debug".as_slice()
+}
+
+/// Whether a line begins as a label's does.
+pub fn is_label(line: &[u8]) -> bool {
+    line.starts_with(b"label ")
+}
+
+/// What follows the first line of a text.
+pub fn behind(text: &[u8]) -> &[u8]
+    ensures bytes { result.now ≡ spec.behind text.now }
+    ensures shorter { 0 < length text.now → length result.now < length text.now }
+{
+    let (_line, rest) = take_line(text);
+    match rest {
+        Some(rest) => rest,
+        None => b"",
+    }
+}

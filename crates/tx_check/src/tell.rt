@@ -1,0 +1,48 @@
+//! Puts what is told of lines behind one another.
+ghost use Rattle.std.specs.Prelude.{◌≡◌, ◌≤◌, ◌++◌, ◌∷◌, [], OnOk, string_bytes};
+ghost use Rattle.tx_check.specs.Told.{told_text, IsColumn, IsInLine, Tells};
+
+use crate::places::TextLine;
+use crate::sentences::sentence;
+use crate::trouble::Trouble;
+use std::alloc::{AllocError, Global};
+use tx_base::NoMemory;
+use tx_lines::{put, put_count};
+
+/// Appends what is told of a line. The only error is that a growth of memory was
+/// refused: the text may then have some of it behind what it had.
+pub fn tell(
+    alloc: Global,
+    told: &mut String,
+    line: TextLine<'_>,
+    trouble: Trouble<'_>,
+) -> Result<(), NoMemory>
+    requires { IsColumn line.bytes.now trouble.column }
+    ensures { OnOk result (Tells line.entry.number line.entry.bytes.now (string_bytes told.old)
+        (string_bytes told.new)) }
+{
+    let words = sentence(alloc, &trouble.what)?;
+    put_told(told, line, trouble.column as u64, words.as_str())?;
+    Ok(())
+}
+
+/// Appends a line that tells a sentence of that line, at that column.
+fn put_told(
+    told: &mut String,
+    line: TextLine<'_>,
+    column: u64,
+    sentence: &str,
+) -> Result<(), AllocError>
+    requires column { IsColumn line.bytes.now column }
+    requires sentence { IsInLine sentence.now }
+    ensures { OnOk result (Tells line.entry.number line.entry.bytes.now (string_bytes told.old)
+        (string_bytes told.new)) }
+{
+    put(told, "line ")?;
+    put_count(told, line.number)?;
+    put(told, ", column ")?;
+    put_count(told, column)?;
+    put(told, ": ")?;
+    put(told, sentence)?;
+    put(told, "\n")
+}

@@ -1,0 +1,202 @@
+//! What is wrong with a line, and in which column.
+ghost use Rattle.std.specs.Prelude.{◌≡◌};
+ghost use Rattle.tx_check.specs.Told.{IsInLine};
+
+use crate::words::Word;
+
+/// What is wrong with a line. Columns count bytes from 1; the column after the last byte stands for
+/// the end of the line.
+#[derive(Clone, Copy)]
+pub struct Trouble<'a> {
+    pub column: usize,
+    pub what: What<'a>,
+}
+
+/// What is wrong at a column.
+#[derive(Clone, Copy)]
+pub enum What<'a> {
+    /// The line as a whole.
+    Line(LineTrouble),
+    /// A word.
+    Word(&'a [u8], WordTrouble),
+    /// A byte that stands in no line.
+    OddByte(u8),
+    /// A name that is none of these.
+    NoSuch(Names<'a>, &'a [u8]),
+    /// A name with too few or too many words behind it: what it takes, and how many there are.
+    Takes {
+        name: &'a [u8],
+        form: &'static str,
+        got: usize,
+    },
+    /// A number, or what could be one, that is out of its range.
+    OutOfRange {
+        word: &'a [u8],
+        range: &'static str,
+    },
+    /// A word that is none of some, which are parted by `|`.
+    NoneOf {
+        word: &'a [u8],
+        choices: &'static [u8],
+    },
+    /// Characters where their bytes are wanted in hex.
+    InHex(&'a [u8]),
+    /// A number in a set that is no signal's.
+    NoSignal(&'a [u8]),
+    /// A label whose name stands in an earlier line.
+    SecondLabel {
+        name: &'a [u8],
+        line: u64,
+    },
+}
+
+/// Names that there are.
+#[derive(Clone, Copy)]
+pub enum Names<'a> {
+    /// Of the calls of a schedule.
+    Calls,
+    /// Of the calls of a program.
+    Instructions,
+    /// Of commands.
+    Commands,
+    /// Of the labels in the text of a program.
+    Labels(&'a [u8]),
+}
+
+/// What is wrong with a line as a whole.
+#[derive(Clone, Copy)]
+pub enum LineTrouble {
+    TooLong,
+    TooManySteps,
+    TooManyCommands,
+    TooManyInstructions,
+    TooManyLabels,
+    NoEnd,
+    CarriageReturn,
+    ByteOrderMark,
+    Comment,
+    Empty,
+    Space,
+    NoHeader,
+    NoCall,
+    DeferIsLater,
+    MovedIsLater,
+    CommandTooSoon,
+    DebugAgain,
+    LabelInSchedule,
+    StepInProgram,
+    DebugInProgram,
+    StepAmongCommands,
+    NoneOfTheGrammar,
+}
+
+/// What is wrong with a word.
+#[derive(Clone, Copy)]
+pub enum WordTrouble {
+    NoVersion,
+    NoTextKind,
+    NoNumber,
+    ZeroBefore,
+    SignalName,
+    NoProcess,
+    NoHexDigits,
+    UpperCase,
+    OddDigits,
+    TooManyBytes,
+    NoSet,
+    NotRising,
+    NoName,
+    NoLabel,
+    NoSlot,
+}
+
+impl Trouble<'_> {
+    /// That trouble with a line as a whole.
+    pub fn of_line(column: usize, trouble: LineTrouble) -> Trouble<'static>
+        ensures { result.column ≡ column }
+    {
+        Trouble {
+            column,
+            what: What::Line(trouble),
+        }
+    }
+
+    /// That trouble with a word.
+    pub fn of_word<'a>(word: Word<'a>, trouble: WordTrouble) -> Trouble<'a>
+        ensures { result.column ≡ word.entry.column }
+    {
+        Trouble {
+            column: word.column,
+            what: What::Word(word.bytes, trouble),
+        }
+    }
+}
+
+impl LineTrouble {
+    /// The sentence that tells it.
+    pub fn sentence(self) -> &'static str
+        ensures { IsInLine result.now }
+    {
+        match self {
+            LineTrouble::TooLong => "the line has more than 512 bytes",
+            LineTrouble::TooManySteps => "there are 4,096 steps already",
+            LineTrouble::TooManyCommands => "there are 4,096 commands already",
+            LineTrouble::TooManyInstructions => "there are 1,024 instructions already",
+            LineTrouble::TooManyLabels => "there are 256 labels already",
+            LineTrouble::NoEnd => "the last line has no end",
+            LineTrouble::CarriageReturn => "the line ends with CR",
+            LineTrouble::ByteOrderMark => "the text begins with a byte-order mark",
+            LineTrouble::Comment => "there are no comments",
+            LineTrouble::Empty => "the line is empty",
+            LineTrouble::Space => "words are parted by one space, with none before or after them",
+            LineTrouble::NoHeader => "the first line is txos 2 schedule N or txos 2 program N",
+            LineTrouble::NoCall => "a call is wanted after the process",
+            _ => self.misplaced(),
+        }
+    }
+
+    /// The sentence that tells it, where it is about what stands in another place or text.
+    fn misplaced(self) -> &'static str
+        ensures { IsInLine result.now }
+    {
+        match self {
+            LineTrouble::DeferIsLater => "sys_xbegin defer is of version 2: txos 2 in line 1",
+            LineTrouble::MovedIsLater => "moved is of version 2: txos 2 in line 1",
+            LineTrouble::CommandTooSoon => "commands stand behind a line debug",
+            LineTrouble::DebugAgain => "commands have begun: debug stands above",
+            LineTrouble::LabelInSchedule => "labels are of programs: txos 2 program N in line 1",
+            LineTrouble::StepInProgram => "this is a program: its lines name no process",
+            LineTrouble::DebugInProgram => {
+                "this is a program: txos run --workers N --turns T, and no commands"
+            }
+            LineTrouble::StepAmongCommands =>
+                "commands have begun: steps stand before the line debug",
+            _ => "this line is none of the grammar's",
+        }
+    }
+}
+
+impl WordTrouble {
+    /// What is said behind the word.
+    pub fn sentence(self) -> &'static str
+        ensures { IsInLine result.now }
+    {
+        match self {
+            WordTrouble::NoVersion => "the version is 1 or 2",
+            WordTrouble::NoTextKind => "schedule or program is wanted",
+            WordTrouble::NoNumber => "a number is wanted, in decimal digits",
+            WordTrouble::ZeroBefore => "a number begins with no 0, and 0 has no sign",
+            WordTrouble::SignalName => "signals are numbers here",
+            WordTrouble::NoProcess => "a step begins with the number of its process, or kernel",
+            WordTrouble::NoHexDigits => "bytes are two hex digits each, of 0 to 9 and a to f",
+            WordTrouble::UpperCase => "hex digits are lower case",
+            WordTrouble::OddDigits => "each byte has two hex digits",
+            WordTrouble::TooManyBytes => "at most 64 bytes stand in a word",
+            WordTrouble::NoSet => "a set is - for none, or signal numbers joined by commas",
+            WordTrouble::NotRising => "numbers of a set must rise",
+            WordTrouble::NoName => "a name has 1 to 16 of a to z, 0 to 9 and _, a letter first",
+            WordTrouble::NoLabel => "a label is wanted: @NAME",
+            WordTrouble::NoSlot => "slots are $0 to $7",
+        }
+    }
+}

@@ -1,0 +1,4 @@
+mod Asked
+mod FarFromAll
+mod FoundAt
+mod Known

@@ -1,0 +1,10 @@
+use Rattle.std.proofs.Common.{refl}
+use Rattle.std.specs.Fmt.{digits}
+use Rattle.tx_explain.proofs.topics.errors.topics.Goals as goal
+
+pub returns-clause-words : goal.returns-clause-words
+unfolding digits
+returns-clause-words c = refl
+
+pub returns-clause-formed : goal.returns-clause-formed
+returns-clause-formed c = refl

@@ -1,0 +1,7 @@
+use Rattle.std.proofs.Common.{refl}
+use Rattle.std.specs.Fmt.{digits}
+use Rattle.tx_explain.proofs.topics.statuses.topics.Goals as goal
+
+pub returns-clause-words : goal.returns-clause-words
+unfolding digits
+returns-clause-words c = refl

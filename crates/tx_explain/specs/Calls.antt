@@ -1,0 +1,59 @@
+-- The word of each call, of each refusal and of each error.
+use Rattle.std.specs.Prelude.{codes}
+use Rattle.tx_base.specs.declared.steps.Call.{Call}
+use Rattle.tx_base.specs.declared.steps.Call.TheVariants as call
+use Rattle.tx_base.specs.declared.steps.Refusal.{Refusal}
+use Rattle.tx_base.specs.declared.steps.Refusal.TheVariants.{NoProcess, NotRunning, BadNumber, NumberTaken, Doomed, Parked, KillPending, Busy, Wait, NotDeliverable, FramesFull, NoTransaction, NoMemory, Deferred}
+use Rattle.tx_explain.specs.Words.{Text}
+
+abbrev pub call_word : Call → Text
+call_word (call.Map page) = codes "map"
+call_word (call.Unmap page) = codes "unmap"
+call_word (call.Protect page writable) = codes "protect"
+call_word (call.Store address bytes) = codes "store"
+call_word (call.Load address) = codes "load"
+call_word (call.Fork child) = codes "fork"
+call_word (call.Exit status) = codes "exit"
+call_word (call.Waitpid target nohang) = codes "waitpid"
+call_word call.Getpid = codes "getpid"
+call_word call.Getppid = codes "getppid"
+call_word (call.Setuid id) = codes "setuid"
+call_word (call.Seteuid id) = codes "seteuid"
+call_word (call.Setgid id) = codes "setgid"
+call_word (call.Setegid id) = codes "setegid"
+call_word (call.Pipe pipe read write) = codes "pipe"
+call_word (call.Dup fd) = codes "dup"
+call_word (call.Dup2 from to) = codes "dup2"
+call_word (call.Close fd) = codes "close"
+call_word (call.SetNonblock fd on) = codes "set_nonblock"
+call_word (call.Read fd address count) = codes "read"
+call_word (call.Write fd address count) = codes "write"
+call_word (call.Kill target signo) = codes "kill"
+call_word (call.Sigqueue target signo value) = codes "sigqueue"
+call_word (call.Sigaction signo action) = codes "sigaction"
+call_word (call.Sigprocmask how set) = codes "sigprocmask"
+call_word call.Sigpending = codes "sigpending"
+call_word call.Sigreturn = codes "sigreturn"
+call_word (call.ConsoleWrite address count) = codes "console_write"
+call_word (call.Jump point if_so) = codes "jump"
+call_word (call.Keep slot) = codes "keep"
+call_word call.SysXbegin = codes "sys_xbegin"
+call_word call.SysXbeginDefer = codes "sys_xbegin"
+call_word call.SysXend = codes "sys_xend"
+call_word call.SysXabort = codes "sys_xabort"
+
+abbrev pub refusal_word : Refusal → Text
+refusal_word NoProcess = codes "N1"
+refusal_word NotRunning = codes "N2"
+refusal_word BadNumber = codes "N3"
+refusal_word NumberTaken = codes "N4"
+refusal_word Doomed = codes "N5"
+refusal_word Parked = codes "N6"
+refusal_word KillPending = codes "N7"
+refusal_word (Busy starter) = codes "N8"
+refusal_word Wait = codes "N9"
+refusal_word NotDeliverable = codes "N10"
+refusal_word FramesFull = codes "N11"
+refusal_word NoTransaction = codes "N12"
+refusal_word NoMemory = codes "N13"
+refusal_word Deferred = codes "N14"

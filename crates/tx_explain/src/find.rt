@@ -1,0 +1,42 @@
+//! Finds what a word means.
+ghost use Rattle.std.specs.Prelude.{◌≡◌, IfSome, IsTrue, find, is_some, true};
+ghost use Rattle.std.specs.Fmt.{decimal};
+ghost use Rattle.std.specs.Option.{option_copied};
+ghost use Rattle.tx_base.specs.Errors.{error_number};
+ghost use Rattle.tx_base.specs.declared.errors.Errno.{Errno};
+ghost use Rattle.tx_base.specs.declared.steps.Call.{Call};
+ghost use Rattle.tx_base.specs.declared.steps.Refusal.{Refusal};
+ghost use Rattle.tx_explain.specs.Calls.{call_word, refusal_word};
+ghost use Rattle.tx_explain.specs.Topics.{asked, is_page, opens, spells, topics_in};
+
+use crate::topic::{Group, Topic};
+use crate::topics::groups;
+
+/// What a word of the program, of its texts or of its reports means: lines of at most 79 printable
+/// characters, each with its end, of which the first begins with the word and `: `. Letters count as
+/// the same in either case, and a number is found with `-` before it too. Nothing where the word is
+/// none of [`listing`](crate::listing), and no other name of one.
+pub fn explain(word: &str) -> Option<&'static str>
+    ensures known { is_some result ≡ is_some (asked word.now) }
+    ensures opens { IfSome result (λ text. IfSome (asked word.now) (λ name.
+        IsTrue (opens name text.now))) }
+    ensures lines { IfSome result (λ text. IsTrue (is_page text.now)) }
+    ensures calls { (call : Call) → word.now ≡ call_word call → is_some result ≡ true }
+    ensures refusals { (why : Refusal) → word.now ≡ refusal_word why → is_some result ≡ true }
+    ensures errors { (error : Errno) → word.now ≡ decimal (error_number error) →
+        is_some result ≡ true }
+{
+    let groups = groups();
+    let topic = topic_asked(groups.as_slice(), word)?;
+    Some(topic.text)
+}
+
+/// The first topic of the groups that is asked for by a word.
+fn topic_asked(groups: &[Group], word: &str) -> Option<&'static Topic>
+    ensures { option_copied result ≡ find (spells word.now) (topics_in groups.now) }
+{
+    groups
+        .iter()
+        .flat_map(|group| group.topics.iter())
+        .find(|topic| topic.is_asked(word))
+}

@@ -1,0 +1,91 @@
+//! Commands of the program.
+ghost use Rattle.std.specs.Prelude.{◌≡◌, map, IsTrue};
+ghost use Rattle.std.specs.List.{list_all};
+ghost use Rattle.tx_explain.specs.Topics.{is_formed, words_of};
+ghost use Rattle.tx_explain.specs.Words.{command_words};
+
+use crate::topic::Topic;
+
+/// Commands of the program.
+pub fn topics() -> &'static [Topic]
+    ensures words { map words_of result.now ≡ command_words }
+    ensures formed { IsTrue (list_all is_formed result.now) }
+{
+    &TOPICS
+}
+
+const TOPICS: [Topic; 6] = [
+    Topic {
+        word: "replay",
+        also: &[],
+        text: "\
+replay: makes the steps of a schedule, and writes their replies and the state.
+  form     txos replay < TEXT
+  TEXT     a schedule, which is read whole before its first step is made
+  writes   for each step, in order, a line K REPLY, with K from 1; then the
+           line state, and the text of the state that the last step left
+  status   0, with a fault 1; 2 where the words after txos are not understood
+  example  txos replay < examples/first.txos
+",
+    },
+    Topic {
+        word: "debug",
+        also: &[],
+        text: "\
+debug: walks back and forward over the steps of a schedule, as commands say.
+  form     txos debug < TEXT
+  TEXT     a schedule, the line debug, and a command a line: back, forward,
+           goto K, state, or in version 2 moved K; 4096 commands at most
+  writes   what each command answers; not the replies to the steps
+  example  txos debug < examples/commit_and_abort.walk
+",
+    },
+    Topic {
+        word: "run",
+        also: &[],
+        text: "\
+run: runs a program by workers, which are threads that share one kernel.
+  form     txos run --workers N --turns T < TEXT
+  N        how many workers, 1 to 16
+  T        how many turns each takes, 1 to 10000
+  TEXT     a program
+  writes   for each step that the workers made, in order, a line
+           K wW STEP : REPLY; then the line state, and the text of the state
+           that the last step left
+  example  txos run --workers 1 --turns 24 < examples/fall_back.program
+  In a state run point X ret R stands behind a process while it runs.
+",
+    },
+    Topic {
+        word: "check",
+        also: &[],
+        text: "\
+check: says of each line at fault in a text what is wrong with it.
+  form     txos check < TEXT
+  TEXT     a schedule, one with the line debug and commands, or a program
+  writes   line L, column C: and a sentence, for each line at fault; L and C
+           count from 1, C in bytes. Nothing where the command of that kind of
+           text reads it
+  status   0 where nothing is wrong, else 1
+  example  txos check < examples/first.txos
+",
+    },
+    Topic {
+        word: "explain",
+        also: &[],
+        text: "\
+explain: says what a word or a number of a report, a fault or a text means.
+  form     txos explain WORD, or txos explain for the list of all words
+  WORD     in small or capital letters
+  example  txos explain N8
+",
+    },
+    Topic {
+        word: "version",
+        also: &[],
+        text: "\
+version: writes the version of the program.
+  form     txos version
+",
+    },
+];

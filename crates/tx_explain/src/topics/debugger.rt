@@ -1,0 +1,78 @@
+//! Commands of the debugger.
+ghost use Rattle.std.specs.Prelude.{◌≡◌, map, IsTrue};
+ghost use Rattle.std.specs.List.{list_all};
+ghost use Rattle.tx_explain.specs.Topics.{is_formed, words_of};
+ghost use Rattle.tx_explain.specs.Words.{debugger_words};
+
+use crate::topic::Topic;
+
+/// Commands of the debugger.
+pub fn topics() -> &'static [Topic]
+    ensures words { map words_of result.now ≡ debugger_words }
+    ensures formed { IsTrue (list_all is_formed result.now) }
+{
+    &TOPICS
+}
+
+const TOPICS: [Topic; 6] = [
+    Topic {
+        word: "back",
+        also: &[],
+        text: "\
+back: takes the newest step back that is made.
+  form     back
+  answers  at K, or no start where none is made
+",
+    },
+    Topic {
+        word: "forward",
+        also: &[],
+        text: "\
+forward: makes the next step again.
+  form     forward
+  answers  at K, or no end where all are made
+",
+    },
+    Topic {
+        word: "goto",
+        also: &[],
+        text: "\
+goto: goes to position K, the place after the first K accepted steps.
+  form     goto K
+  K        a number from 0
+  answers  at K, or no place where there is no such position
+",
+    },
+    Topic {
+        word: "state",
+        also: &[],
+        text: "\
+state: prints the state, and stays.
+  form     state
+  answers  the line state, and the text of the state
+  At the end of a report it stands before the text of the last state.
+",
+    },
+    Topic {
+        word: "moved",
+        also: &["one", "many"],
+        text: "\
+moved: asks whether a transaction may be thought of as done at once; it stays.
+  form     moved K, in texts of version 2 alone
+  K        a number from 0: the accepted step that commits the transaction
+  answers  moved one LIST or moved many LIST of the transaction that step K
+           commits, or no commit where it commits none
+  LIST has the numbers of all accepted steps, with the transaction's own
+  directly before step K. one: it counts as one moment. many: its starter made
+  a delivery, a sigpending or a sigaction in it, or was sent a signal by a step
+  of it.
+",
+    },
+    Topic {
+        word: "at",
+        also: &[],
+        text: "\
+at: at K, the answer of a debugger's command: K is the new position.
+",
+    },
+];

@@ -1,0 +1,78 @@
+//! What the words of the texts are about.
+ghost use Rattle.std.specs.Prelude.{◌≡◌, map, IsTrue};
+ghost use Rattle.std.specs.List.{list_all};
+ghost use Rattle.tx_explain.specs.Topics.{is_formed, words_of};
+ghost use Rattle.tx_explain.specs.Words.{notion_words};
+
+use crate::topic::Topic;
+
+/// What the words of the texts are about.
+pub fn topics() -> &'static [Topic]
+    ensures words { map words_of result.now ≡ notion_words }
+    ensures formed { IsTrue (list_all is_formed result.now) }
+{
+    &TOPICS
+}
+
+const TOPICS: [Topic; 7] = [
+    Topic {
+        word: "transaction",
+        also: &[],
+        text: "\
+transaction: what stands as a whole, or not at all: from a sys_xbegin until the
+step that ends the last member's part commits it, or an abort takes it back.
+  An abort, by sys_xabort or by the step kernel P, ends it as if its steps had
+  never been; what others did meanwhile stays. sys_xbegin inside one is EINVAL.
+",
+    },
+    Topic {
+        word: "member",
+        also: &[],
+        text: "\
+member: the starter of a transaction, and each process that a member forks.
+  A member ends its part by sys_xend, or by ending as a process.
+",
+    },
+    Topic {
+        word: "starter",
+        also: &[],
+        text: "\
+starter: the process that began a transaction, whose number names it.
+  After an abort it stands at the point after its sys_xbegin.
+",
+    },
+    Topic {
+        word: "reserved",
+        also: &["footprint"],
+        text: "\
+reserved: the processes, descriptions and pipes that a member's steps read or
+wrote, and the targets of its signals, until its transaction ends.
+  A step of others that needs one of these is N8; a signal to a starter may
+  pass.
+",
+    },
+    Topic {
+        word: "privileged",
+        also: &[],
+        text: "\
+privileged: a process whose effective user id is 0, as all are at the start.
+",
+    },
+    Topic {
+        word: "worker",
+        also: &[],
+        text: "\
+worker: a thread that takes turns for processes of a program: w1 in a report.
+  Of N workers, worker W has the processes W, W + N, W + 2N and so on.
+",
+    },
+    Topic {
+        word: "turn",
+        also: &[],
+        text: "\
+turn: one step, or none, for one process that runs.
+  A signal that can be delivered now is its step, else the call of its
+  instruction. A step that is refused is tried again at the next turn.
+",
+    },
+];

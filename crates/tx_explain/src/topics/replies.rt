@@ -1,0 +1,76 @@
+//! How a report answers a step.
+ghost use Rattle.std.specs.Prelude.{◌≡◌, map, IsTrue};
+ghost use Rattle.std.specs.List.{list_all};
+ghost use Rattle.tx_explain.specs.Topics.{is_formed, words_of};
+ghost use Rattle.tx_explain.specs.Words.{reply_words};
+
+use crate::topic::Topic;
+
+/// How a report answers a step.
+pub fn topics() -> &'static [Topic]
+    ensures words { map words_of result.now ≡ reply_words }
+    ensures formed { IsTrue (list_all is_formed result.now) }
+{
+    &TOPICS
+}
+
+const TOPICS: [Topic; 6] = [
+    Topic {
+        word: "ok",
+        also: &[],
+        text: "\
+ok: was accepted and answered RET; a POSIX error is its negative number.
+  form     K ok RET
+  example  3 ok -22: step 3 answered EINVAL
+",
+    },
+    Topic {
+        word: "ended",
+        also: &[],
+        text: "\
+ended: ended the process.
+  example  8 ended
+  In a state ended LIST stands behind a transaction: the members that have
+  ended their part of it, or - for none.
+",
+    },
+    Topic {
+        word: "committed",
+        also: &[],
+        text: "\
+committed: committed the transaction; a send of signal S to process T failed
+with the error number E, for each T:S:E.
+  form     K committed T:S:E ..
+  example  9 committed 4:10:3: process 4 could not be sent signal 10, ESRCH
+",
+    },
+    Topic {
+        word: "aborted",
+        also: &[],
+        text: "\
+aborted: aborted the transaction. STATUS is 201, 202 or 203.
+  form     K aborted STATUS
+  example  10 aborted 201: a member called sys_xabort
+",
+    },
+    Topic {
+        word: "out",
+        also: &[],
+        text: "\
+out: wrote bytes, or none, to the console.
+  form     K out HEX, or K out - for none
+  example  5 out 6869: \"hi\"
+",
+    },
+    Topic {
+        word: "no",
+        also: &[],
+        text: "\
+no: the step was refused; N1 to N14 say why.
+  K no N8 H    was refused: the transaction that process H began is in the way
+  K no N9      was refused for another reason, and changed nothing
+  A debugger's command answers no start, no end, no place or no commit where
+  there is no such step, and stays where it is.
+",
+    },
+];

@@ -1,0 +1,102 @@
+//! What texts are made of.
+ghost use Rattle.std.specs.Prelude.{◌≡◌, map, IsTrue};
+ghost use Rattle.std.specs.List.{list_all};
+ghost use Rattle.tx_explain.specs.Topics.{is_formed, words_of};
+ghost use Rattle.tx_explain.specs.Words.{text_words};
+
+use crate::topic::Topic;
+
+/// What texts are made of.
+pub fn topics() -> &'static [Topic]
+    ensures words { map words_of result.now ≡ text_words }
+    ensures formed { IsTrue (list_all is_formed result.now) }
+{
+    &TOPICS
+}
+
+const TOPICS: [Topic; 8] = [
+    Topic {
+        word: "txos",
+        also: &[],
+        text: "\
+txos: the first word of a text, and then its version, its kind and a number.
+  form     txos 1 schedule N, txos 1 program N: N from 1 to 64
+           txos 2 schedule N, txos 2 program N: N from 1 to 256
+  N        how many processes there are at the start; their numbers are 1 to N
+  Version 2 has process numbers to 256, sys_xbegin defer, and moved K.
+",
+    },
+    Topic {
+        word: "schedule",
+        also: &["step"],
+        text: "\
+schedule: a text that says which process makes which step when.
+  form     txos 1 schedule N, or txos 2 schedule N, and then a step a line
+  A step is a call with its process before it, P deliver S, or kernel P. There
+  may be 4096 steps.
+",
+    },
+    Topic {
+        word: "program",
+        also: &["instruction"],
+        text: "\
+program: a text that says what each process does; all run the same.
+  form     txos 1 program N, or txos 2 program N, and then an instruction or a
+           label a line
+  An instruction is a call without its process; fork and pipe stand alone, an
+  A, F, G, T or V may be $0 to $7, and a POINT is @NAME. There may be 1024
+  instructions, which count from 0, and 256 labels.
+",
+    },
+    Topic {
+        word: "label",
+        also: &[],
+        text: "\
+label: names the number of the next instruction of a program.
+  form     label NAME
+  NAME     1 to 16 of a to z, 0 to 9 and _, a letter first; a name once
+  A POINT @NAME stands for that number.
+",
+    },
+    Topic {
+        word: "number",
+        also: &[],
+        text: "\
+number: 0, or digits of which the first is not 0, with - before a negative one.
+  It lies in -9223372036854775808 to 9223372036854775807. One that is out of a
+  call's range is answered by the call. In a text a process number is 0 to
+  65535, that of a pipe, a description or a signal to be delivered 0 to 255, a
+  POINT 0 to 4294967295.
+",
+    },
+    Topic {
+        word: "hex",
+        also: &["bytes"],
+        text: "\
+hex: bytes of two lower-case hex digits each: 6869 is \"hi\".
+  A store takes 1 to 64.
+",
+    },
+    Topic {
+        word: "set",
+        also: &[],
+        text: "\
+set: signals: - for none, or known numbers, rising and joined by a comma.
+  example  10,12,34
+  In sigprocmask set SET it is the new mask.
+",
+    },
+    Topic {
+        word: "signal",
+        also: &["signals", "SIGKILL", "SIGPIPE", "SIGCHLD", "realtime"],
+        text: "\
+signal: a known number, or 0 in kill and sigqueue, which only asks.
+  HUP 1, INT 2, QUIT 3, ABRT 6, KILL 9, USR1 10, USR2 12, PIPE 13, ALRM 14,
+  TERM 15, CHLD 17, and the realtime numbers 32 to 39
+  The usual action of 17 is to be ignored, that of all others to end the
+  process. KILL is never caught, ignored or blocked. A realtime signal is
+  queued, with its value; any other is pending once. To process 1 no signal
+  does anything.
+",
+    },
+];
