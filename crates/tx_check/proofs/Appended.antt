@@ -60,7 +60,7 @@ first_told text bytes line old new same none tells = record {
 }
 
 -- one more
-more_told : (text bytes : List ℕ) (number : ℕ) (old new : List ℕ) → bytes ≡ line_at number text → Tells number bytes old new → TellsOn text number old new
+pub more_told : (text bytes : List ℕ) (number : ℕ) (old new : List ℕ) → bytes ≡ line_at number text → Tells number bytes old new → TellsOn text number old new
 more_told text bytes number old new same tells line last below up_to =
     let from = up_to.from in
     let after : last_line line from.others < tells.told.line = omega (arith, below, up_to.up_to, tells.at) in
@@ -76,13 +76,3 @@ more_told text bytes number old new same tells line last below up_to =
       };
       up_to = omega (arith, last_more line from.others tells.told, tells.at);
     }
-
--- and where memory may be refused
-pub line_told : {A E : Type 0} (result : Result A E) (text bytes : List ℕ) (number : ℕ) (old new : List ℕ) → bytes ≡ line_at number text → OnOk result (Tells number bytes old new) →
-    OnOk result (TellsOn text number old new)
-line_told (Ok value) text bytes number old new same tells = more_told text bytes number old new same tells
-line_told (Err error) text bytes number old new same tells = tt
-
--- nothing is told of a line
-pub none_told : (text : List ℕ) (number : ℕ) (old : List ℕ) → TellsOn text number old old
-none_told text number old line last below up_to = record { from = up_to.from; up_to = omega (arith, below, up_to.up_to) }

@@ -3,3 +3,4 @@ pub mod Found
 pub mod Heard
 pub mod InLine
 pub mod Numbered
+pub mod OwnLines

@@ -7,6 +7,7 @@ use Rattle.tx_check.specs.Numbered.{line_at}
 use Rattle.tx_check.specs.Reads.{line_of, IsAtFault, IsRead}
 use Rattle.tx_lines.specs.Schedule.{lines_of}
 use Rattle.tx_lines.specs.declared.faults.Fault.{Fault}
+use Rattle.tx_plain.specs.Meant.{meant_of, IsOwnFault}
 
 -- what is told of one line: its number, a column, and a sentence
 pub record Told : Type 0 where
@@ -74,12 +75,12 @@ pub record TellsUpTo (text : List ℕ) (line last : ℕ) (told : List ℕ) : Typ
 abbrev pub TellsOn : List ℕ → ℕ → List ℕ → List ℕ → Type 0
 TellsOn text number old new = (line last : ℕ) → last < number → TellsUpTo text line last old → TellsUpTo text line number new
 
--- the text is at fault, and the line of that is told first
+-- what a text means is at fault, and the text's own line of that is told first
 pub record TellsFault (text told : List ℕ) : Type 0 where
   pub fault : Fault
-  pub is_fault : IsAtFault (kind_of text) text fault
+  pub is_fault : IsOwnFault (IsAtFault (kind_of (meant_of text))) text fault
   pub tells : TellsFrom text (line_of fault) told
 
--- nothing is told of a text of its kind; of another, the line of its fault, and others after it
+-- nothing is told of a text that means one of its kind; of another, the line of its fault, and others after it
 abbrev pub IsToldOf : List ℕ → List ℕ → Type 0
-IsToldOf text told = (IsRead (kind_of text) text × (told ≡ [])) ⊎ TellsFault text told
+IsToldOf text told = (IsRead (kind_of (meant_of text)) (meant_of text) × (told ≡ [])) ⊎ TellsFault text told

@@ -1,34 +1,39 @@
 //! Tells of a text what is wrong with it.
-ghost use Rattle.std.specs.Prelude.{◌≡◌, ◌≢◌, ◌-◌, ◌≤◌, ℕ, IfOk, OnOk, string_bytes};
+ghost use Rattle.std.specs.Prelude.{◌≡◌, ◌≢◌, ◌-◌, ◌≤◌, ℕ, List, IfOk, OnOk, string_bytes};
+ghost use Rattle.tx_check.specs.Numbered.{after_lines};
+ghost use Rattle.tx_check.specs.OwnLines.{GoesOn, IsFrom};
 ghost use Rattle.tx_check.specs.Reads as spec;
 ghost use Rattle.tx_check.specs.Reads.{Finds};
-ghost use Rattle.tx_check.specs.Told.{IsColumn, IsToldOf, TellsFrom, TellsOn, TellsUpTo};
-ghost use Rattle.tx_check.specs.Numbered.{after_lines, line_at};
+ghost use Rattle.tx_check.specs.Told.{IsColumn, IsToldOf, TellsFrom, TellsUpTo};
 ghost use Rattle.tx_check.specs.declared.kinds.Kind.TheVariants as kinds;
 ghost use Rattle.tx_lines.specs.declared.faults.Fault.TheVariants as faults;
+ghost use Rattle.tx_plain.specs.Meant as own;
 
 use crate::diagnose::{trouble_of, unknown};
 use crate::kinds::{Kind, kind_of};
+use crate::own::{TextFrom, own_trouble};
 use crate::places::{Part, Place, TextLine, behind};
 use crate::tell::tell;
 use crate::trouble::Trouble;
 use std::alloc::Global;
 use tx_base::NoMemory;
 use tx_lines::{Fault, read_program_text, read_schedule, read_walk, take_line};
+use tx_plain::Meant;
 
-/// What is told of a text: nothing where it is one of its kind (`kind_of`), and so is read by the
-/// command of that kind. Else a line for each line at fault, `line L, column C: ` and a sentence
-/// that says what was expected there. The first one tells of the line at which the command finds
-/// the text at fault. Lines count from 1 and columns in bytes from 1; the column after a line's
-/// last byte stands for its end.
+/// What is told of a text of any version: nothing where what it means is a text of its kind
+/// (`kind_of`), and so is read by the command of that kind. Else a line for each line at fault,
+/// `line L, column C: ` and a sentence that says what was expected there. The first one tells of the
+/// line at which the command finds the text at fault. Lines count from 1 and columns in bytes from
+/// 1, both in the text as it is given; the column after a line's last byte stands for its end.
 ///
 /// The only error is that a growth of memory was refused.
 pub fn check_text(alloc: Global, text: &[u8]) -> Result<String, NoMemory>
     ensures { IfOk result (λ told. IsToldOf text.now (string_bytes told)) }
 {
-    let kind = kind_of(text);
-    match first_fault(alloc, kind, text)? {
-        Some(fault) => tell_from(alloc, kind, text, fault),
+    let meant = Meant::by(alloc, text)?;
+    let kind = kind_of(meant.as_bytes());
+    match first_fault(alloc, kind, meant.as_bytes())? {
+        Some(fault) => tell_from(alloc, kind, text, &meant, fault),
         None => Ok(String::new(alloc)),
     }
 }
@@ -85,19 +90,29 @@ fn text_fault(fault: Fault) -> Result<Fault, NoMemory>
     }
 }
 
-/// What is told of a text at fault: the line of the fault, and the lines behind it.
-fn tell_from(alloc: Global, kind: Kind, text: &[u8], fault: Fault) -> Result<String, NoMemory>
-    requires { 1 ≤ spec.line_of fault }
-    ensures { IfOk result (λ told. TellsFrom text.now (spec.line_of fault) (string_bytes told)) }
+/// What is told of a text whose meant text is at fault: the line of the fault, and the lines behind
+/// it.
+fn tell_from(
+    alloc: Global,
+    kind: Kind,
+    text: &[u8],
+    meant: &Meant<'_>,
+    fault: Fault,
+) -> Result<String, NoMemory>
+    requires line { 1 ≤ spec.line_of fault }
+    requires own { 1 ≤ own.line_of meant.now (spec.line_of fault) }
+    ensures { IfOk result (λ told.
+        TellsFrom text.now (own.line_of meant.now (spec.line_of fault)) (string_bytes told)) }
 {
-    let number = line_of(fault);
-    let (place, left) = place_of(kind, text, fault);
-    let line = TextLine::first_of(number, left);
-    let trouble = trouble_at_fault(text, &place, line);
+    let (place, lines) = place_of(kind, meant.as_bytes(), fault);
+    let line = lines.line();
+    let own = TextFrom::first(text).moved_to(meant.own_line(line.number));
+    let own_line = own.line();
+    let trouble = trouble_at_fault(meant.as_bytes(), &place, line);
     let mut told = String::new(alloc);
-    tell(alloc, &mut told, line, trouble)?;
-    let next = place.after(line.bytes);
-    tell_behind(alloc, text, number, next, behind(left), &mut told)?;
+    let trouble = own_trouble(meant, place.part, line.bytes, own_line.bytes, trouble);
+    tell(alloc, &mut told, own_line, trouble)?;
+    tell_behind(alloc, meant, place.after(line.bytes), lines, own, &mut told)?;
     Ok(told)
 }
 
@@ -124,13 +139,15 @@ fn line_of(fault: Fault) -> u64
 }
 
 /// The place of the line at fault, and the text from that line on.
-fn place_of(kind: Kind, text: &[u8], fault: Fault) -> (Place, &[u8])
+fn place_of(kind: Kind, text: &[u8], fault: Fault) -> (Place, TextFrom<'_>)
     requires { 1 ≤ spec.line_of fault }
-    ensures { result.1.now ≡ after_lines (spec.line_of fault - 1) text.now }
+    ensures number { result.1.number ≡ spec.line_of fault }
+    ensures left { result.1.left.now ≡ after_lines (spec.line_of fault - 1) text.now }
 {
     let mut place = Place::first(kind, text);
     let mut left = text;
-    for _before in 0..line_of(fault) - 1 {
+    let number = line_of(fault);
+    for _before in 0..number - 1 {
         let (line, _rest) = take_line(left);
         place = place.after(line);
         left = behind(left);
@@ -138,52 +155,63 @@ fn place_of(kind: Kind, text: &[u8], fault: Fault) -> (Place, &[u8])
     if let Fault::NoLabel { .. } = fault {
         place.part = Part::Link;
     }
-    (place, left)
+    (place, TextFrom { number, left })
 }
 
-/// Tells of the lines behind the one of that number, of which the first stands at that place, where
-/// they are at fault: up to the first one that is one too many.
+/// Tells of the lines behind the first of some that are meant, where they are at fault: up to the
+/// first one that is one too many. The first behind it stands at that place. The text itself was
+/// told of up to a line of its own.
 fn tell_behind(
     alloc: Global,
-    text: &[u8],
-    number: u64,
+    meant: &Meant<'_>,
     place: Place,
-    left: &[u8],
+    lines: TextFrom<'_>,
+    own: TextFrom<'_>,
     told: &mut String,
 ) -> Result<(), NoMemory>
-    requires { left.now ≡ after_lines number text.now }
     ensures { OnOk result
-        ((first : ℕ) → TellsUpTo text.now first number (string_bytes told.old) →
-        TellsFrom text.now first (string_bytes told.new)) }
+        ((text : List ℕ) (first : ℕ) → IsFrom text own.entry →
+        TellsUpTo text first own.entry.number (string_bytes told.old) →
+        TellsFrom text first (string_bytes told.new)) }
 {
     let mut place = place;
-    let mut left = left;
-    for before in number..u64::MAX {
+    let mut reached = own;
+    let mut left = behind(lines.left);
+    for before in lines.number..u64::MAX {
         if left.is_empty() || place.is_past_all() {
             return Ok(());
         }
         let line = TextLine::first_of(before + 1, left);
-        tell_line(alloc, text, &place, line, told)?;
+        reached = tell_line(alloc, meant, &place, line, reached, told)?;
         place = place.after(line.bytes);
         left = behind(left);
     }
     Ok(())
 }
 
-/// Tells of the line of a text at that place, where it is at fault.
-fn tell_line(
+/// Tells of a line that is meant, at that place, where it is at fault. Says how far the text itself
+/// is told of then: of two lines that come from one of its own, the first is told.
+fn tell_line<'a>(
     alloc: Global,
-    text: &[u8],
+    meant: &Meant<'_>,
     place: &Place,
     line: TextLine<'_>,
+    own: TextFrom<'a>,
     told: &mut String,
-) -> Result<(), NoMemory>
-    requires { line.bytes.now ≡ line_at line.number text.now }
-    ensures { OnOk result (TellsOn text.now line.entry.number (string_bytes told.old)
-        (string_bytes told.new)) }
+) -> Result<TextFrom<'a>, NoMemory>
+    ensures { IfOk result (λ next.
+        GoesOn own.entry next (string_bytes told.old) (string_bytes told.new)) }
 {
-    match trouble_of(text, place, line) {
-        Some(trouble) => tell(alloc, told, line, trouble),
-        None => Ok(()),
+    let Some(trouble) = trouble_of(meant.as_bytes(), place, line) else {
+        return Ok(own);
+    };
+    let number = meant.own_line(line.number);
+    if number <= own.number {
+        return Ok(own);
     }
+    let next = own.moved_to(number);
+    let own_line = next.line();
+    let trouble = own_trouble(meant, place.part, line.bytes, own_line.bytes, trouble);
+    tell(alloc, told, own_line, trouble)?;
+    Ok(next)
 }

@@ -15,7 +15,7 @@ pub enum Kind {
     Program,
 }
 
-/// The kind of a text: a program where the first line begins with `txos`, a word and `program`,
+/// The kind of a text of version 1 or 2: a program where the first line begins with `txos`, a word and `program`,
 /// else a schedule with commands where a line after the first is `debug`, else a schedule.
 pub fn kind_of(text: &[u8]) -> Kind
     ensures { result ≡ spec.kind_of text.now }

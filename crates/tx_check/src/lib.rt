@@ -9,6 +9,10 @@
 //! word, so that nothing passes as right that the grammar refuses. `sentences.rt` has the words in
 //! which a trouble is told. One table has the form of each call's arguments (`forms.rt`), and
 //! `near.rt` finds the name that is nearest to a mistyped one.
+//!
+//! A text of version 3 means one of version 2 (tx_plain), and the lines of that one are read. What is
+//! wrong with a line is told of the line that means it (`own.rt`): by its number, at the column of
+//! the same word, and in the words of version 3 (`third.rt`).
 #![tactic(auto)]
 
 mod checks;
@@ -17,9 +21,11 @@ mod diagnose;
 mod forms;
 mod kinds;
 mod near;
+mod own;
 mod places;
 mod sentences;
 mod tell;
+mod third;
 mod trouble;
 mod words;
 

@@ -34,6 +34,7 @@ fn say_what(text: &mut String, what: &What<'_>) -> Result<(), AllocError>
     match what {
         What::Line(trouble) => say(text, trouble.sentence()),
         What::Word(word, trouble) => say_of_word(text, word, trouble.sentence()),
+        What::Third(word, trouble) => say_of_word(text, word, trouble.sentence()),
         What::OddByte(byte) => say_odd_byte(text, *byte),
         What::Takes { name, form, got } => say_takes(text, name, form, *got),
         What::OutOfRange { word, range } => say_wanted(

@@ -34,6 +34,8 @@ pub enum What<'a> {
         word: &'a [u8],
         range: &'static str,
     },
+    /// A word of a text of version 3, which is spelled in a way of that version.
+    Third(&'a [u8], ThirdTrouble),
     /// A word that is none of some, which are parted by `|`.
     NoneOf {
         word: &'a [u8],
@@ -78,6 +80,7 @@ pub enum LineTrouble {
     Empty,
     Space,
     NoHeader,
+    NoThirdHeader,
     NoCall,
     DeferIsLater,
     MovedIsLater,
@@ -108,6 +111,18 @@ pub enum WordTrouble {
     NoName,
     NoLabel,
     NoSlot,
+}
+
+/// What is wrong with a word that only a text of version 3 spells so.
+#[derive(Clone, Copy)]
+pub enum ThirdTrouble {
+    OpenString,
+    NoEscape,
+    StringSize,
+    BehindString,
+    NoStore,
+    NoSet,
+    Twice,
 }
 
 impl Trouble<'_> {
@@ -169,6 +184,9 @@ impl LineTrouble {
             LineTrouble::DebugInProgram => {
                 "this is a program: txos run --workers N --turns T, and no commands"
             }
+            LineTrouble::NoThirdHeader => {
+                "the first line with words is txos 3 schedule N or txos 3 program N"
+            }
             LineTrouble::StepAmongCommands =>
                 "commands have begun: steps stand before the line debug",
             _ => "this line is none of the grammar's",
@@ -197,6 +215,23 @@ impl WordTrouble {
             WordTrouble::NoName => "a name has 1 to 16 of a to z, 0 to 9 and _, a letter first",
             WordTrouble::NoLabel => "a label is wanted: @NAME",
             WordTrouble::NoSlot => "slots are $0 to $7",
+        }
+    }
+}
+
+impl ThirdTrouble {
+    /// What is said behind the word.
+    pub fn sentence(self) -> &'static str
+        ensures { IsInLine result.now }
+    {
+        match self {
+            ThirdTrouble::OpenString => "a string ends with \" in its line",
+            ThirdTrouble::NoEscape => "the escapes of a string are \\n, \\t, \\0, \\\" and \\\\",
+            ThirdTrouble::StringSize => "a string has 1 to 64 bytes",
+            ThirdTrouble::BehindString => "a space is wanted behind a string",
+            ThirdTrouble::NoStore => "a string stands for the bytes of a store alone",
+            ThirdTrouble::NoSet => "a set is - for none, or signals joined by commas",
+            ThirdTrouble::Twice => "a signal stands in the set twice",
         }
     }
 }

@@ -27,6 +27,7 @@ command_words =
     ∷ (codes "debug" ∷ [])
     ∷ (codes "run" ∷ [])
     ∷ (codes "check" ∷ [])
+    ∷ (codes "plain" ∷ [])
     ∷ (codes "explain" ∷ [])
     ∷ (codes "version" ∷ [])
     ∷ []

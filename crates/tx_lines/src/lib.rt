@@ -53,7 +53,7 @@ pub use read::schedule::Schedule;
 pub use read::sets::read_set;
 pub use read::small::{read_byte, read_pid, read_position};
 pub use read::spellings::read_name;
-pub use read::split::split_word;
+pub use read::split::{split_at, split_word};
 pub use read::steps::read_step;
 pub use read::text::read_schedule;
 pub use read::walk::Walk;

@@ -1,12 +1,14 @@
 -- The answer to a text that was read.
-use Rattle.std.proofs.Common.{◌≡◌, ℕ, List, Result, Ok, Err, IfOk, IfErr, String, string_bytes, sym, subst}
+use Rattle.std.proofs.Common.{◌≡◌, ℕ, List, Result, Ok, Err, IfOk, IfErr, String, string_bytes, ap, sym, subst}
 use Rattle.tx_script.specs.Grammars.{Grammar, AnswersText}
 use Rattle.tx_lines.specs.Schedule.{FaultsBy}
 use Rattle.tx_lines.specs.declared.faults.Fault.{Fault}
-use Rattle.tx_lines.specs.declared.faults.Fault.TheVariants.{NoMemory}
+use Rattle.tx_lines.specs.declared.faults.Fault.TheVariants.{NotALine, NoLabel, TooLong, Reader, Writer, NoMemory}
+use Rattle.tx_plain.specs.Meant.{bytes_of, fault_by, line_of, meant_of, IsMeantBy, IsOwnFault}
+use Rattle.tx_plain.specs.declared.meant.Meant.{Meant}
 
 -- where the only fault is want of memory
-pub answers_text : {A B : Type 0} (G : Grammar A) (text : List ℕ) (spelled : A) (result : Result (String B) Fault) → G.IsGood spelled → text ≡ G.text spelled
+pub answers_text : {A B : Type 0} (G : Grammar A) (text : List ℕ) (spelled : A) (result : Result (String B) Fault) → G.IsGood spelled → meant_of text ≡ G.text spelled
     → IfOk result (λ answer. string_bytes answer ≡ G.answer spelled) → IfErr result (λ fault. fault ≡ NoMemory) → AnswersText G text result
 answers_text G text spelled (Ok answer) good same answers none = (spelled, good, same, answers)
-answers_text G text spelled (Err fault) good same answers none = subst (FaultsBy (G.IsFault text)) (sym none) tt
+answers_text G text spelled (Err fault) good same answers none = subst (FaultsBy (IsOwnFault G.IsFault text)) (sym none) tt

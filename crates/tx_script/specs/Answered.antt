@@ -5,12 +5,13 @@ use Rattle.tx_lines.specs.Ends.{Counts}
 use Rattle.tx_script.specs.Grammars.{Grammar}
 use Rattle.tx_lines.specs.Whole.{IsCalm}
 use Rattle.tx_lines.specs.declared.faults.Fault.{Fault}
+use Rattle.tx_plain.specs.Meant.{meant_of, IsOwnFault}
 use Rattle.tx_lines.specs.declared.faults.Fault.TheVariants.{NotALine, NoLabel, TooLong, Reader, Writer, NoMemory}
 
--- what was left to read spells that
+-- what was left to read spells that, or means it by another text
 pub record Spells {A : Type 0} (G : Grammar A) (left : Option (List ℕ)) (spelled : A) : Type 0 where
   pub good : G.IsGood spelled
-  pub text : IfSome left (λ bytes. bytes ≡ G.text spelled)
+  pub text : IfSome left (λ bytes. meant_of bytes ≡ G.text spelled)
 
 -- so many bytes of its answer are written
 pub record WritesFront {A : Type 0} (G : Grammar A) (written : Option (List ℕ)) (spelled : A) (count : ℕ) (written' : Option (List ℕ)) : Type 0 where
@@ -22,11 +23,11 @@ abbrev pub Answers : {A : Type 0} → Grammar A → Option (List ℕ) → Counts
 Answers {A} G left reads written writes (Ok _) reads' written' writes' =
     ((spelled : A) × Spells G left spelled × Appends written written' (G.answer spelled)) × IsCalm reads reads' × IsCalm writes writes'
 Answers G left reads written writes (Err (NotALine line)) reads' written' writes' =
-    IfSome left (λ bytes. (length bytes ≤ 1048576) × G.IsFault bytes (NotALine line)) × Keeps written written'
+    IfSome left (λ bytes. (length bytes ≤ 1048576) × IsOwnFault G.IsFault bytes (NotALine line)) × Keeps written written'
 Answers G left reads written writes (Err (NoLabel line)) reads' written' writes' =
-    IfSome left (λ bytes. (length bytes ≤ 1048576) × G.IsFault bytes (NoLabel line)) × Keeps written written'
+    IfSome left (λ bytes. (length bytes ≤ 1048576) × IsOwnFault G.IsFault bytes (NoLabel line)) × Keeps written written'
 Answers G left reads written writes (Err (TooLong line)) reads' written' writes' =
-    IfSome left (λ bytes. ((line ≡ 0) × (1048576 < length bytes)) ⊎ ((length bytes ≤ 1048576) × G.IsFault bytes (TooLong line))) × Keeps written written'
+    IfSome left (λ bytes. ((line ≡ 0) × (1048576 < length bytes)) ⊎ ((length bytes ≤ 1048576) × IsOwnFault G.IsFault bytes (TooLong line))) × Keeps written written'
 Answers G left reads written writes (Err Reader) reads' written' writes' =
     ((reads.failed < reads'.failed) ⊎ (reads'.again ≡ reads.again + 1001)) × Keeps written written'
 Answers {A} G left reads written writes (Err Writer) reads' written' writes' =

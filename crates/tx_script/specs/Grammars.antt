@@ -8,6 +8,7 @@ use Rattle.tx_lines.specs.Walks.{walk_text, IsWalk, IsWalkFault}
 use Rattle.tx_lines.specs.declared.faults.Fault.{Fault}
 use Rattle.tx_lines.specs.declared.read.command.Command.{Command}
 use Rattle.tx_lines.specs.declared.read.header.Header.{Header}
+use Rattle.tx_plain.specs.Meant.{meant_of, IsOwnFault}
 
 -- what texts of a kind spell, and how; where a text that is none is at fault; and what answers a text
 pub record Grammar (A : Type 0) : Type 1 where
@@ -34,7 +35,7 @@ walks = record {
   answer = λ spelled. walk_answers spelled.0 spelled.1 spelled.2;
 }
 
--- the answer to what a text spells, or the text's fault
+-- the answer to what a text spells, or means by another text, or the text's fault
 abbrev pub AnswersText : {A B : Type 0} → Grammar A → List ℕ → Result (String B) Fault → Type 0
-AnswersText {A} G text (Ok answer) = (spelled : A) × G.IsGood spelled × (text ≡ G.text spelled) × (string_bytes answer ≡ G.answer spelled)
-AnswersText G text (Err fault) = FaultsBy (G.IsFault text) fault
+AnswersText {A} G text (Ok answer) = (spelled : A) × G.IsGood spelled × (meant_of text ≡ G.text spelled) × (string_bytes answer ≡ G.answer spelled)
+AnswersText G text (Err fault) = FaultsBy (IsOwnFault G.IsFault text) fault

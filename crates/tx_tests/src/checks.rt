@@ -32,6 +32,9 @@ fn nothing_is_told_of_texts_that_are_read(rt: HostRuntime) -> Result<(), Fail> {
         "txos 2 schedule 2\ndebug\nback\nforward\ngoto 7\nstate\nmoved 3\n",
         "txos 1 program 2\n",
         "txos 1 program 2\nlabel a\nstore $7 00ff\njump @a if $0\nfork\npipe\n",
+        "# a note\n\ntxos 3 schedule 2\r\n\t1 kill 1 SIGTERM\n1 sigprocmask set TERM,INT\n",
+        "txos 3 schedule 2\n1 store 5 \"a # b\\n\"\ndebug # here\nback",
+        " txos 3 program 1\nlabel a # here\nstore $1 0xFF\n  jump @a if  $0",
     ] {
         let told = check_text(rt.alloc(), text.as_bytes())?;
         assert!(rt; told.is_empty(), "of '{text}' is told: {told}");
@@ -232,8 +235,8 @@ fn first_lines_and_ends_are_told(rt: HostRuntime) -> Result<(), Fail> {
             "line 1, column 1: the text begins with a byte-order mark\n",
         ),
         (
-            "txos 3 schedule 2\n",
-            "line 1, column 6: 3: the version is 1 or 2\n",
+            "txos 4 schedule 2\n",
+            "line 1, column 6: 4: the version is 1 or 2\n",
         ),
         (
             "txos 1 plan 2\n",
@@ -346,6 +349,116 @@ fn lines_of_programs_are_told(rt: HostRuntime) -> Result<(), Fail> {
     ] {
         let told = told_of_program(rt.alloc(), lines)?;
         assert!(rt; told.as_str() == expected, "of '{lines}' is told: {told}");
+    }
+    Ok(())
+}
+
+#[test]
+fn texts_of_version_3_are_told_at_their_own_lines_and_columns(rt: HostRuntime) -> Result<(), Fail> {
+    for (text, expected) in [
+        (
+            " \ttxos 3\n",
+            "line 1, column 3: \
+             the first line with words is txos 3 schedule N or txos 3 program N\n",
+        ),
+        (
+            "# a note\n\ntxos 3  schedule 300\r\n",
+            "line 3, column 18: 300: a number of 1 to 256 is wanted\n",
+        ),
+        (
+            "txos 3 schedule 2\n\t1 mpa 0\n\n# a note\n  1   load # what\n",
+            "line 2, column 4: no such call: mpa; did you mean map?\n\
+             line 5, column 7: load takes A; got 0 words\n",
+        ),
+        (
+            "txos 3 schedule 2\n 1   # no call\n",
+            "line 2, column 3: a call is wanted after the process\n",
+        ),
+        (
+            "txos 3 schedule 2\n1 map 0\n\n1 map  SIGTERM",
+            "line 4, column 8: SIGTERM: a number is wanted, in decimal digits\n",
+        ),
+        (
+            "txos 3 schedule 2\n\ndebug # here\n  foward\n",
+            "line 4, column 3: no such command: foward; did you mean forward?\n",
+        ),
+        (
+            "txos 3 program 1\n# a note\n  label a # here\n\nlabel  a\n",
+            "line 5, column 8: label a stands in line 3 already\n",
+        ),
+        (
+            "txos 3 program 1\n\n jump  @a always\n",
+            "line 3, column 8: no such label: a\n",
+        ),
+    ] {
+        let told = check_text(rt.alloc(), text.as_bytes())?;
+        assert!(rt; told.as_str() == expected, "of '{text}' is told: {told}");
+    }
+    Ok(())
+}
+
+#[test]
+fn what_only_version_3_spells_is_told_in_its_words(rt: HostRuntime) -> Result<(), Fail> {
+    for (line, expected) in [
+        (
+            "  1\tstore 5   \"hello there",
+            "line 2, column 15: \"hello there: a string ends with \" in its line\n",
+        ),
+        (
+            "1 store 5 \"a b\\q\" # what",
+            "line 2, column 11: \
+             \"a b\\q\": the escapes of a string are \\n, \\t, \\0, \\\" and \\\\\n",
+        ),
+        (
+            "1 store 5 \"\"",
+            "line 2, column 11: \"\": a string has 1 to 64 bytes\n",
+        ),
+        (
+            "1 store 5 \"a\"b",
+            "line 2, column 11: \"a\"b: a space is wanted behind a string\n",
+        ),
+        (
+            "1 map  \"a b\"",
+            "line 2, column 8: \"a b\": a string stands for the bytes of a store alone\n",
+        ),
+        (
+            "1 mpa \"a b",
+            "line 2, column 3: no such call: mpa; did you mean map?\n",
+        ),
+        (
+            "1 store  5 0x4A4",
+            "line 2, column 12: 0x4A4: each byte has two hex digits\n",
+        ),
+        (
+            "1 store  5 4A4",
+            "line 2, column 12: 4A4: each byte has two hex digits\n",
+        ),
+        (
+            "1 kill 1  FOO",
+            "line 2, column 11: there is no signal FOO\n",
+        ),
+        (
+            "1 kill 1 SIGFOO",
+            "line 2, column 10: there is no signal SIGFOO\n",
+        ),
+        (
+            "1 sigprocmask  block TERM,FOO # both",
+            "line 2, column 22: there is no signal FOO\n",
+        ),
+        (
+            "1 sigprocmask  block TERM,15",
+            "line 2, column 22: TERM,15: a signal stands in the set twice\n",
+        ),
+        (
+            "1 sigaction USR1 catch 5  TERM,",
+            "line 2, column 27: TERM,: a set is - for none, or signals joined by commas\n",
+        ),
+    ] {
+        let mut text = String::new(rt.alloc());
+        text.push_str("txos 3 schedule 2\n")?;
+        text.push_str(line)?;
+        let told = check_text(rt.alloc(), text.as_bytes())?;
+        assert!(rt; told.as_str() == expected, "of '{line}' is told: {told}");
     }
     Ok(())
 }

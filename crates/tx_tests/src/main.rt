@@ -31,6 +31,8 @@ mod numbers;
 #[cfg(test)]
 mod pipes;
 #[cfg(test)]
+mod plains;
+#[cfg(test)]
 mod programs;
 #[cfg(test)]
 mod queues;

@@ -4,7 +4,7 @@ use Rattle.std.specs.Io.KnownBytes.{Appends, Keeps}
 use Rattle.tx_journal.specs.Sessions.{SessionState}
 use Rattle.tx_lines.specs.Ends.{Counts}
 use Rattle.tx_lines.specs.Lines.{most_of}
-use Rattle.tx_lines.specs.Programs.{ReadsProgramFrom, SpellsProgram}
+use Rattle.tx_plain.specs.MeantPrograms.{MeansProgram, MeansProgramFrom}
 use Rattle.tx_workers.specs.RunText.{run_text}
 use Rattle.tx_lines.specs.Whole.{IsCalm, WritesWhole}
 use Rattle.tx_lines.specs.declared.faults.Fault.TheVariants as fault
@@ -22,19 +22,19 @@ pub record IsBooted (header : Header) (session : SessionState) : Type 0 where
   pub width : session.width ≡ most_of header.version
   pub count : session.count ≡ header.count
 
--- what was left to read spells a program, and so many workers ran it from its start, each for so many turns at most
+-- what was left to read means a program, and so many workers ran it from its start, each for so many turns at most
 pub record IsRunOf (left : Option (List ℕ)) (workers turns : ℕ) (session : SessionState) : Type 0 where
   pub program : Program
   pub given : SessionState
   pub crew : List Worker
-  pub spelled : SpellsProgram left program
+  pub spelled : MeansProgram left program
   pub booted : IsBooted program.header given
   pub worked : IsWorked program given workers turns session crew
 
 -- a program is read and run; or its text is at fault, or its source; or its run gave nothing back
 abbrev pub RunsFrom : Option (List ℕ) → Counts → ℕ → ℕ → Result SessionState RunFault → Counts → Type 0
 RunsFrom left reads workers turns (Ok session) reads' = IsRunOf left workers turns session × IsCalm reads reads'
-RunsFrom left reads workers turns (Err (Text why)) reads' = ReadsProgramFrom left reads (Err why) reads'
+RunsFrom left reads workers turns (Err (Text why)) reads' = MeansProgramFrom left reads (Err why) reads'
 RunsFrom left reads workers turns (Err (Work why)) reads' = Unit {0}
 
 -- a program is read, and its run written, or a front of it, or nothing, as the fault says
@@ -43,5 +43,5 @@ RunsText left reads written writes workers turns (Ok _) reads' written' writes' 
     ((session : SessionState) × IsRunOf left workers turns session × Appends written written' (run_text session)) × IsCalm reads reads' × IsCalm writes writes'
 RunsText left reads written writes workers turns (Err (Text fault.Writer)) reads' written' writes' =
     (session : SessionState) × IsRunOf left workers turns session × WritesWhole written writes (run_text session) (Err fault.Writer) written' writes'
-RunsText left reads written writes workers turns (Err (Text why)) reads' written' writes' = ReadsProgramFrom left reads (Err why) reads' × Keeps written written'
+RunsText left reads written writes workers turns (Err (Text why)) reads' written' writes' = MeansProgramFrom left reads (Err why) reads' × Keeps written written'
 RunsText left reads written writes workers turns (Err (Work why)) reads' written' writes' = Keeps written written'

@@ -14,7 +14,8 @@ use std::thread::Threads;
 use thiserror::Error;
 use tx_base::NoMemory;
 use tx_journal::Session;
-use tx_lines::{Fault, Header, Sink, Source, Version, read_program};
+use tx_lines::{Fault, Header, Sink, Source, Version};
+use tx_plain::read_program;
 
 /// Why no run was written, or not the whole of it. It prints as the fault that it holds.
 #[derive(Clone, Copy, PartialEq, Eq, Debug, Error)]

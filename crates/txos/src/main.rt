@@ -1,7 +1,7 @@
 //! The program: reads its words, and then a text.
 //!
 //! The program. `main` is thin: it reads the words with `clap`, calls `replay`, `debug`,
-//! `run_program` or `check` over the standard streams, or writes what a word means, and answers a
+//! `run_program`, `check` or `write_plain` over the standard streams, or writes what a word means, and answers a
 //! status.
 #![tactic(auto)]
 
@@ -21,6 +21,7 @@ use std::{env, io};
 use tx_check::check;
 use tx_explain::{explain, listing, nearest};
 use tx_lines::{Fault, OverRead, OverWrite, Sink, Source, write_whole};
+use tx_plain::write_plain;
 use tx_script::{debug, replay};
 use tx_workers::run_program;
 use words::{Asked, Crew, VERSION_LINE, number_asked, read_words};
@@ -87,6 +88,7 @@ where
             status_of(rt, run_program(rt, alloc, source, sink, workers, turns))
         }
         Asked::Check => status_of_check(rt, check(alloc, source, sink)),
+        Asked::Plain => status_of(rt, write_plain(alloc, source, sink)),
         Asked::Explain(word) => tell(rt, alloc, word, sink),
         Asked::Version => status_of(rt, write_whole(sink, VERSION_LINE.as_bytes())),
     }

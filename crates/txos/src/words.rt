@@ -27,6 +27,8 @@ pub enum Asked<'a> {
     Run(Crew),
     /// To read a text, and write what is wrong with each of its lines that is at fault.
     Check,
+    /// To read a text as people write it, and write the text that it means.
+    Plain,
     /// To write what a word means, or the list of all words.
     Explain(Option<&'a str>),
     /// To write the version.
@@ -55,6 +57,7 @@ pub fn read_words<'a>(alloc: Global, words: &'a [String]) -> Result<Asked<'a>, E
         Some("debug") => Ok(Asked::Debug),
         Some("run") => Ok(Asked::Run(crew_of(&matches)?)),
         Some("check") => Ok(Asked::Check),
+        Some("plain") => Ok(Asked::Plain),
         Some("explain") => Ok(Asked::Explain(word_of(&matches))),
         Some("version") => Ok(Asked::Version),
         // Words that name no command, or ask for help, are an `Err` of clap's.
@@ -116,6 +119,7 @@ fn new_command<'a>(alloc: Global) -> Result<Command<'a>, AllocError>
         .subcommand(text_command(alloc, "debug", DEBUG)?)?
         .subcommand(run_command(alloc)?)?
         .subcommand(text_command(alloc, "check", CHECK)?)?
+        .subcommand(text_command(alloc, "plain", PLAIN)?)?
         .subcommand(explain_command(alloc)?)?
         .subcommand(text_command(alloc, "version", PRINT_VERSION)?)?;
     Ok(command)
@@ -156,6 +160,11 @@ const RUN: Told = Told {
 const CHECK: Told = Told {
     about: "Reads a text from standard input, and says of each line at fault what is wrong",
     example: "Example: txos check < examples/first.txos",
+};
+
+const PLAIN: Told = Told {
+    about: "Reads a text of version 3 from standard input, and writes the one that it means",
+    example: "Example: txos plain < examples/install.txos",
 };
 
 const EXPLAIN: Told = Told {

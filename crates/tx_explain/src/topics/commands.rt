@@ -14,7 +14,7 @@ pub fn topics() -> &'static [Topic]
     &TOPICS
 }
 
-const TOPICS: [Topic; 6] = [
+const TOPICS: [Topic; 7] = [
     Topic {
         word: "replay",
         also: &[],
@@ -68,6 +68,17 @@ check: says of each line at fault in a text what is wrong with it.
            text reads it
   status   0 where nothing is wrong, else 1
   example  txos check < examples/first.txos
+",
+    },
+    Topic {
+        word: "plain",
+        also: &[],
+        text: "\
+plain: writes the text of version 2 that a text of version 3 means.
+  form     txos plain < TEXT
+  TEXT     a schedule, one with the line debug and commands, or a program
+  writes   the text that is meant: of versions 1 and 2 the text itself
+  example  txos plain < examples/install.txos
 ",
     },
     Topic {

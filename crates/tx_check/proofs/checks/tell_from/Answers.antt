@@ -1,20 +1,31 @@
-use Rattle.std.proofs.Common.{◌≡◌, ◌∙◌, ℕ, ap, string_bytes, subst, sym}
+use Rattle.std.proofs.Common.{◌≡◌, ◌≤◌, ◌∙◌, ℕ, ap, arith, refl, string_bytes, subst, sym}
 use Rattle.tx_check.specs.Numbered.{line_at}
 use Rattle.tx_check.specs.Reads.{line_of}
 use Rattle.tx_check.specs.Told.{TellsFrom, TellsUpTo}
 use Rattle.tx_check.proofs.Appended.{first_told}
+use Rattle.tx_check.proofs.OwnLines.{moved}
 use Rattle.tx_lines.specs.Schedule.{first_line}
+use Rattle.tx_plain.specs.Meant as own
 use Rattle.tx_check.proofs.checks.tell_from.Goals as goal
 
 pub returns : goal.returns
 returns c =
     let text = c.args.text.now in
-    let line = c.first_of-line.result in
-    let at : line.number ≡ line_of c.args.fault = c.first_of-line.ensures.number ∙ c.line_of-number.ensures in
-    let same : line.bytes.now ≡ line_at line.number text =
-    c.first_of-line.ensures.bytes ∙ ap first_line c.place_of.ensures ∙ ap (λ (n : ℕ). line_at n text) (sym at) in
-    let told = string_bytes c.tell.new.told in
-    let first = first_told text line.bytes.now line.number (string_bytes c.new-told.result) told same c.new-told.ensures.bytes c.in_ok-tell.ensures in
-    let numbered = subst (λ (n : ℕ). TellsUpTo text n n told) c.first_of-line.ensures.number first in
-    subst (λ (n : ℕ). TellsFrom text n (string_bytes c.tell_behind.new.told)) c.line_of-number.ensures
-    (c.in_ok-tell_behind.ensures c.line_of-number.result numbered)
+    let meant = c.args.meant.now in
+    let there = c.moved_to-own in
+    let line = c.line-own_line in
+    let number : c.line-line.result.number ≡ line_of c.args.fault = c.line-line.ensures.number ∙ c.place_of.ensures.number in
+    let at : there.result.number ≡ own.line_of meant (line_of c.args.fault) =
+    there.ensures.number ∙ c.own_line.ensures ∙ ap (λ (n : ℕ). own.line_of meant n) number in
+    let first = c.first.result in
+    let some : first.number ≤ there.result.number = omega (arith, c.first.ensures.number, at, c.requires.own) in
+    let is = moved text first there.result (record {
+      some = omega (arith, c.first.ensures.number);
+      left = c.first.ensures.left ∙ rw c.first.ensures.number refl;
+    }) some (there.ensures.left ∙ rw there.ensures.number refl) in
+    let same : line.result.bytes.now ≡ line_at line.result.number text =
+    line.ensures.bytes ∙ ap first_line is.left ∙ ap (λ (n : ℕ). line_at n text) (sym line.ensures.number) in
+    let told = first_told text line.result.bytes.now line.result.number (string_bytes c.new-told.result) (string_bytes c.tell.new.told) same c.new-told.ensures.bytes c.in_ok-tell.ensures in
+    let up_to = subst (λ (n : ℕ). TellsUpTo text n n (string_bytes c.tell.new.told)) line.ensures.number told in
+    subst (λ (n : ℕ). TellsFrom text n (string_bytes c.tell_behind.new.told)) at
+    (c.in_ok-tell_behind.ensures text there.result.number is up_to)

@@ -1,10 +1,11 @@
-use Rattle.std.proofs.Common.{string_bytes}
-use Rattle.tx_check.proofs.Appended.{line_told, none_told}
+use Rattle.std.proofs.Common.{◌∙◌, arith, refl, string_bytes}
+use Rattle.tx_check.proofs.OwnLines.{goes_on}
 use Rattle.tx_check.proofs.checks.tell_line.Goals as goal
 
-pub returns-in-Some : goal.returns-in-Some
-returns-in-Some c =
-    line_told c.tell.result c.args.text.now c.args.line.bytes.now c.args.line.number (string_bytes c.args.told.now) (string_bytes c.tell.new.told) c.requires c.tell.ensures
-
-pub returns-in-None : goal.returns-in-None
-returns-in-None c = none_told c.args.text.now c.args.line.number (string_bytes c.args.told.now)
+pub returns : goal.returns
+returns c =
+    let next = c.moved_to-next in
+    let line = c.line-own_line in
+    let later = c.if-number-own.false in
+    goes_on c.args.own next.result line.result.number line.result.bytes.now (string_bytes c.args.told.now) (string_bytes c.tell.new.told) (omega (arith, later, next.ensures.number))
+    (next.ensures.left ∙ rw next.ensures.number refl) line.ensures.number line.ensures.bytes c.in_ok-tell.ensures

@@ -17,6 +17,9 @@ returns-in-Some-check-clause-reads c = no_fault _ _ c.in_ok-command.ensures c.in
 pub returns-in-Some-explain-clause-reads : goal.returns-in-Some-explain-clause-reads
 returns-in-Some-explain-clause-reads c = no_fault _ _ c.in_ok-command.ensures c.in_ok-matches.ensures.kinds
 
+pub returns-in-Some-plain-clause-reads : goal.returns-in-Some-plain-clause-reads
+returns-in-Some-plain-clause-reads c = no_fault _ _ c.in_ok-command.ensures c.in_ok-matches.ensures.kinds
+
 pub returns-in-Some-version-clause-reads : goal.returns-in-Some-version-clause-reads
 returns-in-Some-version-clause-reads c = no_fault _ _ c.in_ok-command.ensures c.in_ok-matches.ensures.kinds
 
@@ -30,6 +33,12 @@ returns-in-Some-explain-clause-asked c =
     let name : c.in-Some-explain.field-0.now ≡ codes "explain" = search rules in
     parse_names _ _ _ c.in_ok-command.ensures c.in_ok-matches.ensures.matches ∙ sym c.subcommand_name.ensures
     ∙ ap (option_map (λ (s : Bor (List ℕ)). s.now)) c.in-Some-explain.is ∙ ap (λ (t : List ℕ). Some t) name
+
+pub returns-in-Some-plain-clause-asked : goal.returns-in-Some-plain-clause-asked
+returns-in-Some-plain-clause-asked c =
+    let name : c.in-Some-plain.field-0.now ≡ codes "plain" = search rules in
+    parse_names _ _ _ c.in_ok-command.ensures c.in_ok-matches.ensures.matches ∙ sym c.subcommand_name.ensures
+    ∙ ap (option_map (λ (s : Bor (List ℕ)). s.now)) c.in-Some-plain.is ∙ ap (λ (t : List ℕ). Some t) name
 
 pub unreachable-requires : goal.unreachable-requires
 unreachable-requires c =
@@ -48,10 +57,13 @@ unreachable-requires c =
                 | inr four ↦ elim four [
                   | inl check ↦ absurd (w.in_default.not-check (search (rules, check)))
                   | inr five ↦ elim five [
-                    | inl explain ↦ absurd (w.in_default.not-explain (search (rules, explain)))
+                    | inl plain ↦ absurd (w.in_default.not-plain (search (rules, plain)))
                     | inr six ↦ elim six [
-                      | inl version ↦ absurd (w.in_default.not-version (search (rules, version)))
-                      | inr none ↦ none
+                      | inl explain ↦ absurd (w.in_default.not-explain (search (rules, explain)))
+                      | inr seven ↦ elim seven [
+                        | inl version ↦ absurd (w.in_default.not-version (search (rules, version)))
+                        | inr none ↦ none
+                      ]
                     ]
                   ]
                 ]

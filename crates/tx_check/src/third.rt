@@ -1,0 +1,108 @@
+//! What is wrong with a line of version 2, as it is told of the line of version 3 that means it.
+ghost use Rattle.tx_check.specs.Told.{IsColumn};
+
+mod sets;
+pub mod strings;
+
+use crate::places::Part;
+use crate::third::sets::set_what;
+use crate::trouble::{LineTrouble, Trouble, What, WordTrouble};
+use crate::words::{count_words, word_at};
+use tx_plain::Plain;
+
+/// How many digits a word may have.
+const DIGITS: usize = 128;
+
+/// What a word is to be, where version 3 has ways of its own to spell it.
+#[derive(Clone, Copy)]
+enum Role {
+    Signal,
+    Set,
+    Other,
+}
+
+/// What is wrong at a column of a line, as it is told of the line of version 3 that means it.
+pub fn third_what<'a>(plain: &Plain, part: Part, line: &'a [u8], trouble: Trouble<'a>) -> What<'a>
+    requires { IsColumn line.now trouble.column }
+{
+    match trouble.what {
+        What::SecondLabel { name, line } => What::SecondLabel {
+            name,
+            line: plain.own_line(line),
+        },
+        What::Line(LineTrouble::NoHeader) => What::Line(LineTrouble::NoThirdHeader),
+        What::Word(_word, _wrong) => word_what(part, line, trouble),
+        What::NoSignal(_word) => word_what(part, line, trouble),
+        what => what,
+    }
+}
+
+/// What is wrong with a word, by what it is to be.
+fn word_what<'a>(part: Part, line: &'a [u8], trouble: Trouble<'a>) -> What<'a>
+    requires { IsColumn line.now trouble.column }
+{
+    let place = count_words(&line[..trouble.column - 1]) - 1;
+    match role_at(part, line, place) {
+        Role::Signal => signal_what(trouble.what),
+        Role::Set => match word_at(line, place) {
+            Some(set) => set_what(set.bytes),
+            None => trouble.what,
+        },
+        Role::Other => other_what(trouble.what),
+    }
+}
+
+/// What the word at that place of a line is to be.
+fn role_at(part: Part, line: &[u8], place: usize) -> Role {
+    let name_place = match part {
+        Part::Step => 1,
+        Part::ProgramLine | Part::Link => 0,
+        _ => return Role::Other,
+    };
+    let Some(name) = word_at(line, name_place) else {
+        return Role::Other;
+    };
+    let argument = place.saturating_sub(name_place);
+    match name.bytes {
+        b"deliver" if argument == 1 => Role::Signal,
+        b"kill" if argument == 2 => Role::Signal,
+        b"sigqueue" if argument == 2 => Role::Signal,
+        b"sigaction" if argument == 1 => Role::Signal,
+        b"sigaction" if argument == 4 => Role::Set,
+        b"sigprocmask" if argument == 2 => Role::Set,
+        _ => Role::Other,
+    }
+}
+
+/// What is wrong with a word that is to be a signal.
+fn signal_what(what: What<'_>) -> What<'_> {
+    match what {
+        What::Word(word, WordTrouble::SignalName) => What::NoSignal(word),
+        What::Word(word, WordTrouble::NoNumber) => What::NoSignal(word),
+        _ => what,
+    }
+}
+
+/// What is wrong with another word.
+fn other_what(what: What<'_>) -> What<'_> {
+    let What::Word(word, wrong) = what else {
+        return what;
+    };
+    match wrong {
+        WordTrouble::SignalName => What::Word(word, WordTrouble::NoNumber),
+        WordTrouble::UpperCase | WordTrouble::NoHexDigits => What::Word(word, digits_trouble(word)),
+        _ => what,
+    }
+}
+
+/// What is wrong with the digits of a word that is no bytes, in either case and behind `0x` or not.
+fn digits_trouble(word: &[u8]) -> WordTrouble {
+    let digits = word.strip_prefix(b"0x".as_slice()).unwrap_or(word);
+    if !digits.iter().all(|byte| byte.is_ascii_hexdigit()) {
+        return WordTrouble::NoHexDigits;
+    }
+    if digits.len() > DIGITS {
+        return WordTrouble::TooManyBytes;
+    }
+    WordTrouble::OddDigits
+}

@@ -1,0 +1,44 @@
+//! What is wrong with a word that is to be a set of signals, by names or numbers.
+ghost use Rattle.std.specs.Prelude.{◌≤◌};
+
+use crate::forms::is_among;
+use crate::trouble::{ThirdTrouble, What};
+use tx_base::Signo;
+use tx_lines::read_byte;
+use tx_signal::is_known;
+
+/// The names of signals, parted by `|`.
+const NAMES: &[u8] = b"HUP|INT|QUIT|ABRT|KILL|USR1|USR2|PIPE|ALRM|TERM|CHLD";
+
+/// What is wrong with a word that is no set: the first of its members that is no signal, or that
+/// one stands in it twice.
+pub fn set_what(word: &[u8]) -> What<'_> {
+    let mut start = 0;
+    for at in 0..word.len() {
+        if word[at] == b',' {
+            if let Some(what) = member_what(word, &word[start..at]) {
+                return what;
+            }
+            start = at + 1;
+        }
+    }
+    match member_what(word, &word[start..]) {
+        Some(what) => what,
+        None => What::Third(word, ThirdTrouble::Twice),
+    }
+}
+
+/// What is wrong with a member of a set. Nothing where it is a signal.
+fn member_what<'a>(set: &'a [u8], member: &'a [u8]) -> Option<What<'a>> {
+    if member.is_empty() {
+        return Some(What::Third(set, ThirdTrouble::NoSet));
+    }
+    let name = member.strip_prefix(b"SIG".as_slice()).unwrap_or(member);
+    if is_among(NAMES, name) {
+        return None;
+    }
+    match read_byte(member) {
+        Some(signo) if is_known(Signo(signo)) => None,
+        _ => Some(What::NoSignal(member)),
+    }
+}

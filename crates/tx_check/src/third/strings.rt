@@ -1,0 +1,82 @@
+//! What is wrong with a string that means no bytes, and so stands in the line of version 2 as it is.
+ghost use Rattle.std.specs.Prelude.{IfSome};
+ghost use Rattle.tx_check.specs.Told.{IsColumn};
+
+use crate::own::own_word;
+use crate::trouble::{ThirdTrouble, Trouble, What};
+use crate::words::{Word, count_words, word_at};
+use tx_lines::LINE_BYTES;
+
+/// How many bytes a string may have.
+const BYTES: usize = 64;
+
+/// What is wrong with the first string of an own line that stands in the line of version 2 as it is,
+/// where what was found wrong there, at that own column, may come of it.
+pub fn string_trouble<'a>(
+    line: &[u8],
+    own: &'a [u8],
+    column: usize,
+    what: &What<'_>,
+) -> Option<Trouble<'a>>
+    ensures { IfSome result (λ trouble. IsColumn own.now trouble.column) }
+{
+    if line.len() > LINE_BYTES {
+        return None;
+    }
+    let string = string_left(line, own)?;
+    match what {
+        What::Takes { .. } => {}
+        _ if column < string.column => return None,
+        _ => {}
+    }
+    Some(Trouble {
+        column: string.column,
+        what: What::Third(string.bytes, wrong_in(string.bytes)),
+    })
+}
+
+/// The first string of an own line that stands in the line of version 2 as it is. No word before it
+/// has a space, so that the places of both are the same.
+fn string_left<'a>(line: &[u8], own: &'a [u8]) -> Option<Word<'a>>
+    ensures { IfSome result (λ word. IsColumn own.now word.column) }
+{
+    for place in 0..count_words(line) {
+        let string = own_word(own, place)?;
+        let word = word_at(line, place)?;
+        if string.bytes.starts_with(b"\"") && word.bytes.starts_with(b"\"") {
+            return Some(string);
+        }
+    }
+    None
+}
+
+/// What is wrong with a string. `NoStore` where it means bytes, and stands in a wrong place.
+fn wrong_in(string: &[u8]) -> ThirdTrouble {
+    let mut is_escaped = false;
+    let mut count: usize = 0;
+    for at in 1..string.len() {
+        let byte = string[at];
+        if is_escaped && !b"nt0\"\\".contains(&byte) {
+            return ThirdTrouble::NoEscape;
+        }
+        if !is_escaped && byte == b'"' {
+            return wrong_at_end(count, &string[at + 1..]);
+        }
+        is_escaped = !is_escaped && byte == b'\\';
+        if !is_escaped {
+            count = count.saturating_add(1);
+        }
+    }
+    ThirdTrouble::OpenString
+}
+
+/// What is wrong with a string of so many bytes, and with what follows it.
+fn wrong_at_end(count: usize, behind: &[u8]) -> ThirdTrouble {
+    if !behind.is_empty() {
+        return ThirdTrouble::BehindString;
+    }
+    if count == 0 || count > BYTES {
+        return ThirdTrouble::StringSize;
+    }
+    ThirdTrouble::NoStore
+}

@@ -1,0 +1,16 @@
+pub mod Tests
+pub mod LineParts
+pub mod WordParts
+pub mod SetParts
+pub mod StringParts
+pub mod Bytes
+pub mod BareLines
+pub mod Unnamed
+pub mod StayingSets
+pub mod StayingBytes
+pub mod StayingWords
+pub mod StayingLines
+pub mod StayingSteps
+pub mod StayingPrograms
+pub mod PlacedWords
+pub mod Translated

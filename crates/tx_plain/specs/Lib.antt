@@ -1,0 +1,14 @@
+pub mod OwnLines
+pub mod Words
+pub mod SignalNames
+pub mod Sets
+pub mod Strings
+pub mod ByteWords
+pub mod Roles
+pub mod Lines
+pub mod Meant
+pub mod MeantFacts
+pub mod MeantPrograms
+pub mod Plain
+pub mod Laws
+pub mod Command

@@ -1,0 +1,99 @@
+//! Puts words for bytes as version 2 spells them.
+ghost use Rattle.std.specs.Prelude.{◌≡◌, ◌++◌, map, OnOk};
+ghost use Rattle.std.specs.List.{list_all};
+ghost use Rattle.tx_plain.specs.ByteWords.{digits_of, is_hex, is_hex_digit, lower_digit, lower_or, plain_bytes};
+
+use crate::spellings::is;
+use crate::strings::meant;
+use std::alloc::{AllocError, Global};
+
+/// Appends a word with lower-case hex digits for its bytes, or as it is where it spells none. After
+/// an error the text may have some of them.
+pub fn put_bytes(alloc: Global, text: &mut Vec<u8>, word: &[u8]) -> Result<(), AllocError>
+    ensures { OnOk result (text.new.items ≡ text.old.items ++ plain_bytes word.now) }
+{
+    match word.split_first() {
+        Some((b'"', string)) => match meant(string) {
+            Some(bytes) => text.extend_from_slice(hex::encode(alloc, bytes.as_slice())?.as_bytes()),
+            None => text.extend_from_slice(word),
+        },
+        _ => put_digits(text, word),
+    }
+}
+
+/// Appends the digits of a word in lower case, or the word as it is where it is no digits.
+fn put_digits(text: &mut Vec<u8>, word: &[u8]) -> Result<(), AllocError>
+    ensures { OnOk result
+        (text.new.items ≡ text.old.items ++ lower_or word.now (digits_of word.now)) }
+{
+    let digits = digits_of(word);
+    if is_hex(digits) {
+        put_lower(text, digits)
+    } else {
+        text.extend_from_slice(word)
+    }
+}
+
+/// A word without `0x` before it, where it begins so.
+fn digits_of(word: &[u8]) -> &[u8]
+    ensures { result.now ≡ digits_of word.now }
+{
+    if word.len() >= 2 && is(&word[..2], b"0x") {
+        &word[2..]
+    } else {
+        word
+    }
+}
+
+/// Whether a word is hex digits for 1 to 64 bytes.
+fn is_hex(digits: &[u8]) -> bool
+    ensures { result ≡ is_hex digits.now }
+{
+    if digits.is_empty() {
+        return false;
+    }
+    if digits.len() > 128 {
+        return false;
+    }
+    if digits.len() % 2 == 1 {
+        return false;
+    }
+    are_hex_digits(digits)
+}
+
+/// Whether all bytes are hex digits of either case.
+fn are_hex_digits(bytes: &[u8]) -> bool
+    ensures { result ≡ list_all is_hex_digit bytes.now }
+{
+    bytes.iter().all(|byte| is_hex_digit(*byte))
+}
+
+/// Whether a byte is a hex digit of either case.
+fn is_hex_digit(byte: u8) -> bool
+    ensures { result ≡ is_hex_digit byte }
+{
+    matches!(byte, b'0'..=b'9' | b'A'..=b'F' | b'a'..=b'f')
+}
+
+/// The same digit in lower case.
+fn lower_digit(byte: u8) -> u8
+    ensures { result ≡ lower_digit byte }
+{
+    if byte >= b'A' && byte <= b'F' {
+        byte + 32
+    } else {
+        byte
+    }
+}
+
+/// Appends digits in lower case.
+fn put_lower(text: &mut Vec<u8>, digits: &[u8]) -> Result<(), AllocError>
+    ensures { OnOk result (text.new.items ≡ text.old.items ++ map lower_digit digits.now) }
+{
+    let mut left = digits;
+    while let Some((digit, rest)) = left.split_first() {
+        text.push(lower_digit(*digit))?;
+        left = rest;
+    }
+    Ok(())
+}

@@ -1,0 +1,36 @@
+#![tactic(auto)]
+//! Texts as people write them, "version 3": the text of version 2 that one means.
+//!
+//! `plain_text` translates a text, and the readers of version 2 then read what it makes. A line is
+//! taken (`lines.rt`), its words are found one after another by a small machine (`reading.rt`,
+//! `words.rt`), and each is put behind the text as version 2 spells it, by its role in its call
+//! (`roles.rt`): bytes (`byte_words.rt`, `strings.rt`), a signal (`signals.rt`), a set (`sets.rt`),
+//! or as it is. What is wrong stays as it is, so that the reader refuses it in its line; of each
+//! line of the plain text it is known which line of the person's it comes from. A text of version 2
+//! means itself, but for its header (`laws.rt`).
+
+mod arguments;
+mod byte_words;
+mod command;
+mod laws;
+mod lines;
+mod meant;
+mod plain;
+mod plain_lines;
+mod programs;
+mod reading;
+mod roles;
+mod sets;
+mod signals;
+mod spellings;
+mod stage;
+mod strings;
+mod words;
+
+pub use command::write_plain;
+pub use laws::second_stays_itself;
+pub use lines::split_line;
+pub use meant::Meant;
+pub use plain::{Plain, is_third, plain_text};
+pub use programs::read_program;
+pub use words::{Word, split_word, words_in};
