@@ -5,7 +5,7 @@ use Rattle.std.specs.Prelude.{All}
 use Rattle.std.proofs.lemmas.List.Elements.{All-append}
 use Rattle.tx_lines.specs.Schedule.{lines_of}
 use Rattle.tx_check.specs.Numbered.{line_at}
-use Rattle.tx_check.specs.Told.{last_line, told_text, AreRising, IsColumn, IsInLine, IsTold, IsToldIn, Tells, TellsOn, TellsUpTo, Told}
+use Rattle.tx_check.specs.Told.{last_line, told_text, AreRising, IsColumn, IsInLine, IsTold, IsToldIn, IsWrongOwn, Tells, TellsOn, TellsUpTo, Told}
 
 parts_append : (old a b c d e s n : List ℕ) → ((((((old ++ a) ++ b) ++ c) ++ d) ++ e) ++ s) ++ n ≡ old ++ ((a ++ (b ++ (c ++ (d ++ (e ++ s))))) ++ n)
 parts_append old a b c d e s n = simp append_assoc refl
@@ -54,14 +54,15 @@ first_told text bytes line old new same none tells = record {
     at = tells.at;
     rising = tt;
     good = all_one (IsToldIn text) tells.told (told_in text bytes line tells.told tells.at same tells.good);
+    wrong = λ k d below. absurd (omega (arith, below));
     spelled = tells.more ∙ ap (λ (t : List ℕ). t ++ (told_text tells.told ++ 10 ∷ [])) none;
   };
   up_to = omega arith;
 }
 
 -- one more
-pub more_told : (text bytes : List ℕ) (number : ℕ) (old new : List ℕ) → bytes ≡ line_at number text → Tells number bytes old new → TellsOn text number old new
-more_told text bytes number old new same tells line last below up_to =
+pub more_told : (text bytes : List ℕ) (number : ℕ) (old new : List ℕ) → bytes ≡ line_at number text → IsWrongOwn text number → Tells number bytes old new → TellsOn text number old new
+more_told text bytes number old new same wrong tells line last below up_to =
     let from = up_to.from in
     let after : last_line line from.others < tells.told.line = omega (arith, below, up_to.up_to, tells.at) in
     let good = told_in text bytes number tells.told tells.at same tells.good in
@@ -72,6 +73,8 @@ more_told text bytes number old new same tells line last below up_to =
         at = from.at;
         rising = rising_more line from.others tells.told from.rising after;
         good = All-append (IsToldIn text) (from.first ∷ from.others) (tells.told ∷ []) from.good (all_one (IsToldIn text) tells.told good);
+        wrong = All-append (λ (other : Told). IsWrongOwn text other.line) from.others (tells.told ∷ []) from.wrong
+            (all_one (λ (other : Told). IsWrongOwn text other.line) tells.told (subst (IsWrongOwn text) (sym tells.at) wrong));
         spelled = tells.more ∙ ap (λ (t : List ℕ). t ++ (told_text tells.told ++ 10 ∷ [])) from.spelled ∙ sym (lines_append (from.first ∷ from.others) tells.told);
       };
       up_to = omega (arith, last_more line from.others tells.told, tells.at);

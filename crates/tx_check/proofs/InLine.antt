@@ -26,7 +26,7 @@ digits_in_line (byte ∷ bytes) digits =
 pub decimal_in_line : (n : ℕ) → n < 2 ^ 64 → IsInLine (decimal n)
 decimal_in_line n small = digits_in_line (decimal n) (decimal_is_IsNumeral n (omega arith)).0.1
 
-both_true : (a b : Bool) → (a && b) ≡ true → (a ≡ true) × (b ≡ true)
+pub both_true : (a b : Bool) → (a && b) ≡ true → (a ≡ true) × (b ≡ true)
 both_true true b h = (refl, h)
 both_true false b h = absurd (both_ways false refl h)
 

@@ -1,25 +1,29 @@
 -- The own lines of a text, and what is told of them.
-use Rattle.std.proofs.Common.{◌≡◌, ◌∙◌, ◌<◌, ◌≤◌, ℕ, zero, suc, ◌+◌, ◌-◌, List, [], ◌∷◌, Option, Some, None, Result, Ok, Err, IfOk, length, ap, subst, refl, arith, zero-add, inr, Bool, true, false, if◌then◌else◌, slice_index_or}
+use Rattle.std.proofs.Common.{◌≡◌, ◌∙◌, ◌<◌, ◌≤◌, ℕ, zero, suc, ◌+◌, ◌-◌, List, [], ◌∷◌, Option, Some, None, Result, Ok, Err, IfOk, length, ap, subst, sym, refl, arith, zero-add, Bool, true, false, if◌then◌else◌, slice_index_or}
 use Rattle.std.proofs.lemmas.Bool.{ne_eqb}
 use Rattle.tx_check.specs.Kinds.{kind_of}
 use Rattle.tx_check.specs.Numbered.{after_lines, behind, line_at}
 use Rattle.tx_check.specs.OwnLines.{GoesOn, IsFrom}
 use Rattle.tx_check.specs.Reads.{line_of, IsAtFault}
-use Rattle.tx_check.specs.Told.{IsToldOf, Tells, TellsFrom}
+use Rattle.tx_check.specs.Told.{IsToldOf, IsWrongOwn, Tells, TellsFrom}
+use Rattle.tx_check.specs.Wrong.{IsWrongLine}
 use Rattle.tx_check.specs.declared.own.TextFrom.{TextFrom}
 use Rattle.tx_check.proofs.Appended.{more_told}
+use Rattle.tx_check.proofs.ToldOf.{told_fault}
 use Rattle.tx_lines.specs.Schedule.{first_line}
 use Rattle.tx_lines.specs.declared.faults.Fault.{Fault}
 use Rattle.tx_lines.specs.declared.faults.Fault.TheVariants.{NotALine, NoLabel, TooLong, Reader, Writer, NoMemory}
 use Rattle.tx_plain.specs.Lines.{plain_line, stage_after}
-use Rattle.tx_plain.specs.Meant.{fault_by, meant_of, own_line}
+use Rattle.tx_plain.specs.Meant.{bytes_of, fault_by, meant_of, own_line}
+use Rattle.tx_plain.specs.Meant as meanings
+use Rattle.tx_plain.specs.declared.meant.Meant.{Meant}
 use Rattle.tx_plain.specs.OwnLines.{own_lines}
 use Rattle.tx_plain.specs.Plain.{is_third, line_among, numbered, numbers_from}
 use Rattle.tx_plain.specs.Words.{words_in}
 use Rattle.tx_plain.specs.declared.stage.Stage.{Stage}
 use Rattle.tx_plain.specs.declared.stage.Stage.TheVariants.{Heading}
 
-lines_after : (more count : ℕ) (text : List ℕ) → after_lines more (after_lines count text) ≡ after_lines (more + count) text
+pub lines_after : (more count : ℕ) (text : List ℕ) → after_lines more (after_lines count text) ≡ after_lines (more + count) text
 lines_after zero count text = rw zero-add refl
 lines_after (suc more) count text =
     let one : suc more + count ≡ suc (more + count) = omega arith in rw one (ap behind (lines_after more count text))
@@ -35,13 +39,18 @@ moved text from next is after left =
     }
 
 -- what is told of a later line
-pub goes_on : (from next : TextFrom) (number : ℕ) (bytes old new : List ℕ) → from.number < next.number → next.left.now ≡ after_lines (next.number - from.number) from.left.now → number ≡ next.number → bytes ≡ first_line next.left.now
-    → Tells number bytes old new → GoesOn from next old new
-goes_on from next number bytes old new after left at same tells = λ text is.
+pub goes_on : (meant : Meant) (line : ℕ) (from next : TextFrom) (number : ℕ) (bytes old new : List ℕ) → from.number < next.number → next.left.now ≡ after_lines (next.number - from.number) from.left.now → number ≡ next.number → bytes ≡ first_line next.left.now
+    → next.number ≡ meanings.line_of meant line → IsWrongLine (bytes_of meant) line → Tells number bytes old new → GoesOn meant from next old new
+goes_on meant line from next number bytes old new after left at same own wrong tells = λ text is_meant is.
     let there = moved text from next is (omega (arith, after)) left in
-    let line : bytes ≡ line_at next.number text = same ∙ ap first_line there.left in
+    let here : bytes ≡ line_at next.number text = same ∙ ap first_line there.left in
     let told = subst (λ (n : ℕ). Tells n bytes old new) at tells in
-    (there, λ first up_to. more_told text bytes next.number old new line told first from.number after up_to)
+    let is_wrong : IsWrongOwn text next.number = record {
+      meant = line;
+      own = sym (is_meant.lines line) ∙ sym own;
+      wrong = subst (λ (bs : List ℕ). IsWrongLine bs line) is_meant.bytes wrong;
+    } in
+    (there, λ first up_to. more_told text bytes next.number old new here is_wrong told first from.number after up_to)
 
 numbered_some : (number : ℕ) (found : Option (List ℕ)) (numbers : List ℕ) (after : ℕ) → 1 ≤ number → ((k : ℕ) → 1 ≤ slice_index_or numbers k after) → (k : ℕ) → 1 ≤ slice_index_or (numbered number found numbers) k after
 numbered_some number None numbers after some all k = all k
@@ -79,7 +88,7 @@ own_number lines NoMemory some = absurd (omega (arith, some))
 -- what is told of a text where one that it means is at fault
 pub fault_told : {A E : Type 0} (bytes : A → List ℕ) (result : Result A E) (text : List ℕ) (fault : Fault) (number : ℕ) → IsAtFault (kind_of (meant_of text)) (meant_of text) fault → 1 ≤ line_of fault → number ≡ own_line text (line_of fault)
     → IfOk result (λ told. TellsFrom text number (bytes told)) → IfOk result (λ told. IsToldOf text (bytes told))
-fault_told bytes (Ok told) text fault number at_fault some own tells = inr (record {
+fault_told bytes (Ok told) text fault number at_fault some own tells = told_fault text (bytes told) (record {
   fault = fault_by (own_line text) fault;
   is_fault = record { meant = fault; is_fault = at_fault; own = refl };
   tells = subst (λ (n : ℕ). TellsFrom text n (bytes told)) (own ∙ own_number (own_line text) fault some) tells;

@@ -6,6 +6,8 @@ use Rattle.tx_check.specs.declared.kinds.Kind.TheVariants.{Schedule, Walk, Progr
 use Rattle.tx_lines.specs.Schedule.{first_line}
 use Rattle.tx_lines.specs.Walks.{debug_line}
 use Rattle.tx_lines.specs.Words.{first_word}
+use Rattle.tx_lines.specs.declared.read.header.TextKind.{TextKind}
+use Rattle.tx_lines.specs.declared.read.header.TextKind.TheVariants as texts
 
 -- the word before the first space, or the whole line where there is no space
 abbrev pub front_by : List ℕ → Option (List ℕ × List ℕ) → List ℕ
@@ -39,3 +41,9 @@ has_debug (byte ∷ bytes) = (nat_eq byte 10 && begins_with_debug bytes) || has_
 -- the kind of a text: a program by its first line; else a schedule with commands where a line `debug` stands behind that; else a schedule
 abbrev pub kind_of : List ℕ → Kind
 kind_of text = if is_program_head (first_line text) then Program else if has_debug text then Walk else Schedule
+
+-- the kind of header that such a text has
+abbrev pub head_of : Kind → TextKind
+head_of Schedule = texts.Schedule
+head_of Walk = texts.Schedule
+head_of Program = texts.Program

@@ -1,7 +1,10 @@
 pub mod Command
 pub mod Kinds
+pub mod Laws
 pub mod Numbered
 pub mod OwnLines
 pub mod Reads
 pub mod Right
+pub mod Stands
 pub mod Told
+pub mod Wrong

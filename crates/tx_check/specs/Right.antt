@@ -1,12 +1,12 @@
 -- Whether a line is right by itself, by what is to stand in its place.
-use Rattle.std.specs.Prelude.{◌≡◌, List, ℕ, ◌⊎◌}
+use Rattle.std.specs.Prelude.{◌≡◌, ◌≢◌, List, ℕ, ◌≤◌, ◌⊎◌}
 use Rattle.tx_base.specs.declared.steps.Step.{Step}
 use Rattle.tx_check.specs.declared.places.Part.{Part}
 use Rattle.tx_check.specs.declared.places.Part.TheVariants as parts
 use Rattle.tx_lines.specs.Lines.{step_text}
-use Rattle.tx_lines.specs.Programs.{line_text, IsLineOf}
+use Rattle.tx_lines.specs.Programs.{line_text, BeginsLabel, IsLineOf, IsNoLineOf}
 use Rattle.tx_lines.specs.Schedule.{FitsStepOf}
-use Rattle.tx_lines.specs.Walks.{command_text, debug_line, FitsCommand}
+use Rattle.tx_lines.specs.Walks.{command_text, debug_line, FitsCommand, IsNoCommand, IsNoLineBefore}
 use Rattle.tx_lines.specs.declared.instructions.Line.{Line}
 use Rattle.tx_lines.specs.declared.read.command.Command.{Command}
 use Rattle.tx_lines.specs.declared.read.header.Version.{Version}
@@ -36,3 +36,19 @@ IsRight parts.Step version line = (line ≡ debug_line) ⊎ SpellsStep version l
 IsRight parts.Command version line = SpellsCommand version line
 IsRight parts.ProgramLine version line = SpellsLine version line
 IsRight parts.Link version line = SpellsLine version line
+
+-- no line that the grammar has there is spelled so; nothing is said of first lines
+abbrev pub IsNoneThere : Part → Version → List ℕ → Type 0
+IsNoneThere (parts.Header kind) version line = Unit {0}
+IsNoneThere parts.Step version line = IsNoLineBefore version line
+IsNoneThere parts.Command version line = IsNoCommand version line
+IsNoneThere parts.ProgramLine version line = IsNoLineOf version line
+IsNoneThere parts.Link version line = IsNoLineOf version line
+
+-- so many lines of its part stand before it that the line is one too many; of a program there are so many instructions, and so many labels
+abbrev pub IsTooMany : Part → ℕ → ℕ → List ℕ → Type 0
+IsTooMany (parts.Header kind) count labels line = ⊥
+IsTooMany parts.Step count labels line = (4096 ≤ count) × (line ≢ debug_line)
+IsTooMany parts.Command count labels line = 4096 ≤ count
+IsTooMany parts.ProgramLine count labels line = ((256 ≤ labels) × BeginsLabel line) ⊎ ((1024 ≤ count) × (BeginsLabel line → ⊥))
+IsTooMany parts.Link count labels line = ⊥

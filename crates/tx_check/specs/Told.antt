@@ -1,13 +1,14 @@
 -- What is told of a text: a line for each line at fault.
-use Rattle.std.specs.Prelude.{◌≡◌, ℕ, ◌<◌, ◌≤◌, Bool, true, not, List, [], ◌∷◌, ◌++◌, length, nat_eq, codes, All, ◌⊎◌, ◌+◌}
+use Rattle.std.specs.Prelude.{◌≡◌, ◌≢◌, ◌↔◌, ℕ, ◌<◌, ◌≤◌, Bool, true, not, List, [], ◌∷◌, ◌++◌, length, nat_eq, codes, All, ◌+◌}
 use Rattle.std.specs.Fmt.{decimal}
 use Rattle.std.specs.List.{list_all}
 use Rattle.tx_check.specs.Kinds.{kind_of}
 use Rattle.tx_check.specs.Numbered.{line_at}
 use Rattle.tx_check.specs.Reads.{line_of, IsAtFault, IsRead}
+use Rattle.tx_check.specs.Wrong.{IsWrongLine}
 use Rattle.tx_lines.specs.Schedule.{lines_of}
 use Rattle.tx_lines.specs.declared.faults.Fault.{Fault}
-use Rattle.tx_plain.specs.Meant.{meant_of, IsOwnFault}
+use Rattle.tx_plain.specs.Meant.{meant_of, own_line, IsOwnFault}
 
 -- what is told of one line: its number, a column, and a sentence
 pub record Told : Type 0 where
@@ -57,13 +58,20 @@ abbrev pub last_line : ℕ → List Told → ℕ
 last_line before [] = before
 last_line before (told ∷ others) = last_line told.line others
 
--- what is told of some lines of a text, that line first
+-- the text means a line that is at fault in its place, and that one comes from this line of its own
+pub record IsWrongOwn (text : List ℕ) (line : ℕ) : Type 0 where
+  pub meant : ℕ
+  pub own : own_line text meant ≡ line
+  pub wrong : IsWrongLine (meant_of text) meant
+
+-- what is told of some lines of a text, that line first; each later one is at fault too
 pub record TellsFrom (text : List ℕ) (line : ℕ) (told : List ℕ) : Type 0 where
   pub first : Told
   pub others : List Told
   pub at : first.line ≡ line
   pub rising : AreRising line others
   pub good : All (IsToldIn text) (first ∷ others)
+  pub wrong : All (λ other. IsWrongOwn text other.line) others
   pub spelled : told ≡ lines_of told_text (first ∷ others)
 
 -- what is told of some lines up to that one
@@ -75,12 +83,22 @@ pub record TellsUpTo (text : List ℕ) (line last : ℕ) (told : List ℕ) : Typ
 abbrev pub TellsOn : List ℕ → ℕ → List ℕ → List ℕ → Type 0
 TellsOn text number old new = (line last : ℕ) → last < number → TellsUpTo text line last old → TellsUpTo text line number new
 
--- what a text means is at fault, and the text's own line of that is told first
+-- a text is read: it means one of its kind
+abbrev pub IsMeantRead : List ℕ → Type 0
+IsMeantRead text = IsRead (kind_of (meant_of text)) (meant_of text)
+
+-- a text is at fault: what it means is, and the line is the text's own
+abbrev pub IsMeantFault : List ℕ → Fault → Type 0
+IsMeantFault text fault = IsOwnFault (IsAtFault (kind_of (meant_of text))) text fault
+
+-- a text is at fault, and the line of that is told first
 pub record TellsFault (text told : List ℕ) : Type 0 where
   pub fault : Fault
-  pub is_fault : IsOwnFault (IsAtFault (kind_of (meant_of text))) text fault
+  pub is_fault : IsMeantFault text fault
   pub tells : TellsFrom text (line_of fault) told
 
--- nothing is told of a text that means one of its kind; of another, the line of its fault, and others after it
-abbrev pub IsToldOf : List ℕ → List ℕ → Type 0
-IsToldOf text told = (IsRead (kind_of (meant_of text)) (meant_of text) × (told ≡ [])) ⊎ TellsFault text told
+-- nothing is told exactly of a text that is read; any other is at fault, and of each fault that it has the line is told first
+pub record IsToldOf (text told : List ℕ) : Type 0 where
+  pub silent : (told ≡ []) ↔ IsMeantRead text
+  pub at_fault : told ≢ [] → TellsFault text told
+  pub first : (fault : Fault) → IsMeantFault text fault → TellsFrom text (line_of fault) told

@@ -1,13 +1,16 @@
 //! Tells of a text what is wrong with it.
-ghost use Rattle.std.specs.Prelude.{◌≡◌, ◌≢◌, ◌-◌, ◌≤◌, ℕ, List, IfOk, OnOk, string_bytes};
-ghost use Rattle.tx_check.specs.Numbered.{after_lines};
-ghost use Rattle.tx_check.specs.OwnLines.{GoesOn, IsFrom};
+ghost use Rattle.std.specs.Prelude.{◌≡◌, ◌≢◌, ◌+◌, ◌≤◌, ℕ, List, IfOk, OnOk, string_bytes};
+ghost use Rattle.tx_check.specs.Kinds.{kind_of};
+ghost use Rattle.tx_check.specs.OwnLines.{GoesOn, IsFrom, IsLineAt};
 ghost use Rattle.tx_check.specs.Reads as spec;
-ghost use Rattle.tx_check.specs.Reads.{Finds};
+ghost use Rattle.tx_check.specs.Reads.{Finds, IsAtFault};
+ghost use Rattle.tx_check.specs.Stands.{StandsAt};
 ghost use Rattle.tx_check.specs.Told.{IsColumn, IsToldOf, TellsFrom, TellsUpTo};
 ghost use Rattle.tx_check.specs.declared.kinds.Kind.TheVariants as kinds;
+ghost use Rattle.tx_check.specs.declared.places.Part.TheVariants as parts;
 ghost use Rattle.tx_lines.specs.declared.faults.Fault.TheVariants as faults;
-ghost use Rattle.tx_plain.specs.Meant as own;
+ghost use Rattle.tx_plain.specs.Meant as meanings;
+ghost use Rattle.tx_plain.specs.Meant.{IsMeantBy};
 
 use crate::diagnose::{trouble_of, unknown};
 use crate::kinds::{Kind, kind_of};
@@ -20,10 +23,11 @@ use tx_base::NoMemory;
 use tx_lines::{Fault, read_program_text, read_schedule, read_walk, take_line};
 use tx_plain::Meant;
 
-/// What is told of a text of any version: nothing where what it means is a text of its kind
+/// What is told of a text of any version: nothing exactly where what it means is a text of its kind
 /// (`kind_of`), and so is read by the command of that kind. Else a line for each line at fault,
 /// `line L, column C: ` and a sentence that says what was expected there. The first one tells of the
-/// line at which the command finds the text at fault. Lines count from 1 and columns in bytes from
+/// line at which the command finds the text at fault, and each later one of a line that is at fault
+/// in its place, whatever stands before it. Lines count from 1 and columns in bytes from
 /// 1, both in the text as it is given; the column after a line's last byte stands for its end.
 ///
 /// The only error is that a growth of memory was refused.
@@ -99,10 +103,12 @@ fn tell_from(
     meant: &Meant<'_>,
     fault: Fault,
 ) -> Result<String, NoMemory>
-    requires line { 1 ≤ spec.line_of fault }
-    requires own { 1 ≤ own.line_of meant.now (spec.line_of fault) }
+    requires meant { IsMeantBy text.now meant.now }
+    requires kind { kind ≡ kind_of (meanings.bytes_of meant.now) }
+    requires fault { IsAtFault kind (meanings.bytes_of meant.now) fault }
+    requires own { 1 ≤ meanings.line_of meant.now (spec.line_of fault) }
     ensures { IfOk result (λ told.
-        TellsFrom text.now (own.line_of meant.now (spec.line_of fault)) (string_bytes told)) }
+        TellsFrom text.now (meanings.line_of meant.now (spec.line_of fault)) (string_bytes told)) }
 {
     let (place, lines) = place_of(kind, meant.as_bytes(), fault);
     let line = lines.line();
@@ -140,9 +146,11 @@ fn line_of(fault: Fault) -> u64
 
 /// The place of the line at fault, and the text from that line on.
 fn place_of(kind: Kind, text: &[u8], fault: Fault) -> (Place, TextFrom<'_>)
-    requires { 1 ≤ spec.line_of fault }
+    requires kind { kind ≡ kind_of text.now }
+    requires fault { IsAtFault kind text.now fault }
+    ensures place { StandsAt text.now (spec.line_of fault) result.0 }
+    ensures from { IsFrom text.now result.1 }
     ensures number { result.1.number ≡ spec.line_of fault }
-    ensures left { result.1.left.now ≡ after_lines (spec.line_of fault - 1) text.now }
 {
     let mut place = Place::first(kind, text);
     let mut left = text;
@@ -152,10 +160,22 @@ fn place_of(kind: Kind, text: &[u8], fault: Fault) -> (Place, TextFrom<'_>)
         place = place.after(line);
         left = behind(left);
     }
-    if let Fault::NoLabel { .. } = fault {
-        place.part = Part::Link;
+    (place_by(fault, place), TextFrom { number, left })
+}
+
+/// The place of a line at fault: of one whose label is nowhere that of such a line.
+fn place_by(fault: Fault, place: Place) -> Place
+    ensures version { result.version ≡ place.version }
+    ensures label { (line : ℕ) → fault ≡ faults.NoLabel line → result.part ≡ parts.Link }
+    ensures other { ((line : ℕ) → fault ≢ faults.NoLabel line) → result ≡ place }
+{
+    match fault {
+        Fault::NoLabel { .. } => Place {
+            part: Part::Link,
+            ..place
+        },
+        _ => place,
     }
-    (place, TextFrom { number, left })
 }
 
 /// Tells of the lines behind the first of some that are meant, where they are at fault: up to the
@@ -169,8 +189,10 @@ fn tell_behind(
     own: TextFrom<'_>,
     told: &mut String,
 ) -> Result<(), NoMemory>
+    requires place { StandsAt (meanings.bytes_of meant.now) (lines.number + 1) place }
+    requires lines { IsFrom (meanings.bytes_of meant.now) lines }
     ensures { OnOk result
-        ((text : List ℕ) (first : ℕ) → IsFrom text own.entry →
+        ((text : List ℕ) (first : ℕ) → IsMeantBy text meant.now → IsFrom text own.entry →
         TellsUpTo text first own.entry.number (string_bytes told.old) →
         TellsFrom text first (string_bytes told.new)) }
 {
@@ -199,8 +221,10 @@ fn tell_line<'a>(
     own: TextFrom<'a>,
     told: &mut String,
 ) -> Result<TextFrom<'a>, NoMemory>
+    requires place { StandsAt (meanings.bytes_of meant.now) line.number place.now }
+    requires line { IsLineAt (meanings.bytes_of meant.now) line }
     ensures { IfOk result (λ next.
-        GoesOn own.entry next (string_bytes told.old) (string_bytes told.new)) }
+        GoesOn meant.now own.entry next (string_bytes told.old) (string_bytes told.new)) }
 {
     let Some(trouble) = trouble_of(meant.as_bytes(), place, line) else {
         return Ok(own);

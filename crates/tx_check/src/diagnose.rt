@@ -1,7 +1,9 @@
 //! What is wrong with a line, by what is to stand in its place.
-ghost use Rattle.std.specs.Prelude.{◌≡◌, ◌≤◌, IfNone, IfSome, IsTrue, length};
-ghost use Rattle.tx_check.specs.Right.{IsRight};
+ghost use Rattle.std.specs.Prelude.{◌≡◌, ◌≤◌, ◌⊎◌, IfNone, IfSome, IsFalse, IsTrue, false, length};
+ghost use Rattle.tx_check.specs.Right.{IsNoneThere, IsRight};
+ghost use Rattle.tx_check.specs.Stands.{IsPlaceOf, Stand};
 ghost use Rattle.tx_check.specs.Told.{IsColumn};
+ghost use Rattle.tx_check.specs.Wrong.{IsTwice, IsWrong, NamesNowhere};
 
 mod bytes;
 mod calls;
@@ -32,6 +34,9 @@ pub fn trouble_of<'a>(text: &'a [u8], place: &Place, line: TextLine<'a>) -> Opti
         (IsRight place.now.part place.now.version line.entry.bytes.now) }
     ensures short { IfNone result (length line.entry.bytes.now ≤ 512) }
     ensures ended { IfNone result (IsTrue line.entry.is_ended) }
+    ensures wrong { IfSome result (λ trouble. (stand : Stand) → IsPlaceOf stand place.now →
+        IsWrong place.now.version text.now line.entry.number stand line.entry.bytes.now
+        line.entry.is_ended) }
 {
     if line.bytes.len() > LINE_BYTES {
         return Some(Trouble::of_line(LINE_BYTES + 1, LineTrouble::TooLong));
@@ -51,7 +56,8 @@ pub fn trouble_of<'a>(text: &'a [u8], place: &Place, line: TextLine<'a>) -> Opti
 /// Whether a line is right by itself.
 fn is_right(place: &Place, line: &[u8]) -> bool
     requires { length line.now ≤ 512 }
-    ensures { IsTrue result → IsRight place.now.part place.now.version line.now }
+    ensures right { IsTrue result → IsRight place.now.part place.now.version line.now }
+    ensures wrong { IsFalse result → IsNoneThere place.now.part place.now.version line.now }
 {
     match place.part {
         Part::Header(_kind) => false,
@@ -87,6 +93,7 @@ fn trouble_in<'a>(place: &Place, line: &'a [u8], is_ended: bool) -> Trouble<'a>
 fn no_end(line: &[u8], is_ended: bool) -> Option<Trouble<'static>>
     ensures column { IfSome result (λ trouble. IsColumn line.now trouble.column) }
     ensures ended { IfNone result (IsTrue is_ended) }
+    ensures unended { IfSome result (λ trouble. is_ended ≡ false) }
 {
     if is_ended {
         return None;
@@ -108,7 +115,9 @@ fn trouble_between<'a>(
     number: u64,
     line: &'a [u8],
 ) -> Option<Trouble<'a>>
-    ensures { IfSome result (λ trouble. IsColumn line.now trouble.column) }
+    ensures column { IfSome result (λ trouble. IsColumn line.now trouble.column) }
+    ensures wrong { IfSome result (λ trouble.
+        IsTwice text.now number line.now ⊎ NamesNowhere text.now line.now) }
 {
     match place.part {
         Part::ProgramLine => second_label(text, number, line),

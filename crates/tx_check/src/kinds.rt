@@ -1,5 +1,5 @@
 //! Which kind of text one is meant to be.
-ghost use Rattle.std.specs.Prelude.{◌≡◌};
+ghost use Rattle.std.specs.Prelude.{◌≡◌, ◌≤◌, length};
 ghost use Rattle.tx_check.specs.Kinds as spec;
 
 use tx_lines::{split_word, take_line};
@@ -39,8 +39,9 @@ fn is_program_head(line: &[u8]) -> bool
 }
 
 /// The first word of a line.
-fn front_word(line: &[u8]) -> &[u8]
-    ensures { result.now ≡ spec.front_word line.now }
+pub fn front_word(line: &[u8]) -> &[u8]
+    ensures word { result.now ≡ spec.front_word line.now }
+    ensures within { length result.now ≤ length line.now }
 {
     match split_word(line) {
         Some((word, _rest)) => word,

@@ -2,13 +2,14 @@
 //! fault, with its number, the column of the word at fault, and what was expected there.
 //!
 //! `check_text` asks the reader of the text's kind first (`kinds.rt` says which kind a text is).
-//! Where it reads the text, nothing is told. Else the line of its fault is told first, and then the
-//! lines behind it are read one by one (`places.rt` knows what is to stand where), and those at
-//! fault are told too. `words.rt` cuts a line into words with their columns, and `diagnose/` looks
-//! at the words and says what is wrong: a `Trouble`. It asks the readers of tx_lines about each
-//! word, so that nothing passes as right that the grammar refuses. `sentences.rt` has the words in
-//! which a trouble is told. One table has the form of each call's arguments (`forms.rt`), and
-//! `near.rt` finds the name that is nearest to a mistyped one.
+//! Where it reads the text, nothing is told. Else the line of its fault is told first, and then
+//! the lines behind it are read one by one (`places.rt` knows what is to stand where), and those
+//! at fault are told too. By the readers' definitions a text is read or has one fault (`laws.rt`).
+//! `words.rt` cuts a line into words with their columns, and `diagnose/` looks at the words and
+//! says what is wrong: a `Trouble`. It asks the readers of tx_lines about each word, so that
+//! nothing passes as right that the grammar refuses. `sentences.rt` has the words in which a
+//! trouble is told. One table has the form of each call's arguments (`forms.rt`), and `near.rt`
+//! finds the name that is nearest to a mistyped one.
 //!
 //! A text of version 3 means one of version 2 (tx_plain), and the lines of that one are read. What is
 //! wrong with a line is told of the line that means it (`own.rt`): by its number, at the column of
@@ -20,6 +21,7 @@ mod command;
 mod diagnose;
 mod forms;
 mod kinds;
+mod laws;
 mod near;
 mod own;
 mod places;
@@ -33,3 +35,4 @@ pub use checks::check_text;
 pub use command::check;
 pub use forms::CALLS;
 pub use kinds::{Kind, kind_of};
+pub use laws::a_text_is_read_or_has_one_fault;

@@ -1,7 +1,12 @@
 //! What is to stand in a line, by the kind of its text and the lines before it.
-ghost use Rattle.std.specs.Prelude.{◌≡◌, ◌<◌, ◌↔◌, IsTrue, length};
+ghost use Rattle.std.specs.Prelude.{◌≡◌, ◌+◌, ◌<◌, ◌↔◌, ℕ, IfSome, IsTrue, is_some, length};
+ghost use Rattle.tx_check.specs.Kinds.{head_of};
 ghost use Rattle.tx_check.specs.Numbered as spec;
-ghost use Rattle.tx_lines.specs.Schedule.{first_line};
+ghost use Rattle.tx_check.specs.Right.{IsTooMany};
+ghost use Rattle.tx_check.specs.Stands.{begins_label, counted, stand_after, AmongLines, AmongSteps, AtHeader, IsPlaceOf, IsVersionOf, Stand};
+ghost use Rattle.tx_check.specs.declared.places.Part.TheVariants as parts;
+ghost use Rattle.tx_lines.specs.Programs.{BeginsLabel};
+ghost use Rattle.tx_lines.specs.Schedule.{after_line, first_line};
 ghost use Rattle.tx_lines.specs.Walks.{debug_line};
 
 use crate::kinds::Kind;
@@ -40,9 +45,9 @@ pub struct Place {
     /// The version of the text: the second where the first line does not say it.
     pub version: Version,
     /// How many lines of its part stand before it, but labels.
-    count: usize,
+    pub count: usize,
     /// How many labels stand before it.
-    labels: usize,
+    pub labels: usize,
 }
 
 impl TextLine<'_> {
@@ -50,6 +55,7 @@ impl TextLine<'_> {
     pub fn first_of(number: u64, left: &[u8]) -> TextLine<'_>
         ensures number { result.number ≡ number }
         ensures bytes { result.bytes.now ≡ first_line left.now }
+        ensures ended { result.is_ended ≡ is_some (after_line left.now) }
     {
         let (bytes, rest) = take_line(left);
         TextLine {
@@ -62,11 +68,11 @@ impl TextLine<'_> {
 
 impl Place {
     /// The place of the first line of a text.
-    pub fn first(kind: Kind, text: &[u8]) -> Place {
-        let kind = match kind {
-            Kind::Program => TextKind::Program,
-            _ => TextKind::Schedule,
-        };
+    pub fn first(kind: Kind, text: &[u8]) -> Place
+        ensures version { IsVersionOf (head_of kind) text.now result.version }
+        ensures stands { IsPlaceOf (AtHeader (head_of kind)) result }
+    {
+        let kind = kind_of_head(kind);
         Place {
             part: Part::Header(kind),
             version: version_of(kind, text),
@@ -76,19 +82,72 @@ impl Place {
     }
 
     /// The place of the line after that one.
-    pub fn after(self, line: &[u8]) -> Place {
-        let mut next = self;
+    pub fn after(self, line: &[u8]) -> Place
+        ensures version { result.version ≡ self.version }
+        ensures stands { (stand : Stand) → IsPlaceOf stand self →
+            IsPlaceOf (stand_after stand line.now) result }
+    {
         match self.part {
-            Part::Header(TextKind::Schedule) => next.part = Part::Step,
-            Part::Header(TextKind::Program) => next.part = Part::ProgramLine,
-            Part::Step if is_debug(line) => {
-                next.part = Part::Command;
-                next.count = 0;
-            }
-            Part::ProgramLine if is_label(line) => next.labels = self.labels.saturating_add(1),
-            _ => next.count = self.count.saturating_add(1),
+            Part::Header(TextKind::Schedule) => Place {
+                part: Part::Step,
+                ..self
+            },
+            Part::Header(TextKind::Program) => Place {
+                part: Part::ProgramLine,
+                ..self
+            },
+            Part::Step => self.after_step(line),
+            Part::ProgramLine => self.after_line(line),
+            Part::Command | Part::Link => self.after_one(),
         }
-        next
+    }
+
+    /// The place of the line after a step, or after the line before commands.
+    fn after_step(self, line: &[u8]) -> Place
+        requires { self.part ≡ parts.Step }
+        ensures version { result.version ≡ self.version }
+        ensures stands { (steps : ℕ) → self.count ≡ counted steps →
+            IsPlaceOf (stand_after (AmongSteps steps) line.now) result }
+    {
+        if is_debug(line) {
+            return Place {
+                part: Part::Command,
+                count: 0,
+                ..self
+            };
+        }
+        self.after_one()
+    }
+
+    /// The place of the line after one of a program.
+    fn after_line(self, line: &[u8]) -> Place
+        requires { self.part ≡ parts.ProgramLine }
+        ensures version { result.version ≡ self.version }
+        ensures stands { (instructions labels : ℕ) → self.count ≡ counted instructions →
+            self.labels ≡ counted labels →
+            IsPlaceOf (stand_after (AmongLines instructions labels) line.now) result }
+    {
+        if is_label(line) {
+            return Place {
+                labels: self.labels.saturating_add(1),
+                ..self
+            };
+        }
+        self.after_one()
+    }
+
+    /// The place after one line more of the same part.
+    fn after_one(self) -> Place
+        ensures part { result.part ≡ self.part }
+        ensures version { result.version ≡ self.version }
+        ensures labels { result.labels ≡ self.labels }
+        ensures count { (number : ℕ) → self.count ≡ counted number →
+            result.count ≡ counted (number + 1) }
+    {
+        Place {
+            count: self.count.saturating_add(1),
+            ..self
+        }
     }
 
     /// Whether a line that was one too many stands before it.
@@ -100,7 +159,10 @@ impl Place {
     }
 
     /// What is told of a line that is one too many, whatever it says.
-    pub fn one_too_many(&self, line: &[u8]) -> Option<LineTrouble> {
+    pub fn one_too_many(&self, line: &[u8]) -> Option<LineTrouble>
+        ensures { IfSome result (λ trouble.
+            IsTooMany self.now.part self.now.count self.now.labels line.now) }
+    {
         let trouble = match self.part {
             Part::Step if self.count >= LINES && !is_debug(line) => { LineTrouble::TooManySteps }
             Part::Command if self.count >= LINES => LineTrouble::TooManyCommands,
@@ -116,8 +178,20 @@ impl Place {
     }
 }
 
+/// The kind of the header of such a text.
+fn kind_of_head(kind: Kind) -> TextKind
+    ensures { result ≡ head_of kind }
+{
+    match kind {
+        Kind::Program => TextKind::Program,
+        Kind::Schedule | Kind::Walk => TextKind::Schedule,
+    }
+}
+
 /// The version of a text: the second where the first line does not say it.
-fn version_of(kind: TextKind, text: &[u8]) -> Version {
+fn version_of(kind: TextKind, text: &[u8]) -> Version
+    ensures { IsVersionOf kind text.now result }
+{
     match first_header(kind, text) {
         Ok((header, _rest)) => header.version,
         Err(_fault) => Version::Two,
@@ -132,8 +206,11 @@ pub fn is_debug(line: &[u8]) -> bool
 }
 
 /// Whether a line begins as a label's does.
-pub fn is_label(line: &[u8]) -> bool {
-    line.starts_with(b"label ")
+pub fn is_label(line: &[u8]) -> bool
+    ensures is { result ≡ begins_label line.now }
+    ensures begins { IsTrue result ↔ BeginsLabel line.now }
+{
+    line.len() >= 6 && &line[..6] == b"label ".as_slice()
 }
 
 /// What follows the first line of a text.

@@ -1,6 +1,9 @@
 //! Cuts a line into words. Nothing else here knows what parts them.
 ghost use Rattle.std.specs.Prelude.{◌≡◌, ◌+◌, ◌<◌, ◌≤◌, IfSome, length};
 ghost use Rattle.tx_check.specs.Told.{IsColumn};
+ghost use Rattle.tx_check.specs.Wrong.{IsWordOf};
+
+use crate::kinds::front_word;
 
 /// A word of a line, and the column of its first byte. Columns count bytes from 1.
 #[derive(Clone, Copy)]
@@ -14,6 +17,7 @@ pub fn word_at(line: &[u8], place: usize) -> Option<Word<'_>>
     ensures column { IfSome result (λ word. IsColumn line.now word.column) }
     ensures within { IfSome result (λ word.
         word.column + length word.bytes.now ≤ length line.now + 1) }
+    ensures word { IfSome result (λ word. IsWordOf word.bytes.now line.now) }
 {
     let mut start = 0;
     for _earlier in 0..place {
@@ -23,10 +27,9 @@ pub fn word_at(line: &[u8], place: usize) -> Option<Word<'_>>
         }
         start = end + 1;
     }
-    let end = end_of_word(line, start);
     Some(Word {
         column: start + 1,
-        bytes: &line[start..end],
+        bytes: front_word(&line[start..]),
     })
 }
 

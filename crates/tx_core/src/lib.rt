@@ -15,8 +15,8 @@
 //! - `undo` takes the inverse of the last step and gives the content before it, without memory and
 //!   without an error. A machine checks no inverse: that this one leads its content back is a
 //!   premise (`LeadsBack`), which `step` and `kernel_abort` give.
-//! - `take_back` takes a step back as `undo` does, and answers what makes it again by exchange, which
-//!   `redo` takes, on the machine before the step (`LeadsOn`).
+//! - `take_back` takes a step back as `undo` does, and puts what makes it again by exchange into the
+//!   place of its inverse (`Crossing`), which `redo` takes, on the machine before the step (`LeadsOn`).
 //! - `run` and `run_wide` make the steps of a list and answer the machine with the history of the
 //!   accepted ones. `run_partial` keeps what was run up to a step that wanted memory; a step's
 //!   place in the history is reserved before the step is made.

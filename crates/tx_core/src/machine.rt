@@ -1,5 +1,5 @@
 //! The machine, as its steps change it.
-ghost use Rattle.std.specs.Prelude.{◌≡◌, ◌≢◌, ◌≤◌, ◌↔◌, ◌⊎◌, ◌+◌, [], List, true, false, length, vec_capacity, IfErr, IfOk, OnErr, OnOk, IsOk, IfSome, IsSome, IsNone, IsTrue};
+ghost use Rattle.std.specs.Prelude.{◌≡◌, ◌≢◌, ◌≤◌, ◌↔◌, ◌⊎◌, ◌+◌, [], List, true, false, length, vec_capacity, IfOk, OnErr, OnOk, IsOk, IfSome, IsSome, IsNone, IsTrue};
 ghost use Rattle.tx_base.specs.declared.steps.Reply.TheVariants.{Aborted, No};
 ghost use Rattle.tx_base.specs.declared.steps.Step.TheVariants.{KernelAbort};
 ghost use Rattle.tx_core.specs.Machines.{IsMachine as IsTheMachine, IsWidth};
@@ -8,8 +8,9 @@ ghost use Rattle.tx_change.specs.declared.change.Change.{Change};
 ghost use Rattle.tx_core.specs.Runs.{Continues, kernel_abort_on};
 ghost use Rattle.tx_core.specs.Undo.{LeadsBack, LeadsOn};
 ghost use Rattle.tx_live.specs.Content.{view_of};
+ghost use Rattle.tx_live.specs.Crossings.{moved_over, HoldsBack, HoldsForward};
 ghost use Rattle.tx_live.specs.Inverses.{Undoes};
-ghost use Rattle.tx_live.specs.Redone.{moved_by, moved_of, EndsWhole, IsTakenBack};
+ghost use Rattle.tx_live.specs.Redone.{EndsWhole, IsTakenBack};
 ghost use Rattle.tx_live.specs.declared.content.Content.{Content as TheContent};
 ghost use Rattle.tx_model.specs.Answer.{answer, IsAccepted};
 ghost use Rattle.tx_model.specs.Events.{process_of};
@@ -24,7 +25,7 @@ use std::marker::Model;
 use thiserror::Error;
 use tx_base::{NoMemory, PROCESSES, Pid, Refusal, Reply, Step, WIDE_PROCESSES};
 use tx_change::Change;
-use tx_live::{Content, Inverse, Undone};
+use tx_live::{Content, Crossing, Inverse};
 use tx_step::{Answered, put_reply, take_call, take_delivery, take_kernel_abort};
 
 /// There is no live transaction of that starter.
@@ -175,21 +176,23 @@ impl Machine {
         self.content.undo(inverse);
     }
 
-    /// Takes back the step whose inverse this is, as `undo` does, and answers what makes it again. The
-    /// changes of a step inside and of a commit are moved onto the stack, which must have room for them:
-    /// see `Inverse::moved`. It takes no memory and is never refused.
-    pub fn take_back(&mut self, inverse: Inverse, stack: &mut Vec<Change>) -> Undone
-        requires leads { LeadsBack self.old inverse }
-        requires room { length stack.old.items + moved_of inverse ≤ vec_capacity stack.old }
-        ensures before { (before : TheContent) → Undoes self.old inverse before →
+    /// Takes back the step over which this leads back, as `undo` does, and exchanges it where it stands:
+    /// it leads forward then. The changes of a step inside and of a commit are moved onto the stack, which
+    /// must have room for them: see `Crossing::moved`. It takes no memory and is never refused.
+    pub fn take_back(&mut self, crossing: &mut Crossing, stack: &mut Vec<Change>)
+        requires leads { HoldsBack crossing.old (LeadsBack self.old) }
+        requires room { length stack.old.items + moved_over crossing.old ≤ vec_capacity stack.old }
+        ensures before { (before : TheContent) →
+            HoldsBack crossing.old (λ inverse. Undoes self.old inverse before) →
             self.new ≡ before }
-        ensures again { EndsWhole self.old inverse →
-            IsTakenBack self.new result stack.new.items self.old stack.old.items }
-        ensures moved { moved_by result ≡ moved_of inverse }
-        ensures long { length stack.new.items ≡ length stack.old.items + moved_of inverse }
+        ensures again { HoldsForward crossing.new (λ undone.
+            HoldsBack crossing.old (EndsWhole self.old) →
+            IsTakenBack self.new undone stack.new.items self.old stack.old.items) }
+        ensures moved { moved_over crossing.new ≡ moved_over crossing.old }
+        ensures long { length stack.new.items ≡ length stack.old.items + moved_over crossing.old }
         ensures capacity { vec_capacity stack.new ≡ vec_capacity stack.old }
     {
-        self.content.take_back(inverse, stack)
+        self.content.take_back(crossing, stack);
     }
 
     /// The machine is as steps leave it. It does nothing.
@@ -199,28 +202,32 @@ impl Machine {
         let _content = &self.content;
     }
 
-    /// Makes a step again that was taken back, on the machine as it was before it: by exchange, with no
-    /// plan and no judgement. Answers the inverse, and takes the changes of a step inside and of a
-    /// commit off the stack. It takes no memory but room that such a step had in its transaction.
+    /// Makes the step again over which this leads forward, on the machine as it was before it: by exchange,
+    /// with no plan and no judgement. It is exchanged where it stands: it leads back then. The changes of a
+    /// step inside and of a commit are taken off the stack. It takes no memory but room that such a step
+    /// had in its transaction.
     ///
-    /// Where that is refused, what makes the step again is handed back, and all is as it was.
-    pub fn redo(&mut self, undone: Undone, stack: &mut Vec<Change>) -> Result<Inverse, Undone>
-        requires { LeadsOn self.old undone stack.old.items }
+    /// `NoMemory` where that is refused; all is then as it was.
+    pub fn redo(&mut self, crossing: &mut Crossing, stack: &mut Vec<Change>) -> Result<(), NoMemory>
+        requires { HoldsForward crossing.old
+            (λ undone. LeadsOn self.old undone stack.old.items) }
         ensures made { (after : TheContent) (rest : List Change) →
-            IsTakenBack self.old undone stack.old.items after rest →
+            HoldsForward crossing.old
+            (λ undone. IsTakenBack self.old undone stack.old.items after rest) →
             OnOk result (self.new ≡ after) }
-        ensures undoes { IfOk result (λ inverse. Undoes self.new inverse self.old) }
-        ensures back { IfOk result (LeadsBack self.new) }
-        ensures whole { IfOk result (EndsWhole self.new) }
-        ensures moved { IfOk result (λ inverse. moved_of inverse ≡ moved_by undone) }
+        ensures undoes { OnOk result
+            (HoldsBack crossing.new (λ inverse. Undoes self.new inverse self.old)) }
+        ensures back { OnOk result (HoldsBack crossing.new (LeadsBack self.new)) }
+        ensures whole { OnOk result (HoldsBack crossing.new (EndsWhole self.new)) }
+        ensures moved { moved_over crossing.new ≡ moved_over crossing.old }
         ensures stack { OnOk result
-            (stack.new.items ≡ below_top (moved_by undone) stack.old.items) }
+            (stack.new.items ≡ below_top (moved_over crossing.old) stack.old.items) }
         ensures capacity { vec_capacity stack.new ≡ vec_capacity stack.old }
         ensures err { OnErr result (self.new ≡ self.old) }
+        ensures crossing_err { OnErr result (crossing.new ≡ crossing.old) }
         ensures stack_err { OnErr result (stack.new ≡ stack.old) }
-        ensures undone_err { IfErr result (λ back. back ≡ undone) }
     {
-        self.content.redo(undone, stack)
+        self.content.redo(crossing, stack)
     }
 
     /// A machine of so many process numbers, of which the first few run.

@@ -25,6 +25,7 @@ abbrev pub command_words : List (List Text)
 command_words =
     (codes "replay" ∷ [])
     ∷ (codes "debug" ∷ [])
+    ∷ (codes "shell" ∷ codes "cut" ∷ codes "steps" ∷ codes "without" ∷ codes "quit" ∷ [])
     ∷ (codes "run" ∷ [])
     ∷ (codes "check" ∷ [])
     ∷ (codes "plain" ∷ [])
@@ -206,11 +207,12 @@ other_line_words =
 abbrev pub text_words : List (List Text)
 text_words =
     (codes "txos" ∷ [])
+    ∷ (codes "comment" ∷ codes "blank" ∷ [])
     ∷ (codes "schedule" ∷ codes "step" ∷ [])
     ∷ (codes "program" ∷ codes "instruction" ∷ [])
     ∷ (codes "label" ∷ [])
     ∷ (codes "number" ∷ [])
-    ∷ (codes "hex" ∷ codes "bytes" ∷ [])
+    ∷ (codes "hex" ∷ codes "bytes" ∷ codes "string" ∷ [])
     ∷ (codes "set" ∷ [])
     ∷ (codes "signal" ∷ codes "signals" ∷ codes "SIGKILL" ∷ codes "SIGPIPE" ∷ codes "SIGCHLD" ∷ codes "realtime" ∷ [])
     ∷ []

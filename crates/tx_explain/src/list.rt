@@ -14,7 +14,7 @@ pub fn listing() -> &'static str
 
 const LISTING: &str = "\
 commands of txos
-  replay debug run check plain explain version
+  replay debug shell run check plain explain version
 refusals of a step, as in: no N9
   N1 N2 N3 N4 N5 N6 N7 N8 N9 N10 N11 N12 N13 N14
 faults, as in: txos: F1 line 2
@@ -50,7 +50,7 @@ signals of a process in a state
 descriptions and transactions in a state
   desc block nonblock txn open defer held
 words of texts
-  txos schedule program label number hex set signal
+  txos comment schedule program label number hex set signal
 what the texts are about
   transaction member starter reserved privileged worker turn
 ";

@@ -20,7 +20,7 @@ use Rattle.tx_model.specs.View.{View}
 use Rattle.tx_step.specs.Steps.{IsStep}
 
 module _ (laws : SessionLaws) (old new : Content) (j : Journal) (starter : Pid) (status : ℕ) (inverse : Inverse)
-    (sound : IsSound (view_of old)) (at_end : length j.inverses.items ≡ length j.entries.items) (counted : IsCounted old j) (live : is_live (view_of old).table starter.0 ≡ true)
+    (sound : IsSound (view_of old)) (at_end : length j.crossings.inverses ≡ length j.entries.items) (counted : IsCounted old j) (live : is_live (view_of old).table starter.0 ≡ true)
     (made : IsStep old (KernelAbort starter) (Aborted status) inverse new) where
   ready : IsReady (view_of old).table (KernelAbort starter) j
   ready = inr (counted.places, refl)
@@ -31,14 +31,14 @@ module _ (laws : SessionLaws) (old new : Content) (j : Journal) (starter : Pid) 
   pub abort_room_entries : length j.entries.items < vec_capacity j.entries
   abort_room_entries = room_entries laws old new j (KernelAbort starter) (Aborted status) inverse sound at_end counted ready made
 
-  pub abort_room_inverses : length j.inverses.items < vec_capacity j.inverses
+  pub abort_room_inverses : length j.crossings.inverses < j.crossings.room
   abort_room_inverses = room_inverses laws old new j (KernelAbort starter) (Aborted status) inverse sound at_end counted ready made
 
   pub abort_some : 1 ≤ j.live
   abort_some = live_some laws old new j (KernelAbort starter) (Aborted status) inverse sound at_end counted ready made starter.0 true false refl (sym live) ended refl
 
-  pub abort_added : (entry : Entry) (after : Journal) → LeadsBack new inverse → after.entries.items ≡ j.entries.items ++ entry ∷ [] → after.inverses.items ≡ j.inverses.items ++ inverse ∷ [] →
-      vec_capacity after.entries ≡ vec_capacity j.entries → vec_capacity after.inverses ≡ vec_capacity j.inverses → after.live ≡ j.live - 1 → IsAdded old j entry new after
-  abort_added entry after leads entries inverses cap places less =
-      added laws old new j (KernelAbort starter) (Aborted status) inverse sound at_end counted ready made starter.0 true false refl (sym live) ended entry after leads entries inverses cap places
+  pub abort_added : (entry : Entry) (after : Journal) → LeadsBack new inverse → after.entries.items ≡ j.entries.items ++ entry ∷ [] → after.crossings.inverses ≡ j.crossings.inverses ++ inverse ∷ [] → after.crossings.undone ≡ [] →
+      vec_capacity after.entries ≡ vec_capacity j.entries → after.crossings.room ≡ j.crossings.room → after.live ≡ j.live - 1 → IsAdded old j entry new after
+  abort_added entry after leads entries inverses none cap places less =
+      added laws old new j (KernelAbort starter) (Aborted status) inverse sound at_end counted ready made starter.0 true false refl (sym live) ended entry after leads entries inverses none cap places
       (let some = abort_some in omega (arith, some, less))

@@ -30,7 +30,7 @@ left_marks s n (Some m) is = by (m.starter.0 == s) is
     by true is = absurd (both_ways false refl is)
     by false is = is
 
-parked_as : (n : ℕ) (mark : Option Mark) → is_of n (parked_mark mark) ≡ is_of n mark
+pub parked_as : (n : ℕ) (mark : Option Mark) → is_of n (parked_mark mark) ≡ is_of n mark
 parked_as n None = refl
 parked_as n (Some m) = refl
 

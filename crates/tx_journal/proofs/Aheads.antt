@@ -1,6 +1,6 @@
 -- What makes the entries of a session again that were taken back.
-use Rattle.std.proofs.Common.{◌≡◌, ℕ, ◌+◌, ◌<◌, ◌≤◌, List, [], ◌∷◌, ◌++◌, length, length-append, map, reverse, take, drop, get_or, Some, None, slice_get, ◌⊎◌, inl, inr, arith, refl, sym, ap, subst, ◌∙◌}
-use Rattle.std.proofs.lemmas.List.{drop_all, drop_more, reverse-append, reverse-reverse}
+use Rattle.std.proofs.Common.{◌≡◌, ℕ, ◌+◌, ◌<◌, ◌≤◌, List, [], ◌∷◌, ◌++◌, length, length-append, map, reverse, take, drop, get_or, Some, None, slice_get, ◌⊎◌, inl, inr, Bool, true, false, Result, Ok, Err, OnOk, OnErr, arith, refl, sym, ap, subst, ◌∙◌}
+use Rattle.std.proofs.lemmas.List.{drop_all, drop_more}
 use Rattle.std.proofs.lemmas.Option.{slice_get_cases}
 use Rattle.tx_base.specs.declared.steps.Accepted.{Accepted}
 use Rattle.tx_change.specs.declared.change.Change.{Change}
@@ -8,9 +8,11 @@ use Rattle.tx_core.specs.Machines.{IsMachine}
 use Rattle.tx_journal.proofs.Extended.{walks_view}
 use Rattle.tx_journal.proofs.Walked.{fewer, history_to, next_history}
 use Rattle.tx_journal.specs.Entries.{accepted_of, history_of}
+use Rattle.tx_journal.specs.Rooms.{IsAdded, SameRecord}
 use Rattle.tx_journal.specs.Sessions.{later_of, made_of, position_of, start_of, IsAhead, IsAtEnd, IsJournal, SessionState}
 use Rattle.tx_journal.specs.Walks.{WalksOn}
 use Rattle.tx_journal.specs.declared.entry.Entry.{Entry}
+use Rattle.tx_journal.specs.declared.journal.Journal.{Journal}
 use Rattle.tx_live.specs.Content.{view_of}
 use Rattle.tx_live.specs.Redone.{IsTakenBack}
 use Rattle.tx_live.specs.declared.content.Content.{Content}
@@ -22,7 +24,7 @@ use Rattle.tx_model.specs.View.{view}
 -- nothing is kept
 pub nothing_ahead : (k : SessionState) (undone : List Undone) (stack : List Change) → undone ≡ [] → IsAhead k undone stack
 unfolding WalksOn
-nothing_ahead k undone stack none = subst (λ (us : List Undone). WalksOn (start_of k) k.machine (reverse us) stack (history_of (made_of k)) (later_of k)) (sym none) tt
+nothing_ahead k undone stack none = subst (λ (us : List Undone). WalksOn (start_of k) k.machine us stack (history_of (made_of k)) (later_of k)) (sym none) tt
 
 none_on : (start : State) (k : Content) (undone : List Undone) (stack : List Change) (made : List Accepted) → WalksOn start k undone stack made [] → undone ≡ []
 unfolding WalksOn
@@ -32,11 +34,21 @@ none_on start k (u ∷ us) stack made walks = absurd walks
 -- at the end of the journal nothing is
 pub none_at_end : (k : SessionState) (undone : List Undone) (stack : List Change) → IsAtEnd k → IsAhead k undone stack → undone ≡ []
 none_at_end k undone stack at_end ahead =
-    sym (reverse-reverse undone)
-    ∙ ap reverse (none_on (start_of k) k.machine (reverse undone) stack (history_of (made_of k)) (subst (WalksOn (start_of k) k.machine (reverse undone) stack (history_of (made_of k))) none ahead))
+    none_on (start_of k) k.machine undone stack (history_of (made_of k)) (subst (WalksOn (start_of k) k.machine undone stack (history_of (made_of k))) none ahead)
   where
     none : later_of k ≡ []
     none = ap (map accepted_of) (drop_all (position_of k) k.entries (omega (arith, at_end)))
+
+-- nor after a step there
+pub none_after : (machine : Content) (j : Journal) (entry : Entry) (new : Content) (after : Journal) (made : Bool) → j.crossings.undone ≡ [] → (made ≡ true → IsAdded machine j entry new after) → (made ≡ false → SameRecord after j) →
+    after.crossings.undone ≡ []
+none_after machine j entry new after true none added stays = (added refl).undone
+none_after machine j entry new after false none added stays = (stays refl).crossings.undone ∙ none
+
+pub none_answered : {T E : Type 0} (machine : Content) (j : Journal) (entry : Entry) (new : Content) (after : Journal) (r : Result T E) → j.crossings.undone ≡ [] → OnOk r (IsAdded machine j entry new after) → OnErr r (after ≡ j) →
+    after.crossings.undone ≡ []
+none_answered machine j entry new after (Ok x) none added stays = added.undone
+none_answered machine j entry new after (Err x) none added stays = ap (λ (a : Journal). a.crossings.undone) stays ∙ none
 
 -- the next entry, and what what makes it again leads to
 pub record NextAhead (k : SessionState) (undone : Undone) (rest : List Undone) (stack : List Change) : Type 0 where
@@ -47,32 +59,32 @@ pub record NextAhead (k : SessionState) (undone : Undone) (rest : List Undone) (
   pub machine : IsMachine after
   pub seen : view_of after ≡ view (start_of k) (accepted_of entry ∷ history_of (made_of k))
   pub taken : IsTakenBack k.machine undone stack after below
-  pub on : WalksOn (start_of k) after (reverse rest) below (accepted_of entry ∷ history_of (made_of k)) (map accepted_of (drop (position_of k + 1) k.entries))
+  pub on : WalksOn (start_of k) after rest below (accepted_of entry ∷ history_of (made_of k)) (map accepted_of (drop (position_of k + 1) k.entries))
 
-pub next_ahead : (k : SessionState) (undone rest : List Undone) (last : Undone) (stack : List Change) → undone ≡ rest ++ last ∷ [] → IsAhead k undone stack → NextAhead k last rest stack
+pub next_ahead : (k : SessionState) (undone rest : List Undone) (last : Undone) (stack : List Change) → undone ≡ last ∷ rest → IsAhead k undone stack → NextAhead k last rest stack
 unfolding WalksOn
 next_ahead k undone rest last stack is ahead = by (slice_get_cases k.entries (position_of k)).1
   where
-    first : WalksOn (start_of k) k.machine (last ∷ reverse rest) stack (history_of (made_of k)) (later_of k)
-    first = subst (λ (us : List Undone). WalksOn (start_of k) k.machine us stack (history_of (made_of k)) (later_of k)) (ap reverse is ∙ reverse-append rest (last ∷ [])) ahead
+    first : WalksOn (start_of k) k.machine (last ∷ rest) stack (history_of (made_of k)) (later_of k)
+    first = subst (λ (us : List Undone). WalksOn (start_of k) k.machine us stack (history_of (made_of k)) (later_of k)) is ahead
 
     by : ((x : Entry) × (position_of k < length k.entries) × (slice_get k.entries (position_of k) ≡ Some x) × (get_or k.entries (position_of k) x ≡ x)) ⊎ ((length k.entries ≤ position_of k) × (slice_get k.entries (position_of k) ≡ None)) →
         NextAhead k last rest stack
     by (inl (x, under, at, same)) =
         let later : later_of k ≡ accepted_of x ∷ map accepted_of (drop (position_of k + 1) k.entries)
         = ap (map accepted_of) (drop_more k.entries (position_of k) x under ∙ ap (λ (e : Entry). e ∷ drop (position_of k + 1) k.entries) same) in
-        let found = subst (WalksOn (start_of k) k.machine (last ∷ reverse rest) stack (history_of (made_of k))) later first in
+        let found = subst (WalksOn (start_of k) k.machine (last ∷ rest) stack (history_of (made_of k))) later first in
         record { entry = x; next = sym at; after = found.0; below = found.1; machine = found.2; seen = found.3; taken = found.4; on = found.5 }
-    by (inr (past, none)) = absurd (subst (WalksOn (start_of k) k.machine (last ∷ reverse rest) stack (history_of (made_of k))) (ap (map accepted_of) (drop_all (position_of k) k.entries past)) first)
+    by (inr (past, none)) = absurd (subst (WalksOn (start_of k) k.machine (last ∷ rest) stack (history_of (made_of k))) (ap (map accepted_of) (drop_all (position_of k) k.entries past)) first)
 
 -- a session that made the next entry again
 pub ahead_next : (k : SessionState) → IsJournal k → (last : Undone) (rest : List Undone) (stack : List Change) (next : NextAhead k last rest stack) (new : Content) (inverse : Inverse) (now : List Inverse) (left : List Change) →
     new ≡ next.after → now ≡ k.inverses ++ inverse ∷ [] → left ≡ next.below → IsAhead (record { machine = new; entries = k.entries; inverses = now; width = k.width; count = k.count }) rest left
 ahead_next k is last rest stack next new inverse now left new_is now_is left_is =
-    subst (λ (n : ℕ). WalksOn (start_of k) new (reverse rest) left (history_of (take n k.entries)) (map accepted_of (drop n k.entries))) (sym (ap length now_is ∙ length-append k.inverses (inverse ∷ [])))
-    (subst (λ (h : List Accepted). WalksOn (start_of k) new (reverse rest) left h (map accepted_of (drop (position_of k + 1) k.entries))) (sym (next_history k is next.entry next.next))
-    (subst (λ (c : Content). WalksOn (start_of k) c (reverse rest) left (accepted_of next.entry ∷ history_of (made_of k)) (map accepted_of (drop (position_of k + 1) k.entries))) (sym new_is)
-    (subst (λ (cs : List Change). WalksOn (start_of k) next.after (reverse rest) cs (accepted_of next.entry ∷ history_of (made_of k)) (map accepted_of (drop (position_of k + 1) k.entries))) (sym left_is) next.on)))
+    subst (λ (n : ℕ). WalksOn (start_of k) new rest left (history_of (take n k.entries)) (map accepted_of (drop n k.entries))) (sym (ap length now_is ∙ length-append k.inverses (inverse ∷ [])))
+    (subst (λ (h : List Accepted). WalksOn (start_of k) new rest left h (map accepted_of (drop (position_of k + 1) k.entries))) (sym (next_history k is next.entry next.next))
+    (subst (λ (c : Content). WalksOn (start_of k) c rest left (accepted_of next.entry ∷ history_of (made_of k)) (map accepted_of (drop (position_of k + 1) k.entries))) (sym new_is)
+    (subst (λ (cs : List Change). WalksOn (start_of k) next.after rest cs (accepted_of next.entry ∷ history_of (made_of k)) (map accepted_of (drop (position_of k + 1) k.entries))) (sym left_is) next.on)))
 
 -- a session that went back by an entry
 module _ (k : SessionState) (is : IsJournal k) (before : List Inverse) (inverse : Inverse) (parts : k.inverses ≡ before ++ inverse ∷ []) (new : Content) where
@@ -80,7 +92,7 @@ module _ (k : SessionState) (is : IsJournal k) (before : List Inverse) (inverse 
   fewer_made = record { machine = new; entries = k.entries; inverses = before; width = k.width; count = k.count }
 
   pub ahead_less : (undone now : List Undone) (stack left : List Change) → IsMachine k.machine → IsAhead k undone stack →
-      ((now ≡ []) ⊎ ((u : Undone) × (now ≡ undone ++ u ∷ []) × IsTakenBack new u left k.machine stack)) → IsAhead fewer_made now left
+      ((now ≡ []) ⊎ ((u : Undone) × (now ≡ u ∷ undone) × IsTakenBack new u left k.machine stack)) → IsAhead fewer_made now left
   unfolding WalksOn
   ahead_less undone now stack left machine ahead (inl none) = nothing_ahead fewer_made now left none
   ahead_less undone now stack left machine ahead (inr (u, more, taken)) = by k.entries refl
@@ -95,9 +107,9 @@ module _ (k : SessionState) (is : IsJournal k) (before : List Inverse) (inverse 
           let made : history_of (made_of k) ≡ accepted_of e ∷ history_of (take n k.entries) = ap (λ (m : ℕ). history_of (take m k.entries)) position ∙ history_to k.entries n d under in
           let seen : view_of k.machine ≡ view (start_of k) (accepted_of e ∷ history_of (take n k.entries))
           = walks_view (start_of k) k.machine (reverse k.inverses) (history_of (made_of k)) is.walks ∙ ap (view (start_of k)) made in
-          let on : WalksOn (start_of k) k.machine (reverse undone) stack (accepted_of e ∷ history_of (take n k.entries)) (map accepted_of (drop (n + 1) k.entries))
-          = subst (λ (h : List Accepted). WalksOn (start_of k) k.machine (reverse undone) stack h (map accepted_of (drop (n + 1) k.entries))) made
-          (subst (λ (m : ℕ). WalksOn (start_of k) k.machine (reverse undone) stack (history_of (made_of k)) (map accepted_of (drop m k.entries))) position ahead) in
-          subst (λ (us : List Undone). WalksOn (start_of k) new us left (history_of (take n k.entries)) (map accepted_of (drop n k.entries))) (sym (ap reverse more ∙ reverse-append undone (u ∷ [])))
-          (subst (λ (es : List Entry). WalksOn (start_of k) new (u ∷ reverse undone) left (history_of (take n k.entries)) (map accepted_of es)) (sym (drop_more k.entries n d under))
+          let on : WalksOn (start_of k) k.machine undone stack (accepted_of e ∷ history_of (take n k.entries)) (map accepted_of (drop (n + 1) k.entries))
+          = subst (λ (h : List Accepted). WalksOn (start_of k) k.machine undone stack h (map accepted_of (drop (n + 1) k.entries))) made
+          (subst (λ (m : ℕ). WalksOn (start_of k) k.machine undone stack (history_of (made_of k)) (map accepted_of (drop m k.entries))) position ahead) in
+          subst (λ (us : List Undone). WalksOn (start_of k) new us left (history_of (take n k.entries)) (map accepted_of (drop n k.entries))) (sym more)
+          (subst (λ (es : List Entry). WalksOn (start_of k) new (u ∷ undone) left (history_of (take n k.entries)) (map accepted_of es)) (sym (drop_more k.entries n d under))
           (k.machine, stack, machine, seen, taken, on))

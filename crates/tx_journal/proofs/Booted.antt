@@ -34,9 +34,9 @@ module _ (machine : Content) (width count : ℕ) where
   starts_counted [] none = let zero_live : lives_to (empty_table width) width ≡ 0 = none_live width width in omega (arith, zero_live)
   starts_counted (e ∷ es) none = cc
 
-  pub journal_starts : (j : Journal) → j.entries.items ≡ [] → j.inverses.items ≡ [] → 1 ≤ count → count ≤ width → IsWidth width → view_of machine ≡ view (boot_state width count) [] →
+  pub journal_starts : (j : Journal) → j.entries.items ≡ [] → j.crossings.inverses ≡ [] → 1 ≤ count → count ≤ width → IsWidth width → view_of machine ≡ view (boot_state width count) [] →
       IsJournal (session_state machine j width count)
-  journal_starts j entries inverses low high wide seen = starts j.entries.items entries j.inverses.items inverses low high wide seen
+  journal_starts j entries inverses low high wide seen = starts j.entries.items entries j.crossings.inverses inverses low high wide seen
 
   pub room_starts : (j : Journal) → j.entries.items ≡ [] → j.live ≡ 0 → (room places : ℕ) → HasRoom (session_state machine j width count) j.live room places
   room_starts j entries live room places =

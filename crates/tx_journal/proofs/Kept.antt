@@ -21,7 +21,7 @@ use Rattle.tx_model.specs.View.{View, view}
 
 -- the room of a session, told by its machine's view
 abbrev pub IsKeptSo : Content → Journal → ℕ → ℕ → Type 0
-IsKeptSo machine j width count = IsJournal (session_state machine j width count) × HasRoom (session_state machine j width count) j.live (vec_capacity j.entries) (vec_capacity j.inverses)
+IsKeptSo machine j width count = IsJournal (session_state machine j width count) × HasRoom (session_state machine j width count) j.live (vec_capacity j.entries) j.crossings.room
 
 table_seen : (k : SessionState) → view_of k.machine ≡ view (start_of k) (history_of k.entries) → (view_of k.machine).table ≡ table_of (start_of k) (history_of k.entries)
 unfolding view
@@ -44,13 +44,13 @@ module _ (laws : SessionLaws) (machine : Content) (j : Journal) (width count : �
   pub kept_same : (new : Content) (after : Journal) → new ≡ machine → SameRecord after j → IsCounted machine after → IsKeptSo new after width count
   kept_same new after same stays counted =
       let back : session_state machine j width count ≡ session_state new after width count
-      = λ i. record { machine = sym same i; entries = sym stays.entries i; inverses = sym stays.inverses i; width = width; count = count } in (
+      = λ i. record { machine = sym same i; entries = sym stays.entries i; inverses = sym stays.crossings.inverses i; width = width; count = count } in (
         subst IsJournal back is.0,
-        subst (λ (k : SessionState). HasRoom k after.live (vec_capacity after.entries) (vec_capacity after.inverses)) back
+        subst (λ (k : SessionState). HasRoom k after.live (vec_capacity after.entries) after.crossings.room) back
             (record {
               counted = subst (λ (t : Table). lives t ≤ after.live) (table_seen (session_state machine j width count) seen) counted.lives;
               entries = subst (λ (xs : List Entry). length xs + after.live ≤ vec_capacity after.entries) stays.entries counted.places.entries;
-              inverses = subst (λ (xs : List Entry). length xs + after.live ≤ vec_capacity after.inverses) stays.entries counted.places.inverses;
+              inverses = subst (λ (xs : List Entry). length xs + after.live ≤ after.crossings.room) stays.entries counted.places.inverses;
             }),
       )
 

@@ -8,12 +8,12 @@ use Rattle.tx_model.specs.Membership.{Table, is_live}
 abbrev pub LessBut : ℕ → Table → Table → Type 0
 LessBut s new old = (n : ℕ) → n ≢ s → is_live new n ≡ true → is_live old n ≡ true
 
-one_less : (a b : Bool) → (a ≡ true → b ≡ true) → one_if a ≤ one_if b
+pub one_less : (a b : Bool) → (a ≡ true → b ≡ true) → one_if a ≤ one_if b
 one_less false b h = omega arith
 one_less true b h = let is : one_if b ≡ 1 = ap one_if (h refl) in omega (arith, is)
 
 -- the number is greater than all of those
-above : (s : ℕ) (new old : Table) (n : ℕ) → n < s → LessBut s new old → lives_to new n ≤ lives_to old n
+pub above : (s : ℕ) (new old : Table) (n : ℕ) → n < s → LessBut s new old → lives_to new n ≤ lives_to old n
 unfolding lives_to
 above s new old zero under less = omega arith
 above s new old (suc n) under less =

@@ -22,7 +22,7 @@ use Rattle.tx_model.specs.View.{View, event_on, next, role_on}
 use Rattle.tx_step.specs.Steps.{IsStep}
 
 module _ (laws : SessionLaws) (old new : Content) (j : Journal) (step : Step) (reply : Reply) (inverse : Inverse)
-    (sound : IsSound (view_of old)) (at_end : length j.inverses.items ≡ length j.entries.items) (counted : IsCounted old j) (ready : IsReady (view_of old).table step j) (made : IsStep old step reply inverse new) where
+    (sound : IsSound (view_of old)) (at_end : length j.crossings.inverses ≡ length j.entries.items) (counted : IsCounted old j) (ready : IsReady (view_of old).table step j) (made : IsStep old step reply inverse new) where
   accepted : IsAccepted (answer (view_of old) step)
   accepted = subst IsAccepted (sym made.answered) made.accepted
 
@@ -37,25 +37,25 @@ module _ (laws : SessionLaws) (old new : Content) (j : Journal) (step : Step) (r
       omega (arith, one, most)
 
   -- there is room for its entry, and for what takes it back
-  room : (length j.entries.items < vec_capacity j.entries) × (length j.entries.items < vec_capacity j.inverses)
+  room : (length j.entries.items < vec_capacity j.entries) × (length j.entries.items < j.crossings.room)
   room = by ready
     where
-      by : IsReady (view_of old).table step j → (length j.entries.items < vec_capacity j.entries) × (length j.entries.items < vec_capacity j.inverses)
+      by : IsReady (view_of old).table step j → (length j.entries.items < vec_capacity j.entries) × (length j.entries.items < j.crossings.room)
       by (inl (places, few)) =
           let a : length j.entries.items + (j.live + 2) ≤ vec_capacity j.entries = places.entries in
-          let b : length j.entries.items + (j.live + 2) ≤ vec_capacity j.inverses = places.inverses in
+          let b : length j.entries.items + (j.live + 2) ≤ j.crossings.room = places.inverses in
           (omega (arith, a), omega (arith, b))
       by (inr (places, has)) =
           let one : 1 ≤ j.live = some (aborts_was (view_of old) step has fits) in
           let a : length j.entries.items + j.live ≤ vec_capacity j.entries = places.entries in
-          let b : length j.entries.items + j.live ≤ vec_capacity j.inverses = places.inverses in
+          let b : length j.entries.items + j.live ≤ j.crossings.room = places.inverses in
           (omega (arith, a, one), omega (arith, b, one))
 
   pub room_entries : length j.entries.items < vec_capacity j.entries
   room_entries = room.0
 
-  pub room_inverses : length j.inverses.items < vec_capacity j.inverses
-  room_inverses = let b : length j.entries.items < vec_capacity j.inverses = room.1 in omega (arith, b, at_end)
+  pub room_inverses : length j.crossings.inverses < j.crossings.room
+  room_inverses = let b : length j.entries.items < j.crossings.room = room.1 in omega (arith, b, at_end)
 
   module _ (s : ℕ) (was is : Bool) (s_is : s ≡ starter_of (view_of old).table step) (was_is : was ≡ is_live (view_of old).table s) (is_is : is ≡ is_live (view_of new).table s) where
     was_live : was ≡ is_live (view_of old).table (starter_of (view_of old).table step)
@@ -87,19 +87,20 @@ module _ (laws : SessionLaws) (old new : Content) (j : Journal) (step : Step) (r
         let there : one_if was ≡ 1 = ap one_if (was_live ∙ aborts_was (view_of old) step has fits) in
         omega (arith, same, places, gone, there)
 
-    pub added : (entry : Entry) (after : Journal) → LeadsBack new inverse → after.entries.items ≡ j.entries.items ++ entry ∷ [] → after.inverses.items ≡ j.inverses.items ++ inverse ∷ [] →
-        vec_capacity after.entries ≡ vec_capacity j.entries → vec_capacity after.inverses ≡ vec_capacity j.inverses → after.live + one_if was ≡ j.live + one_if is →
+    pub added : (entry : Entry) (after : Journal) → LeadsBack new inverse → after.entries.items ≡ j.entries.items ++ entry ∷ [] → after.crossings.inverses ≡ j.crossings.inverses ++ inverse ∷ [] → after.crossings.undone ≡ [] →
+        vec_capacity after.entries ≡ vec_capacity j.entries → after.crossings.room ≡ j.crossings.room → after.live + one_if was ≡ j.live + one_if is →
         IsAdded old j entry new after
-    added entry after leads entries inverses cap places live = record {
+    added entry after leads entries inverses none cap places live = record {
       inverse = inverse;
       entries = entries;
       inverses = inverses;
+      undone = none;
       leads = leads;
       undoes = made.back;
       whole = made.whole;
       counted = record {
         lives = subst (λ (V : View). lives V.table ≤ after.live) (sym made.next) less;
-        places = record { entries = here (vec_capacity after.entries) (by_entries ready); inverses = here (vec_capacity after.inverses) (by_inverses ready) };
+        places = record { entries = here (vec_capacity after.entries) (by_entries ready); inverses = here (after.crossings.room) (by_inverses ready) };
       };
     }
       where
@@ -116,6 +117,6 @@ module _ (laws : SessionLaws) (old new : Content) (j : Journal) (step : Step) (r
         by_entries (inl (p, few)) = let a = p.entries in inl (omega (arith, a, cap))
         by_entries (inr (p, has)) = let a = p.entries in inr (omega (arith, a, cap), has)
 
-        by_inverses : IsReady (view_of old).table step j → (length j.entries.items + (j.live + 2) ≤ vec_capacity after.inverses) ⊎ ((length j.entries.items + j.live ≤ vec_capacity after.inverses) × (has_place (view_of old).table step ≡ true))
+        by_inverses : IsReady (view_of old).table step j → (length j.entries.items + (j.live + 2) ≤ after.crossings.room) ⊎ ((length j.entries.items + j.live ≤ after.crossings.room) × (has_place (view_of old).table step ≡ true))
         by_inverses (inl (p, few)) = let a = p.inverses in inl (omega (arith, a, places))
         by_inverses (inr (p, has)) = let a = p.inverses in inr (omega (arith, a, places), has)

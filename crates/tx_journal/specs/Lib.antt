@@ -6,6 +6,7 @@ pub mod Lives
 pub mod Moved
 pub mod Noted
 pub mod Rooms
-pub mod Aheads
+pub mod Crossings
 pub mod Sessions
+pub mod Trials
 pub mod Walks

@@ -2,6 +2,7 @@
 use Rattle.std.specs.Prelude.{◌≡◌, ◌⊎◌, ℕ, ◌+◌, ◌≤◌, ◌<◌, ◌^◌, ◌++◌, ◌∷◌, [], true, length, vec_capacity}
 use Rattle.tx_base.specs.declared.steps.Step.{Step}
 use Rattle.tx_core.specs.Undo.{LeadsBack}
+use Rattle.tx_journal.specs.Crossings.{SameCrossed}
 use Rattle.tx_journal.specs.Lives.{has_place, lives}
 use Rattle.tx_journal.specs.declared.entry.Entry.{Entry}
 use Rattle.tx_journal.specs.declared.journal.Journal.{Journal}
@@ -15,13 +16,13 @@ use Rattle.tx_model.specs.Membership.{Table}
 -- the same is in it
 pub record SameRecord (new old : Journal) : Type 0 where
   pub entries : new.entries.items ≡ old.entries.items
-  pub inverses : new.inverses.items ≡ old.inverses.items
+  pub crossings : SameCrossed new.crossings old.crossings
   pub live : new.live ≡ old.live
 
 -- there is room for so many entries more, and for what takes them back
 pub record HasPlaces (j : Journal) (count : ℕ) : Type 0 where
   pub entries : length j.entries.items + count ≤ vec_capacity j.entries
-  pub inverses : length j.entries.items + count ≤ vec_capacity j.inverses
+  pub inverses : length j.entries.items + count ≤ j.crossings.room
 
 -- there is room for the entry of a step, and for the abort of each transaction that is live after it
 abbrev pub IsReady : Table → Step → Journal → Type 0
@@ -36,7 +37,8 @@ pub record IsCounted (k : Content) (j : Journal) : Type 0 where
 pub record IsAdded (k : Content) (j : Journal) (entry : Entry) (new : Content) (after : Journal) : Type 0 where
   pub inverse : Inverse
   pub entries : after.entries.items ≡ j.entries.items ++ entry ∷ []
-  pub inverses : after.inverses.items ≡ j.inverses.items ++ inverse ∷ []
+  pub inverses : after.crossings.inverses ≡ j.crossings.inverses ++ inverse ∷ []
+  pub undone : after.crossings.undone ≡ []
   pub leads : LeadsBack new inverse
   pub undoes : Undoes new inverse k
   pub whole : EndsWhole new inverse

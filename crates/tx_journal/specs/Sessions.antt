@@ -26,7 +26,7 @@ pub record SessionState : Type 0 where
 
 -- what a session keeps, of its fields
 abbrev pub session_state : Content → Journal → ℕ → ℕ → SessionState
-session_state machine journal width count = record { machine = machine; entries = journal.entries.items; inverses = journal.inverses.items; width = width; count = count }
+session_state machine journal width count = record { machine = machine; entries = journal.entries.items; inverses = journal.crossings.inverses; width = width; count = count }
 
 -- the state in which it was booted
 abbrev pub start_of : SessionState → State
@@ -53,9 +53,9 @@ pub record IsJournal (k : SessionState) : Type 0 where
 abbrev pub later_of : SessionState → List Accepted
 later_of k = map accepted_of (drop (position_of k) k.entries)
 
--- what is kept makes the entries again that follow, the next one last
+-- what is kept makes the entries again that follow, the next one first
 abbrev pub IsAhead : SessionState → List Undone → List Change → Type 0
-IsAhead k undone stack = WalksOn (start_of k) k.machine (reverse undone) stack (history_of (made_of k)) (later_of k)
+IsAhead k undone stack = WalksOn (start_of k) k.machine undone stack (history_of (made_of k)) (later_of k)
 
 -- where so many transactions are counted, at least those that are live after the last entry, and there is room for so many entries and
 -- places for so many inverses: there is room for the abort of each of them

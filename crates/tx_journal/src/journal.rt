@@ -1,19 +1,19 @@
-//! The entries of a session, and what takes those back that are made.
+//! The entries of a session, and what leads over them.
 ghost use Rattle.std.specs.Prelude.{◌≡◌, ◌≤◌, ◌<◌, ◌++◌, ◌∷◌, [], ◌+◌, ◌^◌, length, vec_capacity, OnOk};
 ghost use Rattle.tx_journal.specs.Rooms.{HasPlaces, SameRecord};
 
+use crate::crossings::Crossings;
 use crate::entry::Entry;
 use std::alloc::Global;
 use tx_base::NoMemory;
 use tx_live::Inverse;
 
-/// All entries of a session, and what takes those back that are made.
+/// All entries of a session, and what leads over them.
 #[derive(Drop)]
 pub(crate) struct Journal {
     /// All entries, the oldest first.
     pub entries: Vec<Entry>,
-    /// What takes back each entry that is made, the oldest first.
-    pub inverses: Vec<Inverse>,
+    pub crossings: Crossings,
     /// How many transactions are live after the last entry, or more: each has room for its abort.
     pub live: usize,
 }
@@ -22,12 +22,13 @@ impl Journal {
     /// No entry. It takes no memory.
     pub fn new(alloc: Global) -> Journal
         ensures entries { result.entries.items ≡ [] }
-        ensures inverses { result.inverses.items ≡ [] }
+        ensures inverses { result.crossings.inverses ≡ [] }
+        ensures undone { result.crossings.undone ≡ [] }
         ensures live { result.live ≡ 0 }
     {
         Journal {
             entries: Vec::new(alloc),
-            inverses: Vec::new(alloc),
+            crossings: Crossings::new(alloc),
             live: 0,
         }
     }
@@ -36,12 +37,12 @@ impl Journal {
     ///
     /// NoMemory where a growth is refused; the journal is then as it was.
     pub fn reserve(&mut self) -> Result<(), NoMemory>
-        requires { length self.old.inverses.items ≡ length self.old.entries.items }
+        requires { length self.old.crossings.inverses ≡ length self.old.entries.items }
         ensures same { SameRecord self.new self.old }
         ensures places { OnOk result (HasPlaces self.new (self.new.live + 2)) }
         ensures fits { OnOk result (self.new.live + 2 < 2 ^ 64) }
         ensures entries { vec_capacity self.old.entries ≤ vec_capacity self.new.entries }
-        ensures inverses { vec_capacity self.old.inverses ≤ vec_capacity self.new.inverses }
+        ensures room { self.old.crossings.room ≤ self.new.crossings.room }
     {
         let Some(count) = self.live.checked_add(2) else {
             return Err(NoMemory);
@@ -55,27 +56,30 @@ impl Journal {
     pub fn grow(&mut self, count: usize) -> Result<(), NoMemory>
         ensures same { SameRecord self.new self.old }
         ensures places { OnOk result
-            (length self.new.inverses.items ≡ length self.new.entries.items →
+            (length self.new.crossings.inverses ≡ length self.new.entries.items →
             HasPlaces self.new count) }
         ensures entries { vec_capacity self.old.entries ≤ vec_capacity self.new.entries }
-        ensures inverses { vec_capacity self.old.inverses ≤ vec_capacity self.new.inverses }
+        ensures room { self.old.crossings.room ≤ self.new.crossings.room }
     {
         self.entries.reserve(count)?;
-        self.inverses.reserve(count)?;
-        Ok(())
+        self.crossings.reserve(count)
     }
 
-    /// Adds an entry that is made, where it was and is so many times live.
+    /// Adds an entry that is made, where it was and is so many times live, and nothing is kept of entries
+    /// that were taken back.
     pub fn push(&mut self, entry: Entry, inverse: Inverse)
+        requires none { self.old.crossings.undone ≡ [] }
         requires entries { length self.old.entries.items < vec_capacity self.old.entries }
-        requires inverses { length self.old.inverses.items < vec_capacity self.old.inverses }
+        requires inverses { length self.old.crossings.inverses < self.old.crossings.room }
         ensures entries { self.new.entries.items ≡ self.old.entries.items ++ entry ∷ [] }
-        ensures inverses { self.new.inverses.items ≡ self.old.inverses.items ++ inverse ∷ [] }
+        ensures inverses { self.new.crossings.inverses
+            ≡ self.old.crossings.inverses ++ inverse ∷ [] }
+        ensures undone { self.new.crossings.undone ≡ [] }
         ensures live { self.new.live ≡ self.old.live }
         ensures room { vec_capacity self.new.entries ≡ vec_capacity self.old.entries }
-        ensures places { vec_capacity self.new.inverses ≡ vec_capacity self.old.inverses }
+        ensures places { self.new.crossings.room ≡ self.old.crossings.room }
     {
         self.entries.push_reserved(entry);
-        self.inverses.push_reserved(inverse);
+        self.crossings.push(inverse);
     }
 }

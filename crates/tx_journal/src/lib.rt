@@ -2,15 +2,15 @@
 //! One history of steps, which is to be walked both ways.
 //!
 //! `Session` is a machine with all steps that it accepted: each `Entry` has its step, its worker
-//! and its reply, and beside it stands the inverse of each entry that is made. Steps are made at
+//! and its reply, and beside it stands what leads over each entry (`Crossings`). Steps are made at
 //! its end; walks go back and forward over the entries.
 //!
 //! - `boot` and `boot_wide` make a session before its first step. `step` makes a step as the
 //!   machine does and adds its entry; `step_into` puts the reply where the caller has a place for
 //!   it. `kernel_abort` makes the kernel's abort and adds its entry, without memory.
-//! - `back` undoes the newest entry that is made, and keeps what makes it again, if there is room
-//!   (`reserve_forward` makes it). `forward` makes the next one again from there, by exchange, and
-//!   else by its step, whose answer is the entry's reply since the journal is lawful; `goto` goes
+//! - `back` undoes the newest entry that is made by its inverse, and puts what makes it again into
+//!   the inverse's place, if there is room for its changes (`reserve_forward` makes it). `forward`
+//!   makes the next one again from there, by exchange, and else by its step, whose answer is the entry's reply since the journal is lawful; `goto` goes
 //!   step by step, so it pays for the entries between. Nothing is replayed from the start, and no
 //!   state is kept but the machine's.
 //! - The place of an entry is reserved before its step, or for many steps at once by `reserve`: a
@@ -23,6 +23,9 @@
 //!   numbers of entries, and whether the transaction counts as one moment. A `Retrace` makes the
 //!   steps up to the commit once more and notes what each is; one walk back over the notes parts
 //!   them. So it pays for one pass over the journal, and the session is only read.
+//! - `cut` lets go of the entries after the position, so that steps can be made there: what is live
+//!   there is counted anew, and has room, since each entry that goes ended one transaction at most
+//!   (`Cut.antt`). `state_text_without` is the text of the state that an abort there would leave.
 //! - `position` is how many entries are made, `len` how many there are, `entry` the entry of a
 //!   number, `machine` the machine at the position, `count` and `processes` how it was booted,
 //!   `state_text` the text of the state there.
@@ -40,7 +43,8 @@
 //! step is of, whether the step begins that transaction, whether it commits it, and whether it
 //! tells its moment. What a commit posts is read from the outbox before it is made.
 
-mod ahead;
+mod crossings;
+mod cuts;
 mod entry;
 mod faults;
 mod journal;
@@ -55,10 +59,11 @@ mod retrace_laws;
 mod session;
 mod state;
 mod steps;
+mod trials;
 mod walks;
 
 pub use entry::Entry;
-pub use faults::{AtStart, ForwardFault, GotoFault, MovedFault};
+pub use faults::{AtStart, ForwardFault, GotoFault, MovedFault, TrialFault};
 pub use moved::Moved;
 pub use session::Session;
 pub use state::{print_state, put_state};

@@ -1,5 +1,5 @@
 //! Makes a step, and adds its entry.
-ghost use Rattle.std.specs.Prelude.{◌≡◌, ◌≢◌, ◌↔◌, ◌⊎◌, ◌+◌, ◌≤◌, ◌<◌, ◌^◌, IsOk, IsTrue, OnErr, OnOk, false, length, true};
+ghost use Rattle.std.specs.Prelude.{◌≡◌, ◌≢◌, ◌↔◌, ◌⊎◌, [], ◌+◌, ◌≤◌, ◌<◌, ◌^◌, IsOk, IsTrue, OnErr, OnOk, false, length, true};
 ghost use Rattle.tx_base.specs.declared.steps.Reply.TheVariants.{Aborted, No};
 ghost use Rattle.tx_base.specs.declared.steps.Step.TheVariants.{KernelAbort};
 ghost use Rattle.tx_core.specs.Runs.{Continues, kernel_abort_on};
@@ -32,7 +32,8 @@ pub(crate) fn record(
     reply: &mut Reply,
 ) -> bool
     requires sound { IsSound (view_of machine.old) }
-    requires at_end { length journal.old.inverses.items ≡ length journal.old.entries.items }
+    requires at_end { length journal.old.crossings.inverses ≡ length journal.old.entries.items }
+    requires none { journal.old.crossings.undone ≡ [] }
     requires counted { IsCounted machine.old journal.old }
     ensures accepted { IsTrue result ↔ IsAccepted reply.new }
     ensures added { IsTrue result →
@@ -59,7 +60,8 @@ pub(crate) fn record(
 ///
 /// NoMemory where a growth is refused; the journal is then as it was.
 fn prepare(machine: &Machine, journal: &mut Journal, step: &Step) -> Result<(), NoMemory>
-    requires at_end { length journal.old.inverses.items ≡ length journal.old.entries.items }
+    requires at_end { length journal.old.crossings.inverses ≡ length journal.old.entries.items }
+    requires none { journal.old.crossings.undone ≡ [] }
     requires counted { IsCounted machine.now journal.old }
     ensures same { SameRecord journal.new journal.old }
     ensures counted { IsCounted machine.now journal.new }
@@ -83,7 +85,8 @@ fn make(
     reply: &mut Reply,
 ) -> bool
     requires sound { IsSound (view_of machine.old) }
-    requires at_end { length journal.old.inverses.items ≡ length journal.old.entries.items }
+    requires at_end { length journal.old.crossings.inverses ≡ length journal.old.entries.items }
+    requires none { journal.old.crossings.undone ≡ [] }
     requires counted { IsCounted machine.old journal.old }
     requires ready { IsReady (view_of machine.old).table step.now journal.old }
     ensures accepted { IsTrue result ↔ IsAccepted reply.new }
@@ -128,7 +131,8 @@ pub(crate) fn abort(
     starter: Pid,
 ) -> Result<(), NoTransaction>
     requires sound { IsSound (view_of machine.old) }
-    requires at_end { length journal.old.inverses.items ≡ length journal.old.entries.items }
+    requires at_end { length journal.old.crossings.inverses ≡ length journal.old.entries.items }
+    requires none { journal.old.crossings.undone ≡ [] }
     requires counted { IsCounted machine.old journal.old }
     ensures live { IsOk result ↔ (is_live (view_of machine.old).table starter.0 ≡ true) }
     ensures added { OnOk result (IsAdded machine.old journal.old
@@ -187,7 +191,7 @@ fn starter_by(machine: &Machine, pid: Pid) -> Pid
 }
 
 /// Whether a process is the starter of a live transaction.
-fn is_live(machine: &Machine, starter: Pid) -> bool
+pub(crate) fn is_live(machine: &Machine, starter: Pid) -> bool
     ensures { result ≡ is_live (view_of machine.now).table starter.0 }
 {
     machine.txn_of(starter) == Some(starter)

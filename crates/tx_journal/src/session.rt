@@ -10,7 +10,6 @@ ghost use Rattle.tx_model.specs.View.{view};
 ghost use Rattle.tx_moment.specs.Moments.{HasMoments};
 ghost use Rattle.tx_text.specs.State.{state_text};
 
-use crate::ahead::Ahead;
 use crate::entry::Entry;
 use crate::journal::Journal;
 use crate::laws::laws;
@@ -30,7 +29,6 @@ pub struct Session {
     width: u16,
     /// With how many it was booted.
     count: u16,
-    pub(crate) ahead: Ahead,
 }
 
 impl Model for Session {
@@ -46,9 +44,9 @@ impl Model for Session {
         (session_state session.machine session.journal session.width session.count)
         × HasRoom (session_state session.machine session.journal session.width session.count)
         session.journal.live (vec_capacity session.journal.entries)
-        (vec_capacity session.journal.inverses)
+        session.journal.crossings.room
         × IsAhead (session_state session.machine session.journal session.width session.count)
-        session.ahead.undone.items session.ahead.stack.items };
+        session.journal.crossings.undone session.journal.crossings.stack };
 }
 
 impl Session {
@@ -70,7 +68,6 @@ impl Session {
             journal: Journal::new(alloc),
             width: PROCESSES,
             count,
-            ahead: Ahead::new(alloc),
         })
     }
 
@@ -89,7 +86,6 @@ impl Session {
             journal: Journal::new(alloc),
             width: WIDE_PROCESSES,
             count,
-            ahead: Ahead::new(alloc),
         })
     }
 
@@ -115,10 +111,7 @@ impl Session {
     pub fn reserve_forward(&mut self, position: usize) -> Result<(), NoMemory>
         ensures { self.new ≡ self.old }
     {
-        let Some(walked) = self.journal.inverses.get(position..) else {
-            return Ok(());
-        };
-        self.ahead.grow(walked)
+        self.journal.crossings.reserve_forward(position)
     }
 
     /// The number of processes with which it was booted.
@@ -148,7 +141,7 @@ impl Session {
         ensures count { result ≡ position_of self.now }
         ensures inside { position_of self.now ≤ length self.now.entries }
     {
-        self.journal.inverses.len()
+        self.journal.crossings.made()
     }
 
     /// The entry of a number, counted from 1. Nothing where there are fewer entries, and for 0.

@@ -21,11 +21,8 @@ impl Session {
         ensures refused { OnErr result (self.new ≡ self.old) }
         ensures journal { SameJournal self.new self.old }
     {
-        let Some(inverse) = self.journal.inverses.pop() else {
-            return Err(AtStart);
-        };
-        self.ahead.take_back(&mut self.machine, inverse);
-        Ok(())
+        self.machine.is_kept();
+        self.journal.crossings.back(&mut self.machine)
     }
 
     /// Makes the entry after the position again: by exchange, where what was taken back is kept, and else
@@ -39,19 +36,13 @@ impl Session {
         ensures refused { OnErr result (self.new ≡ self.old) }
         ensures journal { SameJournal self.new self.old }
     {
-        let Some(undone) = self.ahead.undone.pop() else {
+        if !self.journal.crossings.keeps_next() {
             return self.make_next(alloc);
-        };
-        match self.machine.redo(undone, &mut self.ahead.stack) {
-            Ok(inverse) => {
-                self.journal.inverses.push_reserved(inverse);
-                Ok(())
-            }
-            Err(undone) => {
-                self.ahead.undone.push_reserved(undone);
-                Err(ForwardFault::NoMemory)
-            }
         }
+        let Ok(()) = self.journal.crossings.forward(&mut self.machine) else {
+            return Err(ForwardFault::NoMemory);
+        };
+        Ok(())
     }
 
     /// Makes the entry after the position anew: its step has the reply that it had.
@@ -77,8 +68,8 @@ impl Session {
         if !is_made {
             return Err(ForwardFault::NoMemory);
         }
-        self.ahead.clear();
-        self.journal.inverses.push_reserved(inverse);
+        self.journal.crossings.cut();
+        self.journal.crossings.push(inverse);
         Ok(())
     }
 

@@ -1,5 +1,5 @@
 -- A commit that was made again.
-use Rattle.std.proofs.Common.{◌≡◌, ℕ, suc, ◌-◌, ◌≤◌, if◌then◌else◌, List, [], ◌∷◌, ◌++◌, length, length-append, length-drop, map, take, drop, Option, Some, None, is_some, option_map, arith, refl, sym, ap, subst, ◌∙◌}
+use Rattle.std.proofs.Common.{◌≡◌, ℕ, suc, ◌-◌, ◌≤◌, if◌then◌else◌, List, [], ◌∷◌, ◌++◌, length, length-append, length-drop, map, take, drop, Option, Some, None, is_some, option_map, Result, Ok, Err, OnOk, arith, refl, sym, ap, subst, ◌∙◌}
 use Rattle.std.proofs.lemmas.List.{drop_at, length-reverse, take_at}
 use Rattle.std.proofs.lemmas.Option.{same_Some}
 use Rattle.std.specs.Prelude.{IsSomeAnd}
@@ -18,6 +18,7 @@ use Rattle.tx_base.specs.SlotFacts.{slot_there}
 use Rattle.tx_live.proofs.PostedAll.{posts_as}
 use Rattle.tx_live.proofs.TakenBack.{same_slots}
 use Rattle.tx_live.specs.Content.{IsShaped, IsTxn}
+use Rattle.tx_live.specs.Crossings.{HoldsBack}
 use Rattle.tx_live.specs.HeldPosts.{HaveSignals, PostsAll}
 use Rattle.tx_live.specs.Inverses.{first_of, last_of, less_last, none_made, post_changes, uncommitted, unposted_all, with_txn, HasPosts, HaveStarters}
 use Rattle.tx_live.specs.KeptPosts.{posted_at}
@@ -25,6 +26,8 @@ use Rattle.tx_live.specs.Laws.{LiveLaws}
 use Rattle.tx_live.specs.Redone.{with_last, RedoesCommitted, TakesBack, WasPosted}
 use Rattle.tx_live.specs.declared.content.BoxedTxn.{BoxedTxn}
 use Rattle.tx_live.specs.declared.content.Content.{Content}
+use Rattle.tx_live.specs.declared.crossing.Crossing.{Crossing}
+use Rattle.tx_live.specs.declared.crossing.Crossing.TheVariants.{Back}
 use Rattle.tx_live.specs.declared.inverse.Inverse.{Inverse}
 use Rattle.tx_live.specs.declared.inverse.Inverse.TheVariants.{Committed}
 use Rattle.tx_model.specs.Membership.{is_of, mark_unless_of}
@@ -265,7 +268,13 @@ module _ (laws : LiveLaws) (k new : Content) (starter : Pid) (count : ℕ) (held
         by None e joined ended = absurd joined
         by (Some members) e joined ended = takes_back members e joined ended
 
--- the same inverse takes the same step back
-pub back_same : (before new after : Content) (made inverse : Inverse) → new ≡ after → made ≡ inverse → TakesBack before after inverse → TakesBack before new made
-back_same before new after made inverse same is back =
-    subst (λ (i : Inverse). TakesBack before new i) (sym is) (subst (λ (k : Content). TakesBack before k inverse) (sym same) back)
+-- the same inverse takes the same step back, in its place
+pub back_same : (before new after : Content) (crossing : Crossing) (inverse : Inverse) → new ≡ after → crossing ≡ Back inverse → TakesBack before after inverse → HoldsBack crossing (TakesBack before new)
+back_same before new after crossing inverse same is back =
+    subst (λ (it : Crossing). HoldsBack it (TakesBack before new)) (sym is) (subst (λ (k : Content). TakesBack before k inverse) (sym same) back)
+
+-- where it was made again
+pub back_made : {E : Type 0} (made : Result Unit E) (before new after : Content) (crossing : Crossing) (inverse : Inverse) → OnOk made (new ≡ after) → OnOk made (crossing ≡ Back inverse) → TakesBack before after inverse →
+    OnOk made (HoldsBack crossing (TakesBack before new))
+back_made (Ok done) before new after crossing inverse same is back = back_same before new after crossing inverse same is back
+back_made (Err e) before new after crossing inverse same is back = tt

@@ -10,6 +10,8 @@ pub mod Laws
 pub mod Lends
 pub mod HeldPosts
 pub mod Redone
+pub mod Crossings
 pub mod Commits
 pub mod Tables
 pub mod ContentFacts
+pub mod CrossingFacts

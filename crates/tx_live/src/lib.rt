@@ -29,9 +29,10 @@
 //!   the members and the owners out. The inverse is the box, with the point and the answer at which
 //!   the starter stood.
 //!
-//! `take_back` takes an inverse as `undo` does, and answers what makes the step again by exchange
-//! (`Undone`), which `redo` takes: a log of new parts, or the transaction itself, or, of a step
-//! inside and of a commit, how many changes on top of a stack are its own. So a step that was taken
+//! A caller that walks back and forward has a `Crossing` for each step. `take_back` takes the inverse
+//! there as `undo` does, and puts into its place what makes the step again by exchange (`Undone`),
+//! which `redo` takes: a log of new parts, or the transaction itself, or, of a step inside and of a
+//! commit, how many changes on top of a stack are its own. So a step that was taken
 //! back is made again with no plan and no judgement, and the content is to the value what it was. A
 //! commit posts again what it held; a post changes nothing but what is pending, which the state
 //! tells. An abort leads back again.
@@ -54,6 +55,7 @@ mod begins;
 mod boot;
 mod commits;
 mod content;
+mod crossing;
 mod held_posts;
 mod inside;
 mod inverse;
@@ -69,6 +71,7 @@ mod undo;
 mod undone;
 
 pub use content::{BoxedTxn, Content};
+pub use crossing::Crossing;
 pub use inverse::Inverse;
 pub use kept_posts::{KeptPost, TakenPost};
 pub use marking::{Marked, Progress};

@@ -1,12 +1,14 @@
 //! The redo of a step that was taken back, by exchange.
-ghost use Rattle.std.specs.Prelude.{◌≡◌, ◌≤◌, ◌++◌, [], List, length, Some, None, is_some, if◌then◌else◌, vec_capacity, IfErr, IfOk, OnErr, OnOk};
+ghost use Rattle.std.specs.Prelude.{◌≡◌, ◌≤◌, ◌++◌, [], List, length, Some, None, is_some, if◌then◌else◌, vec_capacity, IfOk, OnErr, OnOk};
 ghost use Rattle.tx_change.specs.Exchange.{applied, exchanged, AreNamed};
 ghost use Rattle.tx_change.specs.Stacks.{below_top, top_of};
 ghost use Rattle.tx_change.specs.declared.change.Change.{Change};
 ghost use Rattle.tx_live.specs.Content.{IsShaped};
+ghost use Rattle.tx_live.specs.Crossings.{moved_over, HoldsBack, HoldsForward};
 ghost use Rattle.tx_live.specs.Inverses.{HasStarter};
-ghost use Rattle.tx_live.specs.Redone.{after_outside, moved_by, moved_of, post_in, reposted_in, step_again, with_last, GoesAgain, IsTakenBack, Redoes, TakesBack};
+ghost use Rattle.tx_live.specs.Redone.{after_outside, post_in, reposted_in, step_again, with_last, GoesAgain, IsTakenBack, Redoes, TakesBack};
 ghost use Rattle.tx_live.specs.declared.content.Content.{Content};
+ghost use Rattle.tx_live.specs.declared.crossing.Crossing.TheVariants.{Back, Forward};
 ghost use Rattle.tx_live.specs.declared.inverse.Inverse.{Inverse as TheInverse};
 ghost use Rattle.tx_live.specs.declared.undone.Undone.TheVariants as taken;
 ghost use Rattle.tx_model.specs.State.{Object};
@@ -16,6 +18,7 @@ ghost use Rattle.tx_txn.specs.Outboxes.{Held};
 
 use crate::aborts::{stand, stands};
 use crate::content::{BoxedTxn, Content};
+use crate::crossing::Crossing;
 use crate::held_posts::post_held;
 use crate::inverse::Inverse;
 use crate::kept_posts::{KeptPost, TakenPost, remake_post};
@@ -24,6 +27,7 @@ use crate::marking::Marked;
 use crate::table::TxnTable;
 use crate::undo::put_mark;
 use crate::undone::Undone;
+use std::mem;
 use tx_base::{Mark, NoMemory, Pid, Sending};
 use tx_change::{Change, Log, Parts};
 use tx_proc::Answer;
@@ -31,80 +35,83 @@ use tx_reserve::{Objects, Reservations};
 use tx_txn::{Members, Outbox, Txn};
 
 impl Content {
-    /// Makes a step again that was taken back, on the content before it: it reads no plan and judges
-    /// nothing. Answers the inverse, and takes the changes of a step inside off the stack. It takes no
-    /// memory but room that a step inside had in its transaction.
+    /// Makes the step again over which this leads forward, on the content before it, and exchanges it where
+    /// it stands: it leads back then. It reads no plan and judges nothing, and takes the changes of a step
+    /// inside off the stack. It takes no memory but room that a step inside had in its transaction.
     ///
-    /// Where that is refused, what makes the step again is handed back, and all is as it was.
-    pub fn redo(&mut self, undone: Undone, stack: &mut Vec<Change>) -> Result<Inverse, Undone>
-        requires { GoesAgain self.old undone stack.old.items }
+    /// `NoMemory` where that is refused; all is then as it was.
+    pub fn redo(&mut self, crossing: &mut Crossing, stack: &mut Vec<Change>) -> Result<(), NoMemory>
+        requires { HoldsForward crossing.old
+            (λ undone. GoesAgain self.old undone stack.old.items) }
         ensures made { (after : Content) (inverse : TheInverse) →
-            Redoes self.old undone stack.old.items after inverse → OnOk result (self.new ≡ after) }
+            HoldsForward crossing.old
+            (λ undone. Redoes self.old undone stack.old.items after inverse) →
+            OnOk result (self.new ≡ after) }
         ensures back { IsShaped self.old → (after : Content) (rest : List Change) →
-            IsTakenBack self.old undone stack.old.items after rest →
-            IfOk result (TakesBack self.old self.new) }
-        ensures moved { IfOk result (λ made. moved_of made ≡ moved_by undone) }
+            HoldsForward crossing.old
+            (λ undone. IsTakenBack self.old undone stack.old.items after rest) →
+            OnOk result (HoldsBack crossing.new (TakesBack self.old self.new)) }
+        ensures moved { moved_over crossing.new ≡ moved_over crossing.old }
         ensures stack { OnOk result
-            (stack.new.items ≡ below_top (moved_by undone) stack.old.items) }
+            (stack.new.items ≡ below_top (moved_over crossing.old) stack.old.items) }
         ensures capacity { vec_capacity stack.new ≡ vec_capacity stack.old }
         ensures err { OnErr result (self.new ≡ self.old) }
+        ensures crossing_err { OnErr result (crossing.new ≡ crossing.old) }
         ensures stack_err { OnErr result (stack.new ≡ stack.old) }
-        ensures undone_err { IfErr result (λ back. back ≡ undone) }
     {
+        let Crossing::Forward(undone) = mem::replace(crossing, Crossing::blank()) else {
+            unreachable!()
+        };
         match undone {
-            Undone::Outside { log, post } => Ok(self.redo_outside(log, post)),
+            Undone::Outside { log, post } => {
+                self.redo_outside(log, post, crossing);
+                Ok(())
+            }
             Undone::Inside {
                 starter,
                 count,
                 after,
                 marked,
                 held,
-            } => match self.redo_inside(starter, count, after, marked, held, stack) {
-                Ok(inverse) => Ok(inverse),
-                Err(NoMemory) => Err(Undone::Inside {
-                    starter,
-                    count,
-                    after,
-                    marked,
-                    held,
-                }),
-            },
-            Undone::Begun { boxed, mark } => Ok(self.redo_begun(boxed, mark)),
+            } => self.redo_inside(starter, count, after, marked, held, crossing, stack),
+            Undone::Begun { boxed, mark } => {
+                self.redo_begun(boxed, mark, crossing);
+                Ok(())
+            }
             Undone::Committed {
                 starter,
                 count,
                 held,
-            } => match self.redo_committed(starter, count, held, stack) {
-                Ok(inverse) => Ok(inverse),
-                Err(NoMemory) => Err(Undone::Committed {
-                    starter,
-                    count,
-                    held,
-                }),
-            },
+            } => self.redo_committed(starter, count, held, crossing, stack),
             Undone::Aborted {
                 starter,
                 stands,
                 members,
-            } => Ok(self.redo_aborted(starter, stands, members)),
+            } => {
+                self.redo_aborted(starter, stands, members, crossing);
+                Ok(())
+            }
         }
     }
 
-    /// Makes a step outside of transactions again.
-    fn redo_outside(&mut self, log: Log, post: Option<TakenPost>) -> Inverse
+    /// Makes a step outside of transactions again, and puts its inverse into its place.
+    fn redo_outside(&mut self, log: Log, post: Option<TakenPost>, crossing: &mut Crossing)
         requires { GoesAgain self.old (taken.Outside log post) [] }
         ensures made { self.new ≡ after_outside self.old log post }
-        ensures inverse { result ≡ Inverse.Outside (exchanged self.old.parts log) (post_in post) }
+        ensures inverse { crossing.new
+            ≡ Back (Inverse.Outside (exchanged self.old.parts log) (post_in post)) }
     {
         let mut log = log;
         log.lead_forward(&mut self.parts);
         let post = remake_post_if(&mut self.txns, post);
-        Inverse::Outside { log, post }
+        *crossing = Crossing::Back(Inverse::Outside { log, post });
     }
 
-    /// Makes a step inside of the starter's transaction again, whose changes are on top of the stack.
+    /// Makes a step inside of the starter's transaction again, whose changes are on top of the stack, and
+    /// puts its inverse into its place.
     ///
-    /// NoMemory where a growth is refused; all is then as it was.
+    /// NoMemory where a growth is refused; all is then as it was, with what makes the step again in its
+    /// place.
     fn redo_inside(
         &mut self,
         starter: Pid,
@@ -112,8 +119,9 @@ impl Content {
         objects: Objects,
         marked: Option<Marked>,
         held: Option<Sending>,
+        crossing: &mut Crossing,
         stack: &mut Vec<Change>,
-    ) -> Result<Inverse, NoMemory>
+    ) -> Result<(), NoMemory>
         requires { GoesAgain self.old (taken.Inside starter count objects marked held)
             stack.old.items }
         ensures made { (after : Content) (inverse : TheInverse) →
@@ -123,11 +131,13 @@ impl Content {
         ensures inverse { (after : Content) (inverse : TheInverse) →
             Redoes self.old (taken.Inside starter count objects marked held) stack.old.items after
             inverse →
-            IfOk result (λ made. made ≡ inverse) }
-        ensures moved { IfOk result (λ made. moved_of made ≡ count) }
+            OnOk result (crossing.new ≡ Back inverse) }
+        ensures moved { OnOk result (moved_over crossing.new ≡ count) }
         ensures stack { OnOk result (stack.new.items ≡ below_top count stack.old.items) }
         ensures capacity { vec_capacity stack.new ≡ vec_capacity stack.old }
         ensures err { OnErr result (self.new ≡ self.old) }
+        ensures crossing_err { OnErr result
+            (crossing.new ≡ Forward (taken.Inside starter count objects marked held)) }
         ensures stack_err { OnErr result (stack.new ≡ stack.old) }
     {
         laws();
@@ -143,24 +153,35 @@ impl Content {
         );
         let before = match made {
             Ok(before) => before,
-            Err(NoMemory) => return Err(NoMemory),
+            Err(NoMemory) => {
+                *crossing = Crossing::Forward(Undone::Inside {
+                    starter,
+                    count,
+                    after: objects,
+                    marked,
+                    held,
+                });
+                return Err(NoMemory);
+            }
         };
         let marked = put_mark(&mut self.marks, marked);
-        Ok(Inverse::Inside {
+        *crossing = Crossing::Back(Inverse::Inside {
             starter,
             count,
             before,
             marked,
             held: held.is_some(),
-        })
+        });
+        Ok(())
     }
 
-    /// Makes the first step of this transaction again, which is live then.
-    fn redo_begun(&mut self, boxed: BoxedTxn, mark: Option<Mark>) -> Inverse
+    /// Makes the first step of this transaction again, which is live then, and puts its inverse into its
+    /// place.
+    fn redo_begun(&mut self, boxed: BoxedTxn, mark: Option<Mark>, crossing: &mut Crossing)
         requires { GoesAgain self.old (taken.Begun boxed mark) [] }
         ensures made { (after : Content) (inverse : TheInverse) →
             Redoes self.old (taken.Begun boxed mark) [] after inverse → self.new ≡ after }
-        ensures inverse { result ≡ Inverse.Begun boxed.txn.value.starter }
+        ensures inverse { crossing.new ≡ Back (Inverse.Begun boxed.txn.value.starter) }
     {
         laws();
         let mut boxed = boxed;
@@ -171,29 +192,34 @@ impl Content {
         self.owners.sized();
         self.marks.swap(starter, &mut mark);
         self.txns.put(starter, boxed);
-        Inverse::Begun { starter }
+        *crossing = Crossing::Back(Inverse::Begun { starter });
     }
 
-    /// Makes the commit of the starter's transaction again: the changes of its last step are on top of the
-    /// stack, and what it held is posted.
+    /// Makes the commit of the starter's transaction again, and puts its inverse into its place: the
+    /// changes of its last step are on top of the stack, and what it held is posted.
     ///
-    /// NoMemory where a growth is refused; all is then as it was.
+    /// NoMemory where a growth is refused; all is then as it was, with what makes the step again in its
+    /// place.
     fn redo_committed(
         &mut self,
         starter: Pid,
         count: usize,
         held: Option<Sending>,
+        crossing: &mut Crossing,
         stack: &mut Vec<Change>,
-    ) -> Result<Inverse, NoMemory>
+    ) -> Result<(), NoMemory>
         requires { GoesAgain self.old (taken.Committed starter count held) stack.old.items }
         ensures made { (after : Content) (inverse : TheInverse) →
             Redoes self.old (taken.Committed starter count held) stack.old.items after inverse →
             OnOk result (self.new ≡ after) }
-        ensures back { IsShaped self.old → IfOk result (TakesBack self.old self.new) }
-        ensures moved { IfOk result (λ made. moved_of made ≡ count) }
+        ensures back { IsShaped self.old →
+            OnOk result (HoldsBack crossing.new (TakesBack self.old self.new)) }
+        ensures moved { OnOk result (moved_over crossing.new ≡ count) }
         ensures stack { OnOk result (stack.new.items ≡ below_top count stack.old.items) }
         ensures capacity { vec_capacity stack.new ≡ vec_capacity stack.old }
         ensures err { OnErr result (self.new ≡ self.old) }
+        ensures crossing_err { OnErr result
+            (crossing.new ≡ Forward (taken.Committed starter count held)) }
         ensures stack_err { OnErr result (stack.new ≡ stack.old) }
     {
         laws();
@@ -201,29 +227,41 @@ impl Content {
         let made = remake_last(&mut boxed.txn, &mut self.parts, count, held, stack);
         let Ok(()) = made else {
             self.txns.put(starter, boxed);
+            *crossing = Crossing::Forward(Undone::Committed {
+                starter,
+                count,
+                held,
+            });
             return Err(NoMemory);
         };
         post_held(&mut self.parts, &mut self.txns, &mut boxed.txn.outbox);
         boxed.txn.end(&mut self.marks, &mut self.owners);
         self.owners.sized();
-        Ok(Inverse::Committed {
+        *crossing = Crossing::Back(Inverse::Committed {
             boxed,
             count,
             held: held.is_some(),
-        })
+        });
+        Ok(())
     }
 
-    /// Makes the abort of the starter's transaction again: its starter stands so then, and these were its
-    /// members.
-    fn redo_aborted(&mut self, starter: Pid, answer: Answer, members: Option<Members>) -> Inverse
+    /// Makes the abort of the starter's transaction again, and puts its inverse into its place: its starter
+    /// stands so then, and these were its members.
+    fn redo_aborted(
+        &mut self,
+        starter: Pid,
+        answer: Answer,
+        members: Option<Members>,
+        crossing: &mut Crossing,
+    )
         requires { GoesAgain self.old (taken.Aborted starter answer members) [] }
         ensures made { (after : Content) (inverse : TheInverse) →
             Redoes self.old (taken.Aborted starter answer members) [] after inverse →
             self.new ≡ after }
         ensures inverse { (after : Content) (inverse : TheInverse) →
             Redoes self.old (taken.Aborted starter answer members) [] after inverse →
-            result ≡ inverse }
-        ensures moved { moved_of result ≡ 0 }
+            crossing.new ≡ Back inverse }
+        ensures moved { moved_over crossing.new ≡ 0 }
     {
         laws();
         let mut boxed = self.txns.take(starter).unwrap();
@@ -233,7 +271,7 @@ impl Content {
         boxed.txn.end(&mut self.marks, &mut self.owners);
         self.owners.sized();
         boxed.txn.members = members;
-        Inverse::Aborted { boxed, stood }
+        *crossing = Crossing::Back(Inverse::Aborted { boxed, stood });
     }
 }
 

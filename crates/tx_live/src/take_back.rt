@@ -4,8 +4,9 @@ ghost use Rattle.tx_change.specs.Exchange.{undone, AreNamed};
 ghost use Rattle.tx_change.specs.Stacks.{moved_onto};
 ghost use Rattle.tx_change.specs.declared.change.Change.{Change};
 ghost use Rattle.tx_live.specs.Content.{IsShaped};
+ghost use Rattle.tx_live.specs.Crossings.{moved_over, HoldsBack, HoldsForward};
 ghost use Rattle.tx_live.specs.Inverses.{before_outside, first_of, last_of, less_last, step_back, unposted_in, GoesWith, HasStarter, Undoes};
-ghost use Rattle.tx_live.specs.Redone.{moved_by, moved_of, post_in, reposted_in, IsLastOf, IsTakenBack, EndsWhole};
+ghost use Rattle.tx_live.specs.Redone.{post_in, reposted_in, IsLastOf, IsTakenBack, EndsWhole};
 ghost use Rattle.tx_live.specs.declared.content.Content.{Content};
 ghost use Rattle.tx_live.specs.declared.inverse.Inverse.TheVariants.{Aborted, Begun, Committed, Inside, Outside};
 ghost use Rattle.tx_model.specs.State.{Object};
@@ -14,6 +15,7 @@ ghost use Rattle.tx_reserve.specs.Reservations.{owner_of};
 
 use crate::aborts::stands;
 use crate::content::{BoxedTxn, Content};
+use crate::crossing::Crossing;
 use crate::held_posts::take_posts;
 use crate::inverse::Inverse;
 use crate::kept_posts::{KeptPost, TakenPost, take_post};
@@ -22,6 +24,7 @@ use crate::marking::Marked;
 use crate::table::TxnTable;
 use crate::undo::put_mark;
 use crate::undone::Undone;
+use std::mem;
 use tx_base::{Pid, Sending};
 use tx_change::{Change, Log, Parts};
 use tx_proc::Answer;
@@ -29,55 +32,67 @@ use tx_reserve::{Objects, Reservations};
 use tx_txn::Txn;
 
 impl Content {
-    /// Takes the step back whose inverse this is, as `undo` does, and answers what makes it again. The
-    /// changes of a step inside are moved onto the stack, which must have room for them: see
-    /// `Inverse::moved`. It takes no memory and is never refused.
-    pub fn take_back(&mut self, inverse: Inverse, stack: &mut Vec<Change>) -> Undone
-        requires fits { GoesWith self.old inverse }
-        requires room { length stack.old.items + moved_of inverse ≤ vec_capacity stack.old }
-        ensures before { (before : Content) → Undoes self.old inverse before → self.new ≡ before }
-        ensures again { IsShaped self.old → EndsWhole self.old inverse →
-            (before : Content) → IsShaped before → Undoes self.old inverse before →
-            IsTakenBack before result stack.new.items self.old stack.old.items }
-        ensures moved { moved_by result ≡ moved_of inverse }
-        ensures long { length stack.new.items ≡ length stack.old.items + moved_of inverse }
+    /// Takes the step back over which this leads back, as `undo` does, and exchanges it where it stands:
+    /// it leads forward then. The changes of a step inside are moved onto the stack, which must have room
+    /// for them: see `Crossing::moved`. It takes no memory and is never refused.
+    pub fn take_back(&mut self, crossing: &mut Crossing, stack: &mut Vec<Change>)
+        requires fits { HoldsBack crossing.old (GoesWith self.old) }
+        requires room { length stack.old.items + moved_over crossing.old ≤ vec_capacity stack.old }
+        ensures before { (before : Content) →
+            HoldsBack crossing.old (λ inverse. Undoes self.old inverse before) →
+            self.new ≡ before }
+        ensures again { HoldsForward crossing.new (λ undone.
+            IsShaped self.old → HoldsBack crossing.old (EndsWhole self.old) →
+            (before : Content) → IsShaped before →
+            HoldsBack crossing.old (λ inverse. Undoes self.old inverse before) →
+            IsTakenBack before undone stack.new.items self.old stack.old.items) }
+        ensures moved { moved_over crossing.new ≡ moved_over crossing.old }
+        ensures long { length stack.new.items ≡ length stack.old.items + moved_over crossing.old }
         ensures capacity { vec_capacity stack.new ≡ vec_capacity stack.old }
     {
+        let Crossing::Back(inverse) = mem::replace(crossing, Crossing::blank()) else {
+            unreachable!()
+        };
         match inverse {
-            Inverse::Outside { log, post } => self.take_back_outside(log, post),
+            Inverse::Outside { log, post } => self.take_back_outside(log, post, crossing),
             Inverse::Inside {
                 starter,
                 count,
                 before,
                 marked,
                 held,
-            } => self.take_back_inside(starter, count, before, marked, held, stack),
-            Inverse::Begun { starter } => self.take_back_begun(starter),
+            } => self.take_back_inside(starter, count, before, marked, held, crossing, stack),
+            Inverse::Begun { starter } => self.take_back_begun(starter, crossing),
             Inverse::Committed { boxed, count, held } => {
-                self.take_back_committed(boxed, count, held, stack)
+                self.take_back_committed(boxed, count, held, crossing, stack)
             }
-            Inverse::Aborted { boxed, stood } => self.take_back_aborted(boxed, stood),
+            Inverse::Aborted { boxed, stood } => self.take_back_aborted(boxed, stood, crossing),
         }
     }
 
-    /// Takes a step outside of transactions back, and answers what makes it again.
-    fn take_back_outside(&mut self, log: Log, post: Option<KeptPost>) -> Undone
+    /// Takes a step outside of transactions back, and puts what makes it again into its place.
+    pub(crate) fn take_back_outside(
+        &mut self,
+        log: Log,
+        post: Option<KeptPost>,
+        crossing: &mut Crossing,
+    )
         requires { GoesWith self.old (Outside log post) }
         ensures before { self.new ≡ before_outside self.old log post }
-        ensures again { (before : Content) (stack : List Change) →
-            Undoes self.old (Outside log post) before →
-            IsTakenBack before result stack self.old stack }
-        ensures moved { moved_by result ≡ 0 }
+        ensures again { HoldsForward crossing.new (λ undone.
+            (before : Content) (stack : List Change) → Undoes self.old (Outside log post) before →
+            IsTakenBack before undone stack self.old stack) }
+        ensures moved { moved_over crossing.new ≡ 0 }
     {
         laws();
         let mut log = log;
         log.lead_back(&mut self.parts);
         let post = take_post_if(&mut self.txns, post);
-        Undone::Outside { log, post }
+        *crossing = Crossing::Forward(Undone::Outside { log, post });
     }
 
-    /// Takes a step inside of the starter's transaction back, and answers what makes it again with the
-    /// changes that it moves onto the stack.
+    /// Takes a step inside of the starter's transaction back, and puts into its place what makes it again
+    /// with the changes that it moves onto the stack.
     fn take_back_inside(
         &mut self,
         starter: Pid,
@@ -85,16 +100,18 @@ impl Content {
         before: Objects,
         marked: Option<Marked>,
         held: bool,
+        crossing: &mut Crossing,
         stack: &mut Vec<Change>,
-    ) -> Undone
+    )
         requires fits { GoesWith self.old (Inside starter count before marked held) }
         requires room { length stack.old.items + count ≤ vec_capacity stack.old }
         ensures before { (prior : Content) →
             Undoes self.old (Inside starter count before marked held) prior → self.new ≡ prior }
-        ensures again { IsShaped self.old → (prior : Content) →
+        ensures again { HoldsForward crossing.new (λ undone.
+            IsShaped self.old → (prior : Content) →
             Undoes self.old (Inside starter count before marked held) prior →
-            IsTakenBack prior result stack.new.items self.old stack.old.items }
-        ensures moved { moved_by result ≡ count }
+            IsTakenBack prior undone stack.new.items self.old stack.old.items) }
+        ensures moved { moved_over crossing.new ≡ count }
         ensures long { length stack.new.items ≡ length stack.old.items + count }
         ensures capacity { vec_capacity stack.new ≡ vec_capacity stack.old }
     {
@@ -111,25 +128,26 @@ impl Content {
             stack,
         );
         let marked = put_mark(&mut self.marks, marked);
-        Undone::Inside {
+        *crossing = Crossing::Forward(Undone::Inside {
             starter,
             count,
             after,
             marked,
             held: last,
-        }
+        });
     }
 
-    /// Takes the first step of the starter's transaction back, and answers what makes it again, which
-    /// owns the transaction.
-    fn take_back_begun(&mut self, starter: Pid) -> Undone
+    /// Takes the first step of the starter's transaction back, and puts what makes it again into its place,
+    /// which owns the transaction then.
+    pub(crate) fn take_back_begun(&mut self, starter: Pid, crossing: &mut Crossing)
         requires { GoesWith self.old (Begun starter) }
         ensures before { (prior : Content) → Undoes self.old (Begun starter) prior →
             self.new ≡ prior }
-        ensures again { IsShaped self.old → (prior : Content) (stack : List Change) →
+        ensures again { HoldsForward crossing.new (λ undone.
+            IsShaped self.old → (prior : Content) (stack : List Change) →
             Undoes self.old (Begun starter) prior →
-            IsTakenBack prior result stack self.old stack }
-        ensures moved { moved_by result ≡ 0 }
+            IsTakenBack prior undone stack self.old stack) }
+        ensures moved { moved_over crossing.new ≡ 0 }
     {
         laws();
         let mut boxed = self.txns.take(starter).unwrap();
@@ -137,27 +155,29 @@ impl Content {
         self.owners.release(&boxed.txn.objects);
         self.owners.sized();
         let mark = self.marks.take(starter);
-        Undone::Begun { boxed, mark }
+        *crossing = Crossing::Forward(Undone::Begun { boxed, mark });
     }
 
-    /// Takes the commit of this transaction back, and answers what makes it again with the changes that
-    /// it moves onto the stack.
+    /// Takes the commit of this transaction back, and puts into its place what makes it again with the
+    /// changes that it moves onto the stack.
     fn take_back_committed(
         &mut self,
         boxed: BoxedTxn,
         count: usize,
         held: bool,
+        crossing: &mut Crossing,
         stack: &mut Vec<Change>,
-    ) -> Undone
+    )
         requires fits { GoesWith self.old (Committed boxed count held) }
         requires room { length stack.old.items + count ≤ vec_capacity stack.old }
         ensures before { (prior : Content) → Undoes self.old (Committed boxed count held) prior →
             self.new ≡ prior }
-        ensures again { IsShaped self.old → EndsWhole self.old (Committed boxed count held) →
+        ensures again { HoldsForward crossing.new (λ undone.
+            IsShaped self.old → EndsWhole self.old (Committed boxed count held) →
             (prior : Content) → IsShaped prior →
             Undoes self.old (Committed boxed count held) prior →
-            IsTakenBack prior result stack.new.items self.old stack.old.items }
-        ensures moved { moved_by result ≡ count }
+            IsTakenBack prior undone stack.new.items self.old stack.old.items) }
+        ensures moved { moved_over crossing.new ≡ count }
         ensures long { length stack.new.items ≡ length stack.old.items + count }
         ensures capacity { vec_capacity stack.new ≡ vec_capacity stack.old }
     {
@@ -169,34 +189,35 @@ impl Content {
         boxed.txn.revive(&mut self.marks, &mut self.owners);
         self.owners.sized();
         self.txns.put(starter, boxed);
-        Undone::Committed {
+        *crossing = Crossing::Forward(Undone::Committed {
             starter,
             count,
             held: last,
-        }
+        });
     }
 
-    /// Takes the abort of this transaction back, and answers what makes it again.
-    fn take_back_aborted(&mut self, boxed: BoxedTxn, stood: Answer) -> Undone
+    /// Takes the abort of this transaction back, and puts what makes it again into its place.
+    fn take_back_aborted(&mut self, boxed: BoxedTxn, stood: Answer, crossing: &mut Crossing)
         requires { GoesWith self.old (Aborted boxed stood) }
         ensures before { (prior : Content) → Undoes self.old (Aborted boxed stood) prior →
             self.new ≡ prior }
-        ensures again { IsShaped self.old → EndsWhole self.old (Aborted boxed stood) →
+        ensures again { HoldsForward crossing.new (λ undone.
+            IsShaped self.old → EndsWhole self.old (Aborted boxed stood) →
             (prior : Content) (stack : List Change) → IsShaped prior →
             Undoes self.old (Aborted boxed stood) prior →
-            IsTakenBack prior result stack self.old stack }
-        ensures moved { moved_by result ≡ 0 }
+            IsTakenBack prior undone stack self.old stack) }
+        ensures moved { moved_over crossing.new ≡ 0 }
     {
         laws();
         let starter = boxed.txn.starter;
         let members = boxed.txn.members;
         let stands = stands(&self.parts, starter);
         self.undo_aborted(boxed, stood);
-        Undone::Aborted {
+        *crossing = Crossing::Forward(Undone::Aborted {
             starter,
             stands,
             members,
-        }
+        });
     }
 }
 

@@ -12,9 +12,10 @@ ghost use Rattle.tx_reserve.specs.Reservations.{owner_of};
 
 use crate::aborts::stand;
 use crate::content::{BoxedTxn, Content};
+use crate::crossing::Crossing;
 use crate::held_posts::take_posts;
 use crate::inverse::Inverse;
-use crate::kept_posts::{KeptPost, take_post};
+use crate::kept_posts::KeptPost;
 use crate::laws::laws;
 use crate::marking::Marked;
 use tx_base::{Mark, Pid, Slots};
@@ -50,11 +51,8 @@ impl Content {
         requires { GoesWith self.old (Outside log post) }
         ensures { self.new ≡ before_outside self.old log post }
     {
-        let mut log = log;
-        log.lead_back(&mut self.parts);
-        if let Some(post) = post {
-            let _taken = take_post(&mut self.txns, post);
-        }
+        let mut left = Crossing::blank();
+        self.take_back_outside(log, post, &mut left);
     }
 
     /// Takes a step inside of the starter's transaction back.
@@ -88,12 +86,8 @@ impl Content {
         requires { GoesWith self.old (Begun starter) }
         ensures { (prior : Content) → Undoes self.old (Begun starter) prior → self.new ≡ prior }
     {
-        laws();
-        let mut boxed = self.txns.take(starter).unwrap();
-        boxed.txn.log.lead_back(&mut self.parts);
-        self.owners.release(&boxed.txn.objects);
-        self.owners.sized();
-        let _mark = self.marks.take(starter);
+        let mut left = Crossing::blank();
+        self.take_back_begun(starter, &mut left);
     }
 
     /// Takes the commit of this transaction back.

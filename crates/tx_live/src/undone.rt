@@ -1,6 +1,6 @@
 //! What makes a step again that was taken back.
 ghost use Rattle.std.specs.Prelude.{◌≡◌};
-ghost use Rattle.tx_live.specs.Redone.{moved_of};
+ghost use Rattle.tx_live.specs.Redone.{moved_by, moved_of};
 
 use crate::content::BoxedTxn;
 use crate::inverse::Inverse;
@@ -59,6 +59,19 @@ impl Inverse {
         match self {
             Inverse::Inside { count, .. } => *count,
             Inverse::Committed { count, .. } => *count,
+            _ => 0,
+        }
+    }
+}
+
+impl Undone {
+    /// How many changes are taken off the stack where the step is made again.
+    pub fn moved(&self) -> usize
+        ensures { result ≡ moved_by self.now }
+    {
+        match self {
+            Undone::Inside { count, .. } => *count,
+            Undone::Committed { count, .. } => *count,
             _ => 0,
         }
     }

@@ -1,8 +1,8 @@
 //! Walks over the steps of a schedule as commands say, and prints what each command answers.
-ghost use Rattle.std.specs.Prelude.{◌≡◌, ◌≤◌, ◌++◌, [], IfErr, IfOk, OnOk, length, string_bytes};
+ghost use Rattle.std.specs.Prelude.{◌≡◌, ◌≤◌, ◌++◌, [], IfErr, IfOk, OnErr, OnOk, length, string_bytes};
 ghost use Rattle.tx_journal.specs.Entries.{history_of};
 ghost use Rattle.tx_journal.specs.Moved.{moved_at};
-ghost use Rattle.tx_journal.specs.Sessions.{position_of, start_of, IsAtEnd, SameBoot, SameJournal};
+ghost use Rattle.tx_journal.specs.Sessions.{position_of, start_of, IsAtEnd, IsBetween, SameBoot, SameJournal};
 ghost use Rattle.tx_model.specs.Answer.{answer};
 ghost use Rattle.tx_model.specs.Schedules.{history_with, history_of as history_after};
 ghost use Rattle.tx_model.specs.View.{view};
@@ -108,8 +108,10 @@ fn put_answers(
     Ok(())
 }
 
-/// Does what a command says, and appends what it answers.
-fn put_answer(
+/// Does what a command says, and appends what it answers. The only fault is `NoMemory`: the position is
+/// then the old one, or lies between that and the one to which the command leads, and the text may
+/// have some of the answer behind what it had.
+pub fn put_answer(
     alloc: Global,
     text: &mut String,
     session: &mut Session,
@@ -122,6 +124,9 @@ fn put_answer(
     ensures moved { OnOk result
         (position_of session.new
         ≡ position_after (history_of session.old.entries) (position_of session.old) command) }
+    ensures stopped { OnErr result
+        (IsBetween (position_of session.old) (position_of session.new)
+        (position_after (history_of session.old.entries) (position_of session.old) command)) }
     ensures journal { SameJournal session.new session.old }
     ensures fault { IfErr result (λ fault. fault ≡ NoMemory) }
 {
@@ -161,6 +166,10 @@ fn forward(alloc: Global, text: &mut String, session: &mut Session) -> Result<()
         (position_of session.new
         ≡ position_after (history_of session.old.entries) (position_of session.old)
         command.Forward) }
+    ensures stopped { OnErr result
+        (IsBetween (position_of session.old) (position_of session.new)
+        (position_after (history_of session.old.entries) (position_of session.old)
+        command.Forward)) }
     ensures journal { SameJournal session.new session.old }
     ensures fault { IfErr result (λ fault. fault ≡ NoMemory) }
 {
@@ -182,6 +191,10 @@ fn goto(alloc: Global, text: &mut String, session: &mut Session, position: u64) 
         (position_of session.new
         ≡ position_after (history_of session.old.entries) (position_of session.old)
         (command.Goto position)) }
+    ensures stopped { OnErr result
+        (IsBetween (position_of session.old) (position_of session.new)
+        (position_after (history_of session.old.entries) (position_of session.old)
+        (command.Goto position))) }
     ensures journal { SameJournal session.new session.old }
     ensures fault { IfErr result (λ fault. fault ≡ NoMemory) }
 {
@@ -197,10 +210,11 @@ fn goto(alloc: Global, text: &mut String, session: &mut Session, position: u64) 
 fn put_position(text: &mut String, session: &Session) -> Result<(), AllocError>
     ensures text { OnOk result
         (string_bytes text.new ≡ string_bytes text.old ++ position_text (position_of session.now)) }
-    ensures inside { OnOk result (position_of session.now ≤ length session.now.entries) }
+    ensures inside { position_of session.now ≤ length session.now.entries }
 {
+    let position = session.position();
     put(text, "at ")?;
-    put_count(text, session.position() as u64)?;
+    put_count(text, position as u64)?;
     put(text, "\n")
 }
 

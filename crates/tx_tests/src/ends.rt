@@ -5,17 +5,21 @@ use std::alloc::Global;
 use std::io::{Error, ErrorKind, Read, Result, Write};
 use std::result;
 use std::test::Fail;
+use tx_check::check;
 use tx_journal::Session;
 use tx_lines::{Fault, OverRead, OverWrite, read_program, read_schedule};
+use tx_plain::write_plain;
 use tx_script::{debug, replay};
 use tx_workers::write_run;
 
-/// A reader that is interrupted so often, then gives some bytes, and then ends or fails.
+/// A reader that is interrupted so often, then gives some bytes, so many at a time, and then ends
+/// or fails.
 #[derive(Drop)]
-pub(crate) struct Given<'a> {
-    pub(crate) interruptions: u32,
-    pub(crate) bytes: &'a [u8],
-    pub(crate) fails: bool,
+struct Given<'a> {
+    interruptions: u32,
+    step: usize,
+    bytes: &'a [u8],
+    fails: bool,
 }
 
 impl Read for Given<'_> {
@@ -27,7 +31,7 @@ impl Read for Given<'_> {
         if self.bytes.is_empty() && self.fails {
             return Err(Error::from(ErrorKind::BrokenPipe));
         }
-        let count = self.bytes.len().min(room.len());
+        let count = self.bytes.len().min(self.step).min(room.len());
         room[..count].copy_from_slice(&self.bytes[..count]);
         self.bytes = &self.bytes[count..];
         Ok(count)
@@ -37,11 +41,11 @@ impl Read for Given<'_> {
 /// A writer that is interrupted so often, then takes so many bytes at a time, and fails once it
 /// has taken so many in all.
 #[derive(Drop)]
-pub(crate) struct Taking<'a> {
-    pub(crate) interruptions: u32,
-    pub(crate) step: usize,
-    pub(crate) room: usize,
-    pub(crate) taken: &'a mut Vec<u8>,
+struct Taking<'a> {
+    interruptions: u32,
+    step: usize,
+    room: usize,
+    taken: &'a mut Vec<u8>,
 }
 
 impl Write for Taking<'_> {
@@ -69,6 +73,8 @@ impl Write for Taking<'_> {
 enum Command {
     Replay,
     Debug,
+    Check,
+    Plain,
 }
 
 /// How often a writer is interrupted, how many bytes it takes at a time, and how many in all.
@@ -96,6 +102,11 @@ fn answer(
     let answered = match command {
         Command::Replay => replay(alloc, &mut source, &mut sink),
         Command::Debug => debug(alloc, &mut source, &mut sink),
+        Command::Check => match check(alloc, &mut source, &mut sink) {
+            Ok(_is_read) => Ok(()),
+            Err(fault) => Err(fault),
+        },
+        Command::Plain => write_plain(alloc, &mut source, &mut sink),
     };
     (answered, taken)
 }
@@ -105,6 +116,7 @@ fn reader_of(text: &str, count: usize, fails: bool) -> Given<'_> {
     let bytes = text.as_bytes();
     Given {
         interruptions: 0,
+        step: 10_000,
         bytes: &bytes[..count.min(bytes.len())],
         fails,
     }
@@ -122,9 +134,29 @@ const WALK: (&str, &str) = (
     "at 3\nstate\nproc 1 parent 0 run point 0 ret 0\nproc 2 parent 1 run point 3 ret 0\npage 0 rw 5=41\ntxn 2 open 2 ended -\nat 4\nno end\nat 0\nno start\nno place\n",
 );
 
+/// A text with two lines at fault, and what is told of them.
+const WRONG: (&str, &str) = (
+    "txos 1 schedule 2\n1 mpa 0\n1 map 0\n1 load\n",
+    "line 2, column 3: no such call: mpa; did you mean map?\nline 4, column 3: load takes A; got 0 words\n",
+);
+
+/// A text of version 3, and the text of version 2 that it means.
+const PEOPLE: (&str, &str) = (
+    "# a note\r\n\ntxos 3 schedule 2\n\t1 store 0 \"a#\\n\" # more\n1 kill 2 USR1",
+    "txos 2 schedule 2\n1 store 0 61230a\n1 kill 2 10\n",
+);
+
+/// Each command, with a text and what it writes of it.
+const ANSWERED: [(Command, (&str, &str)); 4] = [
+    (Command::Replay, ROW),
+    (Command::Debug, WALK),
+    (Command::Check, WRONG),
+    (Command::Plain, PEOPLE),
+];
+
 #[test]
 fn readers_fail_after_each_byte(rt: HostRuntime) {
-    for (command, (text, _)) in [(Command::Replay, ROW), (Command::Debug, WALK)] {
+    for (command, (text, _)) in ANSWERED {
         for count in 0..text.len() {
             let reader = reader_of(text, count, true);
             let (answered, taken) = answer(rt.alloc(), command, reader, ALL);
@@ -160,7 +192,7 @@ fn write_into(
 
 #[test]
 fn writers_fail_after_each_byte(rt: HostRuntime) -> result::Result<(), Fail> {
-    for (command, (text, told)) in [(Command::Replay, ROW), (Command::Debug, WALK)] {
+    for (command, (text, told)) in ANSWERED {
         for room in 0..told.len() {
             let reader = reader_of(text, text.len(), false);
             let (answered, taken) = answer(rt.alloc(), command, reader, (0, room, room));
@@ -178,28 +210,32 @@ fn writers_fail_after_each_byte(rt: HostRuntime) -> result::Result<(), Fail> {
     Ok(())
 }
 
-/// What the debugger answers to a reader that is interrupted so often, and what it writes.
-fn answer_interrupted(
-    alloc: Global,
-    interruptions: u32,
-    limits: Limits,
-) -> (result::Result<(), Fault>, Vec<u8>) {
-    let mut reader = reader_of(WALK.0, WALK.0.len(), false);
-    reader.interruptions = interruptions;
-    answer(alloc, Command::Debug, reader, limits)
+/// A reader of a text that is interrupted so often, and then gives a byte at a time.
+fn interrupted(text: &str, interruptions: u32) -> Given<'_> {
+    Given {
+        interruptions,
+        step: 1,
+        bytes: text.as_bytes(),
+        fails: false,
+    }
 }
 
 #[test]
 fn ends_may_be_interrupted_a_thousand_times(rt: HostRuntime) {
-    let (answered, taken) = answer_interrupted(rt.alloc(), 1000, (1000, 1, 10_000));
-    assert!(rt; answered == Ok(()) && taken.as_slice() == WALK.1.as_bytes());
-    let (answered, taken) = answer_interrupted(rt.alloc(), 1001, ALL);
-    assert!(rt; answered == Err(Fault::Reader) && taken.is_empty());
-    let (answered, taken) = answer_interrupted(rt.alloc(), 0, (1001, 1, 10_000));
-    assert!(rt; answered == Err(Fault::Writer) && taken.is_empty());
-    let (answered, taken) = answer_interrupted(rt.alloc(), 0, (0, 0, 10_000));
-    assert!(rt;
-        answered == Err(Fault::Writer) && taken.is_empty(),
-        "no byte is taken"
-    );
+    for (command, (text, told)) in ANSWERED {
+        let reader = interrupted(text, 1000);
+        let (answered, taken) = answer(rt.alloc(), command, reader, (1000, 1, 10_000));
+        assert!(rt; answered == Ok(()) && taken.as_slice() == told.as_bytes());
+        let (answered, taken) = answer(rt.alloc(), command, interrupted(text, 1001), ALL);
+        assert!(rt; answered == Err(Fault::Reader) && taken.is_empty());
+        let reader = interrupted(text, 0);
+        let (answered, taken) = answer(rt.alloc(), command, reader, (1001, 1, 10_000));
+        assert!(rt; answered == Err(Fault::Writer) && taken.is_empty());
+        let reader = interrupted(text, 0);
+        let (answered, taken) = answer(rt.alloc(), command, reader, (0, 0, 10_000));
+        assert!(rt;
+            answered == Err(Fault::Writer) && taken.is_empty(),
+            "no byte is taken"
+        );
+    }
 }

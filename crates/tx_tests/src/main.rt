@@ -45,6 +45,8 @@ mod schedules;
 #[cfg(test)]
 mod sessions;
 #[cfg(test)]
+mod shells;
+#[cfg(test)]
 mod signals;
 #[cfg(test)]
 mod texts;

@@ -136,7 +136,9 @@ fn words_are_meant_for_others(rt: HostRuntime) -> Result<(), Fail> {
 #[test]
 fn words_are_listed(rt: HostRuntime) {
     assert!(rt;
-        listing().starts_with("commands of txos\n  replay debug run check plain explain version\n")
+        listing().starts_with(
+            "commands of txos\n  replay debug shell run check plain explain version\n"
+        )
     );
     assert!(rt;
         listing().contains("\n  kill sigqueue sigaction sigprocmask sigpending sigreturn\n")

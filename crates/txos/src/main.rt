@@ -1,8 +1,8 @@
 //! The program: reads its words, and then a text.
 //!
-//! The program. `main` is thin: it reads the words with `clap`, calls `replay`, `debug`,
-//! `run_program`, `check` or `write_plain` over the standard streams, or writes what a word means, and answers a
-//! status.
+//! The program. `main` is thin: it reads the words with `clap`, calls `replay`, `debug`, `talk`,
+//! `run_program`, `check` or `write_plain` over the standard streams, or writes what a word means,
+//! and answers a status.
 #![tactic(auto)]
 
 ghost use Rattle.std.specs.Prelude.{◌≡◌, IfOk, OnErr, OnOk, false, true};
@@ -14,6 +14,7 @@ mod words;
 use clap::error::ErrorKind;
 use std::alloc::Global;
 use std::fmt::Display;
+use std::io::{BufRead, IsTerminal, Write};
 use std::process::ExitCode;
 use std::sync::Wait;
 use std::thread::Threads;
@@ -23,8 +24,9 @@ use tx_explain::{explain, listing, nearest};
 use tx_lines::{Fault, OverRead, OverWrite, Sink, Source, write_whole};
 use tx_plain::write_plain;
 use tx_script::{debug, replay};
+use tx_shell::{Console, Shell, TalkFault, talk};
 use tx_workers::run_program;
-use words::{Asked, Crew, VERSION_LINE, number_asked, read_words};
+use words::{Asked, Crew, VERSION_LINES, number_asked, read_words};
 
 /// The status of a fault.
 const FAULTY: u8 = 1;
@@ -54,7 +56,9 @@ fn main(rt: HostRuntime) -> ExitCode {
         Ok(asked) => {
             let mut source = OverRead::new(rt.reader());
             let mut sink = OverWrite::new(io::writer(&rt));
-            answer(&rt, rt.alloc(), asked, &mut source, &mut sink)
+            let prompts = is_before_person(&rt);
+            let mut console = Console::new(rt.reader(), io::writer(&rt), prompts);
+            answer(&rt, rt.alloc(), asked, &mut source, &mut sink, &mut console)
         }
         Err(error) => {
             if error.kind() == ErrorKind::OutOfMemory {
@@ -66,32 +70,56 @@ fn main(rt: HostRuntime) -> ExitCode {
     }
 }
 
-/// Answers the text of a source.
-fn answer<R, S, W>(
+/// Whether a person is at both standard streams, as far as the system can say.
+fn is_before_person(rt: &HostRuntime) -> bool {
+    rt.stdin().is_terminal() && rt.stdout().is_terminal()
+}
+
+/// Answers the text of a source, or the lines of a console.
+fn answer<R, S, W, I, O>(
     rt: &R,
     alloc: Global,
     asked: Asked<'_>,
     source: &mut S,
     sink: &mut W,
+    console: &mut Console<I, O>,
 ) -> ExitCode
 where
     R: Eprint + Threads + Wait + Sync,
     S: Source,
     W: Sink,
+    I: BufRead + Drop,
+    O: Write + Drop,
     requires source { IsFresh (S.counts source.old) }
     requires sink { IsFresh (W.counts sink.old) }
 {
     match asked {
         Asked::Replay => status_of(rt, replay(alloc, source, sink)),
         Asked::Debug => status_of(rt, debug(alloc, source, sink)),
+        Asked::Shell => status_of(rt, converse(alloc, console)),
         Asked::Run(Crew { workers, turns }) => {
             status_of(rt, run_program(rt, alloc, source, sink, workers, turns))
         }
         Asked::Check => status_of_check(rt, check(alloc, source, sink)),
         Asked::Plain => status_of(rt, write_plain(alloc, source, sink)),
         Asked::Explain(word) => tell(rt, alloc, word, sink),
-        Asked::Version => status_of(rt, write_whole(sink, VERSION_LINE.as_bytes())),
+        Asked::Version => status_of(rt, write_whole(sink, VERSION_LINES.as_bytes())),
     }
+}
+
+/// Answers the lines of a console.
+fn converse<I, O>(alloc: Global, console: &mut Console<I, O>) -> Result<(), TalkFault>
+where
+    I: BufRead + Drop,
+    O: Write + Drop,
+{
+    let Ok(mut shell) = Shell::new(alloc) else {
+        return Err(TalkFault::NoMemory);
+    };
+    if !console.greet() {
+        return Err(TalkFault::Writer);
+    }
+    talk(alloc, &mut shell, console)
 }
 
 /// Writes what a word means, or without one the list of all words. A word that is not explained is

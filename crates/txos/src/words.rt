@@ -13,8 +13,9 @@ use std::alloc::{AllocError, Global};
 /// The version of the program.
 const VERSION: &str = "1.0.0";
 
-/// The line that tells the version, as clap writes it.
-pub const VERSION_LINE: &str = "txos 1.0.0\n";
+/// What tells the version: the line that clap writes, and the kits in whose logic the program is
+/// proved.
+pub const VERSION_LINES: &str = "txos 1.0.0\nrattle-kit-13b and 13f, logic dac8208d650f15bf\n";
 
 /// What the program is asked to do.
 #[derive(Clone, Copy)]
@@ -23,6 +24,8 @@ pub enum Asked<'a> {
     Replay,
     /// To read a schedule and commands, and write what each command answers.
     Debug,
+    /// To read steps and commands line by line, and answer each before the next.
+    Shell,
     /// To read a program, run it by workers, and write what they did.
     Run(Crew),
     /// To read a text, and write what is wrong with each of its lines that is at fault.
@@ -31,7 +34,7 @@ pub enum Asked<'a> {
     Plain,
     /// To write what a word means, or the list of all words.
     Explain(Option<&'a str>),
-    /// To write the version.
+    /// To write the version, and the kit's.
     Version,
 }
 
@@ -55,6 +58,7 @@ pub fn read_words<'a>(alloc: Global, words: &'a [String]) -> Result<Asked<'a>, E
     match matches.subcommand_name() {
         Some("replay") => Ok(Asked::Replay),
         Some("debug") => Ok(Asked::Debug),
+        Some("shell") => Ok(Asked::Shell),
         Some("run") => Ok(Asked::Run(crew_of(&matches)?)),
         Some("check") => Ok(Asked::Check),
         Some("plain") => Ok(Asked::Plain),
@@ -117,6 +121,7 @@ fn new_command<'a>(alloc: Global) -> Result<Command<'a>, AllocError>
     let command = top_command(alloc)
         .subcommand(text_command(alloc, "replay", REPLAY)?)?
         .subcommand(text_command(alloc, "debug", DEBUG)?)?
+        .subcommand(text_command(alloc, "shell", SHELL)?)?
         .subcommand(run_command(alloc)?)?
         .subcommand(text_command(alloc, "check", CHECK)?)?
         .subcommand(text_command(alloc, "plain", PLAIN)?)?
@@ -150,6 +155,11 @@ const REPLAY: Told = Told {
 const DEBUG: Told = Told {
     about: "Reads a schedule and commands from standard input, and walks back and forward",
     example: "Example: txos debug < examples/commit_and_abort.walk",
+};
+
+const SHELL: Told = Told {
+    about: "Reads steps and commands, and answers each line before it reads the next",
+    example: "Example: txos shell",
 };
 
 const RUN: Told = Told {

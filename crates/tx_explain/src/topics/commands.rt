@@ -14,7 +14,7 @@ pub fn topics() -> &'static [Topic]
     &TOPICS
 }
 
-const TOPICS: [Topic; 7] = [
+const TOPICS: [Topic; 8] = [
     Topic {
         word: "replay",
         also: &[],
@@ -35,9 +35,22 @@ replay: makes the steps of a schedule, and writes their replies and the state.
 debug: walks back and forward over the steps of a schedule, as commands say.
   form     txos debug < TEXT
   TEXT     a schedule, the line debug, and a command a line: back, forward,
-           goto K, state, or in version 2 moved K; 4096 commands at most
+           goto K, state, moved K (not in version 1); 4096 commands at most
   writes   what each command answers; not the replies to the steps
   example  txos debug < examples/commit_and_abort.walk
+",
+    },
+    Topic {
+        word: "shell",
+        also: &["cut", "steps", "without", "quit"],
+        text: "\
+shell: answers steps and commands, each line before it reads the next.
+  form     txos shell
+  lines    a step of a schedule; back, forward, goto K, state, moved K as debug
+           has them; goto end, steps, steps K, steps K L, text, without S, cut,
+           help, help WORD, quit; and before all others a header, if any
+  writes   the reply, the answer, or what is wrong with the line
+  example  txos shell
 ",
     },
     Topic {

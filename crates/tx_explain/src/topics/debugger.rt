@@ -58,7 +58,7 @@ state: prints the state, and stays.
         also: &["one", "many"],
         text: "\
 moved: asks whether a transaction may be thought of as done at once; it stays.
-  form     moved K, in texts of version 2 alone
+  form     moved K, not in texts of version 1
   K        a number from 0: the accepted step that commits the transaction
   answers  moved one LIST or moved many LIST of the transaction that step K
            commits, or no commit where it commits none

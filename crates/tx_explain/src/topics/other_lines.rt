@@ -63,7 +63,7 @@ open: open LIST: the members of a transaction whose part is open.
         also: &[],
         text: "\
 defer: the transaction defers deliveries to its members (N14), but of signal 9.
-  form     P sys_xbegin defer, in texts of version 2 alone
+  form     P sys_xbegin defer, not in texts of version 1
 ",
     },
     Topic {

@@ -20,8 +20,8 @@ const TOPICS: [Topic; 14] = [
         also: &["NoProcess"],
         text: "\
 N1: there is no process of that number (NoProcess).
-  It is the number at the front of the line: 1 to 64, in a text of version 2 1
-  to 256, of a process that was there at the start or was forked, and is not
+  It is the number at the front of the line: 1 to 256, in a text of version 1
+  to 64, of a process that was there at the start or was forked, and is not
   gone again by a waitpid or an abort.
 ",
     },
@@ -39,7 +39,7 @@ N2: the process of the step: it has ended (NotRunning).
         text: "\
 N3: a number that the step chooses is out of range, or both descriptions of a
 pipe have one number (BadNumber).
-  fork C: C is 1 to 64, in a text of version 2 1 to 256.
+  fork C: C is 1 to 256, in version 1 to 64.
   pipe Q R W: Q is 0 to 31, R and W are 0 to 63, and R is not W.
 ",
     },

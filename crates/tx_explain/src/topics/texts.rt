@@ -14,16 +14,28 @@ pub fn topics() -> &'static [Topic]
     &TOPICS
 }
 
-const TOPICS: [Topic; 8] = [
+const TOPICS: [Topic; 9] = [
     Topic {
         word: "txos",
         also: &[],
         text: "\
 txos: the first word of a text, and then its version, its kind and a number.
-  form     txos 1 schedule N, txos 1 program N: N from 1 to 64
+  form     txos 3 schedule N, txos 3 program N: N from 1 to 256
            txos 2 schedule N, txos 2 program N: N from 1 to 256
+           txos 1 schedule N, txos 1 program N: N from 1 to 64
   N        how many processes there are at the start; their numbers are 1 to N
-  Version 2 has process numbers to 256, sys_xbegin defer, and moved K.
+  Version 3 is for people: it has comments, blank lines, strings and names of
+  signals. Version 1 has no process above 64, no sys_xbegin defer, no moved K.
+",
+    },
+    Topic {
+        word: "comment",
+        also: &["blank"],
+        text: "\
+comment: in a text of version 3, # and what follows it in its line.
+  example  2 map 0   # the first page
+  A line without a word is left out. Spaces and tabs part words, any number of
+  them, and a line may end with CR LF, or where the text ends.
 ",
     },
     Topic {
@@ -31,7 +43,7 @@ txos: the first word of a text, and then its version, its kind and a number.
         also: &["step"],
         text: "\
 schedule: a text that says which process makes which step when.
-  form     txos 1 schedule N, or txos 2 schedule N, and then a step a line
+  form     txos 3 schedule N, and then a step a line
   A step is a call with its process before it, P deliver S, or kernel P. There
   may be 4096 steps.
 ",
@@ -41,8 +53,7 @@ schedule: a text that says which process makes which step when.
         also: &["instruction"],
         text: "\
 program: a text that says what each process does; all run the same.
-  form     txos 1 program N, or txos 2 program N, and then an instruction or a
-           label a line
+  form     txos 3 program N, and then an instruction or a label a line
   An instruction is a call without its process; fork and pipe stand alone, an
   A, F, G, T or V may be $0 to $7, and a POINT is @NAME. There may be 1024
   instructions, which count from 0, and 256 labels.
@@ -71,10 +82,12 @@ number: 0, or digits of which the first is not 0, with - before a negative one.
     },
     Topic {
         word: "hex",
-        also: &["bytes"],
+        also: &["bytes", "string"],
         text: "\
 hex: bytes of two lower-case hex digits each: 6869 is \"hi\".
-  A store takes 1 to 64.
+  A store takes 1 to 64. In a text of version 3 they may have 0x before them
+  and digits of either case, or be a string: \"hi\\n\". In a string \\n, \\t, \\0,
+  \\\" and \\\\ are the bytes 10, 9, 0, 34 and 92.
 ",
     },
     Topic {
@@ -83,7 +96,8 @@ hex: bytes of two lower-case hex digits each: 6869 is \"hi\".
         text: "\
 set: signals: - for none, or known numbers, rising and joined by a comma.
   example  10,12,34
-  In sigprocmask set SET it is the new mask.
+  In sigprocmask set SET it is the new mask. A text of version 3 may have names
+  in it, and any order: TERM,INT,34.
 ",
     },
     Topic {
@@ -93,6 +107,7 @@ set: signals: - for none, or known numbers, rising and joined by a comma.
 signal: a known number, or 0 in kill and sigqueue, which only asks.
   HUP 1, INT 2, QUIT 3, ABRT 6, KILL 9, USR1 10, USR2 12, PIPE 13, ALRM 14,
   TERM 15, CHLD 17, and the realtime numbers 32 to 39
+  A text of version 3 may have the name for the number: USR1 or SIGUSR1.
   The usual action of 17 is to be ignored, that of all others to end the
   process. KILL is never caught, ignored or blocked. A realtime signal is
   queued, with its value; any other is pending once. To process 1 no signal

@@ -21,7 +21,7 @@ const TOPICS: [Topic; 5] = [
         text: "\
 fork: makes the child C, a copy of the caller without its pending signals.
   form     P fork C; in a program fork alone, of the least free number
-  C        the child, 1 to 64, in a text of version 2 1 to 256
+  C        the child, 1 to 256, in version 1 to 64
   N3       it is out of range
   N4       it is in use
   else     the child's number; the child's own answer is 0, and both stand at

@@ -21,7 +21,7 @@ const TOPICS: [Topic; 6] = [
         text: "\
 kill: sends process T the signal V, as sigqueue does with the value 0.
   form     P kill T V
-  T        the target, 1 to 64, in a text of version 2 1 to 256
+  T        the target, 1 to 256, in version 1 to 64
   V        the signal: 0, which only asks, or a known one (txos explain signal)
   EINVAL   the signal is neither 0 nor known
   ESRCH    T is no process number
@@ -45,7 +45,7 @@ kill: sends process T the signal V, as sigqueue does with the value 0.
         text: "\
 sigqueue: sends process T the signal, with a value.
   form     P sigqueue T V V
-  T        the target, 1 to 64, in a text of version 2 1 to 256
+  T        the target, 1 to 256, in version 1 to 64
   V V      the signal: 0, which only asks, or a known one (txos explain
            signal); and the value, any number, which a realtime signal brings
            along

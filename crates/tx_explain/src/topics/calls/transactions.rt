@@ -22,7 +22,7 @@ const TOPICS: [Topic; 3] = [
 sys_xbegin: begins a transaction; with defer one that defers deliveries to its
 members.
   form     P sys_xbegin, P sys_xbegin defer
-           the second in texts of version 2 alone
+           the second not in texts of version 1
   EINVAL   inside a transaction
   else     0; when the transaction is aborted, this call has answered the
            status instead, as a negative number: -201, -202 or -203

@@ -31,5 +31,5 @@ returns-clause-added c =
     = c.push.ensures.entries ∙ ap (λ (n : ℕ). c.args.journal.now.entries.items ++ record { step = KernelAbort c.args.starter; worker = c.args.worker; reply = Aborted n } ∷ []) c.in-Some.ensures.status in
     abort_added c.laws.ensures c.args.machine.now c.kernel_abort.new.self c.args.journal.now c.args.starter status c.in_ok-inverse.inverse
     c.requires.sound c.requires.at_end c.requires.counted (c.in-Some.ensures.live.0 refl) c.in_ok-inverse.ensures.ok
-    entry (record { entries = c.push.new.self.entries; inverses = c.push.new.self.inverses; live = c.push.new.self.live - 1 }) c.in_ok-inverse.ensures.back items c.push.ensures.inverses c.push.ensures.room c.push.ensures.places
+    entry (record { entries = c.push.new.self.entries; crossings = c.push.new.self.crossings; live = c.push.new.self.live - 1 }) c.in_ok-inverse.ensures.back items c.push.ensures.inverses c.push.ensures.undone c.push.ensures.room c.push.ensures.places
     (ap (λ (n : ℕ). n - 1) c.push.ensures.live)

@@ -27,6 +27,6 @@ returns-clause-added c made =
     let same : pushed ≡ entry = λ j. record { step = c.copy.ensures j; worker = c.args.worker; reply = c.copy-2.ensures j } in
     added c.laws.ensures c.args.machine.now c.step_into.new.self c.args.journal.now c.args.step.now c.step_into.new.reply c.step_into.new.inverse c.requires.sound c.requires.at_end c.requires.counted c.requires.ready
     (c.step_into.ensures.accepted c.if-not-step_into.false) c.starter_of-starter.result.0 c.is_live-was.result c.is_live-is.result c.starter_of-starter.ensures c.is_live-was.ensures c.is_live-is.ensures
-    entry (record { entries = c.push.new.self.entries; inverses = c.push.new.self.inverses; live = c.live_after-journal.result }) (c.step_into.ensures.back c.if-not-step_into.false)
-    (c.push.ensures.entries ∙ ap (λ (e : Entry). c.args.journal.now.entries.items ++ e ∷ []) same) c.push.ensures.inverses c.push.ensures.room c.push.ensures.places
+    entry (record { entries = c.push.new.self.entries; crossings = c.push.new.self.crossings; live = c.live_after-journal.result }) (c.step_into.ensures.back c.if-not-step_into.false)
+    (c.push.ensures.entries ∙ ap (λ (e : Entry). c.args.journal.now.entries.items ++ e ∷ []) same) c.push.ensures.inverses c.push.ensures.undone c.push.ensures.room c.push.ensures.places
     (c.live_after-journal.ensures ∙ ap (λ (n : ℕ). n + one_if c.is_live-is.result) c.push.ensures.live)

@@ -8,7 +8,7 @@ pub returns-in_ok-put_position-in-Ok-clause-text : goal.returns-in_ok-put_positi
 returns-in_ok-put_position-in-Ok-clause-text c =
     let old = c.args.session.now in
     let new = c.forward.new.self in
-    let can = can_go_forward old new c.in-Ok.ensures.moved c.in-Ok.ensures.journal c.in_ok-put_position-in-Ok.ensures.inside in
+    let can = can_go_forward old new c.in-Ok.ensures.moved c.in-Ok.ensures.journal c.put_position.ensures.inside in
     c.in_ok-put_position-in-Ok.ensures.text
     ∙ ap (λ (t : List ℕ). string_bytes c.args.text.now ++ t) (went_forward (start_of old) (history_of old.entries) (position_of old) (position_of new) c.in-Ok.ensures.moved can).0
 
@@ -16,5 +16,5 @@ pub returns-in_ok-put_position-in-Ok-clause-moved : goal.returns-in_ok-put_posit
 returns-in_ok-put_position-in-Ok-clause-moved c =
     let old = c.args.session.now in
     let new = c.forward.new.self in
-    let can = can_go_forward old new c.in-Ok.ensures.moved c.in-Ok.ensures.journal c.in_ok-put_position-in-Ok.ensures.inside in
+    let can = can_go_forward old new c.in-Ok.ensures.moved c.in-Ok.ensures.journal c.put_position.ensures.inside in
     (went_forward (start_of old) (history_of old.entries) (position_of old) (position_of new) c.in-Ok.ensures.moved can).1

@@ -8,6 +8,9 @@ returns-in-Some-replay-clause-reads c = no_fault _ _ c.in_ok-command.ensures c.i
 pub returns-in-Some-debug-clause-reads : goal.returns-in-Some-debug-clause-reads
 returns-in-Some-debug-clause-reads c = no_fault _ _ c.in_ok-command.ensures c.in_ok-matches.ensures.kinds
 
+pub returns-in-Some-shell-clause-reads : goal.returns-in-Some-shell-clause-reads
+returns-in-Some-shell-clause-reads c = no_fault _ _ c.in_ok-command.ensures c.in_ok-matches.ensures.kinds
+
 pub returns-in-Some-run-clause-reads : goal.returns-in-Some-run-clause-reads
 returns-in-Some-run-clause-reads c = no_fault _ _ c.in_ok-command.ensures c.in_ok-matches.ensures.kinds
 
@@ -27,6 +30,12 @@ pub returns-in_err-matches-clause-reads : goal.returns-in_err-matches-clause-rea
 returns-in_err-matches-clause-reads c =
     let kind = fault_kind _ _ c.in_err-matches.field-0.0 c.in_ok-command.ensures c.in_err-matches.ensures.kinds in
     search (rules, kind)
+
+pub returns-in-Some-check-clause-asked : goal.returns-in-Some-check-clause-asked
+returns-in-Some-check-clause-asked c =
+    let name : c.in-Some-check.field-0.now ≡ codes "check" = search rules in
+    parse_names _ _ _ c.in_ok-command.ensures c.in_ok-matches.ensures.matches ∙ sym c.subcommand_name.ensures
+    ∙ ap (option_map (λ (s : Bor (List ℕ)). s.now)) c.in-Some-check.is ∙ ap (λ (t : List ℕ). Some t) name
 
 pub returns-in-Some-explain-clause-asked : goal.returns-in-Some-explain-clause-asked
 returns-in-Some-explain-clause-asked c =
@@ -53,16 +62,19 @@ unreachable-requires c =
             | inr two ↦ elim two [
               | inl debug ↦ absurd (w.in_default.not-debug (search (rules, debug)))
               | inr three ↦ elim three [
-                | inl run ↦ absurd (w.in_default.not-run (search (rules, run)))
+                | inl shell ↦ absurd (w.in_default.not-shell (search (rules, shell)))
                 | inr four ↦ elim four [
-                  | inl check ↦ absurd (w.in_default.not-check (search (rules, check)))
+                  | inl run ↦ absurd (w.in_default.not-run (search (rules, run)))
                   | inr five ↦ elim five [
-                    | inl plain ↦ absurd (w.in_default.not-plain (search (rules, plain)))
+                    | inl check ↦ absurd (w.in_default.not-check (search (rules, check)))
                     | inr six ↦ elim six [
-                      | inl explain ↦ absurd (w.in_default.not-explain (search (rules, explain)))
+                      | inl plain ↦ absurd (w.in_default.not-plain (search (rules, plain)))
                       | inr seven ↦ elim seven [
-                        | inl version ↦ absurd (w.in_default.not-version (search (rules, version)))
-                        | inr none ↦ none
+                        | inl explain ↦ absurd (w.in_default.not-explain (search (rules, explain)))
+                        | inr eight ↦ elim eight [
+                          | inl version ↦ absurd (w.in_default.not-version (search (rules, version)))
+                          | inr none ↦ none
+                        ]
                       ]
                     ]
                   ]

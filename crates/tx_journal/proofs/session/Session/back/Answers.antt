@@ -1,23 +1,18 @@
-use Rattle.std.proofs.Common.{ℕ, ◌+◌, ◌≤◌, length, sym, subst}
-use Rattle.tx_journal.proofs.Aheads.{ahead_less}
-use Rattle.tx_journal.proofs.Walked.{ends_whole, journal_less, leads_back}
-use Rattle.tx_journal.specs.Sessions.{session_state, SessionState}
+use Rattle.std.proofs.Common.{◌≡◌, ◌+◌, length, subst, OnOk}
+use Rattle.tx_journal.proofs.Moves.{back_moved, went_back}
+use Rattle.tx_journal.proofs.Walked.{leads_back}
+use Rattle.tx_journal.specs.Sessions.{position_of, session_state, SessionState}
 use Rattle.tx_journal.proofs.session.Session.back.Goals as goal
 
-pub take_back-requires : goal.take_back-requires
-take_back-requires c =
-    leads_back (session_state c.self.inside.machine c.self.inside.journal c.self.inside.width c.self.inside.count) c.self.invariant.0 c.pop.new.self.items c.in-Some.inverse c.in-Some.ensures.items
+pub back-requires : goal.back-requires
+back-requires c = record { leads = leads_back (session_state c.self.inside.machine c.self.inside.journal c.self.inside.width c.self.inside.count) c.self.invariant.0 }
 
-pub invariant_of-self-2 : goal.invariant_of-self-2
-invariant_of-self-2 c =
-    let k : SessionState = session_state c.self.inside.machine c.self.inside.journal c.self.inside.width c.self.inside.count in (
-      journal_less k c.self.invariant.0 c.pop.new.self.items c.in-Some.inverse c.in-Some.ensures.items c.take_back.new.machine c.take_back.ensures.before,
-      record {
-        counted = c.self.invariant.1.counted;
-        entries = c.self.invariant.1.entries;
-        inverses = subst (λ (n : ℕ). length c.self.inside.journal.entries.items + c.self.inside.journal.live ≤ n) (sym c.in-Some.ensures.capacity) c.self.invariant.1.inverses;
-      },
-      ahead_less k c.self.invariant.0 c.pop.new.self.items c.in-Some.inverse c.in-Some.ensures.items c.take_back.new.machine c.self.inside.ahead.undone.items c.take_back.new.self.undone.items
-          c.self.inside.ahead.stack.items c.take_back.new.self.stack.items c.take_back.ensures.machine c.self.invariant.2
-          (c.take_back.ensures.kept (ends_whole k c.self.invariant.0 c.pop.new.self.items c.in-Some.inverse c.in-Some.ensures.items)),
-    )
+pub invariant_of-self : goal.invariant_of-self
+invariant_of-self c =
+    went_back c.self.inside.machine c.self.inside.journal c.self.inside.width c.self.inside.count c.self.invariant c.is_kept.ensures c.back.result c.back.new.machine c.back.new.self
+    c.back.ensures.start c.back.ensures.back c.back.ensures.err c.back.ensures.machine_err
+
+pub returns-clause-moved : goal.returns-clause-moved
+returns-clause-moved c =
+    subst (λ (k : SessionState). OnOk c.back.result (length c.back.new.self.inverses + 1 ≡ position_of k)) c.self.view_is
+    (back_moved c.self.inside.machine c.self.inside.journal c.self.inside.width c.self.inside.count c.self.invariant c.back.result c.back.new.machine c.back.new.self c.back.ensures.start c.back.ensures.back)

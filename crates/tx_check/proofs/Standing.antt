@@ -1,0 +1,119 @@
+-- Where a text stands at a line, and one line later.
+use Rattle.std.proofs.Common.{◌≡◌, ◌≢◌, ◌∙◌, ℕ, zero, suc, ◌+◌, ◌-◌, ◌≤◌, Bool, true, false, if◌then◌else◌, ◌==◌, List, [], length, ap, sym, subst, refl, inl, inr, is_some, arith}
+use Rattle.std.proofs.lemmas.Bool.{both_ways}
+use Rattle.tx_check.specs.Kinds.{head_of, kind_of}
+use Rattle.tx_check.specs.Numbered.{after_lines, line_at}
+use Rattle.tx_check.specs.OwnLines.{IsLineAt}
+use Rattle.tx_check.specs.Reads.{line_of, IsAtFault}
+use Rattle.tx_check.specs.Stands.{begins_label, stand_after, stand_behind, AmongLines, AtHeader, IsPlaceOf, IsVersionOf, Stand, StandsAt}
+use Rattle.tx_check.specs.Wrong.{IsWrong, IsWrongLine}
+use Rattle.tx_check.specs.declared.kinds.Kind.{Kind}
+use Rattle.tx_check.specs.declared.kinds.Kind.TheVariants as kinds
+use Rattle.tx_check.specs.declared.places.Part.TheVariants as parts
+use Rattle.tx_check.specs.declared.places.Place.{Place}
+use Rattle.tx_check.specs.declared.places.TextLine.{TextLine}
+use Rattle.tx_lines.specs.Schedule.{after_line, first_line}
+use Rattle.tx_lines.specs.declared.faults.Fault.{Fault}
+use Rattle.tx_lines.specs.declared.faults.Fault.TheVariants.{NotALine, NoLabel, TooLong, Reader, Writer, NoMemory}
+
+-- one line later
+pub stands_later : (text : List ℕ) (count number later : ℕ) (line : List ℕ) (place next : Place) → number ≡ count + 1 → later ≡ count + 2 → line ≡ first_line (after_lines count text) → StandsAt text number place → next.version ≡ place.version
+    → ((stand : Stand) → IsPlaceOf stand place → IsPlaceOf (stand_after stand line) next) → StandsAt text later next
+stands_later text count number later line place next at on same stands version go =
+    let kind = kind_of text in
+    let here : number - 1 ≡ count = omega (arith, at) in
+    let there : suc count ≡ later - 1 = omega (arith, on) in
+    let is : IsPlaceOf (stand_behind kind text count) place = subst (λ (n : ℕ). IsPlaceOf (stand_behind kind text n) place) here stands.stands in
+    let gone : IsPlaceOf (stand_behind kind text (suc count)) next =
+    subst (λ (l : List ℕ). IsPlaceOf (stand_after (stand_behind kind text count) l) next) same (go (stand_behind kind text count) is) in
+    record {
+      version = subst (IsVersionOf (head_of kind) text) (sym version) stands.version;
+      stands = subst (λ (n : ℕ). IsPlaceOf (stand_behind kind text n) next) there gone;
+    }
+
+-- a text stands at its first line
+pub stands_first : (text : List ℕ) (kind : Kind) (place : Place) → kind ≡ kind_of text → IsVersionOf (head_of kind) text place.version → IsPlaceOf (AtHeader (head_of kind)) place → StandsAt text 1 place
+stands_first text kind place is version stands = record {
+  version = subst (λ (k : Kind). IsVersionOf (head_of k) text place.version) is version;
+  stands = subst (λ (k : Kind). IsPlaceOf (AtHeader (head_of k)) place) is stands;
+}
+
+-- behind its header a program stands among its lines
+record IsAmongLines (stand : Stand) : Type 0 where
+  instructions : ℕ
+  labels : ℕ
+  same : stand ≡ AmongLines instructions labels
+
+lines_by : (instructions labels : ℕ) (test : Bool) → IsAmongLines (if test then AmongLines instructions (labels + 1) else AmongLines (instructions + 1) labels)
+lines_by instructions labels true = record { instructions = instructions; labels = labels + 1; same = refl }
+lines_by instructions labels false = record { instructions = instructions + 1; labels = labels; same = refl }
+
+among_lines : (text : List ℕ) (count : ℕ) → IsAmongLines (stand_behind kinds.Program text (suc count))
+among_lines text zero = record { instructions = 0; labels = 0; same = refl }
+among_lines text (suc count) =
+    let before = among_lines text count in
+    let line = first_line (after_lines (suc count) text) in
+    subst (λ (stand : Stand). IsAmongLines (stand_after stand line)) (sym before.same) (lines_by before.instructions before.labels (begins_label line))
+
+-- a label that is nowhere is one of a program, behind the header
+label_of_program : (kind : Kind) (text : List ℕ) (line : ℕ) → IsAtFault kind text (NoLabel line) → (kind ≡ kinds.Program) × (2 ≤ line)
+label_of_program kinds.Schedule text line (inl header) = absurd header
+label_of_program kinds.Schedule text line (inr found) = absurd found.3.fault_after.1
+label_of_program kinds.Walk text line (inl header) = absurd header
+label_of_program kinds.Walk text line (inr found) = elim found.3 [ inl among ↦ absurd among.fault_after | inr later ↦ absurd later.4.fault_after.1 ]
+label_of_program kinds.Program text line (inl header) = absurd header
+label_of_program kinds.Program text line (inr found) = (refl, omega (arith, found.3.first.same))
+
+stands_at_label : (text : List ℕ) (kind : Kind) (line : ℕ) (place link : Place) → kind ≡ kind_of text → IsAtFault kind text (NoLabel line) → StandsAt text line place → link.version ≡ place.version → link.part ≡ parts.Link → StandsAt text line link
+stands_at_label text kind line place link is fault stands version part =
+    let of = label_of_program kind text line fault in
+    let program : kind_of text ≡ kinds.Program = sym is ∙ of.0 in
+    let number : suc (line - 2) ≡ line - 1 = omega (arith, of.1) in
+    let among = among_lines text (line - 2) in
+    let here : IsPlaceOf (stand_behind kinds.Program text (suc (line - 2))) link =
+    subst (λ (stand : Stand). IsPlaceOf stand link) (sym among.same) (inr part) in
+    record {
+      version = subst (IsVersionOf (head_of (kind_of text)) text) (sym version) stands.version;
+      stands = subst (λ (k : Kind). IsPlaceOf (stand_behind k text (line - 1)) link) (sym program)
+          (subst (λ (n : ℕ). IsPlaceOf (stand_behind kinds.Program text n) link) number here);
+    }
+
+-- the place of a line at fault
+pub stands_at_fault : (text : List ℕ) (kind : Kind) (fault : Fault) (place next : Place) → kind ≡ kind_of text → IsAtFault kind text fault → StandsAt text (line_of fault) place → next.version ≡ place.version
+    → ((line : ℕ) → fault ≡ NoLabel line → next.part ≡ parts.Link) → (((line : ℕ) → fault ≢ NoLabel line) → next ≡ place) → StandsAt text (line_of fault) next
+stands_at_fault text kind (NoLabel line) place next is fault stands version label other = stands_at_label text kind line place next is fault stands version (label line refl)
+stands_at_fault text kind (NotALine number) place next is fault stands version label other = subst (StandsAt text number) (sym (other (λ line e. absurd (cc)))) stands
+stands_at_fault text kind (TooLong number) place next is fault stands version label other = subst (StandsAt text number) (sym (other (λ line e. absurd (cc)))) stands
+stands_at_fault text kind Reader place next is fault stands version label other = subst (StandsAt text 0) (sym (other (λ line e. absurd (cc)))) stands
+stands_at_fault text kind Writer place next is fault stands version label other = subst (StandsAt text 0) (sym (other (λ line e. absurd (cc)))) stands
+stands_at_fault text kind NoMemory place next is fault stands version label other = subst (StandsAt text 0) (sym (other (λ line e. absurd (cc)))) stands
+
+-- a line that is told is at fault
+pub wrong_line : (text : List ℕ) (place : Place) (line : TextLine) → StandsAt text line.number place → IsLineAt text line
+    → ((stand : Stand) → IsPlaceOf stand place → IsWrong place.version text line.number stand line.bytes.now line.is_ended) → IsWrongLine text line.number
+wrong_line text place line stands at wrong =
+    let stand = stand_behind (kind_of text) text (line.number - 1) in
+    record {
+      behind_first = at.behind_first;
+      there = at.there;
+      version = place.version;
+      of_text = stands.version;
+      wrong = subst (λ (ended : Bool). IsWrong place.version text line.number stand (line_at line.number text) ended) at.ended
+          (subst (λ (bytes : List ℕ). IsWrong place.version text line.number stand bytes line.is_ended) at.bytes (wrong stand stands.stands));
+    }
+
+abbrev ended_in : List ℕ → Bool
+ended_in left = is_some (after_line left)
+
+-- the first line of what follows some lines
+pub line_there : (text left : List ℕ) (before : ℕ) (line : TextLine) → left ≡ after_lines before text → (length left == 0) ≡ false → 1 ≤ before → line.number ≡ before + 1 → line.bytes.now ≡ first_line left → line.is_ended ≡ ended_in left → IsLineAt text line
+line_there text left before line at more some number bytes ended =
+    let same : line.number - 1 ≡ before = omega (arith, number) in
+    record {
+      behind_first = omega (arith, some, number);
+      there = λ none.
+          let empty : left ≡ [] = at ∙ ap (λ (n : ℕ). after_lines n text) (sym same) ∙ none in
+          both_ways (length left == 0) more (ap (λ (l : List ℕ). length l == 0) empty);
+      bytes = bytes ∙ ap first_line at ∙ ap (λ (n : ℕ). first_line (after_lines n text)) (sym same);
+      ended = ended ∙ ap ended_in at ∙ ap (λ (n : ℕ). ended_in (after_lines n text)) (sym same);
+    }

@@ -1,0 +1,84 @@
+-- A talk, exchange by exchange, and how it ends.
+use Rattle.std.proofs.Common.{◌≡◌, ◌≤◌, ℕ, List, [], ◌∷◌, ◌++◌, length, take, Option, Some, None, Ok, Err, inl, inr, refl, sym, ap, subst, ◌∙◌, append_assoc}
+use Rattle.std.proofs.lemmas.List.{append-nil}
+use Rattle.tx_shell.specs.Events.{Continues, End, Event, Failure, IsTalk, Line, Talks, Text}
+use Rattle.tx_shell.specs.Standings.{Answers, IsQuit, Standing, Stops}
+use Rattle.tx_shell.specs.declared.talks.TalkFault.TheVariants.{NoMemory, Reader, TooMany, Writer}
+
+-- what came and went after what came and went
+continues_more : (before log after : Option (List Event)) (a b : List Event) → Continues before a log → Continues log b after → Continues before (a ++ b) after
+continues_more None log after a b all more = subst (λ (l : Option (List Event)). Continues l b after) all more
+continues_more (Some events) log after a b all more =
+    let known : after ≡ Some ((events ++ a) ++ b) = subst (λ (l : Option (List Event)). Continues l b after) all more in
+    known ∙ ap (λ (es : List Event). Some es) (append_assoc events a b)
+
+continues_same : (log : Option (List Event)) → Continues log [] log
+continues_same None = refl
+continues_same (Some events) = ap Some (sym (append-nil events))
+
+-- a talk with one exchange more at its end
+longer : (s : Standing) (events : List Event) (t : Standing) (line text : List ℕ) (u : Standing) → Talks s events t → Answers t line text u → Talks s (events ++ Line line ∷ Text text ∷ []) u
+unfolding Talks
+longer s [] t line text u talks answers = (u, subst (λ (r : Standing). Answers r line text u) talks answers, refl)
+longer s (Line one ∷ Text told ∷ events) t line text u talks answers = (talks.0, talks.1, longer talks.0 events t line text u talks.2 answers)
+longer s (Line one ∷ []) t line text u talks answers = absurd talks
+longer s (Line one ∷ Line two ∷ events) t line text u talks answers = absurd talks
+longer s (Line one ∷ End ∷ events) t line text u talks answers = absurd talks
+longer s (Line one ∷ Failure ∷ events) t line text u talks answers = absurd talks
+longer s (End ∷ events) t line text u talks answers = absurd talks
+longer s (Text told ∷ events) t line text u talks answers = absurd talks
+longer s (Failure ∷ events) t line text u talks answers = absurd talks
+
+-- so far each line was answered
+pub record TalkedSoFar (s t : Standing) (before log : Option (List Event)) : Type 0 where
+  pub events : List Event
+  pub all : Continues before events log
+  pub talks : Talks s events t
+
+pub no_talk : (s : Standing) (log : Option (List Event)) → TalkedSoFar s s log log
+unfolding Talks
+no_talk s log = record { events = []; all = continues_same log; talks = refl }
+
+module _ (s t : Standing) (before log : Option (List Event)) (so : TalkedSoFar s t before log) where
+  pub one_more : (asked told : Option (List Event)) (line text : List ℕ) (u : Standing) → Continues log (Line line ∷ []) asked → Continues asked (Text text ∷ []) told → Answers t line text u → TalkedSoFar s u before told
+  one_more asked told line text u ask tell answers = record {
+    events = so.events ++ Line line ∷ Text text ∷ [];
+    all = continues_more before log told so.events (Line line ∷ Text text ∷ []) so.all (continues_more log asked told (Line line ∷ []) (Text text ∷ []) ask tell);
+    talks = longer s so.events t line text u so.talks answers;
+  }
+
+  -- there is no more
+  pub at_end : (after : Option (List Event)) (x : Unit {0}) → Continues log (End ∷ []) after → IsTalk s t before after (Ok x)
+  at_end after x end = record { answered = so.events; last = End ∷ []; at = t; events = continues_more before log after so.events (End ∷ []) so.all end; talks = so.talks; ends = (refl, inl refl) }
+
+  -- no line came
+  pub no_line : (after : Option (List Event)) → Continues log (Failure ∷ []) after → IsTalk s t before after (Err Reader)
+  no_line after failure =
+      record { answered = so.events; last = Failure ∷ []; at = t; events = continues_more before log after so.events (Failure ∷ []) so.all failure; talks = so.talks; ends = (refl, refl) }
+
+  -- the line asks for the end
+  pub at_quit : (after : Option (List Event)) (x : Unit {0}) (line : List ℕ) (u : Standing) → Continues log (Line line ∷ []) after → IsQuit t line → u ≡ t → IsTalk s u before after (Ok x)
+  at_quit after x line u asked quit same =
+      record { answered = so.events; last = Line line ∷ []; at = t; events = continues_more before log after so.events (Line line ∷ []) so.all asked; talks = so.talks; ends = (same, inr (line, refl, quit)) }
+
+  -- memory was refused
+  pub no_memory : (after : Option (List Event)) (line : List ℕ) (u : Standing) → Continues log (Line line ∷ []) after → Stops t line u → IsTalk s u before after (Err NoMemory)
+  no_memory after line u asked stops =
+      record { answered = so.events; last = Line line ∷ []; at = t; events = continues_more before log after so.events (Line line ∷ []) so.all asked; talks = so.talks; ends = (line, refl, stops) }
+
+  -- the answer was not shown whole
+  pub cut_off : (asked after : Option (List Event)) (line text : List ℕ) (count : ℕ) (u : Standing) → Continues log (Line line ∷ []) asked → count ≤ length text → Continues asked (Text (take count text) ∷ Failure ∷ []) after →
+      Answers t line text u → IsTalk s u before after (Err Writer)
+  cut_off asked after line text count u ask inside tell answers = record {
+    answered = so.events;
+    last = Line line ∷ Text (take count text) ∷ Failure ∷ [];
+    at = t;
+    events = continues_more before log after so.events (Line line ∷ Text (take count text) ∷ Failure ∷ []) so.all
+        (continues_more log asked after (Line line ∷ []) (Text (take count text) ∷ Failure ∷ []) ask tell);
+    talks = so.talks;
+    ends = record { line = line; text = text; count = count; answers = answers; inside = inside; events = refl };
+  }
+
+  -- there were too many
+  pub too_many : IsTalk s t before log (Err TooMany)
+  too_many = record { answered = so.events; last = []; at = t; events = subst (λ (es : List Event). Continues before es log) (sym (append-nil so.events)) so.all; talks = so.talks; ends = (refl, refl) }

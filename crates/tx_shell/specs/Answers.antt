@@ -1,0 +1,103 @@
+-- What a line is answered, and where the session stands then.
+use Rattle.std.specs.Prelude.{◌≡◌, ◌⊎◌, ◌<◌, ℕ, List, [], ◌∷◌, ◌++◌, IsTrue, codes, false, length, true}
+use Rattle.tx_base.specs.declared.steps.Step.{Step}
+use Rattle.tx_explain.specs.Topics.{is_page}
+use Rattle.tx_journal.specs.Trials.{view_without}
+use Rattle.tx_lines.specs.Lines.{FitsStep, IsOf, step_text}
+use Rattle.tx_lines.specs.Schedule.{IsNoStep}
+use Rattle.tx_lines.specs.declared.read.command.Command.{Command}
+use Rattle.tx_lines.specs.declared.read.command.Command.TheVariants as commands
+use Rattle.tx_model.specs.Answer.{answer}
+use Rattle.tx_model.specs.Membership.{is_live}
+use Rattle.tx_model.specs.Schedules.{history_of, history_with}
+use Rattle.tx_model.specs.State.{State}
+use Rattle.tx_model.specs.View.{view}
+use Rattle.tx_script.specs.Debug.{command_answer, first_steps, position_after, position_text}
+use Rattle.tx_shell.specs.Asks.{ask_text, FitsAsk, IsNoAsk}
+use Rattle.tx_shell.specs.Helps.{HelpsOn}
+use Rattle.tx_shell.specs.Journals.{schedule_so_far, steps_listed, steps_made}
+use Rattle.tx_shell.specs.Origins.{Origin, start_in}
+use Rattle.tx_shell.specs.Places.{Place}
+use Rattle.tx_shell.specs.Told.{TellsOf}
+use Rattle.tx_shell.specs.Versions.{grammar_of}
+use Rattle.tx_shell.specs.declared.asks.Ask.{Ask}
+use Rattle.tx_shell.specs.declared.asks.Ask.TheVariants as asks
+use Rattle.tx_text.specs.Replies.{reply_text}
+use Rattle.tx_text.specs.State.{state_text}
+
+-- at the end a step is made: its reply is told, and it is recorded where it was accepted
+pub record MakesStep (start : State) (p : Place) (step : Step) (text : List ℕ) (q : Place) : Type 0 where
+  pub at_end : p.at ≡ length p.history
+  pub told : text ≡ reply_text (answer (view start p.history) step) ++ 10 ∷ []
+  pub recorded : q.history ≡ history_with p.history step (answer (view start p.history) step)
+  pub after : q.at ≡ length q.history
+
+-- it is made nowhere else
+pub record LeavesStep (p : Place) (text : List ℕ) (q : Place) : Type 0 where
+  pub inside : p.at < length p.history
+  pub told : text ≡ codes "no: steps are ahead; cut lets go of them, forward makes them again\n"
+  pub stays : q ≡ p
+
+abbrev pub AnswersStep : State → Place → Step → List ℕ → Place → Type 0
+AnswersStep start p step text q = MakesStep start p step text q ⊎ LeavesStep p text q
+
+-- a command of the debugger answers as in a text for it, and leads to the same position
+pub record Walks (start : State) (p : Place) (command : Command) (text : List ℕ) (q : Place) : Type 0 where
+  pub told : text ≡ command_answer start p.history p.at command
+  pub history : q.history ≡ p.history
+  pub at : q.at ≡ position_after p.history p.at command
+
+-- the text of a schedule is printed whose steps lead, from the start, to the history up to the position
+pub record PrintsSchedule (o : Origin) (p : Place) (text : List ℕ) (q : Place) : Type 0 where
+  pub told : text ≡ schedule_so_far o p
+  pub leads : history_of (start_in o) [] (steps_made p) ≡ first_steps p.at p.history
+  pub stays : q ≡ p
+
+-- the state is told that an abort of the live transaction of process s would leave at the position, or that there is none
+pub record TellsWithout (start : State) (p : Place) (s : ℕ) (text : List ℕ) : Type 0 where
+  pub open_one : is_live (view start (first_steps p.at p.history)).table s ≡ true → text ≡ state_text (view_without start (first_steps p.at p.history) s)
+  pub none : is_live (view start (first_steps p.at p.history)).table s ≡ false → text ≡ codes "no transaction\n"
+
+-- the steps after the position are gone
+pub record Cuts (p : Place) (text : List ℕ) (q : Place) : Type 0 where
+  pub told : text ≡ position_text p.at
+  pub history : q.history ≡ first_steps p.at p.history
+  pub at : q.at ≡ p.at
+
+-- what is asked for is done and answered
+abbrev pub AnswersAsk : Origin → Place → Ask → List ℕ → Place → Type 0
+AnswersAsk o p (asks.Walk command) text q = Walks (start_in o) p command text q
+AnswersAsk o p asks.GotoEnd text q = Walks (start_in o) p (commands.Goto (length p.history)) text q
+AnswersAsk o p asks.Steps text q = (text ≡ steps_listed p 1 (length p.history)) × (q ≡ p)
+AnswersAsk o p (asks.StepsFrom first) text q = (text ≡ steps_listed p first (length p.history)) × (q ≡ p)
+AnswersAsk o p (asks.StepsBetween first last) text q = (text ≡ steps_listed p first last) × (q ≡ p)
+AnswersAsk o p asks.Text text q = PrintsSchedule o p text q
+AnswersAsk o p (asks.Without starter) text q = TellsWithout (start_in o) p starter text × (q ≡ p)
+AnswersAsk o p asks.Cut text q = Cuts p text q
+AnswersAsk o p asks.Help text q = IsTrue (is_page text) × (q ≡ p)
+AnswersAsk o p (asks.HelpOn word) text q = HelpsOn word.now text × (q ≡ p)
+
+-- what a line means is a step
+pub record IsStepLine (o : Origin) (words : List ℕ) (step : Step) : Type 0 where
+  pub fits : FitsStep step
+  pub of : IsOf (grammar_of o.version) step
+  pub spelled : words ≡ step_text step
+
+-- it is no step, and asks for that
+pub record IsAskLine (o : Origin) (words : List ℕ) (ask : Ask) : Type 0 where
+  pub no_step : IsNoStep (grammar_of o.version) words
+  pub fits : FitsAsk (grammar_of o.version) ask
+  pub spelled : words ≡ ask_text ask
+
+-- it is neither: what is wrong with the line is told, and nothing changes
+pub record AnswersNeither (o : Origin) (p : Place) (line words text : List ℕ) (q : Place) : Type 0 where
+  pub no_step : IsNoStep (grammar_of o.version) words
+  pub no_ask : IsNoAsk (grammar_of o.version) words
+  pub tells : TellsOf o.version line words text
+  pub stays : q ≡ p
+
+-- a line that means those words is a step, or else asks for something, or else is neither, and is answered as such
+abbrev pub AnswersWords : Origin → Place → List ℕ → List ℕ → List ℕ → Place → Type 0
+AnswersWords o p line words text q =
+    ((step : Step) × IsStepLine o words step × AnswersStep (start_in o) p step text q)
+    ⊎ (((ask : Ask) × IsAskLine o words ask × AnswersAsk o p ask text q) ⊎ AnswersNeither o p line words text q)

@@ -1,0 +1,41 @@
+-- What a talk is asked for by lines that are no steps, and how that is spelled.
+use Rattle.std.specs.Prelude.{◌≢◌, ℕ, ◌<◌, ◌^◌, List, ◌∷◌, ◌++◌, codes}
+use Rattle.std.specs.Fmt.{decimal}
+use Rattle.tx_lines.specs.Walks.{command_text, FitsCommand}
+use Rattle.tx_lines.specs.declared.read.header.Version.{Version}
+use Rattle.tx_shell.specs.declared.asks.Ask.{Ask}
+use Rattle.tx_shell.specs.declared.asks.Ask.TheVariants as asks
+
+-- the spelling, without the line's end
+abbrev pub ask_text : Ask → List ℕ
+ask_text (asks.Walk command) = command_text command
+ask_text asks.GotoEnd = codes "goto end"
+ask_text asks.Steps = codes "steps"
+ask_text (asks.StepsFrom first) = codes "steps " ++ decimal first
+ask_text (asks.StepsBetween first last) = codes "steps " ++ (decimal first ++ 32 ∷ decimal last)
+ask_text asks.Text = codes "text"
+ask_text (asks.Without starter) = codes "without " ++ decimal starter
+ask_text asks.Cut = codes "cut"
+ask_text asks.Help = codes "help"
+ask_text (asks.HelpOn word) = codes "help " ++ word.now
+
+-- it is one of that version, and its numbers ones that a line can hold
+abbrev pub FitsAsk : Version → Ask → Type 0
+FitsAsk version (asks.Walk command) = FitsCommand version command
+FitsAsk version (asks.StepsFrom first) = first < 2 ^ 63
+FitsAsk version (asks.StepsBetween first last) = (first < 2 ^ 63) × (last < 2 ^ 63)
+FitsAsk version (asks.Without starter) = starter < 2 ^ 16
+FitsAsk version ask = Unit {0}
+
+-- nothing is asked for by a line that is spelled so
+abbrev pub IsNoAsk : Version → List ℕ → Type 0
+IsNoAsk version line = (ask : Ask) → FitsAsk version ask → line ≢ ask_text ask
+
+-- it is one of those that are a word or two, and have no number
+abbrev pub IsOfWords : Ask → Type 0
+IsOfWords asks.GotoEnd = Unit {0}
+IsOfWords asks.Steps = Unit {0}
+IsOfWords asks.Text = Unit {0}
+IsOfWords asks.Cut = Unit {0}
+IsOfWords asks.Help = Unit {0}
+IsOfWords ask = ⊥

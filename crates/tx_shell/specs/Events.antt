@@ -1,0 +1,50 @@
+-- What comes and goes at a terminal, and which of it is a talk.
+use Rattle.std.specs.Prelude.{◌≡◌, ◌⊎◌, ℕ, ◌≤◌, List, [], ◌∷◌, ◌++◌, length, take, Option, Some, None, Result, Ok, Err}
+use Rattle.tx_shell.specs.Standings.{Answers, IsQuit, Standing, Stops}
+use Rattle.tx_shell.specs.declared.talks.TalkFault.{TalkFault}
+use Rattle.tx_shell.specs.declared.talks.TalkFault.TheVariants as faults
+
+-- a line came, there is no more, a text went, or the terminal failed
+pub data Event : Type 0 where
+  Line : List ℕ → Event
+  End : Event
+  Text : List ℕ → Event
+  Failure : Event
+
+-- what came and went, where it is known, is followed by these
+abbrev pub Continues : Option (List Event) → List Event → Option (List Event) → Type 0
+Continues None events log = log ≡ None
+Continues (Some before) events log = log ≡ Some (before ++ events)
+
+-- each line has its answer directly behind it, and leads from one standing to another
+unfoldable pub Talks : Standing → List Event → Standing → Type 0
+Talks s [] t = t ≡ s
+Talks s (Line line ∷ Text text ∷ events) t = (r : Standing) × Answers s line text r × Talks r events t
+Talks s events t = ⊥
+
+-- a line came, and a front of its answer went before the terminal failed
+pub record IsCutOff (s : Standing) (last : List Event) (t : Standing) : Type 0 where
+  pub line : List ℕ
+  pub text : List ℕ
+  pub count : ℕ
+  pub answers : Answers s line text t
+  pub inside : count ≤ length text
+  pub events : last ≡ Line line ∷ Text (take count text) ∷ Failure ∷ []
+
+-- how a talk ends, by what comes of it: with the end of the lines, or one that asks for that; with a failure while a line is awaited, or while an
+-- answer is shown; with a line for which memory was refused; or after the most lines
+abbrev pub EndsBy : Standing → List Event → Standing → Result (Unit {0}) TalkFault → Type 0
+EndsBy s events t (Ok _) = (t ≡ s) × ((events ≡ End ∷ []) ⊎ ((line : List ℕ) × (events ≡ Line line ∷ []) × IsQuit s line))
+EndsBy s events t (Err faults.Reader) = (t ≡ s) × (events ≡ Failure ∷ [])
+EndsBy s events t (Err faults.Writer) = IsCutOff s events t
+EndsBy s events t (Err faults.NoMemory) = (line : List ℕ) × (events ≡ Line line ∷ []) × Stops s line t
+EndsBy s events t (Err faults.TooMany) = (t ≡ s) × (events ≡ [])
+
+-- a whole talk: lines and their answers, and its end
+pub record IsTalk (s t : Standing) (before after : Option (List Event)) (result : Result (Unit {0}) TalkFault) : Type 0 where
+  pub answered : List Event
+  pub last : List Event
+  pub at : Standing
+  pub events : Continues before (answered ++ last) after
+  pub talks : Talks s answered at
+  pub ends : EndsBy at last t result

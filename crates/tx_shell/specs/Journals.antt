@@ -1,0 +1,49 @@
+-- The steps of a session, as they are listed, and as the text that makes them again.
+use Rattle.std.specs.Prelude.{ℕ, ◌+◌, ◌&&◌, List, [], ◌∷◌, ◌++◌, codes, map, nat_eq, nat_le, reverse, take, if◌then◌else◌}
+use Rattle.std.specs.Fmt.{decimal}
+use Rattle.tx_base.specs.declared.steps.Accepted.{Accepted}
+use Rattle.tx_base.specs.declared.steps.Step.{Step}
+use Rattle.tx_journal.specs.declared.entry.Entry.{Entry}
+use Rattle.tx_lines.specs.Lines.{step_text}
+use Rattle.tx_lines.specs.Schedule.{schedule_text}
+use Rattle.tx_script.specs.Debug.{position_text}
+use Rattle.tx_shell.specs.Origins.{header_in, Origin}
+use Rattle.tx_shell.specs.Places.{Place}
+use Rattle.tx_text.specs.Replies.{reply_text}
+
+-- the line of a step, as the report of a run has it: its number, its worker, which is 1, the step, and its reply
+abbrev pub step_line : ℕ → Accepted → List ℕ
+step_line number e = decimal number ++ (codes " w1 " ++ (step_text e.step ++ (codes " : " ++ (reply_text e.reply ++ 10 ∷ []))))
+
+-- the line of the position, where that one is it
+abbrev pub mark_at : ℕ → ℕ → List ℕ
+mark_at at number = if nat_eq at number then position_text at else []
+
+-- the step, and the position behind it, where its number lies between those two
+abbrev pub listed_between : ℕ → ℕ → ℕ → ℕ → Accepted → List ℕ
+listed_between at first last number e = if nat_le first number && nat_le number last then step_line number e ++ mark_at at number else []
+
+-- what is said of some things by their numbers, of which the first is that one
+abbrev pub by_number : {A : Type 0} → (ℕ → A → List ℕ) → ℕ → List A → List ℕ
+by_number say number [] = []
+by_number say number (x ∷ xs) = say number x ++ by_number say (number + 1) xs
+
+-- position 0 stands before the first step
+abbrev pub mark_before : ℕ → ℕ → List ℕ
+mark_before at first = if nat_le first 1 then mark_at at 0 else []
+
+-- the steps of those numbers, and the position where it is among them
+abbrev pub steps_listed : Place → ℕ → ℕ → List ℕ
+steps_listed p first last = mark_before p.at first ++ by_number (listed_between p.at first last) 1 (reverse p.history)
+
+-- the steps of some entries
+abbrev pub steps_of : List Entry → List Step
+steps_of entries = map (λ (entry : Entry). entry.step) entries
+
+-- the steps that are made, the oldest first
+abbrev pub steps_made : Place → List Step
+steps_made p = map (λ (e : Accepted). e.step) (take p.at (reverse p.history))
+
+-- the text of the schedule that makes them
+abbrev pub schedule_so_far : Origin → Place → List ℕ
+schedule_so_far o p = schedule_text (header_in o) (steps_made p)

@@ -1,0 +1,11 @@
+pub mod Answers
+pub mod Asks
+pub mod Events
+pub mod Helps
+pub mod Journals
+pub mod Origins
+pub mod Places
+pub mod Refused
+pub mod Standings
+pub mod Told
+pub mod Versions

@@ -1,0 +1,162 @@
+//! Answers what a line means.
+ghost use Rattle.std.specs.Prelude.{◌≡◌, IfOk, OnErr, length, string_bytes};
+ghost use Rattle.tx_journal.specs.Sessions.{position_of, start_of, IsBetween, SameBoot, SameJournal};
+ghost use Rattle.tx_journal.specs.Entries.{history_of};
+ghost use Rattle.tx_lines.specs.declared.read.command.Command.TheVariants as command;
+ghost use Rattle.tx_script.specs.Debug.{position_after};
+ghost use Rattle.tx_shell.specs.Answers.{AnswersAsk, AnswersWords, Cuts, TellsWithout, Walks};
+ghost use Rattle.tx_shell.specs.Journals.{steps_listed};
+ghost use Rattle.tx_shell.specs.Places.{origin_of, place_of};
+ghost use Rattle.tx_shell.specs.Refused.{StopsShort, StopsShortOf};
+
+use crate::asks::{Ask, read_ask};
+use crate::helps::{help, help_on, text_as};
+use crate::journals::{list_steps, position_line, print_schedule};
+use crate::steps::answer_step;
+use crate::tells::tell;
+use crate::versions::TextVersion;
+use std::alloc::Global;
+use tx_base::{NoMemory, Pid};
+use tx_journal::{Session, TrialFault};
+use tx_lines::{Command, read_step};
+use tx_script::put_answer;
+
+/// Does what a line of that version says, which means those words, and answers it.
+///
+/// NoMemory where a growth is refused: no step came or went then, and the position is the old one, or
+/// lies between that and the one that is asked for.
+pub fn answer_words(
+    alloc: Global,
+    version: TextVersion,
+    session: &mut Session,
+    line: &[u8],
+    words: &[u8],
+) -> Result<String, NoMemory>
+    ensures answer { IfOk result (λ text.
+        AnswersWords (origin_of version session.old) (place_of session.old) line.now words.now
+        (string_bytes text) (place_of session.new)) }
+    ensures stops { OnErr result
+        (StopsShortOf (origin_of version session.old) (place_of session.old) words.now
+        (place_of session.new)) }
+    ensures boot { SameBoot session.new session.old }
+{
+    if let Some(step) = read_step(version.grammar(), words) {
+        return answer_step(alloc, session, &step);
+    }
+    match read_ask(version.grammar(), words) {
+        Some(ask) => answer_ask(alloc, version, session, ask),
+        None => tell(alloc, version, line, words),
+    }
+}
+
+/// Does what is asked for, and answers it.
+fn answer_ask(
+    alloc: Global,
+    version: TextVersion,
+    session: &mut Session,
+    ask: Ask<'_>,
+) -> Result<String, NoMemory>
+    ensures answer { IfOk result (λ text.
+        AnswersAsk (origin_of version session.old) (place_of session.old) ask.entry
+        (string_bytes text) (place_of session.new)) }
+    ensures stops { OnErr result
+        (StopsShort (place_of session.old) ask.entry (place_of session.new)) }
+    ensures boot { SameBoot session.new session.old }
+{
+    match ask {
+        Ask::Walk(command) => walk(alloc, session, command),
+        Ask::GotoEnd => goto_end(alloc, session),
+        Ask::Steps => list_all(alloc, session),
+        Ask::StepsFrom(first) => list_from(alloc, session, first),
+        Ask::StepsBetween(first, last) => list_steps(alloc, session, first, last),
+        Ask::Text => print_schedule(alloc, version, session),
+        Ask::Without(starter) => without(alloc, session, starter),
+        Ask::Cut => cut(alloc, session),
+        Ask::Help => help(alloc),
+        Ask::HelpOn(word) => help_on(alloc, word),
+    }
+}
+
+/// Does what a command of the debugger says, and answers it.
+fn walk(alloc: Global, session: &mut Session, command: Command) -> Result<String, NoMemory>
+    ensures answer { IfOk result (λ text.
+        Walks (start_of session.old) (place_of session.old) command (string_bytes text)
+        (place_of session.new)) }
+    ensures stopped { OnErr result
+        (IsBetween (position_of session.old) (position_of session.new)
+        (position_after (history_of session.old.entries) (position_of session.old) command)) }
+    ensures journal { SameJournal session.new session.old }
+{
+    let mut text = String::new(alloc);
+    match put_answer(alloc, &mut text, session, command) {
+        Ok(()) => Ok(text),
+        Err(_refused) => Err(NoMemory),
+    }
+}
+
+/// Goes to the position after all steps, and answers it.
+fn goto_end(alloc: Global, session: &mut Session) -> Result<String, NoMemory>
+    ensures answer { IfOk result (λ text.
+        Walks (start_of session.old) (place_of session.old)
+        (command.Goto (length (history_of session.old.entries))) (string_bytes text)
+        (place_of session.new)) }
+    ensures stopped { OnErr result
+        (IsBetween (position_of session.old) (position_of session.new)
+        (position_after (history_of session.old.entries) (position_of session.old)
+        (command.Goto (length (history_of session.old.entries))))) }
+    ensures journal { SameJournal session.new session.old }
+{
+    let end = count_steps(session);
+    walk(alloc, session, Command::Goto(end as u64))
+}
+
+/// How many steps there are.
+fn count_steps(session: &Session) -> usize
+    ensures { result ≡ length (history_of session.now.entries) }
+{
+    session.len()
+}
+
+/// Lists all steps.
+fn list_all(alloc: Global, session: &Session) -> Result<String, NoMemory>
+    ensures { IfOk result (λ text. string_bytes text
+        ≡ steps_listed (place_of session.now) 1 (length (history_of session.now.entries))) }
+{
+    list_from(alloc, session, 1)
+}
+
+/// Lists the steps from that number on.
+fn list_from(alloc: Global, session: &Session, first: u64) -> Result<String, NoMemory>
+    ensures { IfOk result (λ text. string_bytes text
+        ≡ steps_listed (place_of session.now) first (length (history_of session.now.entries))) }
+{
+    list_steps(alloc, session, first, count_steps(session) as u64)
+}
+
+/// The state that an abort of the live transaction of a starter would leave, or that there is none.
+fn without(alloc: Global, session: &mut Session, starter: u16) -> Result<String, NoMemory>
+    ensures answer { IfOk result (λ text.
+        TellsWithout (start_of session.old) (place_of session.old) starter (string_bytes text)) }
+    ensures same { session.new ≡ session.old }
+{
+    let _machine = session.machine();
+    match session.state_text_without(alloc, Pid(starter)) {
+        Ok(text) => Ok(text),
+        Err(TrialFault::NoTransaction) => text_as(alloc, "no transaction\n"),
+        Err(TrialFault::NoMemory) => Err(NoMemory),
+    }
+}
+
+/// Lets go of the steps after the position, and answers it.
+///
+/// NoMemory where a growth is refused; nothing has changed then.
+fn cut(alloc: Global, session: &mut Session) -> Result<String, NoMemory>
+    ensures answer { IfOk result (λ text.
+        Cuts (place_of session.old) (string_bytes text) (place_of session.new)) }
+    ensures refused { OnErr result (session.new ≡ session.old) }
+    ensures boot { SameBoot session.new session.old }
+{
+    let text = position_line(alloc, session.position())?;
+    session.cut();
+    Ok(text)
+}

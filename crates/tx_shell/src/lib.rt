@@ -1,0 +1,36 @@
+//! A session at a terminal: each line is a step or asks for something, and is answered before the
+//! next one is read.
+//!
+//! `talk` reads the lines of a `Terminal`, a trait with one log of all that comes and goes, so that
+//! its contract says the order; a `Shell` is what a talk goes on: a session, and of which version
+//! its lines are. `Shell::answer` answers one line. What a line means is found as in a text that has
+//! it behind its first line (`lines.rt`, over tx_plain), so a line of version 3 has comments, strings
+//! and names as in a text. Then it is read as a step (tx_lines), and else as what a talk is asked
+//! for (`asks.rt`). The debugger's commands are answered by tx_script, and so as in a text for it;
+//! `journals.rt` lists the steps, and prints the schedule that makes them again; `helps.rt` says
+//! what a word means, by tx_explain; and what is neither is told of as a check tells of it
+//! (`tells.rt`, over tx_check).
+//!
+//! A refused growth leaves no step half done: a step whose answer could not be put down is taken
+//! back and let go, so the history after an error is the one before the line.
+#![tactic(auto)]
+
+mod answers;
+mod asks;
+mod console;
+mod helps;
+mod journals;
+mod lines;
+mod openings;
+mod shell;
+mod steps;
+mod talks;
+mod tells;
+mod terminal;
+mod versions;
+
+pub use console::Console;
+pub use shell::Shell;
+pub use talks::{TalkFault, talk};
+pub use terminal::{Got, Terminal};
+pub use versions::TextVersion;

@@ -1,0 +1,142 @@
+//! What a talk goes on.
+ghost use Rattle.std.specs.Prelude.{◌≡◌, [], IfOk, IfSome, MatchOption, OnErr, OnOk, Some, string_bytes, true};
+ghost use Rattle.tx_journal.specs.Sessions.{position_of};
+ghost use Rattle.tx_lines.specs.Lines.{most_of, FitsHeader};
+ghost use Rattle.tx_script.specs.Debug.{position_text};
+ghost use Rattle.tx_shell.specs.Origins.{origin_said, SaysOrigin};
+ghost use Rattle.tx_shell.specs.Standings.{begun_by, first_standing, quit_line, standing_of, Answers, AnswersMeant};
+ghost use Rattle.tx_shell.specs.Standings.{IsNoHeader, IsQuit, Stops, StopsMeant};
+
+use crate::answers::answer_words;
+use crate::journals::position_line;
+use crate::lines::meant_line;
+use crate::openings::{Opening, read_opening};
+use crate::versions::TextVersion;
+use std::alloc::Global;
+use tx_base::NoMemory;
+use tx_journal::Session;
+use tx_lines::{Header, Version};
+
+/// A session at a terminal, and of which version its lines are.
+#[derive(Drop)]
+pub struct Shell {
+    session: Session,
+    version: TextVersion,
+    /// Whether no line came so far but ones without a word, so that a header may come.
+    is_fresh: bool,
+}
+
+impl Shell {
+    /// A shell before its first line: where no header comes, its lines are of version 3, and it has
+    /// two processes.
+    ///
+    /// NoMemory where a growth is refused.
+    pub fn new(alloc: Global) -> Result<Shell, NoMemory>
+        ensures { IfOk result (λ shell. standing_of shell ≡ first_standing) }
+    {
+        let session = Session::boot_wide(alloc, 2)?;
+        Ok(Shell {
+            session,
+            version: TextVersion::Three,
+            is_fresh: true,
+        })
+    }
+
+    /// How many of the steps are made.
+    pub fn position(&self) -> usize
+        ensures { result ≡ position_of self.now.session }
+    {
+        self.session.position()
+    }
+
+    /// Does what a line says, and answers it. Nothing where the line asks for the end of the talk.
+    ///
+    /// NoMemory where a growth is refused: no step came or went then, and the position is the old one,
+    /// or lies between that and the one that the line asks for.
+    pub fn answer(&mut self, alloc: Global, line: &[u8]) -> Result<Option<String>, NoMemory>
+        ensures answer { IfOk result (λ answer.
+            MatchOption answer
+            (IsQuit (standing_of self.old) line.now
+            × (standing_of self.new ≡ standing_of self.old))
+            (λ text. Answers (standing_of self.old) line.now (string_bytes text)
+            (standing_of self.new))) }
+        ensures stops { OnErr result
+            (Stops (standing_of self.old) line.now (standing_of self.new)) }
+    {
+        if let Some(opening) = self.opening(alloc, line)? {
+            return Ok(Some(self.open(alloc, opening)?));
+        }
+        match meant_line(alloc, self.version, line)? {
+            Some(words) => self.answer_meant(alloc, line, words.as_slice()),
+            None => Ok(Some(String::new(alloc))),
+        }
+    }
+
+    /// What a line says as a header, where one may come. Nothing where it is none.
+    fn opening(&self, alloc: Global, line: &[u8]) -> Result<Option<Opening>, NoMemory>
+        ensures says { IfOk result (λ opening.
+            MatchOption opening (IsNoHeader (standing_of self.now) line.now) (λ o.
+            (self.now.is_fresh ≡ true) × SaysOrigin line.now (origin_said o))) }
+        ensures fits { IfOk result (λ opening. IfSome opening (λ o. FitsHeader o.header)) }
+    {
+        if self.is_fresh {
+            read_opening(alloc, line)
+        } else {
+            Ok(None)
+        }
+    }
+
+    /// Begins anew, as a header says.
+    ///
+    /// NoMemory where a growth is refused; nothing has changed then.
+    fn open(&mut self, alloc: Global, opening: Opening) -> Result<String, NoMemory>
+        requires { FitsHeader opening.header }
+        ensures told { IfOk result (λ text. string_bytes text ≡ position_text 0) }
+        ensures begun { OnOk result (standing_of self.new ≡ begun_by (origin_said opening)) }
+        ensures refused { OnErr result (self.new ≡ self.old) }
+    {
+        let session = boot(alloc, opening.header)?;
+        let text = position_line(alloc, 0)?;
+        self.session = session;
+        self.version = opening.version;
+        self.is_fresh = false;
+        Ok(text)
+    }
+
+    /// Does what the words say that a line means, and answers it. Nothing where they ask for the end.
+    fn answer_meant(
+        &mut self,
+        alloc: Global,
+        line: &[u8],
+        words: &[u8],
+    ) -> Result<Option<String>, NoMemory>
+        ensures answer { IfOk result (λ answer.
+            MatchOption answer
+            ((words.now ≡ quit_line) × (standing_of self.new ≡ standing_of self.old))
+            (λ text. AnswersMeant (standing_of self.old) line.now (Some words.now)
+            (string_bytes text) (standing_of self.new))) }
+        ensures stops { OnErr result
+            (StopsMeant (standing_of self.old) words.now (standing_of self.new)) }
+    {
+        if words == b"quit".as_slice() {
+            return Ok(None);
+        }
+        let text = answer_words(alloc, self.version, &mut self.session, line, words)?;
+        self.is_fresh = false;
+        Ok(Some(text))
+    }
+}
+
+/// A session before its first step, as a header says.
+fn boot(alloc: Global, header: Header) -> Result<Session, NoMemory>
+    requires { FitsHeader header }
+    ensures entries { IfOk result (λ session. session.entries ≡ []) }
+    ensures inverses { IfOk result (λ session. session.inverses ≡ []) }
+    ensures width { IfOk result (λ session. session.width ≡ most_of header.version) }
+    ensures count { IfOk result (λ session. session.count ≡ header.count) }
+{
+    match header.version {
+        Version::One => Session::boot(alloc, header.count),
+        Version::Two => Session::boot_wide(alloc, header.count),
+    }
+}

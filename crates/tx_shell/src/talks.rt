@@ -1,0 +1,63 @@
+//! Answers the lines of a terminal, one by one.
+ghost use Rattle.tx_shell.specs.Events.{IsTalk};
+ghost use Rattle.tx_shell.specs.Standings.{standing_of};
+
+use crate::shell::Shell;
+use crate::terminal::{Got, Terminal};
+use std::alloc::Global;
+use thiserror::Error;
+use tx_base::NoMemory;
+
+/// How many lines a talk may have.
+const LINES: u64 = 1 << 32;
+
+/// Why a talk ended before its lines did. It prints as the fault of a text does.
+#[derive(Clone, Copy, PartialEq, Eq, Debug, Error)]
+pub enum TalkFault {
+    /// There were more lines than a talk may have.
+    #[error("F3 line 0")]
+    TooMany,
+    /// No line could be read.
+    #[error("F4")]
+    Reader,
+    /// An answer could not be shown whole.
+    #[error("F5")]
+    Writer,
+    /// A growth of memory was refused.
+    #[error("F6")]
+    NoMemory,
+}
+
+/// Answers each line of a terminal before the next one is read, up to the end of the lines or one
+/// that asks for the end.
+///
+/// `Reader` and `Writer` where the terminal fails, `NoMemory` where a growth is refused, and `TooMany`
+/// after 4,294,967,296 lines: what came and went up to there is a talk too.
+pub fn talk<T: Terminal>(
+    alloc: Global,
+    shell: &mut Shell,
+    terminal: &mut T,
+) -> Result<(), TalkFault>
+    ensures { IsTalk (standing_of shell.old) (standing_of shell.new) (T.log terminal.old)
+        (T.log terminal.new) result }
+{
+    let mut line = Vec::new(alloc);
+    for _number in 0..LINES {
+        match terminal.line(shell.position(), &mut line) {
+            Got::Line => {}
+            Got::End => return Ok(()),
+            Got::Failed => return Err(TalkFault::Reader),
+        }
+        let answer = match shell.answer(alloc, line.as_slice()) {
+            Ok(answer) => answer,
+            Err(NoMemory) => return Err(TalkFault::NoMemory),
+        };
+        let Some(text) = answer else {
+            return Ok(());
+        };
+        if !terminal.show(text.as_bytes()) {
+            return Err(TalkFault::Writer);
+        }
+    }
+    Err(TalkFault::TooMany)
+}

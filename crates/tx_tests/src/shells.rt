@@ -1,0 +1,155 @@
+//! Talks at a terminal.
+use std::alloc::Global;
+use std::io::{Error, ErrorKind, Result as IoResult, Write};
+use std::test::Fail;
+use tx_base::NoMemory;
+use tx_lines::take_line;
+use tx_shell::{Console, Got, Shell, TalkFault, Terminal, talk};
+
+/// A terminal whose lines are those of a text, which keeps what is shown, and fails after so many
+/// answers.
+#[derive(Drop)]
+struct Script<'a> {
+    left: &'a [u8],
+    shown: Vec<u8>,
+    answers: usize,
+}
+
+impl Terminal for Script<'_> {
+    ghost use Rattle.std.specs.Prelude.{None};
+
+    ghost log = { λ script. None };
+
+    fn line(&mut self, _position: usize, line: &mut Vec<u8>) -> Got {
+        line.clear();
+        if self.left.is_empty() {
+            return Got::End;
+        }
+        let (first, rest) = take_line(self.left);
+        let taken = line.extend_from_slice(first);
+        self.left = match rest {
+            Some(rest) => rest,
+            None => b"",
+        };
+        match taken {
+            Ok(()) => Got::Line,
+            Err(_refused) => Got::Failed,
+        }
+    }
+
+    fn show(&mut self, text: &[u8]) -> bool {
+        if self.answers == 0 {
+            return false;
+        }
+        self.answers -= 1;
+        self.shown.extend_from_slice(text).is_ok()
+    }
+}
+
+/// What a talk over the lines of a text shows, and what comes of it, where so many answers go.
+fn talk_over(
+    alloc: Global,
+    lines: &str,
+    answers: usize,
+) -> Result<(Result<(), TalkFault>, Vec<u8>), NoMemory> {
+    let mut script = Script {
+        left: lines.as_bytes(),
+        shown: Vec::new(alloc),
+        answers,
+    };
+    let mut shell = Shell::new(alloc)?;
+    let ended = talk(alloc, &mut shell, &mut script);
+    Ok((ended, script.shown))
+}
+
+/// Whether a talk over the lines of a text goes to its end, and shows that.
+fn shows(alloc: Global, lines: &str, wanted: &str) -> Result<bool, NoMemory> {
+    let (ended, shown) = talk_over(alloc, lines, 1_000)?;
+    Ok(ended == Ok(()) && shown.as_slice() == wanted.as_bytes())
+}
+
+/// A talk without a header, and what it shows.
+const TALK: (&str, &str) = (
+    "# nothing is said of this line, nor of the next\n
+2 sys_xbegin\n2 map 0 # a page\n2\tstore 0 \"hi!\"\n2 sys_xabort\nback\n2 getpid\nsteps 2\ncut\n2 deliver USR1\ngoto 1\ngoto end\ngoto 9\nmoved 3\n2 sys_xend\nmoved 4\nsteps 4 4\nsteps\ntext\nquit\nback\n",
+    "ok 0\nok 0\nok 0\naborted 201\nat 3\nno: steps are ahead; cut lets go of them, forward makes them again\n2 w1 2 map 0 : ok 0\n3 w1 2 store 0 686921 : ok 0\nat 3\n4 w1 2 sys_xabort : aborted 201\nat 3\nno N10\nat 1\nat 3\nno place\nno commit\ncommitted\nmoved one 1,2,3,4\n4 w1 2 sys_xend : committed\nat 4\n1 w1 2 sys_xbegin : ok 0\n2 w1 2 map 0 : ok 0\n3 w1 2 store 0 686921 : ok 0\n4 w1 2 sys_xend : committed\nat 4\ntxos 2 schedule 2\n2 sys_xbegin\n2 map 0\n2 store 0 686921\n2 sys_xend\n",
+);
+
+#[test]
+fn each_line_is_answered(rt: HostRuntime) -> Result<(), Fail> {
+    let (ended, shown) = talk_over(rt.alloc(), TALK.0, 1_000)?;
+    assert!(rt; ended == Ok(()));
+    let wanted = TALK.1.as_bytes();
+    for (i, byte) in wanted.iter().enumerate() {
+        assert!(rt; shown.get(i) == Some(byte), "byte {i}");
+    }
+    assert!(rt; shown.len() == wanted.len());
+    Ok(())
+}
+
+/// A talk with a header of version 1, and what it shows.
+const OPENED: (&str, &str) = (
+    "txos 1 schedule 3\n3 map 0\n3 mpa 0\nforward\nback\nback\nstate\n",
+    "at 0\nok 0\n? column 3: no such call: mpa; did you mean map?\nno end\nat 0\nno start\nstate\nproc 1 parent 0 run point 0 ret 0\nproc 2 parent 1 run point 0 ret 0\nproc 3 parent 1 run point 0 ret 0\n",
+);
+
+#[test]
+fn a_header_begins_a_talk(rt: HostRuntime) -> Result<(), Fail> {
+    assert!(rt; shows(rt.alloc(), OPENED.0, OPENED.1)?);
+    Ok(())
+}
+
+/// Lines that are neither steps nor commands, and what is told of them.
+const NEITHER: (&str, &str) = (
+    "2 stroe 5 41\nbakc\ngoto x\nhelp nothing\nhelp N9\n",
+    "? column 3: no such call: stroe; did you mean store?\n? column 1: no such command: bakc; did you mean back?\n",
+);
+
+#[test]
+fn other_lines_are_told_of(rt: HostRuntime) -> Result<(), Fail> {
+    let (ended, shown) = talk_over(rt.alloc(), NEITHER.0, 1_000)?;
+    assert!(rt; ended == Ok(()) && shown.starts_with(NEITHER.1.as_bytes()));
+    Ok(())
+}
+
+#[test]
+fn a_talk_ends_where_an_answer_is_not_shown(rt: HostRuntime) -> Result<(), Fail> {
+    let (ended, shown) = talk_over(rt.alloc(), "2 map 0\nstate\n2 map 1\n", 1)?;
+    assert!(rt; ended == Err(TalkFault::Writer) && shown.as_slice() == b"ok 0\n".as_slice());
+    Ok(())
+}
+
+/// A writer that keeps what is written.
+#[derive(Drop)]
+struct Page<'a> {
+    written: &'a mut Vec<u8>,
+}
+
+impl Write for Page<'_> {
+    fn write(&mut self, bytes: &[u8]) -> IoResult<usize> {
+        match self.written.extend_from_slice(bytes) {
+            Ok(()) => Ok(bytes.len()),
+            Err(_refused) => Err(Error::from(ErrorKind::OutOfMemory)),
+        }
+    }
+
+    fn flush(&mut self) -> IoResult<()> {
+        Ok(())
+    }
+}
+
+#[test]
+fn a_console_prompts(rt: HostRuntime) -> Result<(), Fail> {
+    let mut written = Vec::new(rt.alloc());
+    let page = Page {
+        written: &mut written,
+    };
+    let mut console = Console::new(b"2 map 0\nback\n".as_slice(), page, true);
+    assert!(rt; console.greet());
+    let mut shell = Shell::new(rt.alloc())?;
+    assert!(rt; talk(rt.alloc(), &mut shell, &mut console) == Ok(()));
+    let wanted =
+        b"a step or a command a line; help lists the commands\ntxos 0> ok 0\ntxos 1> at 0\ntxos 0> ".as_slice();
+    assert!(rt; written.as_slice() == wanted);
+    Ok(())
+}
