@@ -4,13 +4,12 @@ use Rattle.tx_change.specs.declared.change.Change.{Change}
 use Rattle.tx_core.specs.Machines.{IsMachine}
 use Rattle.tx_core.specs.Undo.{LeadsBack, LeadsOn}
 use Rattle.tx_live.specs.Content.{IsShaped}
-use Rattle.tx_live.specs.CrossingFacts.{back_so, forward_so}
+use Rattle.tx_live.specs.CrossingFacts.{back_by, back_so, forward_by, forward_so, is_back, is_forward}
 use Rattle.tx_live.specs.Crossings.{HoldsBack, HoldsForward}
 use Rattle.tx_live.specs.Inverses.{GoesWith, Undoes}
 use Rattle.tx_live.specs.Redone.{EndsWhole, GoesAgain, IsTakenBack, Redoes, TakesBack}
 use Rattle.tx_live.specs.declared.content.Content.{Content}
 use Rattle.tx_live.specs.declared.crossing.Crossing.{Crossing}
-use Rattle.tx_live.specs.declared.crossing.Crossing.TheVariants.{Back, Forward}
 use Rattle.tx_live.specs.declared.inverse.Inverse.{Inverse}
 
 -- its numbers are ones that there are
@@ -22,38 +21,45 @@ goes_again k crossing stack = forward_so (λ undone. LeadsOn k undone stack) (λ
 
 -- a step was taken back: a machine is left
 pub machine_before : (k new : Content) (crossing : Crossing) → HoldsBack crossing (LeadsBack k) → ((before : Content) → HoldsBack crossing (λ inverse. Undoes k inverse before) → new ≡ before) → IsMachine new
-machine_before k new (Back inverse) leads before = subst IsMachine (sym (before leads.before leads.back)) leads.machine
-machine_before k new (Forward undone) leads before = absurd leads
+machine_before k new crossing leads before =
+    let found = is_back (LeadsBack k) crossing leads in
+    subst IsMachine (sym (before found.2.before (back_by (λ it. Undoes k it found.2.before) crossing found.0 found.1 found.2.back))) found.2.machine
 
 -- and it is made again from there
 pub taken_back : (k new : Content) (crossing now : Crossing) (stack left : List Change) → IsMachine k → HoldsBack crossing (LeadsBack k) → ((before : Content) → HoldsBack crossing (λ inverse. Undoes k inverse before) → new ≡ before) →
     HoldsForward now (λ undone. IsShaped k → HoldsBack crossing (EndsWhole k) → (before : Content) → IsShaped before → HoldsBack crossing (λ inverse. Undoes k inverse before) → IsTakenBack before undone left k stack) →
     HoldsForward now (λ undone. HoldsBack crossing (EndsWhole k) → IsTakenBack new undone left k stack)
-taken_back k new (Back inverse) now stack left machine leads before again =
-    forward_so (λ undone. IsShaped k → EndsWhole k inverse → (prior : Content) → IsShaped prior → Undoes k inverse prior → IsTakenBack prior undone left k stack) (λ undone. EndsWhole k inverse → IsTakenBack new undone left k stack) now
-    (λ undone taken whole. subst (λ (b : Content). IsTakenBack b undone left k stack) (sym (before leads.before leads.back)) (taken machine.content.shaped whole leads.before leads.machine.content.shaped leads.back))
+taken_back k new crossing now stack left machine leads before again =
+    let found = is_back (LeadsBack k) crossing leads in
+    let undoes : HoldsBack crossing (λ it. Undoes k it found.2.before) = back_by (λ it. Undoes k it found.2.before) crossing found.0 found.1 found.2.back in
+    forward_so
+    (λ undone. IsShaped k → HoldsBack crossing (EndsWhole k) → (prior : Content) → IsShaped prior → HoldsBack crossing (λ it. Undoes k it prior) → IsTakenBack prior undone left k stack)
+    (λ undone. HoldsBack crossing (EndsWhole k) → IsTakenBack new undone left k stack) now
+    (λ undone taken whole. subst (λ (b : Content). IsTakenBack b undone left k stack) (sym (before found.2.before undoes)) (taken machine.content.shaped whole found.2.before found.2.machine.content.shaped undoes))
     again
-taken_back k new (Forward undone) now stack left machine leads before again = absurd leads
 
 -- it leads to the content after the step
 pub made_again : {E : Type 0} (k new : Content) (crossing : Crossing) (stack : List Change) (made : Result Unit E) →
     ((after : Content) (inverse : Inverse) → HoldsForward crossing (λ undone. Redoes k undone stack after inverse) → OnOk made (new ≡ after)) →
     (after : Content) (rest : List Change) → HoldsForward crossing (λ undone. IsTakenBack k undone stack after rest) → OnOk made (new ≡ after)
-made_again k new (Forward undone) stack made to after rest taken = to after taken.inverse taken.redoes
-made_again k new (Back inverse) stack made to after rest taken = absurd taken
+made_again k new crossing stack made to after rest taken =
+    let found = is_forward (λ it. IsTakenBack k it stack after rest) crossing taken in
+    to after found.2.inverse (forward_by (λ it. Redoes k it stack after found.2.inverse) crossing found.0 found.1 found.2.redoes)
 
 -- a machine is left, whether it was made or not
 pub machine_after : {E : Type 0} (k new : Content) (crossing : Crossing) (stack : List Change) (made : Result Unit E) → IsMachine k → HoldsForward crossing (λ undone. LeadsOn k undone stack) →
     ((after : Content) (inverse : Inverse) → HoldsForward crossing (λ undone. Redoes k undone stack after inverse) → OnOk made (new ≡ after)) → OnErr made (new ≡ k) → IsMachine new
-machine_after k new (Forward undone) stack (Ok done) machine leads to same = subst IsMachine (sym (to leads.after leads.taken.inverse leads.taken.redoes)) leads.machine
-machine_after k new (Back inverse) stack (Ok done) machine leads to same = absurd leads
+machine_after k new crossing stack (Ok done) machine leads to same =
+    let found = is_forward (λ it. LeadsOn k it stack) crossing leads in
+    subst IsMachine (sym (to found.2.after found.2.taken.inverse (forward_by (λ it. Redoes k it stack found.2.after found.2.taken.inverse) crossing found.0 found.1 found.2.taken.redoes))) found.2.machine
 machine_after k new crossing stack (Err e) machine leads to same = subst IsMachine (sym same) machine
 
 -- and what stands in its place leads back from there
 pub takes_back : {E : Type 0} (k new : Content) (crossing now : Crossing) (stack : List Change) (made : Result Unit E) → IsMachine k → HoldsForward crossing (λ undone. LeadsOn k undone stack) →
     (IsShaped k → (after : Content) (rest : List Change) → HoldsForward crossing (λ undone. IsTakenBack k undone stack after rest) → OnOk made (HoldsBack now (TakesBack k new))) → OnOk made (HoldsBack now (TakesBack k new))
-takes_back k new (Forward undone) now stack made machine leads back = back machine.content.shaped leads.after leads.rest leads.taken
-takes_back k new (Back inverse) now stack made machine leads back = absurd leads
+takes_back k new crossing now stack made machine leads back =
+    let found = is_forward (λ it. LeadsOn k it stack) crossing leads in
+    back machine.content.shaped found.2.after found.2.rest (forward_by (λ it. IsTakenBack k it stack found.2.after found.2.rest) crossing found.0 found.1 found.2.taken)
 
 module _ {E : Type 0} (k new : Content) (now : Crossing) where
   pub leads_back : (made : Result Unit E) → IsMachine k → OnOk made (HoldsBack now (TakesBack k new)) → OnOk made (HoldsBack now (LeadsBack new))

@@ -1,5 +1,5 @@
 -- A session without its last entries.
-use Rattle.std.proofs.Common.{◌≡◌, ◌≢◌, ℕ, zero, suc, ◌+◌, ◌-◌, ◌<◌, ◌≤◌, ◌==◌, Bool, true, false, List, [], ◌∷◌, ◌++◌, Option, Some, None, length, drop, map, take, reverse, if◌then◌else◌, arith, refl, sym, ap, subst, ◌∙◌, eqb-true, length-append, add-one}
+use Rattle.std.proofs.Common.{◌≡◌, ◌≢◌, ℕ, zero, suc, ◌+◌, ◌≤◌, ◌==◌, Bool, true, false, List, [], ◌∷◌, ◌++◌, Option, Some, None, length, drop, map, take, reverse, if◌then◌else◌, arith, refl, sym, ap, subst, ◌∙◌, eqb-true, length-append, add-one}
 use Rattle.std.proofs.lemmas.Bool.{eqb-false}
 use Rattle.std.proofs.lemmas.List.{length-map, length-reverse, length-take-le, take_all}
 use Rattle.tx_base.specs.declared.marks.Mark.{Mark}

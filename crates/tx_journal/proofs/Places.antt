@@ -1,46 +1,13 @@
 -- The places of what leads over the entries of a session.
-use Rattle.std.proofs.Common.{◌≡◌, ℕ, ◌+◌, ◌≢◌, List, [], ◌∷◌, ◌++◌, length, length-append, map, reverse, take, set, get_or, refl, sym, ap, ◌∙◌}
-use Rattle.std.proofs.lemmas.List.{append-nil, append_assoc, length-map, map-append, reverse-append, reverse-reverse}
-use Rattle.std.proofs.Math.Seq.{get_or-append_seam, set-append_seam, take-append_seam}
+use Rattle.std.proofs.Common.{◌≡◌, ℕ, ◌+◌, ◌-◌, ◌≤◌, ◌≢◌, List, [], ◌∷◌, ◌++◌, length, length-append, map, filter_map, reverse, take, drop, set, get_or, Option, Some, None, arith, refl, sym, ap, ◌∙◌}
+use Rattle.std.specs.List.{cons_option}
+use Rattle.std.proofs.lemmas.List.{append-nil, append_assoc, length-map, length-drop, length-take-le, map-append, reverse-append, reverse-reverse, take-append-drop}
+use Rattle.std.proofs.Math.Seq.{drop-append_seam, get_or-append_seam, set-append_seam, take-append_seam}
 use Rattle.tx_journal.specs.Crossings.{inverses_in, undone_in, IsParted}
+use Rattle.tx_live.specs.Crossings.{inverse_at, undone_at}
 use Rattle.tx_live.specs.declared.crossing.Crossing.{Crossing}
-use Rattle.tx_live.specs.declared.crossing.Crossing.TheVariants.{Back, Forward}
 use Rattle.tx_live.specs.declared.inverse.Inverse.{Inverse}
 use Rattle.tx_live.specs.declared.undone.Undone.{Undone}
-
--- so many that lead back, and then some that lead forward
-abbrev pub both : List Inverse → List Undone → List Crossing
-both is us = map Back is ++ map Forward us
-
-forward_inverses : (us : List Undone) → inverses_in (map Forward us) ≡ []
-forward_inverses [] = refl
-forward_inverses (u ∷ us) = forward_inverses us
-
-forward_undone : (us : List Undone) → undone_in (map Forward us) ≡ us
-forward_undone [] = refl
-forward_undone (u ∷ us) = ap (λ (xs : List Undone). u ∷ xs) (forward_undone us)
-
-both_inverses : (is : List Inverse) (us : List Undone) → inverses_in (both is us) ≡ is
-both_inverses [] us = forward_inverses us
-both_inverses (i ∷ is) us = ap (λ (xs : List Inverse). i ∷ xs) (both_inverses is us)
-
-both_undone : (is : List Inverse) (us : List Undone) → undone_in (both is us) ≡ us
-both_undone [] us = forward_undone us
-both_undone (i ∷ is) us = both_undone is us
-
--- what places have, by what they are
-module _ (places : List Crossing) (is : List Inverse) (us : List Undone) (same : places ≡ both is us) where
-  pub inverses_are : inverses_in places ≡ is
-  inverses_are = ap inverses_in same ∙ both_inverses is us
-
-  pub undone_are : undone_in places ≡ us
-  undone_are = ap undone_in same ∙ both_undone is us
-
-  pub parted : (made : ℕ) → length is ≡ made → IsParted places made
-  parted made count = record {
-    count = ap length inverses_are ∙ count;
-    order = same ∙ (λ j. both (sym inverses_are j) (sym undone_are j));
-  }
 
 -- a list that is not empty has a last element
 pub has_last : {X : Type 0} (xs : List X) → xs ≢ [] → (rest : List X) × (x : X) × (xs ≡ rest ++ x ∷ [])
@@ -60,51 +27,174 @@ same_last xs ys x y same =
     let rest : reverse xs ≡ reverse ys = cc in
     (sym (reverse-reverse xs) ∙ ap reverse rest ∙ reverse-reverse ys, cc)
 
--- one more that leads back stands behind the others
-back_more : (is : List Inverse) (i : Inverse) (cs : List Crossing) → map Back (is ++ i ∷ []) ++ cs ≡ map Back is ++ Back i ∷ cs
-back_more is i cs = ap (λ (xs : List Crossing). xs ++ cs) (map-append Back is (i ∷ [])) ∙ append_assoc (map Back is) (Back i ∷ []) cs
+-- places that all lead to one side, and what leads there
+module _ {A : Type 0} (at : Crossing → Option A) where
+  abbrev pub Lead : List Crossing → List A → Type 0
+  Lead cs xs = map at cs ≡ map Some xs
 
-module _ (places : List Crossing) (is : List Inverse) (i : Inverse) where
-  -- at the end
-  pub pushed : places ≡ both is [] → places ++ Back i ∷ [] ≡ both (is ++ i ∷ []) []
-  pushed same = ap (λ (cs : List Crossing). cs ++ Back i ∷ []) (same ∙ append-nil (map Back is)) ∙ sym (back_more is i [])
+  pub led : (cs : List Crossing) (xs : List A) → Lead cs xs → filter_map at cs ≡ xs
+  led [] [] lead = refl
+  led [] (x ∷ xs) lead = absurd (let none : [] ≡ Some x ∷ map Some xs = lead in cc)
+  led (c ∷ cs) [] lead = absurd (let none : at c ∷ map at cs ≡ [] = lead in cc)
+  led (c ∷ cs) (x ∷ xs) lead =
+      let all : at c ∷ map at cs ≡ Some x ∷ map Some xs = lead in
+      let first : at c ≡ Some x = cc in
+      let rest : map at cs ≡ map Some xs = cc in
+      rw (first) (ap (λ (ys : List A). x ∷ ys) (led cs xs rest))
 
-  -- the last one, where no other follows
-  pub popped : places ≡ both (is ++ i ∷ []) [] → (rest : List Crossing) (c : Crossing) → places ≡ rest ++ c ∷ [] → (rest ≡ both is []) × (c ≡ Back i)
-  popped same rest c parts =
-      let ends = same_last rest (map Back is) c (Back i) (sym parts ∙ same ∙ back_more is i []) in
-      (ends.0 ∙ sym (append-nil (map Back is)), ends.1)
+  fewer : (cs : List Crossing) → length (filter_map at cs) ≤ length cs
+  fewer [] = omega arith
+  fewer (c ∷ cs) = by (at c) (fewer cs)
+    where
+      by : (one : Option A) → length (filter_map at cs) ≤ length cs → length (cons_option one (filter_map at cs)) ≤ length (c ∷ cs)
+      by None rest = omega (arith, rest)
+      by (Some x) rest = omega (arith, rest)
 
-  module _ (us : List Undone) where
-    -- the last one that leads back
-    pub back_there : places ≡ both (is ++ i ∷ []) us → (d : Crossing) → get_or places (length is) d ≡ Back i
-    back_there same d =
-        ap (λ (cs : List Crossing). get_or cs (length is) d) (same ∙ back_more is i (map Forward us)) ∙ ap (λ (n : ℕ). get_or (map Back is ++ Back i ∷ map Forward us) n d) (sym (length-map is Back))
-        ∙ get_or-append_seam (map Back is) (Back i) (map Forward us) d
+  -- where as many lead there as there are, all do
+  pub lead_all : (cs : List Crossing) → length (filter_map at cs) ≡ length cs → Lead cs (filter_map at cs)
+  lead_all [] all = refl
+  lead_all (c ∷ cs) all = by (at c) all (lead_all cs)
+    where
+      by : (one : Option A) → length (cons_option one (filter_map at cs)) ≡ length (c ∷ cs) → (length (filter_map at cs) ≡ length cs → Lead cs (filter_map at cs)) →
+          one ∷ map at cs ≡ map Some (cons_option one (filter_map at cs))
+      by None all rest = let few = fewer cs in absurd (omega (arith, all, few))
+      by (Some x) all rest = ap (λ (ys : List (Option A)). Some x ∷ ys) (rest (omega (arith, all)))
 
-    pub back_turned : (u : Undone) → places ≡ both (is ++ i ∷ []) us → set places (length is) (Forward u) ≡ both is (u ∷ us)
-    back_turned u same =
-        ap (λ (cs : List Crossing). set cs (length is) (Forward u)) (same ∙ back_more is i (map Forward us))
-        ∙ ap (λ (n : ℕ). set (map Back is ++ Back i ∷ map Forward us) n (Forward u)) (sym (length-map is Back))
-        ∙ set-append_seam (map Back is) (Back i) (map Forward us) (Forward u)
+  pub lead_none : (cs : List Crossing) → Lead cs [] → cs ≡ []
+  lead_none [] lead = refl
+  lead_none (c ∷ cs) lead = absurd (let none : at c ∷ map at cs ≡ [] = lead in cc)
 
-    -- the first one that leads forward
-    pub forward_turned : (u : Undone) → places ≡ both is (u ∷ us) → set places (length is) (Back i) ≡ both (is ++ i ∷ []) us
-    forward_turned u same =
-        ap (λ (cs : List Crossing). set cs (length is) (Back i)) same ∙ ap (λ (n : ℕ). set (map Back is ++ Forward u ∷ map Forward us) n (Back i)) (sym (length-map is Back))
-        ∙ set-append_seam (map Back is) (Forward u) (map Forward us) (Back i) ∙ sym (back_more is i (map Forward us))
+  pub lead_more : (cs : List Crossing) (xs : List A) (c : Crossing) (x : A) → Lead cs xs → at c ≡ Some x → Lead (cs ++ c ∷ []) (xs ++ x ∷ [])
+  lead_more cs xs c x lead one = map-append at cs (c ∷ []) ∙ (λ j. lead j ++ one j ∷ []) ∙ sym (map-append Some xs (x ∷ []))
 
-pub forward_there : (places : List Crossing) (is : List Inverse) (u : Undone) (us : List Undone) → places ≡ both is (u ∷ us) → (d : Crossing) → get_or places (length is) d ≡ Forward u
-forward_there places is u us same d =
-    ap (λ (cs : List Crossing). get_or cs (length is) d) same ∙ ap (λ (n : ℕ). get_or (map Back is ++ Forward u ∷ map Forward us) n d) (sym (length-map is Back))
-    ∙ get_or-append_seam (map Back is) (Forward u) (map Forward us) d
+  -- the first one, and the others
+  pub lead_first : (cs : List Crossing) (x : A) (xs : List A) → Lead cs (x ∷ xs) → (c : Crossing) × (rest : List Crossing) × (cs ≡ c ∷ rest) × (at c ≡ Some x) × Lead rest xs
+  lead_first [] x xs lead = absurd (let none : [] ≡ Some x ∷ map Some xs = lead in cc)
+  lead_first (c ∷ cs) x xs lead = let all : at c ∷ map at cs ≡ Some x ∷ map Some xs = lead in (c, cs, refl, cc, cc)
 
--- without those that lead forward
-pub cut_places : (places : List Crossing) (is : List Inverse) (us : List Undone) → places ≡ both is us → take (length is) places ≡ both is []
-cut_places places is us same =
-    ap (take (length is)) same ∙ ap (λ (n : ℕ). take n (both is us)) (sym (length-map is Back)) ∙ take-append_seam (map Back is) (map Forward us) ∙ sym (append-nil (map Back is))
+  -- the last one, and the others
+  pub lead_last : (cs : List Crossing) (xs : List A) (x : A) → Lead cs (xs ++ x ∷ []) → (rest : List Crossing) × (c : Crossing) × (cs ≡ rest ++ c ∷ []) × (at c ≡ Some x) × Lead rest xs
+  lead_last cs [] x lead =
+      let first = lead_first cs x [] lead in
+      ([], first.0, first.2 ∙ ap (λ (ds : List Crossing). first.0 ∷ ds) (lead_none first.1 first.4), first.3, refl)
+  lead_last cs (y ∷ ys) x lead =
+      let first = lead_first cs y (ys ++ x ∷ []) lead in
+      let last = lead_last first.1 ys x first.4 in
+      (first.0 ∷ last.0, last.1, first.2 ∙ ap (λ (ds : List Crossing). first.0 ∷ ds) last.2, last.3, λ j. first.3 j ∷ last.4 j)
 
--- how many places there are
-pub long : (places : List Crossing) (is : List Inverse) (us : List Undone) → places ≡ both is us → length places ≡ length is + length us
-long places is us same =
-    ap length same ∙ length-append (map Back is) (map Forward us) ∙ (λ j. length-map is Back j + length-map us Forward j)
+-- places of which so many lead back by these inverses, and the others forward by these
+pub record AreParted (places : List Crossing) (made : ℕ) (is : List Inverse) (us : List Undone) : Type 0 where
+  pub behind : List Crossing
+  pub ahead : List Crossing
+  pub order : places ≡ behind ++ ahead
+  pub count : length behind ≡ made
+  pub back : Lead inverse_at behind is
+  pub forward : Lead undone_at ahead us
+
+pub parts_of : (places : List Crossing) (made : ℕ) → IsParted places made → AreParted places made (inverses_in places made) (undone_in places made)
+parts_of places made is =
+    let all = is.long in
+    let enough : made ≤ length places = omega (arith, all) in
+    let behind_long : length (take made places) ≡ made = length-take-le made places enough in
+    let ahead_long : length (drop made places) ≡ length places - made = length-drop made places in
+    record {
+      behind = take made places;
+      ahead = drop made places;
+      order = sym (take-append-drop made places);
+      count = behind_long;
+      back = lead_all inverse_at (take made places) (is.count ∙ sym behind_long);
+      forward = lead_all undone_at (drop made places) (omega (arith, all, ahead_long));
+    }
+
+-- what places have, by their parts
+module _ (places : List Crossing) (made : ℕ) (is : List Inverse) (us : List Undone) (are : AreParted places made is us) where
+  taken : take made places ≡ are.behind
+  taken = (λ j. take (sym are.count j) (are.order j)) ∙ take-append_seam are.behind are.ahead
+
+  dropped : drop made places ≡ are.ahead
+  dropped = (λ j. drop (sym are.count j) (are.order j)) ∙ drop-append_seam are.behind are.ahead
+
+  pub inverses_are : inverses_in places made ≡ is
+  inverses_are = ap (filter_map inverse_at) taken ∙ led inverse_at are.behind is are.back
+
+  pub undone_are : undone_in places made ≡ us
+  undone_are = ap (filter_map undone_at) dropped ∙ led undone_at are.ahead us are.forward
+
+  ahead_long : length are.ahead ≡ length us
+  ahead_long = sym (length-map are.ahead undone_at) ∙ ap length are.forward ∙ length-map us Some
+
+  behind_long : length is ≡ made
+  behind_long = sym (length-map is Some) ∙ ap length (sym are.back) ∙ length-map are.behind inverse_at ∙ are.count
+
+  pub parted : IsParted places made
+  parted = record {
+    count = ap length inverses_are ∙ behind_long;
+    long = ap length are.order ∙ length-append are.behind are.ahead ∙ (λ j. are.count j + (ahead_long ∙ ap length (sym undone_are)) j);
+  }
+
+  -- without those that lead forward
+  pub cut_parts : AreParted (take made places) made is []
+  cut_parts = record { behind = are.behind; ahead = []; order = taken ∙ sym (append-nil are.behind); count = are.count; back = are.back; forward = refl }
+
+-- with one more that leads back
+pub more_parts : (places : List Crossing) (made : ℕ) (is : List Inverse) (c : Crossing) (i : Inverse) → AreParted places made is [] → inverse_at c ≡ Some i → AreParted (places ++ c ∷ []) (made + 1) (is ++ i ∷ []) []
+more_parts places made is c i are leads = record {
+  behind = are.behind ++ c ∷ [];
+  ahead = [];
+  order = (λ j. (are.order ∙ ap (λ (cs : List Crossing). are.behind ++ cs) (lead_none undone_at are.ahead are.forward) ∙ append-nil are.behind) j ++ c ∷ []) ∙ sym (append-nil (are.behind ++ c ∷ []));
+  count = length-append are.behind (c ∷ []) ∙ ap (λ (n : ℕ). n + 1) are.count;
+  back = lead_more inverse_at are.behind is c i are.back leads;
+  forward = refl;
+}
+
+-- the last one that leads back
+module _ (places : List Crossing) (made last : ℕ) (rest : List Inverse) (i : Inverse) (us : List Undone) (newest : last + 1 ≡ made) (are : AreParted places made (rest ++ i ∷ []) us) where
+  abbrev found : (others : List Crossing) × (c : Crossing) × (are.behind ≡ others ++ c ∷ []) × (inverse_at c ≡ Some i) × Lead inverse_at others rest
+  found = lead_last inverse_at are.behind rest i are.back
+
+  place : length found.0 ≡ last
+  place = let one = sym (length-append found.0 (found.1 ∷ [])) ∙ ap length (sym found.2) ∙ are.count in let made_is = newest in omega (arith, one, made_is)
+
+  seam : places ≡ found.0 ++ found.1 ∷ are.ahead
+  seam = are.order ∙ ap (λ (cs : List Crossing). cs ++ are.ahead) found.2 ∙ append_assoc found.0 (found.1 ∷ []) are.ahead
+
+  pub back_there : (d : Crossing) → inverse_at (get_or places last d) ≡ Some i
+  back_there d = ap inverse_at ((λ j. get_or (seam j) (sym place j) d) ∙ get_or-append_seam found.0 found.1 are.ahead d) ∙ found.3
+
+  pub turned_back : (c : Crossing) (u : Undone) → undone_at c ≡ Some u → AreParted (set places last c) last rest (u ∷ us)
+  turned_back c u leads = record {
+    behind = found.0;
+    ahead = c ∷ are.ahead;
+    order = (λ j. set (seam j) (sym place j) c) ∙ set-append_seam found.0 found.1 are.ahead c;
+    count = place;
+    back = found.4;
+    forward = λ j. leads j ∷ are.forward j;
+  }
+
+  -- where no other follows
+  pub popped : us ≡ [] → (others : List Crossing) (c : Crossing) → places ≡ others ++ c ∷ [] → (inverse_at c ≡ Some i) × AreParted others last rest []
+  popped none others c parts =
+      let alone : are.ahead ≡ [] = lead_none undone_at are.ahead (are.forward ∙ ap (map Some) none) in
+      let ends = same_last others found.0 c found.1 (sym parts ∙ seam ∙ ap (λ (cs : List Crossing). found.0 ++ found.1 ∷ cs) alone) in
+      (ap inverse_at ends.1 ∙ found.3, record { behind = found.0; ahead = []; order = ends.0 ∙ sym (append-nil found.0); count = place; back = found.4; forward = refl })
+
+-- the first one that leads forward
+module _ (places : List Crossing) (made : ℕ) (is : List Inverse) (u : Undone) (us : List Undone) (are : AreParted places made is (u ∷ us)) where
+  abbrev next : (c : Crossing) × (others : List Crossing) × (are.ahead ≡ c ∷ others) × (undone_at c ≡ Some u) × Lead undone_at others us
+  next = lead_first undone_at are.ahead u us are.forward
+
+  joint : places ≡ are.behind ++ next.0 ∷ next.1
+  joint = are.order ∙ ap (λ (cs : List Crossing). are.behind ++ cs) next.2
+
+  pub forward_there : (d : Crossing) → undone_at (get_or places made d) ≡ Some u
+  forward_there d = ap undone_at ((λ j. get_or (joint j) (sym are.count j) d) ∙ get_or-append_seam are.behind next.0 next.1 d) ∙ next.3
+
+  pub turned_forward : (c : Crossing) (i : Inverse) → inverse_at c ≡ Some i → AreParted (set places made c) (made + 1) (is ++ i ∷ []) us
+  turned_forward c i leads = record {
+    behind = are.behind ++ c ∷ [];
+    ahead = next.1;
+    order = (λ j. set (joint j) (sym are.count j) c) ∙ set-append_seam are.behind next.0 next.1 c ∙ sym (append_assoc are.behind (c ∷ []) next.1);
+    count = length-append are.behind (c ∷ []) ∙ ap (λ (n : ℕ). n + 1) are.count;
+    back = lead_more inverse_at are.behind is c i are.back leads;
+    forward = next.4;
+  }

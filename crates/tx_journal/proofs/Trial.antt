@@ -1,5 +1,5 @@
 -- What a session shows after an abort at its position.
-use Rattle.std.proofs.Common.{◌≡◌, ℕ, List, ◌∷◌, reverse, ap, ◌∙◌}
+use Rattle.std.proofs.Common.{◌≡◌, List, ◌∷◌, reverse, ap, ◌∙◌}
 use Rattle.tx_base.specs.declared.names.Pid.{Pid}
 use Rattle.tx_base.specs.declared.steps.Accepted.{Accepted}
 use Rattle.tx_base.specs.declared.steps.Reply.TheVariants.{Aborted}

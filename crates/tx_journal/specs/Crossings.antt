@@ -1,13 +1,13 @@
 -- What leads over the entries of a session.
-use Rattle.std.specs.Prelude.{◌≡◌, ◌⊎◌, ℕ, List, [], ◌∷◌, ◌++◌, length, map}
+use Rattle.std.specs.Prelude.{◌≡◌, ◌⊎◌, ℕ, ◌+◌, List, [], ◌∷◌, ◌++◌, length, filter_map, take, drop}
 use Rattle.tx_change.specs.Stacks.{below_top}
 use Rattle.tx_change.specs.declared.change.Change.{Change}
 use Rattle.tx_core.specs.Undo.{LeadsBack}
+use Rattle.tx_live.specs.Crossings.{inverse_at, undone_at}
 use Rattle.tx_live.specs.Inverses.{Undoes}
 use Rattle.tx_live.specs.Redone.{moved_by, EndsWhole, IsTakenBack}
 use Rattle.tx_live.specs.declared.content.Content.{Content}
 use Rattle.tx_live.specs.declared.crossing.Crossing.{Crossing}
-use Rattle.tx_live.specs.declared.crossing.Crossing.TheVariants.{Back, Forward}
 use Rattle.tx_live.specs.declared.inverse.Inverse.{Inverse}
 use Rattle.tx_live.specs.declared.undone.Undone.{Undone}
 
@@ -19,25 +19,21 @@ pub record Crossed : Type 0 where
   pub stack : List Change
   pub room : ℕ
 
--- those that lead back
-abbrev pub inverses_in : List Crossing → List Inverse
-inverses_in [] = []
-inverses_in (Back inverse ∷ places) = inverse ∷ inverses_in places
-inverses_in (Forward undone ∷ places) = inverses_in places
+-- the places of entries that are made, of which there are so many, lead back
+abbrev pub inverses_in : List Crossing → ℕ → List Inverse
+inverses_in places made = filter_map inverse_at (take made places)
 
--- those that lead forward
-abbrev pub undone_in : List Crossing → List Undone
-undone_in [] = []
-undone_in (Back inverse ∷ places) = undone_in places
-undone_in (Forward undone ∷ places) = undone ∷ undone_in places
+-- those after them lead forward
+abbrev pub undone_in : List Crossing → ℕ → List Undone
+undone_in places made = filter_map undone_at (drop made places)
 
-abbrev pub crossed_in : List Crossing → List Change → ℕ → Crossed
-crossed_in places stack room = record { inverses = inverses_in places; undone = undone_in places; stack = stack; room = room }
+abbrev pub crossed_in : List Crossing → ℕ → List Change → ℕ → Crossed
+crossed_in places made stack room = record { inverses = inverses_in places made; undone = undone_in places made; stack = stack; room = room }
 
--- those that lead back are so many, and stand before those that lead forward
+-- each of so many leads back, and each after them forward
 pub record IsParted (places : List Crossing) (made : ℕ) : Type 0 where
-  pub count : length (inverses_in places) ≡ made
-  pub order : places ≡ map Back (inverses_in places) ++ map Forward (undone_in places)
+  pub count : length (inverses_in places made) ≡ made
+  pub long : length places ≡ made + length (undone_in places made)
 
 -- what makes the step again is kept, as the next one; or nothing is kept
 abbrev pub KeepsBack : Content → Content → Crossed → Crossed → Type 0

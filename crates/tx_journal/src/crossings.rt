@@ -32,8 +32,8 @@ impl Model for Crossings {
 
     ghost Value = { Crossed };
 
-    ghost view = { λ crossings. crossed_in crossings.places.items crossings.stack.items
-        (vec_capacity crossings.places) };
+    ghost view = { λ crossings. crossed_in crossings.places.items crossings.made
+        crossings.stack.items (vec_capacity crossings.places) };
 
     ghost invariant = { λ crossings. IsParted crossings.places.items crossings.made };
 }
@@ -98,7 +98,7 @@ impl Crossings {
         ensures undone { self.new.undone ≡ [] }
         ensures room { self.new.room ≡ self.old.room }
     {
-        self.places.push_reserved(Crossing::Back(inverse));
+        self.places.push_reserved(Crossing::by(inverse));
         self.made += 1;
     }
 
@@ -155,7 +155,7 @@ impl Crossings {
         let Some(crossing) = self.places.pop() else {
             unreachable!()
         };
-        let Crossing::Back(inverse) = crossing else {
+        let Some(inverse) = crossing.into_inverse() else {
             unreachable!()
         };
         self.made -= 1;

@@ -18,16 +18,16 @@ use Rattle.tx_base.specs.SlotFacts.{slot_there}
 use Rattle.tx_live.proofs.PostedAll.{posts_as}
 use Rattle.tx_live.proofs.TakenBack.{same_slots}
 use Rattle.tx_live.specs.Content.{IsShaped, IsTxn}
-use Rattle.tx_live.specs.Crossings.{HoldsBack}
 use Rattle.tx_live.specs.HeldPosts.{HaveSignals, PostsAll}
 use Rattle.tx_live.specs.Inverses.{first_of, last_of, less_last, none_made, post_changes, uncommitted, unposted_all, with_txn, HasPosts, HaveStarters}
 use Rattle.tx_live.specs.KeptPosts.{posted_at}
 use Rattle.tx_live.specs.Laws.{LiveLaws}
 use Rattle.tx_live.specs.Redone.{with_last, RedoesCommitted, TakesBack, WasPosted}
 use Rattle.tx_live.specs.declared.content.BoxedTxn.{BoxedTxn}
+use Rattle.tx_live.specs.CrossingFacts.{back_by}
+use Rattle.tx_live.specs.Crossings.{inverse_at, HoldsBack}
 use Rattle.tx_live.specs.declared.content.Content.{Content}
 use Rattle.tx_live.specs.declared.crossing.Crossing.{Crossing}
-use Rattle.tx_live.specs.declared.crossing.Crossing.TheVariants.{Back}
 use Rattle.tx_live.specs.declared.inverse.Inverse.{Inverse}
 use Rattle.tx_live.specs.declared.inverse.Inverse.TheVariants.{Committed}
 use Rattle.tx_model.specs.Membership.{is_of, mark_unless_of}
@@ -269,12 +269,11 @@ module _ (laws : LiveLaws) (k new : Content) (starter : Pid) (count : ℕ) (held
         by (Some members) e joined ended = takes_back members e joined ended
 
 -- the same inverse takes the same step back, in its place
-pub back_same : (before new after : Content) (crossing : Crossing) (inverse : Inverse) → new ≡ after → crossing ≡ Back inverse → TakesBack before after inverse → HoldsBack crossing (TakesBack before new)
-back_same before new after crossing inverse same is back =
-    subst (λ (it : Crossing). HoldsBack it (TakesBack before new)) (sym is) (subst (λ (k : Content). TakesBack before k inverse) (sym same) back)
+pub back_same : (before new after : Content) (crossing : Crossing) (inverse : Inverse) → new ≡ after → inverse_at crossing ≡ Some inverse → TakesBack before after inverse → HoldsBack crossing (TakesBack before new)
+back_same before new after crossing inverse same is back = back_by (TakesBack before new) crossing inverse is (subst (λ (k : Content). TakesBack before k inverse) (sym same) back)
 
 -- where it was made again
-pub back_made : {E : Type 0} (made : Result Unit E) (before new after : Content) (crossing : Crossing) (inverse : Inverse) → OnOk made (new ≡ after) → OnOk made (crossing ≡ Back inverse) → TakesBack before after inverse →
-    OnOk made (HoldsBack crossing (TakesBack before new))
+pub back_made : {E : Type 0} (made : Result Unit E) (before new after : Content) (crossing : Crossing) (inverse : Inverse) → OnOk made (new ≡ after) → OnOk made (inverse_at crossing ≡ Some inverse) →
+    TakesBack before after inverse → OnOk made (HoldsBack crossing (TakesBack before new))
 back_made (Ok done) before new after crossing inverse same is back = back_same before new after crossing inverse same is back
 back_made (Err e) before new after crossing inverse same is back = tt

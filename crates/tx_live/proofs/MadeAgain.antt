@@ -1,5 +1,5 @@
 -- Steps made again that were taken back.
-use Rattle.std.proofs.Common.{◌≡◌, ℕ, if◌then◌else◌, List, length, Option, Some, None, sym, ap, ◌∙◌}
+use Rattle.std.proofs.Common.{Result, Ok, Err, OnErr, ◌≡◌, ℕ, if◌then◌else◌, List, length, Option, Some, None, sym, ap, ◌∙◌}
 use Rattle.std.proofs.lemmas.Option.{same_Some}
 use Rattle.tx_base.specs.Slots.{slot_at, with_slot}
 use Rattle.tx_base.specs.declared.marks.Mark.{Mark}
@@ -78,3 +78,8 @@ aborted_made laws k new after starter stands boxed other txn led between there i
 
     led_same : led ≡ led_txn k.parts other.txn.value
     led_same = led_is ∙ ap (led_txn k.parts) txn_is
+
+-- what is so is so where the call failed too
+pub after_err : {T E P : Type 0} (r : Result T E) → P → OnErr r P
+after_err (Ok value) holds = tt
+after_err (Err e) holds = holds

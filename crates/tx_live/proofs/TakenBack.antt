@@ -7,11 +7,18 @@ use Rattle.tx_base.specs.SlotFacts.{slot_twice}
 use Rattle.tx_base.specs.Slots.{slot_at, with_slot}
 use Rattle.tx_base.specs.declared.names.Pid.{Pid}
 use Rattle.tx_change.specs.Exchange.{applied, undone}
+use Rattle.tx_change.specs.declared.change.Change.{Change}
 use Rattle.tx_live.specs.Aborts.{forth_parts, forth_txn}
-use Rattle.tx_live.specs.Inverses.{first_of, last_of, less_last, none_made, post_changes, remarked, step_back, unposted_all, with_txn, Revives, UndoesAborted, UndoesBegun, UndoesCommitted, UndoesInside}
+use Rattle.tx_live.specs.Content.{IsShaped}
+use Rattle.tx_live.specs.CrossingFacts.{back_of, forward_so}
+use Rattle.tx_live.specs.Crossings.{inverse_at, HoldsBack, HoldsForward}
+use Rattle.tx_live.specs.Inverses.{first_of, last_of, less_last, none_made, post_changes, remarked, step_back, unposted_all, with_txn, Revives, Undoes, UndoesAborted, UndoesBegun, UndoesCommitted, UndoesInside}
 use Rattle.tx_live.specs.Laws.{LiveLaws}
 use Rattle.tx_live.specs.declared.content.BoxedTxn.{BoxedTxn}
+use Rattle.tx_live.specs.Redone.{EndsWhole, IsTakenBack}
 use Rattle.tx_live.specs.declared.content.Content.{Content}
+use Rattle.tx_live.specs.declared.crossing.Crossing.{Crossing}
+use Rattle.tx_live.specs.declared.inverse.Inverse.{Inverse}
 use Rattle.tx_live.specs.declared.marking.Marked.{Marked}
 use Rattle.tx_model.specs.State.{Object, Proc}
 use Rattle.tx_proc.specs.declared.proc.Answer.{Answer as TheAnswer}
@@ -124,3 +131,17 @@ aborted_taken laws k new prior boxed stood members starter txn led after named i
     same : (new.marks ≡ prior.marks) × (new.owners ≡ prior.owners)
     same = revived_same laws k new prior boxed.txn.value led members (ap (λ (t : Txn). t.starter) led_is) (ap (λ (t : Txn). t.defers) led_is) (ap (λ (t : Txn). t.objects) led_is) (ap (λ (t : Txn). t.members) led_is)
         marks long owns sized undoes.revives
+
+-- what leads over a step has this inverse: what is so where that takes the step back is so of the place
+module _ (k : Content) (crossing : Crossing) (inverse : Inverse) (is : inverse_at crossing ≡ Some inverse) where
+  pub before_by : (new : Content) → ((before : Content) → Undoes k inverse before → new ≡ before) → (before : Content) → HoldsBack crossing (λ it. Undoes k it before) → new ≡ before
+  before_by new leads before undoes = leads before (back_of (λ it. Undoes k it before) crossing inverse is undoes)
+
+  pub again_by : (now : Crossing) (stack rest : List Change) →
+      HoldsForward now (λ undone. IsShaped k → EndsWhole k inverse → (before : Content) → IsShaped before → Undoes k inverse before → IsTakenBack before undone stack k rest) →
+      HoldsForward now (λ undone. IsShaped k → HoldsBack crossing (EndsWhole k) → (before : Content) → IsShaped before → HoldsBack crossing (λ it. Undoes k it before) → IsTakenBack before undone stack k rest)
+  again_by now stack rest =
+      forward_so
+      (λ undone. IsShaped k → EndsWhole k inverse → (before : Content) → IsShaped before → Undoes k inverse before → IsTakenBack before undone stack k rest)
+      (λ undone. IsShaped k → HoldsBack crossing (EndsWhole k) → (before : Content) → IsShaped before → HoldsBack crossing (λ it. Undoes k it before) → IsTakenBack before undone stack k rest)
+      now (λ undone again shaped whole before shaped_before undoes. again shaped (back_of (EndsWhole k) crossing inverse is whole) before shaped_before (back_of (λ it. Undoes k it before) crossing inverse is undoes))

@@ -1,25 +1,60 @@
 -- Facts of what leads over steps, with their proofs.
-use Rattle.std.proofs.Common.{◌≡◌, refl}
-use Rattle.tx_live.specs.Crossings.{HoldsBack, HoldsForward}
+use Rattle.std.proofs.Common.{◌≡◌, Option, Some, None, MatchOption, refl, sym, ap, subst}
+use Rattle.tx_live.specs.Crossings.{inverse_at, moved_over, undone_at, HoldsBack, HoldsForward}
+use Rattle.tx_live.specs.Redone.{moved_by}
 use Rattle.tx_live.specs.declared.crossing.Crossing.{Crossing}
-use Rattle.tx_live.specs.declared.crossing.Crossing.TheVariants.{Back, Forward}
+use Rattle.tx_live.specs.declared.crossing.Crossing.TheVariants as over
 use Rattle.tx_live.specs.declared.inverse.Inverse.{Inverse}
 use Rattle.tx_live.specs.declared.undone.Undone.{Undone}
+use Rattle.tx_live.specs.declared.undone.Undone.TheVariants as taken
+
+module _ {A : Type 0} (P : A → Type 0) where
+  there : (found : Option A) → MatchOption found ⊥ P → (x : A) × (found ≡ Some x) × P x
+  there None holds = absurd holds
+  there (Some x) holds = (x, refl, holds)
+
+  follow : (Q : A → Type 0) (found : Option A) → ((x : A) → P x → Q x) → MatchOption found ⊥ P → MatchOption found ⊥ Q
+  follow Q None follows holds = absurd holds
+  follow Q (Some x) follows holds = follows x holds
+
+  there_by : (found : Option A) (x : A) → found ≡ Some x → P x → MatchOption found ⊥ P
+  there_by found x is so = subst (λ (it : Option A). MatchOption it ⊥ P) (sym is) so
+
+  there_of : (found : Option A) (x : A) → found ≡ Some x → MatchOption found ⊥ P → P x
+  there_of found x is holds = subst (λ (it : Option A). MatchOption it ⊥ P) is holds
 
 -- what is so of what leads back, and all that follows from it
 pub back_so : (P Q : Inverse → Type 0) (crossing : Crossing) → ((inverse : Inverse) → P inverse → Q inverse) → HoldsBack crossing P → HoldsBack crossing Q
-back_so P Q (Back inverse) follows holds = follows inverse holds
-back_so P Q (Forward undone) follows holds = absurd holds
+back_so P Q crossing = follow P Q (inverse_at crossing)
 
 pub forward_so : (P Q : Undone → Type 0) (crossing : Crossing) → ((undone : Undone) → P undone → Q undone) → HoldsForward crossing P → HoldsForward crossing Q
-forward_so P Q (Back inverse) follows holds = absurd holds
-forward_so P Q (Forward undone) follows holds = follows undone holds
+forward_so P Q crossing = follow P Q (undone_at crossing)
 
--- what leads back is an inverse, what leads forward is none
-pub is_back : (P : Inverse → Type 0) (crossing : Crossing) → HoldsBack crossing P → (inverse : Inverse) × (crossing ≡ Back inverse) × P inverse
-is_back P (Back inverse) holds = (inverse, refl, holds)
-is_back P (Forward undone) holds = absurd holds
+-- what leads back has an inverse, and what leads forward has what makes its step again
+pub is_back : (P : Inverse → Type 0) (crossing : Crossing) → HoldsBack crossing P → (inverse : Inverse) × (inverse_at crossing ≡ Some inverse) × P inverse
+is_back P crossing = there P (inverse_at crossing)
 
-pub is_forward : (P : Undone → Type 0) (crossing : Crossing) → HoldsForward crossing P → (undone : Undone) × (crossing ≡ Forward undone) × P undone
-is_forward P (Back inverse) holds = absurd holds
-is_forward P (Forward undone) holds = (undone, refl, holds)
+pub is_forward : (P : Undone → Type 0) (crossing : Crossing) → HoldsForward crossing P → (undone : Undone) × (undone_at crossing ≡ Some undone) × P undone
+is_forward P crossing = there P (undone_at crossing)
+
+-- it is so of that inverse where it is so of the place that has it, and the other way round
+module _ (P : Inverse → Type 0) (crossing : Crossing) (inverse : Inverse) (is : inverse_at crossing ≡ Some inverse) where
+  pub back_by : P inverse → HoldsBack crossing P
+  back_by = there_by P (inverse_at crossing) inverse is
+
+  pub back_of : HoldsBack crossing P → P inverse
+  back_of = there_of P (inverse_at crossing) inverse is
+
+module _ (P : Undone → Type 0) (crossing : Crossing) (undone : Undone) (is : undone_at crossing ≡ Some undone) where
+  pub forward_by : P undone → HoldsForward crossing P
+  forward_by = there_by P (undone_at crossing) undone is
+
+  pub forward_of : HoldsForward crossing P → P undone
+  forward_of = there_of P (undone_at crossing) undone is
+
+-- as many changes come off the stack as its step is made again
+pub moved_forward : (crossing : Crossing) (undone : Undone) → undone_at crossing ≡ Some undone → moved_over crossing ≡ moved_by undone
+moved_forward (over.Outside log) undone is = let same : taken.Outside log None ≡ undone = cc in ap moved_by same
+moved_forward (over.Inside starter count objects marked) undone is = let same : taken.Inside starter count objects marked None ≡ undone = cc in ap moved_by same
+moved_forward (over.Back inverse) undone is = absurd (let none : None ≡ Some undone = is in cc)
+moved_forward (over.Forward taken_back) undone is = let same : taken_back ≡ undone = cc in ap moved_by same

@@ -30,7 +30,7 @@
 //!   the starter stood.
 //!
 //! A caller that walks back and forward has a `Crossing` for each step. `take_back` takes the inverse
-//! there as `undo` does, and puts into its place what makes the step again by exchange (`Undone`),
+//! there as `undo` does, and leaves in its place what makes the step again by exchange (`Undone`),
 //! which `redo` takes: a log of new parts, or the transaction itself, or, of a step inside and of a
 //! commit, how many changes on top of a stack are its own. So a step that was taken
 //! back is made again with no plan and no judgement, and the content is to the value what it was. A

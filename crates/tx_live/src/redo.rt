@@ -59,6 +59,19 @@ impl Content {
         ensures crossing_err { OnErr result (crossing.new ≡ crossing.old) }
         ensures stack_err { OnErr result (stack.new ≡ stack.old) }
     {
+        match crossing {
+            Crossing::Outside(log) => {
+                self.redo_log(log);
+                return Ok(());
+            }
+            Crossing::Inside {
+                starter,
+                count,
+                objects,
+                marked,
+            } => return self.redo_member(*starter, *count, objects, marked, None, stack),
+            _ => {}
+        }
         let Crossing::Forward(undone) = mem::replace(crossing, Crossing::blank()) else {
             unreachable!()
         };
@@ -94,6 +107,15 @@ impl Content {
         }
     }
 
+    /// Makes a step outside of transactions again that posted nothing, and leaves its inverse as its log.
+    fn redo_log(&mut self, log: &mut Log)
+        requires { GoesAgain self.old (taken.Outside log.old None) [] }
+        ensures made { self.new ≡ after_outside self.old log.old None }
+        ensures inverse { log.new ≡ exchanged self.old.parts log.old }
+    {
+        log.lead_forward(&mut self.parts);
+    }
+
     /// Makes a step outside of transactions again, and puts its inverse into its place.
     fn redo_outside(&mut self, log: Log, post: Option<TakenPost>, crossing: &mut Crossing)
         requires { GoesAgain self.old (taken.Outside log post) [] }
@@ -102,7 +124,7 @@ impl Content {
             ≡ Back (Inverse.Outside (exchanged self.old.parts log) (post_in post)) }
     {
         let mut log = log;
-        log.lead_forward(&mut self.parts);
+        self.redo_log(&mut log);
         let post = remake_post_if(&mut self.txns, post);
         *crossing = Crossing::Back(Inverse::Outside { log, post });
     }
@@ -140,38 +162,73 @@ impl Content {
             (crossing.new ≡ Forward (taken.Inside starter count objects marked held)) }
         ensures stack_err { OnErr result (stack.new ≡ stack.old) }
     {
+        let mut objects = objects;
+        let mut marked = marked;
+        let made = self.redo_member(starter, count, &mut objects, &mut marked, held, stack);
+        let Ok(()) = made else {
+            *crossing = Crossing::Forward(Undone::Inside {
+                starter,
+                count,
+                after: objects,
+                marked,
+                held,
+            });
+            return Err(NoMemory);
+        };
+        *crossing = Crossing::Back(Inverse::Inside {
+            starter,
+            count,
+            before: objects,
+            marked,
+            held: held.is_some(),
+        });
+        Ok(())
+    }
+
+    /// Makes a step inside of the starter's transaction again, whose changes are on top of the stack, and
+    /// exchanges what it reserves and the mark for those that take it back.
+    ///
+    /// NoMemory where a growth is refused; all is then as it was.
+    fn redo_member(
+        &mut self,
+        starter: Pid,
+        count: usize,
+        objects: &mut Objects,
+        marked: &mut Option<Marked>,
+        held: Option<Sending>,
+        stack: &mut Vec<Change>,
+    ) -> Result<(), NoMemory>
+        requires { GoesAgain self.old
+            (taken.Inside starter count objects.old marked.old held) stack.old.items }
+        ensures made { (after : Content) (inverse : TheInverse) →
+            Redoes self.old (taken.Inside starter count objects.old marked.old held)
+            stack.old.items after inverse →
+            OnOk result (self.new ≡ after) }
+        ensures inverse { (after : Content) (inverse : TheInverse) →
+            Redoes self.old (taken.Inside starter count objects.old marked.old held)
+            stack.old.items after inverse →
+            OnOk result
+            (Inverse.Inside starter count objects.new marked.new (is_some held) ≡ inverse) }
+        ensures stack { OnOk result (stack.new.items ≡ below_top count stack.old.items) }
+        ensures capacity { vec_capacity stack.new ≡ vec_capacity stack.old }
+        ensures err { OnErr result (self.new ≡ self.old) }
+        ensures objects_err { OnErr result (objects.new ≡ objects.old) }
+        ensures marked_err { OnErr result (marked.new ≡ marked.old) }
+        ensures stack_err { OnErr result (stack.new ≡ stack.old) }
+    {
         laws();
         let boxed = self.txns.value_mut(starter);
-        let made = remake_step(
+        let before = remake_step(
             &mut boxed.txn,
             &mut self.parts,
             &mut self.owners,
             count,
-            objects,
+            *objects,
             held,
             stack,
-        );
-        let before = match made {
-            Ok(before) => before,
-            Err(NoMemory) => {
-                *crossing = Crossing::Forward(Undone::Inside {
-                    starter,
-                    count,
-                    after: objects,
-                    marked,
-                    held,
-                });
-                return Err(NoMemory);
-            }
-        };
-        let marked = put_mark(&mut self.marks, marked);
-        *crossing = Crossing::Back(Inverse::Inside {
-            starter,
-            count,
-            before,
-            marked,
-            held: held.is_some(),
-        });
+        )?;
+        *objects = before;
+        *marked = put_mark(&mut self.marks, *marked);
         Ok(())
     }
 

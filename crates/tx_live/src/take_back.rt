@@ -1,6 +1,6 @@
 //! The undo of a step that is kept, so that it can be made again by exchange.
-ghost use Rattle.std.specs.Prelude.{◌≡◌, ◌≤◌, ◌+◌, ◌&&◌, List, not, length, None, if◌then◌else◌, vec_capacity};
-ghost use Rattle.tx_change.specs.Exchange.{undone, AreNamed};
+ghost use Rattle.std.specs.Prelude.{◌≡◌, ◌≤◌, ◌+◌, ◌&&◌, List, false, not, length, None, if◌then◌else◌, vec_capacity};
+ghost use Rattle.tx_change.specs.Exchange.{reverted, undone, AreNamed};
 ghost use Rattle.tx_change.specs.Stacks.{moved_onto};
 ghost use Rattle.tx_change.specs.declared.change.Change.{Change};
 ghost use Rattle.tx_live.specs.Content.{IsShaped};
@@ -9,6 +9,7 @@ ghost use Rattle.tx_live.specs.Inverses.{before_outside, first_of, last_of, less
 ghost use Rattle.tx_live.specs.Redone.{post_in, reposted_in, IsLastOf, IsTakenBack, EndsWhole};
 ghost use Rattle.tx_live.specs.declared.content.Content.{Content};
 ghost use Rattle.tx_live.specs.declared.inverse.Inverse.TheVariants.{Aborted, Begun, Committed, Inside, Outside};
+ghost use Rattle.tx_live.specs.declared.undone.Undone.TheVariants as taken;
 ghost use Rattle.tx_model.specs.State.{Object};
 ghost use Rattle.tx_reserve.specs.Objects.{is_in};
 ghost use Rattle.tx_reserve.specs.Reservations.{owner_of};
@@ -50,6 +51,19 @@ impl Content {
         ensures long { length stack.new.items ≡ length stack.old.items + moved_over crossing.old }
         ensures capacity { vec_capacity stack.new ≡ vec_capacity stack.old }
     {
+        match crossing {
+            Crossing::Outside(log) => return self.take_log_back(log),
+            Crossing::Inside {
+                starter,
+                count,
+                objects,
+                marked,
+            } => {
+                self.take_member_back(*starter, *count, objects, marked, false, stack);
+                return;
+            }
+            _ => {}
+        }
         let Crossing::Back(inverse) = mem::replace(crossing, Crossing::blank()) else {
             unreachable!()
         };
@@ -70,6 +84,20 @@ impl Content {
         }
     }
 
+    /// Takes a step outside of transactions back that posted nothing, and leaves what makes it again as
+    /// its log.
+    fn take_log_back(&mut self, log: &mut Log)
+        requires { GoesWith self.old (Outside log.old None) }
+        ensures before { self.new ≡ before_outside self.old log.old None }
+        ensures log { log.new ≡ reverted self.old.parts log.old }
+        ensures again { (before : Content) (stack : List Change) →
+            Undoes self.old (Outside log.old None) before →
+            IsTakenBack before (taken.Outside log.new None) stack self.old stack }
+    {
+        laws();
+        log.lead_back(&mut self.parts);
+    }
+
     /// Takes a step outside of transactions back, and puts what makes it again into its place.
     pub(crate) fn take_back_outside(
         &mut self,
@@ -86,7 +114,7 @@ impl Content {
     {
         laws();
         let mut log = log;
-        log.lead_back(&mut self.parts);
+        self.take_log_back(&mut log);
         let post = take_post_if(&mut self.txns, post);
         *crossing = Crossing::Forward(Undone::Outside { log, post });
     }
@@ -115,6 +143,43 @@ impl Content {
         ensures long { length stack.new.items ≡ length stack.old.items + count }
         ensures capacity { vec_capacity stack.new ≡ vec_capacity stack.old }
     {
+        let mut objects = before;
+        let mut marked = marked;
+        let last = self.take_member_back(starter, count, &mut objects, &mut marked, held, stack);
+        *crossing = Crossing::Forward(Undone::Inside {
+            starter,
+            count,
+            after: objects,
+            marked,
+            held: last,
+        });
+    }
+
+    /// Takes a step inside of the starter's transaction back, moves its changes onto the stack, and
+    /// exchanges what was reserved and the mark for those that make it again. Answers what it handed out,
+    /// if it did.
+    fn take_member_back(
+        &mut self,
+        starter: Pid,
+        count: usize,
+        objects: &mut Objects,
+        marked: &mut Option<Marked>,
+        held: bool,
+        stack: &mut Vec<Change>,
+    ) -> Option<Sending>
+        requires fits { GoesWith self.old (Inside starter count objects.old marked.old held) }
+        requires room { length stack.old.items + count ≤ vec_capacity stack.old }
+        ensures before { (prior : Content) →
+            Undoes self.old (Inside starter count objects.old marked.old held) prior →
+            self.new ≡ prior }
+        ensures again { IsShaped self.old → (prior : Content) →
+            Undoes self.old (Inside starter count objects.old marked.old held) prior →
+            IsTakenBack prior (taken.Inside starter count objects.new marked.new result)
+            stack.new.items self.old stack.old.items }
+        ensures last { held ≡ false → result ≡ None }
+        ensures long { length stack.new.items ≡ length stack.old.items + count }
+        ensures capacity { vec_capacity stack.new ≡ vec_capacity stack.old }
+    {
         laws();
         let boxed = self.txns.value_mut(starter);
         let after = boxed.txn.objects;
@@ -123,18 +188,13 @@ impl Content {
             &mut self.parts,
             &mut self.owners,
             count,
-            before,
+            *objects,
             held,
             stack,
         );
-        let marked = put_mark(&mut self.marks, marked);
-        *crossing = Crossing::Forward(Undone::Inside {
-            starter,
-            count,
-            after,
-            marked,
-            held: last,
-        });
+        *objects = after;
+        *marked = put_mark(&mut self.marks, *marked);
+        last
     }
 
     /// Takes the first step of the starter's transaction back, and puts what makes it again into its place,

@@ -111,6 +111,7 @@ fn put_answers(
 /// Does what a command says, and appends what it answers. The only fault is `NoMemory`: the position is
 /// then the old one, or lies between that and the one to which the command leads, and the text may
 /// have some of the answer behind what it had.
+#[inline(always)] // each command asks it, and a call of its own costs 30
 pub fn put_answer(
     alloc: Global,
     text: &mut String,

@@ -6,15 +6,15 @@ use Rattle.tx_journal.proofs.crossings.Crossings.push.Goals as goal
 pub invariant_of-self : goal.invariant_of-self
 invariant_of-self c =
     let none = ap (λ (crossed : Crossed). crossed.undone) c.self.view_is ∙ c.requires.none in
-    more_parted c.self.inside.places.items c.self.inside.made c.self.invariant c.push_reserved.new.self.items c.args.inverse none c.push_reserved.ensures.items
+    more_parted c.self.inside.places.items c.self.inside.made c.self.invariant c.push_reserved.new.self.items c.by.result c.args.inverse none c.by.ensures c.push_reserved.ensures.items
 
 pub returns-clause-inverses : goal.returns-clause-inverses
 returns-clause-inverses c =
     let none = ap (λ (crossed : Crossed). crossed.undone) c.self.view_is ∙ c.requires.none in
-    more_inverses c.self.inside.places.items c.self.inside.made c.self.invariant c.push_reserved.new.self.items c.args.inverse none c.push_reserved.ensures.items
+    more_inverses c.self.inside.places.items c.self.inside.made c.self.invariant c.push_reserved.new.self.items c.by.result c.args.inverse none c.by.ensures c.push_reserved.ensures.items
     ∙ ap (λ (crossed : Crossed). crossed.inverses ++ c.args.inverse ∷ []) c.self.view_is
 
 pub returns-clause-undone : goal.returns-clause-undone
 returns-clause-undone c =
     let none = ap (λ (crossed : Crossed). crossed.undone) c.self.view_is ∙ c.requires.none in
-    more_undone c.self.inside.places.items c.self.inside.made c.self.invariant c.push_reserved.new.self.items c.args.inverse none c.push_reserved.ensures.items
+    more_undone c.self.inside.places.items c.self.inside.made c.self.invariant c.push_reserved.new.self.items c.by.result c.args.inverse none c.by.ensures c.push_reserved.ensures.items

@@ -1,24 +1,10 @@
-use Rattle.std.proofs.Common.{Some, refl, ◌∙◌}
-use Rattle.tx_base.specs.Slots.{with_slot}
-use Rattle.tx_live.proofs.Insides.{put_back}
-use Rattle.tx_live.proofs.MadeAgain.{inside_made}
-use Rattle.tx_live.specs.Inverses.{with_txn}
-use Rattle.tx_live.specs.declared.content.Content.{Content}
+use Rattle.std.proofs.Common.{Bool, ap, ◌∙◌}
+use Rattle.tx_live.specs.declared.crossing.Crossing.TheVariants.{Back}
+use Rattle.tx_live.specs.declared.inverse.Inverse.{Inverse}
+use Rattle.tx_live.specs.declared.inverse.Inverse.TheVariants.{Inside}
 use Rattle.tx_live.proofs.content.Content.redo_inside.Goals as goal
 
-pub returns-in-Err-clause-err : goal.returns-in-Err-clause-err
-returns-in-Err-clause-err c =
-    let old : Content = c.args.self.now in
-    λ j. record {
-      parts = c.in-Err.ensures.parts_err j;
-      marks = old.marks;
-      owners = c.in-Err.ensures.owners_err j;
-      txns = put_back old.txns (with_slot old.txns c.args.starter.0 (Some (with_txn c.value_mut-boxed.result.now c.remake_step-made.new.txn))) c.args.starter.0 c.value_mut-boxed.result.now c.remake_step-made.new.txn c.value_mut-boxed.ensures.value
-          (c.in-Err.ensures.txn_err ∙ c.deref_mut.ensures.value)
-          refl j;
-    }
-
-pub returns-clause-made : goal.returns-clause-made
-returns-clause-made c = λ after inverse redoes.
-    inside_made c.laws.ensures c.args.self.now _ after c.args.starter c.args.count c.args.objects c.args.marked c.args.held c.args.stack.now.items c.value_mut-boxed.result.now redoes.0 c.deref_mut.result.now c.remake_step-made.new.txn
-    c.value_mut-boxed.ensures.value c.deref_mut.ensures.value c.in-Ok.ensures.parts c.put_mark-marked.ensures.marks c.in-Ok.ensures.owners c.in-Ok.ensures.sized c.in-Ok.ensures.txn refl redoes.1
+pub returns-clause-inverse : goal.returns-clause-inverse
+returns-clause-inverse c = λ after inverse redoes.
+    ap (λ (held : Bool). Back (Inside c.args.starter c.args.count c.redo_member-made.new.objects c.redo_member-made.new.marked held)) c.is_some.ensures
+    ∙ ap (λ (it : Inverse). Back it) (c.in-Ok.ensures.inverse after inverse redoes)
