@@ -98,7 +98,7 @@ impl Crossings {
         ensures undone { self.new.undone ≡ [] }
         ensures room { self.new.room ≡ self.old.room }
     {
-        self.places.push_reserved(Crossing::by(inverse));
+        self.places.push_reserved(Crossing::By(inverse));
         self.made += 1;
     }
 
@@ -155,7 +155,7 @@ impl Crossings {
         let Some(crossing) = self.places.pop() else {
             unreachable!()
         };
-        let Some(inverse) = crossing.into_inverse() else {
+        let Crossing::By(inverse) = crossing else {
             unreachable!()
         };
         self.made -= 1;

@@ -1,10 +1,11 @@
 -- Facts of what leads over steps, with their proofs.
-use Rattle.std.proofs.Common.{◌≡◌, Option, Some, None, MatchOption, refl, sym, ap, subst}
-use Rattle.tx_live.specs.Crossings.{inverse_at, moved_over, undone_at, HoldsBack, HoldsForward}
-use Rattle.tx_live.specs.Redone.{moved_by}
+use Rattle.std.proofs.Common.{◌≡◌, true, false, Option, Some, None, MatchOption, refl, sym, ap, subst}
+use Rattle.tx_live.specs.Crossings.{inverse_at, moved_over, turned, undone_at, HoldsBack, HoldsForward}
+use Rattle.tx_live.specs.Redone.{moved_by, moved_of}
 use Rattle.tx_live.specs.declared.crossing.Crossing.{Crossing}
-use Rattle.tx_live.specs.declared.crossing.Crossing.TheVariants as over
+use Rattle.tx_live.specs.declared.crossing.Crossing.TheVariants.{Again, By}
 use Rattle.tx_live.specs.declared.inverse.Inverse.{Inverse}
+use Rattle.tx_live.specs.declared.inverse.Inverse.TheVariants.{Aborted, Begun, Committed, Inside, Outside}
 use Rattle.tx_live.specs.declared.undone.Undone.{Undone}
 use Rattle.tx_live.specs.declared.undone.Undone.TheVariants as taken
 
@@ -52,9 +53,16 @@ module _ (P : Undone → Type 0) (crossing : Crossing) (undone : Undone) (is : u
   pub forward_of : HoldsForward crossing P → P undone
   forward_of = there_of P (undone_at crossing) undone is
 
+moved_turned : (inverse : Inverse) (undone : Undone) → turned inverse ≡ Some undone → moved_of inverse ≡ moved_by undone
+moved_turned (Outside log None) undone is = let same : taken.Outside log None ≡ undone = cc in ap moved_by same
+moved_turned (Outside log (Some post)) undone is = absurd (let none : None ≡ Some undone = is in cc)
+moved_turned (Inside starter count objects marked false) undone is = let same : taken.Inside starter count objects marked None ≡ undone = cc in ap moved_by same
+moved_turned (Inside starter count objects marked true) undone is = absurd (let none : None ≡ Some undone = is in cc)
+moved_turned (Begun starter) undone is = absurd (let none : None ≡ Some undone = is in cc)
+moved_turned (Committed boxed count held) undone is = absurd (let none : None ≡ Some undone = is in cc)
+moved_turned (Aborted boxed stood) undone is = absurd (let none : None ≡ Some undone = is in cc)
+
 -- as many changes come off the stack as its step is made again
 pub moved_forward : (crossing : Crossing) (undone : Undone) → undone_at crossing ≡ Some undone → moved_over crossing ≡ moved_by undone
-moved_forward (over.Outside log) undone is = let same : taken.Outside log None ≡ undone = cc in ap moved_by same
-moved_forward (over.Inside starter count objects marked) undone is = let same : taken.Inside starter count objects marked None ≡ undone = cc in ap moved_by same
-moved_forward (over.Back inverse) undone is = absurd (let none : None ≡ Some undone = is in cc)
-moved_forward (over.Forward taken_back) undone is = let same : taken_back ≡ undone = cc in ap moved_by same
+moved_forward (By inverse) undone is = moved_turned inverse undone is
+moved_forward (Again taken_back) undone is = let same : taken_back ≡ undone = cc in ap moved_by same

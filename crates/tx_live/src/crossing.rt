@@ -1,84 +1,36 @@
 //! What leads over an accepted step, back or forward again.
-ghost use Rattle.std.specs.Prelude.{◌≡◌, Some};
-ghost use Rattle.tx_live.specs.Crossings.{inverse_at, moved_over};
+ghost use Rattle.std.specs.Prelude.{◌≡◌};
+ghost use Rattle.tx_live.specs.Crossings.{moved_over, turns};
 
 use crate::inverse::Inverse;
-use crate::marking::Marked;
 use crate::undone::Undone;
-use tx_base::Pid;
-use tx_change::Log;
-use tx_reserve::Objects;
 
 /// What leads over an accepted step: back, or, once it is taken back, forward again. `take_back` and
-/// `redo` exchange the one for the other where it stands. What is of one form on both sides is not even
-/// made anew: who walks knows the side.
+/// `redo` exchange the one for the other where it stands.
 #[derive(Drop)]
 pub enum Crossing {
-    /// Over a step outside of transactions that posted nothing to what is kept of a starter: the other
-    /// parts.
-    Outside(Log),
-    /// Over a step inside that handed out no signal: how many changes are its own, what is reserved on
-    /// the other side, and the mark that stands there.
-    Inside {
-        starter: Pid,
-        count: usize,
-        objects: Objects,
-        marked: Option<Marked>,
-    },
-    /// Back over any other step.
-    Back(Inverse),
-    /// Forward over any other step.
-    Forward(Undone),
+    /// By its inverse. That of a step outside of transactions that posted nothing to what is kept of a
+    /// starter, and that of a step inside that handed out no signal, lead both ways: what they have is
+    /// exchanged, and who walks knows the side. Any other leads back.
+    By(Inverse),
+    /// Forward, by what makes any other step again.
+    Again(Undone),
 }
 
 impl Crossing {
-    /// What leads back over the step that has this inverse.
-    pub fn by(inverse: Inverse) -> Crossing
-        ensures { inverse_at result ≡ Some inverse }
-    {
-        match inverse {
-            Inverse::Outside { log, post: None } => Crossing::Outside(log),
-            Inverse::Inside {
-                starter,
-                count,
-                before,
-                marked,
-                held: false,
-            } => Crossing::Inside {
-                starter,
-                count,
-                objects: before,
-                marked,
-            },
-            other => Crossing::Back(other),
-        }
-    }
-
     /// What leads over no step: for a place into which a crossing is put.
     pub(crate) fn blank() -> Crossing {
-        Crossing::Back(Inverse::blank())
+        Crossing::By(Inverse::blank())
     }
 
-    /// The inverse of the step, where this leads back.
-    pub fn into_inverse(self) -> Option<Inverse>
-        ensures { result ≡ inverse_at self }
+    /// Whether this is an inverse that leads both ways.
+    pub(crate) fn turns(&self) -> bool
+        ensures { result ≡ turns self.now }
     {
         match self {
-            Crossing::Outside(log) => Some(Inverse::Outside { log, post: None }),
-            Crossing::Inside {
-                starter,
-                count,
-                objects,
-                marked,
-            } => Some(Inverse::Inside {
-                starter,
-                count,
-                before: objects,
-                marked,
-                held: false,
-            }),
-            Crossing::Back(inverse) => Some(inverse),
-            Crossing::Forward(_undone) => None,
+            Crossing::By(Inverse::Outside { post, .. }) => post.is_none(),
+            Crossing::By(Inverse::Inside { held, .. }) => !*held,
+            _ => false,
         }
     }
 
@@ -87,10 +39,8 @@ impl Crossing {
         ensures { result ≡ moved_over self.now }
     {
         match self {
-            Crossing::Outside(_log) => 0,
-            Crossing::Inside { count, .. } => *count,
-            Crossing::Back(inverse) => inverse.moved(),
-            Crossing::Forward(undone) => undone.moved(),
+            Crossing::By(inverse) => inverse.moved(),
+            Crossing::Again(undone) => undone.moved(),
         }
     }
 }

@@ -6,9 +6,9 @@ ghost use Rattle.tx_change.specs.declared.change.Change.{Change};
 ghost use Rattle.tx_live.specs.Content.{IsShaped};
 ghost use Rattle.tx_live.specs.Crossings.{moved_over, HoldsBack, HoldsForward};
 ghost use Rattle.tx_live.specs.Inverses.{HasStarter};
-ghost use Rattle.tx_live.specs.Redone.{after_outside, post_in, reposted_in, step_again, with_last, GoesAgain, IsTakenBack, Redoes, TakesBack};
+ghost use Rattle.tx_live.specs.Redone.{after_outside, moved_of, post_in, reposted_in, step_again, with_last, GoesAgain, IsTakenBack, Redoes, TakesBack};
 ghost use Rattle.tx_live.specs.declared.content.Content.{Content};
-ghost use Rattle.tx_live.specs.declared.crossing.Crossing.TheVariants.{Back, Forward};
+ghost use Rattle.tx_live.specs.declared.crossing.Crossing.TheVariants.{Again, By};
 ghost use Rattle.tx_live.specs.declared.inverse.Inverse.{Inverse as TheInverse};
 ghost use Rattle.tx_live.specs.declared.undone.Undone.TheVariants as taken;
 ghost use Rattle.tx_model.specs.State.{Object};
@@ -59,20 +59,10 @@ impl Content {
         ensures crossing_err { OnErr result (crossing.new ≡ crossing.old) }
         ensures stack_err { OnErr result (stack.new ≡ stack.old) }
     {
-        match crossing {
-            Crossing::Outside(log) => {
-                self.redo_log(log);
-                return Ok(());
-            }
-            Crossing::Inside {
-                starter,
-                count,
-                objects,
-                marked,
-            } => return self.redo_member(*starter, *count, objects, marked, None, stack),
-            _ => {}
+        if let Crossing::By(inverse) = crossing {
+            return self.turn_forward(inverse, stack);
         }
-        let Crossing::Forward(undone) = mem::replace(crossing, Crossing::blank()) else {
+        let Crossing::Again(undone) = mem::replace(crossing, Crossing::blank()) else {
             unreachable!()
         };
         match undone {
@@ -107,6 +97,48 @@ impl Content {
         }
     }
 
+    /// Makes a step again whose inverse leads both ways, and exchanges what it has.
+    ///
+    /// NoMemory where a growth is refused; all is then as it was.
+    fn turn_forward(
+        &mut self,
+        inverse: &mut Inverse,
+        stack: &mut Vec<Change>,
+    ) -> Result<(), NoMemory>
+        requires { HoldsForward (By inverse.old)
+            (λ undone. GoesAgain self.old undone stack.old.items) }
+        ensures made { (after : Content) (led : TheInverse) →
+            HoldsForward (By inverse.old)
+            (λ undone. Redoes self.old undone stack.old.items after led) →
+            OnOk result (self.new ≡ after) }
+        ensures inverse { (after : Content) (led : TheInverse) →
+            HoldsForward (By inverse.old)
+            (λ undone. Redoes self.old undone stack.old.items after led) →
+            OnOk result (inverse.new ≡ led) }
+        ensures moved { moved_of inverse.new ≡ moved_of inverse.old }
+        ensures stack { OnOk result
+            (stack.new.items ≡ below_top (moved_of inverse.old) stack.old.items) }
+        ensures capacity { vec_capacity stack.new ≡ vec_capacity stack.old }
+        ensures err { OnErr result (self.new ≡ self.old) }
+        ensures inverse_err { OnErr result (inverse.new ≡ inverse.old) }
+        ensures stack_err { OnErr result (stack.new ≡ stack.old) }
+    {
+        match inverse {
+            Inverse::Outside { log, post: None } => {
+                self.redo_log(log);
+                Ok(())
+            }
+            Inverse::Inside {
+                starter,
+                count,
+                before,
+                marked,
+                held: false,
+            } => self.redo_member(*starter, *count, before, marked, None, stack),
+            _ => unreachable!(),
+        }
+    }
+
     /// Makes a step outside of transactions again that posted nothing, and leaves its inverse as its log.
     fn redo_log(&mut self, log: &mut Log)
         requires { GoesAgain self.old (taken.Outside log.old None) [] }
@@ -121,12 +153,12 @@ impl Content {
         requires { GoesAgain self.old (taken.Outside log post) [] }
         ensures made { self.new ≡ after_outside self.old log post }
         ensures inverse { crossing.new
-            ≡ Back (Inverse.Outside (exchanged self.old.parts log) (post_in post)) }
+            ≡ By (Inverse.Outside (exchanged self.old.parts log) (post_in post)) }
     {
         let mut log = log;
         self.redo_log(&mut log);
         let post = remake_post_if(&mut self.txns, post);
-        *crossing = Crossing::Back(Inverse::Outside { log, post });
+        *crossing = Crossing::By(Inverse::Outside { log, post });
     }
 
     /// Makes a step inside of the starter's transaction again, whose changes are on top of the stack, and
@@ -153,20 +185,20 @@ impl Content {
         ensures inverse { (after : Content) (inverse : TheInverse) →
             Redoes self.old (taken.Inside starter count objects marked held) stack.old.items after
             inverse →
-            OnOk result (crossing.new ≡ Back inverse) }
+            OnOk result (crossing.new ≡ By inverse) }
         ensures moved { OnOk result (moved_over crossing.new ≡ count) }
         ensures stack { OnOk result (stack.new.items ≡ below_top count stack.old.items) }
         ensures capacity { vec_capacity stack.new ≡ vec_capacity stack.old }
         ensures err { OnErr result (self.new ≡ self.old) }
         ensures crossing_err { OnErr result
-            (crossing.new ≡ Forward (taken.Inside starter count objects marked held)) }
+            (crossing.new ≡ Again (taken.Inside starter count objects marked held)) }
         ensures stack_err { OnErr result (stack.new ≡ stack.old) }
     {
         let mut objects = objects;
         let mut marked = marked;
         let made = self.redo_member(starter, count, &mut objects, &mut marked, held, stack);
         let Ok(()) = made else {
-            *crossing = Crossing::Forward(Undone::Inside {
+            *crossing = Crossing::Again(Undone::Inside {
                 starter,
                 count,
                 after: objects,
@@ -175,7 +207,7 @@ impl Content {
             });
             return Err(NoMemory);
         };
-        *crossing = Crossing::Back(Inverse::Inside {
+        *crossing = Crossing::By(Inverse::Inside {
             starter,
             count,
             before: objects,
@@ -238,7 +270,7 @@ impl Content {
         requires { GoesAgain self.old (taken.Begun boxed mark) [] }
         ensures made { (after : Content) (inverse : TheInverse) →
             Redoes self.old (taken.Begun boxed mark) [] after inverse → self.new ≡ after }
-        ensures inverse { crossing.new ≡ Back (Inverse.Begun boxed.txn.value.starter) }
+        ensures inverse { crossing.new ≡ By (Inverse.Begun boxed.txn.value.starter) }
     {
         laws();
         let mut boxed = boxed;
@@ -249,7 +281,7 @@ impl Content {
         self.owners.sized();
         self.marks.swap(starter, &mut mark);
         self.txns.put(starter, boxed);
-        *crossing = Crossing::Back(Inverse::Begun { starter });
+        *crossing = Crossing::By(Inverse::Begun { starter });
     }
 
     /// Makes the commit of the starter's transaction again, and puts its inverse into its place: the
@@ -276,7 +308,7 @@ impl Content {
         ensures capacity { vec_capacity stack.new ≡ vec_capacity stack.old }
         ensures err { OnErr result (self.new ≡ self.old) }
         ensures crossing_err { OnErr result
-            (crossing.new ≡ Forward (taken.Committed starter count held)) }
+            (crossing.new ≡ Again (taken.Committed starter count held)) }
         ensures stack_err { OnErr result (stack.new ≡ stack.old) }
     {
         laws();
@@ -284,7 +316,7 @@ impl Content {
         let made = remake_last(&mut boxed.txn, &mut self.parts, count, held, stack);
         let Ok(()) = made else {
             self.txns.put(starter, boxed);
-            *crossing = Crossing::Forward(Undone::Committed {
+            *crossing = Crossing::Again(Undone::Committed {
                 starter,
                 count,
                 held,
@@ -294,7 +326,7 @@ impl Content {
         post_held(&mut self.parts, &mut self.txns, &mut boxed.txn.outbox);
         boxed.txn.end(&mut self.marks, &mut self.owners);
         self.owners.sized();
-        *crossing = Crossing::Back(Inverse::Committed {
+        *crossing = Crossing::By(Inverse::Committed {
             boxed,
             count,
             held: held.is_some(),
@@ -317,7 +349,7 @@ impl Content {
             self.new ≡ after }
         ensures inverse { (after : Content) (inverse : TheInverse) →
             Redoes self.old (taken.Aborted starter answer members) [] after inverse →
-            crossing.new ≡ Back inverse }
+            crossing.new ≡ By inverse }
         ensures moved { moved_over crossing.new ≡ 0 }
     {
         laws();
@@ -328,7 +360,7 @@ impl Content {
         boxed.txn.end(&mut self.marks, &mut self.owners);
         self.owners.sized();
         boxed.txn.members = members;
-        *crossing = Crossing::Back(Inverse::Aborted { boxed, stood });
+        *crossing = Crossing::By(Inverse::Aborted { boxed, stood });
     }
 }
 

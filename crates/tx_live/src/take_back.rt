@@ -1,10 +1,10 @@
 //! The undo of a step that is kept, so that it can be made again by exchange.
-ghost use Rattle.std.specs.Prelude.{◌≡◌, ◌≤◌, ◌+◌, ◌&&◌, List, false, not, length, None, if◌then◌else◌, vec_capacity};
+ghost use Rattle.std.specs.Prelude.{◌≡◌, ◌≤◌, ◌+◌, ◌&&◌, List, false, not, length, IsTrue, None, if◌then◌else◌, vec_capacity};
 ghost use Rattle.tx_change.specs.Exchange.{reverted, undone, AreNamed};
 ghost use Rattle.tx_change.specs.Stacks.{moved_onto};
 ghost use Rattle.tx_change.specs.declared.change.Change.{Change};
 ghost use Rattle.tx_live.specs.Content.{IsShaped};
-ghost use Rattle.tx_live.specs.Crossings.{moved_over, HoldsBack, HoldsForward};
+ghost use Rattle.tx_live.specs.Crossings.{moved_over, turns, HoldsBack, HoldsForward};
 ghost use Rattle.tx_live.specs.Inverses.{before_outside, first_of, last_of, less_last, step_back, unposted_in, GoesWith, HasStarter, Undoes};
 ghost use Rattle.tx_live.specs.Redone.{post_in, reposted_in, IsLastOf, IsTakenBack, EndsWhole};
 ghost use Rattle.tx_live.specs.declared.content.Content.{Content};
@@ -51,20 +51,10 @@ impl Content {
         ensures long { length stack.new.items ≡ length stack.old.items + moved_over crossing.old }
         ensures capacity { vec_capacity stack.new ≡ vec_capacity stack.old }
     {
-        match crossing {
-            Crossing::Outside(log) => return self.take_log_back(log),
-            Crossing::Inside {
-                starter,
-                count,
-                objects,
-                marked,
-            } => {
-                self.take_member_back(*starter, *count, objects, marked, false, stack);
-                return;
-            }
-            _ => {}
+        if crossing.turns() {
+            return self.turn_back(crossing, stack);
         }
-        let Crossing::Back(inverse) = mem::replace(crossing, Crossing::blank()) else {
+        let Crossing::By(inverse) = mem::replace(crossing, Crossing::blank()) else {
             unreachable!()
         };
         match inverse {
@@ -81,6 +71,40 @@ impl Content {
                 self.take_back_committed(boxed, count, held, crossing, stack)
             }
             Inverse::Aborted { boxed, stood } => self.take_back_aborted(boxed, stood, crossing),
+        }
+    }
+
+    /// Takes a step back whose inverse leads both ways, and exchanges what that has.
+    fn turn_back(&mut self, crossing: &mut Crossing, stack: &mut Vec<Change>)
+        requires turns { IsTrue (turns crossing.old) }
+        requires fits { HoldsBack crossing.old (GoesWith self.old) }
+        requires room { length stack.old.items + moved_over crossing.old ≤ vec_capacity stack.old }
+        ensures before { (before : Content) →
+            HoldsBack crossing.old (λ inverse. Undoes self.old inverse before) →
+            self.new ≡ before }
+        ensures again { HoldsForward crossing.new (λ undone.
+            IsShaped self.old → (before : Content) →
+            HoldsBack crossing.old (λ inverse. Undoes self.old inverse before) →
+            IsTakenBack before undone stack.new.items self.old stack.old.items) }
+        ensures moved { moved_over crossing.new ≡ moved_over crossing.old }
+        ensures long { length stack.new.items ≡ length stack.old.items + moved_over crossing.old }
+        ensures capacity { vec_capacity stack.new ≡ vec_capacity stack.old }
+    {
+        let Crossing::By(inverse) = crossing else {
+            unreachable!()
+        };
+        match inverse {
+            Inverse::Outside { log, post: None } => self.take_log_back(log),
+            Inverse::Inside {
+                starter,
+                count,
+                before,
+                marked,
+                held: false,
+            } => {
+                let _last = self.take_member_back(*starter, *count, before, marked, false, stack);
+            }
+            _ => unreachable!(),
         }
     }
 
@@ -116,7 +140,7 @@ impl Content {
         let mut log = log;
         self.take_log_back(&mut log);
         let post = take_post_if(&mut self.txns, post);
-        *crossing = Crossing::Forward(Undone::Outside { log, post });
+        *crossing = Crossing::Again(Undone::Outside { log, post });
     }
 
     /// Takes a step inside of the starter's transaction back, and puts into its place what makes it again
@@ -146,7 +170,7 @@ impl Content {
         let mut objects = before;
         let mut marked = marked;
         let last = self.take_member_back(starter, count, &mut objects, &mut marked, held, stack);
-        *crossing = Crossing::Forward(Undone::Inside {
+        *crossing = Crossing::Again(Undone::Inside {
             starter,
             count,
             after: objects,
@@ -215,7 +239,7 @@ impl Content {
         self.owners.release(&boxed.txn.objects);
         self.owners.sized();
         let mark = self.marks.take(starter);
-        *crossing = Crossing::Forward(Undone::Begun { boxed, mark });
+        *crossing = Crossing::Again(Undone::Begun { boxed, mark });
     }
 
     /// Takes the commit of this transaction back, and puts into its place what makes it again with the
@@ -249,7 +273,7 @@ impl Content {
         boxed.txn.revive(&mut self.marks, &mut self.owners);
         self.owners.sized();
         self.txns.put(starter, boxed);
-        *crossing = Crossing::Forward(Undone::Committed {
+        *crossing = Crossing::Again(Undone::Committed {
             starter,
             count,
             held: last,
@@ -273,7 +297,7 @@ impl Content {
         let members = boxed.txn.members;
         let stands = stands(&self.parts, starter);
         self.undo_aborted(boxed, stood);
-        *crossing = Crossing::Forward(Undone::Aborted {
+        *crossing = Crossing::Again(Undone::Aborted {
             starter,
             stands,
             members,

@@ -1,4 +1,5 @@
-use Rattle.std.proofs.Common.{[], ◌∷◌, ◌++◌, ap, ◌∙◌}
+use Rattle.std.proofs.Common.{[], ◌∷◌, ◌++◌, refl, ap, ◌∙◌}
+use Rattle.tx_live.specs.declared.crossing.Crossing.TheVariants.{By}
 use Rattle.tx_journal.proofs.Turned.{more_inverses, more_parted, more_undone}
 use Rattle.tx_journal.specs.Crossings.{Crossed}
 use Rattle.tx_journal.proofs.crossings.Crossings.push.Goals as goal
@@ -6,15 +7,15 @@ use Rattle.tx_journal.proofs.crossings.Crossings.push.Goals as goal
 pub invariant_of-self : goal.invariant_of-self
 invariant_of-self c =
     let none = ap (λ (crossed : Crossed). crossed.undone) c.self.view_is ∙ c.requires.none in
-    more_parted c.self.inside.places.items c.self.inside.made c.self.invariant c.push_reserved.new.self.items c.by.result c.args.inverse none c.by.ensures c.push_reserved.ensures.items
+    more_parted c.self.inside.places.items c.self.inside.made c.self.invariant c.push_reserved.new.self.items (By c.args.inverse) c.args.inverse none refl c.push_reserved.ensures.items
 
 pub returns-clause-inverses : goal.returns-clause-inverses
 returns-clause-inverses c =
     let none = ap (λ (crossed : Crossed). crossed.undone) c.self.view_is ∙ c.requires.none in
-    more_inverses c.self.inside.places.items c.self.inside.made c.self.invariant c.push_reserved.new.self.items c.by.result c.args.inverse none c.by.ensures c.push_reserved.ensures.items
+    more_inverses c.self.inside.places.items c.self.inside.made c.self.invariant c.push_reserved.new.self.items (By c.args.inverse) c.args.inverse none refl c.push_reserved.ensures.items
     ∙ ap (λ (crossed : Crossed). crossed.inverses ++ c.args.inverse ∷ []) c.self.view_is
 
 pub returns-clause-undone : goal.returns-clause-undone
 returns-clause-undone c =
     let none = ap (λ (crossed : Crossed). crossed.undone) c.self.view_is ∙ c.requires.none in
-    more_undone c.self.inside.places.items c.self.inside.made c.self.invariant c.push_reserved.new.self.items c.by.result c.args.inverse none c.by.ensures c.push_reserved.ensures.items
+    more_undone c.self.inside.places.items c.self.inside.made c.self.invariant c.push_reserved.new.self.items (By c.args.inverse) c.args.inverse none refl c.push_reserved.ensures.items
