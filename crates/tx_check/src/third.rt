@@ -8,18 +8,10 @@ use crate::places::Part;
 use crate::third::sets::set_what;
 use crate::trouble::{LineTrouble, Trouble, What, WordTrouble};
 use crate::words::{count_words, word_at};
-use tx_plain::Plain;
+use tx_plain::{Plain, Role, role_of};
 
 /// How many digits a word may have.
 const DIGITS: usize = 128;
-
-/// What a word is to be, where version 3 has ways of its own to spell it.
-#[derive(Clone, Copy)]
-enum Role {
-    Signal,
-    Set,
-    Other,
-}
 
 /// What is wrong at a column of a line, as it is told of the line of version 3 that means it.
 pub fn third_what<'a>(plain: &Plain, part: Part, line: &'a [u8], trouble: Trouble<'a>) -> What<'a>
@@ -48,7 +40,7 @@ fn word_what<'a>(part: Part, line: &'a [u8], trouble: Trouble<'a>) -> What<'a>
             Some(set) => set_what(set.bytes),
             None => trouble.what,
         },
-        Role::Other => other_what(trouble.what),
+        Role::Other | Role::Bytes => other_what(trouble.what),
     }
 }
 
@@ -62,16 +54,10 @@ fn role_at(part: Part, line: &[u8], place: usize) -> Role {
     let Some(name) = word_at(line, name_place) else {
         return Role::Other;
     };
-    let argument = place.saturating_sub(name_place);
-    match name.bytes {
-        b"deliver" if argument == 1 => Role::Signal,
-        b"kill" if argument == 2 => Role::Signal,
-        b"sigqueue" if argument == 2 => Role::Signal,
-        b"sigaction" if argument == 1 => Role::Signal,
-        b"sigaction" if argument == 4 => Role::Set,
-        b"sigprocmask" if argument == 2 => Role::Set,
-        _ => Role::Other,
+    if place <= name_place {
+        return Role::Other;
     }
+    role_of(name.bytes, place - name_place - 1)
 }
 
 /// What is wrong with a word that is to be a signal.

@@ -33,4 +33,6 @@ pub use lines::split_line;
 pub use meant::Meant;
 pub use plain::{Plain, is_third, plain_text};
 pub use programs::read_program;
+pub use roles::{Role, role_of};
+pub use signals::signal;
 pub use words::{Word, split_word, words_in};

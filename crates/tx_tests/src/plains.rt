@@ -1,9 +1,9 @@
 //! Texts as people write them.
 use std::alloc::Global;
 use std::test::Fail;
-use tx_base::{Call, NoMemory, Pid, Step};
+use tx_base::{Call, NoMemory, Pid, Signo, Step};
 use tx_lines::read_schedule;
-use tx_plain::{is_third, plain_text, split_line, split_word, words_in};
+use tx_plain::{Role, is_third, plain_text, role_of, signal, split_line, split_word, words_in};
 
 /// Whether that is the text of version 2 that a text means.
 fn means(alloc: Global, text: &[u8], wanted: &[u8]) -> Result<bool, NoMemory> {
@@ -152,6 +152,24 @@ fn a_line_that_is_too_long_stays_so(rt: HostRuntime) -> Result<(), Fail> {
     assert!(rt; plain.own_line(2) == 2 && plain.own_line(3) == 3);
     assert!(rt; plain.as_bytes().len() == text.len());
     assert!(rt; read_schedule(rt.alloc(), plain.as_bytes()).is_err());
+    Ok(())
+}
+
+#[test]
+fn arguments_have_their_roles(rt: HostRuntime) -> Result<(), Fail> {
+    assert!(rt; matches!(role_of(b"store", 1), Role::Bytes));
+    assert!(rt; matches!(role_of(b"kill", 0), Role::Other));
+    assert!(rt; matches!(role_of(b"kill", 1), Role::Signal));
+    assert!(rt; matches!(role_of(b"sigaction", 3), Role::Set));
+    Ok(())
+}
+
+#[test]
+fn signals_go_by_name_or_number(rt: HostRuntime) -> Result<(), Fail> {
+    assert!(rt; matches!(signal(b"SIGTERM"), Some(Signo(15))));
+    assert!(rt; matches!(signal(b"USR1"), Some(Signo(10))));
+    assert!(rt; matches!(signal(b"39"), Some(Signo(39))));
+    assert!(rt; signal(b"5").is_none());
     Ok(())
 }
 

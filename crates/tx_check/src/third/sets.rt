@@ -1,14 +1,8 @@
 //! What is wrong with a word that is to be a set of signals, by names or numbers.
 ghost use Rattle.std.specs.Prelude.{◌≤◌};
 
-use crate::forms::is_among;
 use crate::trouble::{ThirdTrouble, What};
-use tx_base::Signo;
-use tx_lines::read_byte;
-use tx_signal::is_known;
-
-/// The names of signals, parted by `|`.
-const NAMES: &[u8] = b"HUP|INT|QUIT|ABRT|KILL|USR1|USR2|PIPE|ALRM|TERM|CHLD";
+use tx_plain::signal;
 
 /// What is wrong with a word that is no set: the first of its members that is no signal, or that
 /// one stands in it twice.
@@ -33,12 +27,8 @@ fn member_what<'a>(set: &'a [u8], member: &'a [u8]) -> Option<What<'a>> {
     if member.is_empty() {
         return Some(What::Third(set, ThirdTrouble::NoSet));
     }
-    let name = member.strip_prefix(b"SIG".as_slice()).unwrap_or(member);
-    if is_among(NAMES, name) {
+    if signal(member).is_some() {
         return None;
     }
-    match read_byte(member) {
-        Some(signo) if is_known(Signo(signo)) => None,
-        _ => Some(What::NoSignal(member)),
-    }
+    Some(What::NoSignal(member))
 }
