@@ -1,11 +1,13 @@
 pub mod Appended
 pub mod EndedLines
-pub mod Found
 pub mod FrontWord
+pub mod Growing
 pub mod Heard
 pub mod InLine
 pub mod Labelled
+pub mod LabelsFound
 pub mod LineParts
+pub mod Linked
 pub mod NamedLabels
 pub mod NextLines
 pub mod Numbered
@@ -13,9 +15,12 @@ pub mod OneFault
 pub mod OwnLines
 pub mod ProgramTexts
 pub mod ReadOrFaulty
+pub mod ReadTexts
 pub mod SameHeaders
 pub mod ShortLines
 pub mod ShortWords
+pub mod SoFar
+pub mod SoFarMore
 pub mod Standing
 pub mod SteppedTexts
 pub mod ToldOf

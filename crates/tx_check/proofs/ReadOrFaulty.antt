@@ -7,24 +7,19 @@ use Rattle.tx_check.proofs.ProgramTexts.{program_faulty, program_grammar, IsWhol
 use Rattle.tx_check.proofs.SameHeaders.{same_header}
 use Rattle.tx_check.proofs.SteppedTexts.{schedule_faulty, schedule_grammar, BeginsSteps}
 use Rattle.tx_check.proofs.WalkedTexts.{before_lines, walk_faulty, walk_grammar, BeginsCommands}
+use Rattle.tx_check.specs.Behind.{FaultsBehind}
 use Rattle.tx_check.specs.Kinds.{head_of}
 use Rattle.tx_check.specs.Laws.{NoneHasTwo, NoneIsBoth}
 use Rattle.tx_check.specs.Reads.{IsAtFault, IsRead}
 use Rattle.tx_check.specs.declared.kinds.Kind.{Kind}
 use Rattle.tx_check.specs.declared.kinds.Kind.TheVariants as kinds
 use Rattle.tx_lines.specs.Lines.{step_text}
-use Rattle.tx_lines.specs.Programs.{line_text, FaultsAmongLines}
-use Rattle.tx_lines.specs.Schedule.{lines_of, steps_text, AreSteps, FaultsAmong, FaultsAtStep, FaultsAtHeader, SpellsHeader}
-use Rattle.tx_lines.specs.Walks.{before_commands, command_text, debug_line, FaultsAfterHeader}
+use Rattle.tx_lines.specs.Programs.{line_text}
+use Rattle.tx_lines.specs.Schedule.{lines_of, steps_text, FaultsAtHeader, SpellsHeader}
+use Rattle.tx_lines.specs.Walks.{before_commands, command_text, debug_line}
 use Rattle.tx_lines.specs.declared.faults.Fault.{Fault}
 use Rattle.tx_lines.specs.declared.read.header.Header.{Header}
 use Rattle.tx_lines.specs.declared.read.header.Version.{Version}
-
--- what follows a text's header at fault
-abbrev FaultsLater : Kind → Version → List ℕ → Fault → Type 0
-FaultsLater kinds.Schedule version rest fault = FaultsAmong step_text (AreSteps version) (FaultsAtStep version) rest fault
-FaultsLater kinds.Walk version rest fault = FaultsAfterHeader version rest fault
-FaultsLater kinds.Program version rest fault = FaultsAmongLines version rest fault
 
 -- a whole text after its header
 abbrev IsRest : Kind → Version → List (List ℕ) → Type 0
@@ -81,19 +76,19 @@ whole kinds.Program text read =
       whole = record { begins = record { ones = ones; same = refl; are = is.lines_fit }; made = program.instructions.items; linked_all = is.instructions };
     }
 
-never_later : (kind : Kind) (version : Version) (rest : List ℕ) (lines : List (List ℕ)) (fault : Fault) → IsRest kind version lines → rest ≡ with_ends lines → FaultsLater kind version rest fault → ⊥
+never_later : (kind : Kind) (version : Version) (rest : List ℕ) (lines : List (List ℕ)) (fault : Fault) → IsRest kind version lines → rest ≡ with_ends lines → FaultsBehind kind version rest fault → ⊥
 never_later kinds.Schedule version rest lines fault all same is = never_both (schedule_grammar version) rest lines fault all same (schedule_faulty version rest fault is)
 never_later kinds.Walk version rest lines fault all same is = never_both (walk_grammar version) rest lines fault all same (walk_faulty version rest fault is)
 never_later kinds.Program version rest lines fault all same is = never_both (program_grammar version) rest lines fault all same (program_faulty version rest fault is)
 
-one_later : (kind : Kind) (version : Version) (rest : List ℕ) (a b : Fault) → FaultsLater kind version rest a → FaultsLater kind version rest b → a ≡ b
+one_later : (kind : Kind) (version : Version) (rest : List ℕ) (a b : Fault) → FaultsBehind kind version rest a → FaultsBehind kind version rest b → a ≡ b
 one_later kinds.Schedule version rest a b first second = one_fault (schedule_grammar version) rest a b (schedule_faulty version rest a first) (schedule_faulty version rest b second)
 one_later kinds.Walk version rest a b first second = one_fault (walk_grammar version) rest a b (walk_faulty version rest a first) (walk_faulty version rest b second)
 one_later kinds.Program version rest a b first second = one_fault (program_grammar version) rest a b (program_faulty version rest a first) (program_faulty version rest b second)
 
 -- a text is at fault at its header, or after it
 abbrev IsFault : Kind → List ℕ → Fault → Type 0
-IsFault kind text fault = FaultsAtHeader (head_of kind) text fault ⊎ ((header : Header) × (rest : List ℕ) × SpellsHeader (head_of kind) text header rest × FaultsLater kind header.version rest fault)
+IsFault kind text fault = FaultsAtHeader (head_of kind) text fault ⊎ ((header : Header) × (rest : List ℕ) × SpellsHeader (head_of kind) text header rest × FaultsBehind kind header.version rest fault)
 
 same_fault : (kind : Kind) (text : List ℕ) (fault : Fault) → IsAtFault kind text fault → IsFault kind text fault
 same_fault kinds.Schedule text fault is = is
@@ -105,7 +100,7 @@ never kind text fault all (inl header) = header_right (head_of kind) text all.he
 never kind text fault all (inr found) =
     let same = same_header (head_of kind) text found.0 all.header found.1 all.rest found.2 all.spells in
     never_later kind all.header.version all.rest all.lines fault all.whole all.same
-    (subst (λ (r : List ℕ). FaultsLater kind all.header.version r fault) same.1 (subst (λ (v : Version). FaultsLater kind v found.1 fault) same.0 found.3))
+    (subst (λ (r : List ℕ). FaultsBehind kind all.header.version r fault) same.1 (subst (λ (v : Version). FaultsBehind kind v found.1 fault) same.0 found.3))
 
 two : (kind : Kind) (text : List ℕ) (a b : Fault) → IsFault kind text a → IsFault kind text b → a ≡ b
 two kind text a b (inl first) (inl second) = header_once (head_of kind) text a b first second
@@ -114,7 +109,7 @@ two kind text a b (inr found) (inl second) = absurd (header_right (head_of kind)
 two kind text a b (inr first) (inr second) =
     let same = same_header (head_of kind) text second.0 first.0 second.1 first.1 second.2 first.2 in
     one_later kind first.0.version first.1 a b first.3
-    (subst (λ (r : List ℕ). FaultsLater kind first.0.version r b) same.1 (subst (λ (v : Version). FaultsLater kind v second.1 b) same.0 second.3))
+    (subst (λ (r : List ℕ). FaultsBehind kind first.0.version r b) same.1 (subst (λ (v : Version). FaultsBehind kind v second.1 b) same.0 second.3))
 
 pub none_is_both : NoneIsBoth
 none_is_both kind text fault read is = never kind text fault (whole kind text read) (same_fault kind text fault is)

@@ -33,7 +33,7 @@ spaced front rest e =
     let all : list_all is_no_space (front ++ 32 ∷ rest) ≡ true = ap (list_all is_no_space) e in
     none_and (list_all is_no_space front) (sym (list_all-append is_no_space front (32 ∷ rest)) ∙ all)
 
-no_debug : (step : Step) → step_text step ≡ debug_line → ⊥
+pub no_debug : (step : Step) → step_text step ≡ debug_line → ⊥
 no_debug (steps.Call pid c) e = spaced (decimal pid.0) (call_text c) e
 no_debug (steps.Deliver pid signo) e = spaced (decimal pid.0) (codes "deliver " ++ decimal signo.0) e
 no_debug (steps.KernelAbort starter) e = spaced (codes "kernel") (decimal starter.0) e

@@ -1,3 +1,4 @@
+pub mod Behind
 pub mod Command
 pub mod Kinds
 pub mod Laws

@@ -13,6 +13,7 @@ ghost use Rattle.tx_plain.specs.Meant as meanings;
 ghost use Rattle.tx_plain.specs.Meant.{IsMeantBy};
 
 use crate::diagnose::{trouble_of, unknown};
+use crate::faults::first_fault;
 use crate::kinds::{Kind, kind_of};
 use crate::own::{TextFrom, own_trouble};
 use crate::places::{Part, Place, TextLine, behind};
@@ -20,7 +21,7 @@ use crate::tell::tell;
 use crate::trouble::Trouble;
 use std::alloc::Global;
 use tx_base::NoMemory;
-use tx_lines::{Fault, read_program_text, read_schedule, read_walk, take_line};
+use tx_lines::{Fault, take_line};
 use tx_plain::Meant;
 
 /// What is told of a text of any version: nothing exactly where what it means is a text of its kind
@@ -30,67 +31,17 @@ use tx_plain::Meant;
 /// in its place, whatever stands before it. Lines count from 1 and columns in bytes from
 /// 1, both in the text as it is given; the column after a line's last byte stands for its end.
 ///
-/// The only error is that a growth of memory was refused.
+/// Memory is taken for what is told, and for what a text of version 3 means. The only error is that
+/// such a growth was refused.
 pub fn check_text(alloc: Global, text: &[u8]) -> Result<String, NoMemory>
     ensures { IfOk result (λ told. IsToldOf text.now (string_bytes told)) }
 {
     let meant = Meant::by(alloc, text)?;
-    let kind = kind_of(meant.as_bytes());
-    match first_fault(alloc, kind, meant.as_bytes())? {
+    let bytes = meant.as_bytes();
+    let kind = kind_of(bytes);
+    match first_fault(kind, bytes) {
         Some(fault) => tell_from(alloc, kind, text, &meant, fault),
         None => Ok(String::new(alloc)),
-    }
-}
-
-/// The fault at which the command of that kind finds a text.
-fn first_fault(alloc: Global, kind: Kind, text: &[u8]) -> Result<Option<Fault>, NoMemory>
-    ensures { IfOk result (Finds kind text.now) }
-{
-    match kind {
-        Kind::Schedule => schedule_fault(alloc, text),
-        Kind::Walk => walk_fault(alloc, text),
-        Kind::Program => program_fault(alloc, text),
-    }
-}
-
-/// The fault of a text as a schedule.
-fn schedule_fault(alloc: Global, text: &[u8]) -> Result<Option<Fault>, NoMemory>
-    ensures { IfOk result (Finds kinds.Schedule text.now) }
-{
-    match read_schedule(alloc, text) {
-        Ok(_schedule) => Ok(None),
-        Err(fault) => Ok(Some(text_fault(fault)?)),
-    }
-}
-
-/// The fault of a text as a schedule with commands.
-fn walk_fault(alloc: Global, text: &[u8]) -> Result<Option<Fault>, NoMemory>
-    ensures { IfOk result (Finds kinds.Walk text.now) }
-{
-    match read_walk(alloc, text) {
-        Ok(_walk) => Ok(None),
-        Err(fault) => Ok(Some(text_fault(fault)?)),
-    }
-}
-
-/// The fault of a text as a program.
-fn program_fault(alloc: Global, text: &[u8]) -> Result<Option<Fault>, NoMemory>
-    ensures { IfOk result (Finds kinds.Program text.now) }
-{
-    match read_program_text(alloc, text) {
-        Ok(_program) => Ok(None),
-        Err(fault) => Ok(Some(text_fault(fault)?)),
-    }
-}
-
-/// The fault as one of a text. `NoMemory` where it is none.
-fn text_fault(fault: Fault) -> Result<Fault, NoMemory>
-    ensures same { IfOk result (λ found. found ≡ fault) }
-    ensures other { OnOk result (fault ≢ faults.NoMemory) }
-{
-    match fault {
-        Fault::NoMemory => Err(NoMemory),
-        _ => Ok(fault),
     }
 }
 

@@ -10,7 +10,7 @@ mod calls;
 mod commands;
 mod fields;
 mod headers;
-mod labels;
+pub mod labels;
 mod numbers;
 mod program_lines;
 mod shapes;
@@ -54,7 +54,7 @@ pub fn trouble_of<'a>(text: &'a [u8], place: &Place, line: TextLine<'a>) -> Opti
 }
 
 /// Whether a line is right by itself.
-fn is_right(place: &Place, line: &[u8]) -> bool
+pub fn is_right(place: &Place, line: &[u8]) -> bool
     requires { length line.now ≤ 512 }
     ensures right { IsTrue result → IsRight place.now.part place.now.version line.now }
     ensures wrong { IsFalse result → IsNoneThere place.now.part place.now.version line.now }

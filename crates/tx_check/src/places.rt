@@ -1,5 +1,5 @@
 //! What is to stand in a line, by the kind of its text and the lines before it.
-ghost use Rattle.std.specs.Prelude.{◌≡◌, ◌+◌, ◌<◌, ◌↔◌, ℕ, IfSome, IsTrue, is_some, length};
+ghost use Rattle.std.specs.Prelude.{◌≡◌, ◌+◌, ◌<◌, ◌↔◌, ℕ, List, IfNone, IfSome, IsTrue, is_some, length};
 ghost use Rattle.tx_check.specs.Kinds.{head_of};
 ghost use Rattle.tx_check.specs.Numbered as spec;
 ghost use Rattle.tx_check.specs.Right.{IsTooMany};
@@ -81,21 +81,33 @@ impl Place {
         }
     }
 
+    /// The place of the line behind a header of that kind and version.
+    pub fn behind_header(kind: TextKind, version: Version) -> Place
+        ensures version { result.version ≡ version }
+        ensures link { result.part ≡ parts.Link → ⊥ }
+        ensures stands { (line : List ℕ) → IsPlaceOf (stand_after (AtHeader kind) line) result }
+    {
+        let part = match kind {
+            TextKind::Schedule => Part::Step,
+            TextKind::Program => Part::ProgramLine,
+        };
+        Place {
+            part,
+            version,
+            count: 0,
+            labels: 0,
+        }
+    }
+
     /// The place of the line after that one.
     pub fn after(self, line: &[u8]) -> Place
         ensures version { result.version ≡ self.version }
+        ensures link { result.part ≡ parts.Link → self.part ≡ parts.Link }
         ensures stands { (stand : Stand) → IsPlaceOf stand self →
             IsPlaceOf (stand_after stand line.now) result }
     {
         match self.part {
-            Part::Header(TextKind::Schedule) => Place {
-                part: Part::Step,
-                ..self
-            },
-            Part::Header(TextKind::Program) => Place {
-                part: Part::ProgramLine,
-                ..self
-            },
+            Part::Header(kind) => Place::behind_header(kind, self.version),
             Part::Step => self.after_step(line),
             Part::ProgramLine => self.after_line(line),
             Part::Command | Part::Link => self.after_one(),
@@ -106,6 +118,7 @@ impl Place {
     fn after_step(self, line: &[u8]) -> Place
         requires { self.part ≡ parts.Step }
         ensures version { result.version ≡ self.version }
+        ensures link { result.part ≡ parts.Link → ⊥ }
         ensures stands { (steps : ℕ) → self.count ≡ counted steps →
             IsPlaceOf (stand_after (AmongSteps steps) line.now) result }
     {
@@ -123,6 +136,7 @@ impl Place {
     fn after_line(self, line: &[u8]) -> Place
         requires { self.part ≡ parts.ProgramLine }
         ensures version { result.version ≡ self.version }
+        ensures link { result.part ≡ parts.Link → ⊥ }
         ensures stands { (instructions labels : ℕ) → self.count ≡ counted instructions →
             self.labels ≡ counted labels →
             IsPlaceOf (stand_after (AmongLines instructions labels) line.now) result }
@@ -160,8 +174,10 @@ impl Place {
 
     /// What is told of a line that is one too many, whatever it says.
     pub fn one_too_many(&self, line: &[u8]) -> Option<LineTrouble>
-        ensures { IfSome result (λ trouble.
+        ensures over { IfSome result (λ trouble.
             IsTooMany self.now.part self.now.count self.now.labels line.now) }
+        ensures room { IfNone result
+            (IsTooMany self.now.part self.now.count self.now.labels line.now → ⊥) }
     {
         let trouble = match self.part {
             Part::Step if self.count >= LINES && !is_debug(line) => { LineTrouble::TooManySteps }
@@ -179,7 +195,7 @@ impl Place {
 }
 
 /// The kind of the header of such a text.
-fn kind_of_head(kind: Kind) -> TextKind
+pub fn kind_of_head(kind: Kind) -> TextKind
     ensures { result ≡ head_of kind }
 {
     match kind {

@@ -1,5 +1,5 @@
 //! The labels in the text of a program: which stand twice, and which nowhere.
-ghost use Rattle.std.specs.Prelude.{◌≡◌, ◌≢◌, ◌≤◌, ◌++◌, ◌↔◌, ℕ, IfNone, IfSome, IsTrue};
+ghost use Rattle.std.specs.Prelude.{◌≡◌, ◌≢◌, ◌<◌, ◌≤◌, ◌++◌, ◌↔◌, ℕ, IfNone, IfSome, IsTrue};
 ghost use Rattle.tx_check.specs.Numbered.{line_at};
 ghost use Rattle.tx_check.specs.Told.{IsColumn};
 ghost use Rattle.tx_check.specs.Wrong.{IsTwice, NamesNowhere};
@@ -18,6 +18,7 @@ const LABEL_FRONT: usize = 6;
 pub fn second_label<'a>(text: &[u8], number: u64, line: &'a [u8]) -> Option<Trouble<'a>>
     ensures column { IfSome result (λ trouble. IsColumn line.now trouble.column) }
     ensures twice { IfSome result (λ trouble. IsTwice text.now number line.now) }
+    ensures once { IfNone result (IsTwice text.now number line.now → ⊥) }
 {
     if !is_label(line) {
         return None;
@@ -56,10 +57,12 @@ pub fn link_trouble<'a>(text: &'a [u8], line: &'a [u8]) -> Option<Trouble<'a>>
 }
 
 /// The number of the first line that is the label of that name. Lines count from 1.
-fn line_of_label(text: &[u8], name: &[u8]) -> Option<u64>
+pub fn line_of_label(text: &[u8], name: &[u8]) -> Option<u64>
     ensures some { IfSome result (λ number. 1 ≤ number) }
     ensures found { IfSome result (λ number.
         line_at number text.now ≡ label_front ++ name.now) }
+    ensures first { IfSome result (λ number. (earlier : ℕ) → 1 ≤ earlier → earlier < number →
+        line_at earlier text.now ≢ label_front ++ name.now) }
     ensures none { IfNone result
         ((number : ℕ) → line_at number text.now ≢ label_front ++ name.now) }
 {

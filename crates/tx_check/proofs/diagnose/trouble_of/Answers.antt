@@ -7,7 +7,7 @@ pub returns-then-line-gt-LINE_BYTES-clause-wrong : goal.returns-then-line-gt-LIN
 returns-then-line-gt-LINE_BYTES-clause-wrong c = λ stand is. TooLong (omega (arith, c.if-line-gt-LINE_BYTES.true))
 
 pub returns-in-Some-clause-wrong : goal.returns-in-Some-clause-wrong
-returns-in-Some-clause-wrong c = λ stand is. Other (too_many c.args.place.now.version stand c.args.place.now c.args.line.bytes.now is c.in-Some.ensures)
+returns-in-Some-clause-wrong c = λ stand is. Other (too_many c.args.place.now.version stand c.args.place.now c.args.line.bytes.now is c.in-Some.ensures.over)
 
 pub returns-then-not-is_right-clause-wrong : goal.returns-then-not-is_right-clause-wrong
 returns-then-not-is_right-clause-wrong c = λ stand is.

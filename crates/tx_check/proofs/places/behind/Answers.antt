@@ -1,6 +1,6 @@
 use Rattle.std.proofs.Common.{◌≡◌, Some, sym}
 use Rattle.tx_lines.specs.Schedule.{after_line}
-use Rattle.tx_check.proofs.Found.{after_shorter}
+use Rattle.tx_check.proofs.Growing.{after_shorter}
 use Rattle.tx_check.proofs.places.behind.Goals as goal
 
 pub returns-in-Some-clause-shorter : goal.returns-in-Some-clause-shorter

@@ -1,0 +1,149 @@
+//! Finds the line at which the command of a text's kind finds it at fault. It takes no memory.
+ghost use Rattle.std.specs.Prelude.{◌≡◌, ◌↔◌, ◌≤◌, IfNone, IfSome, IsTrue, MatchOption, length};
+ghost use Rattle.std.specs.Option.{option_copied};
+ghost use Rattle.tx_check.specs.Behind.{AreLinesBehind, AreLinked, FaultsBehind, IsFaultAt, IsNamedNowhere, IsNowhere, MayStand};
+ghost use Rattle.tx_check.specs.Kinds.{head_of};
+ghost use Rattle.tx_check.specs.Kinds as spec;
+ghost use Rattle.tx_check.specs.Reads.{Finds};
+ghost use Rattle.tx_check.specs.Wrong.{IsTwice};
+ghost use Rattle.tx_check.specs.declared.kinds.Kind.TheVariants as kinds;
+ghost use Rattle.tx_check.specs.declared.places.Part.TheVariants as parts;
+ghost use Rattle.tx_lines.specs.Programs.{line_text, IsLineOf};
+ghost use Rattle.tx_lines.specs.Schedule.{SpellsHeader};
+ghost use Rattle.tx_lines.specs.declared.instructions.Line.{Line};
+ghost use Rattle.tx_lines.specs.declared.read.header.TextKind.TheVariants as texts;
+
+use crate::diagnose::is_right;
+use crate::diagnose::labels::{line_of_label, second_label};
+use crate::kinds::Kind;
+use crate::places::{Part, Place, TextLine, behind, kind_of_head};
+use tx_lines::{
+    Fault, Header, LINE_BYTES, Line, Name, Version, first_header, read_line, take_line,
+};
+
+/// The line behind a header.
+const FIRST_LINE: u64 = 2;
+
+/// The fault at which the command of that kind finds a text: that of the first line which is at fault
+/// in its place, and where there is none, of the first one which names a label that is nowhere.
+/// Nothing where the command reads the text.
+///
+/// No line is kept, so labels are sought in the text, from its first line on. That takes a look at a
+/// line for each line of a program before each of its labels, and before each label that is named: at
+/// most 1,280 looks for each of 256 labels and of 1,024 instructions.
+pub fn first_fault(kind: Kind, text: &[u8]) -> Option<Fault>
+    requires { kind ≡ spec.kind_of text.now }
+    ensures { Finds kind text.now result }
+{
+    let (header, left) = match first_header(kind_of_head(kind), text) {
+        Ok(found) => found,
+        Err(fault) => return Some(fault),
+    };
+    if let Some(fault) = fault_behind(kind, text, header, left) {
+        return Some(fault);
+    }
+    match kind {
+        Kind::Program => unlinked(text, header, left),
+        Kind::Schedule | Kind::Walk => None,
+    }
+}
+
+/// The fault of the first line behind a text's header that is at fault in its place.
+fn fault_behind(kind: Kind, text: &[u8], header: Header, rest: &[u8]) -> Option<Fault>
+    requires kind { kind ≡ spec.kind_of text.now }
+    requires header { SpellsHeader (head_of kind) text.now header rest.now }
+    ensures { MatchOption result (AreLinesBehind kind header.version rest.now)
+        (FaultsBehind kind header.version rest.now) }
+{
+    let mut place = Place::behind_header(kind_of_head(kind), header.version);
+    let mut number = FIRST_LINE;
+    let mut left = rest;
+    while !left.is_empty() {
+        let line = TextLine::first_of(number, left);
+        if let Some(fault) = fault_at(text, &place, line) {
+            return Some(fault);
+        }
+        place = place.after(line.bytes);
+        number += 1;
+        left = behind(left);
+    }
+    None
+}
+
+/// The fault of a line of a text at that place. Nothing where it may stand there.
+fn fault_at(text: &[u8], place: &Place, line: TextLine<'_>) -> Option<Fault>
+    ensures may { IfNone result (MayStand text.now place.now line.entry) }
+    ensures fault { IfSome result (IsFaultAt text.now place.now line.entry) }
+{
+    let number = line.number;
+    if line.bytes.len() > LINE_BYTES || place.one_too_many(line.bytes).is_some() {
+        return Some(Fault::TooLong { line: number });
+    }
+    if !line.is_ended || !is_right(place, line.bytes) || is_second_label(text, place, line) {
+        return Some(Fault::NotALine { line: number });
+    }
+    None
+}
+
+/// Whether a line of a program is a label whose name stands in a line before it.
+fn is_second_label(text: &[u8], place: &Place, line: TextLine<'_>) -> bool
+    ensures { IsTrue result ↔ ((place.now.part ≡ parts.ProgramLine)
+        × IsTwice text.now line.entry.number line.entry.bytes.now) }
+{
+    match place.part {
+        Part::ProgramLine => second_label(text, line.number, line.bytes).is_some(),
+        _ => false,
+    }
+}
+
+/// The fault of the first line of a program that names a label which is nowhere.
+fn unlinked(text: &[u8], header: Header, rest: &[u8]) -> Option<Fault>
+    requires header { SpellsHeader texts.Program text.now header rest.now }
+    requires lines { AreLinesBehind kinds.Program header.version rest.now }
+    ensures { MatchOption result (AreLinked header.version rest.now)
+        (FaultsBehind kinds.Program header.version rest.now) }
+{
+    let mut number = FIRST_LINE;
+    let mut left = rest;
+    while !left.is_empty() {
+        let (line, _rest) = take_line(left);
+        if is_unlinked(text, header.version, line) {
+            return Some(Fault::NoLabel { line: number });
+        }
+        number += 1;
+        left = behind(left);
+    }
+    None
+}
+
+/// Whether a line of a program of that version names a label which is nowhere in the text.
+fn is_unlinked(text: &[u8], version: Version, line: &[u8]) -> bool
+    requires { length line.now ≤ 512 }
+    ensures { (one : Line) → IsLineOf version one → line.now ≡ line_text one →
+        (IsTrue result ↔ IsNamedNowhere text.now one) }
+{
+    match read_line(version, line) {
+        Some(one) => names_nowhere(text, &one),
+        None => false,
+    }
+}
+
+/// Whether a line of a program names a label which is nowhere in the text.
+fn names_nowhere(text: &[u8], line: &Line) -> bool
+    ensures { IsTrue result ↔ IsNamedNowhere text.now line.now }
+{
+    match line {
+        Line::Label(_name) => false,
+        Line::Instruction(instruction) => is_nowhere(text, instruction.label()),
+    }
+}
+
+/// Whether a label is named that is nowhere in the text.
+fn is_nowhere(text: &[u8], label: Option<&Name>) -> bool
+    ensures { IsTrue result ↔ IsNowhere text.now (option_copied label.entry) }
+{
+    match label {
+        Some(name) => line_of_label(text, name.bytes.as_slice()).is_none(),
+        None => false,
+    }
+}
