@@ -16,12 +16,12 @@ use crate::diagnose::{trouble_of, unknown};
 use crate::faults::first_fault;
 use crate::kinds::{Kind, kind_of};
 use crate::own::{TextFrom, own_trouble};
-use crate::places::{Part, Place, TextLine, behind};
+use crate::places::{Part, Place, TextLine, behind, cut_line};
 use crate::tell::tell;
 use crate::trouble::Trouble;
 use std::alloc::Global;
 use tx_base::NoMemory;
-use tx_lines::{Fault, take_line};
+use tx_lines::Fault;
 use tx_plain::Meant;
 
 /// What is told of a text of any version: nothing exactly where what it means is a text of its kind
@@ -107,9 +107,9 @@ fn place_of(kind: Kind, text: &[u8], fault: Fault) -> (Place, TextFrom<'_>)
     let mut left = text;
     let number = line_of(fault);
     for _before in 0..number - 1 {
-        let (line, _rest) = take_line(left);
+        let (line, rest) = cut_line(left);
         place = place.after(line);
-        left = behind(left);
+        left = rest;
     }
     (place_by(fault, place), TextFrom { number, left })
 }

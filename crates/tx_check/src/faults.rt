@@ -16,10 +16,8 @@ ghost use Rattle.tx_lines.specs.declared.read.header.TextKind.TheVariants as tex
 use crate::diagnose::is_right;
 use crate::diagnose::labels::{line_of_label, second_label};
 use crate::kinds::Kind;
-use crate::places::{Part, Place, TextLine, behind, kind_of_head};
-use tx_lines::{
-    Fault, Header, LINE_BYTES, Line, Name, Version, first_header, read_line, take_line,
-};
+use crate::places::{Part, Place, TextLine, behind, cut_line, kind_of_head};
+use tx_lines::{Fault, Header, LINE_BYTES, Line, Name, Version, first_header, read_line};
 
 /// The line behind a header.
 const FIRST_LINE: u64 = 2;
@@ -106,12 +104,12 @@ fn unlinked(text: &[u8], header: Header, rest: &[u8]) -> Option<Fault>
     let mut number = FIRST_LINE;
     let mut left = rest;
     while !left.is_empty() {
-        let (line, _rest) = take_line(left);
+        let (line, rest) = cut_line(left);
         if is_unlinked(text, header.version, line) {
             return Some(Fault::NoLabel { line: number });
         }
         number += 1;
-        left = behind(left);
+        left = rest;
     }
     None
 }

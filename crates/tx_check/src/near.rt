@@ -1,11 +1,10 @@
 //! The name that is nearest to a mistyped one.
 use crate::forms::{CALLS, COMMANDS};
-use crate::places::behind;
+use crate::places::cut_line;
 use crate::trouble::Names;
 use std::alloc::Global;
 use strsim::osa_distance;
 use tx_base::NoMemory;
-use tx_lines::take_line;
 
 /// How many edits lead to a name at most. One of `n` bytes is near where there are at most `n / 3`.
 const EDITS: usize = 4;
@@ -60,11 +59,11 @@ fn nearest_label<'a>(
     };
     let mut left = text;
     while !left.is_empty() {
-        let (line, _rest) = take_line(left);
+        let (line, rest) = cut_line(left);
         if let Some(name) = line.strip_prefix(b"label ") {
             nearest = nearest.or_nearer(alloc, name, word)?;
         }
-        left = behind(left);
+        left = rest;
     }
     Ok(nearest.name)
 }

@@ -229,14 +229,24 @@ pub fn is_label(line: &[u8]) -> bool
     line.len() >= 6 && &line[..6] == b"label ".as_slice()
 }
 
+/// The first line of a text, and what follows it.
+pub fn cut_line(text: &[u8]) -> (&[u8], &[u8])
+    ensures line { result.0.now ≡ first_line text.now }
+    ensures behind { result.1.now ≡ spec.behind text.now }
+    ensures shorter { 0 < length text.now → length result.1.now < length text.now }
+{
+    let (line, rest) = take_line(text);
+    match rest {
+        Some(rest) => (line, rest),
+        None => (line, b""),
+    }
+}
+
 /// What follows the first line of a text.
 pub fn behind(text: &[u8]) -> &[u8]
     ensures bytes { result.now ≡ spec.behind text.now }
     ensures shorter { 0 < length text.now → length result.now < length text.now }
 {
-    let (_line, rest) = take_line(text);
-    match rest {
-        Some(rest) => rest,
-        None => b"",
-    }
+    let (_line, rest) = cut_line(text);
+    rest
 }

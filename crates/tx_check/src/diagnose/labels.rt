@@ -5,10 +5,9 @@ ghost use Rattle.tx_check.specs.Told.{IsColumn};
 ghost use Rattle.tx_check.specs.Wrong.{IsTwice, NamesNowhere};
 ghost use Rattle.tx_lines.specs.Programs.{label_front};
 
-use crate::places::{behind, is_label};
+use crate::places::{cut_line, is_label};
 use crate::trouble::{Names, Trouble, What};
 use crate::words::{count_words, word_at};
-use tx_lines::take_line;
 
 /// How many bytes a label's line has before the name.
 const LABEL_FRONT: usize = 6;
@@ -69,12 +68,12 @@ pub fn line_of_label(text: &[u8], name: &[u8]) -> Option<u64>
     let mut left = text;
     let mut passed: u64 = 0;
     while !left.is_empty() {
-        let (line, _rest) = take_line(left);
+        let (line, rest) = cut_line(left);
         passed += 1;
         if is_label_of(line, name) {
             return Some(passed);
         }
-        left = behind(left);
+        left = rest;
     }
     None
 }

@@ -12,9 +12,9 @@ loop-before-preserved c =
     let before = c.loop-before._before in
     let is = c.loop-before.invariant in
     record {
-      at = c.behind-left.ensures.bytes ∙ ap behind is.at ∙ lines_more before c.args.text.now;
-      place = stands_later c.args.text.now before (before + 1) (before + 1 + 1) c.take_line.result.0.now c.loop-before.place c.after-place.result refl (omega arith)
-          (c.take_line.ensures.line ∙ ap first_line is.at) is.place c.after-place.ensures.version c.after-place.ensures.stands;
+      at = c.cut_line.ensures.behind ∙ ap behind is.at ∙ lines_more before c.args.text.now;
+      place = stands_later c.args.text.now before (before + 1) (before + 1 + 1) c.cut_line.result.0.now c.loop-before.place c.after-place.result refl (omega arith)
+          (c.cut_line.ensures.line ∙ ap first_line is.at) is.place c.after-place.ensures.version c.after-place.ensures.stands;
     }
 
 pub returns-clause-place : goal.returns-clause-place

@@ -14,7 +14,7 @@ is_unlinked-requires c =
     let version = c.args.header.version in
     let so = c.loop-left.invariant in
     let next = next_line version c.args.rest.now c.loop-left.number c.loop-left.left.now so (some_left c.loop-left.left.now c.loop-left-test.ensures) in
-    omega (arith, ap length (c.take_line.ensures.line ∙ next.first), (short_line version next.one next.good).few)
+    omega (arith, ap length (c.cut_line.ensures.line ∙ next.first), (short_line version next.one next.good).few)
 
 pub returns-then-is_unlinked : goal.returns-then-is_unlinked
 returns-then-is_unlinked c =
@@ -22,7 +22,7 @@ returns-then-is_unlinked c =
     let so = c.loop-left.invariant in
     let next = next_line version c.args.rest.now c.loop-left.number c.loop-left.left.now so (some_left c.loop-left.left.now c.loop-left-test.ensures) in
     linked_fault version c.args.text.now c.args.rest.now c.args.header c.loop-left.number c.loop-left.left.now so next c.requires.header
-    ((c.if-is_unlinked.ensures next.one next.good (c.take_line.ensures.line ∙ next.first)).0 refl)
+    ((c.if-is_unlinked.ensures next.one next.good (c.cut_line.ensures.line ∙ next.first)).0 refl)
 
 pub overflow_add-number : goal.overflow_add-number
 overflow_add-number c =
@@ -34,9 +34,9 @@ loop-left-preserved c =
     let version = c.args.header.version in
     let so = c.loop-left.invariant in
     let next = next_line version c.args.rest.now c.loop-left.number c.loop-left.left.now so (some_left c.loop-left.left.now c.loop-left-test.ensures) in
-    let linked = c.if-is_unlinked.ensures next.one next.good (c.take_line.ensures.line ∙ next.first) in
+    let linked = c.if-is_unlinked.ensures next.one next.good (c.cut_line.ensures.line ∙ next.first) in
     let there : IsNamedNowhere c.args.text.now next.one → ⊥ = λ nowhere. let bad = linked.1 nowhere in absurd (cc) in
-    subst (λ (left : List ℕ). LinkedSoFar version c.args.rest.now (c.loop-left.number + 1) left) (sym c.behind-left.ensures.bytes)
+    subst (λ (left : List ℕ). LinkedSoFar version c.args.rest.now (c.loop-left.number + 1) left) (sym c.cut_line.ensures.behind)
     (linked_next version c.args.text.now c.args.rest.now c.args.header c.loop-left.number c.loop-left.left.now so next c.requires.header there)
 
 pub returns : goal.returns

@@ -1,7 +1,7 @@
 use Rattle.std.proofs.Common.{◌≡◌, Some, sym}
 use Rattle.tx_lines.specs.Schedule.{after_line}
 use Rattle.tx_check.proofs.Growing.{after_shorter}
-use Rattle.tx_check.proofs.places.behind.Goals as goal
+use Rattle.tx_check.proofs.places.cut_line.Goals as goal
 
 pub returns-in-Some-clause-shorter : goal.returns-in-Some-clause-shorter
 returns-in-Some-clause-shorter c =
