@@ -259,9 +259,9 @@ has_lines version text rest header number place left spells so = record {
   fit = so.are.fit;
 }
 
--- a second label, and one that is none
-second_is : (version : Version) (text left line : List ℕ) (lines : List Line) → HasLines version text lines left → IsLabelled lines line → IsSecondLabel lines (label_front ++ line)
-second_is version text left line lines has is =
+-- a second label
+second_is : (line : List ℕ) (lines : List Line) → IsLabelled lines line → IsSecondLabel lines (label_front ++ line)
+second_is line lines is =
     let found = found_label is.twin 0 is.before is.twin is.after refl in (
       is.twin,
       ap (λ (t : List ℕ). label_front ++ t) (sym is.same),
@@ -282,7 +282,7 @@ program_fault version text rest header number place left next fault spells so is
         let has = has_lines version text rest header number place left spells so in
         let within : second.earlier < length so.lines + 2 = omega (arith, second.before, is.at, so.at) in
         let labels = labelled version text so.lines left name second.earlier has (second.same ∙ second.label.1) (inl within) in
-        subst (λ (t : List ℕ). IsSecondLabel so.lines t) (sym second.label.1 ∙ is.bytes) (second_is version text left name so.lines has labels)
+        subst (λ (t : List ℕ). IsSecondLabel so.lines t) (sym second.label.1 ∙ is.bytes) (second_is name so.lines labels)
 
     past : IsTooMany parts.ProgramLine place.count place.labels next.bytes.now → IsPastLines so.lines (first_line left)
     past (inl over) = inl (subst BeginsLabel is.bytes over.1, full 256 place.labels (length (labels_of so.lines)) (omega arith) so.are.few_labels counts.labels over.0)
