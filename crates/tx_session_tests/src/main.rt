@@ -1,6 +1,5 @@
-//! The tests of all crates, in one crate over them: what no contract says and no text shows that
-//! the program answers. They stand here, and not in their crates, since a crate with tests is
-//! proved once more for them.
+//! The tests of sessions, of their workers, and of the texts that commands read and write: what no
+//! contract says and no text shows that the program answers.
 //!
 //! The tests of `refused` pass whichever growth of memory is refused to them, and are run so, too.
 //!
@@ -9,29 +8,11 @@
 #![tactic(auto)]
 
 #[cfg(test)]
-mod checks;
-#[cfg(test)]
-mod descriptors;
-#[cfg(test)]
 mod ends;
-#[cfg(test)]
-mod ids;
 #[cfg(test)]
 mod journals;
 #[cfg(test)]
-mod kernel;
-#[cfg(test)]
 mod machine;
-#[cfg(test)]
-mod meanings;
-#[cfg(test)]
-mod memory;
-#[cfg(test)]
-mod numbers;
-#[cfg(test)]
-mod pipes;
-#[cfg(test)]
-mod plains;
 #[cfg(test)]
 mod programs;
 #[cfg(test)]
@@ -44,10 +25,6 @@ mod runs;
 mod schedules;
 #[cfg(test)]
 mod sessions;
-#[cfg(test)]
-mod shells;
-#[cfg(test)]
-mod signals;
 #[cfg(test)]
 mod texts;
 #[cfg(test)]

@@ -14,16 +14,6 @@ fn store(address: i64, given: &[u8]) -> Call {
     Call::Store(address, bytes)
 }
 
-/// Process 2 begins, maps a page, stores a byte, and aborts.
-pub(crate) fn taken_back() -> [Step; 4] {
-    [
-        call(2, Call::SysXbegin),
-        call(2, Call::Map(0)),
-        call(2, store(0, &[255])),
-        call(2, Call::SysXabort),
-    ]
-}
-
 /// Two transactions side by side: the kernel aborts one, and the other commits.
 pub(crate) fn side_by_side() -> [Step; 12] {
     [

@@ -1,0 +1,86 @@
+//! The machine: aborts by the kernel, free numbers, and footprints.
+use std::alloc::Global;
+use std::test::Fail;
+use tx_base::{Call, DescNo, NoMemory, Pid, PipeNo, Reply, Step};
+use tx_core::{Free, Machine, NoTransaction, run};
+use tx_reserve::{Object, footprint};
+
+/// The call of process 2.
+fn of_second(call: Call) -> Step {
+    Step::Call(Pid(2), call)
+}
+
+#[test]
+fn aborts_by_the_kernel_and_back(rt: HostRuntime) -> Result<(), Fail> {
+    let mut machine = Machine::boot_wide(rt.alloc(), 3)?;
+    let (reply, _inverse) = machine.step(rt.alloc(), &of_second(Call::SysXbegin));
+    assert!(rt; matches!(reply, Reply::Done(0)), "it begins");
+    assert!(rt; machine.kernel_status(Pid(2)) == Some(202));
+    assert!(rt;
+        matches!(machine.kernel_abort(Pid(3)), Err(NoTransaction)),
+        "3 has none"
+    );
+    let Ok(inverse) = machine.kernel_abort(Pid(2)) else {
+        panic!(rt; "2 has one");
+    };
+    assert!(rt; machine.txn_of(Pid(2)).is_none() && machine.marks().get(Pid(2)).is_none());
+    machine.undo(inverse);
+    assert!(rt; machine.txn_of(Pid(2)) == Some(Pid(2)) && machine.held(Pid(2)).is_empty());
+    Ok(())
+}
+
+/// The numbers that are free for a process after a run of three, as 4 numbers.
+fn free_after(alloc: Global, steps: &[Step], number: u16) -> Result<Option<[u16; 4]>, NoMemory> {
+    let made = run(alloc, 3, steps)?;
+    let free = made.machine.free_numbers(Pid(number));
+    Ok(four(&free))
+}
+
+/// The numbers, where all are there.
+fn four(free: &Free) -> Option<[u16; 4]> {
+    let (PipeNo(pipe), (DescNo(read), DescNo(write))) = (free.pipe?, free.descs?);
+    Some([free.proc?.0, pipe.into(), read.into(), write.into()])
+}
+
+#[test]
+fn picks_the_least_free_numbers(rt: HostRuntime) -> Result<(), Fail> {
+    let steps = [
+        of_second(Call::SysXbegin),
+        of_second(Call::Pipe(PipeNo(0), DescNo(0), DescNo(1))),
+        of_second(Call::Close(0)),
+        of_second(Call::Close(1)),
+    ];
+    let own = free_after(rt.alloc(), &steps, 2)?;
+    assert!(rt; own == Some([4, 0, 0, 1]), "given up by its own");
+    let other = free_after(rt.alloc(), &steps, 3)?;
+    assert!(rt; other == Some([4, 1, 2, 3]), "reserved from others");
+    let steps = [
+        of_second(Call::SysXbegin),
+        of_second(Call::Pipe(PipeNo(0), DescNo(0), DescNo(1))),
+        of_second(Call::SysXabort),
+    ];
+    let aborted = free_after(rt.alloc(), &steps, 3)?;
+    assert!(rt; aborted == Some([4, 0, 0, 1]), "free again");
+    Ok(())
+}
+
+#[test]
+fn a_kill_names_its_target(rt: HostRuntime) -> Result<(), Fail> {
+    let machine = Machine::boot(rt.alloc(), 3)?;
+    let step = of_second(Call::Kill(3, 10));
+    let named = footprint(machine.parts(), machine.marks(), &[], &step);
+    assert!(rt; named.has(Object::Proc(Pid(2))) && named.has(Object::Proc(Pid(3))));
+    assert!(rt; !named.has(Object::Proc(Pid(1))));
+    Ok(())
+}
+
+#[test]
+fn a_missing_process_names_itself_and_the_kernel_nothing(rt: HostRuntime) -> Result<(), Fail> {
+    let machine = Machine::boot(rt.alloc(), 3)?;
+    let missing = Step::Call(Pid(9), Call::Kill(3, 10));
+    let named = footprint(machine.parts(), machine.marks(), &[], &missing);
+    assert!(rt; named.has(Object::Proc(Pid(9))) && !named.has(Object::Proc(Pid(3))));
+    let abort = Step::KernelAbort(Pid(2));
+    assert!(rt; footprint(machine.parts(), machine.marks(), &[], &abort).is_empty());
+    Ok(())
+}
