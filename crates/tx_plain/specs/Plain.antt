@@ -26,6 +26,11 @@ is_third_from (line ∷ lines) = is_header_or (is_third_from lines) (words_in li
 abbrev pub is_third : List ℕ → Bool
 is_third text = is_third_from (own_lines text)
 
+-- a line without its end, where there is one
+abbrev pub bare : Option (List ℕ) → List ℕ
+bare None = []
+bare (Some line) = line
+
 -- a line with its end, where there is one
 abbrev pub ended : Option (List ℕ) → List ℕ
 ended None = []

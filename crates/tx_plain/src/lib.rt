@@ -7,7 +7,8 @@
 //! (`roles.rt`): bytes (`byte_words.rt`, `strings.rt`), a signal (`signals.rt`), a set (`sets.rt`),
 //! or as it is. What is wrong stays as it is, so that the reader refuses it in its line; of each
 //! line of the plain text it is known which line of the person's it comes from. A text of version 2
-//! means itself, but for its header (`laws.rt`).
+//! means itself, but for its header (`laws.rt`). A line that comes alone means what it means behind
+//! the header of a schedule (`single.rt`).
 
 mod arguments;
 mod byte_words;
@@ -22,6 +23,7 @@ mod reading;
 mod roles;
 mod sets;
 mod signals;
+mod single;
 mod spellings;
 mod stage;
 mod strings;
@@ -35,4 +37,5 @@ pub use plain::{Plain, is_third, plain_text};
 pub use programs::read_program;
 pub use roles::{Role, role_of};
 pub use signals::signal;
+pub use single::plain_line;
 pub use words::{Word, split_word, words_in};

@@ -22,7 +22,7 @@ pub fn split_line(text: &[u8]) -> Option<(&[u8], &[u8])>
 }
 
 /// A line without the byte 13 at its end, where it has one.
-fn before_return(line: &[u8]) -> &[u8]
+pub fn before_return(line: &[u8]) -> &[u8]
     ensures { result.now ≡ without_return line.now }
 {
     match before_end(b"\r", line) {

@@ -1,7 +1,7 @@
 //! Puts a line as version 2 spells it.
 ghost use Rattle.std.specs.Prelude.{◌≡◌, ◌∷◌, ◌++◌, [], IfOk, OnOk, is_some};
 ghost use Rattle.tx_plain.specs.Lines.{kind_of, plain_arguments, plain_call, plain_line, plain_others, plain_version, spaced, stage_after};
-ghost use Rattle.tx_plain.specs.Plain.{ended};
+ghost use Rattle.tx_plain.specs.Plain.{bare, ended};
 ghost use Rattle.tx_plain.specs.Words.{words_in};
 
 use crate::arguments::put_argument;
@@ -24,8 +24,27 @@ pub fn put_line(
         (text.new.items ≡ text.old.items ++ ended (plain_line stage line.now)) }
     ensures some { IfOk result (λ some. some ≡ is_some (plain_line stage line.now)) }
 {
+    if !put_bare(alloc, text, stage, line)? {
+        return Ok(false);
+    }
+    text.push(b'\n')?;
+    Ok(true)
+}
+
+/// Appends the line of version 2 that a line means, without its end, and says whether it means one.
+/// After an error the text may have a part of it.
+pub fn put_bare(
+    alloc: Global,
+    text: &mut Vec<u8>,
+    stage: Stage,
+    line: &[u8],
+) -> Result<bool, AllocError>
+    ensures text { OnOk result
+        (text.new.items ≡ text.old.items ++ bare (plain_line stage line.now)) }
+    ensures some { IfOk result (λ some. some ≡ is_some (plain_line stage line.now)) }
+{
     if line.len() > LINE_BYTES {
-        put_ended(text, line)?;
+        text.extend_from_slice(line)?;
         return Ok(true);
     }
     let Some((first, others)) = split_word(line) else {
@@ -39,17 +58,7 @@ pub fn put_line(
         text.truncate(start);
         text.extend_from_slice(line)?;
     }
-    text.push(b'\n')?;
     Ok(true)
-}
-
-/// Appends a line as it is, with its end.
-fn put_ended(text: &mut Vec<u8>, line: &[u8]) -> Result<(), AllocError>
-    ensures { OnOk result (text.new.items ≡ text.old.items ++ (line.now ++ 10 ∷ [])) }
-{
-    text.extend_from_slice(line)?;
-    text.push(b'\n')?;
-    Ok(())
 }
 
 /// Where a text stands after a line.
