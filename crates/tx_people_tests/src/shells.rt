@@ -26,7 +26,7 @@ impl Terminal for Script<'_> {
             return Got::End;
         }
         let (first, rest) = take_line(self.left);
-        let taken = line.extend_from_slice(first);
+        let taken = line.extend_from_slice(&first[..first.len().min(514)]);
         self.left = match rest {
             Some(rest) => rest,
             None => b"",
@@ -149,7 +149,37 @@ fn a_console_prompts(rt: HostRuntime) -> Result<(), Fail> {
     let mut shell = Shell::new(rt.alloc())?;
     assert!(rt; talk(rt.alloc(), &mut shell, &mut console) == Ok(()));
     let wanted =
-        b"a step or a command a line; help lists the commands\ntxos 0> ok 0\ntxos 1> at 0\ntxos 0> ".as_slice();
+        b"a step or a command a line; help lists the commands\ntxos 0> ok 0\ntxos 1> at 0\ntxos 0> \n".as_slice();
     assert!(rt; written.as_slice() == wanted);
+    Ok(())
+}
+
+/// What a talk over these bytes writes.
+fn written_of(alloc: Global, lines: &[u8]) -> Result<Vec<u8>, Fail> {
+    let mut written = Vec::new(alloc);
+    let page = Page {
+        written: &mut written,
+    };
+    let mut console = Console::new(lines, page, false);
+    let mut shell = Shell::new(alloc)?;
+    talk(alloc, &mut shell, &mut console)?;
+    Ok(written)
+}
+
+#[test]
+fn a_line_that_is_too_long_is_told_of(rt: HostRuntime) -> Result<(), Fail> {
+    for count in [500, 505, 506, 507, 508, 100_000] {
+        let mut lines = Vec::new(rt.alloc());
+        lines.extend_from_slice(b"2 map 0")?;
+        lines.resize(7 + count, b' ')?;
+        lines.extend_from_slice(b"\r\n2 getpid")?;
+        let written = written_of(rt.alloc(), lines.as_slice())?;
+        let wanted = if count <= 505 {
+            b"ok 0\nok 2\n".as_slice()
+        } else {
+            b"? column 513: the line has more than 512 bytes\nok 2\n".as_slice()
+        };
+        assert!(rt; written.as_slice() == wanted, "{count} spaces more");
+    }
     Ok(())
 }

@@ -3,6 +3,7 @@ pub mod Asks
 pub mod Events
 pub mod Helps
 pub mod Journals
+pub mod Meanings
 pub mod Origins
 pub mod Places
 pub mod Refused

@@ -2,10 +2,10 @@
 use Rattle.std.specs.Prelude.{◌≡◌, ◌≢◌, ◌⊎◌, ℕ, Bool, false, true, List, [], Option, Some, None, codes}
 use Rattle.tx_script.specs.Debug.{position_text}
 use Rattle.tx_shell.specs.Answers.{AnswersWords}
+use Rattle.tx_shell.specs.Meanings.{meant_line}
 use Rattle.tx_shell.specs.Origins.{Origin, SaysNoOrigin, SaysOrigin}
 use Rattle.tx_shell.specs.Places.{origin_of, Place, place_of}
 use Rattle.tx_shell.specs.Refused.{StopsShortOf}
-use Rattle.tx_shell.specs.Versions.{meant_line}
 use Rattle.tx_shell.specs.declared.shell.Shell.{Shell}
 use Rattle.tx_shell.specs.declared.versions.TextVersion.TheVariants.{Three}
 

@@ -23,10 +23,15 @@ abbrev pub IsNumbered : List ℕ → List ℕ → Type 0
 IsNumbered told rest =
     (told ≡ codes "line 2, " ++ rest) ⊎ ((told ≡ codes "line 3, " ++ rest) ⊎ (((other : List ℕ) → told ≢ codes "line 2, " ++ other) × ((other : List ℕ) → told ≢ codes "line 3, " ++ other) × (told ≡ rest)))
 
--- what a check tells of that text, but for the line's number
+-- that, and where it is nothing, that the line is neither
+abbrev pub or_neither : List ℕ → List ℕ
+or_neither [] = codes "column 1: neither a step nor a command\n"
+or_neither (byte ∷ bytes) = byte ∷ bytes
+
+-- what a check tells of that text, but for the line's number; something in any case
 pub record TellsOf (version : TextVersion) (line words text : List ℕ) : Type 0 where
   pub told : List ℕ
   pub rest : List ℕ
   pub checked : IsToldOf (checked_text version line words) told
   pub numbered : IsNumbered told rest
-  pub says : text ≡ codes "? " ++ rest
+  pub says : text ≡ codes "? " ++ or_neither rest

@@ -12,6 +12,7 @@ ghost use Rattle.tx_shell.specs.Refused.{StopsShort, StopsShortOf};
 use crate::asks::{Ask, read_ask};
 use crate::helps::{help, help_on, text_as};
 use crate::journals::{list_steps, position_line, print_schedule};
+use crate::reserving::reserve_walk;
 use crate::steps::answer_step;
 use crate::tells::tell;
 use crate::versions::TextVersion;
@@ -87,6 +88,7 @@ fn walk(alloc: Global, session: &mut Session, command: Command) -> Result<String
         (position_after (history_of session.old.entries) (position_of session.old) command)) }
     ensures journal { SameJournal session.new session.old }
 {
+    reserve_walk(session, command);
     let mut text = String::new(alloc);
     match put_answer(alloc, &mut text, session, command) {
         Ok(()) => Ok(text),

@@ -1,4 +1,5 @@
 //! A terminal over a reader and a writer.
+use crate::taking::take_line_from;
 use crate::terminal::{Got, Terminal};
 use std::io::{BufRead, Write};
 
@@ -13,7 +14,8 @@ pub struct Console<R: BufRead + Drop, W: Write + Drop> {
 
 impl<R: BufRead + Drop, W: Write + Drop> Console<R, W> {
     /// A terminal over these ends. Where it prompts, a person is at both: it then shows at once how
-    /// to get help, and the position before each line.
+    /// to get help, and the position before each line; and where the input ends behind a prompt, it
+    /// ends the line of that.
     pub fn new(reader: R, writer: W, prompts: bool) -> Console<R, W> {
         Console {
             reader,
@@ -34,6 +36,14 @@ impl<R: BufRead + Drop, W: Write + Drop> Console<R, W> {
     fn prompt(&mut self, position: usize) -> bool {
         write!(self.writer, "txos {position}> ").is_ok() && self.writer.flush().is_ok()
     }
+
+    /// Ends the line of a prompt, where there is one, behind which the input ended.
+    fn end_prompt(&mut self) {
+        if self.prompts {
+            // Whoever has left needs no line's end.
+            let _shown = self.show(b"\n");
+        }
+    }
 }
 
 impl<R: BufRead + Drop, W: Write + Drop> Terminal for Console<R, W> {
@@ -46,16 +56,14 @@ impl<R: BufRead + Drop, W: Write + Drop> Terminal for Console<R, W> {
             return Got::Failed;
         }
         line.clear();
-        match self.reader.read_until(b'\n', line) {
-            Ok(0) => Got::End,
-            Ok(_count) => {
-                if line.last() == Some(&b'\n') {
-                    let _end = line.pop();
-                }
-                Got::Line
-            }
-            Err(_error) => Got::Failed,
+        let Ok(is_ended) = take_line_from(&mut self.reader, line) else {
+            return Got::Failed;
+        };
+        if is_ended {
+            return Got::Line;
         }
+        self.end_prompt();
+        if line.is_empty() { Got::End } else { Got::Line }
     }
 
     fn show(&mut self, text: &[u8]) -> bool {

@@ -3,10 +3,9 @@
 //!
 //! `talk` reads the lines of a `Terminal`, a trait with one log of all that comes and goes, so that
 //! its contract says the order; a `Shell` is what a talk goes on: a session, and of which version
-//! its lines are. `Shell::answer` answers one line. What a line means is found as in a text that has
-//! it behind its first line (`lines.rt`, over tx_plain), so a line of version 3 has comments, strings
-//! and names as in a text. Then it is read as a step (tx_lines), and else as what a talk is asked
-//! for (`asks.rt`). The debugger's commands are answered by tx_script, and so as in a text for it;
+//! its lines are. `Shell::answer` answers one line. What a line of version 3 means is found as in a
+//! text (`meanings.rt`, over tx_plain), so it has comments, strings and names as there. Then it is
+//! read as a step (tx_lines), and else as what a talk is asked for (`asks.rt`). The debugger's commands are answered by tx_script, and so as in a text for it;
 //! `journals.rt` lists the steps, and prints the schedule that makes them again; `helps.rt` says
 //! what a word means, by tx_explain; and what is neither is told of as a check tells of it
 //! (`tells.rt`, over tx_check).
@@ -21,9 +20,12 @@ mod console;
 mod helps;
 mod journals;
 mod lines;
+mod meanings;
 mod openings;
+mod reserving;
 mod shell;
 mod steps;
+mod taking;
 mod talks;
 mod tells;
 mod terminal;

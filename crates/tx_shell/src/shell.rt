@@ -9,7 +9,7 @@ ghost use Rattle.tx_shell.specs.Standings.{IsNoHeader, IsQuit, Stops, StopsMeant
 
 use crate::answers::answer_words;
 use crate::journals::position_line;
-use crate::lines::meant_line;
+use crate::meanings::meant_line;
 use crate::openings::{Opening, read_opening};
 use crate::versions::TextVersion;
 use std::alloc::Global;
@@ -67,7 +67,7 @@ impl Shell {
             return Ok(Some(self.open(alloc, opening)?));
         }
         match meant_line(alloc, self.version, line)? {
-            Some(words) => self.answer_meant(alloc, line, words.as_slice()),
+            Some(words) => self.answer_meant(alloc, line, words.as_bytes()),
             None => Ok(Some(String::new(alloc))),
         }
     }

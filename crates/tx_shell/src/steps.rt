@@ -15,6 +15,9 @@ use tx_text::put_reply;
 /// The worker that makes the steps.
 const WORKER: u16 = 1;
 
+/// How many bytes most replies take at most.
+const REPLY_BYTES: usize = 32;
+
 /// Makes a step at the end of the journal, and answers its reply. Elsewhere it is not made, and both
 /// ways out are named.
 ///
@@ -65,7 +68,12 @@ fn make_step(alloc: Global, session: &mut Session, step: &Step) -> Result<String
 fn reply_line(alloc: Global, reply: &Reply) -> Result<String, NoMemory>
     ensures { IfOk result (λ text. string_bytes text ≡ reply_text reply.now ++ 10 ∷ []) }
 {
-    let mut text = String::new(alloc);
+    if let Reply::Done(ret) = reply {
+        if *ret == 0 {
+            return text_as(alloc, "ok 0\n"); // what most steps are answered
+        }
+    }
+    let mut text = String::with_capacity(alloc, REPLY_BYTES)?;
     put_reply(&mut text, reply)?;
     put(&mut text, "\n")?;
     Ok(text)

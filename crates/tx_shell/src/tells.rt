@@ -1,6 +1,6 @@
 //! Tells what is wrong with a line that is neither a step nor a command.
 ghost use Rattle.std.specs.Prelude.{◌≡◌, IfOk, string_bytes};
-ghost use Rattle.tx_shell.specs.Told.{checked_text, is_like_step, walk_with, IsNumbered, TellsOf};
+ghost use Rattle.tx_shell.specs.Told.{checked_text, is_like_step, or_neither, walk_with, IsNumbered, TellsOf};
 
 use crate::lines::{text_behind, text_with};
 use crate::versions::TextVersion;
@@ -8,6 +8,9 @@ use std::alloc::{AllocError, Global};
 use tx_base::NoMemory;
 use tx_check::check_text;
 use tx_lines::put;
+
+/// What is told of a line of which a check tells nothing.
+const NEITHER: &str = "column 1: neither a step nor a command\n";
 
 /// What a check tells of a line of that version, which means those words: as of a step, or as of a
 /// command of the debugger.
@@ -25,7 +28,7 @@ pub fn tell(
     let told = check_text(alloc, checked.as_slice())?;
     let mut text = String::new(alloc);
     put(&mut text, "? ")?;
-    put(&mut text, behind_number(told.as_str()))?;
+    put(&mut text, or_neither(behind_number(told.as_str())))?;
     Ok(text)
 }
 
@@ -61,6 +64,13 @@ fn is_like_step(words: &[u8]) -> bool
         [byte, ..] => byte.is_ascii_digit() || words.starts_with(b"kernel"),
         [] => false,
     }
+}
+
+/// What is told of a line. Where that is nothing, that the line is neither.
+fn or_neither(told: &str) -> &str
+    ensures { result.now ≡ or_neither told.now }
+{
+    if told.is_empty() { NEITHER } else { told }
 }
 
 /// What is told of a line, without the line's number.

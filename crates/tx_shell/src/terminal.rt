@@ -22,13 +22,15 @@ pub trait Terminal {
     ghost log: { Self → Option (List Event) };
 
     /// Waits for the next line, at that position of the session, and puts it, without its end, in
-    /// place of what the buffer had.
+    /// place of what the buffer had. Of a line of more than 514 bytes these are the first 514: a line
+    /// of more than 512 is told of as too long, whatever it says.
     fn line(&mut self, position: usize, line: &mut Vec<u8>) -> Got
         ensures came { result ≡ got.Line →
             Continues (log self.old) (Line line.new.items ∷ []) (log self.new) }
         ensures end { result ≡ got.End → Continues (log self.old) (End ∷ []) (log self.new) }
         ensures failed { result ≡ got.Failed →
-            Continues (log self.old) (Failure ∷ []) (log self.new) };
+            Continues (log self.old) (Failure ∷ []) (log self.new) }
+        ensures most { result ≡ got.Line → length line.new.items ≤ 514 };
 
     /// Shows a text before it returns. Answers whether it could: if not, a front of the text may be
     /// shown.

@@ -1,0 +1,5 @@
+use Rattle.std.proofs.Common.{◌≤◌, length}
+use Rattle.tx_shell.proofs.taking.take_line_from.Given as goal
+
+abbrev pub invariant-loop-turn : goal.invariant-loop-turn
+invariant-loop-turn g l = length l.line.items ≤ 514

@@ -1,0 +1,63 @@
+//! What a line means.
+ghost use Rattle.std.specs.Prelude.{◌≡◌, IfOk, option_map};
+ghost use Rattle.tx_lines.specs.declared.read.header.TextKind.TheVariants.{Schedule};
+ghost use Rattle.tx_plain.specs.Lines.{plain_line};
+ghost use Rattle.tx_plain.specs.OwnLines.{without_return};
+ghost use Rattle.tx_plain.specs.declared.stage.Stage.TheVariants.{Within};
+ghost use Rattle.tx_shell.specs.Meanings.{bytes_of, meant_line};
+
+use crate::versions::TextVersion;
+use std::alloc::Global;
+use tx_base::NoMemory;
+use tx_lines::take_line;
+use tx_plain::plain_line;
+
+/// What a line means, as a line of version 1 or 2.
+#[derive(Drop)]
+pub enum Words<'a> {
+    /// It means itself.
+    Own(&'a [u8]),
+    /// It is one of version 3.
+    Plain(Vec<u8>),
+}
+
+impl Words<'_> {
+    /// The bytes that are meant.
+    pub fn as_bytes(&self) -> &[u8]
+        ensures { result.now ≡ bytes_of self.now }
+    {
+        match self {
+            Words::Own(bytes) => bytes,
+            Words::Plain(bytes) => bytes.as_slice(),
+        }
+    }
+}
+
+/// What a line of that version means, as a line of version 1 or 2. Nothing where it is one of
+/// version 3 and has no word.
+///
+/// NoMemory where a growth is refused.
+pub fn meant_line<'a>(
+    alloc: Global,
+    version: TextVersion,
+    line: &'a [u8],
+) -> Result<Option<Words<'a>>, NoMemory>
+    ensures { IfOk result (λ meant. option_map bytes_of meant ≡ meant_line version line.now) }
+{
+    let (first, _behind) = take_line(line);
+    match version {
+        TextVersion::One | TextVersion::Two => Ok(Some(Words::Own(first))),
+        TextVersion::Three => plain_words(alloc, first),
+    }
+}
+
+/// What a line of version 3 means. Nothing where it has no word.
+fn plain_words<'a>(alloc: Global, line: &[u8]) -> Result<Option<Words<'a>>, NoMemory>
+    ensures { IfOk result (λ meant. option_map bytes_of meant
+        ≡ plain_line (Within Schedule) (without_return line.now)) }
+{
+    match plain_line(alloc, line)? {
+        Some(plain) => Ok(Some(Words::Plain(plain))),
+        None => Ok(None),
+    }
+}
