@@ -168,11 +168,11 @@ fn written_of(alloc: Global, lines: &[u8]) -> Result<Vec<u8>, Fail> {
 
 #[test]
 fn a_line_that_is_too_long_is_told_of(rt: HostRuntime) -> Result<(), Fail> {
-    for count in [500, 505, 506, 507, 508, 100_000] {
+    for count in [505, 506, 507, 100_000] {
         let mut lines = Vec::new(rt.alloc());
         lines.extend_from_slice(b"2 map 0")?;
         lines.resize(7 + count, b' ')?;
-        lines.extend_from_slice(b"\r\n2 getpid")?;
+        lines.extend_from_slice(b"\n2 getpid")?;
         let written = written_of(rt.alloc(), lines.as_slice())?;
         let wanted = if count <= 505 {
             b"ok 0\nok 2\n".as_slice()
