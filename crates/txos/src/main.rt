@@ -14,7 +14,7 @@ mod words;
 use clap::error::ErrorKind;
 use std::alloc::Global;
 use std::fmt::Display;
-use std::io::{BufRead, IsTerminal, Write};
+use std::io::{BufReader, IsTerminal};
 use std::process::ExitCode;
 use std::sync::Wait;
 use std::thread::Threads;
@@ -57,8 +57,7 @@ fn main(rt: HostRuntime) -> ExitCode {
             let mut source = OverRead::new(rt.reader());
             let mut sink = OverWrite::new(io::writer(&rt));
             let prompts = is_before_person(&rt);
-            let mut console = Console::new(rt.reader(), io::writer(&rt), prompts);
-            answer(&rt, rt.alloc(), asked, &mut source, &mut sink, &mut console)
+            answer(&rt, rt.alloc(), asked, &mut source, &mut sink, prompts)
         }
         Err(error) => {
             if error.kind() == ErrorKind::OutOfMemory {
@@ -75,28 +74,26 @@ fn is_before_person(rt: &HostRuntime) -> bool {
     rt.stdin().is_terminal() && rt.stdout().is_terminal()
 }
 
-/// Answers the text of a source, or the lines of a console.
-fn answer<R, S, W, I, O>(
+/// Answers the text of a source, or line by line what comes in.
+fn answer<R, S, W>(
     rt: &R,
     alloc: Global,
     asked: Asked<'_>,
     source: &mut S,
     sink: &mut W,
-    console: &mut Console<I, O>,
+    prompts: bool,
 ) -> ExitCode
 where
-    R: Eprint + Threads + Wait + Sync,
+    R: Eprint + Input + Print + Threads + Wait + Sync,
     S: Source,
     W: Sink,
-    I: BufRead + Drop,
-    O: Write + Drop,
     requires source { IsFresh (S.counts source.old) }
     requires sink { IsFresh (W.counts sink.old) }
 {
     match asked {
         Asked::Replay => status_of(rt, replay(alloc, source, sink)),
         Asked::Debug => status_of(rt, debug(alloc, source, sink)),
-        Asked::Shell => status_of(rt, converse(alloc, console)),
+        Asked::Shell => status_of(rt, converse(rt, alloc, prompts)),
         Asked::Run(Crew { workers, turns }) => {
             status_of(rt, run_program(rt, alloc, source, sink, workers, turns))
         }
@@ -107,19 +104,19 @@ where
     }
 }
 
-/// Answers the lines of a console.
-fn converse<I, O>(alloc: Global, console: &mut Console<I, O>) -> Result<(), TalkFault>
-where
-    I: BufRead + Drop,
-    O: Write + Drop,
-{
+/// Answers the lines of the standard input, of which many are read at once where they are there.
+fn converse(rt: &(impl Input + Print), alloc: Global, prompts: bool) -> Result<(), TalkFault> {
+    let Ok(reader) = BufReader::new(alloc, rt.reader()) else {
+        return Err(TalkFault::NoMemory);
+    };
     let Ok(mut shell) = Shell::new(alloc) else {
         return Err(TalkFault::NoMemory);
     };
+    let mut console = Console::new(reader, io::writer(rt), prompts);
     if !console.greet() {
         return Err(TalkFault::Writer);
     }
-    talk(alloc, &mut shell, console)
+    talk(alloc, &mut shell, &mut console)
 }
 
 /// Writes what a word means, or without one the list of all words. A word that is not explained is
