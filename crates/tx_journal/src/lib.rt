@@ -25,13 +25,14 @@
 //!   them. So it pays for one pass over the journal, and the session is only read.
 //! - `cut` lets go of the entries after the position, so that steps can be made there: what is live
 //!   there is counted anew, and has room, since each entry that goes ended one transaction at most
-//!   (`Cut.antt`). `state_text_without` is the text of the state that an abort there would leave.
+//!   (`Cut.antt`). `trial` says what a step there would be answered, and the text of the state
+//!   after it; `state_text_without` is the text of the state that an abort there would leave.
 //! - `position` is how many entries are made, `len` how many there are, `entry` the entry of a
 //!   number, `machine` the machine at the position, `count` and `processes` how it was booted,
 //!   `state_text` the text of the state there.
 //! - `print_state` gives the text of a machine's state, and `put_state` appends it: that of the
 //!   definitions' state, all of it. Live transactions are printed in one pass over the marks, and a
-//!   second one over the starters.
+//!   second one over the starters. `put_piece` appends the lines of one `Piece` of the state.
 //!
 //! What is so of every session is its type's invariant (`IsJournal`): the journal is lawful from
 //! the booted state, and from the machine's content each inverse leads back to what has the view of
@@ -53,6 +54,7 @@ mod making;
 mod moved;
 mod notes;
 mod parted;
+mod pieces;
 mod posted;
 mod retrace;
 mod retrace_laws;
@@ -65,5 +67,6 @@ mod walks;
 pub use entry::Entry;
 pub use faults::{AtStart, ForwardFault, GotoFault, MovedFault, TrialFault};
 pub use moved::Moved;
+pub use pieces::{Piece, put_piece};
 pub use session::Session;
 pub use state::{print_state, put_state};
