@@ -1,4 +1,5 @@
 pub mod Begun
+pub mod LeftOver
 pub mod Listed
 pub mod Replayed
 pub mod Talked

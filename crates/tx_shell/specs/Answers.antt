@@ -1,8 +1,9 @@
 -- What a line is answered, and where the session stands then.
 use Rattle.std.specs.Prelude.{◌≡◌, ◌⊎◌, ◌<◌, ℕ, List, [], ◌∷◌, ◌++◌, IsTrue, codes, false, length, true}
+use Rattle.tx_base.specs.declared.steps.Accepted.{Accepted}
 use Rattle.tx_base.specs.declared.steps.Step.{Step}
 use Rattle.tx_explain.specs.Topics.{is_page}
-use Rattle.tx_journal.specs.Trials.{view_without}
+use Rattle.tx_journal.specs.Trials.{view_with, view_without}
 use Rattle.tx_lines.specs.Lines.{FitsStep, IsOf, step_text}
 use Rattle.tx_lines.specs.Schedule.{IsNoStep}
 use Rattle.tx_lines.specs.declared.read.command.Command.{Command}
@@ -14,6 +15,7 @@ use Rattle.tx_model.specs.State.{State}
 use Rattle.tx_model.specs.View.{view}
 use Rattle.tx_script.specs.Debug.{command_answer, first_steps, position_after, position_text}
 use Rattle.tx_shell.specs.Asks.{ask_text, FitsAsk, IsNoAsk}
+use Rattle.tx_shell.specs.Differences.{differing}
 use Rattle.tx_shell.specs.Helps.{HelpsOn}
 use Rattle.tx_shell.specs.Journals.{schedule_so_far, steps_listed, steps_made}
 use Rattle.tx_shell.specs.Origins.{Origin, start_in}
@@ -53,9 +55,14 @@ pub record PrintsSchedule (o : Origin) (p : Place) (text : List ℕ) (q : Place)
   pub leads : history_of (start_in o) [] (steps_made p) ≡ first_steps p.at p.history
   pub stays : q ≡ p
 
--- the state is told that an abort of the live transaction of process s would leave at the position, or that there is none
+-- the reply is told that a step would get after a history, and the lines by which the state after it would differ
+abbrev pub tried_text : State → List Accepted → Step → List ℕ
+tried_text start h step = reply_text (answer (view start h) step) ++ 10 ∷ differing (state_text (view start h)) (state_text (view_with start h step))
+
+-- the lines are told by which the state would differ that an abort of the live transaction of process s would leave at the position, or that there is none
 pub record TellsWithout (start : State) (p : Place) (s : ℕ) (text : List ℕ) : Type 0 where
-  pub open_one : is_live (view start (first_steps p.at p.history)).table s ≡ true → text ≡ state_text (view_without start (first_steps p.at p.history) s)
+  pub open_one : is_live (view start (first_steps p.at p.history)).table s ≡ true →
+      text ≡ differing (state_text (view start (first_steps p.at p.history))) (state_text (view_without start (first_steps p.at p.history) s))
   pub none : is_live (view start (first_steps p.at p.history)).table s ≡ false → text ≡ codes "no transaction\n"
 
 -- the steps after the position are gone
@@ -72,6 +79,7 @@ AnswersAsk o p asks.Steps text q = (text ≡ steps_listed p 1 (length p.history)
 AnswersAsk o p (asks.StepsFrom first) text q = (text ≡ steps_listed p first (length p.history)) × (q ≡ p)
 AnswersAsk o p (asks.StepsBetween first last) text q = (text ≡ steps_listed p first last) × (q ≡ p)
 AnswersAsk o p asks.Text text q = PrintsSchedule o p text q
+AnswersAsk o p (asks.Try step) text q = (text ≡ tried_text (start_in o) (first_steps p.at p.history) step) × (q ≡ p)
 AnswersAsk o p (asks.Without starter) text q = TellsWithout (start_in o) p starter text × (q ≡ p)
 AnswersAsk o p asks.Cut text q = Cuts p text q
 AnswersAsk o p asks.Help text q = IsTrue (is_page text) × (q ≡ p)

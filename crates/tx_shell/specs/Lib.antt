@@ -1,5 +1,6 @@
 pub mod Answers
 pub mod Asks
+pub mod Differences
 pub mod Events
 pub mod Helps
 pub mod Journals

@@ -4,7 +4,7 @@ ghost use Rattle.tx_journal.specs.Sessions.{position_of, start_of, IsBetween, Sa
 ghost use Rattle.tx_journal.specs.Entries.{history_of};
 ghost use Rattle.tx_lines.specs.declared.read.command.Command.TheVariants as command;
 ghost use Rattle.tx_script.specs.Debug.{position_after};
-ghost use Rattle.tx_shell.specs.Answers.{AnswersAsk, AnswersWords, Cuts, TellsWithout, Walks};
+ghost use Rattle.tx_shell.specs.Answers.{AnswersAsk, AnswersWords, Cuts, Walks};
 ghost use Rattle.tx_shell.specs.Journals.{steps_listed};
 ghost use Rattle.tx_shell.specs.Places.{origin_of, place_of};
 ghost use Rattle.tx_shell.specs.Refused.{StopsShort, StopsShortOf};
@@ -15,10 +15,11 @@ use crate::journals::{list_steps, position_line, print_schedule};
 use crate::reserving::reserve_walk;
 use crate::steps::answer_step;
 use crate::tells::tell;
+use crate::trials::{try_step, without};
 use crate::versions::TextVersion;
 use std::alloc::Global;
-use tx_base::{NoMemory, Pid};
-use tx_journal::{Session, TrialFault};
+use tx_base::NoMemory;
+use tx_journal::Session;
 use tx_lines::{Command, read_step};
 use tx_script::put_answer;
 
@@ -71,6 +72,7 @@ fn answer_ask(
         Ask::StepsFrom(first) => list_from(alloc, session, first),
         Ask::StepsBetween(first, last) => list_steps(alloc, session, first, last),
         Ask::Text => print_schedule(alloc, version, session),
+        Ask::Try(step) => try_step(alloc, session, &step),
         Ask::Without(starter) => without(alloc, session, starter),
         Ask::Cut => cut(alloc, session),
         Ask::Help => help(alloc),
@@ -133,20 +135,6 @@ fn list_from(alloc: Global, session: &Session, first: u64) -> Result<String, NoM
         ≡ steps_listed (place_of session.now) first (length (history_of session.now.entries))) }
 {
     list_steps(alloc, session, first, count_steps(session) as u64)
-}
-
-/// The state that an abort of the live transaction of a starter would leave, or that there is none.
-fn without(alloc: Global, session: &mut Session, starter: u16) -> Result<String, NoMemory>
-    ensures answer { IfOk result (λ text.
-        TellsWithout (start_of session.old) (place_of session.old) starter (string_bytes text)) }
-    ensures same { session.new ≡ session.old }
-{
-    let _machine = session.machine();
-    match session.state_text_without(alloc, Pid(starter)) {
-        Ok(text) => Ok(text),
-        Err(TrialFault::NoTransaction) => text_as(alloc, "no transaction\n"),
-        Err(TrialFault::NoMemory) => Err(NoMemory),
-    }
 }
 
 /// Lets go of the steps after the position, and answers it.

@@ -1,15 +1,16 @@
 //! What a talk is asked for by lines that are no steps.
 ghost use Rattle.std.specs.Prelude.{◌≡◌, ◌≢◌, ◌<◌, ◌^◌, ◌++◌, ◌∷◌, ℕ, List, MatchOption, IfSome, None, codes};
 ghost use Rattle.std.specs.Fmt.{decimal};
+ghost use Rattle.tx_lines.specs.Schedule.{IsNoStep};
 ghost use Rattle.tx_lines.specs.declared.read.header.Version.{Version as TheVersion};
 ghost use Rattle.tx_shell.specs.Asks.{ask_text, FitsAsk, IsNoAsk, IsOfWords};
 ghost use Rattle.tx_shell.specs.declared.asks.Ask.{Ask};
 
-use tx_base::Pid;
-use tx_lines::{Command, Version, read_command, read_pid, read_position, split_word};
+use tx_base::{Pid, Step};
+use tx_lines::{Command, Version, read_command, read_pid, read_position, read_step, split_word};
 
 /// What a talk is asked for by a line that is no step.
-#[derive(Clone, Copy)]
+#[derive(Drop)]
 pub enum Ask<'a> {
     /// A command of the debugger.
     Walk(Command),
@@ -23,7 +24,9 @@ pub enum Ask<'a> {
     StepsBetween(u64, u64),
     /// To print the text of the schedule that makes the steps up to the position.
     Text,
-    /// To print the state that an abort of the transaction of this starter would leave.
+    /// To tell what a step would be answered, and how the state would differ after it.
+    Try(Step),
+    /// To tell how the state would differ that an abort of the transaction of this starter would leave.
     Without(u16),
     /// To let go of the steps after the position.
     Cut,
@@ -47,6 +50,9 @@ pub fn read_ask(version: Version, line: &[u8]) -> Option<Ask<'_>>
     }
     if let Some(numbers) = behind(b"steps ", line) {
         return read_steps(numbers);
+    }
+    if let Some(words) = behind(b"try ", line) {
+        return read_try(version, words);
     }
     if let Some(word) = behind(b"without ", line) {
         return read_without(word);
@@ -102,6 +108,18 @@ fn read_steps(numbers: &[u8]) -> Option<Ask<'static>>
     }
     match two_numbers(numbers) {
         Some((first, last)) => Some(Ask::StepsBetween(first, last)),
+        None => None,
+    }
+}
+
+/// The step that is to be tried.
+fn read_try(version: Version, words: &[u8]) -> Option<Ask<'static>>
+    ensures found { IfSome result (λ ask. codes "try " ++ words.now ≡ ask_text ask) }
+    ensures fits { IfSome result (FitsAsk version) }
+    ensures none { result ≡ None → IsNoStep version words.now }
+{
+    match read_step(version, words) {
+        Some(step) => Some(Ask::Try(step)),
         None => None,
     }
 }

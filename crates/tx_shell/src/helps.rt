@@ -20,7 +20,8 @@ state      prints the state
 moved K    may the transaction that step K commits count as done at once?
 steps K L  lists steps K to L, and the position; steps K: from K on; steps: all
 text       prints the schedule of the steps up to the position, for txos replay
-without S  prints the state as an abort of the transaction of S would leave it
+try STEP   says what a step would be answered, and how the state would differ
+without S  says how the state would differ without the transaction of S
 cut        lets go of the steps after the position
 help WORD  says what a word of a step, a reply or a state means, as help N8
 quit       ends, as the end of the input does

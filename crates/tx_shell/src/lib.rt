@@ -5,8 +5,10 @@
 //! its contract says the order; a `Shell` is what a talk goes on: a session, and of which version
 //! its lines are. `Shell::answer` answers one line. What a line of version 3 means is found as in a
 //! text (`meanings.rt`, over tx_plain), so it has comments, strings and names as there. Then it is
-//! read as a step (tx_lines), and else as what a talk is asked for (`asks.rt`). The debugger's commands are answered by tx_script, and so as in a text for it;
-//! `journals.rt` lists the steps, and prints the schedule that makes them again; `helps.rt` says
+//! read as a step (tx_lines), and else as what a talk is asked for (`asks.rt`). The debugger's
+//! commands are answered by tx_script, and so as in a text for it; `journals.rt` lists the steps, and
+//! prints the schedule that makes them again; `trials.rt` tells what would be, by the lines that
+//! differ (`differences.rt`); `helps.rt` says
 //! what a word means, by tx_explain; and what is neither is told of as a check tells of it
 //! (`tells.rt`, over tx_check).
 //!
@@ -17,6 +19,7 @@
 mod answers;
 mod asks;
 mod console;
+mod differences;
 mod helps;
 mod journals;
 mod lines;
@@ -29,6 +32,7 @@ mod taking;
 mod talks;
 mod tells;
 mod terminal;
+mod trials;
 mod versions;
 
 pub use console::Console;
