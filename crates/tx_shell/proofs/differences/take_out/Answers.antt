@@ -1,4 +1,4 @@
-use Rattle.std.proofs.Common.{◌≡◌, ◌∙◌, Bor, List, ℕ, None, Some, ap, sym}
+use Rattle.std.proofs.Common.{◌∙◌, Bor, List, ℕ, ap, sym}
 use Rattle.std.specs.List.{position}
 use Rattle.tx_shell.proofs.LeftOver.{at_place, is_it, no_place, spelled}
 use Rattle.tx_shell.proofs.differences.take_out.Goals as goal
