@@ -8,6 +8,7 @@ use tx_lines::{put, put_bytes, put_count, put_number};
 
 /// Appends a reply, without its step's number and without a line's end. The only error is that a
 /// growth of memory was refused: the text may then have some of the reply behind what it had.
+#[inline(always)] // each step's line has one; a call of its own costs 14
 pub fn put_reply(text: &mut String, reply: &Reply) -> Result<(), AllocError>
     ensures { OnOk result (string_bytes text.new ≡ string_bytes text.old ++ reply_text reply.now) }
 {

@@ -47,6 +47,7 @@ pub fn read_call(version: Version, text: &[u8], call: &mut Call) -> bool
 }
 
 /// As `read_call`, where the call is none of those that are told by the front of their text.
+#[inline(always)] // `read_call` alone calls it; a call of its own costs 24
 fn named_call(version: Version, text: &[u8], call: &mut Call) -> bool
     ensures found { IfSome (then_some result call.new) (λ c. text.now ≡ call_text c) }
     ensures fits { IfSome (then_some result call.new) FitsCall }

@@ -27,6 +27,7 @@ pub enum Command {
 }
 
 /// The command of that version that a line spells. Nothing where it is another line.
+#[inline(always)] // it has few callers, and each line of a walk asks it
 pub fn read_command(version: Version, line: &[u8]) -> Option<Command>
     ensures found { IfSome result (λ c. line.now ≡ command_text c) }
     ensures fits { IfSome result (FitsCommand version) }
