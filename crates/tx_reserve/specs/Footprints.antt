@@ -2,6 +2,7 @@
 use Rattle.std.specs.Prelude.{◌≡◌, ℕ, Bool, true, false, not, ◌==◌, List, Option, Some, None, if◌then◌else◌, length, map}
 use Rattle.tx_base.specs.Slots.{slot_at}
 use Rattle.tx_base.specs.declared.marks.Mark.{Mark}
+use Rattle.tx_base.specs.declared.names.Pid.{Pid}
 use Rattle.tx_base.specs.declared.names.Sending.{Sending}
 use Rattle.tx_base.specs.declared.names.Signo.{Signo}
 use Rattle.tx_base.specs.declared.steps.Call.{Call}
@@ -78,6 +79,12 @@ abbrev pub HoldsFor : List (Option Mark) → Step → List Sending → (ℕ → 
 HoldsFor marks (Calls p call) sends held = HoldsBy (slot_at marks p.0) sends held
 HoldsFor marks (Deliver p signo) sends held = HoldsBy (slot_at marks p.0) sends held
 HoldsFor marks (KernelAbort starter) sends held = Unit {0}
+
+-- the process makes the step
+abbrev pub IsStepOf : Pid → Step → Type 0
+IsStepOf p (Calls q call) = p ≡ q
+IsStepOf p (Deliver q signo) = p ≡ q
+IsStepOf p (KernelAbort starter) = ⊥
 
 -- the set has these objects, those of numbers that there may not be left out
 pub record IsSetOf (objects : Objects) (these : List Object) : Type 0 where

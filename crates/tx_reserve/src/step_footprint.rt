@@ -2,20 +2,19 @@
 ghost use Rattle.std.specs.Option.{option_copied};
 ghost use Rattle.std.specs.Prelude.{◌≡◌, ◌≤◌, ℕ, List, None, false, length, IfSome, IsNone};
 ghost use Rattle.tx_base.specs.Slots.{slot_at};
-ghost use Rattle.tx_base.specs.declared.steps.Step.TheVariants.{Call as Calls, Deliver};
 ghost use Rattle.tx_change.specs.States.{state_of};
 ghost use Rattle.tx_change.specs.declared.parts.Parts.{Parts as TheParts};
 ghost use Rattle.tx_kernel.specs.Actors.{IsWhole, inside_of};
 ghost use Rattle.tx_model.specs.Footprints.{footprint};
 ghost use Rattle.tx_model.specs.Membership.{inside_by};
 ghost use Rattle.tx_model.specs.State.{Object as TheObject, Sending as TheSending};
-ghost use Rattle.tx_reserve.specs.Footprints.{GoesBy, HoldsBy, HoldsFor, IsInside, IsPlaced, IsSetOf, table_of};
+ghost use Rattle.tx_reserve.specs.Footprints.{GoesBy, GoesWith, HoldsBy, HoldsFor, IsInside, IsPlaced, IsSetOf, IsStepOf, table_at, table_of};
 ghost use Rattle.tx_reserve.specs.Objects.{is_in};
 
 use crate::footprints::{footprint_of_call, footprint_of_delivery};
 use crate::objects::{Object, Objects};
 use crate::open_parts::others_open;
-use tx_base::{Call, Mark, Pid, Sending, Signo, Slots, Step};
+use tx_base::{Mark, Pid, Sending, Slots, Step};
 use tx_change::Parts;
 use tx_kernel::{Actor, Inside};
 
@@ -32,54 +31,57 @@ pub fn footprint(parts: &Parts, marks: &Slots<Mark>, held: &[Sending], step: &St
 {
     let mut set = Objects::new();
     match step {
-        Step::Call(pid, call) => put_call(parts, marks, held, *pid, call, &mut set),
-        Step::Deliver(pid, signo) => put_delivery(parts, marks, held, *pid, *signo, &mut set),
+        Step::Call(pid, _) | Step::Deliver(pid, _) => {
+            put_step(parts, marks, held, *pid, step, &mut set)
+        }
         Step::KernelAbort(_) => {}
     }
     set
 }
 
-/// Puts the footprint of a call into an empty set.
-fn put_call(
+/// Puts the footprint of a step of this process into an empty set.
+fn put_step(
     parts: &Parts,
     marks: &Slots<Mark>,
     held: &[Sending],
     pid: Pid,
-    call: &Call,
+    step: &Step,
     set: &mut Objects,
 )
     requires whole { IsWhole parts.now }
     requires empty { (o : TheObject) → is_in set.old o ≡ false }
-    ensures { (all : ℕ → List TheSending) → HoldsBy (slot_at marks.now pid.0) held.now all →
-        IsSetOf set.new (footprint (table_of parts.now marks.now) (Calls pid call.now)
+    requires own { IsStepOf pid step.now }
+    ensures { (all : ℕ → List TheSending) → HoldsFor marks.now step.now held.now all →
+        IsSetOf set.new (footprint (table_of parts.now marks.now) step.now
         (state_of all parts.now)) }
 {
-    let last = last_by(parts, marks, held, pid);
     match actor_at(parts, marks, pid) {
-        Some(actor) => footprint_of_call(&actor, marks, last, call, set),
+        Some(actor) => put_row(&actor, marks, last_by(parts, marks, held, pid), step, set),
         None => set.insert(Object::Proc(pid)),
     }
 }
 
-/// Puts the footprint of a delivery of the signal into an empty set.
-fn put_delivery(
-    parts: &Parts,
+/// Puts the footprint of a step of this actor into an empty set; `last` as at a call.
+fn put_row(
+    actor: &Actor,
     marks: &Slots<Mark>,
-    held: &[Sending],
-    pid: Pid,
-    signo: Signo,
+    last: Option<&[Sending]>,
+    step: &Step,
     set: &mut Objects,
 )
-    requires whole { IsWhole parts.now }
+    requires actor { IsPlaced actor.now }
+    requires inside { IsInside actor.now marks.now }
     requires empty { (o : TheObject) → is_in set.old o ≡ false }
-    ensures { (all : ℕ → List TheSending) → HoldsBy (slot_at marks.now pid.0) held.now all →
-        IsSetOf set.new (footprint (table_of parts.now marks.now) (Deliver pid signo)
-        (state_of all parts.now)) }
+    requires own { IsStepOf actor.now.pid step.now }
+    ensures { (all : ℕ → List TheSending) →
+        GoesWith actor.now marks.now (option_copied last.entry) all →
+        IsSetOf set.new (footprint (table_at actor.now marks.now) step.now
+        (state_of all actor.now.parts.now)) }
 {
-    let last = last_by(parts, marks, held, pid);
-    match actor_at(parts, marks, pid) {
-        Some(actor) => footprint_of_delivery(&actor, marks, last, signo, set),
-        None => set.insert(Object::Proc(pid)),
+    match step {
+        Step::Call(_, call) => footprint_of_call(actor, marks, last, call, set),
+        Step::Deliver(_, signo) => footprint_of_delivery(actor, marks, last, *signo, set),
+        Step::KernelAbort(_) => unreachable!(),
     }
 }
 

@@ -117,7 +117,7 @@ impl Txn {
         before
     }
 
-    /// Gives up what was reserved since.
+    /// Gives up what was reserved since. Most often that is nothing.
     pub fn give_up(&mut self, owners: &mut Reservations, before: Objects)
         ensures owners { (o : Object) →
             owner_of owners.new o
@@ -125,7 +125,10 @@ impl Txn {
             else owner_of owners.old o) }
         ensures rest { self.new ≡ record self.old { objects = before } }
     {
-        owners.release(&self.objects.less(&before));
+        let since = self.objects.less(&before);
+        if !since.is_empty() {
+            owners.release(&since);
+        }
         self.objects = before;
     }
 
