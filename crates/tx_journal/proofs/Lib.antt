@@ -18,6 +18,7 @@ pub mod Aheads
 pub mod Parting
 pub mod Noting
 pub mod StateSpelled
+pub mod PieceSpelled
 pub mod Naming
 pub mod Telling
 pub mod Trial

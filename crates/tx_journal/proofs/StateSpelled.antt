@@ -13,7 +13,7 @@ use Rattle.tx_text.specs.State.{state_text}
 use Rattle.tx_text.specs.Processes.{procs_text}
 use Rattle.tx_text.specs.Txns.{txns_text}
 
-marks_are : (k : Content) → slot_at k.marks ≡ (view_of k).table.marks
+pub marks_are : (k : Content) → slot_at k.marks ≡ (view_of k).table.marks
 unfolding view_of states_view
 marks_are k = refl
 

@@ -5,6 +5,7 @@ pub mod Laws
 pub mod Lives
 pub mod Moved
 pub mod Noted
+pub mod Pieces
 pub mod Rooms
 pub mod Crossings
 pub mod Sessions

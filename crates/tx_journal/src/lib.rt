@@ -32,7 +32,7 @@
 //!   `state_text` the text of the state there.
 //! - `print_state` gives the text of a machine's state, and `put_state` appends it: that of the
 //!   definitions' state, all of it. Live transactions are printed in one pass over the marks, and a
-//!   second one over the starters.
+//!   second one over the starters. `put_piece` appends the lines of one `Piece` of the state.
 //!
 //! What is so of every session is its type's invariant (`IsJournal`): the journal is lawful from
 //! the booted state, and from the machine's content each inverse leads back to what has the view of
@@ -54,6 +54,7 @@ mod making;
 mod moved;
 mod notes;
 mod parted;
+mod pieces;
 mod posted;
 mod retrace;
 mod retrace_laws;
@@ -66,5 +67,6 @@ mod walks;
 pub use entry::Entry;
 pub use faults::{AtStart, ForwardFault, GotoFault, MovedFault, TrialFault};
 pub use moved::Moved;
+pub use pieces::{Piece, put_piece};
 pub use session::Session;
 pub use state::{print_state, put_state};

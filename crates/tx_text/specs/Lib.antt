@@ -2,6 +2,7 @@ pub mod Descriptors
 pub mod Each
 pub mod EachLaws
 pub mod Links
+pub mod Pieces
 pub mod Processes
 pub mod Registers
 pub mod Replies

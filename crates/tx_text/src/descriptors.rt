@@ -24,7 +24,7 @@ pub fn put_fds(text: &mut String, table: &FdTable) -> Result<(), AllocError>
 }
 
 /// Appends the line of a descriptor, where it is open.
-fn put_fd_line(text: &mut String, fd: usize, name: Option<DescNo>) -> Result<(), AllocError>
+pub fn put_fd_line(text: &mut String, fd: usize, name: Option<DescNo>) -> Result<(), AllocError>
     ensures { OnOk result
         (string_bytes text.new ≡ string_bytes text.old ++ fd_line fd (number_in name)) }
 {
@@ -52,7 +52,11 @@ pub fn put_descs(text: &mut String, descs: &Descs) -> Result<(), AllocError>
 }
 
 /// Appends the line of the number of a description: none where there is none.
-fn put_desc_line(text: &mut String, number: usize, opened: Option<Opened>) -> Result<(), AllocError>
+pub fn put_desc_line(
+    text: &mut String,
+    number: usize,
+    opened: Option<Opened>,
+) -> Result<(), AllocError>
     ensures { OnOk result
         (string_bytes text.new ≡ string_bytes text.old ++ desc_line number (described opened)) }
 {
@@ -104,7 +108,11 @@ pub fn put_pipes(text: &mut String, pipes: &PipeTable) -> Result<(), AllocError>
 }
 
 /// Appends the line of the number of a pipe: none where there is none.
-fn put_pipe_line(text: &mut String, number: usize, pipe: Option<&Pipe>) -> Result<(), AllocError>
+pub fn put_pipe_line(
+    text: &mut String,
+    number: usize,
+    pipe: Option<&Pipe>,
+) -> Result<(), AllocError>
     ensures { OnOk result
         (string_bytes text.new ≡ string_bytes text.old
         ++ pipe_line number (option_copied pipe.entry)) }

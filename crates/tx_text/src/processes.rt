@@ -31,7 +31,7 @@ pub fn put_procs(text: &mut String, parts: &Parts, width: u16) -> Result<(), All
 }
 
 /// Appends the lines of a process number: none where there is no process.
-fn put_slot_lines(text: &mut String, pid: Pid, slot: Option<&Proc>) -> Result<(), AllocError>
+pub fn put_slot_lines(text: &mut String, pid: Pid, slot: Option<&Proc>) -> Result<(), AllocError>
     ensures { OnOk result
         (string_bytes text.new ≡ string_bytes text.old
         ++ process_lines pid.0 (process_in (option_copied slot.entry))) }
@@ -102,7 +102,7 @@ fn put_own(text: &mut String, proc: &Proc) -> Result<(), AllocError>
 }
 
 /// Appends the line of the ids, where one is not 0.
-fn put_ids(text: &mut String, cred: Cred) -> Result<(), AllocError>
+pub fn put_ids(text: &mut String, cred: Cred) -> Result<(), AllocError>
     ensures { OnOk result
         (string_bytes text.new ≡ string_bytes text.old ++ ids_line (ids_of cred)) }
 {
@@ -156,7 +156,11 @@ fn put_pages(text: &mut String, space: &Space) -> Result<(), AllocError>
 }
 
 /// Appends the line of a page number: none where it is not mapped.
-fn put_page_line(text: &mut String, number: usize, page: Option<&Page>) -> Result<(), AllocError>
+pub fn put_page_line(
+    text: &mut String,
+    number: usize,
+    page: Option<&Page>,
+) -> Result<(), AllocError>
     ensures { OnOk result
         (string_bytes text.new ≡ string_bytes text.old
         ++ page_line number (option_copied page.entry)) }

@@ -26,7 +26,7 @@ pub fn put_signals(text: &mut String, proc: &Proc) -> Result<(), AllocError>
 }
 
 /// Appends the line of a set after a word, where the set is not empty.
-fn put_set_line(text: &mut String, word: &str, set: SigSet) -> Result<(), AllocError>
+pub fn put_set_line(text: &mut String, word: &str, set: SigSet) -> Result<(), AllocError>
     ensures { OnOk result
         (string_bytes text.new ≡ string_bytes text.old ++ set_line word.now (bits_of set)) }
 {
@@ -75,7 +75,7 @@ fn put_action_line(text: &mut String, signo: Signo, action: Action) -> Result<()
 }
 
 /// Appends the line of the queue, where there is an entry.
-fn put_queued_line(text: &mut String, entries: &[Queued]) -> Result<(), AllocError>
+pub fn put_queued_line(text: &mut String, entries: &[Queued]) -> Result<(), AllocError>
     ensures { OnOk result
         (string_bytes text.new ≡ string_bytes text.old ++ queued_line entries.now) }
 {
