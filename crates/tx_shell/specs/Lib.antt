@@ -8,6 +8,7 @@ pub mod Meanings
 pub mod Origins
 pub mod Places
 pub mod Refused
+pub mod Spelled
 pub mod Standings
 pub mod Told
 pub mod Versions

@@ -22,6 +22,7 @@ mod console;
 mod differences;
 mod helps;
 mod journals;
+mod laws;
 mod lines;
 mod meanings;
 mod openings;
@@ -36,6 +37,7 @@ mod trials;
 mod versions;
 
 pub use console::Console;
+pub use laws::a_talk_spells_a_schedule;
 pub use shell::Shell;
 pub use talks::{TalkFault, talk};
 pub use terminal::{Got, Terminal};

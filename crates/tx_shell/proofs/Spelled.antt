@@ -1,0 +1,130 @@
+-- A text can hold what a talk has.
+use Rattle.std.proofs.Common.{◌≡◌, ◌<◌, ◌≤◌, ℕ, Bool, List, [], ◌∷◌, ◌++◌, length, map, reverse, take, Option, None, Some, inl, inr, refl, sym, subst, true, false, arith}
+use Rattle.std.proofs.lemmas.List.{reverse-append}
+use Rattle.std.proofs.lemmas.List.Elements.{All-cons, All-head, All-map, All-nil, All-push, All-same, All-tail, All-take}
+use Rattle.std.specs.List.{All}
+use Rattle.tx_base.specs.declared.steps.Accepted.{Accepted}
+use Rattle.tx_base.specs.declared.steps.Reply.{Reply}
+use Rattle.tx_base.specs.declared.steps.Reply.TheVariants.{Aborted, Committed, Done, Ended, No, Out}
+use Rattle.tx_base.specs.declared.steps.Step.{Step}
+use Rattle.tx_lines.specs.Lines.{FitsHeader, most_of}
+use Rattle.tx_lines.specs.Schedule.{FitsStepOf, IsSchedule}
+use Rattle.tx_lines.specs.declared.read.header.Version.{Version}
+use Rattle.tx_lines.specs.declared.read.header.Version.TheVariants as versions
+use Rattle.tx_model.specs.Schedules.{history_with}
+use Rattle.tx_model.specs.State.{State}
+use Rattle.tx_script.specs.Debug.{first_steps}
+use Rattle.tx_shell.specs.Answers.{AnswersAsk, AnswersNeither, AnswersStep, AnswersWords}
+use Rattle.tx_shell.specs.Events.{End, Event, Failure, Line, Talks, Text}
+use Rattle.tx_shell.specs.Journals.{steps_made}
+use Rattle.tx_shell.specs.Origins.{header_in, Origin, version_of}
+use Rattle.tx_shell.specs.Places.{Place}
+use Rattle.tx_shell.specs.Spelled.{AllFit, IsSpelled, SpellsSchedule, StaysSpelled}
+use Rattle.tx_shell.specs.Standings.{Answers, AnswersMeant, first_standing, Opens, Standing}
+use Rattle.tx_shell.specs.Versions.{grammar_of}
+use Rattle.tx_shell.specs.declared.asks.Ask.{Ask}
+use Rattle.tx_shell.specs.declared.asks.Ask.TheVariants as asks
+use Rattle.tx_shell.specs.declared.versions.TextVersion.{TextVersion}
+
+-- what holds of each of a list holds of each of the list turned round
+all_reversed : {X : Type 0} (P : X → Type 0) (xs : List X) → All P xs → All P (reverse xs)
+all_reversed P [] h = h
+all_reversed P (x ∷ xs) h =
+    All-same P (reverse (x ∷ xs)) (reverse xs ++ x ∷ []) (reverse-append (x ∷ []) xs)
+    (All-push P (reverse xs) x (all_reversed P xs (All-tail P x xs h)) (All-head P x xs h))
+
+-- a step more, where it was accepted
+with_step : (version : TextVersion) (h : List Accepted) (step : Step) (reply : Reply) → FitsStepOf (grammar_of version) step → AllFit version h → AllFit version (history_with h step reply)
+with_step version h step (No why) fits all = all
+with_step version h step (Done ret) fits all = All-cons (λ (e : Accepted). FitsStepOf (grammar_of version) e.step) (record { step = step; reply = Done ret }) h fits all
+with_step version h step Ended fits all = All-cons (λ (e : Accepted). FitsStepOf (grammar_of version) e.step) (record { step = step; reply = Ended }) h fits all
+with_step version h step (Committed undelivered) fits all =
+    All-cons (λ (e : Accepted). FitsStepOf (grammar_of version) e.step) (record { step = step; reply = Committed undelivered }) h fits all
+with_step version h step (Aborted status) fits all = All-cons (λ (e : Accepted). FitsStepOf (grammar_of version) e.step) (record { step = step; reply = Aborted status }) h fits all
+with_step version h step (Out bytes) fits all = All-cons (λ (e : Accepted). FitsStepOf (grammar_of version) e.step) (record { step = step; reply = Out bytes }) h fits all
+
+-- the steps up to a position
+first_fit : (version : TextVersion) (at : ℕ) (h : List Accepted) → AllFit version h → AllFit version (first_steps at h)
+first_fit version at h all =
+    let P : Accepted → Type 0 = λ (e : Accepted). FitsStepOf (grammar_of version) e.step in
+    all_reversed P (take at (reverse h)) (All-take P at (reverse h) (all_reversed P h all))
+
+module _ (o : Origin) (p q : Place) (text : List ℕ) (all : AllFit o.version p.history) where
+  same_place : q ≡ p → AllFit o.version q.history
+  same_place same = subst (λ (r : Place). AllFit o.version r.history) (sym same) all
+
+  same_history : q.history ≡ p.history → AllFit o.version q.history
+  same_history same = subst (AllFit o.version) (sym same) all
+
+  stepped : (step : Step) → FitsStepOf (grammar_of o.version) step → (start : State) → AnswersStep start p step text q → AllFit o.version q.history
+  stepped step fits start (inl makes) = subst (AllFit o.version) (sym makes.recorded) (with_step o.version p.history step _ fits all)
+  stepped step fits start (inr leaves) = same_place leaves.stays
+
+  asked : (ask : Ask) → AnswersAsk o p ask text q → AllFit o.version q.history
+  asked (asks.Walk command) walks = same_history walks.history
+  asked asks.GotoEnd walks = same_history walks.history
+  asked asks.Steps answers = same_place answers.1
+  asked (asks.StepsFrom first) answers = same_place answers.1
+  asked (asks.StepsBetween first last) answers = same_place answers.1
+  asked asks.Text prints = same_place prints.stays
+  asked (asks.Try step) answers = same_place answers.1
+  asked (asks.Without starter) answers = same_place answers.1
+  asked asks.Cut cuts = subst (AllFit o.version) (sym cuts.history) (first_fit o.version p.at p.history all)
+  asked asks.Help answers = same_place answers.1
+  asked (asks.HelpOn word) answers = same_place answers.1
+
+  worded : (line words : List ℕ) → AnswersWords o p line words text q → AllFit o.version q.history
+  worded line words (inl (step, is, answers)) = stepped step (record { fits = is.fits; of = is.of }) _ answers
+  worded line words (inr (inl (ask, is, answers))) = asked ask answers
+  worded line words (inr (inr neither)) = same_place neither.stays
+
+-- a header of the first two versions fits the version that its lines are read by
+header_fits : (third : Bool) (version : Version) (count : ℕ) → (0 < count) × (count ≤ most_of version) → (0 < count) × (count ≤ most_of (grammar_of (version_of third version)))
+header_fits false versions.One count fits = fits
+header_fits false versions.Two count fits = fits
+header_fits true versions.One count fits = (fits.0, omega (arith, fits.1))
+header_fits true versions.Two count fits = fits
+
+opened : (s t : Standing) (line text : List ℕ) → Opens s line text t → IsSpelled t
+opened s t line text opens = record {
+  begins = subst (λ (v : TextVersion). (0 < t.origin.count) × (t.origin.count ≤ most_of (grammar_of v))) (sym opens.says.version)
+      (header_fits _ opens.says.header.version t.origin.count (subst (λ (n : ℕ). (0 < n) × (n ≤ most_of opens.says.header.version)) (sym opens.says.count) opens.says.spelled.fits));
+  steps = subst (λ (r : Place). AllFit t.origin.version r.history) (sym opens.place) (All-nil (λ (e : Accepted). FitsStepOf (grammar_of t.origin.version) e.step));
+}
+
+meant : (s t : Standing) (line : List ℕ) (words : Option (List ℕ)) (text : List ℕ) → AnswersMeant s line words text t → IsSpelled s → IsSpelled t
+meant s t line None text (none, same) spelled = subst IsSpelled (sym same) spelled
+meant s t line (Some words) text (other, (q, answers, goes)) spelled =
+    subst IsSpelled (sym goes) (record { begins = spelled.begins; steps = worded s.origin s.place q text spelled.steps line words answers })
+
+answered : (s t : Standing) (line text : List ℕ) → Answers s line text t → IsSpelled s → IsSpelled t
+answered s t line text (inl opens) spelled = opened s t line text opens
+answered s t line text (inr (none, answers)) spelled = meant s t line _ text answers spelled
+
+pub stays_spelled : StaysSpelled
+unfolding Talks
+stays_spelled s t [] talks spelled = subst IsSpelled (sym talks) spelled
+stays_spelled s t (Line one ∷ Text told ∷ events) talks spelled = stays_spelled talks.0 t events talks.2 (answered s talks.0 one told talks.1 spelled)
+stays_spelled s t (Line one ∷ []) talks spelled = absurd talks
+stays_spelled s t (Line one ∷ Line two ∷ events) talks spelled = absurd talks
+stays_spelled s t (Line one ∷ End ∷ events) talks spelled = absurd talks
+stays_spelled s t (Line one ∷ Failure ∷ events) talks spelled = absurd talks
+stays_spelled s t (End ∷ events) talks spelled = absurd talks
+stays_spelled s t (Text told ∷ events) talks spelled = absurd talks
+stays_spelled s t (Failure ∷ events) talks spelled = absurd talks
+
+pub first_spelled : IsSpelled first_standing
+first_spelled = record { begins = (omega arith, omega arith); steps = All-nil (λ (e : Accepted). FitsStepOf versions.Two e.step) }
+
+pub spells_schedule : SpellsSchedule
+spells_schedule s spelled few =
+    let P : Step → Type 0 = FitsStepOf (grammar_of s.origin.version) in
+    let h : List Accepted = s.place.history in
+    record {
+      header_fits = spelled.begins;
+      steps_fit = record {
+        fit = All-map P (λ (e : Accepted). e.step) (take s.place.at (reverse h))
+            (All-take (λ (e : Accepted). P e.step) s.place.at (reverse h) (all_reversed (λ (e : Accepted). P e.step) h spelled.steps));
+        few = few;
+      };
+    }
