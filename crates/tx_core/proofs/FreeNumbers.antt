@@ -3,14 +3,13 @@ use Rattle.std.proofs.Common.{◌≡◌, ℕ, zero, suc, ◌≤◌, Bool, true, 
 use Rattle.std.specs.Option.{option_copied}
 use Rattle.tx_base.specs.Slots.{slot_at}
 use Rattle.tx_change.specs.Exchange.{pipe_at}
-use Rattle.tx_core.proofs.Reading.{state_read, width_read}
+use Rattle.tx_core.proofs.Reading.{reserved_read, state_read, width_read}
 use Rattle.tx_core.proofs.LeastNumbers.{least_alone, least_none}
 use Rattle.tx_core.specs.Laws.{MachineLaws}
 use Rattle.tx_desc.specs.Descriptions.{described}
 use Rattle.tx_desc.specs.declared.opened.Opened.{Opened}
 use Rattle.tx_step.specs.Contents.{IsContent}
-use Rattle.tx_laws.specs.TwoStates.{is_owner, states_view}
-use Rattle.tx_live.specs.Content.{owner_at, view_of}
+use Rattle.tx_live.specs.Content.{view_of}
 use Rattle.tx_live.specs.declared.content.Content.{Content}
 use Rattle.tx_model.specs.FreeNumbers.{is_reserved_from}
 use Rattle.tx_model.specs.Membership.{is_live, is_member_of}
@@ -21,7 +20,6 @@ use Rattle.tx_proc.specs.declared.proc.Proc.{Proc as TheProc}
 use Rattle.tx_reserve.specs.Objects.{object_of}
 use Rattle.tx_reserve.specs.Reservations.{owner_of}
 use Rattle.tx_reserve.specs.declared.objects.Object.{Object as TheObject}
-use Rattle.tx_reserve.specs.declared.objects.Object.TheVariants as the
 
 within : (limit n : ℕ) → is_between limit n ≡ true → n ≤ limit
 within limit zero h = omega arith
@@ -44,28 +42,17 @@ and_always : (a b c : Bool) → a ≡ true → c ≡ true → (a && (b && c)) �
 and_always a true c h k = rw (h, k) refl
 and_always a false c h k = rw h refl
 
--- who owns a process, a description or a pipe, the table of owners says
-owner_kept : (k : Content) (object : TheObject) → owner_at k (object_of object) ≡ owner_of k.owners (object_of object)
-owner_kept k (the.Proc pid) = refl
-owner_kept k (the.Desc number) = refl
-owner_kept k (the.Pipe number) = refl
-
 module _ (k : Content) (is : IsContent k) (p : ℕ) (object : TheObject) where
   -- whether s is a live transaction of others that reserved the object
   abbrev reserves : ℕ → Bool
   reserves s = is_live (view_of k).table s && (not (is_member_of (view_of k).table s p) && (view_of k).reserved s (object_of object))
 
-  -- whether s reserved the object, its owner says
-  reserved_by : (s : ℕ) (owner : Option ℕ) → owner ≡ owner_of k.owners (object_of object) → (view_of k).reserved s (object_of object) ≡ is_owner s owner
-  unfolding view_of states_view
-  reserved_by s owner own = ap (is_owner s) (owner_kept k object ∙ sym own)
-
   -- what nobody owns is reserved by nobody
   pub nobody_reserves : None ≡ owner_of k.owners (object_of object) → false ≡ is_reserved_from (view_of k) p (object_of object)
-  nobody_reserves own = ap is_some (least_none reserves (view_of k).table.width (λ s below. and_never (is_live (view_of k).table s) (not (is_member_of (view_of k).table s p)) ((view_of k).reserved s (object_of object)) (reserved_by s None own)))
+  nobody_reserves own = ap is_some (least_none reserves (view_of k).table.width (λ s below. and_never (is_live (view_of k).table s) (not (is_member_of (view_of k).table s p)) ((view_of k).reserved s (object_of object)) (reserved_read k s object None own)))
 
   owner_reserved : (t : ℕ) → Some t ≡ owner_of k.owners (object_of object) → (view_of k).reserved t (object_of object) ≡ true
-  owner_reserved t own = reserved_by t (Some t) own ∙ eq-eqb t t refl
+  owner_reserved t own = reserved_read k t object (Some t) own ∙ eq-eqb t t refl
 
   -- what a transaction owns is reserved from all but its members
   pub owner_reserves : (t : ℕ) (member : Bool) → Some t ≡ owner_of k.owners (object_of object) → member ≡ is_member_of (view_of k).table t p →
@@ -77,7 +64,7 @@ module _ (k : Content) (is : IsContent k) (p : ℕ) (object : TheObject) where
       ap not same
       ∙ sym (and_always (is_live (view_of k).table t) (not (is_member_of (view_of k).table t p)) ((view_of k).reserved t (object_of object)) live reserved)
       ∙ sym (least_alone reserves (view_of k).table.width t
-      (λ s passes. sym (eqb-true t s (sym (reserved_by s (Some t) own) ∙ and_right (not (is_member_of (view_of k).table s p)) ((view_of k).reserved s (object_of object))
+      (λ s passes. sym (eqb-true t s (sym (reserved_read k s object (Some t) own) ∙ and_right (not (is_member_of (view_of k).table s p)) ((view_of k).reserved s (object_of object))
       (and_right (is_live (view_of k).table s) (not (is_member_of (view_of k).table s p) && (view_of k).reserved s (object_of object)) passes))))
       (within (view_of k).table.width t (is.kept.sound.bounded t t live)))
 

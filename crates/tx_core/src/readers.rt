@@ -8,11 +8,13 @@ ghost use Rattle.tx_kernel.specs.Plans.{sending_of};
 ghost use Rattle.tx_live.specs.Content.{held_of, view_of};
 ghost use Rattle.tx_model.specs.Membership.{is_live};
 ghost use Rattle.tx_model.specs.View.{kernel_status, present};
+ghost use Rattle.tx_reserve.specs.Objects.{object_of};
 
 use crate::laws::laws;
 use crate::machine::Machine;
 use tx_base::{Mark, Pid, Sending, Slots};
 use tx_change::Parts;
+use tx_reserve::Object;
 use tx_step::{contents_are_whole, kernel_status};
 
 impl Machine {
@@ -62,6 +64,17 @@ impl Machine {
         match self.content.marks.get(pid) {
             Some(mark) => Some(mark.starter),
             None => None,
+        }
+    }
+
+    /// Whether the live transaction of a starter has reserved the object: false of an object of a number
+    /// that none may have, and where the starter has begun none.
+    pub fn has_reserved(&self, starter: Pid, object: Object) -> bool
+        ensures { result ≡ (view_of self.now).reserved starter.0 (object_of object) }
+    {
+        match self.content.owners.owner(object) {
+            Some(owner) => owner == starter,
+            None => false,
         }
     }
 
