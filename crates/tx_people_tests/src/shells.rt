@@ -111,6 +111,18 @@ fn what_would_be_is_told(rt: HostRuntime) -> Result<(), Fail> {
     Ok(())
 }
 
+/// A talk that seeks changes both ways, and what it shows.
+const SOUGHT: (&str, &str) = (
+    "2 pipe 0 0 1\n2 sys_xbegin\n2 map 0\n2 store 0 \"hi\"\n2 write 1 0 2\n2 sys_xabort\nwhen pipe 0\nback\nwhen page 2 0\nnext txn 2\nwhen queue 1\nnext fd 2 0\nnext desc 9\n",
+    "ok 0\nok 0\nok 0\nok 0\nok 2\naborted 201\nat 6: 2 sys_xabort\n- pipe 0 6869\n+ pipe 0 -\nat 5\nat 4: 2 store 0 6869\n- page 0 rw\n+ page 0 rw 0=68 1=69\nat 6: 2 sys_xabort\n- txn 2 open 2 ended -\nat 0: no change\nat 1: 2 pipe 0 0 1\n+ fd 0 0\nat 6: no change\n",
+);
+
+#[test]
+fn changes_are_found(rt: HostRuntime) -> Result<(), Fail> {
+    assert!(rt; shows(rt.alloc(), SOUGHT.0, SOUGHT.1)?);
+    Ok(())
+}
+
 /// Lines that are neither steps nor commands, and what is told of them.
 const NEITHER: (&str, &str) = (
     "2 stroe 5 41\nbakc\ngoto x\nhelp nothing\nhelp N9\n",

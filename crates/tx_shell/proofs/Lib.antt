@@ -1,7 +1,11 @@
 pub mod Begun
+pub mod Behind
+pub mod Found
 pub mod LeftOver
 pub mod Listed
 pub mod Replayed
+pub mod Shown
+pub mod Sought
 pub mod Spelled
 pub mod Talked
 pub mod TwoNumbers

@@ -15,6 +15,7 @@ use Rattle.tx_model.specs.State.{State}
 use Rattle.tx_model.specs.View.{view}
 use Rattle.tx_script.specs.Debug.{command_answer, first_steps, position_after, position_text}
 use Rattle.tx_shell.specs.Asks.{ask_text, FitsAsk, IsNoAsk}
+use Rattle.tx_shell.specs.Changes.{shown_at, TellsLast, TellsNext}
 use Rattle.tx_shell.specs.Differences.{differing}
 use Rattle.tx_shell.specs.Helps.{HelpsOn}
 use Rattle.tx_shell.specs.Journals.{schedule_so_far, steps_listed, steps_made}
@@ -81,6 +82,8 @@ AnswersAsk o p (asks.StepsBetween first last) text q = (text ≡ steps_listed p 
 AnswersAsk o p asks.Text text q = PrintsSchedule o p text q
 AnswersAsk o p (asks.Try step) text q = (text ≡ tried_text (start_in o) (first_steps p.at p.history) step) × (q ≡ p)
 AnswersAsk o p (asks.Without starter) text q = TellsWithout (start_in o) p starter text × (q ≡ p)
+AnswersAsk o p (asks.When piece) text q = TellsLast (shown_at (start_in o) p.history piece) p text q
+AnswersAsk o p (asks.Next piece) text q = TellsNext (shown_at (start_in o) p.history piece) p text q
 AnswersAsk o p asks.Cut text q = Cuts p text q
 AnswersAsk o p asks.Help text q = IsTrue (is_page text) × (q ≡ p)
 AnswersAsk o p (asks.HelpOn word) text q = HelpsOn word.now text × (q ≡ p)

@@ -4,6 +4,7 @@ use Rattle.std.specs.Fmt.{decimal}
 use Rattle.tx_lines.specs.Lines.{step_text, FitsStep, IsOf}
 use Rattle.tx_lines.specs.Walks.{command_text, FitsCommand}
 use Rattle.tx_lines.specs.declared.read.header.Version.{Version}
+use Rattle.tx_shell.specs.Pieces.{piece_name, FitsPiece}
 use Rattle.tx_shell.specs.declared.asks.Ask.{Ask}
 use Rattle.tx_shell.specs.declared.asks.Ask.TheVariants as asks
 
@@ -16,6 +17,8 @@ ask_text (asks.StepsFrom first) = codes "steps " ++ decimal first
 ask_text (asks.StepsBetween first last) = codes "steps " ++ (decimal first ++ 32 ∷ decimal last)
 ask_text asks.Text = codes "text"
 ask_text (asks.Try step) = codes "try " ++ step_text step
+ask_text (asks.When piece) = codes "when " ++ piece_name piece
+ask_text (asks.Next piece) = codes "next " ++ piece_name piece
 ask_text (asks.Without starter) = codes "without " ++ decimal starter
 ask_text asks.Cut = codes "cut"
 ask_text asks.Help = codes "help"
@@ -27,6 +30,8 @@ FitsAsk version (asks.Walk command) = FitsCommand version command
 FitsAsk version (asks.StepsFrom first) = first < 2 ^ 63
 FitsAsk version (asks.StepsBetween first last) = (first < 2 ^ 63) × (last < 2 ^ 63)
 FitsAsk version (asks.Try step) = FitsStep step × IsOf version step
+FitsAsk version (asks.When piece) = FitsPiece piece
+FitsAsk version (asks.Next piece) = FitsPiece piece
 FitsAsk version (asks.Without starter) = starter < 2 ^ 16
 FitsAsk version ask = Unit {0}
 

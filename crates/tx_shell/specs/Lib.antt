@@ -1,13 +1,16 @@
 pub mod Answers
 pub mod Asks
+pub mod Changes
 pub mod Differences
 pub mod Events
 pub mod Helps
 pub mod Journals
 pub mod Meanings
 pub mod Origins
+pub mod Pieces
 pub mod Places
 pub mod Refused
+pub mod Shown
 pub mod Spelled
 pub mod Standings
 pub mod Told

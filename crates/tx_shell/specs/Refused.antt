@@ -9,13 +9,15 @@ use Rattle.tx_shell.specs.Places.{Place}
 use Rattle.tx_shell.specs.declared.asks.Ask.{Ask}
 use Rattle.tx_shell.specs.declared.asks.Ask.TheVariants as asks
 
--- the position to which what is asked for leads
+-- the position to which what is asked for leads at the furthest
 abbrev pub position_asked : Place → Ask → ℕ
 position_asked p (asks.Walk command) = position_after p.history p.at command
 position_asked p asks.GotoEnd = position_after p.history p.at (commands.Goto (length p.history))
+position_asked p (asks.When piece) = 0
+position_asked p (asks.Next piece) = length p.history
 position_asked p ask = p.at
 
--- no step came or went, and the position is between the old one and the one that was wanted
+-- no step came or went, and the position is between the old one and that one
 pub record StopsShort (p : Place) (ask : Ask) (q : Place) : Type 0 where
   pub history : q.history ≡ p.history
   pub between : IsBetween p.at q.at (position_asked p ask)

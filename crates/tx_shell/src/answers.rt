@@ -10,6 +10,7 @@ ghost use Rattle.tx_shell.specs.Places.{origin_of, place_of};
 ghost use Rattle.tx_shell.specs.Refused.{StopsShort, StopsShortOf};
 
 use crate::asks::{Ask, read_ask};
+use crate::changes::{tell_last, tell_next};
 use crate::helps::{help, help_on, text_as};
 use crate::journals::{list_steps, position_line, print_schedule};
 use crate::reserving::reserve_walk;
@@ -73,6 +74,8 @@ fn answer_ask(
         Ask::StepsBetween(first, last) => list_steps(alloc, session, first, last),
         Ask::Text => print_schedule(alloc, version, session),
         Ask::Try(step) => try_step(alloc, session, &step),
+        Ask::When(piece) => tell_last(alloc, session, piece),
+        Ask::Next(piece) => tell_next(alloc, session, piece),
         Ask::Without(starter) => without(alloc, session, starter),
         Ask::Cut => cut(alloc, session),
         Ask::Help => help(alloc),

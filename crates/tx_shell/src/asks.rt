@@ -4,9 +4,12 @@ ghost use Rattle.std.specs.Fmt.{decimal};
 ghost use Rattle.tx_lines.specs.Schedule.{IsNoStep};
 ghost use Rattle.tx_lines.specs.declared.read.header.Version.{Version as TheVersion};
 ghost use Rattle.tx_shell.specs.Asks.{ask_text, FitsAsk, IsNoAsk, IsOfWords};
+ghost use Rattle.tx_shell.specs.Pieces.{IsNoPiece};
 ghost use Rattle.tx_shell.specs.declared.asks.Ask.{Ask};
 
+use crate::pieces::read_piece;
 use tx_base::{Pid, Step};
+use tx_journal::Piece;
 use tx_lines::{Command, Version, read_command, read_pid, read_position, read_step, split_word};
 
 /// What a talk is asked for by a line that is no step.
@@ -26,6 +29,10 @@ pub enum Ask<'a> {
     Text,
     /// To tell what a step would be answered, and how the state would differ after it.
     Try(Step),
+    /// To go back to the step that changed this piece last.
+    When(Piece),
+    /// To go on to the step that changes it next.
+    Next(Piece),
     /// To tell how the state would differ that an abort of the transaction of this starter would leave.
     Without(u16),
     /// To let go of the steps after the position.
@@ -54,6 +61,12 @@ pub fn read_ask(version: Version, line: &[u8]) -> Option<Ask<'_>>
     if let Some(words) = behind(b"try ", line) {
         return read_try(version, words);
     }
+    if let Some(words) = behind(b"when ", line) {
+        return read_when(words);
+    }
+    if let Some(words) = behind(b"next ", line) {
+        return read_next(words);
+    }
     if let Some(word) = behind(b"without ", line) {
         return read_without(word);
     }
@@ -64,7 +77,7 @@ pub fn read_ask(version: Version, line: &[u8]) -> Option<Ask<'_>>
 }
 
 /// What follows that front of a line. Nothing where the line does not begin so.
-fn behind<'a>(front: &[u8], line: &'a [u8]) -> Option<&'a [u8]>
+pub fn behind<'a>(front: &[u8], line: &'a [u8]) -> Option<&'a [u8]>
     ensures { MatchOption result ((rest : List ℕ) → line.now ≢ front.now ++ rest) (λ rest.
         line.now ≡ front.now ++ rest.now) }
 {
@@ -120,6 +133,30 @@ fn read_try(version: Version, words: &[u8]) -> Option<Ask<'static>>
 {
     match read_step(version, words) {
         Some(step) => Some(Ask::Try(step)),
+        None => None,
+    }
+}
+
+/// The piece whose last change is asked for.
+fn read_when(words: &[u8]) -> Option<Ask<'static>>
+    ensures found { IfSome result (λ ask. codes "when " ++ words.now ≡ ask_text ask) }
+    ensures fits { (version : TheVersion) → IfSome result (FitsAsk version) }
+    ensures none { result ≡ None → IsNoPiece words.now }
+{
+    match read_piece(words) {
+        Some(piece) => Some(Ask::When(piece)),
+        None => None,
+    }
+}
+
+/// The piece whose next change is asked for.
+fn read_next(words: &[u8]) -> Option<Ask<'static>>
+    ensures found { IfSome result (λ ask. codes "next " ++ words.now ≡ ask_text ask) }
+    ensures fits { (version : TheVersion) → IfSome result (FitsAsk version) }
+    ensures none { result ≡ None → IsNoPiece words.now }
+{
+    match read_piece(words) {
+        Some(piece) => Some(Ask::Next(piece)),
         None => None,
     }
 }

@@ -22,6 +22,10 @@ steps K L  lists steps K to L, and the position; steps K: from K on; steps: all
 text       prints the schedule of the steps up to the position, for txos replay
 try STEP   says what a step would be answered, and how the state would differ
 without S  says how the state would differ without the transaction of S
+when PIECE goes back to the step that changed a piece of the state last
+next PIECE goes on to the step that changes it next
+PIECE is   proc P, page P N, fd P F, ids P, pending P, queue P, desc D, pipe Q,
+           or txn S
 cut        lets go of the steps after the position
 help WORD  says what a word of a step, a reply or a state means, as help N8
 quit       ends, as the end of the input does

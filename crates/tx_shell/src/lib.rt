@@ -8,9 +8,9 @@
 //! read as a step (tx_lines), and else as what a talk is asked for (`asks.rt`). The debugger's
 //! commands are answered by tx_script, and so as in a text for it; `journals.rt` lists the steps, and
 //! prints the schedule that makes them again; `trials.rt` tells what would be, by the lines that
-//! differ (`differences.rt`); `helps.rt` says
-//! what a word means, by tx_explain; and what is neither is told of as a check tells of it
-//! (`tells.rt`, over tx_check).
+//! differ (`differences.rt`); `changes.rt` finds the step that changed a piece of the state
+//! (`pieces.rt`) last, or changes it next; `helps.rt` says what a word means, by tx_explain; and what
+//! is neither is told of as a check tells of it (`tells.rt`, over tx_check).
 //!
 //! A refused growth leaves no step half done: a step whose answer could not be put down is taken
 //! back and let go, so the history after an error is the one before the line.
@@ -18,6 +18,7 @@
 
 mod answers;
 mod asks;
+mod changes;
 mod console;
 mod differences;
 mod helps;
@@ -26,6 +27,7 @@ mod laws;
 mod lines;
 mod meanings;
 mod openings;
+mod pieces;
 mod reserving;
 mod shell;
 mod steps;

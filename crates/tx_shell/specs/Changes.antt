@@ -1,0 +1,83 @@
+-- Which step changed a piece of the state last, and which changes it next.
+use Rattle.std.specs.Prelude.{◌≡◌, ◌≢◌, ◌⊎◌, ◌≤◌, ◌+◌, ◌-◌, ℕ, List, [], ◌∷◌, ◌++◌, Some, codes, length, reverse, slice_get}
+use Rattle.std.specs.Fmt.{decimal}
+use Rattle.tx_base.specs.declared.steps.Accepted.{Accepted}
+use Rattle.tx_base.specs.declared.steps.Step.{Step}
+use Rattle.tx_journal.specs.Pieces.{piece_text}
+use Rattle.tx_journal.specs.declared.pieces.Piece.{Piece}
+use Rattle.tx_lines.specs.Lines.{step_text}
+use Rattle.tx_model.specs.State.{State}
+use Rattle.tx_script.specs.Debug.{view_at}
+use Rattle.tx_shell.specs.Differences.{differing}
+use Rattle.tx_shell.specs.Places.{Place}
+
+-- the lines of a piece at each position
+abbrev pub shown_at : State → List Accepted → Piece → ℕ → List ℕ
+shown_at start history piece at = piece_text piece (view_at start history at)
+
+-- they are the same at all positions from one to another
+abbrev pub IsSame : (ℕ → List ℕ) → ℕ → ℕ → Type 0
+IsSame shown from to = (at : ℕ) → from ≤ at → at ≤ to → shown at ≡ shown from
+
+-- they are those lines there
+abbrev pub AllShow : (ℕ → List ℕ) → List ℕ → ℕ → ℕ → Type 0
+AllShow shown lines from to = (at : ℕ) → from ≤ at → at ≤ to → shown at ≡ lines
+
+-- at that position they are other ones
+pub record ShowsOthers (shown : ℕ → List ℕ) (lines others : List ℕ) (at : ℕ) : Type 0 where
+  pub shown_there : others ≡ shown at
+  pub other : others ≢ lines
+
+-- going back, others are met at that position, and none behind it
+pub record MeetsBack (shown : ℕ → List ℕ) (lines others : List ℕ) (at to : ℕ) : Type 0 where
+  pub before : at + 1 ≤ to
+  pub same : AllShow shown lines (at + 1) to
+  pub there : ShowsOthers shown lines others at
+
+-- going on, others are met at that position, and none before it
+pub record MeetsNext (shown : ℕ → List ℕ) (lines others : List ℕ) (from at : ℕ) : Type 0 where
+  pub later : from + 1 ≤ at
+  pub same : AllShow shown lines from (at - 1)
+  pub there : ShowsOthers shown lines others at
+
+-- the line of a step that changed them, which has that number
+abbrev pub change_line : ℕ → Step → List ℕ
+change_line number step = codes "at " ++ (decimal number ++ (codes ": " ++ (step_text step ++ 10 ∷ [])))
+
+-- the line of a position where no step is told
+abbrev pub no_change_text : ℕ → List ℕ
+no_change_text at = codes "at " ++ (decimal at ++ codes ": no change\n")
+
+-- the step of that number is told, and by which lines they differ
+pub record TellsStep (history : List Accepted) (number : ℕ) (before after text : List ℕ) : Type 0 where
+  pub entry : Accepted
+  pub made : slice_get (reverse history) (number - 1) ≡ Some entry
+  pub told : text ≡ change_line number entry.step ++ differing before after
+
+-- the step of that number changed them, and that is told
+pub record TellsChange (shown : ℕ → List ℕ) (history : List Accepted) (number : ℕ) (text : List ℕ) : Type 0 where
+  pub changed : shown number ≢ shown (number - 1)
+  pub tells : TellsStep history number (shown (number - 1)) (shown number) text
+
+-- the position goes back to the one behind the last step that changed them, or to the start where none did
+pub record TellsLast (shown : ℕ → List ℕ) (p : Place) (text : List ℕ) (q : Place) : Type 0 where
+  pub history : q.history ≡ p.history
+  pub back : q.at ≤ p.at
+  pub same : IsSame shown q.at p.at
+  pub told : ((1 ≤ q.at) × TellsChange shown p.history q.at text) ⊎ ((q.at ≡ 0) × (text ≡ no_change_text 0))
+
+-- it goes on to the one behind the next step that changes them
+pub record ChangesNext (shown : ℕ → List ℕ) (p : Place) (text : List ℕ) (q : Place) : Type 0 where
+  pub later : p.at + 1 ≤ q.at
+  pub same : IsSame shown p.at (q.at - 1)
+  pub tells : TellsChange shown p.history q.at text
+
+-- none does, and it goes on to the end
+pub record StaysSame (shown : ℕ → List ℕ) (p : Place) (text : List ℕ) (q : Place) : Type 0 where
+  pub at : q.at ≡ length p.history
+  pub same : IsSame shown p.at q.at
+  pub told : text ≡ no_change_text q.at
+
+pub record TellsNext (shown : ℕ → List ℕ) (p : Place) (text : List ℕ) (q : Place) : Type 0 where
+  pub history : q.history ≡ p.history
+  pub told : ChangesNext shown p text q ⊎ StaysSame shown p text q
