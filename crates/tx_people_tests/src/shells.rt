@@ -123,6 +123,18 @@ fn changes_are_found(rt: HostRuntime) -> Result<(), Fail> {
     Ok(())
 }
 
+/// A talk of what transactions have reserved, and what it shows.
+const OWNED: (&str, &str) = (
+    "2 pipe 0 0 1\n2 fork 4\nowns\n2 sys_xbegin\n2 fork 5\n5 write 1 0 1\n1 sys_xbegin\n1 waitpid 9 nohang\nowns\nowns 2\nowns 5\ngoto 3\nowns 2\nowns 1\nforward\nowns\nowns x\n",
+    "ok 0\nok 4\nno transaction\nok 0\nok 5\nok -14\nok 0\nok -10\nowns 1 proc 1,9 desc - pipe -\nowns 2 proc 2,5 desc 0,1 pipe 0\nowns 2 proc 2,5 desc 0,1 pipe 0\nno transaction\nat 3\nowns 2 proc 2 desc - pipe -\nno transaction\nat 4\nowns 2 proc 2,5 desc 0,1 pipe -\n? column 1: no such command: owns\n",
+);
+
+#[test]
+fn what_transactions_have_is_told(rt: HostRuntime) -> Result<(), Fail> {
+    assert!(rt; shows(rt.alloc(), OWNED.0, OWNED.1)?);
+    Ok(())
+}
+
 /// Lines that are neither steps nor commands, and what is told of them.
 const NEITHER: (&str, &str) = (
     "2 stroe 5 41\nbakc\ngoto x\nhelp nothing\nhelp N9\n",

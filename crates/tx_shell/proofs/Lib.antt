@@ -3,6 +3,8 @@ pub mod Behind
 pub mod Found
 pub mod LeftOver
 pub mod Listed
+pub mod Numbered
+pub mod Owned
 pub mod Replayed
 pub mod Shown
 pub mod Sought

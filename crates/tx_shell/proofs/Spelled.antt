@@ -69,6 +69,8 @@ module _ (o : Origin) (p q : Place) (text : List ℕ) (all : AllFit o.version p.
   asked asks.Text prints = same_place prints.stays
   asked (asks.Try step) answers = same_place answers.1
   asked (asks.Without starter) answers = same_place answers.1
+  asked asks.Owns answers = same_place answers.1
+  asked (asks.OwnsOf starter) answers = same_place answers.1
   asked (asks.When piece) tells = same_history tells.history
   asked (asks.Next piece) tells = same_history tells.history
   asked asks.Cut cuts = subst (AllFit o.version) (sym cuts.history) (first_fit o.version p.at p.history all)

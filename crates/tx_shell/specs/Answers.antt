@@ -12,7 +12,7 @@ use Rattle.tx_model.specs.Answer.{answer}
 use Rattle.tx_model.specs.Membership.{is_live}
 use Rattle.tx_model.specs.Schedules.{history_of, history_with}
 use Rattle.tx_model.specs.State.{State}
-use Rattle.tx_model.specs.View.{view}
+use Rattle.tx_model.specs.View.{View, view}
 use Rattle.tx_script.specs.Debug.{command_answer, first_steps, position_after, position_text}
 use Rattle.tx_shell.specs.Asks.{ask_text, FitsAsk, IsNoAsk}
 use Rattle.tx_shell.specs.Changes.{shown_at, TellsLast, TellsNext}
@@ -20,6 +20,7 @@ use Rattle.tx_shell.specs.Differences.{differing}
 use Rattle.tx_shell.specs.Helps.{HelpsOn}
 use Rattle.tx_shell.specs.Journals.{schedule_so_far, steps_listed, steps_made}
 use Rattle.tx_shell.specs.Origins.{Origin, start_in}
+use Rattle.tx_shell.specs.Owners.{or_no_transaction, owner_line, owner_lines}
 use Rattle.tx_shell.specs.Places.{Place}
 use Rattle.tx_shell.specs.Told.{TellsOf}
 use Rattle.tx_shell.specs.Versions.{grammar_of}
@@ -66,6 +67,10 @@ pub record TellsWithout (start : State) (p : Place) (s : ℕ) (text : List ℕ) 
       text ≡ differing (state_text (view start (first_steps p.at p.history))) (state_text (view_without start (first_steps p.at p.history) s))
   pub none : is_live (view start (first_steps p.at p.history)).table s ≡ false → text ≡ codes "no transaction\n"
 
+-- the view of the steps that are made
+abbrev pub view_at : Origin → Place → View
+view_at o p = view (start_in o) (first_steps p.at p.history)
+
 -- the steps after the position are gone
 pub record Cuts (p : Place) (text : List ℕ) (q : Place) : Type 0 where
   pub told : text ≡ position_text p.at
@@ -84,6 +89,8 @@ AnswersAsk o p (asks.Try step) text q = (text ≡ tried_text (start_in o) (first
 AnswersAsk o p (asks.Without starter) text q = TellsWithout (start_in o) p starter text × (q ≡ p)
 AnswersAsk o p (asks.When piece) text q = TellsLast (shown_at (start_in o) p.history piece) p text q
 AnswersAsk o p (asks.Next piece) text q = TellsNext (shown_at (start_in o) p.history piece) p text q
+AnswersAsk o p asks.Owns text q = (text ≡ or_no_transaction (owner_lines (view_at o p))) × (q ≡ p)
+AnswersAsk o p (asks.OwnsOf starter) text q = (text ≡ or_no_transaction (owner_line (view_at o p) starter)) × (q ≡ p)
 AnswersAsk o p asks.Cut text q = Cuts p text q
 AnswersAsk o p asks.Help text q = IsTrue (is_page text) × (q ≡ p)
 AnswersAsk o p (asks.HelpOn word) text q = HelpsOn word.now text × (q ≡ p)

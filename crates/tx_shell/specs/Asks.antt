@@ -20,6 +20,8 @@ ask_text (asks.Try step) = codes "try " ++ step_text step
 ask_text (asks.When piece) = codes "when " ++ piece_name piece
 ask_text (asks.Next piece) = codes "next " ++ piece_name piece
 ask_text (asks.Without starter) = codes "without " ++ decimal starter
+ask_text asks.Owns = codes "owns"
+ask_text (asks.OwnsOf starter) = codes "owns " ++ decimal starter
 ask_text asks.Cut = codes "cut"
 ask_text asks.Help = codes "help"
 ask_text (asks.HelpOn word) = codes "help " ++ word.now
@@ -33,6 +35,7 @@ FitsAsk version (asks.Try step) = FitsStep step × IsOf version step
 FitsAsk version (asks.When piece) = FitsPiece piece
 FitsAsk version (asks.Next piece) = FitsPiece piece
 FitsAsk version (asks.Without starter) = starter < 2 ^ 16
+FitsAsk version (asks.OwnsOf starter) = starter < 2 ^ 16
 FitsAsk version ask = Unit {0}
 
 -- nothing is asked for by a line that is spelled so
@@ -44,6 +47,7 @@ abbrev pub IsOfWords : Ask → Type 0
 IsOfWords asks.GotoEnd = Unit {0}
 IsOfWords asks.Steps = Unit {0}
 IsOfWords asks.Text = Unit {0}
+IsOfWords asks.Owns = Unit {0}
 IsOfWords asks.Cut = Unit {0}
 IsOfWords asks.Help = Unit {0}
 IsOfWords ask = ⊥

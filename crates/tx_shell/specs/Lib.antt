@@ -5,8 +5,10 @@ pub mod Differences
 pub mod Events
 pub mod Helps
 pub mod Journals
+pub mod Kinds
 pub mod Meanings
 pub mod Origins
+pub mod Owners
 pub mod Pieces
 pub mod Places
 pub mod Refused

@@ -35,6 +35,10 @@ pub enum Ask<'a> {
     Next(Piece),
     /// To tell how the state would differ that an abort of the transaction of this starter would leave.
     Without(u16),
+    /// To tell what each live transaction has reserved.
+    Owns,
+    /// To tell what the live transaction of this starter has reserved.
+    OwnsOf(u16),
     /// To let go of the steps after the position.
     Cut,
     /// To say what can be asked for.
@@ -70,6 +74,9 @@ pub fn read_ask(version: Version, line: &[u8]) -> Option<Ask<'_>>
     if let Some(word) = behind(b"without ", line) {
         return read_without(word);
     }
+    if let Some(word) = behind(b"owns ", line) {
+        return read_owns(word);
+    }
     match behind(b"help ", line) {
         Some(word) => Some(Ask::HelpOn(word)),
         None => None,
@@ -98,6 +105,9 @@ fn read_words(line: &[u8]) -> Option<Ask<'static>>
     }
     if line == b"goto end".as_slice() {
         return Some(Ask::GotoEnd);
+    }
+    if line == b"owns".as_slice() {
+        return Some(Ask::Owns);
     }
     if line == b"cut".as_slice() {
         return Some(Ask::Cut);
@@ -169,6 +179,16 @@ fn read_without(word: &[u8]) -> Option<Ask<'static>>
 {
     let Pid(starter) = read_pid(word)?;
     Some(Ask::Without(starter))
+}
+
+/// The transaction of whose starter it is to be told what it has reserved.
+fn read_owns(word: &[u8]) -> Option<Ask<'static>>
+    ensures found { IfSome result (λ ask. codes "owns " ++ word.now ≡ ask_text ask) }
+    ensures fits { (version : TheVersion) → IfSome result (FitsAsk version) }
+    ensures none { result ≡ None → (starter : ℕ) → starter < 2 ^ 16 → word.now ≢ decimal starter }
+{
+    let Pid(starter) = read_pid(word)?;
+    Some(Ask::OwnsOf(starter))
 }
 
 /// The two numbers that a text spells with a space between them. Nothing where it is another text.

@@ -9,8 +9,9 @@
 //! commands are answered by tx_script, and so as in a text for it; `journals.rt` lists the steps, and
 //! prints the schedule that makes them again; `trials.rt` tells what would be, by the lines that
 //! differ (`differences.rt`); `changes.rt` finds the step that changed a piece of the state
-//! (`pieces.rt`) last, or changes it next; `helps.rt` says what a word means, by tx_explain; and what
-//! is neither is told of as a check tells of it (`tells.rt`, over tx_check).
+//! (`pieces.rt`) last, or changes it next; `owners.rt` tells what live transactions have reserved, by
+//! the kinds of objects that there are (`kinds.rt`); `helps.rt` says what a word means, by tx_explain;
+//! and what is neither is told of as a check tells of it (`tells.rt`, over tx_check).
 //!
 //! A refused growth leaves no step half done: a step whose answer could not be put down is taken
 //! back and let go, so the history after an error is the one before the line.
@@ -23,10 +24,12 @@ mod console;
 mod differences;
 mod helps;
 mod journals;
+mod kinds;
 mod laws;
 mod lines;
 mod meanings;
 mod openings;
+mod owners;
 mod pieces;
 mod reserving;
 mod shell;

@@ -1,0 +1,41 @@
+-- What live transactions have reserved, as it is told.
+use Rattle.std.specs.Prelude.{ℕ, zero, suc, ◌+◌, Bool, List, [], ◌∷◌, ◌++◌, codes, if◌then◌else◌}
+use Rattle.std.specs.Fmt.{decimal}
+use Rattle.tx_lines.specs.Lists.{list_text}
+use Rattle.tx_model.specs.Membership.{is_live}
+use Rattle.tx_model.specs.View.{View}
+use Rattle.tx_shell.specs.Kinds.{limit_of, object_in, word_of}
+use Rattle.tx_shell.specs.declared.kinds.Kind.{Kind}
+use Rattle.tx_shell.specs.declared.kinds.Kind.TheVariants.{Processes, Descriptions, Pipes}
+use Rattle.tx_text.specs.Each.{upto}
+
+-- the numbers below a limit that are listed, in rising order
+unfoldable pub listed_below : (ℕ → Bool) → ℕ → List ℕ
+listed_below listed zero = []
+listed_below listed (suc limit) = listed_below listed limit ++ (if listed limit then limit ∷ [] else [])
+
+module _ (V : View) where
+  -- whether the transaction of s has reserved the object of a kind and a number
+  abbrev pub owns_one : ℕ → Kind → ℕ → Bool
+  owns_one s kind number = V.reserved s (object_in kind number)
+
+  -- the numbers of a kind that it has, behind a space and the word for the kind
+  abbrev pub owned_text : ℕ → Kind → List ℕ
+  owned_text s kind = 32 ∷ (word_of kind ++ list_text (listed_below (owns_one s kind) (limit_of kind)))
+
+  -- the line of a live transaction
+  abbrev pub owner_text : ℕ → List ℕ
+  owner_text s = codes "owns " ++ (decimal s ++ (owned_text s Processes ++ (owned_text s Descriptions ++ (owned_text s Pipes ++ 10 ∷ []))))
+
+  -- the line of the transaction that process s began, where one is live
+  abbrev pub owner_line : ℕ → List ℕ
+  owner_line s = if is_live V.table s then owner_text s else []
+
+  -- the lines of all live transactions, by their rising starters
+  abbrev pub owner_lines : List ℕ
+  owner_lines = upto (λ done. owner_line (done + 1)) V.table.width
+
+-- the lines, and where there is none, that no transaction is live
+abbrev pub or_no_transaction : List ℕ → List ℕ
+or_no_transaction [] = codes "no transaction\n"
+or_no_transaction (byte ∷ bytes) = byte ∷ bytes
