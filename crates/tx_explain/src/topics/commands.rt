@@ -42,7 +42,9 @@ debug: walks back and forward over the steps of a schedule, as commands say.
     },
     Topic {
         word: "shell",
-        also: &["cut", "owns", "steps", "try", "without", "when", "next", "quit"],
+        also: &[
+            "cut", "owns", "steps", "try", "without", "when", "next", "quit",
+        ],
         text: "\
 shell: answers steps and commands, each line before it reads the next.
   form     txos shell
