@@ -10,6 +10,7 @@ pub mod LineParts
 pub mod Linked
 pub mod NamedLabels
 pub mod NextLines
+pub mod FirstLines
 pub mod Numbered
 pub mod OneFault
 pub mod OwnLines

@@ -14,9 +14,9 @@ use Rattle.tx_lines.specs.Schedule.{first_line}
 use Rattle.tx_lines.specs.declared.faults.Fault.{Fault}
 use Rattle.tx_lines.specs.declared.faults.Fault.TheVariants.{NotALine, NoLabel, TooLong, Reader, Writer, NoMemory}
 use Rattle.tx_plain.specs.Lines.{plain_line, stage_after}
-use Rattle.tx_plain.specs.Meant.{bytes_of, fault_by, meant_of, own_line}
-use Rattle.tx_plain.specs.Meant as meanings
-use Rattle.tx_plain.specs.declared.meant.Meant.{Meant}
+use Rattle.tx_plain.specs.Meant.{fault_by, meant_of, own_line}
+use Rattle.tx_plain.specs.MeantLines.{left_of}
+use Rattle.tx_plain.specs.declared.meant_lines.MeantLines.{MeantLines}
 use Rattle.tx_plain.specs.OwnLines.{own_lines}
 use Rattle.tx_plain.specs.Plain.{is_third, line_among, numbered, numbers_from}
 use Rattle.tx_plain.specs.Words.{words_in}
@@ -39,18 +39,18 @@ moved text from next is after left =
     }
 
 -- what is told of a later line
-pub goes_on : (meant : Meant) (line : ℕ) (from next : TextFrom) (number : ℕ) (bytes old new : List ℕ) → from.number < next.number → next.left.now ≡ after_lines (next.number - from.number) from.left.now → number ≡ next.number → bytes ≡ first_line next.left.now
-    → next.number ≡ meanings.line_of meant line → IsWrongLine (bytes_of meant) line → Tells number bytes old new → GoesOn meant from next old new
-goes_on meant line from next number bytes old new after left at same own wrong tells = λ text is_meant is.
+pub goes_on : (meant : MeantLines) (line own : ℕ) (from next : TextFrom) (number : ℕ) (bytes old new : List ℕ) → from.number < next.number → next.left.now ≡ after_lines (next.number - from.number) from.left.now → number ≡ next.number → bytes ≡ first_line next.left.now
+    → next.number ≡ own → IsWrongLine (left_of meant) line → Tells number bytes old new → GoesOn meant line own from next old new
+goes_on meant line own from next number bytes old new after left at same here wrong tells = λ text is_meant is_own is.
     let there = moved text from next is (omega (arith, after)) left in
-    let here : bytes ≡ line_at next.number text = same ∙ ap first_line there.left in
+    let spelled : bytes ≡ line_at next.number text = same ∙ ap first_line there.left in
     let told = subst (λ (n : ℕ). Tells n bytes old new) at tells in
     let is_wrong : IsWrongOwn text next.number = record {
       meant = line;
-      own = sym (is_meant.lines line) ∙ sym own;
-      wrong = subst (λ (bs : List ℕ). IsWrongLine bs line) is_meant.bytes wrong;
+      own = sym is_own ∙ sym here;
+      wrong = subst (λ (bs : List ℕ). IsWrongLine bs line) is_meant wrong;
     } in
-    (there, λ first up_to. more_told text bytes next.number old new here is_wrong told first from.number after up_to)
+    (there, λ first up_to. more_told text bytes next.number old new spelled is_wrong told first from.number after up_to)
 
 numbered_some : (number : ℕ) (found : Option (List ℕ)) (numbers : List ℕ) (after : ℕ) → 1 ≤ number → ((k : ℕ) → 1 ≤ slice_index_or numbers k after) → (k : ℕ) → 1 ≤ slice_index_or (numbered number found numbers) k after
 numbered_some number None numbers after some all k = all k

@@ -9,7 +9,7 @@ use Rattle.tx_base.specs.declared.steps.Step.{Step}
 use Rattle.tx_check.proofs.Growing.{none_by, some_by}
 use Rattle.tx_check.proofs.LabelsFound.{found_label, labelled, HasLines, IsLabelled}
 use Rattle.tx_check.specs.Behind.{FaultsBehind, IsFaultAt, IsNoLineAt}
-use Rattle.tx_check.specs.Kinds.{begins_with_debug, has_debug}
+use Rattle.tx_check.specs.Kinds.{begins_with_debug, debug_ahead, has_debug}
 use Rattle.tx_check.specs.Numbered.{behind}
 use Rattle.tx_check.specs.Right.{IsNoneThere, IsRight, IsTooMany}
 use Rattle.tx_check.specs.Stands.{counted, AmongCommands, AmongLines, AmongSteps, IsPlaceOf}
@@ -30,10 +30,6 @@ use Rattle.tx_lines.specs.declared.read.command.Command.{Command}
 use Rattle.tx_lines.specs.declared.read.header.Header.{Header}
 use Rattle.tx_lines.specs.declared.read.header.TextKind.TheVariants as texts
 use Rattle.tx_lines.specs.declared.read.header.Version.{Version}
-
--- whether a line is the one before commands
-abbrev pub debug_ahead : List ℕ → Bool
-debug_ahead left = begins_with_debug left || has_debug left
 
 -- steps
 pub record StepsSoFar (version : Version) (rest : List ℕ) (number : ℕ) (place : Place) (left : List ℕ) : Type 0 where
@@ -103,6 +99,12 @@ debug_later (byte ∷ bytes) rest e =
           rw (h.0, same) refl
       | inr h ↦ let on : after_line bytes ≡ Some rest = rw h.0 at e in rw h.0 (debug_later bytes rest on)
     ]
+
+-- the line before commands is behind the first one
+pub debug_behind : (text : List ℕ) → has_debug text ≡ debug_ahead (behind text)
+debug_behind [] = refl
+debug_behind (byte ∷ bytes) =
+    elim (eqb_tells byte 10) [ inl h ↦ rw h.0 refl | inr h ↦ rw h.0 (debug_behind bytes) ]
 
 pub later_debug : (left : List ℕ) → is_some (after_line left) ≡ true → has_debug left ≡ debug_ahead (behind left)
 later_debug left ended = debug_later left (behind left) (some_by (after_line left) ended)

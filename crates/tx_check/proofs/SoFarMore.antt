@@ -10,10 +10,10 @@ use Rattle.tx_check.proofs.LabelsFound.{distinct_more, label_at, HasLines, IsLab
 use Rattle.tx_check.proofs.LineParts.{label_parts}
 use Rattle.tx_check.proofs.NamedLabels.{no_label}
 use Rattle.tx_check.proofs.ShortLines.{short_header}
-use Rattle.tx_check.proofs.SoFar.{counts_by, debug_ahead, debug_later, has_lines, later_debug, later_or, no_debug_line, none_or, not_debug, part_few, part_right, program_fault, room, schedule_fault, walk_fault, CommandsSoFar, IsNext, LinesSoFar, SoFar, StepsSoFar}
+use Rattle.tx_check.proofs.SoFar.{counts_by, debug_later, has_lines, later_debug, later_or, no_debug_line, none_or, not_debug, part_few, part_right, program_fault, room, schedule_fault, walk_fault, CommandsSoFar, IsNext, LinesSoFar, SoFar, StepsSoFar}
 use Rattle.tx_check.proofs.WalkedTexts.{no_debug}
 use Rattle.tx_check.specs.Behind.{AreLinesBehind, FaultsBehind, IsFaultAt, MayStand}
-use Rattle.tx_check.specs.Kinds.{begins_with_debug, has_debug, head_of, is_program_head, kind_of}
+use Rattle.tx_check.specs.Kinds.{begins_with_debug, debug_ahead, has_debug, head_of, is_program_head, kind_of}
 use Rattle.tx_check.specs.Numbered.{behind}
 use Rattle.tx_check.specs.Right.{IsTooMany, SpellsCommand, SpellsLine, SpellsStep}
 use Rattle.tx_check.specs.Stands.{begins_label, stand_after, AmongCommands, AmongLines, AmongSteps, AtHeader, IsPlaceOf, Stand}

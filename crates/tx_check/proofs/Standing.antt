@@ -1,6 +1,5 @@
 -- Where a text stands at a line, and one line later.
-use Rattle.std.proofs.Common.{◌≡◌, ◌≢◌, ◌∙◌, ℕ, zero, suc, ◌+◌, ◌-◌, ◌≤◌, Bool, true, false, if◌then◌else◌, ◌==◌, List, [], length, ap, sym, subst, refl, inl, inr, is_some, arith}
-use Rattle.std.proofs.lemmas.Bool.{both_ways}
+use Rattle.std.proofs.Common.{◌≡◌, ◌≢◌, ◌∙◌, ℕ, zero, suc, ◌+◌, ◌-◌, ◌≤◌, Bool, true, false, if◌then◌else◌, List, [], ap, sym, subst, refl, inl, inr, is_some, arith}
 use Rattle.tx_check.specs.Kinds.{head_of, kind_of}
 use Rattle.tx_check.specs.Numbered.{after_lines, line_at}
 use Rattle.tx_check.specs.OwnLines.{IsLineAt}
@@ -106,14 +105,13 @@ abbrev ended_in : List ℕ → Bool
 ended_in left = is_some (after_line left)
 
 -- the first line of what follows some lines
-pub line_there : (text left : List ℕ) (before : ℕ) (line : TextLine) → left ≡ after_lines before text → (length left == 0) ≡ false → 1 ≤ before → line.number ≡ before + 1 → line.bytes.now ≡ first_line left → line.is_ended ≡ ended_in left → IsLineAt text line
+pub line_there : (text left : List ℕ) (before : ℕ) (line : TextLine) → left ≡ after_lines before text → left ≢ [] → 1 ≤ before → line.number ≡ before + 1 → line.bytes.now ≡ first_line left → line.is_ended ≡ ended_in left → IsLineAt text line
 line_there text left before line at more some number bytes ended =
     let same : line.number - 1 ≡ before = omega (arith, number) in
     record {
       behind_first = omega (arith, some, number);
       there = λ none.
-          let empty : left ≡ [] = at ∙ ap (λ (n : ℕ). after_lines n text) (sym same) ∙ none in
-          both_ways (length left == 0) more (ap (λ (l : List ℕ). length l == 0) empty);
+          more (at ∙ ap (λ (n : ℕ). after_lines n text) (sym same) ∙ none);
       bytes = bytes ∙ ap first_line at ∙ ap (λ (n : ℕ). first_line (after_lines n text)) (sym same);
       ended = ended ∙ ap ended_in at ∙ ap (λ (n : ℕ). ended_in (after_lines n text)) (sym same);
     }

@@ -38,6 +38,10 @@ abbrev pub has_debug : List ℕ → Bool
 has_debug [] = false
 has_debug (byte ∷ bytes) = (nat_eq byte 10 && begins_with_debug bytes) || has_debug bytes
 
+-- whether the line before commands is among some lines
+abbrev pub debug_ahead : List ℕ → Bool
+debug_ahead left = begins_with_debug left || has_debug left
+
 -- the kind of a text: a program by its first line; else a schedule with commands where a line `debug` stands behind that; else a schedule
 abbrev pub kind_of : List ℕ → Kind
 kind_of text = if is_program_head (first_line text) then Program else if has_debug text then Walk else Schedule

@@ -1,14 +1,7 @@
 -- The lines of a text by their numbers.
-use Rattle.std.specs.Prelude.{ℕ, zero, suc, ◌-◌, List, [], Option, Some, None}
-use Rattle.tx_lines.specs.Schedule.{after_line, first_line}
-
--- what follows the first line of a text
-abbrev pub behind_by : Option (List ℕ) → List ℕ
-behind_by None = []
-behind_by (Some rest) = rest
-
-abbrev pub behind : List ℕ → List ℕ
-behind text = behind_by (after_line text)
+use Rattle.std.specs.Prelude.{ℕ, zero, suc, ◌-◌, List}
+use Rattle.tx_lines.specs.Schedule.{first_line}
+pub use Rattle.tx_plain.specs.MeantLines.{behind, behind_by}
 
 -- what follows so many lines
 abbrev pub after_lines : ℕ → List ℕ → List ℕ

@@ -1,6 +1,7 @@
 //! Tells of a text what is wrong with it.
-ghost use Rattle.std.specs.Prelude.{◌≡◌, ◌≢◌, ◌+◌, ◌≤◌, ℕ, List, IfOk, OnOk, string_bytes};
+ghost use Rattle.std.specs.Prelude.{◌≡◌, ◌≢◌, ◌+◌, ◌-◌, ◌≤◌, ℕ, List, IfOk, OnOk, string_bytes};
 ghost use Rattle.tx_check.specs.Kinds.{kind_of};
+ghost use Rattle.tx_check.specs.Numbered.{after_lines};
 ghost use Rattle.tx_check.specs.OwnLines.{GoesOn, IsFrom, IsLineAt};
 ghost use Rattle.tx_check.specs.Reads as spec;
 ghost use Rattle.tx_check.specs.Reads.{Finds, IsAtFault};
@@ -9,20 +10,20 @@ ghost use Rattle.tx_check.specs.Told.{IsColumn, IsToldOf, TellsFrom, TellsUpTo};
 ghost use Rattle.tx_check.specs.declared.kinds.Kind.TheVariants as kinds;
 ghost use Rattle.tx_check.specs.declared.places.Part.TheVariants as parts;
 ghost use Rattle.tx_lines.specs.declared.faults.Fault.TheVariants as faults;
-ghost use Rattle.tx_plain.specs.Meant as meanings;
-ghost use Rattle.tx_plain.specs.Meant.{IsMeantBy};
+ghost use Rattle.tx_plain.specs.Meant.{meant_of, own_line};
+ghost use Rattle.tx_plain.specs.MeantLines.{left_of, OwnsFrom};
 
 use crate::diagnose::{trouble_of, unknown};
 use crate::faults::first_fault;
 use crate::kinds::{Kind, kind_of};
 use crate::own::{TextFrom, own_trouble};
-use crate::places::{Part, Place, TextLine, behind, cut_line};
+use crate::places::{Part, Place, TextLine};
 use crate::tell::tell;
 use crate::trouble::Trouble;
 use std::alloc::Global;
 use tx_base::NoMemory;
 use tx_lines::Fault;
-use tx_plain::Meant;
+use tx_plain::MeantLines;
 
 /// What is told of a text of any version: nothing exactly where what it means is a text of its kind
 /// (`kind_of`), and so is read by the command of that kind. Else a line for each line at fault,
@@ -31,50 +32,64 @@ use tx_plain::Meant;
 /// in its place, whatever stands before it. Lines count from 1 and columns in bytes from
 /// 1, both in the text as it is given; the column after a line's last byte stands for its end.
 ///
-/// Memory is taken for what is told, and for what a text of version 3 means. The only error is that
-/// such a growth was refused.
+/// Memory is taken for what is told alone. The only error is that such a growth was refused.
 pub fn check_text(alloc: Global, text: &[u8]) -> Result<String, NoMemory>
     ensures { IfOk result (λ told. IsToldOf text.now (string_bytes told)) }
 {
-    let meant = Meant::by(alloc, text)?;
-    let bytes = meant.as_bytes();
-    let kind = kind_of(bytes);
-    match first_fault(kind, bytes) {
-        Some(fault) => tell_from(alloc, kind, text, &meant, fault),
+    let meant = MeantLines::of(text);
+    let kind = kind_of(meant);
+    match first_fault(kind, meant) {
+        Some(fault) => tell_from(alloc, kind, text, meant, fault),
         None => Ok(String::new(alloc)),
     }
 }
 
-/// What is told of a text whose meant text is at fault: the line of the fault, and the lines behind
-/// it.
+/// What is told of a text that means those lines, which are at fault: the line of the fault, and the
+/// lines behind it.
 fn tell_from(
     alloc: Global,
     kind: Kind,
     text: &[u8],
-    meant: &Meant<'_>,
+    meant: MeantLines<'_>,
     fault: Fault,
 ) -> Result<String, NoMemory>
-    requires meant { IsMeantBy text.now meant.now }
-    requires kind { kind ≡ kind_of (meanings.bytes_of meant.now) }
-    requires fault { IsAtFault kind (meanings.bytes_of meant.now) fault }
-    requires own { 1 ≤ meanings.line_of meant.now (spec.line_of fault) }
+    requires meant { left_of meant ≡ meant_of text.now }
+    requires numbered { OwnsFrom text.now 1 meant }
+    requires kind { kind ≡ kind_of (left_of meant) }
+    requires fault { IsAtFault kind (left_of meant) fault }
+    requires own { 1 ≤ own_line text.now (spec.line_of fault) }
     ensures { IfOk result (λ told.
-        TellsFrom text.now (meanings.line_of meant.now (spec.line_of fault)) (string_bytes told)) }
+        TellsFrom text.now (own_line text.now (spec.line_of fault)) (string_bytes told)) }
 {
-    let (place, lines) = place_of(kind, meant.as_bytes(), fault);
-    let line = lines.line();
-    let own = TextFrom::first(text).moved_to(meant.own_line(line.number));
+    let (place, lines) = place_of(kind, meant, fault);
+    let (line, behind) = lines.cut();
+    let meaning = line.meaning();
+    let number = line_of(fault);
+    let at_fault = TextLine {
+        number,
+        bytes: meaning.as_bytes(),
+        is_ended: line.is_ended,
+    };
+    let own = TextFrom::first(text).moved_to(line.number);
     let own_line = own.line();
-    let trouble = trouble_at_fault(meant.as_bytes(), &place, line);
+    let trouble = trouble_at_fault(meant, &place, at_fault);
     let mut told = String::new(alloc);
-    let trouble = own_trouble(meant, place.part, line.bytes, own_line.bytes, trouble);
+    let is_third = meant.are_third();
+    let trouble = own_trouble(
+        is_third,
+        place.part,
+        at_fault.bytes,
+        own_line.bytes,
+        trouble,
+    );
     tell(alloc, &mut told, own_line, trouble)?;
-    tell_behind(alloc, meant, place.after(line.bytes), lines, own, &mut told)?;
+    let place = place.after(at_fault.bytes);
+    tell_behind(alloc, meant, place, number, behind, own, &mut told)?;
     Ok(told)
 }
 
 /// What is told of the line at fault.
-fn trouble_at_fault<'a>(text: &'a [u8], place: &Place, line: TextLine<'a>) -> Trouble<'a>
+fn trouble_at_fault<'a>(text: MeantLines<'a>, place: &Place, line: TextLine<'a>) -> Trouble<'a>
     ensures { IsColumn line.entry.bytes.now result.column }
 {
     match trouble_of(text, place, line) {
@@ -95,23 +110,23 @@ fn line_of(fault: Fault) -> u64
     }
 }
 
-/// The place of the line at fault, and the text from that line on.
-fn place_of(kind: Kind, text: &[u8], fault: Fault) -> (Place, TextFrom<'_>)
-    requires kind { kind ≡ kind_of text.now }
-    requires fault { IsAtFault kind text.now fault }
-    ensures place { StandsAt text.now (spec.line_of fault) result.0 }
-    ensures from { IsFrom text.now result.1 }
-    ensures number { result.1.number ≡ spec.line_of fault }
+/// The place of the line at fault, and the lines from that one on.
+fn place_of(kind: Kind, text: MeantLines<'_>, fault: Fault) -> (Place, MeantLines<'_>)
+    requires kind { kind ≡ kind_of (left_of text) }
+    requires fault { IsAtFault kind (left_of text) fault }
+    ensures place { StandsAt (left_of text.entry) (spec.line_of fault) result.0 }
+    ensures left { left_of result.1 ≡ after_lines (spec.line_of fault - 1) (left_of text.entry) }
+    ensures numbered { (own : List ℕ) → OwnsFrom own 1 text.entry →
+        OwnsFrom own (spec.line_of fault) result.1 }
 {
     let mut place = Place::first(kind, text);
     let mut left = text;
-    let number = line_of(fault);
-    for _before in 0..number - 1 {
-        let (line, rest) = cut_line(left);
-        place = place.after(line);
-        left = rest;
+    for _before in 0..line_of(fault) - 1 {
+        let (line, behind) = left.cut();
+        place = place.after(line.meaning().as_bytes());
+        left = behind;
     }
-    (place_by(fault, place), TextFrom { number, left })
+    (place_by(fault, place), left)
 }
 
 /// The place of a line at fault: of one whose label is nowhere that of such a line.
@@ -129,64 +144,77 @@ fn place_by(fault: Fault, place: Place) -> Place
     }
 }
 
-/// Tells of the lines behind the first of some that are meant, where they are at fault: up to the
-/// first one that is one too many. The first behind it stands at that place. The text itself was
-/// told of up to a line of its own.
+/// Tells of the lines behind so many that are meant, where they are at fault: up to the first one
+/// that is one too many. The first behind them stands at that place. The text itself was told of up
+/// to a line of its own.
 fn tell_behind(
     alloc: Global,
-    meant: &Meant<'_>,
+    meant: MeantLines<'_>,
     place: Place,
-    lines: TextFrom<'_>,
+    passed: u64,
+    lines: MeantLines<'_>,
     own: TextFrom<'_>,
     told: &mut String,
 ) -> Result<(), NoMemory>
-    requires place { StandsAt (meanings.bytes_of meant.now) (lines.number + 1) place }
-    requires lines { IsFrom (meanings.bytes_of meant.now) lines }
+    requires place { StandsAt (left_of meant) (passed + 1) place }
+    requires lines { left_of lines ≡ after_lines passed (left_of meant) }
+    requires some { 1 ≤ passed }
     ensures { OnOk result
-        ((text : List ℕ) (first : ℕ) → IsMeantBy text meant.now → IsFrom text own.entry →
+        ((text : List ℕ) (first : ℕ) → left_of meant.entry ≡ meant_of text →
+        OwnsFrom text (passed + 1) lines.entry → IsFrom text own.entry →
         TellsUpTo text first own.entry.number (string_bytes told.old) →
         TellsFrom text first (string_bytes told.new)) }
 {
     let mut place = place;
     let mut reached = own;
-    let mut left = behind(lines.left);
-    for before in lines.number..u64::MAX {
-        if left.is_empty() || place.is_past_all() {
+    let mut left = lines;
+    for before in passed..u64::MAX {
+        let Some((line, behind)) = left.split() else {
+            return Ok(());
+        };
+        if place.is_past_all() {
             return Ok(());
         }
-        let line = TextLine::first_of(before + 1, left);
-        reached = tell_line(alloc, meant, &place, line, reached, told)?;
-        place = place.after(line.bytes);
-        left = behind(left);
+        let meaning = line.meaning();
+        let next = TextLine {
+            number: before + 1,
+            bytes: meaning.as_bytes(),
+            is_ended: line.is_ended,
+        };
+        reached = tell_line(alloc, meant, &place, next, line.number, reached, told)?;
+        place = place.after(next.bytes);
+        left = behind;
     }
     Ok(())
 }
 
-/// Tells of a line that is meant, at that place, where it is at fault. Says how far the text itself
-/// is told of then: of two lines that come from one of its own, the first is told.
+/// Tells of a line that is meant by the text's own one of that number, at that place, where it is at
+/// fault. Says how far the text itself is told of then.
 fn tell_line<'a>(
     alloc: Global,
-    meant: &Meant<'_>,
+    meant: MeantLines<'_>,
     place: &Place,
     line: TextLine<'_>,
+    number: u64,
     own: TextFrom<'a>,
     told: &mut String,
 ) -> Result<TextFrom<'a>, NoMemory>
-    requires place { StandsAt (meanings.bytes_of meant.now) line.number place.now }
-    requires line { IsLineAt (meanings.bytes_of meant.now) line }
+    requires place { StandsAt (left_of meant) line.number place.now }
+    requires line { IsLineAt (left_of meant) line }
     ensures { IfOk result (λ next.
-        GoesOn meant.now own.entry next (string_bytes told.old) (string_bytes told.new)) }
+        GoesOn meant.entry line.entry.number number own.entry next
+        (string_bytes told.old) (string_bytes told.new)) }
 {
-    let Some(trouble) = trouble_of(meant.as_bytes(), place, line) else {
+    let Some(trouble) = trouble_of(meant, place, line) else {
         return Ok(own);
     };
-    let number = meant.own_line(line.number);
     if number <= own.number {
         return Ok(own);
     }
     let next = own.moved_to(number);
     let own_line = next.line();
-    let trouble = own_trouble(meant, place.part, line.bytes, own_line.bytes, trouble);
+    let is_third = meant.are_third();
+    let trouble = own_trouble(is_third, place.part, line.bytes, own_line.bytes, trouble);
     tell(alloc, told, own_line, trouble)?;
     Ok(next)
 }

@@ -4,6 +4,7 @@ ghost use Rattle.tx_check.specs.Right.{IsNoneThere, IsRight};
 ghost use Rattle.tx_check.specs.Stands.{IsPlaceOf, Stand};
 ghost use Rattle.tx_check.specs.Told.{IsColumn};
 ghost use Rattle.tx_check.specs.Wrong.{IsTwice, IsWrong, NamesNowhere};
+ghost use Rattle.tx_plain.specs.MeantLines.{left_of};
 
 mod bytes;
 mod calls;
@@ -26,16 +27,21 @@ use crate::diagnose::steps::step_trouble;
 use crate::places::{Part, Place, TextLine, is_debug};
 use crate::trouble::{LineTrouble, Trouble};
 use tx_lines::{LINE_BYTES, read_command, read_line, read_step};
+use tx_plain::MeantLines;
 
 /// What is wrong with the line of a text at that place. Nothing where it is right.
-pub fn trouble_of<'a>(text: &'a [u8], place: &Place, line: TextLine<'a>) -> Option<Trouble<'a>>
+pub fn trouble_of<'a>(
+    text: MeantLines<'a>,
+    place: &Place,
+    line: TextLine<'a>,
+) -> Option<Trouble<'a>>
     ensures column { IfSome result (λ trouble. IsColumn line.entry.bytes.now trouble.column) }
     ensures right { IfNone result
         (IsRight place.now.part place.now.version line.entry.bytes.now) }
     ensures short { IfNone result (length line.entry.bytes.now ≤ 512) }
     ensures ended { IfNone result (IsTrue line.entry.is_ended) }
     ensures wrong { IfSome result (λ trouble. (stand : Stand) → IsPlaceOf stand place.now →
-        IsWrong place.now.version text.now line.entry.number stand line.entry.bytes.now
+        IsWrong place.now.version (left_of text.entry) line.entry.number stand line.entry.bytes.now
         line.entry.is_ended) }
 {
     if line.bytes.len() > LINE_BYTES {
@@ -110,14 +116,14 @@ pub fn unknown() -> Trouble<'static>
 
 /// What is wrong with a line that is right by itself, beside the other lines of the text.
 fn trouble_between<'a>(
-    text: &'a [u8],
+    text: MeantLines<'a>,
     place: &Place,
     number: u64,
     line: &'a [u8],
 ) -> Option<Trouble<'a>>
     ensures column { IfSome result (λ trouble. IsColumn line.now trouble.column) }
     ensures wrong { IfSome result (λ trouble.
-        IsTwice text.now number line.now ⊎ NamesNowhere text.now line.now) }
+        IsTwice (left_of text.entry) number line.now ⊎ NamesNowhere (left_of text.entry) line.now) }
 {
     match place.part {
         Part::ProgramLine => second_label(text, number, line),

@@ -11,13 +11,16 @@ ghost use Rattle.tx_check.specs.declared.places.Part.TheVariants as parts;
 ghost use Rattle.tx_lines.specs.Programs.{line_text, IsLineOf};
 ghost use Rattle.tx_lines.specs.Schedule.{SpellsHeader};
 ghost use Rattle.tx_lines.specs.declared.instructions.Line.{Line};
+ghost use Rattle.tx_plain.specs.MeantLines.{left_of};
 ghost use Rattle.tx_lines.specs.declared.read.header.TextKind.TheVariants as texts;
 
 use crate::diagnose::is_right;
 use crate::diagnose::labels::{line_of_label, second_label};
+use crate::heads::header_of;
 use crate::kinds::Kind;
-use crate::places::{Part, Place, TextLine, behind, cut_line, kind_of_head};
-use tx_lines::{Fault, Header, LINE_BYTES, Line, Name, Version, first_header, read_line};
+use crate::places::{Part, Place, TextLine, kind_of_head};
+use tx_lines::{Fault, Header, LINE_BYTES, Line, Name, Version, read_line};
+use tx_plain::MeantLines;
 
 /// The line behind a header.
 const FIRST_LINE: u64 = 2;
@@ -29,11 +32,11 @@ const FIRST_LINE: u64 = 2;
 /// No line is kept, so labels are sought in the text, from its first line on. That takes a look at a
 /// line for each line of a program before each of its labels, and before each label that is named: at
 /// most 1,280 looks for each of 256 labels and of 1,024 instructions.
-pub fn first_fault(kind: Kind, text: &[u8]) -> Option<Fault>
-    requires { kind ≡ spec.kind_of text.now }
-    ensures { Finds kind text.now result }
+pub fn first_fault(kind: Kind, text: MeantLines<'_>) -> Option<Fault>
+    requires { kind ≡ spec.kind_of (left_of text) }
+    ensures { Finds kind (left_of text.entry) result }
 {
-    let (header, left) = match first_header(kind_of_head(kind), text) {
+    let (header, left) = match header_of(kind_of_head(kind), text) {
         Ok(found) => found,
         Err(fault) => return Some(fault),
     };
@@ -47,31 +50,41 @@ pub fn first_fault(kind: Kind, text: &[u8]) -> Option<Fault>
 }
 
 /// The fault of the first line behind a text's header that is at fault in its place.
-fn fault_behind(kind: Kind, text: &[u8], header: Header, rest: &[u8]) -> Option<Fault>
-    requires kind { kind ≡ spec.kind_of text.now }
-    requires header { SpellsHeader (head_of kind) text.now header rest.now }
-    ensures { MatchOption result (AreLinesBehind kind header.version rest.now)
-        (FaultsBehind kind header.version rest.now) }
+fn fault_behind(
+    kind: Kind,
+    text: MeantLines<'_>,
+    header: Header,
+    rest: MeantLines<'_>,
+) -> Option<Fault>
+    requires kind { kind ≡ spec.kind_of (left_of text) }
+    requires header { SpellsHeader (head_of kind) (left_of text) header (left_of rest) }
+    ensures { MatchOption result (AreLinesBehind kind header.version (left_of rest.entry))
+        (FaultsBehind kind header.version (left_of rest.entry)) }
 {
     let mut place = Place::behind_header(kind_of_head(kind), header.version);
     let mut number = FIRST_LINE;
     let mut left = rest;
-    while !left.is_empty() {
-        let line = TextLine::first_of(number, left);
+    while let Some((own, behind)) = left.split() {
+        let meaning = own.meaning();
+        let line = TextLine {
+            number,
+            bytes: meaning.as_bytes(),
+            is_ended: own.is_ended,
+        };
         if let Some(fault) = fault_at(text, &place, line) {
             return Some(fault);
         }
         place = place.after(line.bytes);
         number += 1;
-        left = behind(left);
+        left = behind;
     }
     None
 }
 
 /// The fault of a line of a text at that place. Nothing where it may stand there.
-fn fault_at(text: &[u8], place: &Place, line: TextLine<'_>) -> Option<Fault>
-    ensures may { IfNone result (MayStand text.now place.now line.entry) }
-    ensures fault { IfSome result (IsFaultAt text.now place.now line.entry) }
+fn fault_at(text: MeantLines<'_>, place: &Place, line: TextLine<'_>) -> Option<Fault>
+    ensures may { IfNone result (MayStand (left_of text.entry) place.now line.entry) }
+    ensures fault { IfSome result (IsFaultAt (left_of text.entry) place.now line.entry) }
 {
     let number = line.number;
     if line.bytes.len() > LINE_BYTES || place.one_too_many(line.bytes).is_some() {
@@ -84,9 +97,9 @@ fn fault_at(text: &[u8], place: &Place, line: TextLine<'_>) -> Option<Fault>
 }
 
 /// Whether a line of a program is a label whose name stands in a line before it.
-fn is_second_label(text: &[u8], place: &Place, line: TextLine<'_>) -> bool
+fn is_second_label(text: MeantLines<'_>, place: &Place, line: TextLine<'_>) -> bool
     ensures { IsTrue result ↔ ((place.now.part ≡ parts.ProgramLine)
-        × IsTwice text.now line.entry.number line.entry.bytes.now) }
+        × IsTwice (left_of text.entry) line.entry.number line.entry.bytes.now) }
 {
     match place.part {
         Part::ProgramLine => second_label(text, line.number, line.bytes).is_some(),
@@ -95,30 +108,29 @@ fn is_second_label(text: &[u8], place: &Place, line: TextLine<'_>) -> bool
 }
 
 /// The fault of the first line of a program that names a label which is nowhere.
-fn unlinked(text: &[u8], header: Header, rest: &[u8]) -> Option<Fault>
-    requires header { SpellsHeader texts.Program text.now header rest.now }
-    requires lines { AreLinesBehind kinds.Program header.version rest.now }
-    ensures { MatchOption result (AreLinked header.version rest.now)
-        (FaultsBehind kinds.Program header.version rest.now) }
+fn unlinked(text: MeantLines<'_>, header: Header, rest: MeantLines<'_>) -> Option<Fault>
+    requires header { SpellsHeader texts.Program (left_of text) header (left_of rest) }
+    requires lines { AreLinesBehind kinds.Program header.version (left_of rest) }
+    ensures { MatchOption result (AreLinked header.version (left_of rest.entry))
+        (FaultsBehind kinds.Program header.version (left_of rest.entry)) }
 {
     let mut number = FIRST_LINE;
     let mut left = rest;
-    while !left.is_empty() {
-        let (line, rest) = cut_line(left);
-        if is_unlinked(text, header.version, line) {
+    while let Some((line, behind)) = left.split() {
+        if is_unlinked(text, header.version, line.meaning().as_bytes()) {
             return Some(Fault::NoLabel { line: number });
         }
         number += 1;
-        left = rest;
+        left = behind;
     }
     None
 }
 
 /// Whether a line of a program of that version names a label which is nowhere in the text.
-fn is_unlinked(text: &[u8], version: Version, line: &[u8]) -> bool
+fn is_unlinked(text: MeantLines<'_>, version: Version, line: &[u8]) -> bool
     requires { length line.now ≤ 512 }
     ensures { (one : Line) → IsLineOf version one → line.now ≡ line_text one →
-        (IsTrue result ↔ IsNamedNowhere text.now one) }
+        (IsTrue result ↔ IsNamedNowhere (left_of text.entry) one) }
 {
     match read_line(version, line) {
         Some(one) => names_nowhere(text, &one),
@@ -127,8 +139,8 @@ fn is_unlinked(text: &[u8], version: Version, line: &[u8]) -> bool
 }
 
 /// Whether a line of a program names a label which is nowhere in the text.
-fn names_nowhere(text: &[u8], line: &Line) -> bool
-    ensures { IsTrue result ↔ IsNamedNowhere text.now line.now }
+fn names_nowhere(text: MeantLines<'_>, line: &Line) -> bool
+    ensures { IsTrue result ↔ IsNamedNowhere (left_of text.entry) line.now }
 {
     match line {
         Line::Label(_name) => false,
@@ -137,8 +149,8 @@ fn names_nowhere(text: &[u8], line: &Line) -> bool
 }
 
 /// Whether a label is named that is nowhere in the text.
-fn is_nowhere(text: &[u8], label: Option<&Name>) -> bool
-    ensures { IsTrue result ↔ IsNowhere text.now (option_copied label.entry) }
+fn is_nowhere(text: MeantLines<'_>, label: Option<&Name>) -> bool
+    ensures { IsTrue result ↔ IsNowhere (left_of text.entry) (option_copied label.entry) }
 {
     match label {
         Some(name) => line_of_label(text, name.bytes.as_slice()).is_none(),

@@ -1,8 +1,10 @@
 //! Which kind of text one is meant to be.
 ghost use Rattle.std.specs.Prelude.{◌≡◌, ◌≤◌, length};
 ghost use Rattle.tx_check.specs.Kinds as spec;
+ghost use Rattle.tx_plain.specs.MeantLines.{left_of};
 
-use tx_lines::{split_word, take_line};
+use tx_lines::split_word;
+use tx_plain::MeantLines;
 
 /// A kind of text, each with the command that reads it.
 #[derive(Clone, Copy)]
@@ -15,16 +17,16 @@ pub enum Kind {
     Program,
 }
 
-/// The kind of a text of version 1 or 2: a program where the first line begins with `txos`, a word and `program`,
+/// The kind of what a text means: a program where the first line begins with `txos`, a word and `program`,
 /// else a schedule with commands where a line after the first is `debug`, else a schedule.
-pub fn kind_of(text: &[u8]) -> Kind
-    ensures { result ≡ spec.kind_of text.now }
+pub fn kind_of(text: MeantLines<'_>) -> Kind
+    ensures { result ≡ spec.kind_of (left_of text.entry) }
 {
-    let (head, _rest) = take_line(text);
-    if is_program_head(head) {
+    let (head, behind) = text.cut();
+    if is_program_head(head.meaning().as_bytes()) {
         return Kind::Program;
     }
-    if has_debug(text) {
+    if has_debug(behind) {
         return Kind::Walk;
     }
     Kind::Schedule
@@ -59,24 +61,16 @@ fn rest_of(line: &[u8]) -> &[u8]
     }
 }
 
-/// Whether a line after the first is the one before commands.
-fn has_debug(text: &[u8]) -> bool
-    ensures { result ≡ spec.has_debug text.now }
+/// Whether one of some lines is the one before commands.
+fn has_debug(lines: MeantLines<'_>) -> bool
+    ensures { result ≡ spec.debug_ahead (left_of lines.entry) }
 {
-    let mut left = text;
-    while let Some((byte, rest)) = left.split_first() {
-        if *byte == b'\n' && begins_with_debug(rest) {
+    let mut left = lines;
+    while let Some((line, rest)) = left.split() {
+        if line.meaning().as_bytes() == b"debug".as_slice() {
             return true;
         }
         left = rest;
     }
     false
-}
-
-/// Whether the first line of a text is the one before commands.
-fn begins_with_debug(text: &[u8]) -> bool
-    ensures { result ≡ spec.begins_with_debug text.now }
-{
-    let (line, _rest) = take_line(text);
-    line == b"debug".as_slice()
 }

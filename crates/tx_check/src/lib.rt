@@ -22,6 +22,7 @@ mod command;
 mod diagnose;
 mod faults;
 mod forms;
+mod heads;
 mod kinds;
 mod laws;
 mod near;

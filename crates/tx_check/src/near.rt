@@ -1,19 +1,21 @@
 //! The name that is nearest to a mistyped one.
 use crate::forms::{CALLS, COMMANDS};
-use crate::places::cut_line;
 use crate::trouble::Names;
 use std::alloc::Global;
 use strsim::osa_distance;
 use tx_base::NoMemory;
+use tx_plain::{MeantLines, OwnLine};
 
 /// How many edits lead to a name at most. One of `n` bytes is near where there are at most `n / 3`.
 const EDITS: usize = 4;
 
-/// The nearest name found so far.
+/// A name that is near to a word.
 #[derive(Clone, Copy)]
-struct Nearest<'a> {
-    name: Option<&'a [u8]>,
-    edits: usize,
+pub enum NearName<'a> {
+    /// That of a call or a command.
+    Form(&'static [u8]),
+    /// That of the label which the line means.
+    Label(OwnLine<'a>),
 }
 
 /// The name among those there are that is nearest to a word, where one is near.
@@ -21,7 +23,7 @@ pub fn near_name<'a>(
     alloc: Global,
     names: Names<'a>,
     word: &[u8],
-) -> Result<Option<&'a [u8]>, NoMemory> {
+) -> Result<Option<NearName<'a>>, NoMemory> {
     match names {
         Names::Calls => nearest_form(alloc, CALLS.as_slice(), word),
         // A program has no `deliver`, which stands last.
@@ -36,59 +38,70 @@ fn nearest_form(
     alloc: Global,
     forms: &'static [(&'static str, &'static str)],
     word: &[u8],
-) -> Result<Option<&'static [u8]>, NoMemory> {
-    let mut nearest = Nearest {
-        name: None,
-        edits: EDITS + 1,
-    };
+) -> Result<Option<NearName<'static>>, NoMemory> {
+    let mut nearest = None;
+    let mut edits = EDITS + 1;
     for (name, _words) in forms {
-        nearest = nearest.or_nearer(alloc, name.as_bytes(), word)?;
+        if let Some(fewer) = fewer_edits(alloc, edits, name.as_bytes(), word)? {
+            nearest = Some(NearName::Form(name.as_bytes()));
+            edits = fewer;
+        }
     }
-    Ok(nearest.name)
+    Ok(nearest)
 }
 
 /// The nearest of the names of the labels in a text.
 fn nearest_label<'a>(
     alloc: Global,
-    text: &'a [u8],
+    text: MeantLines<'a>,
     word: &[u8],
-) -> Result<Option<&'a [u8]>, NoMemory> {
-    let mut nearest = Nearest {
-        name: None,
-        edits: EDITS + 1,
-    };
+) -> Result<Option<NearName<'a>>, NoMemory> {
+    let mut nearest = None;
+    let mut edits = EDITS + 1;
     let mut left = text;
-    while !left.is_empty() {
-        let (line, rest) = cut_line(left);
-        if let Some(name) = line.strip_prefix(b"label ") {
-            nearest = nearest.or_nearer(alloc, name, word)?;
+    while let Some((line, rest)) = left.split() {
+        if let Some(fewer) = fewer_to_label(alloc, edits, line, word)? {
+            nearest = Some(NearName::Label(line));
+            edits = fewer;
         }
         left = rest;
     }
-    Ok(nearest.name)
+    Ok(nearest)
 }
 
-impl<'a> Nearest<'a> {
-    /// The same, or that name where it is nearer to the word.
-    fn or_nearer(
-        self,
-        alloc: Global,
-        name: &'a [u8],
-        word: &[u8],
-    ) -> Result<Nearest<'a>, NoMemory> {
-        if name.len().abs_diff(word.len()) >= self.edits {
-            return Ok(self);
-        }
-        let (Ok(name_text), Ok(word_text)) = (str::from_utf8(name), str::from_utf8(word)) else {
-            return Ok(self);
-        };
-        let edits = osa_distance(alloc, name_text, word_text)?;
-        if edits >= self.edits || edits > name.len() / 3 {
-            return Ok(self);
-        }
-        Ok(Nearest {
-            name: Some(name),
-            edits,
-        })
+/// How many edits lead to the name of the label that a line means, where they are fewer than those,
+/// and few for the name.
+fn fewer_to_label(
+    alloc: Global,
+    edits: usize,
+    line: OwnLine<'_>,
+    word: &[u8],
+) -> Result<Option<usize>, NoMemory> {
+    let Some(label) = line.label() else {
+        return Ok(None);
+    };
+    match label.as_bytes().strip_prefix(b"label ") {
+        Some(name) => fewer_edits(alloc, edits, name, word),
+        None => Ok(None),
     }
+}
+
+/// How many edits lead to a name, where they are fewer than those, and few for the name.
+fn fewer_edits(
+    alloc: Global,
+    edits: usize,
+    name: &[u8],
+    word: &[u8],
+) -> Result<Option<usize>, NoMemory> {
+    if name.len().abs_diff(word.len()) >= edits {
+        return Ok(None);
+    }
+    let (Ok(name_text), Ok(word_text)) = (str::from_utf8(name), str::from_utf8(word)) else {
+        return Ok(None);
+    };
+    let fewer = osa_distance(alloc, name_text, word_text)?;
+    if fewer >= edits || fewer > name.len() / 3 {
+        return Ok(None);
+    }
+    Ok(Some(fewer))
 }

@@ -9,7 +9,7 @@ use crate::third::strings::string_trouble;
 use crate::third::third_what;
 use crate::trouble::Trouble;
 use crate::words::{Word, count_words};
-use tx_plain::{Meant, split_word};
+use tx_plain::split_word;
 
 /// A text from one of its lines on.
 #[derive(Clone, Copy)]
@@ -35,7 +35,8 @@ impl<'a> TextFrom<'a> {
     pub fn moved_to(self, number: u64) -> TextFrom<'a>
         requires { self.number ≤ number }
         ensures number { result.number ≡ number }
-        ensures left { result.left.now ≡ after_lines (number - self.entry.number) self.entry.left.now }
+        ensures left { result.left.now
+            ≡ after_lines (number - self.entry.number) self.entry.left.now }
     {
         let mut left = self.left;
         for _passed in 0..number - self.number {
@@ -53,9 +54,10 @@ impl<'a> TextFrom<'a> {
     }
 }
 
-/// What is wrong with a line that is meant, told of the own line that means it.
+/// What is wrong with a line that is meant, told of the own line that means it, in the words of version 3
+/// where that is the text's.
 pub fn own_trouble<'a>(
-    meant: &Meant<'_>,
+    is_third: bool,
     part: Part,
     line: &'a [u8],
     own: &'a [u8],
@@ -65,18 +67,18 @@ pub fn own_trouble<'a>(
     ensures { IsColumn own.now result.column }
 {
     let column = own_column(line, own, trouble.column);
-    if let Meant::Another(plain) = meant {
-        if let Some(trouble) = string_trouble(line, own, column, &trouble.what) {
-            return trouble;
-        }
+    if !is_third {
         return Trouble {
             column,
-            what: third_what(plain, part, line, trouble),
+            what: trouble.what,
         };
+    }
+    if let Some(trouble) = string_trouble(line, own, column, &trouble.what) {
+        return trouble;
     }
     Trouble {
         column,
-        what: trouble.what,
+        what: third_what(part, line, trouble),
     }
 }
 

@@ -1,5 +1,5 @@
 //! What is to stand in a line, by the kind of its text and the lines before it.
-ghost use Rattle.std.specs.Prelude.{◌≡◌, ◌+◌, ◌<◌, ◌↔◌, ℕ, List, IfNone, IfSome, IsTrue, is_some, length};
+ghost use Rattle.std.specs.Prelude.{◌≡◌, ◌+◌, ◌↔◌, ℕ, List, IfNone, IfSome, IsTrue, is_some};
 ghost use Rattle.tx_check.specs.Kinds.{head_of};
 ghost use Rattle.tx_check.specs.Numbered as spec;
 ghost use Rattle.tx_check.specs.Right.{IsTooMany};
@@ -8,10 +8,13 @@ ghost use Rattle.tx_check.specs.declared.places.Part.TheVariants as parts;
 ghost use Rattle.tx_lines.specs.Programs.{BeginsLabel};
 ghost use Rattle.tx_lines.specs.Schedule.{after_line, first_line};
 ghost use Rattle.tx_lines.specs.Walks.{debug_line};
+ghost use Rattle.tx_plain.specs.MeantLines.{left_of};
 
+use crate::heads::header_of;
 use crate::kinds::Kind;
 use crate::trouble::LineTrouble;
-use tx_lines::{INSTRUCTIONS, LABELS, LINES, TextKind, Version, first_header, take_line};
+use tx_lines::{INSTRUCTIONS, LABELS, LINES, TextKind, Version, take_line};
+use tx_plain::MeantLines;
 
 /// A line of a text.
 #[derive(Clone, Copy)]
@@ -68,8 +71,8 @@ impl TextLine<'_> {
 
 impl Place {
     /// The place of the first line of a text.
-    pub fn first(kind: Kind, text: &[u8]) -> Place
-        ensures version { IsVersionOf (head_of kind) text.now result.version }
+    pub fn first(kind: Kind, text: MeantLines<'_>) -> Place
+        ensures version { IsVersionOf (head_of kind) (left_of text.entry) result.version }
         ensures stands { IsPlaceOf (AtHeader (head_of kind)) result }
     {
         let kind = kind_of_head(kind);
@@ -205,10 +208,10 @@ pub fn kind_of_head(kind: Kind) -> TextKind
 }
 
 /// The version of a text: the second where the first line does not say it.
-fn version_of(kind: TextKind, text: &[u8]) -> Version
-    ensures { IsVersionOf kind text.now result }
+fn version_of(kind: TextKind, text: MeantLines<'_>) -> Version
+    ensures { IsVersionOf kind (left_of text.entry) result }
 {
-    match first_header(kind, text) {
+    match header_of(kind, text) {
         Ok((header, _rest)) => header.version,
         Err(_fault) => Version::Two,
     }
@@ -229,24 +232,13 @@ pub fn is_label(line: &[u8]) -> bool
     line.len() >= 6 && &line[..6] == b"label ".as_slice()
 }
 
-/// The first line of a text, and what follows it.
-pub fn cut_line(text: &[u8]) -> (&[u8], &[u8])
-    ensures line { result.0.now ≡ first_line text.now }
-    ensures behind { result.1.now ≡ spec.behind text.now }
-    ensures shorter { 0 < length text.now → length result.1.now < length text.now }
-{
-    let (line, rest) = take_line(text);
-    match rest {
-        Some(rest) => (line, rest),
-        None => (line, b""),
-    }
-}
-
 /// What follows the first line of a text.
 pub fn behind(text: &[u8]) -> &[u8]
-    ensures bytes { result.now ≡ spec.behind text.now }
-    ensures shorter { 0 < length text.now → length result.now < length text.now }
+    ensures { result.now ≡ spec.behind text.now }
 {
-    let (_line, rest) = cut_line(text);
-    rest
+    let (_line, rest) = take_line(text);
+    match rest {
+        Some(rest) => rest,
+        None => b"",
+    }
 }

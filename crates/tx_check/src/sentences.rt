@@ -2,11 +2,12 @@
 ghost use Rattle.std.specs.Prelude.{◌<◌, ◌≢◌, OnOk, IfOk, string_bytes};
 ghost use Rattle.tx_check.specs.Told.{IsInLine};
 
-use crate::near::near_name;
+use crate::near::{NearName, near_name};
 use crate::trouble::{Names, What};
 use std::alloc::{AllocError, Global};
 use tx_base::NoMemory;
 use tx_lines::{put, put_byte, put_count};
+use tx_plain::OwnLine;
 
 /// How many bytes of a word are told.
 const WORD_BYTES: usize = 48;
@@ -74,10 +75,23 @@ fn say_no_such(
     let near = near_name(alloc, names, word)?;
     say(text, no_such(names))?;
     say_word(text, word)?;
-    if let Some(name) = near {
-        say_near(text, name)?;
+    match near {
+        Some(NearName::Form(name)) => say_near(text, name)?,
+        Some(NearName::Label(line)) => say_near_label(text, line)?,
+        None => {}
     }
     Ok(())
+}
+
+/// Says that the label is near which a line means.
+fn say_near_label(text: &mut String, line: OwnLine<'_>) -> Result<(), AllocError>
+    requires { IsInLine (string_bytes text.old) }
+    ensures { OnOk result (IsInLine (string_bytes text.new)) }
+{
+    match line.meaning().as_bytes().strip_prefix(b"label ") {
+        Some(name) => say_near(text, name),
+        None => Ok(()),
+    }
 }
 
 /// What is said before a name that is none of those.

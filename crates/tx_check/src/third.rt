@@ -8,20 +8,16 @@ use crate::places::Part;
 use crate::third::sets::set_what;
 use crate::trouble::{LineTrouble, Trouble, What, WordTrouble};
 use crate::words::{count_words, word_at};
-use tx_plain::{Plain, Role, role_of};
+use tx_plain::{Role, role_of};
 
 /// How many digits a word may have.
 const DIGITS: usize = 128;
 
 /// What is wrong at a column of a line, as it is told of the line of version 3 that means it.
-pub fn third_what<'a>(plain: &Plain, part: Part, line: &'a [u8], trouble: Trouble<'a>) -> What<'a>
+pub fn third_what<'a>(part: Part, line: &'a [u8], trouble: Trouble<'a>) -> What<'a>
     requires { IsColumn line.now trouble.column }
 {
     match trouble.what {
-        What::SecondLabel { name, line } => What::SecondLabel {
-            name,
-            line: plain.own_line(line),
-        },
         What::Line(LineTrouble::NoHeader) => What::Line(LineTrouble::NoThirdHeader),
         What::Word(_word, _wrong) => word_what(part, line, trouble),
         What::NoSignal(_word) => word_what(part, line, trouble),

@@ -3,6 +3,7 @@ ghost use Rattle.std.specs.Prelude.{◌≡◌};
 ghost use Rattle.tx_check.specs.Told.{IsInLine};
 
 use crate::words::Word;
+use tx_plain::MeantLines;
 
 /// What is wrong with a line. Columns count bytes from 1; the column after the last byte stands for
 /// the end of the line.
@@ -62,7 +63,7 @@ pub enum Names<'a> {
     /// Of commands.
     Commands,
     /// Of the labels in the text of a program.
-    Labels(&'a [u8]),
+    Labels(MeantLines<'a>),
 }
 
 /// What is wrong with a line as a whole.

@@ -5,6 +5,7 @@ use std::test::Fail;
 use tx_base::{Action, Call, DescNo, How, NoMemory, Pid, PipeNo, SigSet, Step, When};
 use tx_check::{CALLS, Kind, check_text, kind_of};
 use tx_lines::put_step;
+use tx_plain::MeantLines;
 
 /// What is told of a schedule of version 1 with one line after the first.
 fn told_of_step(alloc: Global, line: &str) -> Result<String, NoMemory> {
@@ -524,7 +525,7 @@ fn texts_are_of_their_kinds(rt: HostRuntime) {
         "txos program 2\n",
     ] {
         assert!(rt;
-            matches!(kind_of(text.as_bytes()), Kind::Schedule),
+            matches!(kind_of(MeantLines::of(text.as_bytes())), Kind::Schedule),
             "of '{text}'"
         );
     }
@@ -534,7 +535,7 @@ fn texts_are_of_their_kinds(rt: HostRuntime) {
         "x\ndebug\nback\n",
     ] {
         assert!(rt;
-            matches!(kind_of(text.as_bytes()), Kind::Walk),
+            matches!(kind_of(MeantLines::of(text.as_bytes())), Kind::Walk),
             "of '{text}'"
         );
     }
@@ -544,7 +545,7 @@ fn texts_are_of_their_kinds(rt: HostRuntime) {
         "txos x program y z",
     ] {
         assert!(rt;
-            matches!(kind_of(text.as_bytes()), Kind::Program),
+            matches!(kind_of(MeantLines::of(text.as_bytes())), Kind::Program),
             "of '{text}'"
         );
     }

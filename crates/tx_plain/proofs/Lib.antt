@@ -4,6 +4,10 @@ pub mod WordParts
 pub mod SetParts
 pub mod StringParts
 pub mod Bytes
+pub mod NextMeant
+pub mod NoEnds
+pub mod Rooms
+pub mod SetTexts
 pub mod BareLines
 pub mod Unnamed
 pub mod StayingSets

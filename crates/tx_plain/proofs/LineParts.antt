@@ -1,7 +1,8 @@
 -- The lines of a text, one after another.
-use Rattle.std.proofs.Common.{◌≡◌, ◌≢◌, ℕ, ◌<◌, List, [], ◌∷◌, ◌++◌, Some, None, length, map, refl, ap, sym, ◌∙◌, inl, inr, arith}
+use Rattle.std.proofs.Common.{◌≡◌, ◌≢◌, ℕ, ◌<◌, List, [], ◌∷◌, ◌++◌, Option, Some, None, length, map, refl, ap, sym, ◌∙◌, inl, inr, arith}
 use Rattle.std.proofs.lemmas.Bool.Decides.{eqb_tells}
 use Rattle.tx_lines.specs.Schedule.{after_line, first_line}
+use Rattle.tx_plain.specs.MeantLines.{behind, behind_by}
 use Rattle.tx_plain.specs.OwnLines.{ended_lines, own_lines, with_byte, without_return}
 
 -- a line that has an end, and the lines after it
@@ -65,3 +66,10 @@ shorter_rest (byte ∷ bytes) rest e =
           let later = shorter_rest bytes rest on in
           omega arith
     ]
+
+shorter_by : (text : List ℕ) (found : Option (List ℕ)) → after_line text ≡ found → 0 < length text → length (behind_by found) < length text
+shorter_by text None after some = some
+shorter_by text (Some rest) after some = shorter_rest text rest after
+
+pub behind_shorter : (text : List ℕ) → 0 < length text → length (behind text) < length text
+behind_shorter text some = shorter_by text (after_line text) refl some

@@ -1,6 +1,6 @@
 -- The words of a line, one after another.
 use Rattle.std.proofs.Common.{◌≡◌, ℕ, ◌+◌, ◌-◌, ◌≤◌, ◌<◌, true, false, nat_eq, List, [], ◌∷◌, ◌++◌, length, drop, take, append_assoc, refl, ap, sym, ◌∙◌, inl, inr, arith, length-append, length-take, add-zero}
-use Rattle.std.proofs.lemmas.Bool.{both_ways}
+use Rattle.std.proofs.lemmas.Bool.{both_ways, cases_lt}
 use Rattle.std.proofs.lemmas.Bool.Decides.{eqb_tells}
 use Rattle.std.proofs.Math.Seq.{drop-append_seam, take-append_seam}
 use Rattle.tx_plain.specs.Words.{after_blank, columns_from, is_blank, is_inside, next_from, reading_after, rest_from, word_from, words_from, words_in}
@@ -159,7 +159,7 @@ word_taken reading bytes =
     let size : length bytes - length rest ≡ length word = omega (arith, ap length whole, length-append word rest) in
     rw size (ap (take (length word)) whole ∙ take-append_seam word rest)
 
-none_left : (bytes : List ℕ) → length bytes ≡ 0 → bytes ≡ []
+pub none_left : (bytes : List ℕ) → length bytes ≡ 0 → bytes ≡ []
 none_left [] none = refl
 none_left (byte ∷ bytes) none = absurd (omega (arith, none))
 
@@ -264,3 +264,18 @@ rest_at line before left gap word rest whole parts =
     whole
     ∙ ap (λ (t : List ℕ). before ++ t) (parts ∙ sym (append_assoc gap word rest))
     ∙ sym (append_assoc before (gap ++ word) rest)
+
+-- the first word of a line stands where what is left begins
+pub first_found : (line word : List ℕ) (others : List (List ℕ)) → words_in line ≡ word ∷ others → (rest : List ℕ) × (next_from line ≡ word ++ rest)
+first_found line word others are =
+    elim (cases_lt 0 (length (next_from line))) [
+      | inl some ↦
+          let first = found line (next_from line) (rest_from Between (next_from line)) refl refl some in
+          let same : first.word ∷ words_in (rest_from Between (next_from line)) ≡ word ∷ others = sym first.words ∙ sym (next_words line) ∙ are in
+          let word_same : first.word ≡ word = cc in
+          (rest_from Between (next_from line), first.whole ∙ ap (λ (w : List ℕ). w ++ rest_from Between (next_from line)) word_same)
+      | inr none ↦
+          let nothing = none_words line (next_from line) refl (omega (arith, none)) in
+          let bad : [] ≡ word ∷ others = sym nothing ∙ are in
+          absurd (cc)
+    ]

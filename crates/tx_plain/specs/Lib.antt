@@ -5,9 +5,12 @@ pub mod Sets
 pub mod Strings
 pub mod ByteWords
 pub mod Roles
+pub mod Rooms
 pub mod Lines
+pub mod LineMeanings
 pub mod Meant
 pub mod MeantFacts
+pub mod MeantLines
 pub mod MeantPrograms
 pub mod Plain
 pub mod Laws

@@ -34,10 +34,14 @@ plain_others Heading first others = plain_version others
 plain_others (Within Program) first others = plain_arguments first 0 others
 plain_others (Within Schedule) first others = plain_call others
 
+-- the line of a word and the words behind it
+abbrev pub line_of_words : Stage → List ℕ → List (List ℕ) → List ℕ
+line_of_words stage first others = first ++ spaced (plain_others stage first others)
+
 -- the line of some words; nothing for none
 abbrev pub plain_of_words : Stage → List (List ℕ) → Option (List ℕ)
 plain_of_words stage [] = None
-plain_of_words stage (first ∷ others) = Some (first ++ spaced (plain_others stage first others))
+plain_of_words stage (first ∷ others) = Some (line_of_words stage first others)
 
 -- a line of version 2, or the line that means it where that became too long
 abbrev pub short_or : List ℕ → Option (List ℕ) → Option (List ℕ)

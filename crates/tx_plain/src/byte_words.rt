@@ -1,36 +1,67 @@
 //! Puts words for bytes as version 2 spells them.
-ghost use Rattle.std.specs.Prelude.{◌≡◌, ◌++◌, map, OnOk};
+ghost use Rattle.std.specs.Prelude.{◌≡◌, ◌++◌, ◌<◌, map, slice_index, OnErr, OnOk};
 ghost use Rattle.std.specs.List.{list_all};
+ghost use Rattle.hex.specs.Hex.{encode_lower, lower_digits};
 ghost use Rattle.tx_plain.specs.ByteWords.{digits_of, is_hex, is_hex_digit, lower_digit, lower_or, plain_bytes};
+ghost use Rattle.tx_plain.specs.Rooms.{IsOver};
 
+use crate::room::{Full, Room, put};
 use crate::spellings::is;
 use crate::strings::meant;
-use std::alloc::{AllocError, Global};
 
 /// Appends a word with lower-case hex digits for its bytes, or as it is where it spells none. After
-/// an error the text may have some of them.
-pub fn put_bytes(alloc: Global, text: &mut Vec<u8>, word: &[u8]) -> Result<(), AllocError>
-    ensures { OnOk result (text.new.items ≡ text.old.items ++ plain_bytes word.now) }
+/// an error the room may have some of them.
+pub fn put_bytes(room: &mut Room, word: &[u8]) -> Result<(), Full>
+    ensures put { OnOk result (room.new.items ≡ room.old.items ++ plain_bytes word.now) }
+    ensures full { OnErr result (IsOver (room.old.items ++ plain_bytes word.now)) }
 {
     match word.split_first() {
         Some((b'"', string)) => match meant(string) {
-            Some(bytes) => text.extend_from_slice(hex::encode(alloc, bytes.as_slice())?.as_bytes()),
-            None => text.extend_from_slice(word),
+            Some(bytes) => put_hex(room, bytes.as_slice()),
+            None => put(room, word),
         },
-        _ => put_digits(text, word),
+        _ => put_digits(room, word),
+    }
+}
+
+/// Appends bytes in lower-case hex digits.
+#[tactic(auto, unfolding(hex::specs::Hex::encode_with))]
+fn put_hex(room: &mut Room, bytes: &[u8]) -> Result<(), Full>
+    ensures put { OnOk result (room.new.items ≡ room.old.items ++ encode_lower bytes.now) }
+    ensures full { OnErr result (IsOver (room.old.items ++ encode_lower bytes.now)) }
+{
+    let mut left = bytes;
+    while let Some((byte, rest)) = left.split_first() {
+        put(room, &[hex_digit(*byte / 16), hex_digit(*byte % 16)])?;
+        left = rest;
+    }
+    Ok(())
+}
+
+/// The lower-case hex digit of a number.
+fn hex_digit(number: u8) -> u8
+    requires { number < 16 }
+    ensures { result ≡ slice_index lower_digits number }
+{
+    if number < 10 {
+        b'0' + number
+    } else {
+        b'a' + (number - 10)
     }
 }
 
 /// Appends the digits of a word in lower case, or the word as it is where it is no digits.
-fn put_digits(text: &mut Vec<u8>, word: &[u8]) -> Result<(), AllocError>
-    ensures { OnOk result
-        (text.new.items ≡ text.old.items ++ lower_or word.now (digits_of word.now)) }
+fn put_digits(room: &mut Room, word: &[u8]) -> Result<(), Full>
+    ensures put { OnOk result
+        (room.new.items ≡ room.old.items ++ lower_or word.now (digits_of word.now)) }
+    ensures full { OnErr result
+        (IsOver (room.old.items ++ lower_or word.now (digits_of word.now))) }
 {
     let digits = digits_of(word);
     if is_hex(digits) {
-        put_lower(text, digits)
+        put_lower(room, digits)
     } else {
-        text.extend_from_slice(word)
+        put(room, word)
     }
 }
 
@@ -87,12 +118,13 @@ fn lower_digit(byte: u8) -> u8
 }
 
 /// Appends digits in lower case.
-fn put_lower(text: &mut Vec<u8>, digits: &[u8]) -> Result<(), AllocError>
-    ensures { OnOk result (text.new.items ≡ text.old.items ++ map lower_digit digits.now) }
+fn put_lower(room: &mut Room, digits: &[u8]) -> Result<(), Full>
+    ensures put { OnOk result (room.new.items ≡ room.old.items ++ map lower_digit digits.now) }
+    ensures full { OnErr result (IsOver (room.old.items ++ map lower_digit digits.now)) }
 {
     let mut left = digits;
     while let Some((digit, rest)) = left.split_first() {
-        text.push(lower_digit(*digit))?;
+        put(room, &[lower_digit(*digit)])?;
         left = rest;
     }
     Ok(())

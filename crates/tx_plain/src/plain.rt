@@ -1,13 +1,14 @@
 //! Translates a text of version 3 to the text of version 2 that it means.
-ghost use Rattle.std.specs.Prelude.{◌≡◌, MatchOption, IfOk, false, true};
-ghost use Rattle.tx_plain.specs.Plain.{is_third, own_line_of, IsPlainOf};
+ghost use Rattle.std.specs.Prelude.{◌≡◌, ◌+◌, ◌-◌, ◌^◌, ◌<◌, ◌++◌, [], MatchOption, IfOk, OnOk, false, true};
+ghost use Rattle.tx_plain.specs.Lines.{plain_line};
+ghost use Rattle.tx_plain.specs.Plain.{ended, is_third, numbered, own_line_of, IsPlainOf};
 
 use crate::lines::split_line;
-use crate::plain_lines::{put_line, stage_after};
+use crate::plain_lines::{line_meaning, stage_after};
 use crate::spellings::{begins_with, is};
 use crate::stage::Stage;
 use crate::words::split_word;
-use std::alloc::Global;
+use std::alloc::{AllocError, Global};
 use tx_base::NoMemory;
 
 /// The text of version 2 that a text of version 3 means, and which of its lines are whose.
@@ -41,6 +42,25 @@ impl Plain {
             Some(number) => *number,
             None => self.after,
         }
+    }
+
+    /// Appends what the person's next line means where a text stands so. After an error the text may
+    /// have a part of it.
+    fn put_line(&mut self, stage: Stage, line: &[u8]) -> Result<(), AllocError>
+        requires { self.old.after < 2 ^ 64 - 1 }
+        ensures text { OnOk result
+            (self.new.text.items ≡ self.old.text.items ++ ended (plain_line stage line.now)) }
+        ensures numbers { OnOk result (self.new.numbers.items
+            ≡ self.old.numbers.items ++ numbered self.old.after (plain_line stage line.now) []) }
+        ensures after { OnOk result (self.new.after ≡ self.old.after + 1) }
+    {
+        if let Some(meaning) = line_meaning(stage, line) {
+            self.text.extend_from_slice(meaning.as_bytes())?;
+            self.text.push(b'\n')?;
+            self.numbers.push(self.after)?;
+        }
+        self.after += 1;
+        Ok(())
     }
 }
 
@@ -86,10 +106,7 @@ fn translated(alloc: Global, text: &[u8]) -> Result<Plain, NoMemory>
     let mut stage = Stage::Heading;
     let mut left = text;
     while let Some((line, rest)) = split_line(left) {
-        if put_line(alloc, &mut plain.text, stage, line)? {
-            plain.numbers.push(plain.after)?;
-        }
-        plain.after += 1;
+        plain.put_line(stage, line)?;
         stage = stage_after(stage, line);
         left = rest;
     }

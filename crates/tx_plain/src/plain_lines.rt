@@ -1,64 +1,56 @@
 //! Puts a line as version 2 spells it.
-ghost use Rattle.std.specs.Prelude.{◌≡◌, ◌∷◌, ◌++◌, [], IfOk, OnOk, is_some};
-ghost use Rattle.tx_plain.specs.Lines.{kind_of, plain_arguments, plain_call, plain_line, plain_others, plain_version, spaced, stage_after};
-ghost use Rattle.tx_plain.specs.Plain.{bare, ended};
+ghost use Rattle.std.specs.Prelude.{◌≡◌, ◌∷◌, ◌++◌, [], OnErr, OnOk, option_map};
+ghost use Rattle.tx_plain.specs.LineMeanings.{spelled};
+ghost use Rattle.tx_plain.specs.Lines.{kind_of, line_of_words, plain_arguments, plain_call, plain_line, plain_others, plain_version, spaced, stage_after};
+ghost use Rattle.tx_plain.specs.Roles.{plain_word};
+ghost use Rattle.tx_plain.specs.Rooms.{IsOver};
 ghost use Rattle.tx_plain.specs.Words.{words_in};
 
 use crate::arguments::put_argument;
-use crate::roles::role_of;
+use crate::roles::{Role, role_of};
+use crate::room::{Full, Room, put};
 use crate::spellings::is;
 use crate::stage::Stage;
 use crate::words::split_word;
-use std::alloc::{AllocError, Global};
 use tx_lines::{LINE_BYTES, TextKind};
 
-/// Appends the line of version 2 that a line means, with its end, and says whether it means one.
-/// After an error the text may have a part of it.
-pub fn put_line(
-    alloc: Global,
-    text: &mut Vec<u8>,
-    stage: Stage,
-    line: &[u8],
-) -> Result<bool, AllocError>
-    ensures text { OnOk result
-        (text.new.items ≡ text.old.items ++ ended (plain_line stage line.now)) }
-    ensures some { IfOk result (λ some. some ≡ is_some (plain_line stage line.now)) }
-{
-    if !put_bare(alloc, text, stage, line)? {
-        return Ok(false);
-    }
-    text.push(b'\n')?;
-    Ok(true)
+/// The line of the first two versions that a line means.
+#[derive(Drop)]
+pub enum LineMeaning<'a> {
+    /// The line means itself.
+    Itself(&'a [u8]),
+    /// It is spelled otherwise.
+    Another(Room),
 }
 
-/// Appends the line of version 2 that a line means, without its end, and says whether it means one.
-/// After an error the text may have a part of it.
-pub fn put_bare(
-    alloc: Global,
-    text: &mut Vec<u8>,
-    stage: Stage,
-    line: &[u8],
-) -> Result<bool, AllocError>
-    ensures text { OnOk result
-        (text.new.items ≡ text.old.items ++ bare (plain_line stage line.now)) }
-    ensures some { IfOk result (λ some. some ≡ is_some (plain_line stage line.now)) }
+impl LineMeaning<'_> {
+    /// The bytes of that line, without its end.
+    pub fn as_bytes(&self) -> &[u8]
+        ensures { result.now ≡ spelled self.now }
+    {
+        match self {
+            LineMeaning::Itself(line) => line,
+            LineMeaning::Another(room) => room.as_slice(),
+        }
+    }
+}
+
+/// The line of version 2 that a line means where a text stands so; nothing where it has no word. What
+/// is wrong stays as it is, a line that is too long, or that would become so, as a whole.
+pub fn line_meaning(stage: Stage, line: &[u8]) -> Option<LineMeaning<'_>>
+    ensures { option_map (λ meaning. spelled meaning) result ≡ plain_line stage line.now }
 {
     if line.len() > LINE_BYTES {
-        text.extend_from_slice(line)?;
-        return Ok(true);
+        return Some(LineMeaning::Itself(line));
     }
-    let Some((first, others)) = split_word(line) else {
-        return Ok(false);
-    };
-    let start = text.len();
-    text.extend_from_slice(first)?;
-    put_others(alloc, text, stage, first, others)?;
-    if text.len() - start > LINE_BYTES {
-        // A string became longer, in a line that is none of version 2.
-        text.truncate(start);
-        text.extend_from_slice(line)?;
+    let (first, others) = split_word(line)?;
+    let mut room = Room::new();
+    if let Err(_full) = put_line(&mut room, stage, first, others) {
+        return Some(LineMeaning::Itself(line));
     }
-    Ok(true)
+    let fits = room.len() <= LINE_BYTES;
+    prove!(fits);
+    Some(LineMeaning::Another(room))
 }
 
 /// Where a text stands after a line.
@@ -91,85 +83,103 @@ fn kind_of(others: &[u8]) -> TextKind
     }
 }
 
+/// Appends the line of version 2 that a line means, by its first word and what follows that.
+fn put_line(room: &mut Room, stage: Stage, first: &[u8], others: &[u8]) -> Result<(), Full>
+    ensures put { OnOk result (room.new.items
+        ≡ room.old.items ++ line_of_words stage first.now (words_in others.now)) }
+    ensures full { OnErr result (IsOver
+        (room.old.items ++ line_of_words stage first.now (words_in others.now))) }
+{
+    put(room, first)?;
+    put_others(room, stage, first, others)
+}
+
 /// Appends what follows the first word of a line, with a space before each word.
-fn put_others(
-    alloc: Global,
-    text: &mut Vec<u8>,
-    stage: Stage,
-    first: &[u8],
-    others: &[u8],
-) -> Result<(), AllocError>
-    ensures { OnOk result (text.new.items
-        ≡ text.old.items ++ spaced (plain_others stage first.now (words_in others.now))) }
+fn put_others(room: &mut Room, stage: Stage, first: &[u8], others: &[u8]) -> Result<(), Full>
+    ensures put { OnOk result (room.new.items
+        ≡ room.old.items ++ spaced (plain_others stage first.now (words_in others.now))) }
+    ensures full { OnErr result (IsOver
+        (room.old.items ++ spaced (plain_others stage first.now (words_in others.now)))) }
 {
     match stage {
-        Stage::Heading => put_version(text, others),
-        Stage::Within(TextKind::Program) => put_arguments(alloc, text, first, others),
-        Stage::Within(TextKind::Schedule) => put_call(alloc, text, others),
+        Stage::Heading => put_version(room, others),
+        Stage::Within(TextKind::Program) => put_arguments(room, first, others),
+        Stage::Within(TextKind::Schedule) => put_call(room, others),
     }
 }
 
 /// Appends what follows the first word of a header.
-fn put_version(text: &mut Vec<u8>, others: &[u8]) -> Result<(), AllocError>
-    ensures { OnOk result
-        (text.new.items ≡ text.old.items ++ spaced (plain_version (words_in others.now))) }
+fn put_version(room: &mut Room, others: &[u8]) -> Result<(), Full>
+    ensures put { OnOk result
+        (room.new.items ≡ room.old.items ++ spaced (plain_version (words_in others.now))) }
+    ensures full { OnErr result
+        (IsOver (room.old.items ++ spaced (plain_version (words_in others.now)))) }
 {
     let Some((_, rest)) = split_word(others) else {
         return Ok(());
     };
-    text.extend_from_slice(b" 2")?;
-    put_words(text, rest)
+    put(room, b" 2")?;
+    put_words(room, rest)
 }
 
 /// Appends words as they are.
-fn put_words(text: &mut Vec<u8>, words: &[u8]) -> Result<(), AllocError>
-    ensures { OnOk result (text.new.items ≡ text.old.items ++ spaced (words_in words.now)) }
+fn put_words(room: &mut Room, words: &[u8]) -> Result<(), Full>
+    ensures put { OnOk result (room.new.items ≡ room.old.items ++ spaced (words_in words.now)) }
+    ensures full { OnErr result (IsOver (room.old.items ++ spaced (words_in words.now))) }
 {
     let mut left = words;
     while let Some((word, rest)) = split_word(left) {
-        put_word(text, word)?;
+        put_word(room, word)?;
         left = rest;
     }
     Ok(())
 }
 
 /// Appends a word as it is.
-fn put_word(text: &mut Vec<u8>, word: &[u8]) -> Result<(), AllocError>
-    ensures { OnOk result (text.new.items ≡ text.old.items ++ 32 ∷ word.now) }
+fn put_word(room: &mut Room, word: &[u8]) -> Result<(), Full>
+    ensures put { OnOk result (room.new.items ≡ room.old.items ++ 32 ∷ word.now) }
+    ensures full { OnErr result (IsOver (room.old.items ++ 32 ∷ word.now)) }
 {
-    text.push(b' ')?;
-    text.extend_from_slice(word)
+    put(room, b" ")?;
+    put(room, word)
 }
 
 /// Appends a call: its name, and its arguments.
-fn put_call(alloc: Global, text: &mut Vec<u8>, call: &[u8]) -> Result<(), AllocError>
-    ensures { OnOk result
-        (text.new.items ≡ text.old.items ++ spaced (plain_call (words_in call.now))) }
+fn put_call(room: &mut Room, call: &[u8]) -> Result<(), Full>
+    ensures put { OnOk result
+        (room.new.items ≡ room.old.items ++ spaced (plain_call (words_in call.now))) }
+    ensures full { OnErr result
+        (IsOver (room.old.items ++ spaced (plain_call (words_in call.now)))) }
 {
     let Some((name, arguments)) = split_word(call) else {
         return Ok(());
     };
-    put_word(text, name)?;
-    put_arguments(alloc, text, name, arguments)
+    put_word(room, name)?;
+    put_arguments(room, name, arguments)
 }
 
 /// Appends the arguments of the call of that name.
-fn put_arguments(
-    alloc: Global,
-    text: &mut Vec<u8>,
-    name: &[u8],
-    arguments: &[u8],
-) -> Result<(), AllocError>
-    ensures { OnOk result (text.new.items
-        ≡ text.old.items ++ spaced (plain_arguments name.now 0 (words_in arguments.now))) }
+fn put_arguments(room: &mut Room, name: &[u8], arguments: &[u8]) -> Result<(), Full>
+    ensures put { OnOk result (room.new.items
+        ≡ room.old.items ++ spaced (plain_arguments name.now 0 (words_in arguments.now))) }
+    ensures full { OnErr result (IsOver
+        (room.old.items ++ spaced (plain_arguments name.now 0 (words_in arguments.now)))) }
 {
     let mut place = 0;
     let mut left = arguments;
     while let Some((word, rest)) = split_word(left) {
-        text.push(b' ')?;
-        put_argument(alloc, text, role_of(name, place), word)?;
+        put_told(room, role_of(name, place), word)?;
         place += 1;
         left = rest;
     }
     Ok(())
+}
+
+/// Appends an argument as version 2 spells it, by its role, with a space before it.
+fn put_told(room: &mut Room, role: Role, word: &[u8]) -> Result<(), Full>
+    ensures put { OnOk result (room.new.items ≡ room.old.items ++ 32 ∷ plain_word role word.now) }
+    ensures full { OnErr result (IsOver (room.old.items ++ 32 ∷ plain_word role word.now)) }
+{
+    put(room, b" ")?;
+    put_argument(room, role, word)
 }

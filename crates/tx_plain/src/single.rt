@@ -6,7 +6,7 @@ ghost use Rattle.tx_plain.specs.OwnLines.{without_return};
 ghost use Rattle.tx_plain.specs.declared.stage.Stage.TheVariants.{Within};
 
 use crate::lines::before_return;
-use crate::plain_lines::put_bare;
+use crate::plain_lines::line_meaning;
 use crate::stage::Stage;
 use std::alloc::Global;
 use tx_base::NoMemory;
@@ -21,11 +21,9 @@ pub fn plain_line(alloc: Global, line: &[u8]) -> Result<Option<Vec<u8>>, NoMemor
     ensures { IfOk result (λ plain. option_map (λ bytes. bytes.items) plain
         ≡ plain_line (Within Schedule) (without_return line.now)) }
 {
-    let mut plain = Vec::new(alloc);
     let stage = Stage::Within(TextKind::Schedule);
-    if put_bare(alloc, &mut plain, stage, before_return(line))? {
-        Ok(Some(plain))
-    } else {
-        Ok(None)
+    match line_meaning(stage, before_return(line)) {
+        Some(meaning) => Ok(Some(Vec::from_slice(alloc, meaning.as_bytes())?)),
+        None => Ok(None),
     }
 }

@@ -59,7 +59,7 @@ pub fn split_word(line: &[u8]) -> Option<(&[u8], &[u8])>
 }
 
 /// What is left of a line from its next word on. Nothing where there is none.
-fn from_word(line: &[u8]) -> &[u8]
+pub fn from_word(line: &[u8]) -> &[u8]
     ensures { result.now ≡ next_from line.now }
 {
     let mut left = line;

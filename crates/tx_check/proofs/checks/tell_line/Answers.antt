@@ -1,20 +1,17 @@
-use Rattle.std.proofs.Common.{◌∙◌, ℕ, List, arith, refl, string_bytes, subst}
+use Rattle.std.proofs.Common.{◌∙◌, arith, refl, string_bytes}
 use Rattle.tx_check.proofs.OwnLines.{goes_on}
 use Rattle.tx_check.proofs.Standing.{wrong_line}
-use Rattle.tx_check.specs.Stands.{IsPlaceOf, Stand}
-use Rattle.tx_check.specs.Wrong.{IsWrong}
-use Rattle.tx_plain.specs.Meant.{bytes_of}
+use Rattle.tx_plain.specs.MeantLines.{left_of}
 use Rattle.tx_check.proofs.checks.tell_line.Goals as goal
 
 pub returns : goal.returns
 returns c =
-    let meant = c.args.meant.now in
+    let meant = c.args.meant in
     let place = c.args.place.now in
     let at = c.args.line in
     let next = c.moved_to-next in
     let line = c.line-own_line in
     let later = c.if-number-own.false in
-    let wrong = wrong_line (bytes_of meant) place at c.requires.place c.requires.line
-    (subst (λ (text : List ℕ). (stand : Stand) → IsPlaceOf stand place → IsWrong place.version text at.number stand at.bytes.now at.is_ended) c.as_bytes.ensures c.in-Some.ensures.wrong) in
-    goes_on meant at.number c.args.own next.result line.result.number line.result.bytes.now (string_bytes c.args.told.now) (string_bytes c.tell.new.told) (omega (arith, later, next.ensures.number))
-    (next.ensures.left ∙ rw next.ensures.number refl) line.ensures.number line.ensures.bytes (next.ensures.number ∙ c.own_line-number.ensures) wrong c.in_ok-tell.ensures
+    let wrong = wrong_line (left_of meant) place at c.requires.place c.requires.line c.in-Some.ensures.wrong in
+    goes_on meant at.number c.args.number c.args.own next.result line.result.number line.result.bytes.now (string_bytes c.args.told.now) (string_bytes c.tell.new.told) (omega (arith, later, next.ensures.number))
+    (next.ensures.left ∙ rw next.ensures.number refl) line.ensures.number line.ensures.bytes next.ensures.number wrong c.in_ok-tell.ensures

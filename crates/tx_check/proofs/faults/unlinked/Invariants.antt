@@ -1,9 +1,10 @@
 use Rattle.std.proofs.Common.{length}
 use Rattle.tx_check.proofs.Linked.{LinkedSoFar}
+use Rattle.tx_plain.specs.MeantLines.{left_of}
 use Rattle.tx_check.proofs.faults.unlinked.Given as goal
 
-abbrev pub invariant-loop-left : goal.invariant-loop-left
-invariant-loop-left l = LinkedSoFar l.header.version l.rest l.number l.left
+abbrev pub invariant-loop-line : goal.invariant-loop-line
+invariant-loop-line l = LinkedSoFar l.header.version (left_of l.rest) l.number (left_of l.left)
 
-abbrev pub decreases-loop-left : goal.decreases-loop-left
-decreases-loop-left l = length l.left
+abbrev pub decreases-loop-line : goal.decreases-loop-line
+decreases-loop-line l = length l.left.left.now

@@ -1,9 +1,10 @@
 use Rattle.std.proofs.Common.{◌≡◌, length}
-use Rattle.tx_check.specs.Kinds.{has_debug}
+use Rattle.tx_check.specs.Kinds.{debug_ahead}
+use Rattle.tx_plain.specs.MeantLines.{left_of}
 use Rattle.tx_check.proofs.kinds.has_debug.Given as goal
 
-abbrev pub invariant-loop-byte : goal.invariant-loop-byte
-invariant-loop-byte l = has_debug l.text ≡ has_debug l.left
+abbrev pub invariant-loop-line : goal.invariant-loop-line
+invariant-loop-line l = debug_ahead (left_of l.lines) ≡ debug_ahead (left_of l.left)
 
-abbrev pub decreases-loop-byte : goal.decreases-loop-byte
-decreases-loop-byte l = length l.left
+abbrev pub decreases-loop-line : goal.decreases-loop-line
+decreases-loop-line l = length l.left.left.now

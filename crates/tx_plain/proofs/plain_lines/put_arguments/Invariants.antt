@@ -5,7 +5,7 @@ use Rattle.tx_plain.proofs.plain_lines.put_arguments.Given as goal
 
 abbrev pub invariant-loop-word : goal.invariant-loop-word
 invariant-loop-word l = record {
-  so_far : l.initial.text.items ++ spaced (plain_arguments l.name 0 (words_in l.arguments)) ≡ l.text.items ++ spaced (plain_arguments l.name l.place (words_in l.left));
+  so_far : l.initial.room.items ++ spaced (plain_arguments l.name 0 (words_in l.arguments)) ≡ l.room.items ++ spaced (plain_arguments l.name l.place (words_in l.left));
   few : l.place + length l.left ≤ length l.arguments;
 }
 

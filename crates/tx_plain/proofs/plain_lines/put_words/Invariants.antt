@@ -4,7 +4,7 @@ use Rattle.tx_plain.specs.Words.{words_in}
 use Rattle.tx_plain.proofs.plain_lines.put_words.Given as goal
 
 abbrev pub invariant-loop-word : goal.invariant-loop-word
-invariant-loop-word l = l.initial.text.items ++ spaced (words_in l.words) ≡ l.text.items ++ spaced (words_in l.left)
+invariant-loop-word l = l.initial.room.items ++ spaced (words_in l.words) ≡ l.room.items ++ spaced (words_in l.left)
 
 abbrev pub decreases-loop-word : goal.decreases-loop-word
 decreases-loop-word l = length l.left

@@ -2,14 +2,15 @@ use Rattle.std.proofs.Common.{◌≡◌, ◌≢◌, ℕ, ◌+◌, ◌<◌, ◌�
 use Rattle.tx_check.specs.Numbered.{after_lines}
 use Rattle.tx_lines.specs.Programs.{label_front}
 use Rattle.tx_lines.specs.Schedule.{first_line}
+use Rattle.tx_plain.specs.MeantLines.{left_of}
 use Rattle.tx_check.proofs.diagnose.labels.line_of_label.Given as goal
 
-abbrev pub invariant-loop-left : goal.invariant-loop-left
-invariant-loop-left l = record {
-  at : l.left ≡ after_lines l.passed l.text;
-  room : l.passed + length l.left ≤ length l.text;
-  others : (k : ℕ) → k < l.passed → first_line (after_lines k l.text) ≢ label_front ++ l.name;
+abbrev pub invariant-loop-line : goal.invariant-loop-line
+invariant-loop-line l = record {
+  at : left_of l.left ≡ after_lines l.passed (left_of l.text);
+  room : l.passed + length l.left.left.now ≤ length l.text.left.now;
+  others : (k : ℕ) → k < l.passed → first_line (after_lines k (left_of l.text)) ≢ label_front ++ l.name;
 }
 
-abbrev pub decreases-loop-left : goal.decreases-loop-left
-decreases-loop-left l = length l.left
+abbrev pub decreases-loop-line : goal.decreases-loop-line
+decreases-loop-line l = length l.left.left.now

@@ -1,0 +1,137 @@
+-- The meant lines of a text, one after another, and the own lines that mean them.
+use Rattle.std.proofs.Common.{◌≡◌, ◌≢◌, ◌∙◌, ℕ, suc, ◌+◌, Bool, true, false, List, [], ◌∷◌, ◌++◌, codes, length, is_some, nat_lt, slice_index_or, Option, Some, None, if◌then◌else◌, inl, inr, refl, ap, sym, subst, arith}
+use Rattle.std.proofs.lemmas.Bool.{both_ways}
+use Rattle.std.proofs.lemmas.Bool.Decides.{eqb_tells}
+use Rattle.tx_lines.specs.Programs.{label_front}
+use Rattle.tx_lines.specs.Schedule.{after_line, first_line}
+use Rattle.tx_plain.specs.Lines.{plain_line, plain_of_words, plain_others, short_or, spaced, stage_after}
+use Rattle.tx_plain.specs.MeantLines.{MeanFrom}
+use Rattle.tx_plain.specs.OwnLines.{own_lines}
+use Rattle.tx_plain.specs.Plain.{bare, ended, line_in, numbered, numbers_from, plain_from}
+use Rattle.tx_plain.specs.Words.{next_from, words_in}
+use Rattle.tx_plain.specs.declared.stage.Stage.{Stage}
+use Rattle.tx_plain.proofs.NoEnds.{first_none, line_none, HasNoEnd}
+use Rattle.tx_plain.proofs.WordParts.{first_found}
+
+-- a line before others is the first
+first_ended : (line rest : List ℕ) → HasNoEnd line → first_line (line ++ 10 ∷ rest) ≡ line
+first_ended [] rest none = refl
+first_ended (byte ∷ bytes) rest none =
+    elim (eqb_tells byte 10) [
+      | inl h ↦ absurd (none.0 h.1)
+      | inr h ↦ rw h.0 (ap (λ (t : List ℕ). byte ∷ t) (first_ended bytes rest none.1))
+    ]
+
+after_ended : (line rest : List ℕ) → HasNoEnd line → after_line (line ++ 10 ∷ rest) ≡ Some rest
+after_ended [] rest none = refl
+after_ended (byte ∷ bytes) rest none =
+    elim (eqb_tells byte 10) [
+      | inl h ↦ absurd (none.0 h.1)
+      | inr h ↦ rw h.0 (after_ended bytes rest none.1)
+    ]
+
+end_then : (line rest : List ℕ) → (line ++ 10 ∷ []) ++ rest ≡ line ++ 10 ∷ rest
+end_then [] rest = refl
+end_then (byte ∷ bytes) rest = ap (λ (t : List ℕ). byte ∷ t) (end_then bytes rest)
+
+-- a text begins with a line, and others follow
+pub record IsThen (text line rest : List ℕ) : Type 0 where
+  pub first : line ≡ first_line text
+  pub after : after_line text ≡ Some rest
+
+ended_then : (found : Option (List ℕ)) (rest : List ℕ) → is_some found ≡ true → HasNoEnd (bare found) → IsThen (ended found ++ rest) (bare found) rest
+ended_then None rest some none = absurd (both_ways false refl some)
+ended_then (Some line) rest some none = record {
+  first = sym (ap first_line (end_then line rest) ∙ first_ended line rest none);
+  after = ap after_line (end_then line rest) ∙ after_ended line rest none;
+}
+
+-- the next line that a person wrote means one
+pub third_next : (stage : Stage) (left line : List ℕ) (lines : List (List ℕ)) → own_lines left ≡ line ∷ lines → is_some (plain_line stage line) ≡ true →
+    IsThen (plain_from stage (own_lines left)) (bare (plain_line stage line)) (plain_from (stage_after stage (words_in line)) lines)
+third_next stage left line lines are some =
+    let none = line_none stage line (first_none left line lines are) in
+    subst (λ (ls : List (List ℕ)). IsThen (plain_from stage ls) (bare (plain_line stage line)) (plain_from (stage_after stage (words_in line)) lines)) (sym are)
+    (ended_then (plain_line stage line) (plain_from (stage_after stage (words_in line)) lines) some none)
+
+numbers_next : (stage : Stage) (own : ℕ) (line : List ℕ) (found : Option (List ℕ)) (numbers : List ℕ) → is_some found ≡ true → numbered own found numbers ≡ own ∷ numbers
+numbers_next stage own line None numbers some = absurd (both_ways false refl some)
+numbers_next stage own line (Some plain) numbers some = refl
+
+-- its number, and those of the lines behind it
+pub own_next : (text : List ℕ) (number : ℕ) (stage : Stage) (own : ℕ) (line : List ℕ) (lines : List (List ℕ)) → MeanFrom text number stage own (line ∷ lines) → is_some (plain_line stage line) ≡ true →
+    (line_in text number ≡ own) × MeanFrom text (number + 1) (stage_after stage (words_in line)) (own + 1) lines
+own_next text number stage own line lines mean some =
+    let later : List ℕ = numbers_from (stage_after stage (words_in line)) (own + 1) lines in
+    let next : numbers_from stage own (line ∷ lines) ≡ own ∷ later = numbers_next stage own line (plain_line stage line) later some in (
+      ap (line_in text) (omega arith) ∙ mean 0 ∙ ap (λ (ns : List ℕ). slice_index_or ns 0 (own + length (line ∷ lines))) next,
+      λ k.
+          let here : number + 1 + k ≡ number + suc k = omega arith in
+          let after : own + length (line ∷ lines) ≡ own + 1 + length lines = omega arith in
+          ap (line_in text) here ∙ mean (suc k) ∙ ap (λ (ns : List ℕ). slice_index_or ns (suc k) (own + length (line ∷ lines))) next ∙ ap (slice_index_or later k) after,
+    )
+
+-- no line is left
+pub own_end : (text : List ℕ) (number : ℕ) (stage : Stage) (own : ℕ) → MeanFrom text number stage own [] → (line_in text number ≡ own) × MeanFrom text (number + 1) stage own []
+own_end text number stage own mean = (
+  ap (line_in text) (omega arith) ∙ mean 0 ∙ omega arith,
+  λ k.
+      let here : number + 1 + k ≡ number + suc k = omega arith in
+      ap (line_in text) here ∙ mean (suc k),
+)
+
+-- nothing is left where the first line is empty and has no end
+pub nothing_left : (left : List ℕ) → first_line left ≡ [] → is_some (after_line left) ≡ false → left ≡ []
+nothing_left [] first after = refl
+nothing_left (byte ∷ bytes) first after =
+    elim (eqb_tells byte 10) [
+      | inl h ↦ let ended : true ≡ false = rw h.0 at after in absurd (both_ways true ended refl)
+      | inr h ↦ let some : byte ∷ first_line bytes ≡ [] = rw h.0 at first in absurd (cc)
+    ]
+
+-- no byte is a space
+abbrev HasNoSpace : List ℕ → Type 0
+HasNoSpace [] = Unit {0}
+HasNoSpace (byte ∷ bytes) = (byte ≢ 32) × HasNoSpace bytes
+
+-- words that stand behind one another begin with a word that the first of them begins with
+front_kept : (front first name rest : List ℕ) (others : List (List ℕ)) → HasNoSpace front → first ++ spaced others ≡ front ++ 32 ∷ name → (behind : List ℕ) × (first ++ rest ≡ front ++ behind)
+front_kept [] first name rest others none same = (first ++ rest, refl)
+front_kept (byte ∷ front) [] name rest [] none same = absurd (cc)
+front_kept (byte ∷ front) [] name rest (word ∷ others) none same =
+    let space : 32 ≡ byte = cc in absurd (none.0 (sym space))
+front_kept (byte ∷ front) (first ∷ firsts) name rest others none same =
+    let here : first ≡ byte = cc in
+    let behind : firsts ++ spaced others ≡ front ++ 32 ∷ name = cc in
+    let later = front_kept front firsts name rest others none.1 behind in
+    (later.0, ap (λ (t : List ℕ). first ∷ t) later.1 ∙ ap (λ (b : ℕ). b ∷ (front ++ later.0)) here)
+
+label_word : HasNoSpace (codes "label")
+label_word = ((λ same. omega (arith, same)), ((λ same. omega (arith, same)), ((λ same. omega (arith, same)), ((λ same. omega (arith, same)), ((λ same. omega (arith, same)), tt)))))
+
+-- a line whose meaning begins as a label begins with that word
+abbrev pub LikeLabel : List ℕ → Type 0
+LikeLabel line = (rest : List ℕ) × (next_from line ≡ codes "label" ++ rest)
+
+same_like : (line name : List ℕ) → line ≡ label_front ++ name → LikeLabel line
+same_like line name same = (32 ∷ name, ap next_from same)
+
+either_like : (over : Bool) (line plain name : List ℕ) → bare (if over then Some line else Some plain) ≡ label_front ++ name → (plain ≡ label_front ++ name → LikeLabel line) → LikeLabel line
+either_like true line plain name same like = same_like line name same
+either_like false line plain name same like = like same
+
+words_like : (stage : Stage) (line name : List ℕ) (words : List (List ℕ)) → words_in line ≡ words → bare (short_or line (plain_of_words stage words)) ≡ label_front ++ name → LikeLabel line
+words_like stage line name [] are same = absurd (cc)
+words_like stage line name (first ∷ others) are same =
+    either_like (nat_lt 512 (length (first ++ spaced (plain_others stage first others)))) line (first ++ spaced (plain_others stage first others)) name same (λ plain.
+    let found = first_found line first others are in
+    let kept = front_kept (codes "label") first name found.0 (plain_others stage first others) label_word plain in
+    (kept.0, found.1 ∙ kept.1))
+
+long_like : (over : Bool) (line name : List ℕ) (short : Option (List ℕ)) → bare (if over then Some line else short) ≡ label_front ++ name → (bare short ≡ label_front ++ name → LikeLabel line) → LikeLabel line
+long_like true line name short same like = same_like line name same
+long_like false line name short same like = like same
+
+pub like_label : (stage : Stage) (line name : List ℕ) → bare (plain_line stage line) ≡ label_front ++ name → LikeLabel line
+like_label stage line name same =
+    long_like (nat_lt 512 (length line)) line name (short_or line (plain_of_words stage (words_in line))) same (words_like stage line name (words_in line) refl)

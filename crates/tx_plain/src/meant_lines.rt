@@ -1,0 +1,238 @@
+//! The lines that a text of any version means, one after another.
+ghost use Rattle.std.specs.Prelude.{◌≡◌, ◌≢◌, ◌+◌, ◌<◌, ◌≤◌, ◌++◌, [], ℕ, List, IfNone, IfSome, IsFalse, IsTrue, MatchOption, None, Some, is_some, length, true};
+ghost use Rattle.tx_lines.specs.Programs.{BeginsLabel};
+ghost use Rattle.tx_lines.specs.Schedule.{first_line};
+ghost use Rattle.tx_plain.specs.LineMeanings.{spelled};
+ghost use Rattle.tx_plain.specs.Lines.{plain_line};
+ghost use Rattle.tx_plain.specs.Meant.{meant_of};
+ghost use Rattle.tx_plain.specs.MeantLines.{left_of, line_of, IsNextLine, OwnsFrom, OwnsNext};
+ghost use Rattle.tx_plain.specs.Plain as plain;
+ghost use Rattle.tx_plain.specs.Words.{words_in};
+ghost use Rattle.tx_plain.specs.declared.stage.Stage.{Stage};
+
+use crate::lines::split_line;
+use crate::plain::is_third;
+use crate::plain_lines::{LineMeaning, line_meaning, stage_after};
+use crate::stage::Stage;
+use crate::words::{from_word, split_word};
+use tx_lines::{LINE_BYTES, take_line};
+
+/// What is left of a text of any version, as the lines of the first two versions that it means.
+#[derive(Clone, Copy)]
+pub struct MeantLines<'a> {
+    /// Where a text of version 3 stands. Nothing in another, whose lines mean themselves.
+    stage: Option<Stage>,
+    left: &'a [u8],
+    /// The number of the own line that is left first. Lines count from 1.
+    number: u64,
+}
+
+/// A line of a text that means one of the first two versions.
+#[derive(Clone, Copy)]
+pub struct OwnLine<'a> {
+    stage: Option<Stage>,
+    bytes: &'a [u8],
+    /// Its number in the text. Lines count from 1.
+    pub number: u64,
+    /// Whether the line that it means has an end.
+    pub is_ended: bool,
+}
+
+impl<'a> MeantLines<'a> {
+    /// All lines that a text means.
+    pub fn of(text: &'a [u8]) -> MeantLines<'a>
+        ensures left { left_of result ≡ meant_of text.now }
+        ensures own { OwnsFrom text.now 1 result }
+    {
+        let stage = if is_third(text) {
+            Some(Stage::Heading)
+        } else {
+            None
+        };
+        MeantLines {
+            stage,
+            left: text,
+            number: 1,
+        }
+    }
+
+    /// Whether the text is one of version 3.
+    pub fn are_third(self) -> bool
+        ensures { (text : List ℕ) (number : ℕ) → OwnsFrom text number self.entry →
+            result ≡ plain.is_third text }
+    {
+        self.stage.is_some()
+    }
+
+    /// The first line, and those behind it. Nothing where none is left.
+    pub fn split(self) -> Option<(OwnLine<'a>, MeantLines<'a>)>
+        ensures none { IfNone result (left_of self.entry ≡ []) }
+        ensures some { IfSome result (λ r. left_of self.entry ≢ []) }
+        ensures line { IfSome result (λ r. IsNextLine (left_of self.entry) r.0 (left_of r.1)) }
+        ensures own { IfSome result (λ r. (text : List ℕ) (number : ℕ) →
+            OwnsFrom text number self.entry → OwnsNext text number r.0 r.1) }
+        ensures shorter { IfSome result (λ r.
+            length r.1.left.now < length self.entry.left.now) }
+    {
+        let (line, rest) = self.cut();
+        if line.is_ended || !line.bytes.is_empty() {
+            Some((line, rest))
+        } else {
+            None
+        }
+    }
+
+    /// The first line, and those behind it. An empty line without an end where none is left; its
+    /// number is that after the last line.
+    pub fn cut(self) -> (OwnLine<'a>, MeantLines<'a>)
+        ensures line { IsNextLine (left_of self.entry) result.0 (left_of result.1) }
+        ensures end { IsFalse result.0.is_ended →
+            result.0.bytes.now ≡ first_line (left_of self.entry) }
+        ensures own { (text : List ℕ) (number : ℕ) → OwnsFrom text number self.entry →
+            OwnsNext text number result.0 result.1 }
+        ensures shorter { 0 < length self.entry.left.now →
+            length result.1.left.now < length self.entry.left.now }
+    {
+        match self.stage {
+            Some(stage) => self.cut_third(stage),
+            None => self.cut_second(),
+        }
+    }
+
+    /// The same in a text of the first two versions.
+    fn cut_second(self) -> (OwnLine<'a>, MeantLines<'a>)
+        requires { self.stage ≡ None }
+        ensures line { IsNextLine (left_of self.entry) result.0 (left_of result.1) }
+        ensures end { result.0.bytes.now ≡ first_line (left_of self.entry) }
+        ensures own { (text : List ℕ) (number : ℕ) → OwnsFrom text number self.entry →
+            OwnsNext text number result.0 result.1 }
+        ensures shorter { 0 < length self.entry.left.now →
+            length result.1.left.now < length self.entry.left.now }
+    {
+        let (bytes, rest) = take_line(self.left);
+        let line = OwnLine {
+            stage: None,
+            bytes,
+            number: self.number,
+            is_ended: rest.is_some(),
+        };
+        let behind = MeantLines {
+            stage: None,
+            left: rest.unwrap_or(b""),
+            number: self.number.saturating_add(1),
+        };
+        (line, behind)
+    }
+
+    /// The same in a text of version 3 that stands there.
+    fn cut_third(self, stage: Stage) -> (OwnLine<'a>, MeantLines<'a>)
+        requires { self.stage ≡ Some stage }
+        ensures line { IsNextLine (left_of self.entry) result.0 (left_of result.1) }
+        ensures end { IsFalse result.0.is_ended →
+            result.0.bytes.now ≡ first_line (left_of self.entry) }
+        ensures own { (text : List ℕ) (number : ℕ) → OwnsFrom text number self.entry →
+            OwnsNext text number result.0 result.1 }
+        ensures shorter { 0 < length self.entry.left.now →
+            length result.1.left.now < length self.entry.left.now }
+    {
+        let mut left = self.left;
+        let mut number = self.number;
+        while let Some((bytes, rest)) = split_line(left) {
+            if means_one(bytes) {
+                let line = OwnLine {
+                    stage: Some(stage),
+                    bytes,
+                    number,
+                    is_ended: true,
+                };
+                let behind = MeantLines {
+                    stage: Some(stage_after(stage, bytes)),
+                    left: rest,
+                    number: number.saturating_add(1),
+                };
+                return (line, behind);
+            }
+            number = number.saturating_add(1);
+            left = rest;
+        }
+        let line = OwnLine {
+            stage: None,
+            bytes: b"",
+            number,
+            is_ended: false,
+        };
+        let behind = MeantLines {
+            stage: Some(stage),
+            left: b"",
+            number,
+        };
+        (line, behind)
+    }
+}
+
+/// Whether a line of version 3 means one, wherever it stands.
+fn means_one(line: &[u8]) -> bool
+    ensures some { IsTrue result → (stage : Stage) → is_some (plain_line stage line.now) ≡ true }
+    ensures short { IsFalse result → length line.now ≤ 512 }
+    ensures none { IsFalse result → words_in line.now ≡ [] }
+{
+    line.len() > LINE_BYTES || split_word(line).is_some()
+}
+
+impl<'a> OwnLine<'a> {
+    /// The line that it means.
+    pub fn meaning(self) -> LineMeaning<'a>
+        ensures { spelled result ≡ line_of self.entry }
+    {
+        let Some(stage) = self.stage else {
+            return LineMeaning::Itself(self.bytes);
+        };
+        match line_meaning(stage, self.bytes) {
+            Some(meaning) => meaning,
+            None => LineMeaning::Itself(b""),
+        }
+    }
+
+    /// The line that it means, where that begins as a label. Nothing else is translated.
+    pub fn label(self) -> Option<LineMeaning<'a>>
+        ensures same { IfSome result (λ meaning. spelled meaning ≡ line_of self.entry) }
+        ensures label { IfSome result (λ meaning. BeginsLabel (line_of self.entry)) }
+        ensures other { IfNone result (BeginsLabel (line_of self.entry) → ⊥) }
+    {
+        if !self.may_be_label() {
+            return None;
+        }
+        let meaning = self.meaning();
+        if begins_so(b"label ", meaning.as_bytes()) {
+            Some(meaning)
+        } else {
+            None
+        }
+    }
+
+    /// Whether the line that it means may begin as a label, by the front of the line itself.
+    fn may_be_label(self) -> bool
+        ensures { BeginsLabel (line_of self.entry) → IsTrue result }
+    {
+        match self.stage {
+            Some(_stage) => begins_so(b"label", from_word(self.bytes)),
+            None => begins_so(b"label", self.bytes),
+        }
+    }
+}
+
+/// Whether a line begins so.
+fn begins_so(front: &[u8], line: &[u8]) -> bool
+    ensures found { IsTrue result → (rest : List ℕ) × (line.now ≡ front.now ++ rest) }
+    ensures only { (rest : List ℕ) → line.now ≡ front.now ++ rest → IsTrue result }
+{
+    behind_front(front, line).is_some()
+}
+
+/// What follows that front of a line. Nothing where the line does not begin so.
+fn behind_front<'a>(front: &[u8], line: &'a [u8]) -> Option<&'a [u8]>
+    ensures { MatchOption result ((rest : List ℕ) → line.now ≢ front.now ++ rest) (λ rest.
+        line.now ≡ front.now ++ rest.now) }
+{
+    line.strip_prefix(front)
+}

@@ -1,0 +1,34 @@
+//! Room for one line, of a fixed size.
+ghost use Rattle.std.specs.Prelude.{◌≡◌, ◌++◌, ◌∷◌, [], OnErr, OnOk};
+ghost use Rattle.std.specs.Fmt.{decimal};
+ghost use Rattle.tx_plain.specs.Rooms.{IsOver};
+
+use arrayvec::ArrayVec;
+use itoa::Buffer;
+
+/// Room for the bytes of a line.
+pub type Room = ArrayVec<u8, 512>;
+
+/// What a line means has more bytes than there is room for.
+#[derive(Clone, Copy)]
+pub struct Full;
+
+/// Appends bytes. `Full` where they have no room: none is appended then.
+pub fn put(room: &mut Room, bytes: &[u8]) -> Result<(), Full>
+    ensures put { OnOk result (room.new.items ≡ room.old.items ++ bytes.now) }
+    ensures full { OnErr result (IsOver (room.old.items ++ bytes.now)) }
+{
+    match room.try_extend_from_slice(bytes) {
+        Ok(()) => Ok(()),
+        Err(_over) => Err(Full),
+    }
+}
+
+/// Appends a number in decimal digits. `Full` where they have no room: none is appended then.
+pub fn put_number(room: &mut Room, number: u8) -> Result<(), Full>
+    ensures put { OnOk result (room.new.items ≡ room.old.items ++ decimal number) }
+    ensures full { OnErr result (IsOver (room.old.items ++ decimal number)) }
+{
+    let mut buffer = Buffer::new();
+    put(room, buffer.format(number).as_bytes())
+}
