@@ -101,7 +101,7 @@ fn a_header_begins_a_talk(rt: HostRuntime) -> Result<(), Fail> {
 
 /// A talk of what would be, with steps ahead too, and what it shows.
 const TRIED: (&str, &str) = (
-    "2 sys_xbegin\n2 map 0\n2 store 0 \"hi\"\ntry 2 load 0\ntry 1 map 0\nback\nwithout 2\ntry 2 sys_xabort\ntry 3 map 0\nwithout 1\ntry 2 store 0 6869\nforward\n",
+    "2 sys_xbegin\n2 map 0\n2 store 0 \"hi\"\ntry 2 load 0\ntry 1 map 0\nback\nwithout 2\ntry 2 sys_xabort\ntry 3 map 0\nwithout 1\ntry 2 store 0 \"hi\" # two bytes\nforward\n",
     "ok 0\nok 0\nok 0\nok 104\n- proc 2 parent 1 run point 3 ret 0\n+ proc 2 parent 1 run point 4 ret 104\nok 0\n- proc 1 parent 0 run point 0 ret 0\n+ proc 1 parent 0 run point 1 ret 0\n+ page 0 rw\nat 2\n- proc 2 parent 1 run point 2 ret 0\n- page 0 rw\n- txn 2 open 2 ended -\n+ proc 2 parent 1 run point 1 ret -202\naborted 201\n- proc 2 parent 1 run point 2 ret 0\n- page 0 rw\n- txn 2 open 2 ended -\n+ proc 2 parent 1 run point 1 ret -201\nno N1\nno transaction\nok 0\n- proc 2 parent 1 run point 2 ret 0\n- page 0 rw\n+ proc 2 parent 1 run point 3 ret 0\n+ page 0 rw 0=68 1=69\nat 3\n",
 );
 
