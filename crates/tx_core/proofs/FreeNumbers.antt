@@ -1,17 +1,18 @@
 -- What a number has, and who reserved it, is what the view says.
-use Rattle.std.proofs.Common.{◌≡◌, ℕ, zero, suc, ◌≤◌, Bool, true, false, not, ◌&&◌, length, Option, Some, None, Bor, is_some, is_none, List, slice_index_or, refl, sym, ap, ◌∙◌, subst, arith, eq-eqb, eqb-true, ltb-true, lt-ltb}
+use Rattle.std.proofs.Common.{◌≡◌, ℕ, zero, suc, ◌≤◌, Bool, true, false, not, ◌&&◌, length, Option, Some, None, Bor, if◌then◌else◌, is_some, is_none, List, slice_index_or, refl, sym, ap, ◌∙◌, subst, arith, eq-eqb, eqb-true, ltb-true, lt-ltb}
 use Rattle.std.specs.Option.{option_copied}
 use Rattle.tx_base.specs.Slots.{slot_at}
 use Rattle.tx_change.specs.Exchange.{pipe_at}
-use Rattle.tx_core.proofs.Reading.{reserved_read, state_read, width_read}
-use Rattle.tx_core.proofs.LeastNumbers.{least_alone, least_none}
+use Rattle.tx_core.proofs.Reading.{state_read, width_read}
+use Rattle.tx_core.specs.OwnerFacts.{reserved_read}
+use Rattle.tx_core.specs.Owners.{other_owner}
+use Rattle.tx_core.proofs.LeastNumbers.{least_none, least_only}
 use Rattle.tx_core.specs.Laws.{MachineLaws}
 use Rattle.tx_desc.specs.Descriptions.{described}
 use Rattle.tx_desc.specs.declared.opened.Opened.{Opened}
 use Rattle.tx_step.specs.Contents.{IsContent}
 use Rattle.tx_live.specs.Content.{view_of}
 use Rattle.tx_live.specs.declared.content.Content.{Content}
-use Rattle.tx_model.specs.FreeNumbers.{is_reserved_from}
 use Rattle.tx_model.specs.Membership.{is_live, is_member_of}
 use Rattle.tx_model.specs.State.{State, is_between}
 use Rattle.tx_model.specs.View.{present}
@@ -48,25 +49,32 @@ module _ (k : Content) (is : IsContent k) (p : ℕ) (object : TheObject) where
   reserves s = is_live (view_of k).table s && (not (is_member_of (view_of k).table s p) && (view_of k).reserved s (object_of object))
 
   -- what nobody owns is reserved by nobody
-  pub nobody_reserves : None ≡ owner_of k.owners (object_of object) → false ≡ is_reserved_from (view_of k) p (object_of object)
-  nobody_reserves own = ap is_some (least_none reserves (view_of k).table.width (λ s below. and_never (is_live (view_of k).table s) (not (is_member_of (view_of k).table s p)) ((view_of k).reserved s (object_of object)) (reserved_read k s object None own)))
+  pub nobody_reserves : None ≡ owner_of k.owners (object_of object) → None ≡ other_owner (view_of k) p (object_of object)
+  nobody_reserves own = least_none reserves (view_of k).table.width (λ s below. and_never (is_live (view_of k).table s) (not (is_member_of (view_of k).table s p)) ((view_of k).reserved s (object_of object)) (reserved_read k s object None own))
 
   owner_reserved : (t : ℕ) → Some t ≡ owner_of k.owners (object_of object) → (view_of k).reserved t (object_of object) ≡ true
   owner_reserved t own = reserved_read k t object (Some t) own ∙ eq-eqb t t refl
 
   -- what a transaction owns is reserved from all but its members
-  pub owner_reserves : (t : ℕ) (member : Bool) → Some t ≡ owner_of k.owners (object_of object) → member ≡ is_member_of (view_of k).table t p →
-      not member ≡ is_reserved_from (view_of k) p (object_of object)
+  owner_reserves : (t : ℕ) (member : Bool) → Some t ≡ owner_of k.owners (object_of object) → member ≡ is_member_of (view_of k).table t p →
+      (if not member then Some t else None) ≡ other_owner (view_of k) p (object_of object)
   unfolding view_of
   owner_reserves t member own same =
       let reserved : (view_of k).reserved t (object_of object) ≡ true = owner_reserved t own in
       let live : is_live (view_of k).table t ≡ true = is.kept.sound.owned_live t (object_of object) reserved in
-      ap not same
-      ∙ sym (and_always (is_live (view_of k).table t) (not (is_member_of (view_of k).table t p)) ((view_of k).reserved t (object_of object)) live reserved)
-      ∙ sym (least_alone reserves (view_of k).table.width t
+      ap (λ (b : Bool). if b then Some t else None)
+      (ap not same
+      ∙ sym (and_always (is_live (view_of k).table t) (not (is_member_of (view_of k).table t p)) ((view_of k).reserved t (object_of object)) live reserved))
+      ∙ sym (least_only reserves (view_of k).table.width t
       (λ s passes. sym (eqb-true t s (sym (reserved_read k s object (Some t) own) ∙ and_right (not (is_member_of (view_of k).table s p)) ((view_of k).reserved s (object_of object))
       (and_right (is_live (view_of k).table s) (not (is_member_of (view_of k).table s p) && (view_of k).reserved s (object_of object)) passes))))
       (within (view_of k).table.width t (is.kept.sound.bounded t t live)))
+
+  pub member_owns : (t : ℕ) → Some t ≡ owner_of k.owners (object_of object) → true ≡ is_member_of (view_of k).table t p → None ≡ other_owner (view_of k) p (object_of object)
+  member_owns t own is_member = owner_reserves t true own is_member
+
+  pub other_owns : (t : ℕ) → Some t ≡ owner_of k.owners (object_of object) → false ≡ is_member_of (view_of k).table t p → Some t ≡ other_owner (view_of k) p (object_of object)
+  other_owns t own no_member = owner_reserves t false own no_member
 
 -- what was found at a number, by whether something was
 none_found : {A : Type 0} (found : Option A) (vacant : Bool) → is_some found ≡ not vacant → vacant ≡ is_none found

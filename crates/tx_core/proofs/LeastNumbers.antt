@@ -1,5 +1,5 @@
 -- The least number that passes a test, by a search from below.
-use Rattle.std.proofs.Common.{◌≡◌, ℕ, zero, suc, ◌+◌, ◌<◌, ◌≤◌, Bool, true, false, ◌&&◌, Option, Some, None, is_some, if◌then◌else◌, refl, sym, ap, ◌∙◌, subst, inl, inr, arith}
+use Rattle.std.proofs.Common.{◌≡◌, ℕ, zero, suc, ◌+◌, ◌<◌, ◌≤◌, Bool, true, false, ◌&&◌, Option, Some, None, if◌then◌else◌, refl, sym, ap, ◌∙◌, subst, inl, inr, arith}
 use Rattle.std.proofs.lemmas.Bool.{both_ways, cases_Bool, cases_eq}
 use Rattle.std.proofs.Math.Bool.{and-true}
 use Rattle.tx_model.specs.FreeNumbers.{is_other_than, least_two, with_second}
@@ -41,9 +41,9 @@ least_some P (suc last) n none passes within = elim (cases_eq n (suc last)) [
   | inr other ↦ let lower : least P last ≡ Some n = sym (least_some P last n none passes (omega (arith, within, other))) in rw lower refl
 ]
 
--- where one number alone may pass, there is one exactly if that does
-pub least_alone : (P : ℕ → Bool) (last n : ℕ) → ((m : ℕ) → P m ≡ true → m ≡ n) → n ≤ last → is_some (least P last) ≡ P n
-least_alone P last n alone within = by (P n) refl
+-- where one number alone may pass, it is the least one exactly if it does
+pub least_only : (P : ℕ → Bool) (last n : ℕ) → ((m : ℕ) → P m ≡ true → m ≡ n) → n ≤ last → least P last ≡ (if P n then Some n else None)
+least_only P last n alone within = by (P n) refl
   where
     fails : (m : ℕ) → (P m ≡ true → ⊥) → P m ≡ false
     fails m never = elim (cases_Bool (P m)) [
@@ -51,9 +51,9 @@ least_alone P last n alone within = by (P n) refl
       | inr e ↦ e
     ]
 
-    by : (b : Bool) → P n ≡ b → is_some (least P last) ≡ b
-    by true e = ap is_some (sym (least_some P last n (λ m below. fails m (λ passes. let z : m ≡ n = alone m passes in omega (arith, below, z))) e within))
-    by false e = ap is_some (sym (least_none P last (λ m below. fails m (λ passes. both_ways (P n) e (subst (λ (k : ℕ). P k ≡ true) (alone m passes) passes)))))
+    by : (b : Bool) → P n ≡ b → least P last ≡ (if b then Some n else None)
+    by true e = sym (least_some P last n (λ m below. fails m (λ passes. let z : m ≡ n = alone m passes in omega (arith, below, z))) e within)
+    by false e = sym (least_none P last (λ m below. fails m (λ passes. both_ways (P n) e (subst (λ (k : ℕ). P k ≡ true) (alone m passes) passes))))
 
 -- every number passes where there is no other one
 any_other : (P : ℕ → Bool) (last : ℕ) → least (λ n. P n && is_other_than None n) last ≡ least P last

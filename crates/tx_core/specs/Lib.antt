@@ -3,3 +3,5 @@ pub mod Machines
 pub mod Laws
 pub mod Runs
 pub mod Undo
+pub mod Owners
+pub mod OwnerFacts

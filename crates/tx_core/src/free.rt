@@ -2,6 +2,7 @@
 ghost use Rattle.std.specs.Prelude.{◌≡◌, ◌-◌, ◌≤◌, ◌&&◌, length, option_map};
 ghost use Rattle.tx_base.specs.declared.limits.TheConstants.{DESCRIPTIONS, PIPES};
 ghost use Rattle.tx_core.specs.Free.{desc_number, desc_numbers, free_as, pipe_number};
+ghost use Rattle.tx_core.specs.Owners.{other_owner};
 ghost use Rattle.tx_step.specs.Contents.{IsContent};
 ghost use Rattle.tx_live.specs.Content.{view_of};
 ghost use Rattle.tx_model.specs.FreeNumbers.{free_numbers, is_free_description, is_free_pipe, is_free_process, is_other_than, is_reserved_from, least_two};
@@ -142,10 +143,23 @@ fn is_reserved_from(content: &Content, pid: Pid, object: Object) -> bool
     requires { IsContent content.now }
     ensures { result ≡ is_reserved_from (view_of content.now) pid.0 (object_of object) }
 {
-    match content.owners.owner(object) {
-        Some(owner) => !is_member_of(content, owner, pid),
-        None => false,
+    other_owner(content, pid, object).is_some()
+}
+
+/// The starter of the live transaction that has reserved the object, and of which the process is no
+/// member; nothing where there is none.
+pub(crate) fn other_owner(content: &Content, pid: Pid, object: Object) -> Option<Pid>
+    requires { IsContent content.now }
+    ensures { option_map number_of result
+        ≡ other_owner (view_of content.now) pid.0 (object_of object) }
+{
+    let Some(owner) = content.owners.owner(object) else {
+        return None;
+    };
+    if is_member_of(content, owner, pid) {
+        return None;
     }
+    Some(owner)
 }
 
 /// Whether the process is a member of the live transaction of the starter.

@@ -3,18 +3,24 @@ ghost use Rattle.std.specs.Prelude.{◌≡◌, ◌↔◌, ℕ, true, length, map
 ghost use Rattle.tx_base.specs.Slots.{slot_at};
 ghost use Rattle.tx_change.specs.States.{state_of};
 ghost use Rattle.tx_core.specs.Machines.{IsWidth};
+ghost use Rattle.tx_core.specs.Owners.{other_owner};
 ghost use Rattle.tx_kernel.specs.Actors.{IsWhole};
 ghost use Rattle.tx_kernel.specs.Plans.{sending_of};
 ghost use Rattle.tx_live.specs.Content.{held_of, view_of};
+ghost use Rattle.tx_model.specs.Events.{process_of};
+ghost use Rattle.tx_model.specs.Footprints.{footprint};
 ghost use Rattle.tx_model.specs.Membership.{is_live};
 ghost use Rattle.tx_model.specs.View.{kernel_status, present};
+ghost use Rattle.tx_reserve.specs.Footprints.{HoldsBy, IsSetOf};
 ghost use Rattle.tx_reserve.specs.Objects.{object_of};
+ghost use Rattle.tx_reserve.specs.Reservations.{number_of};
 
+use crate::free::other_owner;
 use crate::laws::laws;
-use crate::machine::Machine;
-use tx_base::{Mark, Pid, Sending, Slots};
+use crate::machine::{Machine, maker};
+use tx_base::{Mark, Pid, Sending, Slots, Step};
 use tx_change::Parts;
-use tx_reserve::Object;
+use tx_reserve::{Object, Objects, footprint};
 use tx_step::{contents_are_whole, kernel_status};
 
 impl Machine {
@@ -75,6 +81,39 @@ impl Machine {
         match self.content.owners.owner(object) {
             Some(owner) => owner == starter,
             None => false,
+        }
+    }
+
+    /// The starter of the live transaction that has reserved the object, and of which the process of a
+    /// step is no member; nothing where there is none.
+    pub fn other_owner(&self, step: &Step, object: Object) -> Option<Pid>
+        ensures { option_map number_of result
+            ≡ other_owner (view_of self.now) (process_of step.now) (object_of object) }
+    {
+        other_owner(&self.content, maker(step), object)
+    }
+
+    /// The objects that a step names: those that it reserves where its process is a member of a
+    /// transaction, of numbers that there may be. A process that is missing names itself alone, and the
+    /// kernel's abort names nothing. It takes no memory.
+    pub fn footprint(&self, step: &Step) -> Objects
+        ensures { IsSetOf result
+            (footprint (view_of self.now).table step.now (present (view_of self.now))) }
+    {
+        laws();
+        contents_are_whole();
+        let held = self.held_with(maker(step));
+        footprint(&self.content.parts, &self.content.marks, held, step)
+    }
+
+    /// What the transaction holds that the process is a member of; nothing where it is of none.
+    fn held_with(&self, pid: Pid) -> &[Sending]
+        ensures { HoldsBy (slot_at self.now.marks pid.0) result.now
+            (present (view_of self.now)).held }
+    {
+        match self.content.marks.get(pid) {
+            Some(mark) => self.held(mark.starter),
+            None => &[],
         }
     }
 

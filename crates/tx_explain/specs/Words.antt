@@ -25,7 +25,7 @@ abbrev pub command_words : List (List Text)
 command_words =
     (codes "replay" ∷ [])
     ∷ (codes "debug" ∷ [])
-    ∷ (codes "shell" ∷ codes "cut" ∷ codes "owns" ∷ codes "steps" ∷ codes "try" ∷ codes "without" ∷ codes "when" ∷ codes "next" ∷ codes "quit" ∷ [])
+    ∷ (codes "shell" ∷ codes "cut" ∷ codes "owns" ∷ codes "steps" ∷ codes "try" ∷ codes "why" ∷ codes "without" ∷ codes "when" ∷ codes "next" ∷ codes "quit" ∷ [])
     ∷ (codes "run" ∷ [])
     ∷ (codes "check" ∷ [])
     ∷ (codes "plain" ∷ [])

@@ -22,3 +22,6 @@ pub mod PieceSpelled
 pub mod Naming
 pub mod Telling
 pub mod Trial
+pub mod Newest
+pub mod There
+pub mod Reserving

@@ -9,5 +9,6 @@ pub mod Pieces
 pub mod Rooms
 pub mod Crossings
 pub mod Sessions
+pub mod Since
 pub mod Trials
 pub mod Walks

@@ -1,5 +1,6 @@
 //! What leads over the entries of a session, back and forward again.
-ghost use Rattle.std.specs.Prelude.{◌≡◌, ◌≢◌, ◌↔◌, ◌++◌, ◌∷◌, [], ◌+◌, ◌≤◌, ◌<◌, List, IsErr, IsTrue, OnErr, OnOk, length};
+ghost use Rattle.std.specs.Prelude.{◌≡◌, ◌≢◌, ◌↔◌, ◌++◌, ◌∷◌, [], ◌+◌, ◌≤◌, ◌<◌, List, IsErr, IsTrue, OnErr, OnOk, length, slice_get};
+ghost use Rattle.std.specs.Option.{option_copied};
 ghost use Rattle.tx_core.specs.Undo.{LeadsBack, LeadsOn};
 ghost use Rattle.tx_journal.specs.Crossings.{GoesBack, GoesForward, SameCrossed};
 ghost use Rattle.tx_live.specs.declared.inverse.Inverse.{Inverse as TheInverse};
@@ -56,6 +57,19 @@ impl Crossings {
         ensures { result ≡ length self.now.inverses }
     {
         self.made
+    }
+
+    /// What takes the entry of a place back. Nothing where it is not made, or there is none.
+    pub fn inverse(&self, place: usize) -> Option<&Inverse>
+        ensures { option_copied result ≡ slice_get self.now.inverses place }
+    {
+        if place >= self.made {
+            return None;
+        }
+        match &self.places[place] {
+            Crossing::By(inverse) => Some(inverse),
+            Crossing::Again(_) => None,
+        }
     }
 
     /// Whether what makes the next entry again is kept.

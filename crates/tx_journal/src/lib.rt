@@ -26,7 +26,10 @@
 //! - `cut` lets go of the entries after the position, so that steps can be made there: what is live
 //!   there is counted anew, and has room, since each entry that goes ended one transaction at most
 //!   (`Cut.antt`). `trial` says what a step there would be answered, and the text of the state
-//!   after it; `state_text_without` is the text of the state that an abort there would leave.
+//!   after it, `reply_to` the answer alone; `state_text_without` is the text of the state that an
+//!   abort there would leave.
+//! - `first_touch` is the step since which a transaction has reserved an object: the newest one of
+//!   that transaction whose inverse has not reserved it.
 //! - `position` is how many entries are made, `len` how many there are, `entry` the entry of a
 //!   number, `machine` the machine at the position, `count` and `processes` how it was booted,
 //!   `state_text` the text of the state there.
@@ -59,6 +62,7 @@ mod posted;
 mod retrace;
 mod retrace_laws;
 mod session;
+mod since;
 mod state;
 mod steps;
 mod trials;
@@ -69,4 +73,5 @@ pub use faults::{AtStart, ForwardFault, GotoFault, MovedFault, TrialFault};
 pub use moved::Moved;
 pub use pieces::{Piece, put_piece};
 pub use session::Session;
+pub use since::Touch;
 pub use state::{print_state, put_state};

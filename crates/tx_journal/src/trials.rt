@@ -44,6 +44,29 @@ impl Session {
         Ok((reply, text))
     }
 
+    /// The reply that a step would get at the position. It is made and taken back: the session is as it
+    /// was.
+    ///
+    /// `NoMemory` where a growth is refused.
+    pub fn reply_to(&mut self, alloc: Global, step: &Step) -> Result<Reply, NoMemory>
+        ensures same { self.new ≡ self.old }
+        ensures reply { IfOk result (λ reply. reply ≡ answer_there self.old step.now) }
+    {
+        let mut reply = Reply::Ended;
+        let mut inverse = Inverse::blank();
+        let is_made = self
+            .machine
+            .step_into(alloc, step, &mut reply, &mut inverse);
+        if is_made {
+            self.machine.undo(inverse);
+            return Ok(reply);
+        }
+        if reply.wants_memory() {
+            return Err(NoMemory);
+        }
+        Ok(reply)
+    }
+
     /// The text of the state as it would be at the position if the kernel aborted the live
     /// transaction of a starter there. The abort is made and taken back: the session is as it was.
     ///

@@ -3,6 +3,7 @@ use std::alloc::Global;
 use std::io::{Error, ErrorKind, Result as IoResult, Write};
 use std::test::Fail;
 use tx_base::NoMemory;
+use tx_explain::explain;
 use tx_lines::take_line;
 use tx_shell::{Console, Got, Shell, TalkFault, Terminal, talk};
 
@@ -132,6 +133,19 @@ const OWNED: (&str, &str) = (
 #[test]
 fn what_transactions_have_is_told(rt: HostRuntime) -> Result<(), Fail> {
     assert!(rt; shows(rt.alloc(), OWNED.0, OWNED.1)?);
+    Ok(())
+}
+
+#[test]
+fn why_a_step_is_refused_is_told(rt: HostRuntime) -> Result<(), Fail> {
+    let lines =
+        "2 pipe 0 0 1\n2 fork 4\n2 sys_xbegin\n2 map 0\n2 write 1 0 3\n2 write 1 0 1\nwhy 4 read 0 0 3\n2 sys_xend\nwhy 4 read 0 0 3\n2 sys_xbegin\n2 write 1 0 1\nwhy 4 close 0\nback\nwhy 4 close 0\nwhy kernel 4\n";
+    let busy = explain("N8").unwrap_or("");
+    let none = explain("N12").unwrap_or("");
+    let wanted = format!(in rt.alloc();
+        "ok 0\nok 4\nok 0\nok 0\nok 3\nok 1\n4 read 0 0 3: {busy}pipe 0: the transaction of 2 has it since step 5: 2 write 1 0 3\ncommitted\n4 read 0 0 3: it would be answered ok -14\nok 0\nok 1\n4 close 0: {busy}pipe 0: the transaction of 2 has it since step 9: 2 write 1 0 1\nat 8\n4 close 0: it would be answered ok 0\nkernel 4: {none}"
+    )?;
+    assert!(rt; shows(rt.alloc(), lines, wanted.as_str())?);
     Ok(())
 }
 

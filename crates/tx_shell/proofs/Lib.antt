@@ -1,5 +1,7 @@
 pub mod Begun
 pub mod Behind
+pub mod Chained
+pub mod Explained
 pub mod Found
 pub mod LeftOver
 pub mod Listed

@@ -22,6 +22,7 @@ use Rattle.tx_shell.specs.Journals.{schedule_so_far, steps_listed, steps_made}
 use Rattle.tx_shell.specs.Origins.{Origin, start_in}
 use Rattle.tx_shell.specs.Owners.{or_no_transaction, owner_line, owner_lines}
 use Rattle.tx_shell.specs.Places.{Place}
+use Rattle.tx_shell.specs.Reasons.{TellsWhy}
 use Rattle.tx_shell.specs.Told.{TellsOf}
 use Rattle.tx_shell.specs.Versions.{grammar_of}
 use Rattle.tx_shell.specs.declared.asks.Ask.{Ask}
@@ -89,6 +90,7 @@ AnswersAsk o p (asks.Try step) text q = (text ≡ tried_text (start_in o) (first
 AnswersAsk o p (asks.Without starter) text q = TellsWithout (start_in o) p starter text × (q ≡ p)
 AnswersAsk o p (asks.When piece) text q = TellsLast (shown_at (start_in o) p.history piece) p text q
 AnswersAsk o p (asks.Next piece) text q = TellsNext (shown_at (start_in o) p.history piece) p text q
+AnswersAsk o p (asks.Why step) text q = TellsWhy (start_in o) (first_steps p.at p.history) step text × (q ≡ p)
 AnswersAsk o p asks.Owns text q = (text ≡ or_no_transaction (owner_lines (view_at o p))) × (q ≡ p)
 AnswersAsk o p (asks.OwnsOf starter) text q = (text ≡ or_no_transaction (owner_line (view_at o p) starter)) × (q ≡ p)
 AnswersAsk o p asks.Cut text q = Cuts p text q

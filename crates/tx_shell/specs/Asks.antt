@@ -20,6 +20,7 @@ ask_text (asks.Try step) = codes "try " ++ step_text step
 ask_text (asks.When piece) = codes "when " ++ piece_name piece
 ask_text (asks.Next piece) = codes "next " ++ piece_name piece
 ask_text (asks.Without starter) = codes "without " ++ decimal starter
+ask_text (asks.Why step) = codes "why " ++ step_text step
 ask_text asks.Owns = codes "owns"
 ask_text (asks.OwnsOf starter) = codes "owns " ++ decimal starter
 ask_text asks.Cut = codes "cut"
@@ -35,6 +36,7 @@ FitsAsk version (asks.Try step) = FitsStep step × IsOf version step
 FitsAsk version (asks.When piece) = FitsPiece piece
 FitsAsk version (asks.Next piece) = FitsPiece piece
 FitsAsk version (asks.Without starter) = starter < 2 ^ 16
+FitsAsk version (asks.Why step) = FitsStep step × IsOf version step
 FitsAsk version (asks.OwnsOf starter) = starter < 2 ^ 16
 FitsAsk version ask = Unit {0}
 

@@ -11,6 +11,7 @@ pub mod Origins
 pub mod Owners
 pub mod Pieces
 pub mod Places
+pub mod Reasons
 pub mod Refused
 pub mod Shown
 pub mod Spelled

@@ -14,6 +14,7 @@ use crate::changes::{tell_last, tell_next};
 use crate::helps::{help, help_on, text_as};
 use crate::journals::{list_steps, position_line, print_schedule};
 use crate::owners::{list_owner, list_owners};
+use crate::reasons::tell_why;
 use crate::reserving::reserve_walk;
 use crate::steps::answer_step;
 use crate::tells::tell;
@@ -78,6 +79,7 @@ fn answer_ask(
         Ask::When(piece) => tell_last(alloc, session, piece),
         Ask::Next(piece) => tell_next(alloc, session, piece),
         Ask::Without(starter) => without(alloc, session, starter),
+        Ask::Why(step) => tell_why(alloc, session, &step),
         Ask::Owns => list_owners(alloc, session),
         Ask::OwnsOf(starter) => list_owner(alloc, session, starter),
         Ask::Cut => cut(alloc, session),

@@ -35,6 +35,8 @@ pub enum Ask<'a> {
     Next(Piece),
     /// To tell how the state would differ that an abort of the transaction of this starter would leave.
     Without(u16),
+    /// To tell why a step would be refused.
+    Why(Step),
     /// To tell what each live transaction has reserved.
     Owns,
     /// To tell what the live transaction of this starter has reserved.
@@ -70,6 +72,9 @@ pub fn read_ask(version: Version, line: &[u8]) -> Option<Ask<'_>>
     }
     if let Some(words) = behind(b"next ", line) {
         return read_next(words);
+    }
+    if let Some(words) = behind(b"why ", line) {
+        return read_why(version, words);
     }
     if let Some(word) = behind(b"without ", line) {
         return read_without(word);
@@ -167,6 +172,18 @@ fn read_next(words: &[u8]) -> Option<Ask<'static>>
 {
     match read_piece(words) {
         Some(piece) => Some(Ask::Next(piece)),
+        None => None,
+    }
+}
+
+/// The step of which it is to be told why it would be refused.
+fn read_why(version: Version, words: &[u8]) -> Option<Ask<'static>>
+    ensures found { IfSome result (λ ask. codes "why " ++ words.now ≡ ask_text ask) }
+    ensures fits { IfSome result (FitsAsk version) }
+    ensures none { result ≡ None → IsNoStep version words.now }
+{
+    match read_step(version, words) {
+        Some(step) => Some(Ask::Why(step)),
         None => None,
     }
 }

@@ -22,6 +22,7 @@ steps K L  lists steps K to L, and the position; steps K: from K on; steps: all
 text       prints the schedule of the steps up to the position, for txos replay
 try STEP   says what a step would be answered, and how the state would differ
 without S  says how the state would differ without the transaction of S
+why STEP   says why a step would be refused, what is in its way, and since when
 owns S     says what the transaction of S has reserved; owns: what each has
 when PIECE goes back to the step that changed a piece of the state last
 next PIECE goes on to the step that changes it next
@@ -54,7 +55,7 @@ pub fn help_on(alloc: Global, word: &[u8]) -> Result<String, NoMemory>
 }
 
 /// What is said of a word.
-fn meaning(word: &[u8]) -> &'static str
+pub fn meaning(word: &[u8]) -> &'static str
     ensures { HelpsOn word.now result.now }
 {
     match str::from_utf8(word) {

@@ -19,6 +19,7 @@
 
 mod answers;
 mod asks;
+mod blockers;
 mod changes;
 mod console;
 mod differences;
@@ -31,6 +32,7 @@ mod meanings;
 mod openings;
 mod owners;
 mod pieces;
+mod reasons;
 mod reserving;
 mod shell;
 mod steps;

@@ -4,7 +4,7 @@ ghost use Rattle.tx_lines.specs.declared.read.header.TextKind.TheVariants.{Sched
 ghost use Rattle.tx_plain.specs.Lines.{plain_line};
 ghost use Rattle.tx_plain.specs.OwnLines.{without_return};
 ghost use Rattle.tx_plain.specs.declared.stage.Stage.TheVariants.{Within};
-ghost use Rattle.tx_shell.specs.Meanings.{bytes_of, meant_line, third_line, tried};
+ghost use Rattle.tx_shell.specs.Meanings.{bytes_of, meant_line, third_line, with_step};
 
 use crate::versions::TextVersion;
 use std::alloc::Global;
@@ -51,24 +51,26 @@ pub fn meant_line<'a>(
     }
 }
 
-/// What a line of version 3 means: behind `try` a step as a line of its own. Nothing where it has no
-/// word.
+/// What a line of version 3 means: behind `try` and `why` a step as a line of its own. Nothing where it
+/// has no word.
 fn third_words<'a>(alloc: Global, line: &[u8]) -> Result<Option<Words<'a>>, NoMemory>
     ensures { IfOk result (λ meant. option_map bytes_of meant ≡ third_line line.now) }
 {
-    match line.strip_prefix(b"try ".as_slice()) {
-        Some(step) => Ok(Some(Words::Plain(tried(alloc, step)?))),
-        None => plain_words(alloc, line),
+    if let Some(step) = line.strip_prefix(b"try ".as_slice()) {
+        return Ok(Some(Words::Plain(with_step(alloc, b"try", step)?)));
     }
+    if let Some(step) = line.strip_prefix(b"why ".as_slice()) {
+        return Ok(Some(Words::Plain(with_step(alloc, b"why", step)?)));
+    }
+    plain_words(alloc, line)
 }
 
-/// What a line means that has this step to be tried.
-fn tried(alloc: Global, step: &[u8]) -> Result<Vec<u8>, NoMemory>
+/// What a line means that has this step behind a word.
+fn with_step(alloc: Global, word: &[u8], step: &[u8]) -> Result<Vec<u8>, NoMemory>
     ensures { IfOk result (λ words. words.items
-        ≡ tried (plain_line (Within Schedule) (without_return step.now))) }
+        ≡ with_step word.now (plain_line (Within Schedule) (without_return step.now))) }
 {
-    let mut words = Vec::new(alloc);
-    words.extend_from_slice(b"try")?;
+    let mut words = Vec::from_slice(alloc, word)?;
     if let Some(plain) = plain_line(alloc, step)? {
         words.push(b' ')?;
         words.extend_from_slice(plain.as_slice())?;

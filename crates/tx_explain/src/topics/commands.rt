@@ -43,15 +43,15 @@ debug: walks back and forward over the steps of a schedule, as commands say.
     Topic {
         word: "shell",
         also: &[
-            "cut", "owns", "steps", "try", "without", "when", "next", "quit",
+            "cut", "owns", "steps", "try", "why", "without", "when", "next", "quit",
         ],
         text: "\
 shell: answers steps and commands, each line before it reads the next.
   form     txos shell
   lines    a step of a schedule; back, forward, goto K, state, moved K as debug
            has them; goto end, steps, steps K, steps K L, text, try STEP,
-           without S, owns, owns S, when PIECE, next PIECE, cut, help, help
-           WORD, quit; and before all others a header, if any
+           without S, why STEP, owns, owns S, when PIECE, next PIECE, cut,
+           help, help WORD, quit; and before all others a header, if any
   writes   the reply, the answer, or what is wrong with the line
   example  txos shell
 ",

@@ -1,0 +1,99 @@
+-- Why a step would be refused, as it is told.
+use Rattle.std.specs.Prelude.{◌≡◌, ℕ, Bool, false, List, [], ◌∷◌, ◌++◌, Option, Some, None, MatchOption, codes, if◌then◌else◌}
+use Rattle.std.specs.Fmt.{decimal}
+use Rattle.tx_base.specs.declared.steps.Accepted.{Accepted}
+use Rattle.tx_base.specs.declared.steps.Refusal.{Refusal}
+use Rattle.tx_base.specs.declared.steps.Refusal.TheVariants.{Busy}
+use Rattle.tx_base.specs.declared.steps.Reply.{Reply}
+use Rattle.tx_base.specs.declared.steps.Reply.TheVariants.{No}
+use Rattle.tx_base.specs.declared.steps.Step.{Step}
+use Rattle.tx_core.specs.Owners.{other_owner}
+use Rattle.tx_explain.specs.Calls.{refusal_word}
+use Rattle.tx_journal.specs.Since.{Numbered, first_touch}
+use Rattle.tx_lines.specs.Lines.{step_text}
+use Rattle.tx_model.specs.Answer.{answer}
+use Rattle.tx_model.specs.Events.{process_of}
+use Rattle.tx_model.specs.Footprints.{footprint}
+use Rattle.tx_model.specs.State.{State, has_object}
+use Rattle.tx_model.specs.View.{present, view}
+use Rattle.tx_reserve.specs.Objects.{is_small}
+use Rattle.tx_shell.specs.Helps.{HelpsOn}
+use Rattle.tx_shell.specs.Kinds.{limit_of, object_in, word_of}
+use Rattle.tx_shell.specs.declared.kinds.Kind.{Kind}
+use Rattle.tx_shell.specs.declared.kinds.Kind.TheVariants.{Processes, Descriptions, Pipes}
+use Rattle.tx_text.specs.Each.{upto}
+use Rattle.tx_text.specs.Replies.{reply_text}
+
+-- since which step
+abbrev pub touch_text : Numbered → List ℕ
+touch_text first = codes " since step " ++ (decimal first.number ++ (codes ": " ++ step_text first.step))
+
+abbrev pub since_text : Option Numbered → List ℕ
+since_text None = []
+since_text (Some first) = touch_text first
+
+-- why it was refused, if it was
+abbrev pub refusal_in : Reply → Option Refusal
+refusal_in (No why) = Some why
+refusal_in reply = None
+
+-- what an object is called, and whose it is
+abbrev pub name_text : Kind → ℕ → List ℕ
+name_text kind number = word_of kind ++ decimal number
+
+abbrev pub holder_text : ℕ → List ℕ
+holder_text s = codes ": the transaction of " ++ (decimal s ++ codes " has it")
+
+-- that a step would be answered so
+abbrev pub accepted_text : Reply → List ℕ
+accepted_text reply = codes ": it would be answered " ++ (reply_text reply ++ 10 ∷ [])
+
+module _ (S : State) (h : List Accepted) where
+  -- the line of an object that the transaction of s has
+  abbrev pub owned_line : Kind → ℕ → ℕ → List ℕ
+  owned_line kind number s = name_text kind number ++ (holder_text s ++ (since_text (first_touch S h s (object_in kind number)) ++ 10 ∷ []))
+
+  -- and of one of which that is the other owner
+  abbrev pub other_line : Kind → ℕ → Option ℕ → List ℕ
+  other_line kind number None = []
+  other_line kind number (Some s) = owned_line kind number s
+
+module _ (S : State) (h : List Accepted) (step : Step) where
+  -- whether the step names the object of a kind and a number
+  abbrev pub names_one : Kind → ℕ → Bool
+  names_one kind number =
+      let V = view S h in
+      let o = object_in kind number in
+      if is_small o then has_object o (footprint V.table step (present V)) else false
+
+  -- the line of an object that the step names, and that another's transaction has reserved
+  abbrev pub object_line : Kind → ℕ → List ℕ
+  object_line kind number = if names_one kind number then other_line S h kind number (other_owner (view S h) (process_of step) (object_in kind number)) else []
+
+  abbrev pub lines_of_kind : Kind → List ℕ
+  lines_of_kind kind = upto (object_line kind) (limit_of kind)
+
+  -- the lines of all such objects, by kinds and rising numbers
+  abbrev pub object_lines : List ℕ
+  object_lines = lines_of_kind Processes ++ (lines_of_kind Descriptions ++ lines_of_kind Pipes)
+
+  -- what is told behind the reason: of a step in whose way a transaction is, the objects
+  abbrev pub lines_behind : Refusal → List ℕ
+  lines_behind (Busy starter) = object_lines
+  lines_behind why = []
+
+  -- of a step that is refused: the page that help has on that, and those lines
+  pub record TellsRefusal (why : Refusal) (behind : List ℕ) : Type 0 where
+    pub page : List ℕ
+    pub helps : HelpsOn (refusal_word why) page
+    pub told : behind ≡ codes ": " ++ (page ++ lines_behind why)
+
+  -- what is told behind a step that would get this reply
+  abbrev pub TellsReply : Reply → List ℕ → Type 0
+  TellsReply reply behind = MatchOption (refusal_in reply) (behind ≡ accepted_text reply) (λ why. TellsRefusal why behind)
+
+  -- the step, and behind it why it would be refused after the history, or what it would be answered
+  pub record TellsWhy (text : List ℕ) : Type 0 where
+    pub behind : List ℕ
+    pub told : text ≡ step_text step ++ behind
+    pub reply : TellsReply (answer (view S h) step) behind

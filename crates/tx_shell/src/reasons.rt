@@ -1,0 +1,124 @@
+//! Tells why a step would be refused.
+ghost use Rattle.std.specs.Prelude.{◌≡◌, ◌++◌, ℕ, IfOk, List, OnOk, string_bytes};
+ghost use Rattle.tx_explain.specs.Calls.{refusal_word};
+ghost use Rattle.tx_journal.specs.Entries.{history_of};
+ghost use Rattle.tx_journal.specs.Sessions.{made_of, position_of, start_of};
+ghost use Rattle.tx_script.specs.Debug.{first_steps};
+ghost use Rattle.tx_shell.specs.Reasons.{accepted_text, lines_behind, refusal_in, TellsRefusal, TellsReply, TellsWhy};
+
+use crate::blockers::put_objects;
+use crate::helps::meaning;
+use std::alloc::{AllocError, Global};
+use tx_base::{NoMemory, Refusal, Reply, Step};
+use tx_journal::Session;
+use tx_lines::{put, put_step};
+use tx_text::put_reply;
+
+/// Why a step would be refused at the position, or what it would be answered.
+///
+/// NoMemory where a growth is refused.
+pub fn tell_why(alloc: Global, session: &mut Session, step: &Step) -> Result<String, NoMemory>
+    ensures answer { IfOk result (λ text. TellsWhy (start_of session.old)
+        (first_steps (position_of session.old) (history_of session.old.entries)) step.now
+        (string_bytes text)) }
+    ensures same { session.new ≡ session.old }
+{
+    let reply = session.reply_to(alloc, step)?;
+    let mut text = String::new(alloc);
+    put_step(&mut text, step)?;
+    put_behind(&mut text, session, step, &reply)?;
+    Ok(text)
+}
+
+/// Appends what is told behind a step that would get this reply.
+fn put_behind(
+    text: &mut String,
+    session: &Session,
+    step: &Step,
+    reply: &Reply,
+) -> Result<(), AllocError>
+    ensures { OnOk result ((behind : List ℕ)
+        × (string_bytes text.new ≡ string_bytes text.old ++ behind)
+        × TellsReply (start_of session.now) (history_of (made_of session.now)) step.now reply.now
+        behind) }
+{
+    match refusal_in(reply) {
+        Some(why) => put_refusal(text, session, step, why),
+        None => put_accepted(text, reply),
+    }
+}
+
+/// Why it was refused, if it was.
+fn refusal_in(reply: &Reply) -> Option<Refusal>
+    ensures { result ≡ refusal_in reply.now }
+{
+    match reply {
+        Reply::No(why) => Some(*why),
+        _ => None,
+    }
+}
+
+/// Appends the reply that a step would get.
+fn put_accepted(text: &mut String, reply: &Reply) -> Result<(), AllocError>
+    ensures { OnOk result
+        (string_bytes text.new ≡ string_bytes text.old ++ accepted_text reply.now) }
+{
+    put(text, ": it would be answered ")?;
+    put_reply(text, reply)?;
+    put(text, "\n")
+}
+
+/// Appends why a step would be refused.
+fn put_refusal(
+    text: &mut String,
+    session: &Session,
+    step: &Step,
+    why: Refusal,
+) -> Result<(), AllocError>
+    ensures { OnOk result ((behind : List ℕ)
+        × (string_bytes text.new ≡ string_bytes text.old ++ behind)
+        × TellsRefusal (start_of session.now) (history_of (made_of session.now)) step.now why
+        behind) }
+{
+    put(text, ": ")?;
+    put(text, meaning(word(why)))?;
+    put_lines_behind(text, session, step, why)
+}
+
+/// Appends the lines behind the reason: of a step in whose way a transaction is, the objects.
+fn put_lines_behind(
+    text: &mut String,
+    session: &Session,
+    step: &Step,
+    why: Refusal,
+) -> Result<(), AllocError>
+    ensures { OnOk result (string_bytes text.new ≡ string_bytes text.old
+        ++ lines_behind (start_of session.now) (history_of (made_of session.now)) step.now why) }
+{
+    match why {
+        Refusal::Busy { .. } => put_objects(text, session, step),
+        _ => Ok(()),
+    }
+}
+
+/// The word by which a refusal is explained.
+fn word(why: Refusal) -> &'static [u8]
+    ensures { result.now ≡ refusal_word why }
+{
+    match why {
+        Refusal::NoProcess => b"N1",
+        Refusal::NotRunning => b"N2",
+        Refusal::BadNumber => b"N3",
+        Refusal::NumberTaken => b"N4",
+        Refusal::Doomed => b"N5",
+        Refusal::Parked => b"N6",
+        Refusal::KillPending => b"N7",
+        Refusal::Busy { .. } => b"N8",
+        Refusal::Wait => b"N9",
+        Refusal::NotDeliverable => b"N10",
+        Refusal::FramesFull => b"N11",
+        Refusal::NoTransaction => b"N12",
+        Refusal::NoMemory => b"N13",
+        Refusal::Deferred => b"N14",
+    }
+}
