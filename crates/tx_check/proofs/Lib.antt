@@ -11,6 +11,7 @@ pub mod Linked
 pub mod NamedLabels
 pub mod NextLines
 pub mod FirstLines
+pub mod KnownLabels
 pub mod Numbered
 pub mod OneFault
 pub mod OwnLines

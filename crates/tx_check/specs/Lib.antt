@@ -1,6 +1,7 @@
 pub mod Behind
 pub mod Command
 pub mod Kinds
+pub mod Labels
 pub mod Laws
 pub mod Numbered
 pub mod OwnLines

@@ -1,6 +1,7 @@
 //! Tells of a text what is wrong with it.
 ghost use Rattle.std.specs.Prelude.{◌≡◌, ◌≢◌, ◌+◌, ◌-◌, ◌≤◌, ℕ, List, IfOk, OnOk, string_bytes};
 ghost use Rattle.tx_check.specs.Kinds.{kind_of};
+ghost use Rattle.tx_check.specs.Labels.{AreKnown};
 ghost use Rattle.tx_check.specs.Numbered.{after_lines};
 ghost use Rattle.tx_check.specs.OwnLines.{GoesOn, IsFrom, IsLineAt};
 ghost use Rattle.tx_check.specs.Reads as spec;
@@ -16,6 +17,7 @@ ghost use Rattle.tx_plain.specs.MeantLines.{left_of, OwnsFrom};
 use crate::diagnose::{trouble_of, unknown};
 use crate::faults::first_fault;
 use crate::kinds::{Kind, kind_of};
+use crate::labels::Labels;
 use crate::own::{TextFrom, own_trouble};
 use crate::places::{Part, Place, TextLine};
 use crate::tell::tell;
@@ -36,10 +38,10 @@ use tx_plain::MeantLines;
 pub fn check_text(alloc: Global, text: &[u8]) -> Result<String, NoMemory>
     ensures { IfOk result (λ told. IsToldOf text.now (string_bytes told)) }
 {
-    let meant = MeantLines::of(text);
-    let kind = kind_of(meant);
-    match first_fault(kind, meant) {
-        Some(fault) => tell_from(alloc, kind, text, meant, fault),
+    let meant = Labels::of(MeantLines::of(text));
+    let kind = kind_of(meant.text);
+    match first_fault(kind, &meant) {
+        Some(fault) => tell_from(alloc, kind, text, &meant, fault),
         None => Ok(String::new(alloc)),
     }
 }
@@ -50,18 +52,19 @@ fn tell_from(
     alloc: Global,
     kind: Kind,
     text: &[u8],
-    meant: MeantLines<'_>,
+    meant: &Labels<'_>,
     fault: Fault,
 ) -> Result<String, NoMemory>
-    requires meant { left_of meant ≡ meant_of text.now }
-    requires numbered { OwnsFrom text.now 1 meant }
-    requires kind { kind ≡ kind_of (left_of meant) }
-    requires fault { IsAtFault kind (left_of meant) fault }
+    requires known { AreKnown meant.now }
+    requires meant { left_of meant.now.text ≡ meant_of text.now }
+    requires numbered { OwnsFrom text.now 1 meant.now.text }
+    requires kind { kind ≡ kind_of (left_of meant.now.text) }
+    requires fault { IsAtFault kind (left_of meant.now.text) fault }
     requires own { 1 ≤ own_line text.now (spec.line_of fault) }
     ensures { IfOk result (λ told.
         TellsFrom text.now (own_line text.now (spec.line_of fault)) (string_bytes told)) }
 {
-    let (place, lines) = place_of(kind, meant, fault);
+    let (place, lines) = place_of(kind, meant.text, fault);
     let (line, behind) = lines.cut();
     let meaning = line.meaning();
     let number = line_of(fault);
@@ -72,9 +75,9 @@ fn tell_from(
     };
     let own = TextFrom::first(text).moved_to(line.number);
     let own_line = own.line();
-    let trouble = trouble_at_fault(meant, &place, at_fault);
+    let trouble = trouble_at_fault(meant.text, meant, &place, at_fault);
     let mut told = String::new(alloc);
-    let is_third = meant.are_third();
+    let is_third = meant.text.are_third();
     let trouble = own_trouble(
         is_third,
         place.part,
@@ -89,10 +92,16 @@ fn tell_from(
 }
 
 /// What is told of the line at fault.
-fn trouble_at_fault<'a>(text: MeantLines<'a>, place: &Place, line: TextLine<'a>) -> Trouble<'a>
+fn trouble_at_fault<'a>(
+    lines: MeantLines<'a>,
+    text: &Labels<'_>,
+    place: &Place,
+    line: TextLine<'a>,
+) -> Trouble<'a>
+    requires { AreKnown text.now }
     ensures { IsColumn line.entry.bytes.now result.column }
 {
-    match trouble_of(text, place, line) {
+    match trouble_of(lines, text, place, line) {
         Some(trouble) => trouble,
         None => unknown(),
     }
@@ -149,18 +158,19 @@ fn place_by(fault: Fault, place: Place) -> Place
 /// to a line of its own.
 fn tell_behind(
     alloc: Global,
-    meant: MeantLines<'_>,
+    meant: &Labels<'_>,
     place: Place,
     passed: u64,
     lines: MeantLines<'_>,
     own: TextFrom<'_>,
     told: &mut String,
 ) -> Result<(), NoMemory>
-    requires place { StandsAt (left_of meant) (passed + 1) place }
-    requires lines { left_of lines ≡ after_lines passed (left_of meant) }
+    requires known { AreKnown meant.now }
+    requires place { StandsAt (left_of meant.now.text) (passed + 1) place }
+    requires lines { left_of lines ≡ after_lines passed (left_of meant.now.text) }
     requires some { 1 ≤ passed }
     ensures { OnOk result
-        ((text : List ℕ) (first : ℕ) → left_of meant.entry ≡ meant_of text →
+        ((text : List ℕ) (first : ℕ) → left_of meant.now.text ≡ meant_of text →
         OwnsFrom text (passed + 1) lines.entry → IsFrom text own.entry →
         TellsUpTo text first own.entry.number (string_bytes told.old) →
         TellsFrom text first (string_bytes told.new)) }
@@ -192,20 +202,21 @@ fn tell_behind(
 /// fault. Says how far the text itself is told of then.
 fn tell_line<'a>(
     alloc: Global,
-    meant: MeantLines<'_>,
+    meant: &Labels<'_>,
     place: &Place,
     line: TextLine<'_>,
     number: u64,
     own: TextFrom<'a>,
     told: &mut String,
 ) -> Result<TextFrom<'a>, NoMemory>
-    requires place { StandsAt (left_of meant) line.number place.now }
-    requires line { IsLineAt (left_of meant) line }
+    requires known { AreKnown meant.now }
+    requires place { StandsAt (left_of meant.now.text) line.number place.now }
+    requires line { IsLineAt (left_of meant.now.text) line }
     ensures { IfOk result (λ next.
-        GoesOn meant.entry line.entry.number number own.entry next
+        GoesOn meant.now.text line.entry.number number own.entry next
         (string_bytes told.old) (string_bytes told.new)) }
 {
-    let Some(trouble) = trouble_of(meant, place, line) else {
+    let Some(trouble) = trouble_of(meant.text, meant, place, line) else {
         return Ok(own);
     };
     if number <= own.number {
@@ -213,7 +224,7 @@ fn tell_line<'a>(
     }
     let next = own.moved_to(number);
     let own_line = next.line();
-    let is_third = meant.are_third();
+    let is_third = meant.text.are_third();
     let trouble = own_trouble(is_third, place.part, line.bytes, own_line.bytes, trouble);
     tell(alloc, told, own_line, trouble)?;
     Ok(next)

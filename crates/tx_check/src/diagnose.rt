@@ -1,5 +1,6 @@
 //! What is wrong with a line, by what is to stand in its place.
 ghost use Rattle.std.specs.Prelude.{◌≡◌, ◌≤◌, ◌⊎◌, IfNone, IfSome, IsFalse, IsTrue, false, length};
+ghost use Rattle.tx_check.specs.Labels.{AreKnown};
 ghost use Rattle.tx_check.specs.Right.{IsNoneThere, IsRight};
 ghost use Rattle.tx_check.specs.Stands.{IsPlaceOf, Stand};
 ghost use Rattle.tx_check.specs.Told.{IsColumn};
@@ -24,6 +25,7 @@ use crate::diagnose::labels::{link_trouble, second_label};
 use crate::diagnose::program_lines::program_line_trouble;
 use crate::diagnose::shapes::shape_trouble;
 use crate::diagnose::steps::step_trouble;
+use crate::labels::Labels;
 use crate::places::{Part, Place, TextLine, is_debug};
 use crate::trouble::{LineTrouble, Trouble};
 use tx_lines::{LINE_BYTES, read_command, read_line, read_step};
@@ -31,17 +33,19 @@ use tx_plain::MeantLines;
 
 /// What is wrong with the line of a text at that place. Nothing where it is right.
 pub fn trouble_of<'a>(
-    text: MeantLines<'a>,
+    lines: MeantLines<'a>,
+    text: &Labels<'_>,
     place: &Place,
     line: TextLine<'a>,
 ) -> Option<Trouble<'a>>
+    requires { AreKnown text.now }
     ensures column { IfSome result (λ trouble. IsColumn line.entry.bytes.now trouble.column) }
     ensures right { IfNone result
         (IsRight place.now.part place.now.version line.entry.bytes.now) }
     ensures short { IfNone result (length line.entry.bytes.now ≤ 512) }
     ensures ended { IfNone result (IsTrue line.entry.is_ended) }
     ensures wrong { IfSome result (λ trouble. (stand : Stand) → IsPlaceOf stand place.now →
-        IsWrong place.now.version (left_of text.entry) line.entry.number stand line.entry.bytes.now
+        IsWrong place.now.version (left_of text.now.text) line.entry.number stand line.entry.bytes.now
         line.entry.is_ended) }
 {
     if line.bytes.len() > LINE_BYTES {
@@ -53,7 +57,7 @@ pub fn trouble_of<'a>(
     if !is_right(place, line.bytes) {
         return Some(trouble_in(place, line.bytes, line.is_ended));
     }
-    match trouble_between(text, place, line.number, line.bytes) {
+    match trouble_between(lines, text, place, line.number, line.bytes) {
         Some(trouble) => Some(trouble),
         None => no_end(line.bytes, line.is_ended),
     }
@@ -116,18 +120,20 @@ pub fn unknown() -> Trouble<'static>
 
 /// What is wrong with a line that is right by itself, beside the other lines of the text.
 fn trouble_between<'a>(
-    text: MeantLines<'a>,
+    lines: MeantLines<'a>,
+    text: &Labels<'_>,
     place: &Place,
     number: u64,
     line: &'a [u8],
 ) -> Option<Trouble<'a>>
+    requires { AreKnown text.now }
     ensures column { IfSome result (λ trouble. IsColumn line.now trouble.column) }
     ensures wrong { IfSome result (λ trouble.
-        IsTwice (left_of text.entry) number line.now ⊎ NamesNowhere (left_of text.entry) line.now) }
+        IsTwice (left_of text.now.text) number line.now ⊎ NamesNowhere (left_of text.now.text) line.now) }
 {
     match place.part {
         Part::ProgramLine => second_label(text, number, line),
-        Part::Link => link_trouble(text, line),
+        Part::Link => link_trouble(lines, text, line),
         _ => None,
     }
 }

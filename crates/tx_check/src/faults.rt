@@ -4,6 +4,7 @@ ghost use Rattle.std.specs.Option.{option_copied};
 ghost use Rattle.tx_check.specs.Behind.{AreLinesBehind, AreLinked, FaultsBehind, IsFaultAt, IsNamedNowhere, IsNowhere, MayStand};
 ghost use Rattle.tx_check.specs.Kinds.{head_of};
 ghost use Rattle.tx_check.specs.Kinds as spec;
+ghost use Rattle.tx_check.specs.Labels.{AreKnown};
 ghost use Rattle.tx_check.specs.Reads.{Finds};
 ghost use Rattle.tx_check.specs.Wrong.{IsTwice};
 ghost use Rattle.tx_check.specs.declared.kinds.Kind.TheVariants as kinds;
@@ -15,9 +16,10 @@ ghost use Rattle.tx_plain.specs.MeantLines.{left_of};
 ghost use Rattle.tx_lines.specs.declared.read.header.TextKind.TheVariants as texts;
 
 use crate::diagnose::is_right;
-use crate::diagnose::labels::{line_of_label, second_label};
+use crate::diagnose::labels::second_label;
 use crate::heads::header_of;
 use crate::kinds::Kind;
+use crate::labels::Labels;
 use crate::places::{Part, Place, TextLine, kind_of_head};
 use tx_lines::{Fault, Header, LINE_BYTES, Line, Name, Version, read_line};
 use tx_plain::MeantLines;
@@ -29,14 +31,15 @@ const FIRST_LINE: u64 = 2;
 /// in its place, and where there is none, of the first one which names a label that is nowhere.
 /// Nothing where the command reads the text.
 ///
-/// No line is kept, so labels are sought in the text, from its first line on. That takes a look at a
-/// line for each line of a program before each of its labels, and before each label that is named: at
-/// most 1,280 looks for each of 256 labels and of 1,024 instructions.
-pub fn first_fault(kind: Kind, text: MeantLines<'_>) -> Option<Fault>
-    requires { kind ≡ spec.kind_of (left_of text) }
-    ensures { Finds kind (left_of text.entry) result }
+/// No line is kept, but where labels stand is known. That takes a look at a label for each one of a
+/// program before each of its labels, and before each label that is named: at most 256 looks for each
+/// of 256 labels and of 1,024 instructions.
+pub fn first_fault(kind: Kind, text: &Labels<'_>) -> Option<Fault>
+    requires known { AreKnown text.now }
+    requires kind { kind ≡ spec.kind_of (left_of text.now.text) }
+    ensures { Finds kind (left_of text.now.text) result }
 {
-    let (header, left) = match header_of(kind_of_head(kind), text) {
+    let (header, left) = match header_of(kind_of_head(kind), text.text) {
         Ok(found) => found,
         Err(fault) => return Some(fault),
     };
@@ -52,12 +55,13 @@ pub fn first_fault(kind: Kind, text: MeantLines<'_>) -> Option<Fault>
 /// The fault of the first line behind a text's header that is at fault in its place.
 fn fault_behind(
     kind: Kind,
-    text: MeantLines<'_>,
+    text: &Labels<'_>,
     header: Header,
     rest: MeantLines<'_>,
 ) -> Option<Fault>
-    requires kind { kind ≡ spec.kind_of (left_of text) }
-    requires header { SpellsHeader (head_of kind) (left_of text) header (left_of rest) }
+    requires known { AreKnown text.now }
+    requires kind { kind ≡ spec.kind_of (left_of text.now.text) }
+    requires header { SpellsHeader (head_of kind) (left_of text.now.text) header (left_of rest) }
     ensures { MatchOption result (AreLinesBehind kind header.version (left_of rest.entry))
         (FaultsBehind kind header.version (left_of rest.entry)) }
 {
@@ -82,9 +86,10 @@ fn fault_behind(
 }
 
 /// The fault of a line of a text at that place. Nothing where it may stand there.
-fn fault_at(text: MeantLines<'_>, place: &Place, line: TextLine<'_>) -> Option<Fault>
-    ensures may { IfNone result (MayStand (left_of text.entry) place.now line.entry) }
-    ensures fault { IfSome result (IsFaultAt (left_of text.entry) place.now line.entry) }
+fn fault_at(text: &Labels<'_>, place: &Place, line: TextLine<'_>) -> Option<Fault>
+    requires { AreKnown text.now }
+    ensures may { IfNone result (MayStand (left_of text.now.text) place.now line.entry) }
+    ensures fault { IfSome result (IsFaultAt (left_of text.now.text) place.now line.entry) }
 {
     let number = line.number;
     if line.bytes.len() > LINE_BYTES || place.one_too_many(line.bytes).is_some() {
@@ -97,9 +102,10 @@ fn fault_at(text: MeantLines<'_>, place: &Place, line: TextLine<'_>) -> Option<F
 }
 
 /// Whether a line of a program is a label whose name stands in a line before it.
-fn is_second_label(text: MeantLines<'_>, place: &Place, line: TextLine<'_>) -> bool
+fn is_second_label(text: &Labels<'_>, place: &Place, line: TextLine<'_>) -> bool
+    requires { AreKnown text.now }
     ensures { IsTrue result ↔ ((place.now.part ≡ parts.ProgramLine)
-        × IsTwice (left_of text.entry) line.entry.number line.entry.bytes.now) }
+        × IsTwice (left_of text.now.text) line.entry.number line.entry.bytes.now) }
 {
     match place.part {
         Part::ProgramLine => second_label(text, line.number, line.bytes).is_some(),
@@ -108,8 +114,9 @@ fn is_second_label(text: MeantLines<'_>, place: &Place, line: TextLine<'_>) -> b
 }
 
 /// The fault of the first line of a program that names a label which is nowhere.
-fn unlinked(text: MeantLines<'_>, header: Header, rest: MeantLines<'_>) -> Option<Fault>
-    requires header { SpellsHeader texts.Program (left_of text) header (left_of rest) }
+fn unlinked(text: &Labels<'_>, header: Header, rest: MeantLines<'_>) -> Option<Fault>
+    requires known { AreKnown text.now }
+    requires header { SpellsHeader texts.Program (left_of text.now.text) header (left_of rest) }
     requires lines { AreLinesBehind kinds.Program header.version (left_of rest) }
     ensures { MatchOption result (AreLinked header.version (left_of rest.entry))
         (FaultsBehind kinds.Program header.version (left_of rest.entry)) }
@@ -127,10 +134,11 @@ fn unlinked(text: MeantLines<'_>, header: Header, rest: MeantLines<'_>) -> Optio
 }
 
 /// Whether a line of a program of that version names a label which is nowhere in the text.
-fn is_unlinked(text: MeantLines<'_>, version: Version, line: &[u8]) -> bool
-    requires { length line.now ≤ 512 }
+fn is_unlinked(text: &Labels<'_>, version: Version, line: &[u8]) -> bool
+    requires known { AreKnown text.now }
+    requires short { length line.now ≤ 512 }
     ensures { (one : Line) → IsLineOf version one → line.now ≡ line_text one →
-        (IsTrue result ↔ IsNamedNowhere (left_of text.entry) one) }
+        (IsTrue result ↔ IsNamedNowhere (left_of text.now.text) one) }
 {
     match read_line(version, line) {
         Some(one) => names_nowhere(text, &one),
@@ -139,8 +147,9 @@ fn is_unlinked(text: MeantLines<'_>, version: Version, line: &[u8]) -> bool
 }
 
 /// Whether a line of a program names a label which is nowhere in the text.
-fn names_nowhere(text: MeantLines<'_>, line: &Line) -> bool
-    ensures { IsTrue result ↔ IsNamedNowhere (left_of text.entry) line.now }
+fn names_nowhere(text: &Labels<'_>, line: &Line) -> bool
+    requires { AreKnown text.now }
+    ensures { IsTrue result ↔ IsNamedNowhere (left_of text.now.text) line.now }
 {
     match line {
         Line::Label(_name) => false,
@@ -149,11 +158,12 @@ fn names_nowhere(text: MeantLines<'_>, line: &Line) -> bool
 }
 
 /// Whether a label is named that is nowhere in the text.
-fn is_nowhere(text: MeantLines<'_>, label: Option<&Name>) -> bool
-    ensures { IsTrue result ↔ IsNowhere (left_of text.entry) (option_copied label.entry) }
+fn is_nowhere(text: &Labels<'_>, label: Option<&Name>) -> bool
+    requires { AreKnown text.now }
+    ensures { IsTrue result ↔ IsNowhere (left_of text.now.text) (option_copied label.entry) }
 {
     match label {
-        Some(name) => line_of_label(text, name.bytes.as_slice()).is_none(),
+        Some(name) => text.place_of(name.bytes.as_slice()).is_none(),
         None => false,
     }
 }

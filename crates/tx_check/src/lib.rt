@@ -24,6 +24,7 @@ mod faults;
 mod forms;
 mod heads;
 mod kinds;
+mod labels;
 mod laws;
 mod near;
 mod own;

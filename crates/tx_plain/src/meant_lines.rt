@@ -28,7 +28,7 @@ pub struct MeantLines<'a> {
 }
 
 /// A line of a text that means one of the first two versions.
-#[derive(Clone, Copy)]
+#[derive(Clone, Copy, Default)]
 pub struct OwnLine<'a> {
     stage: Option<Stage>,
     bytes: &'a [u8],

@@ -1,4 +1,4 @@
-use Rattle.std.proofs.Common.{List, ℕ, refl, string_bytes, subst}
+use Rattle.std.proofs.Common.{List, ℕ, ap, refl, string_bytes, subst, ◌∙◌}
 use Rattle.tx_check.proofs.Numbered.{some_line}
 use Rattle.tx_check.proofs.OwnLines.{fault_told, own_some}
 use Rattle.tx_check.proofs.ToldOf.{told_read}
@@ -11,21 +11,21 @@ use Rattle.tx_check.proofs.checks.check_text.Goals as goal
 pub tell_from-requires-clause-own : goal.tell_from-requires-clause-own
 tell_from-requires-clause-own c =
     let fault = c.in-Some.fault in
-    own_some c.args.text.now (line_of fault) (some_line c.kind_of-kind.result (left_of c.of-meant.result) fault c.in-Some.ensures)
+    own_some c.args.text.now (line_of fault) (some_line c.kind_of-kind.result (left_of c.of-meant.result.text) fault c.in-Some.ensures)
 
 pub returns-in-Some : goal.returns-in-Some
 returns-in-Some c =
     let fault = c.in-Some.fault in
     let text = c.args.text.now in
-    let read = left_of c.of-meant.result in
+    let read = left_of c.of-meant.result.text in
     let some = some_line c.kind_of-kind.result read fault c.in-Some.ensures in
     let of_kind = subst (λ (kind : Kind). IsAtFault kind read fault) c.kind_of-kind.ensures c.in-Some.ensures in
-    let at_fault = subst (λ (meant : List ℕ). IsAtFault (kind_of meant) meant fault) c.of-meant.ensures.left of_kind in
+    let at_fault = subst (λ (meant : List ℕ). IsAtFault (kind_of meant) meant fault) (ap left_of c.of-meant.ensures.text ∙ c.of.ensures.left) of_kind in
     fault_told string_bytes c.tell_from.result text fault _ at_fault some refl c.tell_from.ensures
 
 pub returns-in-None : goal.returns-in-None
 returns-in-None c =
     let text = c.args.text.now in
-    let read = left_of c.of-meant.result in
+    let read = left_of c.of-meant.result.text in
     let of_kind = subst (λ (kind : Kind). IsRead kind read) c.kind_of-kind.ensures c.in-None.ensures in
-    told_read text (string_bytes c.new.result) (subst (λ (meant : List ℕ). IsRead (kind_of meant) meant) c.of-meant.ensures.left of_kind) c.new.ensures.bytes
+    told_read text (string_bytes c.new.result) (subst (λ (meant : List ℕ). IsRead (kind_of meant) meant) (ap left_of c.of-meant.ensures.text ∙ c.of.ensures.left) of_kind) c.new.ensures.bytes

@@ -9,7 +9,7 @@ use Rattle.tx_check.proofs.checks.tell_behind.Goals as goal
 pub tell_line-requires-clause-line : goal.tell_line-requires-clause-line
 tell_line-requires-clause-line c =
     let next = c.in-Some.ensures in
-    line_there (left_of c.args.meant) (left_of c.loop-before.left) c.loop-before.before _ c.loop-before.invariant.at next.some
+    line_there (left_of c.args.meant.now.text) (left_of c.loop-before.left) c.loop-before.before _ c.loop-before.invariant.at next.some
     c.loop-before.invariant.some refl (c.as_bytes.ensures ∙ c.meaning-meaning.ensures ∙ next.line.bytes) next.line.ended
 
 pub returns-in_default : goal.returns-in_default
@@ -20,7 +20,7 @@ returns-then-is_past_all c = λ text first is_meant owns is up_to. ((c.loop-befo
 
 pub loop-before-preserved : goal.loop-before-preserved
 loop-before-preserved c =
-    let meant = left_of c.args.meant in
+    let meant = left_of c.args.meant.now.text in
     let before = c.loop-before.before in
     let so = c.loop-before.invariant in
     let next = c.in-Some.ensures in

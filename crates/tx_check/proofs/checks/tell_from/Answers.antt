@@ -21,7 +21,7 @@ moved_to-own-requires c =
 
 pub tell_behind-requires-clause-place : goal.tell_behind-requires-clause-place
 tell_behind-requires-clause-place c =
-    let meant = left_of c.args.meant in
+    let meant = left_of c.args.meant.now.text in
     let number = line_of c.args.fault in
     let some = some_line c.args.kind meant c.args.fault c.requires.fault in
     let line = c.as_bytes.ensures ∙ c.meaning-meaning.ensures ∙ c.cut.ensures.line.bytes ∙ ap first_line c.place_of.ensures.left in
@@ -30,7 +30,7 @@ tell_behind-requires-clause-place c =
 
 pub tell_behind-requires-clause-lines : goal.tell_behind-requires-clause-lines
 tell_behind-requires-clause-lines c =
-    let meant = left_of c.args.meant in
+    let meant = left_of c.args.meant.now.text in
     let number = line_of c.args.fault in
     let some = some_line c.args.kind meant c.args.fault c.requires.fault in
     let here : number - 1 + 1 ≡ c.line_of-number.result = omega (arith, some, c.line_of-number.ensures) in
@@ -38,7 +38,7 @@ tell_behind-requires-clause-lines c =
 
 pub tell_behind-requires-clause-some : goal.tell_behind-requires-clause-some
 tell_behind-requires-clause-some c =
-    omega (arith, some_line c.args.kind (left_of c.args.meant) c.args.fault c.requires.fault, c.line_of-number.ensures)
+    omega (arith, some_line c.args.kind (left_of c.args.meant.now.text) c.args.fault c.requires.fault, c.line_of-number.ensures)
 
 pub returns : goal.returns
 returns c =

@@ -6,7 +6,7 @@ use Rattle.tx_check.proofs.checks.tell_line.Goals as goal
 
 pub returns : goal.returns
 returns c =
-    let meant = c.args.meant in
+    let meant = c.args.meant.now.text in
     let place = c.args.place.now in
     let at = c.args.line in
     let next = c.moved_to-next in

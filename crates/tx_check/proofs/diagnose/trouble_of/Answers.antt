@@ -16,7 +16,7 @@ returns-then-not-is_right-clause-wrong c = λ stand is.
 
 pub returns-in-Some-trouble_between-clause-wrong : goal.returns-in-Some-trouble_between-clause-wrong
 returns-in-Some-trouble_between-clause-wrong c = λ stand is.
-    between c.args.place.now.version (left_of c.args.text) c.args.line.number stand c.args.line.bytes.now c.args.line.is_ended c.in-Some-trouble_between.ensures.wrong
+    between c.args.place.now.version (left_of c.args.text.now.text) c.args.line.number stand c.args.line.bytes.now c.args.line.is_ended c.in-Some-trouble_between.ensures.wrong
 
 pub returns-in-None-clause-wrong : goal.returns-in-None-clause-wrong
 returns-in-None-clause-wrong c = on_some c.no_end.result (λ unended stand is. NoEnd unended) c.no_end.ensures.unended

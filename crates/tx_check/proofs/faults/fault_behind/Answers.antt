@@ -10,7 +10,7 @@ pub loop-own-init : goal.loop-own-init
 loop-own-init c =
     let place = c.behind_header-place in
     record {
-      so = so_far_first c.args.kind (left_of c.args.text) (left_of c.args.rest) c.args.header place.result c.requires.kind c.requires.header place.ensures.link
+      so = so_far_first c.args.kind (left_of c.args.text.now.text) (left_of c.args.rest) c.args.header place.result c.requires.kind c.requires.header place.ensures.link
           (subst (λ (kind : TextKind). (line : List ℕ) → IsPlaceOf (stand_after (AtHeader kind) line) place.result) c.kind_of_head.ensures place.ensures.stands);
       version = place.ensures.version;
     }
@@ -18,7 +18,7 @@ loop-own-init c =
 pub returns-in-Some-fault_at : goal.returns-in-Some-fault_at
 returns-in-Some-fault_at c =
     let next = c.in-Some.ensures in
-    so_far_fault c.args.kind c.args.header.version (left_of c.args.text) (left_of c.args.rest) c.args.header c.loop-own.number c.loop-own.place (left_of c.loop-own.left)
+    so_far_fault c.args.kind c.args.header.version (left_of c.args.text.now.text) (left_of c.args.rest) c.args.header c.loop-own.number c.loop-own.place (left_of c.loop-own.left)
     (record { number = c.loop-own.number; bytes = c.as_bytes.result; is_ended = c.in-Some.own.is_ended }) c.in-Some-fault_at.fault c.requires.header c.loop-own.invariant.so
     (record {
       of = c.loop-own.invariant.version;
@@ -35,7 +35,7 @@ overflow_add-number c =
 pub loop-own-preserved : goal.loop-own-preserved
 loop-own-preserved c =
     let next = c.in-Some.ensures in
-    let more = so_far_more c.args.kind c.args.header.version (left_of c.args.text) (left_of c.args.rest) c.args.header c.loop-own.number c.loop-own.place c.after-place.result (left_of c.loop-own.left) _ c.requires.header c.loop-own.invariant.so
+    let more = so_far_more c.args.kind c.args.header.version (left_of c.args.text.now.text) (left_of c.args.rest) c.args.header c.loop-own.number c.loop-own.place c.after-place.result (left_of c.loop-own.left) _ c.requires.header c.loop-own.invariant.so
     (record {
       of = c.loop-own.invariant.version;
       at = refl;

@@ -9,8 +9,8 @@ use Rattle.tx_check.proofs.faults.unlinked.Goals as goal
 pub loop-line-init : goal.loop-line-init
 loop-line-init c = linked_first c.args.header.version (left_of c.args.rest) c.requires.lines
 
-pub is_unlinked-requires : goal.is_unlinked-requires
-is_unlinked-requires c =
+pub is_unlinked-requires-clause-short : goal.is_unlinked-requires-clause-short
+is_unlinked-requires-clause-short c =
     let version = c.args.header.version in
     let so = c.loop-line.invariant in
     let next = next_line version (left_of c.args.rest) c.loop-line.number (left_of c.loop-line.left) so c.in-Some.ensures.some in
@@ -21,7 +21,7 @@ returns-then-is_unlinked c =
     let version = c.args.header.version in
     let so = c.loop-line.invariant in
     let next = next_line version (left_of c.args.rest) c.loop-line.number (left_of c.loop-line.left) so c.in-Some.ensures.some in
-    linked_fault version (left_of c.args.text) (left_of c.args.rest) c.args.header c.loop-line.number (left_of c.loop-line.left) so next c.requires.header
+    linked_fault version (left_of c.args.text.now.text) (left_of c.args.rest) c.args.header c.loop-line.number (left_of c.loop-line.left) so next c.requires.header
     ((c.if-is_unlinked.ensures next.one next.good (c.as_bytes.ensures ∙ c.meaning.ensures ∙ c.in-Some.ensures.line.bytes ∙ next.first)).0 refl)
 
 pub overflow_add-number : goal.overflow_add-number
@@ -35,9 +35,9 @@ loop-line-preserved c =
     let so = c.loop-line.invariant in
     let next = next_line version (left_of c.args.rest) c.loop-line.number (left_of c.loop-line.left) so c.in-Some.ensures.some in
     let linked = c.if-is_unlinked.ensures next.one next.good (c.as_bytes.ensures ∙ c.meaning.ensures ∙ c.in-Some.ensures.line.bytes ∙ next.first) in
-    let there : IsNamedNowhere (left_of c.args.text) next.one → ⊥ = λ nowhere. let bad = linked.1 nowhere in absurd (cc) in
+    let there : IsNamedNowhere (left_of c.args.text.now.text) next.one → ⊥ = λ nowhere. let bad = linked.1 nowhere in absurd (cc) in
     subst (λ (left : List ℕ). LinkedSoFar version (left_of c.args.rest) (c.loop-line.number + 1) left) (sym c.in-Some.ensures.line.behind)
-    (linked_next version (left_of c.args.text) (left_of c.args.rest) c.args.header c.loop-line.number (left_of c.loop-line.left) so next c.requires.header there)
+    (linked_next version (left_of c.args.text.now.text) (left_of c.args.rest) c.args.header c.loop-line.number (left_of c.loop-line.left) so next c.requires.header there)
 
 pub returns : goal.returns
 returns c =

@@ -1,0 +1,173 @@
+//! The labels among the lines that a text means.
+ghost use Rattle.std.specs.Prelude.{◌≡◌, ◌≢◌, ◌+◌, ◌<◌, ◌≤◌, ◌++◌, ◌↔◌, ℕ, IfNone, IfSome, IsFalse, IsTrue, map};
+ghost use Rattle.tx_check.specs.Labels.{label_at, with_label, AreKnown};
+ghost use Rattle.tx_check.specs.Numbered.{after_lines, line_at};
+ghost use Rattle.tx_lines.specs.Programs.{label_front};
+ghost use Rattle.tx_lines.specs.Schedule.{first_line};
+ghost use Rattle.tx_plain.specs.MeantLines.{left_of, line_of};
+
+use crate::places::is_label;
+use arrayvec::ArrayVec;
+use tx_plain::{MeantLines, OwnLine};
+
+/// How many bytes a label's line has before the name.
+pub const LABEL_FRONT: usize = 6;
+
+/// A line that means a label, and its number among the lines that are meant.
+#[derive(Clone, Copy, Default)]
+pub struct LabelLine<'a> {
+    number: u64,
+    line: OwnLine<'a>,
+}
+
+/// Where a label stands. Lines count from 1.
+#[derive(Clone, Copy)]
+pub struct LabelPlace {
+    /// The line among those that the text means.
+    pub number: u64,
+    /// The line of the text itself.
+    pub own: u64,
+}
+
+/// The lines that a text means, and where the first labels stand among them: as many as a program
+/// may have.
+#[derive(Drop)]
+pub struct Labels<'a> {
+    /// All lines.
+    pub text: MeantLines<'a>,
+    known: ArrayVec<LabelLine<'a>, 256>,
+    /// How many lines these were sought in.
+    passed: u64,
+    /// The lines behind those.
+    behind: MeantLines<'a>,
+}
+
+impl<'a> Labels<'a> {
+    /// The labels of a text.
+    pub fn of(text: MeantLines<'a>) -> Labels<'a>
+        ensures text { result.text ≡ text.entry }
+        ensures known { AreKnown result }
+    {
+        let mut known = ArrayVec::new();
+        let mut passed: u64 = 0;
+        let mut left = text;
+        while let Some((line, behind)) = left.split() {
+            if !put_label(&mut known, passed + 1, line) {
+                break;
+            }
+            passed += 1;
+            left = behind;
+        }
+        Labels {
+            text,
+            known,
+            passed,
+            behind: left,
+        }
+    }
+
+    /// Where the first line stands that is the label of that name.
+    pub fn place_of(&self, name: &[u8]) -> Option<LabelPlace>
+        requires { AreKnown self.now }
+        ensures some { IfSome result (λ place. 1 ≤ place.number) }
+        ensures found { IfSome result (λ place.
+            line_at place.number (left_of self.now.text) ≡ label_front ++ name.now) }
+        ensures first { IfSome result (λ place.
+            (earlier : ℕ) → 1 ≤ earlier → earlier < place.number →
+            line_at earlier (left_of self.now.text) ≢ label_front ++ name.now) }
+        ensures none { IfNone result
+            ((number : ℕ) → line_at number (left_of self.now.text) ≢ label_front ++ name.now) }
+    {
+        match self.known_place(name) {
+            Some(place) => Some(place),
+            None => self.later_place(name),
+        }
+    }
+
+    /// Where the first of the known labels stands that has that name.
+    fn known_place(&self, name: &[u8]) -> Option<LabelPlace>
+        requires { AreKnown self.now }
+        ensures some { IfSome result (λ place. 1 ≤ place.number) }
+        ensures found { IfSome result (λ place.
+            line_at place.number (left_of self.now.text) ≡ label_front ++ name.now) }
+        ensures first { IfSome result (λ place.
+            (earlier : ℕ) → 1 ≤ earlier → earlier < place.number →
+            line_at earlier (left_of self.now.text) ≢ label_front ++ name.now) }
+        ensures none { IfNone result ((count : ℕ) → count < self.now.passed →
+            first_line (after_lines count (left_of self.now.text)) ≢ label_front ++ name.now) }
+    {
+        for at in 0..self.known.len() {
+            let label = self.known.as_slice()[at];
+            if means_label(label.line, name) {
+                return Some(LabelPlace {
+                    number: label.number,
+                    own: label.line.number,
+                });
+            }
+        }
+        None
+    }
+
+    /// Where the first line stands that is the label of that name, where none is before those that
+    /// were not looked at.
+    fn later_place(&self, name: &[u8]) -> Option<LabelPlace>
+        requires known { AreKnown self.now }
+        requires none { (count : ℕ) → count < self.now.passed →
+            first_line (after_lines count (left_of self.now.text)) ≢ label_front ++ name.now }
+        ensures some { IfSome result (λ place. 1 ≤ place.number) }
+        ensures found { IfSome result (λ place.
+            line_at place.number (left_of self.now.text) ≡ label_front ++ name.now) }
+        ensures first { IfSome result (λ place.
+            (earlier : ℕ) → 1 ≤ earlier → earlier < place.number →
+            line_at earlier (left_of self.now.text) ≢ label_front ++ name.now) }
+        ensures none { IfNone result
+            ((number : ℕ) → line_at number (left_of self.now.text) ≢ label_front ++ name.now) }
+    {
+        let mut left = self.behind;
+        let mut passed = self.passed;
+        while let Some((line, rest)) = left.split() {
+            passed += 1;
+            if means_label(line, name) {
+                return Some(LabelPlace {
+                    number: passed,
+                    own: line.number,
+                });
+            }
+            left = rest;
+        }
+        None
+    }
+}
+
+/// Puts a line of that number to the labels, where it means one. Says whether there was room for it.
+fn put_label<'a>(known: &mut ArrayVec<LabelLine<'a>, 256>, number: u64, line: OwnLine<'a>) -> bool
+    ensures put { IsTrue result → map label_at known.new.items
+        ≡ with_label number (line_of line.entry) (map label_at known.old.items) }
+    ensures full { IsFalse result → known.new.items ≡ known.old.items }
+{
+    if line.label().is_none() {
+        return true;
+    }
+    if known.is_full() {
+        return false;
+    }
+    known.push(LabelLine { number, line });
+    true
+}
+
+/// Whether a line means the label of that name.
+fn means_label(line: OwnLine<'_>, name: &[u8]) -> bool
+    ensures { IsTrue result ↔ (line_of line.entry ≡ label_front ++ name.now) }
+{
+    match line.label() {
+        Some(label) => is_label_of(label.as_bytes(), name),
+        None => false,
+    }
+}
+
+/// Whether a line is the label of that name.
+fn is_label_of(line: &[u8], name: &[u8]) -> bool
+    ensures { IsTrue result ↔ (line.now ≡ label_front ++ name.now) }
+{
+    is_label(line) && &line[LABEL_FRONT..] == name
+}
