@@ -68,6 +68,7 @@ module _ (o : Origin) (p q : Place) (text : List ℕ) (all : AllFit o.version p.
   asked (asks.StepsBetween first last) answers = same_place answers.1
   asked asks.Text prints = same_place prints.stays
   asked (asks.Try step) answers = same_place answers.1
+  asked (asks.Why step) answers = same_place answers.1
   asked (asks.Without starter) answers = same_place answers.1
   asked asks.Owns answers = same_place answers.1
   asked (asks.OwnsOf starter) answers = same_place answers.1
