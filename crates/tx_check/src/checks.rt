@@ -25,7 +25,7 @@ use crate::trouble::Trouble;
 use std::alloc::Global;
 use tx_base::NoMemory;
 use tx_lines::Fault;
-use tx_plain::MeantLines;
+use tx_plain::{MeantLines, Room};
 
 /// What is told of a text of any version: nothing exactly where what it means is a text of its kind
 /// (`kind_of`), and so is read by the command of that kind. Else a line for each line at fault,
@@ -66,11 +66,11 @@ fn tell_from(
 {
     let (place, lines) = place_of(kind, meant.text, fault);
     let (line, behind) = lines.cut();
-    let meaning = line.meaning();
+    let mut room = Room::new();
     let number = line_of(fault);
     let at_fault = TextLine {
         number,
-        bytes: meaning.as_bytes(),
+        bytes: line.meaning(&mut room),
         is_ended: line.is_ended,
     };
     let own = TextFrom::first(text).moved_to(line.number);
@@ -129,10 +129,11 @@ fn place_of(kind: Kind, text: MeantLines<'_>, fault: Fault) -> (Place, MeantLine
         OwnsFrom own (spec.line_of fault) result.1 }
 {
     let mut place = Place::first(kind, text);
+    let mut room = Room::new();
     let mut left = text;
     for _before in 0..line_of(fault) - 1 {
         let (line, behind) = left.cut();
-        place = place.after(line.meaning().as_bytes());
+        place = place.after(line.meaning(&mut room));
         left = behind;
     }
     (place_by(fault, place), left)
@@ -177,6 +178,7 @@ fn tell_behind(
 {
     let mut place = place;
     let mut reached = own;
+    let mut room = Room::new();
     let mut left = lines;
     for before in passed..u64::MAX {
         let Some((line, behind)) = left.split() else {
@@ -185,10 +187,9 @@ fn tell_behind(
         if place.is_past_all() {
             return Ok(());
         }
-        let meaning = line.meaning();
         let next = TextLine {
             number: before + 1,
-            bytes: meaning.as_bytes(),
+            bytes: line.meaning(&mut room),
             is_ended: line.is_ended,
         };
         reached = tell_line(alloc, meant, &place, next, line.number, reached, told)?;

@@ -45,8 +45,8 @@ pub fn trouble_of<'a>(
     ensures short { IfNone result (length line.entry.bytes.now ≤ 512) }
     ensures ended { IfNone result (IsTrue line.entry.is_ended) }
     ensures wrong { IfSome result (λ trouble. (stand : Stand) → IsPlaceOf stand place.now →
-        IsWrong place.now.version (left_of text.now.text) line.entry.number stand line.entry.bytes.now
-        line.entry.is_ended) }
+        IsWrong place.now.version (left_of text.now.text) line.entry.number stand
+        line.entry.bytes.now line.entry.is_ended) }
 {
     if line.bytes.len() > LINE_BYTES {
         return Some(Trouble::of_line(LINE_BYTES + 1, LineTrouble::TooLong));
@@ -129,7 +129,8 @@ fn trouble_between<'a>(
     requires { AreKnown text.now }
     ensures column { IfSome result (λ trouble. IsColumn line.now trouble.column) }
     ensures wrong { IfSome result (λ trouble.
-        IsTwice (left_of text.now.text) number line.now ⊎ NamesNowhere (left_of text.now.text) line.now) }
+        IsTwice (left_of text.now.text) number line.now
+        ⊎ NamesNowhere (left_of text.now.text) line.now) }
 {
     match place.part {
         Part::ProgramLine => second_label(text, number, line),

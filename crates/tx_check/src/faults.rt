@@ -22,7 +22,7 @@ use crate::kinds::Kind;
 use crate::labels::Labels;
 use crate::places::{Part, Place, TextLine, kind_of_head};
 use tx_lines::{Fault, Header, LINE_BYTES, Line, Name, Version, read_line};
-use tx_plain::MeantLines;
+use tx_plain::{MeantLines, Room};
 
 /// The line behind a header.
 const FIRST_LINE: u64 = 2;
@@ -67,12 +67,12 @@ fn fault_behind(
 {
     let mut place = Place::behind_header(kind_of_head(kind), header.version);
     let mut number = FIRST_LINE;
+    let mut room = Room::new();
     let mut left = rest;
     while let Some((own, behind)) = left.split() {
-        let meaning = own.meaning();
         let line = TextLine {
             number,
-            bytes: meaning.as_bytes(),
+            bytes: own.meaning(&mut room),
             is_ended: own.is_ended,
         };
         if let Some(fault) = fault_at(text, &place, line) {
@@ -122,9 +122,10 @@ fn unlinked(text: &Labels<'_>, header: Header, rest: MeantLines<'_>) -> Option<F
         (FaultsBehind kinds.Program header.version (left_of rest.entry)) }
 {
     let mut number = FIRST_LINE;
+    let mut room = Room::new();
     let mut left = rest;
     while let Some((line, behind)) = left.split() {
-        if is_unlinked(text, header.version, line.meaning().as_bytes()) {
+        if is_unlinked(text, header.version, line.meaning(&mut room)) {
             return Some(Fault::NoLabel { line: number });
         }
         number += 1;

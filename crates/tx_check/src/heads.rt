@@ -5,7 +5,7 @@ ghost use Rattle.tx_plain.specs.MeantLines.{left_of};
 
 use arrayvec::ArrayVec;
 use tx_lines::{Fault, Header, TextKind, first_header};
-use tx_plain::MeantLines;
+use tx_plain::{MeantLines, Room};
 
 /// The header in the first line of what a text means, and the lines behind it.
 pub fn header_of(kind: TextKind, text: MeantLines<'_>) -> Result<(Header, MeantLines<'_>), Fault>
@@ -14,7 +14,8 @@ pub fn header_of(kind: TextKind, text: MeantLines<'_>) -> Result<(Header, MeantL
         (FaultsAtHeader kind (left_of text.entry)) }
 {
     let (line, behind) = text.cut();
-    let Some(head) = with_end(line.meaning().as_bytes()) else {
+    let mut room = Room::new();
+    let Some(head) = with_end(line.meaning(&mut room)) else {
         return Err(Fault::TooLong { line: 1 });
     };
     if !line.is_ended {

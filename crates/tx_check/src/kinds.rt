@@ -4,7 +4,7 @@ ghost use Rattle.tx_check.specs.Kinds as spec;
 ghost use Rattle.tx_plain.specs.MeantLines.{left_of};
 
 use tx_lines::split_word;
-use tx_plain::MeantLines;
+use tx_plain::{MeantLines, Room};
 
 /// A kind of text, each with the command that reads it.
 #[derive(Clone, Copy)]
@@ -23,7 +23,8 @@ pub fn kind_of(text: MeantLines<'_>) -> Kind
     ensures { result ≡ spec.kind_of (left_of text.entry) }
 {
     let (head, behind) = text.cut();
-    if is_program_head(head.meaning().as_bytes()) {
+    let mut room = Room::new();
+    if is_program_head(head.meaning(&mut room)) {
         return Kind::Program;
     }
     if has_debug(behind) {
@@ -65,9 +66,10 @@ fn rest_of(line: &[u8]) -> &[u8]
 fn has_debug(lines: MeantLines<'_>) -> bool
     ensures { result ≡ spec.debug_ahead (left_of lines.entry) }
 {
+    let mut room = Room::new();
     let mut left = lines;
     while let Some((line, rest)) = left.split() {
-        if line.meaning().as_bytes() == b"debug".as_slice() {
+        if line.meaning(&mut room) == b"debug".as_slice() {
             return true;
         }
         left = rest;

@@ -8,7 +8,7 @@ ghost use Rattle.tx_plain.specs.MeantLines.{left_of, line_of};
 
 use crate::places::is_label;
 use arrayvec::ArrayVec;
-use tx_plain::{MeantLines, OwnLine};
+use tx_plain::{MeantLines, OwnLine, Room};
 
 /// How many bytes a label's line has before the name.
 pub const LABEL_FRONT: usize = 6;
@@ -145,7 +145,8 @@ fn put_label<'a>(known: &mut ArrayVec<LabelLine<'a>, 256>, number: u64, line: Ow
         ≡ with_label number (line_of line.entry) (map label_at known.old.items) }
     ensures full { IsFalse result → known.new.items ≡ known.old.items }
 {
-    if line.label().is_none() {
+    let mut room = Room::new();
+    if line.label(&mut room).is_none() {
         return true;
     }
     if known.is_full() {
@@ -159,8 +160,9 @@ fn put_label<'a>(known: &mut ArrayVec<LabelLine<'a>, 256>, number: u64, line: Ow
 fn means_label(line: OwnLine<'_>, name: &[u8]) -> bool
     ensures { IsTrue result ↔ (line_of line.entry ≡ label_front ++ name.now) }
 {
-    match line.label() {
-        Some(label) => is_label_of(label.as_bytes(), name),
+    let mut room = Room::new();
+    match line.label(&mut room) {
+        Some(label) => is_label_of(label, name),
         None => false,
     }
 }

@@ -4,7 +4,7 @@ use crate::trouble::Names;
 use std::alloc::Global;
 use strsim::osa_distance;
 use tx_base::NoMemory;
-use tx_plain::{MeantLines, OwnLine};
+use tx_plain::{MeantLines, OwnLine, Room};
 
 /// How many edits lead to a name at most. One of `n` bytes is near where there are at most `n / 3`.
 const EDITS: usize = 4;
@@ -77,10 +77,11 @@ fn fewer_to_label(
     line: OwnLine<'_>,
     word: &[u8],
 ) -> Result<Option<usize>, NoMemory> {
-    let Some(label) = line.label() else {
+    let mut room = Room::new();
+    let Some(label) = line.label(&mut room) else {
         return Ok(None);
     };
-    match label.as_bytes().strip_prefix(b"label ") {
+    match label.strip_prefix(b"label ".as_slice()) {
         Some(name) => fewer_edits(alloc, edits, name, word),
         None => Ok(None),
     }

@@ -7,7 +7,7 @@ use crate::trouble::{Names, What};
 use std::alloc::{AllocError, Global};
 use tx_base::NoMemory;
 use tx_lines::{put, put_byte, put_count};
-use tx_plain::OwnLine;
+use tx_plain::{OwnLine, Room};
 
 /// How many bytes of a word are told.
 const WORD_BYTES: usize = 48;
@@ -88,7 +88,8 @@ fn say_near_label(text: &mut String, line: OwnLine<'_>) -> Result<(), AllocError
     requires { IsInLine (string_bytes text.old) }
     ensures { OnOk result (IsInLine (string_bytes text.new)) }
 {
-    match line.meaning().as_bytes().strip_prefix(b"label ") {
+    let mut room = Room::new();
+    match line.meaning(&mut room).strip_prefix(b"label ".as_slice()) {
         Some(name) => say_near(text, name),
         None => Ok(()),
     }

@@ -7,7 +7,6 @@ pub mod ByteWords
 pub mod Roles
 pub mod Rooms
 pub mod Lines
-pub mod LineMeanings
 pub mod Meant
 pub mod MeantFacts
 pub mod MeantLines

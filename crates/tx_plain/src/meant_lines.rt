@@ -2,7 +2,6 @@
 ghost use Rattle.std.specs.Prelude.{◌≡◌, ◌≢◌, ◌+◌, ◌<◌, ◌≤◌, ◌++◌, [], ℕ, List, IfNone, IfSome, IsFalse, IsTrue, MatchOption, None, Some, is_some, length, true};
 ghost use Rattle.tx_lines.specs.Programs.{BeginsLabel};
 ghost use Rattle.tx_lines.specs.Schedule.{first_line};
-ghost use Rattle.tx_plain.specs.LineMeanings.{spelled};
 ghost use Rattle.tx_plain.specs.Lines.{plain_line};
 ghost use Rattle.tx_plain.specs.Meant.{meant_of};
 ghost use Rattle.tx_plain.specs.MeantLines.{left_of, line_of, IsNextLine, OwnsFrom, OwnsNext};
@@ -12,7 +11,8 @@ ghost use Rattle.tx_plain.specs.declared.stage.Stage.{Stage};
 
 use crate::lines::split_line;
 use crate::plain::is_third;
-use crate::plain_lines::{LineMeaning, line_meaning, stage_after};
+use crate::plain_lines::{line_meaning, stage_after};
+use crate::room::Room;
 use crate::stage::Stage;
 use crate::words::{from_word, split_word};
 use tx_lines::{LINE_BYTES, take_line};
@@ -180,30 +180,27 @@ fn means_one(line: &[u8]) -> bool
 }
 
 impl<'a> OwnLine<'a> {
-    /// The line that it means.
-    pub fn meaning(self) -> LineMeaning<'a>
-        ensures { spelled result ≡ line_of self.entry }
+    /// The line that it means, which is put into the room where it is spelled otherwise.
+    pub fn meaning(self, room: &'a mut Room) -> &'a [u8]
+        ensures { result.now ≡ line_of self.entry }
     {
         let Some(stage) = self.stage else {
-            return LineMeaning::Itself(self.bytes);
+            return self.bytes;
         };
-        match line_meaning(stage, self.bytes) {
-            Some(meaning) => meaning,
-            None => LineMeaning::Itself(b""),
-        }
+        line_meaning(room, stage, self.bytes).unwrap_or(b"")
     }
 
     /// The line that it means, where that begins as a label. Nothing else is translated.
-    pub fn label(self) -> Option<LineMeaning<'a>>
-        ensures same { IfSome result (λ meaning. spelled meaning ≡ line_of self.entry) }
+    pub fn label(self, room: &'a mut Room) -> Option<&'a [u8]>
+        ensures same { IfSome result (λ meaning. meaning.now ≡ line_of self.entry) }
         ensures label { IfSome result (λ meaning. BeginsLabel (line_of self.entry)) }
         ensures other { IfNone result (BeginsLabel (line_of self.entry) → ⊥) }
     {
         if !self.may_be_label() {
             return None;
         }
-        let meaning = self.meaning();
-        if begins_so(b"label ", meaning.as_bytes()) {
+        let meaning = self.meaning(room);
+        if begins_so(b"label ", meaning) {
             Some(meaning)
         } else {
             None

@@ -5,6 +5,7 @@ ghost use Rattle.tx_plain.specs.Plain.{ended, is_third, numbered, own_line_of, I
 
 use crate::lines::split_line;
 use crate::plain_lines::{line_meaning, stage_after};
+use crate::room::Room;
 use crate::spellings::{begins_with, is};
 use crate::stage::Stage;
 use crate::words::split_word;
@@ -44,9 +45,9 @@ impl Plain {
         }
     }
 
-    /// Appends what the person's next line means where a text stands so. After an error the text may
-    /// have a part of it.
-    fn put_line(&mut self, stage: Stage, line: &[u8]) -> Result<(), AllocError>
+    /// Appends what the person's next line means where a text stands so, by way of the room. After an
+    /// error the text may have a part of it.
+    fn put_line(&mut self, room: &mut Room, stage: Stage, line: &[u8]) -> Result<(), AllocError>
         requires { self.old.after < 2 ^ 64 - 1 }
         ensures text { OnOk result
             (self.new.text.items ≡ self.old.text.items ++ ended (plain_line stage line.now)) }
@@ -54,8 +55,8 @@ impl Plain {
             ≡ self.old.numbers.items ++ numbered self.old.after (plain_line stage line.now) []) }
         ensures after { OnOk result (self.new.after ≡ self.old.after + 1) }
     {
-        if let Some(meaning) = line_meaning(stage, line) {
-            self.text.extend_from_slice(meaning.as_bytes())?;
+        if let Some(meaning) = line_meaning(room, stage, line) {
+            self.text.extend_from_slice(meaning)?;
             self.text.push(b'\n')?;
             self.numbers.push(self.after)?;
         }
@@ -103,10 +104,11 @@ fn translated(alloc: Global, text: &[u8]) -> Result<Plain, NoMemory>
         numbers: Vec::new(alloc),
         after: 1,
     };
+    let mut room = Room::new();
     let mut stage = Stage::Heading;
     let mut left = text;
     while let Some((line, rest)) = split_line(left) {
-        plain.put_line(stage, line)?;
+        plain.put_line(&mut room, stage, line)?;
         stage = stage_after(stage, line);
         left = rest;
     }

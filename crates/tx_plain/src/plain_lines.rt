@@ -1,6 +1,5 @@
 //! Puts a line as version 2 spells it.
 ghost use Rattle.std.specs.Prelude.{◌≡◌, ◌∷◌, ◌++◌, [], OnErr, OnOk, option_map};
-ghost use Rattle.tx_plain.specs.LineMeanings.{spelled};
 ghost use Rattle.tx_plain.specs.Lines.{kind_of, line_of_words, plain_arguments, plain_call, plain_line, plain_others, plain_version, spaced, stage_after};
 ghost use Rattle.tx_plain.specs.Roles.{plain_word};
 ghost use Rattle.tx_plain.specs.Rooms.{IsOver};
@@ -14,43 +13,21 @@ use crate::stage::Stage;
 use crate::words::split_word;
 use tx_lines::{LINE_BYTES, TextKind};
 
-/// The line of the first two versions that a line means.
-#[derive(Drop)]
-pub enum LineMeaning<'a> {
-    /// The line means itself.
-    Itself(&'a [u8]),
-    /// It is spelled otherwise.
-    Another(Room),
-}
-
-impl LineMeaning<'_> {
-    /// The bytes of that line, without its end.
-    pub fn as_bytes(&self) -> &[u8]
-        ensures { result.now ≡ spelled self.now }
-    {
-        match self {
-            LineMeaning::Itself(line) => line,
-            LineMeaning::Another(room) => room.as_slice(),
-        }
-    }
-}
-
 /// The line of version 2 that a line means where a text stands so; nothing where it has no word. What
-/// is wrong stays as it is, a line that is too long, or that would become so, as a whole.
-pub fn line_meaning(stage: Stage, line: &[u8]) -> Option<LineMeaning<'_>>
-    ensures { option_map (λ meaning. spelled meaning) result ≡ plain_line stage line.now }
+/// is wrong stays as it is, a line that is too long, or that would become so, as a whole. A line that is
+/// spelled otherwise is put into the room, in place of what that had.
+pub fn line_meaning<'a>(room: &'a mut Room, stage: Stage, line: &'a [u8]) -> Option<&'a [u8]>
+    ensures { option_map (λ meaning. meaning.now) result ≡ plain_line stage line.now }
 {
     if line.len() > LINE_BYTES {
-        return Some(LineMeaning::Itself(line));
+        return Some(line);
     }
     let (first, others) = split_word(line)?;
-    let mut room = Room::new();
-    if let Err(_full) = put_line(&mut room, stage, first, others) {
-        return Some(LineMeaning::Itself(line));
+    room.clear();
+    if let Err(_full) = put_line(room, stage, first, others) {
+        return Some(line);
     }
-    let fits = room.len() <= LINE_BYTES;
-    prove!(fits);
-    Some(LineMeaning::Another(room))
+    Some(room.as_slice())
 }
 
 /// Where a text stands after a line.

@@ -6,7 +6,7 @@ ghost use Rattle.tx_plain.specs.Rooms.{IsOver};
 use arrayvec::ArrayVec;
 use itoa::Buffer;
 
-/// Room for the bytes of a line.
+/// Room for the bytes of the line that a line means.
 pub type Room = ArrayVec<u8, 512>;
 
 /// What a line means has more bytes than there is room for.

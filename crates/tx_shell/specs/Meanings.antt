@@ -7,7 +7,7 @@ use Rattle.tx_plain.specs.Lines.{plain_line}
 use Rattle.tx_plain.specs.OwnLines.{without_return}
 use Rattle.tx_plain.specs.declared.stage.Stage.TheVariants.{Within}
 use Rattle.tx_shell.specs.declared.meanings.Words.{Words}
-use Rattle.tx_shell.specs.declared.meanings.Words.TheVariants.{Own, Plain}
+use Rattle.tx_shell.specs.declared.meanings.Words.TheVariants.{Lent, Made}
 use Rattle.tx_shell.specs.declared.versions.TextVersion.{TextVersion}
 use Rattle.tx_shell.specs.declared.versions.TextVersion.TheVariants.{One, Two, Three}
 
@@ -35,5 +35,5 @@ meant_line Three line = third_line (first_line line)
 
 -- the bytes that are meant
 abbrev pub bytes_of : Words → List ℕ
-bytes_of (Own bytes) = bytes.now
-bytes_of (Plain bytes) = bytes.items
+bytes_of (Lent bytes) = bytes.now
+bytes_of (Made bytes) = bytes.items

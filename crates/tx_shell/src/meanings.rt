@@ -10,15 +10,15 @@ use crate::versions::TextVersion;
 use std::alloc::Global;
 use tx_base::NoMemory;
 use tx_lines::take_line;
-use tx_plain::plain_line;
+use tx_plain::{Room, plain_line};
 
 /// What a line means, as a line of version 1 or 2.
 #[derive(Drop)]
 pub enum Words<'a> {
-    /// It means itself.
-    Own(&'a [u8]),
-    /// It is one of version 3.
-    Plain(Vec<u8>),
+    /// It stands in the line itself, or in the room of its caller.
+    Lent(&'a [u8]),
+    /// It was put together.
+    Made(Vec<u8>),
 }
 
 impl Words<'_> {
@@ -27,18 +27,19 @@ impl Words<'_> {
         ensures { result.now ≡ bytes_of self.now }
     {
         match self {
-            Words::Own(bytes) => bytes,
-            Words::Plain(bytes) => bytes.as_slice(),
+            Words::Lent(bytes) => bytes,
+            Words::Made(bytes) => bytes.as_slice(),
         }
     }
 }
 
 /// What a line of that version means, as a line of version 1 or 2. Nothing where it is one of
-/// version 3 and has no word.
+/// version 3 and has no word. It is put into the room where it is spelled otherwise.
 ///
 /// NoMemory where a growth is refused.
 pub fn meant_line<'a>(
     alloc: Global,
+    room: &'a mut Room,
     version: TextVersion,
     line: &'a [u8],
 ) -> Result<Option<Words<'a>>, NoMemory>
@@ -46,45 +47,50 @@ pub fn meant_line<'a>(
 {
     let (first, _behind) = take_line(line);
     match version {
-        TextVersion::One | TextVersion::Two => Ok(Some(Words::Own(first))),
-        TextVersion::Three => third_words(alloc, first),
+        TextVersion::One | TextVersion::Two => Ok(Some(Words::Lent(first))),
+        TextVersion::Three => third_words(alloc, room, first),
     }
 }
 
 /// What a line of version 3 means: behind `try` and `why` a step as a line of its own. Nothing where it
 /// has no word.
-fn third_words<'a>(alloc: Global, line: &[u8]) -> Result<Option<Words<'a>>, NoMemory>
+fn third_words<'a>(
+    alloc: Global,
+    room: &'a mut Room,
+    line: &'a [u8],
+) -> Result<Option<Words<'a>>, NoMemory>
     ensures { IfOk result (λ meant. option_map bytes_of meant ≡ third_line line.now) }
 {
     if let Some(step) = line.strip_prefix(b"try ".as_slice()) {
-        return Ok(Some(Words::Plain(with_step(alloc, b"try", step)?)));
+        return Ok(Some(Words::Made(with_step(alloc, room, b"try", step)?)));
     }
     if let Some(step) = line.strip_prefix(b"why ".as_slice()) {
-        return Ok(Some(Words::Plain(with_step(alloc, b"why", step)?)));
+        return Ok(Some(Words::Made(with_step(alloc, room, b"why", step)?)));
     }
-    plain_words(alloc, line)
+    Ok(plain_words(room, line))
 }
 
-/// What a line means that has this step behind a word.
-fn with_step(alloc: Global, word: &[u8], step: &[u8]) -> Result<Vec<u8>, NoMemory>
+/// What a line means that has this step behind a word. The step is put into the room where it is
+/// spelled otherwise.
+fn with_step(alloc: Global, room: &mut Room, word: &[u8], step: &[u8]) -> Result<Vec<u8>, NoMemory>
     ensures { IfOk result (λ words. words.items
         ≡ with_step word.now (plain_line (Within Schedule) (without_return step.now))) }
 {
     let mut words = Vec::from_slice(alloc, word)?;
-    if let Some(plain) = plain_line(alloc, step)? {
+    if let Some(plain) = plain_line(room, step) {
         words.push(b' ')?;
-        words.extend_from_slice(plain.as_slice())?;
+        words.extend_from_slice(plain)?;
     }
     Ok(words)
 }
 
 /// What a line of version 3 means. Nothing where it has no word.
-fn plain_words<'a>(alloc: Global, line: &[u8]) -> Result<Option<Words<'a>>, NoMemory>
-    ensures { IfOk result (λ meant. option_map bytes_of meant
-        ≡ plain_line (Within Schedule) (without_return line.now)) }
+fn plain_words<'a>(room: &'a mut Room, line: &'a [u8]) -> Option<Words<'a>>
+    ensures { option_map bytes_of result
+        ≡ plain_line (Within Schedule) (without_return line.now) }
 {
-    match plain_line(alloc, line)? {
-        Some(plain) => Ok(Some(Words::Plain(plain))),
-        None => Ok(None),
+    match plain_line(room, line) {
+        Some(plain) => Some(Words::Lent(plain)),
+        None => None,
     }
 }

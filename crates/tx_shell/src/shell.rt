@@ -16,6 +16,7 @@ use std::alloc::Global;
 use tx_base::NoMemory;
 use tx_journal::Session;
 use tx_lines::{Header, Version};
+use tx_plain::Room;
 
 /// A session at a terminal, and of which version its lines are.
 #[derive(Drop)]
@@ -66,7 +67,8 @@ impl Shell {
         if let Some(opening) = self.opening(alloc, line)? {
             return Ok(Some(self.open(alloc, opening)?));
         }
-        match meant_line(alloc, self.version, line)? {
+        let mut room = Room::new();
+        match meant_line(alloc, &mut room, self.version, line)? {
             Some(words) => self.answer_meant(alloc, line, words.as_bytes()),
             None => Ok(Some(String::new(alloc))),
         }

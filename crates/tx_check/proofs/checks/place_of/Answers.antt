@@ -16,8 +16,8 @@ loop-before-preserved c =
     let next = c.cut.ensures.line in
     record {
       at = next.behind ∙ ap behind is.at ∙ lines_more before text;
-      place = stands_later text before (before + 1) (before + 1 + 1) c.as_bytes.result.now c.loop-before.place c.after-place.result refl (omega arith)
-          (c.as_bytes.ensures ∙ c.meaning.ensures ∙ next.bytes ∙ ap first_line is.at) is.place c.after-place.ensures.version c.after-place.ensures.stands;
+      place = stands_later text before (before + 1) (before + 1 + 1) c.meaning.result.now c.loop-before.place c.after-place.result refl (omega arith)
+          (c.meaning.ensures ∙ next.bytes ∙ ap first_line is.at) is.place c.after-place.ensures.version c.after-place.ensures.stands;
       numbered = λ own owns. (c.cut.ensures.own own (before + 1) (is.numbered own owns)).behind;
     }
 

@@ -24,8 +24,8 @@ tell_behind-requires-clause-place c =
     let meant = left_of c.args.meant.now.text in
     let number = line_of c.args.fault in
     let some = some_line c.args.kind meant c.args.fault c.requires.fault in
-    let line = c.as_bytes.ensures ∙ c.meaning-meaning.ensures ∙ c.cut.ensures.line.bytes ∙ ap first_line c.place_of.ensures.left in
-    stands_later meant (number - 1) number (c.line_of-number.result + 1) c.as_bytes.result.now c.place_of.result.0 c.after-place.result (omega (arith, some))
+    let line = c.meaning.ensures ∙ c.cut.ensures.line.bytes ∙ ap first_line c.place_of.ensures.left in
+    stands_later meant (number - 1) number (c.line_of-number.result + 1) c.meaning.result.now c.place_of.result.0 c.after-place.result (omega (arith, some))
     (omega (arith, some, c.line_of-number.ensures)) line c.place_of.ensures.place c.after-place.ensures.version c.after-place.ensures.stands
 
 pub tell_behind-requires-clause-lines : goal.tell_behind-requires-clause-lines

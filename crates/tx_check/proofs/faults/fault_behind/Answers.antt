@@ -19,11 +19,11 @@ pub returns-in-Some-fault_at : goal.returns-in-Some-fault_at
 returns-in-Some-fault_at c =
     let next = c.in-Some.ensures in
     so_far_fault c.args.kind c.args.header.version (left_of c.args.text.now.text) (left_of c.args.rest) c.args.header c.loop-own.number c.loop-own.place (left_of c.loop-own.left)
-    (record { number = c.loop-own.number; bytes = c.as_bytes.result; is_ended = c.in-Some.own.is_ended }) c.in-Some-fault_at.fault c.requires.header c.loop-own.invariant.so
+    (record { number = c.loop-own.number; bytes = c.meaning.result; is_ended = c.in-Some.own.is_ended }) c.in-Some-fault_at.fault c.requires.header c.loop-own.invariant.so
     (record {
       of = c.loop-own.invariant.version;
       at = refl;
-      bytes = c.as_bytes.ensures ∙ c.meaning-meaning.ensures ∙ next.line.bytes;
+      bytes = c.meaning.ensures ∙ next.line.bytes;
       ended = next.line.ended;
       some = next.some;
     }) c.in-Some-fault_at.ensures.fault
@@ -39,7 +39,7 @@ loop-own-preserved c =
     (record {
       of = c.loop-own.invariant.version;
       at = refl;
-      bytes = c.as_bytes.ensures ∙ c.meaning-meaning.ensures ∙ next.line.bytes;
+      bytes = c.meaning.ensures ∙ next.line.bytes;
       ended = next.line.ended;
       some = next.some;
     }) c.in_default-fault_at.ensures.may (record { link = c.after-place.ensures.link; stands = c.after-place.ensures.stands }) in

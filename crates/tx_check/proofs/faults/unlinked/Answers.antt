@@ -14,7 +14,7 @@ is_unlinked-requires-clause-short c =
     let version = c.args.header.version in
     let so = c.loop-line.invariant in
     let next = next_line version (left_of c.args.rest) c.loop-line.number (left_of c.loop-line.left) so c.in-Some.ensures.some in
-    omega (arith, ap length (c.as_bytes.ensures ∙ c.meaning.ensures ∙ c.in-Some.ensures.line.bytes ∙ next.first), (short_line version next.one next.good).few)
+    omega (arith, ap length (c.meaning.ensures ∙ c.in-Some.ensures.line.bytes ∙ next.first), (short_line version next.one next.good).few)
 
 pub returns-then-is_unlinked : goal.returns-then-is_unlinked
 returns-then-is_unlinked c =
@@ -22,7 +22,7 @@ returns-then-is_unlinked c =
     let so = c.loop-line.invariant in
     let next = next_line version (left_of c.args.rest) c.loop-line.number (left_of c.loop-line.left) so c.in-Some.ensures.some in
     linked_fault version (left_of c.args.text.now.text) (left_of c.args.rest) c.args.header c.loop-line.number (left_of c.loop-line.left) so next c.requires.header
-    ((c.if-is_unlinked.ensures next.one next.good (c.as_bytes.ensures ∙ c.meaning.ensures ∙ c.in-Some.ensures.line.bytes ∙ next.first)).0 refl)
+    ((c.if-is_unlinked.ensures next.one next.good (c.meaning.ensures ∙ c.in-Some.ensures.line.bytes ∙ next.first)).0 refl)
 
 pub overflow_add-number : goal.overflow_add-number
 overflow_add-number c =
@@ -34,7 +34,7 @@ loop-line-preserved c =
     let version = c.args.header.version in
     let so = c.loop-line.invariant in
     let next = next_line version (left_of c.args.rest) c.loop-line.number (left_of c.loop-line.left) so c.in-Some.ensures.some in
-    let linked = c.if-is_unlinked.ensures next.one next.good (c.as_bytes.ensures ∙ c.meaning.ensures ∙ c.in-Some.ensures.line.bytes ∙ next.first) in
+    let linked = c.if-is_unlinked.ensures next.one next.good (c.meaning.ensures ∙ c.in-Some.ensures.line.bytes ∙ next.first) in
     let there : IsNamedNowhere (left_of c.args.text.now.text) next.one → ⊥ = λ nowhere. let bad = linked.1 nowhere in absurd (cc) in
     subst (λ (left : List ℕ). LinkedSoFar version (left_of c.args.rest) (c.loop-line.number + 1) left) (sym c.in-Some.ensures.line.behind)
     (linked_next version (left_of c.args.text.now.text) (left_of c.args.rest) c.args.header c.loop-line.number (left_of c.loop-line.left) so next c.requires.header there)

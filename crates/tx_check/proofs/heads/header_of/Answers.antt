@@ -8,7 +8,7 @@ pub returns-in-Ok : goal.returns-in-Ok
 returns-in-Ok c =
     let text = left_of c.args.text in
     let next = c.cut.ensures.line in
-    let line : c.as_bytes.result.now ≡ first_line text = c.as_bytes.ensures ∙ c.meaning.ensures ∙ next.bytes in
+    let line : c.meaning.result.now ≡ first_line text = c.meaning.ensures ∙ next.bytes in
     let head : c.as_slice.result.now ≡ first_line text ++ 10 ∷ [] = c.as_slice.ensures.value ∙ c.in-Some.ensures ∙ ap (λ (t : List ℕ). t ++ 10 ∷ []) line in
     let ended : c.cut.result.0.is_ended ≡ true = search rules in
     header_spelled c.args.kind text c.as_slice.result.now (left_of c.cut.result.1) c.in-Ok._rest.now c.in-Ok.header head (sym next.ended ∙ ended) next.behind c.in-Ok.ensures
@@ -16,6 +16,6 @@ returns-in-Ok c =
 pub returns-in-Err : goal.returns-in-Err
 returns-in-Err c =
     let text = left_of c.args.text in
-    let line : c.as_bytes.result.now ≡ first_line text = c.as_bytes.ensures ∙ c.meaning.ensures ∙ c.cut.ensures.line.bytes in
+    let line : c.meaning.result.now ≡ first_line text = c.meaning.ensures ∙ c.cut.ensures.line.bytes in
     let head : c.as_slice.result.now ≡ first_line text ++ 10 ∷ [] = c.as_slice.ensures.value ∙ c.in-Some.ensures ∙ ap (λ (t : List ℕ). t ++ 10 ∷ []) line in
     header_wrong c.args.kind text c.as_slice.result.now c.in-Err.fault head c.in-Err.ensures

@@ -11,7 +11,7 @@ pub loop-line-preserved : goal.loop-line-preserved
 loop-line-preserved c =
     let left = left_of c.loop-line.left in
     let next = c.in-Some.ensures.line in
-    let line : c.as_bytes.result.now ≡ first_line left = c.as_bytes.ensures ∙ c.meaning.ensures ∙ next.bytes in
+    let line : c.meaning.result.now ≡ first_line left = c.meaning.ensures ∙ next.bytes in
     let other : begins_with_debug left ≡ false =
-    ap (λ (t : List ℕ). bytes_eq t debug_line) (sym line) ∙ ap (bytes_eq c.as_bytes.result.now) (sym c.as_slice.ensures) ∙ sym c.eq.ensures ∙ c.if-eq.false in
+    ap (λ (t : List ℕ). bytes_eq t debug_line) (sym line) ∙ ap (bytes_eq c.meaning.result.now) (sym c.as_slice.ensures) ∙ sym c.eq.ensures ∙ c.if-eq.false in
     c.loop-line.invariant ∙ ap (λ (b : Bool). b || has_debug left) other ∙ debug_behind left ∙ ap debug_ahead (sym next.behind)

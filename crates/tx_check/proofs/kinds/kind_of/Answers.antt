@@ -9,7 +9,7 @@ pub returns-then-has_debug : goal.returns-then-has_debug
 returns-then-has_debug c =
     let text = left_of c.args.text in
     let next = c.cut.ensures.line in
-    let line : c.as_bytes.result.now ≡ first_line text = c.as_bytes.ensures ∙ c.meaning.ensures ∙ next.bytes in
+    let line : c.meaning.result.now ≡ first_line text = c.meaning.ensures ∙ next.bytes in
     let other : is_program_head (first_line text) ≡ false = ap is_program_head (sym line) ∙ sym c.is_program_head.ensures ∙ c.if-is_program_head.false in
     let some : has_debug text ≡ true = debug_behind text ∙ ap debug_ahead (sym next.behind) ∙ sym c.has_debug.ensures ∙ c.if-has_debug.true in
     rw (other, some) refl
@@ -18,7 +18,7 @@ pub returns : goal.returns
 returns c =
     let text = left_of c.args.text in
     let next = c.cut.ensures.line in
-    let line : c.as_bytes.result.now ≡ first_line text = c.as_bytes.ensures ∙ c.meaning.ensures ∙ next.bytes in
+    let line : c.meaning.result.now ≡ first_line text = c.meaning.ensures ∙ next.bytes in
     let other : is_program_head (first_line text) ≡ false = ap is_program_head (sym line) ∙ sym c.is_program_head.ensures ∙ c.if-is_program_head.false in
     let none : has_debug text ≡ false = debug_behind text ∙ ap debug_ahead (sym next.behind) ∙ sym c.has_debug.ensures ∙ c.if-has_debug.false in
     rw (other, none) refl
