@@ -149,6 +149,17 @@ fn why_a_step_is_refused_is_told(rt: HostRuntime) -> Result<(), Fail> {
     Ok(())
 }
 
+#[test]
+fn what_a_step_waits_for_is_told(rt: HostRuntime) -> Result<(), Fail> {
+    let lines = "2 pipe 0 0 1\n2 fork 4\n2 map 0\nwhy 2 read 0 0 1\nwhy 2 waitpid 4 wait\n";
+    let waits = explain("N9").unwrap_or("");
+    let wanted = format!(in rt.alloc();
+        "ok 0\nok 4\nok 0\n2 read 0 0 1: {waits}pipe 0 has no byte\n2 waitpid 4 wait: {waits}proc 4 has not ended\n"
+    )?;
+    assert!(rt; shows(rt.alloc(), lines, wanted.as_str())?);
+    Ok(())
+}
+
 /// Lines that are neither steps nor commands, and what is told of them.
 const NEITHER: (&str, &str) = (
     "2 stroe 5 41\nbakc\ngoto x\nhelp nothing\nhelp N9\n",

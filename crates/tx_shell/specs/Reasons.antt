@@ -1,12 +1,14 @@
 -- Why a step would be refused, as it is told.
-use Rattle.std.specs.Prelude.{◌≡◌, ℕ, Bool, false, List, [], ◌∷◌, ◌++◌, Option, Some, None, MatchOption, codes, if◌then◌else◌}
-use Rattle.std.specs.Fmt.{decimal}
+use Rattle.std.specs.Prelude.{◌≡◌, ℕ, ℤ, Bool, false, List, [], ◌∷◌, ◌++◌, Option, Some, None, MatchOption, codes, if◌then◌else◌}
+use Rattle.std.specs.Fmt.{decimal, signed_decimal}
 use Rattle.tx_base.specs.declared.steps.Accepted.{Accepted}
 use Rattle.tx_base.specs.declared.steps.Refusal.{Refusal}
-use Rattle.tx_base.specs.declared.steps.Refusal.TheVariants.{Busy}
+use Rattle.tx_base.specs.declared.steps.Refusal.TheVariants.{Busy, Wait}
 use Rattle.tx_base.specs.declared.steps.Reply.{Reply}
 use Rattle.tx_base.specs.declared.steps.Reply.TheVariants.{No}
 use Rattle.tx_base.specs.declared.steps.Step.{Step}
+use Rattle.tx_base.specs.declared.steps.Step.TheVariants as steps
+use Rattle.tx_base.specs.declared.steps.Call.TheVariants as calls
 use Rattle.tx_core.specs.Owners.{other_owner}
 use Rattle.tx_explain.specs.Calls.{refusal_word}
 use Rattle.tx_journal.specs.Since.{Numbered, first_touch}
@@ -44,6 +46,24 @@ name_text kind number = word_of kind ++ decimal number
 abbrev pub holder_text : ℕ → List ℕ
 holder_text s = codes ": the transaction of " ++ (decimal s ++ codes " has it")
 
+-- that a child's end is waited for
+abbrev pub child_text : ℤ → List ℕ
+child_text child = codes "proc " ++ (signed_decimal child ++ codes " has not ended\n")
+
+-- why a pipe is waited for
+abbrev pub no_byte : List ℕ
+no_byte = codes " has no byte\n"
+
+abbrev pub no_room : List ℕ
+no_room = codes " has too little room\n"
+
+-- what a step waits for: a child's end, a byte in a pipe, or room for all its bytes; by the lines of the pipes that it names
+abbrev pub waited_by : (List ℕ → List ℕ) → Step → List ℕ
+waited_by pipes (steps.Call p (calls.Waitpid child nohang)) = child_text child
+waited_by pipes (steps.Call p (calls.Read fd address count)) = pipes no_byte
+waited_by pipes (steps.Call p (calls.Write fd address count)) = pipes no_room
+waited_by pipes other = []
+
 -- that a step would be answered so
 abbrev pub accepted_text : Reply → List ℕ
 accepted_text reply = codes ": it would be answered " ++ (reply_text reply ++ 10 ∷ [])
@@ -77,9 +97,20 @@ module _ (S : State) (h : List Accepted) (step : Step) where
   abbrev pub object_lines : List ℕ
   object_lines = lines_of_kind Processes ++ (lines_of_kind Descriptions ++ lines_of_kind Pipes)
 
-  -- what is told behind the reason: of a step in whose way a transaction is, the objects
+  -- the line of a pipe that the step names, and waits for
+  abbrev pub pipe_line : List ℕ → ℕ → List ℕ
+  pipe_line why number = if names_one Pipes number then name_text Pipes number ++ why else []
+
+  abbrev pub pipe_lines : List ℕ → List ℕ
+  pipe_lines why = upto (pipe_line why) (limit_of Pipes)
+
+  abbrev pub waited_text : List ℕ
+  waited_text = waited_by pipe_lines step
+
+  -- what is told behind the reason: of a step in whose way a transaction is, the objects; of one that waits, for what
   abbrev pub lines_behind : Refusal → List ℕ
   lines_behind (Busy starter) = object_lines
+  lines_behind Wait = waited_text
   lines_behind why = []
 
   -- of a step that is refused: the page that help has on that, and those lines

@@ -94,7 +94,7 @@ fn put_owned(
 }
 
 /// Appends what the object of a kind and a number is called.
-fn put_name(text: &mut String, kind: Kind, number: u16) -> Result<(), AllocError>
+pub fn put_name(text: &mut String, kind: Kind, number: u16) -> Result<(), AllocError>
     ensures { OnOk result
         (string_bytes text.new ≡ string_bytes text.old ++ name_text kind number) }
 {
@@ -142,7 +142,7 @@ fn put_touch(text: &mut String, touch: Touch<'_>) -> Result<(), AllocError>
 }
 
 /// The objects that a step names at the position.
-fn names(session: &Session, step: &Step) -> Objects
+pub fn names(session: &Session, step: &Step) -> Objects
     ensures { IsSetOf result (footprint (view_at session.now).table step.now
         (present (view_at session.now))) }
 {

@@ -42,6 +42,7 @@ mod tells;
 mod terminal;
 mod trials;
 mod versions;
+mod waits;
 
 pub use console::Console;
 pub use laws::a_talk_spells_a_schedule;

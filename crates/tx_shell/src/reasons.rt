@@ -8,6 +8,7 @@ ghost use Rattle.tx_shell.specs.Reasons.{accepted_text, lines_behind, refusal_in
 
 use crate::blockers::put_objects;
 use crate::helps::meaning;
+use crate::waits::put_waited;
 use std::alloc::{AllocError, Global};
 use tx_base::{NoMemory, Refusal, Reply, Step};
 use tx_journal::Session;
@@ -85,7 +86,8 @@ fn put_refusal(
     put_lines_behind(text, session, step, why)
 }
 
-/// Appends the lines behind the reason: of a step in whose way a transaction is, the objects.
+/// Appends the lines behind the reason: of a step in whose way a transaction is, the objects; of one that
+/// waits, what for.
 fn put_lines_behind(
     text: &mut String,
     session: &Session,
@@ -97,6 +99,7 @@ fn put_lines_behind(
 {
     match why {
         Refusal::Busy { .. } => put_objects(text, session, step),
+        Refusal::Wait => put_waited(text, session, step),
         _ => Ok(()),
     }
 }
