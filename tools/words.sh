@@ -30,7 +30,8 @@ help_words() {
     esac
 }
 
-# The words after `replay`, `debug`, `shell`, `check`, `plain` or `version`, which take none.
+# The words after `replay`, `debug`, `check`, `plain` or `version`, or behind those of
+# `shell`: there are none.
 lone_words() {
     local command=$1
     shift
@@ -39,6 +40,12 @@ lone_words() {
         *:-h | *:--help) tell "$command" ;;
         *) refuse "$command" "'$1' is not understood after $command" ;;
     esac
+}
+
+# The words after `shell`: `--json`, or none.
+shell_words() {
+    [ "${1-}" != --json ] || shift
+    lone_words shell "$@"
 }
 
 # The words after `explain`: one, or none. A number may have `-` before it.
@@ -89,7 +96,8 @@ answer_words() {
     case $1 in
         -h | --help) tell txos ;;
         help) help_words "${@:2}" ;;
-        replay | debug | shell | check | plain | version) lone_words "$@" ;;
+        replay | debug | check | plain | version) lone_words "$@" ;;
+        shell) shell_words "${@:2}" ;;
         explain) explain_words "${@:2}" ;;
         -V | --version) tell own_version ;;
         run) run_words "${@:2}" ;;

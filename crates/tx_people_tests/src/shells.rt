@@ -5,7 +5,7 @@ use std::test::Fail;
 use tx_base::NoMemory;
 use tx_explain::explain;
 use tx_lines::take_line;
-use tx_shell::{Console, Got, Shell, TalkFault, Terminal, talk};
+use tx_shell::{Console, Form, Got, Shell, TalkFault, Terminal, talk};
 
 /// A terminal whose lines are those of a text, which keeps what is shown, and fails after so many
 /// answers.
@@ -47,9 +47,11 @@ impl Terminal for Script<'_> {
     }
 }
 
-/// What a talk over the lines of a text shows, and what comes of it, where so many answers go.
+/// What a talk over the lines of a text shows in a form, and what comes of it, where so many answers
+/// go.
 fn talk_over(
     alloc: Global,
+    form: Form,
     lines: &str,
     answers: usize,
 ) -> Result<(Result<(), TalkFault>, Vec<u8>), NoMemory> {
@@ -58,14 +60,19 @@ fn talk_over(
         shown: Vec::new(alloc),
         answers,
     };
-    let mut shell = Shell::new(alloc)?;
+    let mut shell = Shell::new(alloc, form)?;
     let ended = talk(alloc, &mut shell, &mut script);
     Ok((ended, script.shown))
 }
 
-/// Whether a talk over the lines of a text goes to its end, and shows that.
+/// Whether a talk over the lines of a text goes to its end, and shows that as text.
 fn shows(alloc: Global, lines: &str, wanted: &str) -> Result<bool, NoMemory> {
-    let (ended, shown) = talk_over(alloc, lines, 1_000)?;
+    shows_in(alloc, Form::Text, lines, wanted)
+}
+
+/// Whether a talk over the lines of a text goes to its end, and shows that in a form.
+fn shows_in(alloc: Global, form: Form, lines: &str, wanted: &str) -> Result<bool, NoMemory> {
+    let (ended, shown) = talk_over(alloc, form, lines, 1_000)?;
     Ok(ended == Ok(()) && shown.as_slice() == wanted.as_bytes())
 }
 
@@ -78,7 +85,7 @@ const TALK: (&str, &str) = (
 
 #[test]
 fn each_line_is_answered(rt: HostRuntime) -> Result<(), Fail> {
-    let (ended, shown) = talk_over(rt.alloc(), TALK.0, 1_000)?;
+    let (ended, shown) = talk_over(rt.alloc(), Form::Text, TALK.0, 1_000)?;
     assert!(rt; ended == Ok(()));
     let wanted = TALK.1.as_bytes();
     for (i, byte) in wanted.iter().enumerate() {
@@ -151,10 +158,10 @@ fn why_a_step_is_refused_is_told(rt: HostRuntime) -> Result<(), Fail> {
 
 #[test]
 fn what_a_step_waits_for_is_told(rt: HostRuntime) -> Result<(), Fail> {
-    let lines = "2 pipe 0 0 1\n2 fork 4\n2 map 0\nwhy 2 read 0 0 1\nwhy 2 waitpid 4 wait\n";
+    let lines = "why\n2 pipe 0 0 1\n2 fork 4\n2 map 0\n2 read 0 0 1\nwhy\nwhy 2 waitpid 4 wait\n";
     let waits = explain("N9").unwrap_or("");
     let wanted = format!(in rt.alloc();
-        "ok 0\nok 4\nok 0\n2 read 0 0 1: {waits}pipe 0 has no byte\n2 waitpid 4 wait: {waits}proc 4 has not ended\n"
+        "nothing was refused\nok 0\nok 4\nok 0\nno N9\n2 read 0 0 1: {waits}pipe 0 has no byte\n2 waitpid 4 wait: {waits}proc 4 has not ended\n"
     )?;
     assert!(rt; shows(rt.alloc(), lines, wanted.as_str())?);
     Ok(())
@@ -168,14 +175,82 @@ const NEITHER: (&str, &str) = (
 
 #[test]
 fn other_lines_are_told_of(rt: HostRuntime) -> Result<(), Fail> {
-    let (ended, shown) = talk_over(rt.alloc(), NEITHER.0, 1_000)?;
+    let (ended, shown) = talk_over(rt.alloc(), Form::Text, NEITHER.0, 1_000)?;
     assert!(rt; ended == Ok(()) && shown.starts_with(NEITHER.1.as_bytes()));
+    Ok(())
+}
+
+/// A talk that is answered by JSON, with answers of each kind, and what it shows.
+const JSON: (&str, &str) = (
+    r#"txos 3 schedule 3
+
+2 map 0
+2 store 0 "a"
+2 console_write 0 1
+2 sys_xbegin
+2 kill 3 10
+2 sys_xend
+3 exit 0
+4 getpid
+back
+2 getpid
+try 3 exit 0
+cut
+without 2
+2 stroe 0
+2 sys_xbegin
+2 sys_xabort
+2 sys_xbegin
+try 3 kill 2 12
+"#,
+    r#"{"at":0}
+{}
+{"step":1,"reply":"ok","ret":0}
+{"step":2,"reply":"ok","ret":0}
+{"step":3,"reply":"out","bytes":"61"}
+{"step":4,"reply":"ok","ret":0}
+{"step":5,"reply":"ok","ret":0}
+{"step":6,"reply":"committed","undelivered":[]}
+{"step":7,"reply":"ended"}
+{"refused":"N1"}
+{"at":6,"lines":["at 6"]}
+{"error":"steps are ahead; cut lets go of them, forward makes them again"}
+{"at":6,"reply":"ended","lines":["- proc 3 parent 1 run point 0 ret 0","- pending 10","+ proc 3 parent 1 exit 0"]}
+{"at":6}
+{"at":6,"lines":["no transaction"]}
+{"error":"column 3: no such call: stroe; did you mean store?"}
+{"step":7,"reply":"ok","ret":0}
+{"step":8,"reply":"aborted","status":201}
+{"step":9,"reply":"ok","ret":0}
+{"at":9,"reply":"ok","ret":0,"lines":["- proc 3 parent 1 run point 0 ret 0","+ pending 12","+ proc 3 parent 1 run point 1 ret 0"]}
+"#,
+);
+
+#[test]
+fn each_line_is_answered_by_json(rt: HostRuntime) -> Result<(), Fail> {
+    assert!(rt; shows_in(rt.alloc(), Form::Json, JSON.0, JSON.1)?);
+    Ok(())
+}
+
+/// A talk that ends with a state, and that as JSON.
+const STATE: (&str, &str) = (
+    "2 pipe 0 0 1\n2 sys_xbegin\n2 kill 1 12\nstate\n",
+    r#"{"step":1,"reply":"ok","ret":0}
+{"step":2,"reply":"ok","ret":0}
+{"step":3,"reply":"ok","ret":0}
+{"at":3,"state":{"procs":[{"pid":1,"parent":0,"point":0,"ret":0,"slots":[0,0,0,0,0,0,0,0],"users":[0,0,0],"groups":[0,0,0],"pages":[],"fds":[],"mask":[],"actions":[],"pending":[],"queued":[],"frames":[]},{"pid":2,"parent":1,"point":3,"ret":0,"slots":[0,1,0,0,0,0,0,0],"users":[0,0,0],"groups":[0,0,0],"pages":[],"fds":[{"fd":0,"desc":0},{"fd":1,"desc":1}],"mask":[],"actions":[],"pending":[],"queued":[],"frames":[]}],"descs":[{"desc":0,"pipe":0,"side":"read","nonblock":false},{"desc":1,"pipe":0,"side":"write","nonblock":false}],"pipes":[{"pipe":0,"bytes":""}],"txns":[{"txn":2,"defers":false,"open":[2],"ended":[],"held":[{"target":1,"signo":12,"value":0}]}]}}
+"#,
+);
+
+#[test]
+fn a_state_is_an_object(rt: HostRuntime) -> Result<(), Fail> {
+    assert!(rt; shows_in(rt.alloc(), Form::Json, STATE.0, STATE.1)?);
     Ok(())
 }
 
 #[test]
 fn a_talk_ends_where_an_answer_is_not_shown(rt: HostRuntime) -> Result<(), Fail> {
-    let (ended, shown) = talk_over(rt.alloc(), "2 map 0\nstate\n2 map 1\n", 1)?;
+    let (ended, shown) = talk_over(rt.alloc(), Form::Text, "2 map 0\nstate\n2 map 1\n", 1)?;
     assert!(rt; ended == Err(TalkFault::Writer) && shown.as_slice() == b"ok 0\n".as_slice());
     Ok(())
 }
@@ -207,7 +282,7 @@ fn a_console_prompts(rt: HostRuntime) -> Result<(), Fail> {
     };
     let mut console = Console::new(b"2 map 0\nback\n".as_slice(), page, true);
     assert!(rt; console.greet());
-    let mut shell = Shell::new(rt.alloc())?;
+    let mut shell = Shell::new(rt.alloc(), Form::Text)?;
     assert!(rt; talk(rt.alloc(), &mut shell, &mut console) == Ok(()));
     let wanted =
         b"a step or a command a line; help lists the commands\ntxos 0> ok 0\ntxos 1> at 0\ntxos 0> \n".as_slice();
@@ -222,7 +297,7 @@ fn written_of(alloc: Global, lines: &[u8]) -> Result<Vec<u8>, Fail> {
         written: &mut written,
     };
     let mut console = Console::new(lines, page, false);
-    let mut shell = Shell::new(alloc)?;
+    let mut shell = Shell::new(alloc, Form::Text)?;
     talk(alloc, &mut shell, &mut console)?;
     Ok(written)
 }

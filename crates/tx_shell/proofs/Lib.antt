@@ -3,11 +3,13 @@ pub mod Behind
 pub mod Chained
 pub mod Explained
 pub mod Found
+pub mod Jsons
 pub mod LeftOver
 pub mod Listed
 pub mod Numbered
 pub mod Owned
 pub mod Replayed
+pub mod Sentences
 pub mod Shown
 pub mod Sought
 pub mod Spelled

@@ -1,5 +1,5 @@
 -- A text can hold what a talk has.
-use Rattle.std.proofs.Common.{◌≡◌, ◌<◌, ◌≤◌, ℕ, Bool, List, [], ◌∷◌, ◌++◌, length, map, reverse, take, Option, None, Some, inl, inr, refl, sym, subst, true, false, arith}
+use Rattle.std.proofs.Common.{◌≡◌, ◌<◌, ◌≤◌, ℕ, Bool, List, [], ◌∷◌, ◌++◌, reverse, take, Option, None, Some, inl, inr, sym, subst, true, false, arith}
 use Rattle.std.proofs.lemmas.List.{reverse-append}
 use Rattle.std.proofs.lemmas.List.Elements.{All-cons, All-head, All-map, All-nil, All-push, All-same, All-tail, All-take}
 use Rattle.std.specs.List.{All}
@@ -7,23 +7,24 @@ use Rattle.tx_base.specs.declared.steps.Accepted.{Accepted}
 use Rattle.tx_base.specs.declared.steps.Reply.{Reply}
 use Rattle.tx_base.specs.declared.steps.Reply.TheVariants.{Aborted, Committed, Done, Ended, No, Out}
 use Rattle.tx_base.specs.declared.steps.Step.{Step}
-use Rattle.tx_lines.specs.Lines.{FitsHeader, most_of}
-use Rattle.tx_lines.specs.Schedule.{FitsStepOf, IsSchedule}
+use Rattle.tx_lines.specs.Lines.{most_of}
+use Rattle.tx_lines.specs.Schedule.{FitsStepOf}
 use Rattle.tx_lines.specs.declared.read.header.Version.{Version}
 use Rattle.tx_lines.specs.declared.read.header.Version.TheVariants as versions
 use Rattle.tx_model.specs.Schedules.{history_with}
 use Rattle.tx_model.specs.State.{State}
 use Rattle.tx_script.specs.Debug.{first_steps}
-use Rattle.tx_shell.specs.Answers.{AnswersAsk, AnswersNeither, AnswersStep, AnswersWords}
-use Rattle.tx_shell.specs.Events.{End, Event, Failure, Line, Talks, Text}
-use Rattle.tx_shell.specs.Journals.{steps_made}
-use Rattle.tx_shell.specs.Origins.{header_in, Origin, version_of}
+use Rattle.tx_shell.specs.Answers.{AnswersAsk, AnswersAskIn, AnswersStep, AnswersWords}
+use Rattle.tx_shell.specs.Events.{End, Failure, Line, Talks, Text}
+use Rattle.tx_shell.specs.Origins.{Origin, version_of}
 use Rattle.tx_shell.specs.Places.{Place}
 use Rattle.tx_shell.specs.Spelled.{AllFit, IsSpelled, SpellsSchedule, StaysSpelled}
 use Rattle.tx_shell.specs.Standings.{Answers, AnswersMeant, first_standing, Opens, Standing}
 use Rattle.tx_shell.specs.Versions.{grammar_of}
 use Rattle.tx_shell.specs.declared.asks.Ask.{Ask}
 use Rattle.tx_shell.specs.declared.asks.Ask.TheVariants as asks
+use Rattle.tx_shell.specs.declared.forms.Form.{Form}
+use Rattle.tx_shell.specs.declared.forms.Form.TheVariants as forms
 use Rattle.tx_shell.specs.declared.versions.TextVersion.{TextVersion}
 
 -- what holds of each of a list holds of each of the list turned round
@@ -56,32 +57,38 @@ module _ (o : Origin) (p q : Place) (text : List ℕ) (all : AllFit o.version p.
   same_history : q.history ≡ p.history → AllFit o.version q.history
   same_history same = subst (AllFit o.version) (sym same) all
 
-  stepped : (step : Step) → FitsStepOf (grammar_of o.version) step → (start : State) → AnswersStep start p step text q → AllFit o.version q.history
-  stepped step fits start (inl makes) = subst (AllFit o.version) (sym makes.recorded) (with_step o.version p.history step _ fits all)
-  stepped step fits start (inr leaves) = same_place leaves.stays
+  stepped : (form : Form) (step : Step) → FitsStepOf (grammar_of o.version) step → (start : State) → AnswersStep form start p step text q → AllFit o.version q.history
+  stepped form step fits start (inl makes) = subst (AllFit o.version) (sym makes.recorded) (with_step o.version p.history step _ fits all)
+  stepped form step fits start (inr leaves) = same_place leaves.stays
 
-  asked : (ask : Ask) → AnswersAsk o p ask text q → AllFit o.version q.history
-  asked (asks.Walk command) walks = same_history walks.history
-  asked asks.GotoEnd walks = same_history walks.history
-  asked asks.Steps answers = same_place answers.1
-  asked (asks.StepsFrom first) answers = same_place answers.1
-  asked (asks.StepsBetween first last) answers = same_place answers.1
-  asked asks.Text prints = same_place prints.stays
-  asked (asks.Try step) answers = same_place answers.1
-  asked (asks.Why step) answers = same_place answers.1
-  asked (asks.Without starter) answers = same_place answers.1
-  asked asks.Owns answers = same_place answers.1
-  asked (asks.OwnsOf starter) answers = same_place answers.1
-  asked (asks.When piece) tells = same_history tells.history
-  asked (asks.Next piece) tells = same_history tells.history
-  asked asks.Cut cuts = subst (AllFit o.version) (sym cuts.history) (first_fit o.version p.at p.history all)
-  asked asks.Help answers = same_place answers.1
-  asked (asks.HelpOn word) answers = same_place answers.1
+  asked : (refused : Option Step) (ask : Ask) → AnswersAsk o p refused ask text q → AllFit o.version q.history
+  asked refused (asks.Walk command) walks = same_history walks.history
+  asked refused asks.GotoEnd walks = same_history walks.history
+  asked refused asks.Steps answers = same_place answers.1
+  asked refused (asks.StepsFrom first) answers = same_place answers.1
+  asked refused (asks.StepsBetween first last) answers = same_place answers.1
+  asked refused asks.Text prints = same_place prints.stays
+  asked refused (asks.Try step) answers = same_place answers.1
+  asked refused (asks.Why step) answers = same_place answers.1
+  asked refused (asks.Without starter) answers = same_place answers.1
+  asked refused asks.WhyRefused answers = same_place answers.1
+  asked refused asks.Owns answers = same_place answers.1
+  asked refused (asks.OwnsOf starter) answers = same_place answers.1
+  asked refused (asks.When piece) tells = same_history tells.history
+  asked refused (asks.Next piece) tells = same_history tells.history
+  asked refused asks.Cut cuts = subst (AllFit o.version) (sym cuts.history) (first_fit o.version p.at p.history all)
+  asked refused asks.Help answers = same_place answers.1
+  asked refused (asks.HelpOn word) answers = same_place answers.1
 
-  worded : (line words : List ℕ) → AnswersWords o p line words text q → AllFit o.version q.history
-  worded line words (inl (step, is, answers)) = stepped step (record { fits = is.fits; of = is.of }) _ answers
-  worded line words (inr (inl (ask, is, answers))) = asked ask answers
-  worded line words (inr (inr neither)) = same_place neither.stays
+module _ (o : Origin) (p q : Place) (text : List ℕ) (all : AllFit o.version p.history) where
+  asked_in : (form : Form) (refused : Option Step) (ask : Ask) → AnswersAskIn form o p refused ask text q → AllFit o.version q.history
+  asked_in forms.Text refused ask answers = asked o p q text all refused ask answers
+  asked_in forms.Json refused ask json = asked o p q json.told all refused ask json.answers
+
+  worded : (form : Form) (before after : Option Step) (line words : List ℕ) → AnswersWords form o p before line words text q after → AllFit o.version q.history
+  worded form before after line words (inl (step, is, answers, kept)) = stepped o p q text all form step (record { fits = is.fits; of = is.of }) _ answers
+  worded form before after line words (inr (inl (ask, is, answers, kept))) = asked_in form before ask answers
+  worded form before after line words (inr (inr (neither, kept))) = same_place o p q text all neither.stays
 
 -- a header of the first two versions fits the version that its lines are read by
 header_fits : (third : Bool) (version : Version) (count : ℕ) → (0 < count) × (count ≤ most_of version) → (0 < count) × (count ≤ most_of (grammar_of (version_of third version)))
@@ -99,8 +106,8 @@ opened s t line text opens = record {
 
 meant : (s t : Standing) (line : List ℕ) (words : Option (List ℕ)) (text : List ℕ) → AnswersMeant s line words text t → IsSpelled s → IsSpelled t
 meant s t line None text (none, same) spelled = subst IsSpelled (sym same) spelled
-meant s t line (Some words) text (other, (q, answers, goes)) spelled =
-    subst IsSpelled (sym goes) (record { begins = spelled.begins; steps = worded s.origin s.place q text spelled.steps line words answers })
+meant s t line (Some words) text (other, (q, (refused, answers, goes))) spelled =
+    subst IsSpelled (sym goes) (record { begins = spelled.begins; steps = worded s.origin s.place q text spelled.steps s.form s.refused refused line words answers })
 
 answered : (s t : Standing) (line text : List ℕ) → Answers s line text t → IsSpelled s → IsSpelled t
 answered s t line text (inl opens) spelled = opened s t line text opens
@@ -118,8 +125,8 @@ stays_spelled s t (End ∷ events) talks spelled = absurd talks
 stays_spelled s t (Text told ∷ events) talks spelled = absurd talks
 stays_spelled s t (Failure ∷ events) talks spelled = absurd talks
 
-pub first_spelled : IsSpelled first_standing
-first_spelled = record { begins = (omega arith, omega arith); steps = All-nil (λ (e : Accepted). FitsStepOf versions.Two e.step) }
+pub first_spelled : (form : Form) → IsSpelled (first_standing form)
+first_spelled form = record { begins = (omega arith, omega arith); steps = All-nil (λ (e : Accepted). FitsStepOf versions.Two e.step) }
 
 pub spells_schedule : SpellsSchedule
 spells_schedule s spelled few =

@@ -1,9 +1,12 @@
 -- What a line is answered, and where the session stands then.
-use Rattle.std.specs.Prelude.{◌≡◌, ◌⊎◌, ◌<◌, ℕ, List, [], ◌∷◌, ◌++◌, IsTrue, codes, false, length, true}
+use Rattle.std.specs.Prelude.{◌≡◌, ◌⊎◌, ◌<◌, ℕ, ◌&&◌, List, [], ◌∷◌, ◌++◌, Option, Some, IsTrue, codes, false, if◌then◌else◌, length, nat_eq, true}
+use Rattle.json.specs.Token.{Token}
 use Rattle.tx_base.specs.declared.steps.Accepted.{Accepted}
 use Rattle.tx_base.specs.declared.steps.Step.{Step}
 use Rattle.tx_explain.specs.Topics.{is_page}
 use Rattle.tx_journal.specs.Trials.{view_with, view_without}
+use Rattle.tx_json.specs.Answers.{lines_answer, position_answer, state_answer, trial_answer}
+use Rattle.tx_json.specs.Line.{IsLineOf}
 use Rattle.tx_lines.specs.Lines.{FitsStep, IsOf, step_text}
 use Rattle.tx_lines.specs.Schedule.{IsNoStep}
 use Rattle.tx_lines.specs.declared.read.command.Command.{Command}
@@ -17,34 +20,36 @@ use Rattle.tx_script.specs.Debug.{command_answer, first_steps, position_after, p
 use Rattle.tx_shell.specs.Asks.{ask_text, FitsAsk, IsNoAsk}
 use Rattle.tx_shell.specs.Changes.{shown_at, TellsLast, TellsNext}
 use Rattle.tx_shell.specs.Differences.{differing}
+use Rattle.tx_shell.specs.Forms.{SaysAhead, SaysReply, TellsIn}
 use Rattle.tx_shell.specs.Helps.{HelpsOn}
 use Rattle.tx_shell.specs.Journals.{schedule_so_far, steps_listed, steps_made}
 use Rattle.tx_shell.specs.Origins.{Origin, start_in}
 use Rattle.tx_shell.specs.Owners.{or_no_transaction, owner_line, owner_lines}
 use Rattle.tx_shell.specs.Places.{Place}
-use Rattle.tx_shell.specs.Reasons.{TellsWhy}
-use Rattle.tx_shell.specs.Told.{TellsOf}
+use Rattle.tx_shell.specs.Reasons.{TellsRefused, TellsWhy}
 use Rattle.tx_shell.specs.Versions.{grammar_of}
 use Rattle.tx_shell.specs.declared.asks.Ask.{Ask}
 use Rattle.tx_shell.specs.declared.asks.Ask.TheVariants as asks
+use Rattle.tx_shell.specs.declared.forms.Form.{Form}
+use Rattle.tx_shell.specs.declared.forms.Form.TheVariants.{Text, Json}
 use Rattle.tx_text.specs.Replies.{reply_text}
 use Rattle.tx_text.specs.State.{state_text}
 
 -- at the end a step is made: its reply is told, and it is recorded where it was accepted
-pub record MakesStep (start : State) (p : Place) (step : Step) (text : List ℕ) (q : Place) : Type 0 where
+pub record MakesStep (form : Form) (start : State) (p : Place) (step : Step) (text : List ℕ) (q : Place) : Type 0 where
   pub at_end : p.at ≡ length p.history
-  pub told : text ≡ reply_text (answer (view start p.history) step) ++ 10 ∷ []
+  pub told : SaysReply form (length q.history) (answer (view start p.history) step) text
   pub recorded : q.history ≡ history_with p.history step (answer (view start p.history) step)
   pub after : q.at ≡ length q.history
 
 -- it is made nowhere else
-pub record LeavesStep (p : Place) (text : List ℕ) (q : Place) : Type 0 where
+pub record LeavesStep (form : Form) (p : Place) (text : List ℕ) (q : Place) : Type 0 where
   pub inside : p.at < length p.history
-  pub told : text ≡ codes "no: steps are ahead; cut lets go of them, forward makes them again\n"
+  pub told : SaysAhead form text
   pub stays : q ≡ p
 
-abbrev pub AnswersStep : State → Place → Step → List ℕ → Place → Type 0
-AnswersStep start p step text q = MakesStep start p step text q ⊎ LeavesStep p text q
+abbrev pub AnswersStep : Form → State → Place → Step → List ℕ → Place → Type 0
+AnswersStep form start p step text q = MakesStep form start p step text q ⊎ LeavesStep form p text q
 
 -- a command of the debugger answers as in a text for it, and leads to the same position
 pub record Walks (start : State) (p : Place) (command : Command) (text : List ℕ) (q : Place) : Type 0 where
@@ -78,24 +83,25 @@ pub record Cuts (p : Place) (text : List ℕ) (q : Place) : Type 0 where
   pub history : q.history ≡ first_steps p.at p.history
   pub at : q.at ≡ p.at
 
--- what is asked for is done and answered
-abbrev pub AnswersAsk : Origin → Place → Ask → List ℕ → Place → Type 0
-AnswersAsk o p (asks.Walk command) text q = Walks (start_in o) p command text q
-AnswersAsk o p asks.GotoEnd text q = Walks (start_in o) p (commands.Goto (length p.history)) text q
-AnswersAsk o p asks.Steps text q = (text ≡ steps_listed p 1 (length p.history)) × (q ≡ p)
-AnswersAsk o p (asks.StepsFrom first) text q = (text ≡ steps_listed p first (length p.history)) × (q ≡ p)
-AnswersAsk o p (asks.StepsBetween first last) text q = (text ≡ steps_listed p first last) × (q ≡ p)
-AnswersAsk o p asks.Text text q = PrintsSchedule o p text q
-AnswersAsk o p (asks.Try step) text q = (text ≡ tried_text (start_in o) (first_steps p.at p.history) step) × (q ≡ p)
-AnswersAsk o p (asks.Without starter) text q = TellsWithout (start_in o) p starter text × (q ≡ p)
-AnswersAsk o p (asks.When piece) text q = TellsLast (shown_at (start_in o) p.history piece) p text q
-AnswersAsk o p (asks.Next piece) text q = TellsNext (shown_at (start_in o) p.history piece) p text q
-AnswersAsk o p (asks.Why step) text q = TellsWhy (start_in o) (first_steps p.at p.history) step text × (q ≡ p)
-AnswersAsk o p asks.Owns text q = (text ≡ or_no_transaction (owner_lines (view_at o p))) × (q ≡ p)
-AnswersAsk o p (asks.OwnsOf starter) text q = (text ≡ or_no_transaction (owner_line (view_at o p) starter)) × (q ≡ p)
-AnswersAsk o p asks.Cut text q = Cuts p text q
-AnswersAsk o p asks.Help text q = IsTrue (is_page text) × (q ≡ p)
-AnswersAsk o p (asks.HelpOn word) text q = HelpsOn word.now text × (q ≡ p)
+-- what is asked for is done and answered, as text, where that step was refused last
+abbrev pub AnswersAsk : Origin → Place → Option Step → Ask → List ℕ → Place → Type 0
+AnswersAsk o p refused (asks.Walk command) text q = Walks (start_in o) p command text q
+AnswersAsk o p refused asks.GotoEnd text q = Walks (start_in o) p (commands.Goto (length p.history)) text q
+AnswersAsk o p refused asks.Steps text q = (text ≡ steps_listed p 1 (length p.history)) × (q ≡ p)
+AnswersAsk o p refused (asks.StepsFrom first) text q = (text ≡ steps_listed p first (length p.history)) × (q ≡ p)
+AnswersAsk o p refused (asks.StepsBetween first last) text q = (text ≡ steps_listed p first last) × (q ≡ p)
+AnswersAsk o p refused asks.Text text q = PrintsSchedule o p text q
+AnswersAsk o p refused (asks.Try step) text q = (text ≡ tried_text (start_in o) (first_steps p.at p.history) step) × (q ≡ p)
+AnswersAsk o p refused (asks.Without starter) text q = TellsWithout (start_in o) p starter text × (q ≡ p)
+AnswersAsk o p refused (asks.When piece) text q = TellsLast (shown_at (start_in o) p.history piece) p text q
+AnswersAsk o p refused (asks.Next piece) text q = TellsNext (shown_at (start_in o) p.history piece) p text q
+AnswersAsk o p refused (asks.Why step) text q = TellsWhy (start_in o) (first_steps p.at p.history) step text × (q ≡ p)
+AnswersAsk o p refused asks.WhyRefused text q = TellsRefused (start_in o) (first_steps p.at p.history) refused text × (q ≡ p)
+AnswersAsk o p refused asks.Owns text q = (text ≡ or_no_transaction (owner_lines (view_at o p))) × (q ≡ p)
+AnswersAsk o p refused (asks.OwnsOf starter) text q = (text ≡ or_no_transaction (owner_line (view_at o p) starter)) × (q ≡ p)
+AnswersAsk o p refused asks.Cut text q = Cuts p text q
+AnswersAsk o p refused asks.Help text q = IsTrue (is_page text) × (q ≡ p)
+AnswersAsk o p refused (asks.HelpOn word) text q = HelpsOn word.now text × (q ≡ p)
 
 -- what a line means is a step
 pub record IsStepLine (o : Origin) (words : List ℕ) (step : Step) : Type 0 where
@@ -109,15 +115,40 @@ pub record IsAskLine (o : Origin) (words : List ℕ) (ask : Ask) : Type 0 where
   pub fits : FitsAsk (grammar_of o.version) ask
   pub spelled : words ≡ ask_text ask
 
+-- what JSON has of what is asked for: of a state the state, of a step that is tried its reply and the lines that differ, of a cut the position; of all else the lines of the text
+abbrev pub ask_tokens : Origin → Place → Ask → List ℕ → ℕ → List Token
+ask_tokens o p (asks.Walk commands.State) told at = state_answer at (view_at o p)
+ask_tokens o p (asks.Try step) told at =
+    trial_answer at (answer (view_at o p) step) (differing (state_text (view_at o p)) (state_text (view_with (start_in o) (first_steps p.at p.history) step)))
+ask_tokens o p asks.Cut told at = position_answer at
+ask_tokens o p ask told at = lines_answer at told
+
+-- what is asked for is done, and answered by JSON in place of the text that is known
+pub record AnswersAskJson (o : Origin) (p : Place) (refused : Option Step) (ask : Ask) (text : List ℕ) (q : Place) : Type 0 where
+  pub told : List ℕ
+  pub answers : AnswersAsk o p refused ask told q
+  pub says : IsLineOf (ask_tokens o p ask told q.at) text
+
+-- in either form
+abbrev pub AnswersAskIn : Form → Origin → Place → Option Step → Ask → List ℕ → Place → Type 0
+AnswersAskIn Text o p refused ask text q = AnswersAsk o p refused ask text q
+AnswersAskIn Json o p refused ask text q = AnswersAskJson o p refused ask text q
+
 -- it is neither: what is wrong with the line is told, and nothing changes
-pub record AnswersNeither (o : Origin) (p : Place) (line words text : List ℕ) (q : Place) : Type 0 where
+pub record AnswersNeither (form : Form) (o : Origin) (p : Place) (line words text : List ℕ) (q : Place) : Type 0 where
   pub no_step : IsNoStep (grammar_of o.version) words
   pub no_ask : IsNoAsk (grammar_of o.version) words
-  pub tells : TellsOf o.version line words text
+  pub tells : TellsIn form o.version line words text
   pub stays : q ≡ p
 
--- a line that means those words is a step, or else asks for something, or else is neither, and is answered as such
-abbrev pub AnswersWords : Origin → Place → List ℕ → List ℕ → List ℕ → Place → Type 0
-AnswersWords o p line words text q =
-    ((step : Step) × IsStepLine o words step × AnswersStep (start_in o) p step text q)
-    ⊎ (((ask : Ask) × IsAskLine o words ask × AnswersAsk o p ask text q) ⊎ AnswersNeither o p line words text q)
+-- which step was refused last: a step that was to be made and led nowhere, or else the one before
+abbrev pub refused_by : Place → Step → Place → Option Step → Option Step
+refused_by p step q before = if nat_eq p.at (length p.history) && nat_eq (length q.history) (length p.history) then Some step else before
+
+-- a line that means those words is a step, or else asks for something, or else is neither, and is answered as such. A step was refused last before
+-- it, and one behind it
+abbrev pub AnswersWords : Form → Origin → Place → Option Step → List ℕ → List ℕ → List ℕ → Place → Option Step → Type 0
+AnswersWords form o p before line words text q after =
+    ((step : Step) × IsStepLine o words step × AnswersStep form (start_in o) p step text q × (after ≡ refused_by p step q before))
+    ⊎ (((ask : Ask) × IsAskLine o words ask × AnswersAskIn form o p before ask text q × (after ≡ before))
+    ⊎ (AnswersNeither form o p line words text q × (after ≡ before)))

@@ -3,6 +3,7 @@ use Rattle.std.specs.Prelude.{◌≢◌, ℕ, ◌<◌, ◌^◌, List, ◌∷◌,
 use Rattle.std.specs.Fmt.{decimal}
 use Rattle.tx_lines.specs.Lines.{step_text, FitsStep, IsOf}
 use Rattle.tx_lines.specs.Walks.{command_text, FitsCommand}
+use Rattle.tx_lines.specs.declared.read.command.Command.TheVariants as commands
 use Rattle.tx_lines.specs.declared.read.header.Version.{Version}
 use Rattle.tx_shell.specs.Pieces.{piece_name, FitsPiece}
 use Rattle.tx_shell.specs.declared.asks.Ask.{Ask}
@@ -21,6 +22,7 @@ ask_text (asks.When piece) = codes "when " ++ piece_name piece
 ask_text (asks.Next piece) = codes "next " ++ piece_name piece
 ask_text (asks.Without starter) = codes "without " ++ decimal starter
 ask_text (asks.Why step) = codes "why " ++ step_text step
+ask_text asks.WhyRefused = codes "why"
 ask_text asks.Owns = codes "owns"
 ask_text (asks.OwnsOf starter) = codes "owns " ++ decimal starter
 ask_text asks.Cut = codes "cut"
@@ -49,7 +51,15 @@ abbrev pub IsOfWords : Ask → Type 0
 IsOfWords asks.GotoEnd = Unit {0}
 IsOfWords asks.Steps = Unit {0}
 IsOfWords asks.Text = Unit {0}
+IsOfWords asks.WhyRefused = Unit {0}
 IsOfWords asks.Owns = Unit {0}
 IsOfWords asks.Cut = Unit {0}
 IsOfWords asks.Help = Unit {0}
 IsOfWords ask = ⊥
+
+-- JSON has the lines of its text
+abbrev pub IsToldByLines : Ask → Type 0
+IsToldByLines (asks.Walk commands.State) = ⊥
+IsToldByLines (asks.Try step) = ⊥
+IsToldByLines asks.Cut = ⊥
+IsToldByLines ask = Unit {0}

@@ -3,6 +3,7 @@ pub mod Asks
 pub mod Changes
 pub mod Differences
 pub mod Events
+pub mod Forms
 pub mod Helps
 pub mod Journals
 pub mod Kinds

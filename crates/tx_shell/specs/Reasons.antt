@@ -128,3 +128,8 @@ module _ (S : State) (h : List Accepted) (step : Step) where
     pub behind : List ℕ
     pub told : text ≡ step_text step ++ behind
     pub reply : TellsReply (answer (view S h) step) behind
+
+-- of the step that was refused last, or that none was
+abbrev pub TellsRefused : State → List Accepted → Option Step → List ℕ → Type 0
+TellsRefused S h None text = text ≡ codes "nothing was refused\n"
+TellsRefused S h (Some step) text = TellsWhy S h step text

@@ -1,59 +1,66 @@
 -- Where a talk stands, and how a line leads it on.
 use Rattle.std.specs.Prelude.{◌≡◌, ◌≢◌, ◌⊎◌, ℕ, Bool, false, true, List, [], Option, Some, None, codes}
-use Rattle.tx_script.specs.Debug.{position_text}
+use Rattle.tx_base.specs.declared.steps.Step.{Step}
 use Rattle.tx_shell.specs.Answers.{AnswersWords}
+use Rattle.tx_shell.specs.Forms.{SaysNothing, SaysPosition}
 use Rattle.tx_shell.specs.Meanings.{meant_line}
 use Rattle.tx_shell.specs.Origins.{Origin, SaysNoOrigin, SaysOrigin}
 use Rattle.tx_shell.specs.Places.{origin_of, Place, place_of}
 use Rattle.tx_shell.specs.Refused.{StopsShortOf}
+use Rattle.tx_shell.specs.declared.forms.Form.{Form}
 use Rattle.tx_shell.specs.declared.shell.Shell.{Shell}
 use Rattle.tx_shell.specs.declared.versions.TextVersion.TheVariants.{Three}
 
--- how it began, whether a header may still come, and where its session stands
+-- in which form it is answered, how it began, whether a header may still come, where its session stands, and which of its steps was refused last
 pub record Standing : Type 0 where
+  pub form : Form
   pub origin : Origin
   pub is_fresh : Bool
   pub place : Place
+  pub refused : Option Step
 
 abbrev pub standing_of : Shell → Standing
-standing_of shell = record { origin = origin_of shell.version shell.session; is_fresh = shell.is_fresh; place = place_of shell.session }
+standing_of shell = record { form = shell.form; origin = origin_of shell.version shell.session; is_fresh = shell.is_fresh; place = place_of shell.session; refused = shell.refused }
 
 -- no step is made
 abbrev pub at_start : Place
 at_start = record { history = []; at = 0 }
 
 -- a talk that begins so, and has no header before it any more
-abbrev pub begun_by : Origin → Standing
-begun_by o = record { origin = o; is_fresh = false; place = at_start }
+abbrev pub begun_by : Form → Origin → Standing
+begun_by form o = record { form = form; origin = o; is_fresh = false; place = at_start; refused = None }
 
 -- without a header it begins as a text of version 3 with two processes
-abbrev pub first_standing : Standing
-first_standing = record { origin = record { version = Three; width = 256; count = 2 }; is_fresh = true; place = at_start }
+abbrev pub first_standing : Form → Standing
+first_standing form = record { form = form; origin = record { version = Three; width = 256; count = 2 }; is_fresh = true; place = at_start; refused = None }
 
 -- a header may come, and is there: the talk begins as it says
 pub record Opens (s : Standing) (line text : List ℕ) (t : Standing) : Type 0 where
   pub fresh : s.is_fresh ≡ true
   pub says : SaysOrigin line t.origin
-  pub told : text ≡ position_text 0
+  pub told : SaysPosition s.form 0 text
+  pub form : t.form ≡ s.form
   pub begun : t.is_fresh ≡ false
   pub place : t.place ≡ at_start
+  pub refused : t.refused ≡ None
 
 -- no header may come, or none is there
 abbrev pub IsNoHeader : Standing → List ℕ → Type 0
 IsNoHeader s line = (s.is_fresh ≡ false) ⊎ SaysNoOrigin line
 
--- it goes on at that place, and no header may come
-abbrev pub going_on : Standing → Place → Standing
-going_on s q = record { origin = s.origin; is_fresh = false; place = q }
+-- it goes on at that place, and no header may come; that step was refused last
+abbrev pub going_on : Standing → Place → Option Step → Standing
+going_on s q refused = record { form = s.form; origin = s.origin; is_fresh = false; place = q; refused = refused }
 
 -- what ends a talk
 abbrev pub quit_line : List ℕ
 quit_line = codes "quit"
 
--- a line without a word is answered by nothing, and any other as what it means, but for the one that ends the talk
+-- a line without a word says nothing, and any other as what it means, but for the one that ends the talk
 abbrev pub AnswersMeant : Standing → List ℕ → Option (List ℕ) → List ℕ → Standing → Type 0
-AnswersMeant s line None text t = (text ≡ []) × (t ≡ s)
-AnswersMeant s line (Some words) text t = (words ≢ quit_line) × ((q : Place) × AnswersWords s.origin s.place line words text q × (t ≡ going_on s q))
+AnswersMeant s line None text t = SaysNothing s.form text × (t ≡ s)
+AnswersMeant s line (Some words) text t =
+    (words ≢ quit_line) × ((q : Place) × ((refused : Option Step) × AnswersWords s.form s.origin s.place s.refused line words text q refused × (t ≡ going_on s q refused)))
 
 -- how a line is answered, and where the talk stands then
 abbrev pub Answers : Standing → List ℕ → List ℕ → Standing → Type 0

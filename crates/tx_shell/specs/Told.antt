@@ -35,3 +35,7 @@ pub record TellsOf (version : TextVersion) (line words text : List ℕ) : Type 0
   pub checked : IsToldOf (checked_text version line words) told
   pub numbered : IsNumbered told rest
   pub says : text ≡ codes "? " ++ or_neither rest
+
+-- a sentence stands behind the mark, and then the line's end
+abbrev pub HasSentence : List ℕ → Type 0
+HasSentence told = (sentence : List ℕ) × (told ≡ codes "? " ++ (sentence ++ 10 ∷ []))

@@ -1,68 +1,131 @@
 //! Answers what a line means.
-ghost use Rattle.std.specs.Prelude.{◌≡◌, IfOk, OnErr, length, string_bytes};
+ghost use Rattle.std.specs.Prelude.{◌≡◌, IfOk, OnErr, OnOk, length, string_bytes};
 ghost use Rattle.tx_journal.specs.Sessions.{position_of, start_of, IsBetween, SameBoot, SameJournal};
 ghost use Rattle.tx_journal.specs.Entries.{history_of};
 ghost use Rattle.tx_lines.specs.declared.read.command.Command.TheVariants as command;
 ghost use Rattle.tx_script.specs.Debug.{position_after};
-ghost use Rattle.tx_shell.specs.Answers.{AnswersAsk, AnswersWords, Cuts, Walks};
+ghost use Rattle.tx_shell.specs.Answers.{refused_by, AnswersAsk, AnswersAskIn, AnswersStep, AnswersWords, Cuts, Walks};
 ghost use Rattle.tx_shell.specs.Journals.{steps_listed};
 ghost use Rattle.tx_shell.specs.Places.{origin_of, place_of};
 ghost use Rattle.tx_shell.specs.Refused.{StopsShort, StopsShortOf};
 
 use crate::asks::{Ask, read_ask};
 use crate::changes::{tell_last, tell_next};
+use crate::forms::Form;
 use crate::helps::{help, help_on, text_as};
 use crate::journals::{list_steps, position_line, print_schedule};
+use crate::json_answers::answer_as_json;
 use crate::owners::{list_owner, list_owners};
-use crate::reasons::tell_why;
+use crate::reasons::{tell_refused, tell_why};
 use crate::reserving::reserve_walk;
 use crate::steps::answer_step;
-use crate::tells::tell;
+use crate::tells::tell_in;
 use crate::trials::{try_step, without};
 use crate::versions::TextVersion;
 use std::alloc::Global;
-use tx_base::NoMemory;
+use tx_base::{NoMemory, Step};
 use tx_journal::Session;
 use tx_lines::{Command, read_step};
 use tx_script::put_answer;
 
-/// Does what a line of that version says, which means those words, and answers it.
+/// Does what a line of that version says, which means those words, and answers it in a form. Keeps which
+/// step was refused last.
 ///
 /// NoMemory where a growth is refused: no step came or went then, and the position is the old one, or
 /// lies between that and the one that is asked for.
 pub fn answer_words(
     alloc: Global,
+    form: Form,
     version: TextVersion,
     session: &mut Session,
+    refused: &mut Option<Step>,
     line: &[u8],
     words: &[u8],
 ) -> Result<String, NoMemory>
     ensures answer { IfOk result (λ text.
-        AnswersWords (origin_of version session.old) (place_of session.old) line.now words.now
-        (string_bytes text) (place_of session.new)) }
+        AnswersWords form (origin_of version session.old) (place_of session.old) refused.old
+        line.now words.now (string_bytes text) (place_of session.new) refused.new) }
     ensures stops { OnErr result
         (StopsShortOf (origin_of version session.old) (place_of session.old) words.now
         (place_of session.new)) }
+    ensures kept { OnErr result (refused.new ≡ refused.old) }
     ensures boot { SameBoot session.new session.old }
 {
     if let Some(step) = read_step(version.grammar(), words) {
-        return answer_step(alloc, session, &step);
+        return answer_step_line(alloc, form, session, refused, step);
     }
     match read_ask(version.grammar(), words) {
-        Some(ask) => answer_ask(alloc, version, session, ask),
-        None => tell(alloc, version, line, words),
+        Some(ask) => answer_ask(alloc, form, version, session, refused, ask),
+        None => tell_in(alloc, form, version, line, words),
     }
 }
 
-/// Does what is asked for, and answers it.
+/// Answers a step in a form, and keeps it where it was to be made and was refused.
+///
+/// NoMemory where a growth is refused; no step came or went then.
+fn answer_step_line(
+    alloc: Global,
+    form: Form,
+    session: &mut Session,
+    refused: &mut Option<Step>,
+    step: Step,
+) -> Result<String, NoMemory>
+    ensures answer { IfOk result (λ text.
+        AnswersStep form (start_of session.old) (place_of session.old) step (string_bytes text)
+        (place_of session.new)) }
+    ensures kept { OnOk result (refused.new
+        ≡ refused_by (place_of session.old) step (place_of session.new) refused.old) }
+    ensures stops { OnErr result (place_of session.new ≡ place_of session.old) }
+    ensures same { OnErr result (refused.new ≡ refused.old) }
+    ensures boot { SameBoot session.new session.old }
+{
+    let count = count_steps(session);
+    let is_at_end = session.position() == count;
+    let text = answer_step(alloc, form, session, &step)?;
+    if is_at_end && count_steps(session) == count {
+        *refused = Some(step);
+    }
+    Ok(text)
+}
+
+/// Does what is asked for, and answers it in a form.
+///
+/// NoMemory where a growth is refused: no step came or went then, and the position lies between the old
+/// one and that which is asked for.
 fn answer_ask(
     alloc: Global,
+    form: Form,
     version: TextVersion,
     session: &mut Session,
+    refused: &Option<Step>,
     ask: Ask<'_>,
 ) -> Result<String, NoMemory>
     ensures answer { IfOk result (λ text.
-        AnswersAsk (origin_of version session.old) (place_of session.old) ask.entry
+        AnswersAskIn form (origin_of version session.old) (place_of session.old) refused.now
+        ask.entry (string_bytes text) (place_of session.new)) }
+    ensures stops { OnErr result
+        (StopsShort (place_of session.old) ask.entry (place_of session.new)) }
+    ensures boot { SameBoot session.new session.old }
+{
+    match form {
+        Form::Text => answer_as_text(alloc, version, session, refused, ask),
+        Form::Json => answer_as_json(alloc, version, session, refused, ask),
+    }
+}
+
+/// Does what is asked for, and answers it as text.
+///
+/// NoMemory where a growth is refused: no step came or went then, and the position lies between the old
+/// one and that which is asked for.
+pub fn answer_as_text(
+    alloc: Global,
+    version: TextVersion,
+    session: &mut Session,
+    refused: &Option<Step>,
+    ask: Ask<'_>,
+) -> Result<String, NoMemory>
+    ensures answer { IfOk result (λ text.
+        AnswersAsk (origin_of version session.old) (place_of session.old) refused.now ask.entry
         (string_bytes text) (place_of session.new)) }
     ensures stops { OnErr result
         (StopsShort (place_of session.old) ask.entry (place_of session.new)) }
@@ -80,6 +143,7 @@ fn answer_ask(
         Ask::Next(piece) => tell_next(alloc, session, piece),
         Ask::Without(starter) => without(alloc, session, starter),
         Ask::Why(step) => tell_why(alloc, session, &step),
+        Ask::WhyRefused => tell_refused(alloc, session, refused),
         Ask::Owns => list_owners(alloc, session),
         Ask::OwnsOf(starter) => list_owner(alloc, session, starter),
         Ask::Cut => cut(alloc, session),

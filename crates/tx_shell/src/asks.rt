@@ -37,6 +37,8 @@ pub enum Ask<'a> {
     Without(u16),
     /// To tell why a step would be refused.
     Why(Step),
+    /// To tell why the step would be that was refused last.
+    WhyRefused,
     /// To tell what each live transaction has reserved.
     Owns,
     /// To tell what the live transaction of this starter has reserved.
@@ -110,6 +112,9 @@ fn read_words(line: &[u8]) -> Option<Ask<'static>>
     }
     if line == b"goto end".as_slice() {
         return Some(Ask::GotoEnd);
+    }
+    if line == b"why".as_slice() {
+        return Some(Ask::WhyRefused);
     }
     if line == b"owns".as_slice() {
         return Some(Ask::Owns);

@@ -23,7 +23,7 @@ text       prints the schedule of the steps up to the position, for txos replay
 try STEP   says what a step would be answered, and how the state would differ
 without S  says how the state would differ without the transaction of S
 why STEP   says why a step would be refused, what is in its way, and since
-           when, or what it waits for
+           when, or what it waits for; why: of the step refused last
 owns S     says what the transaction of S has reserved; owns: what each has
 when PIECE goes back to the step that changed a piece of the state last
 next PIECE goes on to the step that changes it next

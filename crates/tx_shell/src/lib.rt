@@ -1,21 +1,25 @@
+#![tactic(auto)]
 //! A session at a terminal: each line is a step or asks for something, and is answered before the
 //! next one is read.
 //!
 //! `talk` reads the lines of a `Terminal`, a trait with one log of all that comes and goes, so that
-//! its contract says the order; a `Shell` is what a talk goes on: a session, and of which version
-//! its lines are. `Shell::answer` answers one line. What a line of version 3 means is found as in a
-//! text (`meanings.rt`, over tx_plain), so it has comments, strings and names as there. Then it is
-//! read as a step (tx_lines), and else as what a talk is asked for (`asks.rt`). The debugger's
-//! commands are answered by tx_script, and so as in a text for it; `journals.rt` lists the steps, and
-//! prints the schedule that makes them again; `trials.rt` tells what would be, by the lines that
-//! differ (`differences.rt`); `changes.rt` finds the step that changed a piece of the state
-//! (`pieces.rt`) last, or changes it next; `owners.rt` tells what live transactions have reserved, by
-//! the kinds of objects that there are (`kinds.rt`); `helps.rt` says what a word means, by tx_explain;
-//! and what is neither is told of as a check tells of it (`tells.rt`, over tx_check).
+//! its contract says the order; a `Shell` is what a talk goes on: a session, in which form it is
+//! answered, of which version its lines are, and which step was refused last. `Shell::answer`
+//! answers one line. What a line of version 3 means is found as in a text (`meanings.rt`, over
+//! tx_plain), so it has comments, strings and names as there. Then it is read as a step (tx_lines),
+//! and else as what a talk is asked for (`asks.rt`). The debugger's commands are answered by
+//! tx_script, and so as in a text for it; `journals.rt` lists the steps, and prints the schedule
+//! that makes them again; `trials.rt` tells what would be, by the lines that differ
+//! (`differences.rt`); `changes.rt` finds the step that changed a piece of the state (`pieces.rt`)
+//! last, or changes it next; `owners.rt` tells what live transactions have reserved, by the kinds
+//! of objects that there are (`kinds.rt`); `reasons.rt` why a step would be refused, with the
+//! objects in its way (`blockers.rt`) or what it waits for (`waits.rt`); `helps.rt` what a word
+//! means, by tx_explain; and what is neither is told of as a check tells of it (`tells.rt`, over
+//! tx_check). A talk has a form (`forms.rt`): in JSON the answers are the same, each as one line
+//! (`json_answers.rt`, over tx_json).
 //!
 //! A refused growth leaves no step half done: a step whose answer could not be put down is taken
 //! back and let go, so the history after an error is the one before the line.
-#![tactic(auto)]
 
 mod answers;
 mod asks;
@@ -23,8 +27,10 @@ mod blockers;
 mod changes;
 mod console;
 mod differences;
+mod forms;
 mod helps;
 mod journals;
+mod json_answers;
 mod kinds;
 mod laws;
 mod lines;
@@ -45,6 +51,7 @@ mod versions;
 mod waits;
 
 pub use console::Console;
+pub use forms::Form;
 pub use laws::a_talk_spells_a_schedule;
 pub use shell::Shell;
 pub use talks::{TalkFault, talk};

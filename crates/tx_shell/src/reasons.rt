@@ -4,10 +4,10 @@ ghost use Rattle.tx_explain.specs.Calls.{refusal_word};
 ghost use Rattle.tx_journal.specs.Entries.{history_of};
 ghost use Rattle.tx_journal.specs.Sessions.{made_of, position_of, start_of};
 ghost use Rattle.tx_script.specs.Debug.{first_steps};
-ghost use Rattle.tx_shell.specs.Reasons.{accepted_text, lines_behind, refusal_in, TellsRefusal, TellsReply, TellsWhy};
+ghost use Rattle.tx_shell.specs.Reasons.{accepted_text, lines_behind, refusal_in, TellsRefusal, TellsRefused, TellsReply, TellsWhy};
 
 use crate::blockers::put_objects;
-use crate::helps::meaning;
+use crate::helps::{meaning, text_as};
 use crate::waits::put_waited;
 use std::alloc::{AllocError, Global};
 use tx_base::{NoMemory, Refusal, Reply, Step};
@@ -29,6 +29,25 @@ pub fn tell_why(alloc: Global, session: &mut Session, step: &Step) -> Result<Str
     put_step(&mut text, step)?;
     put_behind(&mut text, session, step, &reply)?;
     Ok(text)
+}
+
+/// Why the step that was refused last would be refused at the position, or that none was.
+///
+/// NoMemory where a growth is refused.
+pub fn tell_refused(
+    alloc: Global,
+    session: &mut Session,
+    refused: &Option<Step>,
+) -> Result<String, NoMemory>
+    ensures answer { IfOk result (λ text. TellsRefused (start_of session.old)
+        (first_steps (position_of session.old) (history_of session.old.entries)) refused.now
+        (string_bytes text)) }
+    ensures same { session.new ≡ session.old }
+{
+    match refused {
+        Some(step) => tell_why(alloc, session, step),
+        None => text_as(alloc, "nothing was refused\n"),
+    }
 }
 
 /// Appends what is told behind a step that would get this reply.

@@ -2,29 +2,33 @@
 ghost use Rattle.std.specs.Prelude.{◌≡◌, [], IfOk, IfSome, MatchOption, OnErr, OnOk, Some, string_bytes, true};
 ghost use Rattle.tx_journal.specs.Sessions.{position_of};
 ghost use Rattle.tx_lines.specs.Lines.{most_of, FitsHeader};
-ghost use Rattle.tx_script.specs.Debug.{position_text};
+ghost use Rattle.tx_shell.specs.Forms.{SaysPosition};
+ghost use Rattle.tx_shell.specs.Meanings.{meant_line};
 ghost use Rattle.tx_shell.specs.Origins.{origin_said, SaysOrigin};
 ghost use Rattle.tx_shell.specs.Standings.{begun_by, first_standing, quit_line, standing_of, Answers, AnswersMeant};
 ghost use Rattle.tx_shell.specs.Standings.{IsNoHeader, IsQuit, Stops, StopsMeant};
 
 use crate::answers::answer_words;
-use crate::journals::position_line;
+use crate::forms::Form;
 use crate::meanings::meant_line;
 use crate::openings::{Opening, read_opening};
 use crate::versions::TextVersion;
 use std::alloc::Global;
-use tx_base::NoMemory;
+use tx_base::{NoMemory, Step};
 use tx_journal::Session;
 use tx_lines::{Header, Version};
 use tx_plain::Room;
 
-/// A session at a terminal, and of which version its lines are.
+/// A session at a terminal, in which form it is answered, and of which version its lines are.
 #[derive(Drop)]
 pub struct Shell {
+    form: Form,
     session: Session,
     version: TextVersion,
     /// Whether no line came so far but ones without a word, so that a header may come.
     is_fresh: bool,
+    /// The last of its steps that was to be made and was refused.
+    refused: Option<Step>,
 }
 
 impl Shell {
@@ -32,14 +36,16 @@ impl Shell {
     /// two processes.
     ///
     /// NoMemory where a growth is refused.
-    pub fn new(alloc: Global) -> Result<Shell, NoMemory>
-        ensures { IfOk result (λ shell. standing_of shell ≡ first_standing) }
+    pub fn new(alloc: Global, form: Form) -> Result<Shell, NoMemory>
+        ensures { IfOk result (λ shell. standing_of shell ≡ first_standing form) }
     {
         let session = Session::boot_wide(alloc, 2)?;
         Ok(Shell {
+            form,
             session,
             version: TextVersion::Three,
             is_fresh: true,
+            refused: None,
         })
     }
 
@@ -67,10 +73,24 @@ impl Shell {
         if let Some(opening) = self.opening(alloc, line)? {
             return Ok(Some(self.open(alloc, opening)?));
         }
+        self.answer_other(alloc, line)
+    }
+
+    /// Does what a line says that is no header, and answers it. Nothing where it asks for the end.
+    fn answer_other(&mut self, alloc: Global, line: &[u8]) -> Result<Option<String>, NoMemory>
+        ensures answer { IfOk result (λ answer.
+            MatchOption answer
+            ((meant_line self.old.version line.now ≡ Some quit_line)
+            × (standing_of self.new ≡ standing_of self.old))
+            (λ text. AnswersMeant (standing_of self.old) line.now
+            (meant_line self.old.version line.now) (string_bytes text) (standing_of self.new))) }
+        ensures stops { OnErr result
+            (Stops (standing_of self.old) line.now (standing_of self.new)) }
+    {
         let mut room = Room::new();
         match meant_line(alloc, &mut room, self.version, line)? {
             Some(words) => self.answer_meant(alloc, line, words.as_bytes()),
-            None => Ok(Some(String::new(alloc))),
+            None => Ok(Some(self.form.nothing(alloc)?)),
         }
     }
 
@@ -93,15 +113,16 @@ impl Shell {
     /// NoMemory where a growth is refused; nothing has changed then.
     fn open(&mut self, alloc: Global, opening: Opening) -> Result<String, NoMemory>
         requires { FitsHeader opening.header }
-        ensures told { IfOk result (λ text. string_bytes text ≡ position_text 0) }
-        ensures begun { OnOk result (standing_of self.new ≡ begun_by (origin_said opening)) }
+        ensures told { IfOk result (λ text. SaysPosition self.old.form 0 (string_bytes text)) }
+        ensures begun { OnOk result (standing_of self.new ≡ begun_by self.old.form (origin_said opening)) }
         ensures refused { OnErr result (self.new ≡ self.old) }
     {
         let session = boot(alloc, opening.header)?;
-        let text = position_line(alloc, 0)?;
+        let text = self.form.position(alloc, 0)?;
         self.session = session;
         self.version = opening.version;
         self.is_fresh = false;
+        self.refused = None;
         Ok(text)
     }
 
@@ -114,7 +135,7 @@ impl Shell {
     ) -> Result<Option<String>, NoMemory>
         ensures answer { IfOk result (λ answer.
             MatchOption answer
-            ((words.now ≡ quit_line) × (standing_of self.new ≡ standing_of self.old))
+            ((Some words.now ≡ Some quit_line) × (standing_of self.new ≡ standing_of self.old))
             (λ text. AnswersMeant (standing_of self.old) line.now (Some words.now)
             (string_bytes text) (standing_of self.new))) }
         ensures stops { OnErr result
@@ -123,7 +144,15 @@ impl Shell {
         if words == b"quit".as_slice() {
             return Ok(None);
         }
-        let text = answer_words(alloc, self.version, &mut self.session, line, words)?;
+        let text = answer_words(
+            alloc,
+            self.form,
+            self.version,
+            &mut self.session,
+            &mut self.refused,
+            line,
+            words,
+        )?;
         self.is_fresh = false;
         Ok(Some(text))
     }

@@ -5,6 +5,7 @@ ghost use Rattle.tx_shell.specs.Answers.{AnswersStep, MakesStep};
 ghost use Rattle.tx_shell.specs.Places.{place_of};
 ghost use Rattle.tx_text.specs.Replies.{reply_text};
 
+use crate::forms::Form;
 use crate::helps::text_as;
 use std::alloc::Global;
 use tx_base::{NoMemory, Reply, Step};
@@ -22,29 +23,36 @@ const REPLY_BYTES: usize = 32;
 /// ways out are named.
 ///
 /// NoMemory where a growth is refused; no step came or went then.
-pub fn answer_step(alloc: Global, session: &mut Session, step: &Step) -> Result<String, NoMemory>
+pub fn answer_step(
+    alloc: Global,
+    form: Form,
+    session: &mut Session,
+    step: &Step,
+) -> Result<String, NoMemory>
     ensures answer { IfOk result (λ text.
-        AnswersStep (start_of session.old) (place_of session.old) step.now (string_bytes text)
+        AnswersStep form (start_of session.old) (place_of session.old) step.now (string_bytes text)
         (place_of session.new)) }
     ensures refused { OnErr result (place_of session.new ≡ place_of session.old) }
     ensures boot { SameBoot session.new session.old }
 {
     if session.position() == session.len() {
-        return make_step(alloc, session, step);
+        return make_step(alloc, form, session, step);
     }
-    text_as(
-        alloc,
-        "no: steps are ahead; cut lets go of them, forward makes them again\n",
-    )
+    form.ahead(alloc)
 }
 
 /// Makes a step at the end of the journal, and answers its reply.
 ///
 /// NoMemory where a growth is refused; no step came or went then.
-fn make_step(alloc: Global, session: &mut Session, step: &Step) -> Result<String, NoMemory>
+fn make_step(
+    alloc: Global,
+    form: Form,
+    session: &mut Session,
+    step: &Step,
+) -> Result<String, NoMemory>
     requires { IsAtEnd session.old }
     ensures answer { IfOk result (λ text.
-        MakesStep (start_of session.old) (place_of session.old) step.now (string_bytes text)
+        MakesStep form (start_of session.old) (place_of session.old) step.now (string_bytes text)
         (place_of session.new)) }
     ensures refused { OnErr result (place_of session.new ≡ place_of session.old) }
     ensures boot { SameBoot session.new session.old }
@@ -55,7 +63,7 @@ fn make_step(alloc: Global, session: &mut Session, step: &Step) -> Result<String
     if reply.wants_memory() {
         return Err(NoMemory);
     }
-    match reply_line(alloc, &reply) {
+    match form.reply(alloc, session.len(), &reply) {
         Ok(text) => Ok(text),
         Err(NoMemory) => {
             take_back(session, count);
@@ -65,7 +73,9 @@ fn make_step(alloc: Global, session: &mut Session, step: &Step) -> Result<String
 }
 
 /// The line of a reply.
-fn reply_line(alloc: Global, reply: &Reply) -> Result<String, NoMemory>
+///
+/// NoMemory where a growth is refused.
+pub fn reply_line(alloc: Global, reply: &Reply) -> Result<String, NoMemory>
     ensures { IfOk result (λ text. string_bytes text ≡ reply_text reply.now ++ 10 ∷ []) }
 {
     if let Reply::Done(ret) = reply {

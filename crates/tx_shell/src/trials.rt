@@ -53,7 +53,9 @@ pub fn without(alloc: Global, session: &mut Session, starter: u16) -> Result<Str
 }
 
 /// The lines by which two texts differ.
-fn differing(alloc: Global, before: &str, after: &str) -> Result<String, NoMemory>
+///
+/// NoMemory where a growth is refused.
+pub fn differing(alloc: Global, before: &str, after: &str) -> Result<String, NoMemory>
     ensures { IfOk result (λ text. string_bytes text ≡ differing before.now after.now) }
 {
     let mut text = String::new(alloc);

@@ -1,1 +1,2 @@
 pub mod CommandNamed
+pub mod FormSaid

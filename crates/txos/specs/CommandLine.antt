@@ -1,11 +1,14 @@
 -- The words of the program's command line.
 use Rattle.std.specs.Char.{is_ascii_digit}
 use Rattle.std.specs.Str.{bytes_eq}
-use Rattle.std.specs.Prelude.{◌==◌, ◌&&◌, if◌then◌else◌, Bool, false, None, ℕ, List, [], ◌∷◌, Option, Some, codes, fold, option_map, pos, true}
+use Rattle.std.specs.Prelude.{◌≢◌, ◌==◌, ◌&&◌, if◌then◌else◌, Bool, false, None, ℕ, List, [], ◌∷◌, Option, Some, codes, fold, option_and_then, option_map, pos, true}
 use Rattle.clap.specs.Simple.{Shape, new_rule, new_shape, on_top}
 use Rattle.clap.specs.Walk.{Rule}
-use Rattle.clap.specs.Words.{App, Text, new_app, subcommand_of, with_subcommand}
+use Rattle.clap.specs.Words.{App, Row, Text, new_app, one_of, subcommand_of, with_subcommand}
+use Rattle.clap.specs.declared.builder.action.ArgAction.TheVariants.{SetTrue}
 use Rattle.clap.specs.declared.builder.value_parser.ValueParser.TheVariants.{Signed}
+use Rattle.tx_shell.specs.declared.forms.Form.{Form}
+use Rattle.tx_shell.specs.declared.forms.Form.TheVariants as forms
 use Rattle.txos.specs.declared.words.Asked.{Asked}
 use Rattle.txos.specs.declared.words.Asked.TheVariants.{Check, Debug, Explain, Plain, Replay, Run, Shell, Version}
 
@@ -20,6 +23,17 @@ number_option name most = record (new_rule name) {
 -- a command with no words of its own
 abbrev pub text_line : Text → Shape
 text_line name = new_shape name
+
+-- a flag, which may be there
+abbrev pub flag : Text → Rule
+flag name = record (new_rule name) {
+  long = Some name;
+  action = Some SetTrue;
+}
+
+-- the command that answers line by line
+abbrev pub shell_line : Shape
+shell_line = record (new_shape (codes "shell")) { rules = flag (codes "json") ∷ [] }
 
 -- the command that runs a program, with the first of its numbers
 abbrev pub workers_line : Shape
@@ -36,7 +50,7 @@ explain_line = record (new_shape (codes "explain")) { rules = new_rule (codes "w
 -- the commands, in the order in which they are added
 abbrev pub commands : List Shape
 commands =
-    text_line (codes "replay") ∷ text_line (codes "debug") ∷ text_line (codes "shell") ∷ run_line ∷ text_line (codes "check") ∷ text_line (codes "plain") ∷ explain_line
+    text_line (codes "replay") ∷ text_line (codes "debug") ∷ shell_line ∷ run_line ∷ text_line (codes "check") ∷ text_line (codes "plain") ∷ explain_line
     ∷ text_line (codes "version") ∷ []
 
 -- the program's name, and that a command is wanted; clap adds its own `--version`
@@ -51,7 +65,7 @@ command_line = fold with_subcommand top_line commands
 abbrev pub name_of : Asked → Text
 name_of Replay = codes "replay"
 name_of Debug = codes "debug"
-name_of Shell = codes "shell"
+name_of (Shell form) = codes "shell"
 name_of (Run crew) = codes "run"
 name_of Check = codes "check"
 name_of Plain = codes "plain"
@@ -61,6 +75,20 @@ name_of Version = codes "version"
 -- the command that the words name
 abbrev pub named : List Text → Option Text
 named words = option_map (λ found. found.0) (subcommand_of command_line words)
+
+-- the text that a flag has in the rows of a command, where it has one
+abbrev pub flag_in : Text → Option (Text × List Row) → Option Text
+flag_in name entered = option_and_then (λ found. one_of name found.1) entered
+
+-- JSON is asked for only where the flag has a text other than `false`, and text only where that is not `true`
+abbrev pub IsFormOf : Option Text → Form → Type 0
+IsFormOf said forms.Text = said ≢ Some (codes "true")
+IsFormOf said forms.Json = (said ≢ None) × (said ≢ Some (codes "false"))
+
+-- the form is the one that the flag of the words says
+abbrev pub IsAskedIn : Option (Text × List Row) → Asked → Type 0
+IsAskedIn entered (Shell form) = IsFormOf (flag_in (codes "json") entered) form
+IsAskedIn entered asked = Unit {0}
 
 -- `-` and then a digit, and maybe more
 abbrev pub begins_negative : Text → Bool

@@ -24,7 +24,7 @@ use tx_explain::{explain, listing, nearest};
 use tx_lines::{Fault, OverRead, OverWrite, Sink, Source, write_whole};
 use tx_plain::write_plain;
 use tx_script::{debug, replay};
-use tx_shell::{Console, Shell, TalkFault, talk};
+use tx_shell::{Console, Form, Shell, TalkFault, talk};
 use tx_workers::run_program;
 use words::{Asked, Crew, VERSION_LINES, number_asked, read_words};
 
@@ -93,7 +93,7 @@ where
     match asked {
         Asked::Replay => status_of(rt, replay(alloc, source, sink)),
         Asked::Debug => status_of(rt, debug(alloc, source, sink)),
-        Asked::Shell => status_of(rt, converse(rt, alloc, prompts)),
+        Asked::Shell(form) => status_of(rt, converse(rt, alloc, form, prompts)),
         Asked::Run(Crew { workers, turns }) => {
             status_of(rt, run_program(rt, alloc, source, sink, workers, turns))
         }
@@ -104,14 +104,21 @@ where
     }
 }
 
-/// Answers the lines of the standard input, of which many are read at once where they are there.
-fn converse(rt: &(impl Input + Print), alloc: Global, prompts: bool) -> Result<(), TalkFault> {
+/// Answers the lines of the standard input, of which many are read at once where they are there. What
+/// asks a person for a line is text, and JSON has none.
+fn converse(
+    rt: &(impl Input + Print),
+    alloc: Global,
+    form: Form,
+    prompts: bool,
+) -> Result<(), TalkFault> {
     let Ok(reader) = BufReader::new(alloc, rt.reader()) else {
         return Err(TalkFault::NoMemory);
     };
-    let Ok(mut shell) = Shell::new(alloc) else {
+    let Ok(mut shell) = Shell::new(alloc, form) else {
         return Err(TalkFault::NoMemory);
     };
+    let prompts = prompts && matches!(form, Form::Text);
     let mut console = Console::new(reader, io::writer(rt), prompts);
     if !console.greet() {
         return Err(TalkFault::Writer);

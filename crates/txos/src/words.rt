@@ -1,14 +1,16 @@
 //! The words that the program is given.
-ghost use Rattle.std.specs.Prelude.{◌≡◌, IfOk, Some, false, map, option_map, string_bytes};
-ghost use Rattle.clap.specs.Words.{FailsBy, app_of, fault_of};
+ghost use Rattle.std.specs.Prelude.{◌≡◌, IfOk, Some, codes, false, map, option_map, string_bytes};
+ghost use Rattle.clap.specs.Words.{FailsBy, app_of, fault_of, subcommand_name_of, subcommand_of};
+ghost use Rattle.clap.specs.Simple.{subcommand_rows_of};
 ghost use Rattle.clap.specs.declared.builder.command.Command.TheViews.{out-Command};
-ghost use Rattle.txos.specs.CommandLine.{asked_number, begins_negative, command_line, explain_line};
-ghost use Rattle.txos.specs.CommandLine.{name_of, named, number_behind, run_line, text_line};
+ghost use Rattle.txos.specs.CommandLine.{asked_number, begins_negative, command_line, explain_line, flag_in};
+ghost use Rattle.txos.specs.CommandLine.{IsAskedIn, IsFormOf, name_of, named, number_behind, run_line, shell_line, text_line};
 ghost use Rattle.txos.specs.CommandLine.{top_line, workers_line};
 
 use clap::error::Error;
-use clap::{Arg, ArgMatches, Command, value_parser};
+use clap::{Arg, ArgAction, ArgMatches, Command, value_parser};
 use std::alloc::{AllocError, Global};
+use tx_shell::Form;
 
 /// The version of the program.
 const VERSION: &str = "1.0.0";
@@ -24,8 +26,8 @@ pub enum Asked<'a> {
     Replay,
     /// To read a schedule and commands, and write what each command answers.
     Debug,
-    /// To read steps and commands line by line, and answer each before the next.
-    Shell,
+    /// To read steps and commands line by line, and answer each before the next, in that form.
+    Shell(Form),
     /// To read a program, run it by workers, and write what they did.
     Run(Crew),
     /// To read a text, and write what is wrong with each of its lines that is at fault.
@@ -52,13 +54,15 @@ pub fn read_words<'a>(alloc: Global, words: &'a [String]) -> Result<Asked<'a>, E
     ensures reads { FailsBy (fault_of command_line (map string_bytes words.now)) result }
     ensures asked { IfOk result (λ asked.
         named (map string_bytes words.now) ≡ Some (name_of asked)) }
+    ensures form { IfOk result
+        (IsAskedIn (subcommand_of command_line (map string_bytes words.now))) }
 {
     let command = new_command(alloc)?;
     let matches = command.try_get_matches_from(words)?;
     match matches.subcommand_name() {
         Some("replay") => Ok(Asked::Replay),
         Some("debug") => Ok(Asked::Debug),
-        Some("shell") => Ok(Asked::Shell),
+        Some("shell") => Ok(Asked::Shell(form_of(&matches))),
         Some("run") => Ok(Asked::Run(crew_of(&matches)?)),
         Some("check") => Ok(Asked::Check),
         Some("plain") => Ok(Asked::Plain),
@@ -100,6 +104,21 @@ fn is_negative(word: &str) -> bool
     }
 }
 
+/// The form of answers that the words of `shell` give.
+fn form_of(matches: &ArgMatches<'_>) -> Form
+    requires { subcommand_name_of matches.now ≡ Some (codes "shell") }
+    ensures { IsFormOf (flag_in (codes "json") (subcommand_rows_of matches.now)) result }
+{
+    let Some(shell) = matches.subcommand_matches("shell") else {
+        unreachable!()
+    };
+    if shell.get_flag("json") {
+        Form::Json
+    } else {
+        Form::Text
+    }
+}
+
 /// The numbers that the words of `run` give. Clap gives no matches without both.
 fn crew_of(matches: &ArgMatches<'_>) -> Result<Crew, AllocError> {
     let run = matches.subcommand_matches("run").ok_or(AllocError)?;
@@ -121,7 +140,7 @@ fn new_command<'a>(alloc: Global) -> Result<Command<'a>, AllocError>
     let command = top_command(alloc)
         .subcommand(text_command(alloc, "replay", REPLAY)?)?
         .subcommand(text_command(alloc, "debug", DEBUG)?)?
-        .subcommand(text_command(alloc, "shell", SHELL)?)?
+        .subcommand(shell_command(alloc)?)?
         .subcommand(run_command(alloc)?)?
         .subcommand(text_command(alloc, "check", CHECK)?)?
         .subcommand(text_command(alloc, "plain", PLAIN)?)?
@@ -203,6 +222,18 @@ fn told_command<'a>(alloc: Global, name: &'a str, told: Told) -> Command<'a>
     Command::new(alloc, name)
         .about(told.about)
         .after_help(told.example)
+}
+
+/// The command that answers line by line, with its flag.
+fn shell_command<'a>(alloc: Global) -> Result<Command<'a>, AllocError>
+    ensures shape { IfOk result (λ command. (app_of command).top ≡ shell_line) }
+    ensures local { IfOk result (λ command. (out-Command command).has_globals ≡ false) }
+{
+    let json = Arg::new(alloc, "json")
+        .long("json")
+        .help("Answer each line by a line of JSON")
+        .action(ArgAction::SetTrue);
+    told_command(alloc, "shell", SHELL).arg(json)
 }
 
 /// The command that runs a program, with its two numbers, both required.

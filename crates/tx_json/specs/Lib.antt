@@ -1,0 +1,12 @@
+pub mod Answers
+pub mod Descriptors
+pub mod Each
+pub mod EachLaws
+pub mod Line
+pub mod Lists
+pub mod Members
+pub mod Processes
+pub mod Replies
+pub mod Signals
+pub mod State
+pub mod Txns

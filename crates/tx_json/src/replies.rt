@@ -1,0 +1,95 @@
+//! Appends replies.
+ghost use Rattle.std.specs.Prelude.{◌≡◌, ◌++◌, OnOk, codes};
+ghost use Rattle.tx_json.specs.Members.{list_member};
+ghost use Rattle.tx_json.specs.Each.{each_tokens};
+ghost use Rattle.tx_json.specs.Replies.{missed_tokens, refusal_members, refusal_word, reply_members};
+
+use crate::line::LineWriter;
+use crate::members::{
+    begin_list, begin_object, end_list, end_object, put_bytes, put_count, put_number, put_word,
+};
+use std::alloc::{AllocError, Global};
+use tx_base::{Missed, Refusal, Reply};
+
+/// Appends the members that say what a step was answered. The only error is that a growth of memory was
+/// refused: some of them may then stand behind what the writer had.
+pub fn put_reply(alloc: Global, writer: &mut LineWriter, reply: &Reply) -> Result<(), AllocError>
+    ensures { OnOk result (writer.new ≡ writer.old ++ reply_members reply.now) }
+{
+    match reply {
+        Reply::Done(ret) => {
+            put_word(writer, "reply", "ok")?;
+            put_number(writer, "ret", *ret)
+        }
+        Reply::Ended => put_word(writer, "reply", "ended"),
+        Reply::Committed { undelivered } => {
+            put_word(writer, "reply", "committed")?;
+            put_undelivered(writer, undelivered.as_slice())
+        }
+        Reply::Aborted(status) => {
+            put_word(writer, "reply", "aborted")?;
+            put_count(writer, "status", u64::from(*status))
+        }
+        Reply::Out(bytes) => {
+            put_word(writer, "reply", "out")?;
+            put_bytes(alloc, writer, "bytes", bytes.as_slice())
+        }
+        Reply::No(refusal) => put_refusal(writer, *refusal),
+    }
+}
+
+/// Appends the held sends that could not be delivered, in order.
+fn put_undelivered(writer: &mut LineWriter, undelivered: &[Missed]) -> Result<(), AllocError>
+    ensures { OnOk result (writer.new ≡ writer.old
+        ++ list_member (codes "undelivered") (each_tokens missed_tokens undelivered.now)) }
+{
+    begin_list(writer, "undelivered")?;
+    for i in 0..undelivered.len() {
+        put_missed(writer, &undelivered[i])?;
+    }
+    end_list(writer)
+}
+
+/// Appends a held send that could not be delivered: its target, its signal and its error's number.
+fn put_missed(writer: &mut LineWriter, missed: &Missed) -> Result<(), AllocError>
+    ensures { OnOk result (writer.new ≡ writer.old ++ missed_tokens missed.now) }
+{
+    begin_object(writer)?;
+    put_count(writer, "target", u64::from(missed.target.0))?;
+    put_count(writer, "signo", u64::from(missed.signo.0))?;
+    put_count(writer, "errno", u64::from(missed.errno.number()))?;
+    end_object(writer)
+}
+
+/// Appends a refusal, and the starter where one is in the way.
+fn put_refusal(writer: &mut LineWriter, refusal: Refusal) -> Result<(), AllocError>
+    ensures { OnOk result (writer.new ≡ writer.old ++ refusal_members refusal) }
+{
+    put_word(writer, "refused", refusal_word(refusal))?;
+    match refusal {
+        Refusal::Busy { starter } => put_count(writer, "holder", u64::from(starter.0)),
+        _ => Ok(()),
+    }
+}
+
+/// The word for a refusal.
+fn refusal_word(refusal: Refusal) -> &'static str
+    ensures { result.now ≡ refusal_word refusal }
+{
+    match refusal {
+        Refusal::NoProcess => "N1",
+        Refusal::NotRunning => "N2",
+        Refusal::BadNumber => "N3",
+        Refusal::NumberTaken => "N4",
+        Refusal::Doomed => "N5",
+        Refusal::Parked => "N6",
+        Refusal::KillPending => "N7",
+        Refusal::Busy { .. } => "N8",
+        Refusal::Wait => "N9",
+        Refusal::NotDeliverable => "N10",
+        Refusal::FramesFull => "N11",
+        Refusal::NoTransaction => "N12",
+        Refusal::NoMemory => "N13",
+        Refusal::Deferred => "N14",
+    }
+}

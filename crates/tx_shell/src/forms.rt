@@ -1,0 +1,79 @@
+//! In which form a talk is answered, and answers that are the same in each.
+ghost use Rattle.std.specs.Prelude.{IfOk, string_bytes};
+ghost use Rattle.tx_shell.specs.Forms.{SaysAhead, SaysNothing, SaysPosition, SaysReply};
+
+use crate::helps::text_as;
+use crate::journals::position_line;
+use crate::steps::reply_line;
+use std::alloc::Global;
+use tx_base::{NoMemory, Reply};
+
+/// In which form a talk is answered.
+#[derive(Clone, Copy)]
+pub enum Form {
+    /// As lines that a person reads.
+    Text,
+    /// Each answer as a line of JSON.
+    Json,
+}
+
+/// What is said of a step where steps are ahead.
+const AHEAD: &str = "steps are ahead; cut lets go of them, forward makes them again";
+
+impl Form {
+    /// The answer to a line without a word.
+    ///
+    /// NoMemory where a growth is refused.
+    pub(crate) fn nothing(self, alloc: Global) -> Result<String, NoMemory>
+        ensures { IfOk result (λ text. SaysNothing self (string_bytes text)) }
+    {
+        match self {
+            Form::Text => Ok(String::new(alloc)),
+            Form::Json => tx_json::empty_answer(alloc),
+        }
+    }
+
+    /// A position.
+    ///
+    /// NoMemory where a growth is refused.
+    pub(crate) fn position(self, alloc: Global, position: usize) -> Result<String, NoMemory>
+        ensures { IfOk result (λ text. SaysPosition self position (string_bytes text)) }
+    {
+        match self {
+            Form::Text => position_line(alloc, position),
+            Form::Json => tx_json::position_answer(alloc, position),
+        }
+    }
+
+    /// The reply of a step, which has that number where it was accepted.
+    ///
+    /// NoMemory where a growth is refused.
+    pub(crate) fn reply(
+        self,
+        alloc: Global,
+        number: usize,
+        reply: &Reply,
+    ) -> Result<String, NoMemory>
+        ensures { IfOk result (λ text. SaysReply self number reply.now (string_bytes text)) }
+    {
+        match self {
+            Form::Text => reply_line(alloc, reply),
+            Form::Json => tx_json::step_answer(alloc, number, reply),
+        }
+    }
+
+    /// That steps are ahead, and both ways out.
+    ///
+    /// NoMemory where a growth is refused.
+    pub(crate) fn ahead(self, alloc: Global) -> Result<String, NoMemory>
+        ensures { IfOk result (λ text. SaysAhead self (string_bytes text)) }
+    {
+        match self {
+            Form::Text => text_as(
+                alloc,
+                "no: steps are ahead; cut lets go of them, forward makes them again\n",
+            ),
+            Form::Json => tx_json::error_answer(alloc, AHEAD),
+        }
+    }
+}

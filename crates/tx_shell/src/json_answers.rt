@@ -1,0 +1,136 @@
+//! Answers what is asked for as JSON.
+ghost use Rattle.std.specs.Prelude.{◌≡◌, IfOk, OnErr, Option, string_bytes};
+ghost use Rattle.tx_base.specs.declared.steps.Step.{Step as TheStep};
+ghost use Rattle.tx_journal.specs.Sessions.{SameBoot};
+ghost use Rattle.tx_lines.specs.declared.read.command.Command.TheVariants.{State};
+ghost use Rattle.tx_shell.specs.Answers.{AnswersAskJson};
+ghost use Rattle.tx_shell.specs.Asks.{IsToldByLines};
+ghost use Rattle.tx_shell.specs.Places.{origin_of, place_of};
+ghost use Rattle.tx_shell.specs.Refused.{StopsShort};
+ghost use Rattle.tx_shell.specs.declared.asks.Ask.TheVariants as asks;
+ghost use Rattle.tx_shell.specs.declared.versions.TextVersion.{TextVersion as TheVersion};
+
+use crate::answers::answer_as_text;
+use crate::asks::Ask;
+use crate::trials::differing;
+use crate::versions::TextVersion;
+use std::alloc::Global;
+use tx_base::{NoMemory, Step};
+use tx_journal::Session;
+use tx_json::{lines_answer, position_answer, state_answer, trial_answer};
+use tx_lines::Command;
+
+/// Does what is asked for, and answers it as JSON.
+///
+/// NoMemory where a growth is refused: no step came or went then, and the position lies between the old
+/// one and that which is asked for.
+pub fn answer_as_json(
+    alloc: Global,
+    version: TextVersion,
+    session: &mut Session,
+    refused: &Option<Step>,
+    ask: Ask<'_>,
+) -> Result<String, NoMemory>
+    ensures answer { IfOk result (λ text.
+        AnswersAskJson (origin_of version session.old) (place_of session.old) refused.now ask.entry
+        (string_bytes text) (place_of session.new)) }
+    ensures stops { OnErr result
+        (StopsShort (place_of session.old) ask.entry (place_of session.new)) }
+    ensures boot { SameBoot session.new session.old }
+{
+    match ask {
+        Ask::Walk(command) => walk(alloc, version, session, refused, command),
+        Ask::Try(step) => tell_trial(alloc, session, &step),
+        Ask::Cut => cut(alloc, session),
+        ask => tell_lines(alloc, version, session, refused, ask),
+    }
+}
+
+/// Does what a command of the debugger says, and answers it as JSON.
+///
+/// NoMemory where a growth is refused: no step came or went then, and the position lies between the old
+/// one and that which is asked for.
+fn walk(
+    alloc: Global,
+    version: TextVersion,
+    session: &mut Session,
+    refused: &Option<Step>,
+    command: Command,
+) -> Result<String, NoMemory>
+    ensures answer { IfOk result (λ text.
+        AnswersAskJson (origin_of version session.old) (place_of session.old) refused.now
+        (asks.Walk command) (string_bytes text) (place_of session.new)) }
+    ensures stops { OnErr result
+        (StopsShort (place_of session.old) (asks.Walk command) (place_of session.new)) }
+    ensures boot { SameBoot session.new session.old }
+{
+    match command {
+        Command::State => tell_state(alloc, session),
+        command => tell_lines(alloc, version, session, refused, Ask::Walk(command)),
+    }
+}
+
+/// Does what is asked for, and answers the position behind it and the lines of its text.
+///
+/// NoMemory where a growth is refused: no step came or went then, and the position lies between the old
+/// one and that which is asked for.
+fn tell_lines(
+    alloc: Global,
+    version: TextVersion,
+    session: &mut Session,
+    refused: &Option<Step>,
+    ask: Ask<'_>,
+) -> Result<String, NoMemory>
+    requires { IsToldByLines ask }
+    ensures answer { IfOk result (λ text.
+        AnswersAskJson (origin_of version session.old) (place_of session.old) refused.now ask.entry
+        (string_bytes text) (place_of session.new)) }
+    ensures stops { OnErr result
+        (StopsShort (place_of session.old) ask.entry (place_of session.new)) }
+    ensures boot { SameBoot session.new session.old }
+{
+    let text = answer_as_text(alloc, version, session, refused, ask)?;
+    lines_answer(alloc, session.position(), text.as_str())
+}
+
+/// The position, and the state there.
+///
+/// NoMemory where a growth is refused.
+fn tell_state(alloc: Global, session: &Session) -> Result<String, NoMemory>
+    ensures { (version : TheVersion) (refused : Option TheStep) → IfOk result (λ text.
+        AnswersAskJson (origin_of version session.now) (place_of session.now) refused
+        (asks.Walk State) (string_bytes text) (place_of session.now)) }
+{
+    state_answer(alloc, session.position(), session.machine())
+}
+
+/// The position, the reply that a step would get there, and the lines by which the state after it would
+/// differ.
+///
+/// NoMemory where a growth is refused.
+fn tell_trial(alloc: Global, session: &mut Session, step: &Step) -> Result<String, NoMemory>
+    ensures answer { (version : TheVersion) (refused : Option TheStep) → IfOk result (λ text.
+        AnswersAskJson (origin_of version session.old) (place_of session.old) refused
+        (asks.Try step.now) (string_bytes text) (place_of session.old)) }
+    ensures same { session.new ≡ session.old }
+{
+    let before = session.state_text(alloc)?;
+    let (reply, after) = session.trial(alloc, step)?;
+    let lines = differing(alloc, before.as_str(), after.as_str())?;
+    trial_answer(alloc, session.position(), &reply, lines.as_str())
+}
+
+/// Lets go of the steps after the position, and answers it.
+///
+/// NoMemory where a growth is refused; nothing has changed then.
+fn cut(alloc: Global, session: &mut Session) -> Result<String, NoMemory>
+    ensures answer { (version : TheVersion) (refused : Option TheStep) → IfOk result (λ text.
+        AnswersAskJson (origin_of version session.old) (place_of session.old) refused asks.Cut
+        (string_bytes text) (place_of session.new)) }
+    ensures refused { OnErr result (session.new ≡ session.old) }
+    ensures boot { SameBoot session.new session.old }
+{
+    let text = position_answer(alloc, session.position())?;
+    session.cut();
+    Ok(text)
+}
