@@ -1,0 +1,614 @@
+"""Drives `txos shell --json`: a kernel in memory, with transactions, step by step.
+
+    >>> kernel = Kernel(processes=3)
+    >>> kernel.step("2 map 0").ret
+    0
+    >>> print(kernel.step("2 sys_xbegin"), kernel.step('2 store 0 "new"'))
+    ok 0 ok 0
+    >>> kernel.step("1 waitpid 2 nohang")
+    Traceback (most recent call last):
+    txos.Refused: 1 waitpid 2 nohang: no N8 2
+    >>> print(kernel.try_step("2 sys_xend").reply)
+    committed
+    >>> kernel.step("2 sys_xabort").status
+    201
+    >>> kernel.back()  # over the abort
+    True
+    >>> kernel.state().procs[2].pages[0].bytes[:3]
+    b'new'
+    >>> kernel.close()
+
+A step is written as in a schedule (docs/TEXTS.md), what is asked besides as in the shell
+(docs/SHELL.md). Each line is answered before the next one is written, and an answer is one line:
+so there is no thread here, and neither side waits for the other. A `Kernel` is for one thread.
+
+This file stands alone, to be copied: it needs Python 3.8 and the program.
+"""
+
+from __future__ import annotations
+
+import contextlib
+import json
+import os
+import re
+import shutil
+import subprocess
+import sys
+import tempfile
+from dataclasses import dataclass
+from typing import Any
+
+_Bytes = bytes  # for classes with a field that is called `bytes`
+
+
+class TxosError(Exception):
+    """What all errors of this module are."""
+
+
+class Refused(TxosError):
+    """The kernel refused a step, which changed nothing.
+
+    `step` is its line, `code` the reason, N1 to N14: `Kernel.explain` says what it means, and
+    `Kernel.why` what is in the way. `holder` is the process whose transaction is in the way where
+    the code is N8, and else None.
+    """
+
+    def __init__(self, step: str, code: str, holder: int | None = None) -> None:
+        super().__init__(step, code, holder)
+        self.step = step
+        self.code = code
+        self.holder = holder
+
+    def __str__(self) -> str:
+        return f"{self.step}: no {self.code}" + (f" {self.holder}" if self.holder else "")
+
+
+class StepsAhead(TxosError):
+    """A step was to be made where steps that were taken back are ahead.
+
+    `Kernel.cut` lets go of them, `Kernel.forward` and `Kernel.goto_end` make them again.
+    """
+
+
+class BadLine(TxosError, ValueError):
+    """A line is not understood, and changed nothing.
+
+    `line` is what was sent, `told` what is wrong with it, and `column` where, in bytes from 1, or
+    None where that is not told.
+    """
+
+    def __init__(self, line: str, told: str, column: int | None = None) -> None:
+        super().__init__(line, told, column)
+        self.line = line
+        self.told = told
+        self.column = column
+
+    def __str__(self) -> str:
+        place = f", column {self.column}" if self.column else ""
+        return f"{self.line!r}{place}: {self.told}"
+
+
+class ShellEnded(TxosError):
+    """The program has ended, so a line has no answer.
+
+    `status` is its exit status, or, negative, the signal that ended it. `fault` is what it said
+    last on its standard error, such as "txos: F6", or "".
+    """
+
+    def __init__(self, status: int, fault: str = "") -> None:
+        super().__init__(status, fault)
+        self.status = status
+        self.fault = fault
+
+    def __str__(self) -> str:
+        return f"txos ended with status {self.status}" + (f": {self.fault}" if self.fault else "")
+
+
+@dataclass(frozen=True)
+class Undelivered:
+    """A send of a commit that failed: to which process, of which signal, with which error."""
+
+    target: int
+    signo: int
+    errno: int
+
+    def __str__(self) -> str:
+        return f"{self.target}:{self.signo}:{self.errno}"
+
+
+@dataclass(frozen=True)
+class Reply:
+    """What an accepted step was answered; `str` spells it as a report does: `ok 0`.
+
+    `kind` is "ok", with the answer `ret`, of which a POSIX error is the negative number; "ended";
+    "committed", with the sends that failed; "aborted", with the `status`, 201 to 203; or "out",
+    with the `bytes` that went to the console. `number` is that of the step, from 1, or None where
+    the step was only tried.
+    """
+
+    kind: str
+    number: int | None = None
+    ret: int | None = None
+    status: int | None = None
+    bytes: _Bytes | None = None
+    undelivered: tuple[Undelivered, ...] = ()
+
+    def __str__(self) -> str:
+        if self.kind == "ok":
+            return f"ok {self.ret}"
+        if self.kind == "aborted":
+            return f"aborted {self.status}"
+        if self.bytes is not None:
+            return f"out {self.bytes.hex() or '-'}"
+        return " ".join([self.kind, *map(str, self.undelivered)])
+
+
+@dataclass(frozen=True)
+class Difference:
+    """How the text of a state would differ: the lines that go, and those that come."""
+
+    gone: tuple[str, ...]
+    come: tuple[str, ...]
+
+
+@dataclass(frozen=True)
+class Trial(Difference):
+    """What a step would come to: `reply`, or where it is None the refusal, which is not raised."""
+
+    reply: Reply | None
+    refused: Refused | None
+
+
+@dataclass(frozen=True)
+class Found(Difference):
+    """The step that changed a piece of the state, and by which lines the piece differs."""
+
+    number: int
+    step: str
+
+
+@dataclass(frozen=True)
+class Made:
+    """A step that was accepted."""
+
+    number: int
+    step: str
+    reply: Reply
+
+
+@dataclass(frozen=True)
+class Moved:
+    """A transaction as if all of it were done at its commit: whether it counts as one moment."""
+
+    one: bool
+    steps: tuple[int, ...]  # the numbers of all steps, in the order in which they stand then
+
+
+@dataclass(frozen=True)
+class Owned:
+    """The numbers of what a transaction has reserved."""
+
+    procs: tuple[int, ...]
+    descs: tuple[int, ...]
+    pipes: tuple[int, ...]
+
+
+# A state is made of light classes, and not of the objects that were read: a piece is found by its
+# number (`state.procs[2].pages[0]`), bytes are bytes, an editor knows the names, and `==` compares
+# whole states. `Kernel.ask("state")` has the objects.
+
+
+@dataclass(frozen=True)
+class Page:
+    """A page that is mapped, with its 64 bytes."""
+
+    writable: bool
+    bytes: _Bytes
+
+
+@dataclass(frozen=True)
+class Ids:
+    """The ids of a process, of users or of groups."""
+
+    real: int
+    effective: int
+    saved: int
+
+
+@dataclass(frozen=True)
+class Action:
+    """What a signal does, where that is not the usual: "ignore", or "catch" at a point."""
+
+    kind: str
+    point: int | None = None
+    mask: tuple[int, ...] = ()
+
+
+@dataclass(frozen=True)
+class Queued:
+    """A realtime signal that is pending, and its value."""
+
+    signo: int
+    value: int
+
+
+@dataclass(frozen=True)
+class Frame:
+    """What a caught signal has saved."""
+
+    point: int
+    ret: int
+    mask: tuple[int, ...]
+    slots: tuple[int, ...]
+
+
+@dataclass(frozen=True)
+class Process:
+    """A process. Signals of a set rise, a queue begins with its next one, frames grow newer."""
+
+    pid: int
+    parent: int
+    exit: int | None  # the status with which it exited
+    killed: int | None  # the signal that ended it
+    point: int
+    ret: int
+    slots: tuple[int, ...]
+    users: Ids
+    groups: Ids
+    pages: dict[int, Page]
+    fds: dict[int, int]  # the description of each open descriptor
+    mask: tuple[int, ...]
+    actions: dict[int, Action]
+    pending: tuple[int, ...]
+    queued: tuple[Queued, ...]
+    frames: tuple[Frame, ...]
+
+    @property
+    def running(self) -> bool:
+        """Whether it has not ended."""
+        return self.exit is None and self.killed is None
+
+
+@dataclass(frozen=True)
+class Description:
+    """One side of a pipe: "read" or "write"."""
+
+    pipe: int
+    side: str
+    nonblock: bool
+
+
+@dataclass(frozen=True)
+class Held:
+    """A send that a transaction holds until it commits."""
+
+    target: int
+    signo: int
+    value: int
+
+
+@dataclass(frozen=True)
+class Transaction:
+    """A live transaction: its members whose part is open, and has ended, and what it holds."""
+
+    defers: bool
+    open: tuple[int, ...]
+    ended: tuple[int, ...]
+    held: tuple[Held, ...]
+
+
+@dataclass(frozen=True)
+class State:
+    """A state: each part by its number, a transaction by that of the process that began it."""
+
+    procs: dict[int, Process]
+    descs: dict[int, Description]
+    pipes: dict[int, bytes]
+    txns: dict[int, Transaction]
+
+
+class Kernel:
+    """A kernel that begins with so many processes, 1 to 256, in a program of its own.
+
+    `program` is a path; without one it is that of the environment variable TXOS, or else `txos` on
+    the PATH. Use a kernel in a `with`, or call `close`. What raises `Refused`, `StepsAhead` or
+    `BadLine` has changed nothing; after `ShellEnded` the kernel is closed.
+
+    The script `txos` of a checkout may have to build its program first, for a minute or two.
+    """
+
+    def __init__(self, processes: int = 2, program: str | os.PathLike[str] | None = None) -> None:
+        command = [_find_program(program), "shell", "--json"]
+        self._position = 0
+        self._closed = False
+        self._fault = ""
+        with contextlib.ExitStack() as where_it_fails:
+            # A file, since a pipe that is not read fills up.
+            self._errors = where_it_fails.enter_context(tempfile.TemporaryFile())
+            self._process = subprocess.Popen(
+                command,
+                stdin=subprocess.PIPE,
+                stdout=subprocess.PIPE,
+                stderr=self._errors,
+                start_new_session=True,  # so that a ^C at a prompt of Python does not end it
+            )
+            assert self._process.stdin and self._process.stdout
+            self._input, self._output = self._process.stdin, self._process.stdout
+            where_it_fails.callback(self.close)
+            self.ask(f"txos 3 schedule {processes}")
+            where_it_fails.pop_all()
+        # What is told before the first answer is no fault, but that the program is unproved.
+        sys.stderr.write(self._told())
+
+    def __enter__(self) -> Kernel:
+        return self
+
+    def __exit__(self, *error: object) -> None:
+        self.close()
+
+    def close(self) -> None:
+        """Ends the program, and waits until it has ended; does nothing the second time."""
+        if self._closed:
+            return
+        self._closed = True
+        with contextlib.suppress(OSError):
+            self._input.close()  # the end of its input ends the program
+        self._output.close()
+        try:
+            self._process.wait(timeout=10)
+        except subprocess.TimeoutExpired:
+            self._process.kill()
+            self._process.wait()
+        self._fault = (self._told().splitlines() or [""])[-1]
+        self._errors.close()
+
+    @property
+    def position(self) -> int:
+        """How many steps are made; those that were taken back do not count."""
+        return self._position
+
+    def step(self, line: str) -> Reply:
+        """Makes a step, such as `2 store 0 41`; raises `Refused`, `StepsAhead` or `BadLine`."""
+        if not re.match(r"[ \t]*(\d|kernel\b)", line):
+            raise BadLine(line, "a step begins with the number of a process, or with kernel", 1)
+        answer = self.ask(line)
+        refused = _read_refusal(line, answer)
+        if refused:
+            raise refused
+        return _read_reply(answer)
+
+    def back(self) -> bool:
+        """Takes the newest step back that is made; False where none is."""
+        return self._lines("back") != ["no start"]
+
+    def forward(self) -> bool:
+        """Makes the next step again; False where all are made."""
+        return self._lines("forward") != ["no end"]
+
+    def goto(self, position: int) -> None:
+        """Goes to the place behind so many steps; raises IndexError where there are fewer."""
+        if self._lines(f"goto {position}") == ["no place"]:
+            raise IndexError(f"there is no position {position}")
+
+    def goto_end(self) -> None:
+        """Goes to the place behind all steps."""
+        self._lines("goto end")
+
+    def cut(self) -> None:
+        """Lets go of the steps behind the position."""
+        self.ask("cut")
+
+    def state(self) -> State:
+        """The state at the position."""
+        return _read_state(self.ask("state")["state"])
+
+    def try_step(self, line: str) -> Trial:
+        """What a step would come to at the position, also where steps are ahead; makes none."""
+        answer = self.ask(f"try {line}")
+        refused = _read_refusal(line, answer)
+        reply = None if refused else _read_reply(answer)
+        return Trial(*_read_sides(answer["lines"]), reply, refused)
+
+    def without(self, starter: int) -> Difference | None:
+        """How the state would differ if the kernel aborted the transaction that a process began.
+
+        None where that process has begun none that is live.
+        """
+        lines = self._lines(f"without {starter}")
+        return None if lines == ["no transaction"] else Difference(*_read_sides(lines))
+
+    def why(self, line: str | None = None) -> str:
+        """Why a step would be refused, as a text to be read, or else what it would be answered.
+
+        Without a line it is the step that was refused last.
+        """
+        return "\n".join(self._lines(f"why {line}" if line else "why"))
+
+    def owns(self) -> dict[int, Owned]:
+        """What each live transaction has reserved, by the process that began it."""
+        lines = [it.split() for it in self._lines("owns") if it != "no transaction"]
+        return {int(it[1]): Owned(*map(_read_numbers, it[3::2])) for it in lines}
+
+    def when(self, piece: str) -> Found | None:
+        """Goes back behind the step that changed a piece of the state last, such as `page 2 0`.
+
+        None, and the start, where none did.
+        """
+        return self._find(f"when {piece}")
+
+    def next(self, piece: str) -> Found | None:
+        """Goes on behind the step that changes a piece next; None, and the end, where none does."""
+        return self._find(f"next {piece}")
+
+    def steps(self) -> list[Made]:
+        """All steps, those too that were taken back."""
+        found = (re.fullmatch(r"(\d+) w\d+ (.*) : (.*)", it) for it in self._lines("steps"))
+        return [Made(int(it[1]), it[2], _reply_of_text(it[3], int(it[1]))) for it in found if it]
+
+    def moved(self, number: int) -> Moved | None:
+        """The history as if the transaction that a step commits were done at that step.
+
+        None where that step commits none.
+        """
+        words = self._lines(f"moved {number}")[0].split()
+        return Moved(words[1] == "one", _read_numbers(words[2])) if words[0] == "moved" else None
+
+    def schedule(self) -> str:
+        """The text of a schedule with the steps up to the position, for `txos replay`."""
+        return "".join(f"{it}\n" for it in self._lines("text"))
+
+    def explain(self, word: str) -> str:
+        """What a word of a step, a reply or a state means, such as `N8`, as a text to be read.
+
+        Raises `BadLine` where it is not explained.
+        """
+        lines = self._lines(f"help {word}")
+        if lines[0].startswith("? "):
+            raise BadLine(f"help {word}", lines[0][2:])
+        return "\n".join(lines)
+
+    def ask(self, line: str) -> dict[str, Any]:
+        """The answer to any line of the shell, as the object that was read.
+
+        A refusal is in it, and not raised; the other errors are.
+        """
+        if "\n" in line:
+            raise BadLine(line, "this is more than one line")
+        answer = self._exchange(line.encode("utf-8", "surrogateescape") + b"\n")
+        if "error" in answer:
+            raise _error_of(line, answer["error"])
+        self._position = answer.get("step", answer.get("at", self._position))
+        return answer
+
+    def _lines(self, line: str) -> list[str]:
+        return self.ask(line)["lines"]
+
+    def _find(self, line: str) -> Found | None:
+        first, *lines = self._lines(line)
+        at, _, step = first.partition(": ")
+        return None if step == "no change" else Found(*_read_sides(lines), int(at.split()[1]), step)
+
+    def _exchange(self, line: bytes) -> dict[str, Any]:
+        """Writes a line, and reads the one that answers it."""
+        answer = b""
+        if not self._closed:
+            try:
+                with contextlib.suppress(BrokenPipeError):  # it has ended: there is no answer
+                    self._input.write(line)
+                    self._input.flush()
+                answer = self._output.readline()
+            except BaseException:
+                self.close()  # an answer that was not read would be taken for the next line's
+                raise
+        if not answer.endswith(b"\n"):
+            self.close()
+            raise ShellEnded(self._process.returncode, self._fault)
+        return json.loads(answer.decode("utf-8", "surrogateescape"))
+
+    def _told(self) -> str:
+        """What the program has written to its standard error."""
+        # The place in the file is the program's too, so it is not moved.
+        return os.pread(self._errors.fileno(), 1 << 16, 0).decode("utf-8", "replace")
+
+
+def _find_program(program: str | os.PathLike[str] | None) -> str:
+    found = program or os.environ.get("TXOS") or shutil.which("txos")
+    if not found:
+        raise FileNotFoundError("there is no txos: name it, set TXOS, or put it on the PATH")
+    return os.fspath(found)
+
+
+def _error_of(line: str, told: str) -> TxosError:
+    if told.startswith("steps are ahead"):
+        return StepsAhead(told)
+    place = re.match(r"column (\d+): ", told)
+    return BadLine(line, told[place.end() :], int(place[1])) if place else BadLine(line, told)
+
+
+def _read_refusal(line: str, answer: dict[str, Any]) -> Refused | None:
+    return Refused(line, answer["refused"], answer.get("holder")) if "refused" in answer else None
+
+
+def _read_reply(answer: dict[str, Any]) -> Reply:
+    return Reply(
+        kind=answer["reply"],
+        number=answer.get("step"),
+        ret=answer.get("ret"),
+        status=answer.get("status"),
+        bytes=bytes.fromhex(answer["bytes"]) if "bytes" in answer else None,
+        undelivered=tuple(Undelivered(**it) for it in answer.get("undelivered", ())),
+    )
+
+
+def _reply_of_text(text: str, number: int) -> Reply:
+    """The reply that a text spells."""
+    kind, *words = text.split()
+    if kind == "ok":
+        return Reply(kind, number, ret=int(words[0]))
+    if kind == "aborted":
+        return Reply(kind, number, status=int(words[0]))
+    if kind == "out":
+        return Reply(kind, number, bytes=bytes.fromhex(words[0].strip("-")))
+    failed = (Undelivered(*map(int, it.split(":"))) for it in words)
+    return Reply(kind, number, undelivered=tuple(failed))
+
+
+def _read_sides(lines: list[str]) -> tuple[tuple[str, ...], tuple[str, ...]]:
+    gone = tuple(it[2:] for it in lines if it.startswith("- "))
+    come = tuple(it[2:] for it in lines if it.startswith("+ "))
+    return gone, come
+
+
+def _read_numbers(text: str) -> tuple[int, ...]:
+    return () if text == "-" else tuple(map(int, text.split(",")))
+
+
+def _read_page(it: dict[str, Any]) -> Page:
+    return Page(it["writable"], bytes.fromhex(it["bytes"]))
+
+
+def _read_action(it: dict[str, Any]) -> Action:
+    return Action(it["action"], it.get("point"), tuple(it.get("mask", ())))
+
+
+def _read_frame(it: dict[str, Any]) -> Frame:
+    return Frame(it["point"], it["ret"], tuple(it["mask"]), tuple(it["slots"]))
+
+
+def _read_process(it: dict[str, Any]) -> Process:
+    return Process(
+        pid=it["pid"],
+        parent=it["parent"],
+        exit=it.get("exit"),
+        killed=it.get("killed"),
+        point=it["point"],
+        ret=it["ret"],
+        slots=tuple(it["slots"]),
+        users=Ids(*it["users"]),
+        groups=Ids(*it["groups"]),
+        pages={page["page"]: _read_page(page) for page in it["pages"]},
+        fds={fd["fd"]: fd["desc"] for fd in it["fds"]},
+        mask=tuple(it["mask"]),
+        actions={action["signo"]: _read_action(action) for action in it["actions"]},
+        pending=tuple(it["pending"]),
+        queued=tuple(Queued(entry["signo"], entry["value"]) for entry in it["queued"]),
+        frames=tuple(_read_frame(frame) for frame in it["frames"]),
+    )
+
+
+def _read_description(it: dict[str, Any]) -> Description:
+    return Description(it["pipe"], it["side"], it["nonblock"])
+
+
+def _read_transaction(it: dict[str, Any]) -> Transaction:
+    held = tuple(Held(send["target"], send["signo"], send["value"]) for send in it["held"])
+    return Transaction(it["defers"], tuple(it["open"]), tuple(it["ended"]), held)
+
+
+def _read_state(parts: dict[str, Any]) -> State:
+    return State(
+        procs={it["pid"]: _read_process(it) for it in parts["procs"]},
+        descs={it["desc"]: _read_description(it) for it in parts["descs"]},
+        pipes={it["pipe"]: bytes.fromhex(it["bytes"]) for it in parts["pipes"]},
+        txns={it["txn"]: _read_transaction(it) for it in parts["txns"]},
+    )
