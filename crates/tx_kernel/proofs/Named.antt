@@ -26,8 +26,9 @@ use Rattle.tx_base.specs.Slots.{slot_at}
 use Rattle.tx_kernel.specs.declared.actor.Actor.{Actor}
 use Rattle.tx_kernel.specs.declared.planned.Planned.{Planned}
 use Rattle.tx_model.specs.Effects.{Effect}
+use Rattle.tx_model.specs.ObjectFacts.{has_tail}
 use Rattle.tx_model.specs.Words.{before_sends}
-use Rattle.tx_model.specs.State.{Object, Proc, Process, Sending, State, Write, SetProc, SetDesc, SetPipe, SetHeld, has_object, put_at, same_object, write_one, with_writes}
+use Rattle.tx_model.specs.State.{Object, Proc, Process, Sending, State, Write, SetProc, SetDesc, SetPipe, SetHeld, has_object, put_at, write_one, with_writes}
 use Rattle.tx_model.specs.StateLaws.{put_cases, put_here}
 use Rattle.tx_proc.specs.Parts.{process_in}
 
@@ -76,17 +77,9 @@ among_append : (os : List Object) (front behind : List Change) → AreAmong os f
 among_append os [] behind f b = b
 among_append os (change ∷ front) behind f b = (f.0, among_append os front behind f.1 b)
 
-pub has_more : (o x : Object) (os : List Object) → has_object o os ≡ true → has_object o (x ∷ os) ≡ true
-unfolding has_object
-has_more o x os is = by (same_object o x)
-  where
-    by : (b : Bool) → (if b then true else has_object o os) ≡ true
-    by true = refl
-    by false = is
-
 pub among_more : (x : Object) (os : List Object) (changes : List Change) → AreAmong os changes → AreAmong (x ∷ os) changes
 among_more x os [] among = tt
-among_more x os (change ∷ changes) among = (has_more _ x os among.0, among_more x os changes among.1)
+among_more x os (change ∷ changes) among = (has_tail _ x os among.0, among_more x os changes among.1)
 
 -- what they make of the state
 

@@ -34,6 +34,7 @@ use Rattle.tx_base.specs.Slots.{slot_at}
 use Rattle.tx_base.specs.declared.names.DescNo.{DescNo}
 use Rattle.tx_change.specs.Laws.{HasPlaces}
 use Rattle.tx_change.specs.Exchange.{object_of}
+use Rattle.tx_model.specs.ObjectFacts.{has_tail, has_left, has_right}
 use Rattle.tx_proc.specs.Parts.{process_in, process_of}
 use Rattle.tx_proc.specs.declared.proc.Proc.{Proc}
 use Rattle.std.proofs.lemmas.Bool.{ltb-true, eqb-false, ne_eqb, lt-ltb}
@@ -41,7 +42,7 @@ use Rattle.std.proofs.Math.ListN.{set}
 use Rattle.tx_kernel.proofs.Whole.{whole_piped}
 use Rattle.tx_kernel.specs.Named.{pipe_changes, slot_change, gone_of, left_changes, rename_changes, described_by, endless_changes}
 use Rattle.tx_kernel.proofs.Released.{released_files, one_released, endless_pipes, endless_named, endless_among}
-use Rattle.tx_kernel.proofs.Named.{has_more, ArePipes, AreOfFiles, Files, Writes, files_plan, pipes_alone}
+use Rattle.tx_kernel.proofs.Named.{ArePipes, AreOfFiles, Files, Writes, files_plan, pipes_alone}
 use Rattle.tx_kernel.specs.Actors.{me_of, CountsHeld, IsActor, caller_of, effect_by, names_by}
 use Rattle.tx_kernel.specs.Laws.{PlanLaws}
 use Rattle.tx_kernel.specs.Own.{answer_after}
@@ -53,7 +54,7 @@ use Rattle.tx_kernel.proofs.OwnPlans.{held_quiet}
 use Rattle.tx_model.specs.Descriptors.{is_pipe_in_use, description_removals, pipe_removals, other_than, desc_pipe_objects, pipes_of, removals, description_named, descriptor, desc_objects, option_list}
 use Rattle.tx_model.specs.Words.{pipe_objects, with_two_slots, dup2_objects, pipe_list, answer_effect_with, answer_effect, before_sends}
 use Rattle.tx_model.specs.Effects.{Effect, with_answer}
-use Rattle.tx_model.specs.State.{SetPipe, SetDesc, Pipe as ThePipe, Object, Desc, Process, Sending, State, Write, SetProc, has_object, is_between, same_object, write_one, with_writes}
+use Rattle.tx_model.specs.State.{SetPipe, SetDesc, Pipe as ThePipe, Object, Desc, Process, Sending, State, Write, SetProc, has_object, is_between, write_one, with_writes}
 use Rattle.tx_proc.specs.declared.proc.Part.TheVariants.{Answer}
 
 -- what holds of a rule of these parts holds of an equal one
@@ -269,28 +270,10 @@ appended4 : (before a b c d l1 l2 l3 l4 : List Change) → l1 ≡ before ++ a �
 appended4 before a b c d l1 l2 l3 l4 first second third fourth =
     fourth ∙ ap (λ (l : List Change). l ++ d) (appended3 before a b c l1 l2 l3 first second third) ∙ simp append_assoc
 
-pub has_append : (o : Object) (os ps : List Object) → has_object o ps ≡ true → has_object o (os ++ ps) ≡ true
-unfolding has_object
-has_append o [] ps there = there
-has_append o (x ∷ os) ps there = by (same_object o x) (has_append o os ps there)
-  where
-    by : (b : Bool) → has_object o (os ++ ps) ≡ true → (if b then true else has_object o (os ++ ps)) ≡ true
-    by true rest = refl
-    by false rest = rest
-
-has_before : (o : Object) (os ps : List Object) → has_object o os ≡ true → has_object o (os ++ ps) ≡ true
-unfolding has_object
-has_before o [] ps there = let never : ⊥ = cc in absurd never
-has_before o (x ∷ os) ps there = by (same_object o x) there (has_before o os ps)
-  where
-    by : (b : Bool) → (if b then true else has_object o os) ≡ true → (has_object o os ≡ true → has_object o (os ++ ps) ≡ true) → (if b then true else has_object o (os ++ ps)) ≡ true
-    by true now rest = refl
-    by false now rest = rest now
-
 -- objects before do not matter
 among_behind : (os ps : List Object) (changes : List Change) → AreAmong ps changes → AreAmong (os ++ ps) changes
 among_behind os ps [] among = tt
-among_behind os ps (change ∷ changes) among = (has_append (object_of change) os ps among.0, among_behind os ps changes among.1)
+among_behind os ps (change ∷ changes) among = (has_right (object_of change) os ps among.0, among_behind os ps changes among.1)
 
 -- an object that is listed first
 desc_here : (d e : ℕ) (os : List Object) → d ≡ e → has_object (Desc e) (Desc d ∷ os) ≡ true
@@ -396,7 +379,7 @@ other_is actor (Some f) (Some g) d l apart first second =
 
 among_before : (os ps : List Object) (changes : List Change) → AreAmong os changes → AreAmong (os ++ ps) changes
 among_before os ps [] among = tt
-among_before os ps (change ∷ changes) among = (has_before (object_of change) os ps among.0, among_before os ps changes among.1)
+among_before os ps (change ∷ changes) among = (has_left (object_of change) os ps among.0, among_before os ps changes among.1)
 
 -- the objects of a rename
 rename_among : (actor : Actor) (held : ℕ → List Sending) (x y : Option ℕ) (given : Option Given) (rename : Option Rename) →
@@ -405,7 +388,7 @@ rename_among : (actor : Actor) (held : ℕ → List Sending) (x y : Option ℕ) 
     AreAmong (dup2_objects x y (me_of actor) (state_of held actor.parts.now)) (desc_changes (rename_puts rename).descs ++ left_pipes actor.parts.now given rename)
 rename_among actor held x y given None lost of apart left = tt
 rename_among actor held x y given (Some rename) lost of apart left = (
-  has_before (Desc rename.named.number.0) (desc_objects (option_list (description_named (me_of actor) x))) (desc_pipe_objects (other_than x y (me_of actor)) S)
+  has_left (Desc rename.named.number.0) (desc_objects (option_list (description_named (me_of actor) x))) (desc_pipe_objects (other_than x y (me_of actor)) S)
       (has_desc rename.named.number.0 (description_named (me_of actor) x) (named_me actor x ∙ of.0)),
   by given rename.left lost of.1 left,
 )
@@ -557,10 +540,10 @@ pipe_plan laws actor before now pipe read write plan sized rooms is inside free 
     (SetPipe pipe.0 (Some []) ∷ SetDesc read.0 (description_at after read.0) ∷ SetDesc write.0 (description_at after write.0) ∷ []) (pos 0) new
     (ap (effect_of p me) (answer c D refl free.0 (λ d. refl) free.1)) (tt, (tt, (tt, tt))) (descriptions c D refl free.0 (λ d. refl) free.1) refl)
     (λ held. (
-      has_more (Desc plan.read.number.0) (ThePipe pipe.0) (Desc read.0 ∷ Desc write.0 ∷ []) (desc_here read.0 plan.read.number.0 (Desc write.0 ∷ []) (sym (ap (λ (d : DescNo). d.0) same.0))),
+      has_tail (Desc plan.read.number.0) (ThePipe pipe.0) (Desc read.0 ∷ Desc write.0 ∷ []) (desc_here read.0 plan.read.number.0 (Desc write.0 ∷ []) (sym (ap (λ (d : DescNo). d.0) same.0))),
       (
-        has_more (Desc plan.write.number.0) (ThePipe pipe.0) (Desc read.0 ∷ Desc write.0 ∷ [])
-            (has_more (Desc plan.write.number.0) (Desc read.0) (Desc write.0 ∷ []) (desc_here write.0 plan.write.number.0 [] (sym (ap (λ (d : DescNo). d.0) same.1)))),
+        has_tail (Desc plan.write.number.0) (ThePipe pipe.0) (Desc read.0 ∷ Desc write.0 ∷ [])
+            (has_tail (Desc plan.write.number.0) (Desc read.0) (Desc write.0 ∷ []) (desc_here write.0 plan.write.number.0 [] (sym (ap (λ (d : DescNo). d.0) same.1)))),
         (pipe_first pipe.0 (Desc read.0 ∷ Desc write.0 ∷ []), tt),
       ),
     ))

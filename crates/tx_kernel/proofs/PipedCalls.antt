@@ -16,7 +16,7 @@ use Rattle.tx_change.specs.declared.pipes.PipePart.TheVariants.{Front, Back}
 use Rattle.tx_desc.specs.Counts.{KeepsCounts}
 use Rattle.tx_desc.specs.Descriptions.{described, description_of}
 use Rattle.tx_kernel.proofs.Named.{Files, files_plan}
-use Rattle.tx_kernel.proofs.NamedCalls.{answered_files, appended2, done_writes, has_append, last_answer}
+use Rattle.tx_kernel.proofs.NamedCalls.{answered_files, appended2, done_writes, last_answer}
 use Rattle.tx_kernel.proofs.OwnPlans.{held_quiet, own_state}
 use Rattle.tx_kernel.proofs.Released.{pipe_there}
 use Rattle.tx_kernel.proofs.Whole.{HasPipe, whole_piped}
@@ -32,6 +32,7 @@ use Rattle.tx_base.specs.Slots.{slot_at}
 use Rattle.tx_change.specs.declared.parts.Parts.{Parts}
 use Rattle.tx_model.specs.Book.{desc_and_pipe_of, read, write, broken_pipe, bytes_in}
 use Rattle.tx_model.specs.Forms.{does, effect_of}
+use Rattle.tx_model.specs.ObjectFacts.{has_right}
 use Rattle.tx_model.specs.StateLaws.{put_here}
 use Rattle.tx_proc.specs.Parts.{process_in}
 use Rattle.tx_proc.specs.declared.proc.Proc.{Proc}
@@ -73,7 +74,7 @@ pipe_among : (actor : Actor) (x : Option ℕ) (pipe : PipeNo) (held : ℕ → Li
 pipe_among actor x pipe held names =
     let S : State = state_of held actor.parts.now in
     subst (λ (y : Option ℕ). has_object (model.Pipe pipe.0) (desc_pipe_objects (option_list y) S) ≡ true) (sym names.names)
-    (has_append (model.Pipe pipe.0) (desc_objects (names.number ∷ [])) (pipe_list (pipes_of (names.number ∷ []) S))
+    (has_right (model.Pipe pipe.0) (desc_objects (names.number ∷ [])) (pipe_list (pipes_of (names.number ∷ []) S))
     (pipe_there names.number S pipe.0 (description_of names.opened.desc) (ap described names.there) (ap (λ (k : PipeNo). k.0) names.same)))
 
 keeps_same : (actor : Actor) → KeepsCounts actor.proc.now.descriptors actor.proc.now.descriptors actor.parts.now.descs actor.parts.now.descs

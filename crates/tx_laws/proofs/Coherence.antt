@@ -1,6 +1,7 @@
 -- What stands at an object in the states without some transactions depends on who reserved it.
 use Rattle.std.proofs.Common.{◌≡◌, ℕ, Bool, true, false, not, List, [], ◌∷◌, ◌++◌, ℤ, Option, if◌then◌else◌, ◌==◌, refl, sym, ap, ap₂, ◌∙◌, subst, inl, inr, ◌⊎◌, eq-eqb, eqb-true}
 use Rattle.std.proofs.lemmas.Bool.{both_ways, cases_Bool}
+use Rattle.tx_model.specs.ObjectFacts.{same_is, has_head, has_tail, has_left, has_right, has_either}
 use Rattle.tx_model.specs.State.{Process, State, Sending, Object, Proc, Held, same_object, has_object, is_between}
 use Rattle.tx_model.specs.StateLaws.{AgreeAt, AgreeOn}
 use Rattle.tx_model.specs.Effects.{Effect, send_answers}
@@ -12,7 +13,7 @@ use Rattle.tx_model.specs.History.{Starters, nobody, just, is_other_starter, tar
 use Rattle.tx_model.specs.View.{View, present, some_object, in_way, has_two_answers}
 use Rattle.tx_laws.specs.Sound.{IsSound}
 use Rattle.tx_laws.proofs.Agree.{agree_sym, agree_trans, written_part}
-use Rattle.tx_laws.proofs.Objects.{TargetsIn, same_true, has_head, has_tail, has_left, has_right}
+use Rattle.tx_laws.proofs.Objects.{TargetsIn}
 use Rattle.tx_laws.proofs.Local.{after_keeps, after_width, reply_same, effect_same, objects_same, actor_in}
 use Rattle.tx_laws.proofs.Elsewhere.{effect_fits, after_else}
 use Rattle.tx_laws.specs.Fits.{IsIn, IsQuiet, ProgressFits, FitsWithin, Fits, Passes, ends_it}
@@ -32,22 +33,12 @@ pub not_left : (x y : Bool) → (if x then false else y) ≡ true → (x ≡ fal
 not_left true y h = cc
 not_left false y h = (refl, h)
 
-pub has_either : (o : Object) (xs ys : List Object) → has_object o (xs ++ ys) ≡ true → (has_object o xs ≡ true) ⊎ (has_object o ys ≡ true)
-unfolding has_object
-has_either o [] ys h = inr h
-has_either o (x ∷ xs) ys h = by (same_object o x) h (has_either o xs ys)
-  where
-    by : (b : Bool) → (if b then true else has_object o (xs ++ ys)) ≡ true → (has_object o (xs ++ ys) ≡ true → (has_object o xs ≡ true) ⊎ (has_object o ys ≡ true))
-        → ((if b then true else has_object o xs) ≡ true) ⊎ (has_object o ys ≡ true)
-    by true k rest = inl refl
-    by false k rest = rest k
-
 pub meets_not : (os : List Object) (P : Object → Bool) (o : Object) → has_object o os ≡ true → P o ≡ true → some_object os P ≡ false → ⊥
 unfolding has_object some_object
 meets_not [] P o h k e = cc
 meets_not (x ∷ xs) P o h k e =
     elim (or_true (same_object o x) (has_object o xs) h) [
-      | inl a ↦ both_ways (P x) (or_false_left (P x) (some_object xs P) e) (subst (λ (y : Object). P y ≡ true) (same_true o x a) k)
+      | inl a ↦ both_ways (P x) (or_false_left (P x) (some_object xs P) e) (subst (λ (y : Object). P y ≡ true) (same_is o x a) k)
       | inr a ↦ meets_not xs P o a k (or_false_right (P x) (some_object xs P) e)
     ]
 
@@ -200,7 +191,7 @@ taken_cases (Forks c) s F o h = inr h
 taken_cases (Begins defers) s F o h = by (same_object o (Held s)) refl h
   where
     by : (b : Bool) → same_object o (Held s) ≡ b → (if b then true else has_object o F) ≡ true → (o ≡ Held s) ⊎ (has_object o F ≡ true)
-    by true e k = inl (same_true o (Held s) e)
+    by true e k = inl (same_is o (Held s) e)
     by false e k = inr k
 
 -- an event that is made or not leaves the width as it was
@@ -514,7 +505,7 @@ note_keeps s r S R a o h =
     after_keeps (Note s r) S R (effect_same (Note s r) S R (λ q k. by q k (same_object q (Proc s)) refl)) refl o h
   where
     by : (q : Object) → has_object q (Proc s ∷ []) ≡ true → (b : Bool) → same_object q (Proc s) ≡ b → AgreeAt S R q
-    by q k true e = subst (AgreeAt S R) (sym (same_true q (Proc s) e)) a
+    by q k true e = subst (AgreeAt S R) (sym (same_is q (Proc s) e)) a
     by q k false e = let z : false ≡ true = rw e at k in cc
 
 pub aborts_sound : (V : View) (r : ℤ) (p : ℕ) → IsSound V → (s k : ℕ) → is_live V.table s ≡ true → IsSound (next_by (Aborts s k) (Note s r) p V)

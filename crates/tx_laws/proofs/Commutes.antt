@@ -1,6 +1,7 @@
 -- Two events that name different objects do the same in either order.
 use Rattle.std.proofs.Common.{◌≡◌, true, false, List, [], ◌∷◌, ◌++◌, sym, ap, ap₂, ◌∙◌, subst, inl, inr}
 use Rattle.std.proofs.lemmas.Bool.{both_ways, cases_Bool}
+use Rattle.tx_model.specs.ObjectFacts.{has_head, has_tail, has_left, has_right}
 use Rattle.tx_model.specs.State.{State, Sending, Object, Proc, has_object}
 use Rattle.tx_model.specs.Effects.{Effect, send_answers}
 use Rattle.tx_model.specs.Words.{before_sends, processes_of}
@@ -9,7 +10,6 @@ use Rattle.tx_model.specs.StateLaws.{state_ext, EqualAt, AgreeAt, AgreeOn}
 use Rattle.tx_laws.specs.Fits.{IsIn}
 use Rattle.tx_laws.specs.Commuting.{named_by, AreApart}
 use Rattle.tx_laws.proofs.Agree.{agree_sym, part_sym, part_trans, written_part}
-use Rattle.tx_laws.proofs.Objects.{has_head, has_tail, has_left, has_right}
 use Rattle.tx_laws.proofs.Local.{after_width, reply_same, effect_same, objects_same}
 use Rattle.tx_laws.proofs.Answered.{answers_known}
 use Rattle.tx_laws.proofs.TwoStatesView.{after_part}

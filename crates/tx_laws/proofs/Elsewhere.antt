@@ -2,6 +2,7 @@
 use Rattle.std.proofs.Common.{◌≡◌, ℕ, Bool, true, false, List, [], ◌∷◌, ◌++◌, ℤ, Option, if◌then◌else◌, ◌==◌, refl, sym, ap, ◌∙◌, eqb-true}
 use Rattle.tx_base.specs.declared.steps.Step.{Step}
 use Rattle.tx_base.specs.declared.steps.Step.TheVariants.{KernelAbort}
+use Rattle.tx_model.specs.ObjectFacts.{has_head, has_tail}
 use Rattle.tx_model.specs.State.{Process, State, Sending, Object, Proc, Desc, Pipe, Held, Write, SetProc, SetDesc, SetPipe, SetHeld, write_one, with_writes, has_parent, names_at, side_in, same_object, has_object}
 use Rattle.tx_model.specs.StateLaws.{AgreeAt}
 use Rattle.tx_model.specs.Posts.{target_after, after_post, after_posts}
@@ -9,7 +10,7 @@ use Rattle.tx_model.specs.Effects.{Inside, Conclusion, Replies, AnswersPost, Lis
 use Rattle.tx_model.specs.Events.{Event, Do, Note, Commit, process_of, page_of_step, objects_at, step_effect, effect, objects, after}
 use Rattle.tx_laws.proofs.Agree.{agree_refl, agree_trans, KeepsFamily, edited_at, received_keeps, noted_keeps}
 use Rattle.tx_laws.proofs.OfActs.{act_fits}
-use Rattle.tx_laws.proofs.Objects.{WriteFits, WritesFit, TargetsIn, ConclusionIn, Covers, has_head, has_tail, different, writes_append}
+use Rattle.tx_laws.proofs.Objects.{WriteFits, WritesFit, TargetsIn, ConclusionIn, Covers, different, writes_append}
 
 -- a value put in at k, seen through a function that sees it as what was there at first
 put_seen : {A B : Type 0} (view : A → B) (f g : ℕ → A) (k : ℕ) (x : A) → view x ≡ view (g k) → ((q : ℕ) → view (f q) ≡ view (g q)) → (q : ℕ) → view (if q == k then x else f q) ≡ view (g q)

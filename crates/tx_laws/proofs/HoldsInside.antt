@@ -4,6 +4,7 @@ use Rattle.tx_base.specs.declared.steps.Call.{Call}
 use Rattle.tx_base.specs.declared.steps.Call.TheVariants as call
 use Rattle.tx_base.specs.declared.steps.Step.{Step}
 use Rattle.tx_base.specs.declared.steps.Step.TheVariants.{Call as Calls, Deliver, KernelAbort}
+use Rattle.tx_model.specs.ObjectFacts.{same_is, has_left, has_either}
 use Rattle.tx_model.specs.State.{Process, State, Object, Proc, Held, same_object, has_object}
 use Rattle.tx_model.specs.Effects.{Inside}
 use Rattle.tx_model.specs.Descriptors.{open_in, desc_pipe_objects}
@@ -13,8 +14,7 @@ use Rattle.tx_model.specs.Forms.{caller, ◌or◌}
 use Rattle.tx_model.specs.Words.{call_objects}
 use Rattle.tx_model.specs.Events.{Event, Do, Note, Commit, process_of, page_of_step, objects_at, objects}
 use Rattle.tx_laws.specs.Fits.{IsInsideOf, HoldsFor}
-use Rattle.tx_laws.proofs.Coherence.{or_true, has_either}
-use Rattle.tx_laws.proofs.Objects.{same_true, has_left}
+use Rattle.tx_laws.proofs.Coherence.{or_true}
 use Rattle.tx_laws.proofs.OfActs.{act_holds}
 
 -- a transaction of that starter
@@ -98,6 +98,6 @@ unfolding objects has_object
 holds_own (Do step inside) S u h = step_held (process_of step) step inside S u h
 holds_own (Note p r) S u h = cc
 holds_own (Commit s ev) S u h = elim (or_true _ (has_object (Held u) (objects ev S)) h) [
-  | inl e ↦ inl (held_is u s (same_true (Held u) (Held s) e))
+  | inl e ↦ inl (held_is u s (same_is (Held u) (Held s) e))
   | inr e ↦ inr (holds_own ev S u e)
 ]

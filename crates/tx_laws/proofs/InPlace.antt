@@ -2,10 +2,11 @@
 use Rattle.std.proofs.Common.{◌≡◌, ℕ, Bool, true, false, List, [], ℤ, Option, Some, None, is_some, if◌then◌else◌, ◌==◌, slice_index_or, refl, ap, ap₂}
 use Rattle.std.proofs.lemmas.Bool.{both_ways}
 use Rattle.tx_base.specs.declared.steps.Refusal.{Refusal}
+use Rattle.tx_model.specs.ObjectFacts.{has_head}
 use Rattle.tx_model.specs.State.{Process, State, Object, Proc, Desc, Held, SetProc, is_number, names_at, has_object}
 use Rattle.tx_model.specs.Effects.{Inside, Effect, idle, with_answer}
 use Rattle.tx_model.specs.Words.{Own, answers_with, own_effect, answer_effect}
-use Rattle.tx_laws.proofs.Objects.{WriteFits, WritesFit, ConclusionIn, has_head}
+use Rattle.tx_laws.proofs.Objects.{WriteFits, WritesFit, ConclusionIn}
 use Rattle.tx_laws.proofs.Owed.{IsLocal}
 
 -- the effect stays in these objects, its posts apart

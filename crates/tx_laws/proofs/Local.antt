@@ -2,13 +2,13 @@
 use Rattle.std.proofs.Common.{◌≡◌, ℕ, true, List, [], ◌∷◌, ◌++◌, ℤ, Option, refl, ap, ap₂, ◌∙◌, subst}
 use Rattle.tx_base.specs.declared.steps.Step.{Step}
 use Rattle.tx_base.specs.declared.steps.Step.TheVariants.{KernelAbort}
+use Rattle.tx_model.specs.ObjectFacts.{has_head, has_tail}
 use Rattle.tx_model.specs.State.{State, Sending, Object, Proc, Held, SetHeld, with_writes, has_object}
 use Rattle.tx_model.specs.StateLaws.{EqualAt, AgreeAt, AgreeOn}
 use Rattle.tx_model.specs.Effects.{Inside, Effect, ListsFailed, send_answers, after_effect, concluding_reply, commit_effect}
 use Rattle.tx_model.specs.Events.{Event, Do, Note, Commit, process_of, page_of_step, objects_at, actor, step_effect, effect, objects, after, reply_of}
 use Rattle.tx_model.specs.Words.{note_effect}
 use Rattle.tx_laws.proofs.Agree.{written_part, applied_keeps, applied_width}
-use Rattle.tx_laws.proofs.Objects.{has_head, has_tail}
 use Rattle.tx_laws.proofs.OfActs.{act_same, footprint_same}
 
 -- where two states agree, they agree after an event that does the same in both

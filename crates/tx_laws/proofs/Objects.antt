@@ -1,39 +1,8 @@
 -- Lists of objects, and writes that stay in them.
-use Rattle.std.proofs.Common.{◌≡◌, ◌≢◌, ℕ, Bool, true, false, List, [], ◌∷◌, ◌++◌, if◌then◌else◌, refl, ap, subst, eq-eqb, eqb-true}
+use Rattle.std.proofs.Common.{◌≡◌, ◌≢◌, ℕ, Bool, true, false, List, [], ◌∷◌, ◌++◌, if◌then◌else◌, refl, subst}
+use Rattle.tx_model.specs.ObjectFacts.{same_is}
 use Rattle.tx_model.specs.State.{State, Sending, Object, Proc, Desc, Pipe, Held, Write, SetProc, SetDesc, SetPipe, SetHeld, has_parent, names_at, side_in, same_object, has_object}
 use Rattle.tx_model.specs.Effects.{Conclusion, Replies, AnswersPost, ListsFailed}
-
-pub same_refl : (o : Object) → same_object o o ≡ true
-same_refl (Proc n) = eq-eqb n n refl
-same_refl (Desc n) = eq-eqb n n refl
-same_refl (Pipe n) = eq-eqb n n refl
-same_refl (Held n) = eq-eqb n n refl
-
-or_else : (b c : Bool) → c ≡ true → (if b then true else c) ≡ true
-or_else true c h = refl
-or_else false c h = h
-
-pub has_head : (o : Object) (os : List Object) → has_object o (o ∷ os) ≡ true
-unfolding has_object
-has_head o os = rw (same_refl o) refl
-
-pub has_tail : (o x : Object) (os : List Object) → has_object o os ≡ true → has_object o (x ∷ os) ≡ true
-unfolding has_object
-has_tail o x os h = or_else (same_object o x) (has_object o os) h
-
--- an object of either of two lists is one of the two together
-pub has_left : (o : Object) (xs ys : List Object) → has_object o xs ≡ true → has_object o (xs ++ ys) ≡ true
-unfolding has_object
-has_left o [] ys h = cc
-has_left o (x ∷ xs) ys h = by (same_object o x) h (has_left o xs ys)
-  where
-    by : (b : Bool) → (if b then true else has_object o xs) ≡ true → (has_object o xs ≡ true → has_object o (xs ++ ys) ≡ true) → (if b then true else has_object o (xs ++ ys)) ≡ true
-    by true k rest = refl
-    by false k rest = rest k
-
-pub has_right : (o : Object) (xs ys : List Object) → has_object o ys ≡ true → has_object o (xs ++ ys) ≡ true
-has_right o [] ys h = h
-has_right o (x ∷ xs) ys h = has_tail o x (xs ++ ys) (has_right o xs ys h)
 
 -- the write is to one of the objects, and changes the family of no other object but process 1
 abbrev pub WriteFits : State → List Object → Write → Type 0
@@ -58,30 +27,12 @@ ConclusionIn (Replies r) os = Unit {0}
 ConclusionIn (AnswersPost p) os = has_object (Proc p) os ≡ true
 ConclusionIn ListsFailed os = Unit {0}
 
-pub same_true : (o x : Object) → same_object o x ≡ true → o ≡ x
-same_true (Proc n) (Proc m) h = ap Proc (eqb-true n m h)
-same_true (Proc n) (Desc m) h = cc
-same_true (Proc n) (Pipe m) h = cc
-same_true (Proc n) (Held m) h = cc
-same_true (Desc n) (Proc m) h = cc
-same_true (Desc n) (Desc m) h = ap Desc (eqb-true n m h)
-same_true (Desc n) (Pipe m) h = cc
-same_true (Desc n) (Held m) h = cc
-same_true (Pipe n) (Proc m) h = cc
-same_true (Pipe n) (Desc m) h = cc
-same_true (Pipe n) (Pipe m) h = ap Pipe (eqb-true n m h)
-same_true (Pipe n) (Held m) h = cc
-same_true (Held n) (Proc m) h = cc
-same_true (Held n) (Desc m) h = cc
-same_true (Held n) (Pipe m) h = cc
-same_true (Held n) (Held m) h = ap Held (eqb-true n m h)
-
 -- an object of the list is none that is not
 pub different : (o x : Object) (os : List Object) → has_object x os ≡ true → has_object o os ≡ false → same_object o x ≡ false
 different o x os h k = by (same_object o x) refl
   where
     by : (b : Bool) → same_object o x ≡ b → b ≡ false
-    by true e = let z : has_object x os ≡ false = subst (λ (y : Object). has_object y os ≡ false) (same_true o x e) k in cc
+    by true e = let z : has_object x os ≡ false = subst (λ (y : Object). has_object y os ≡ false) (same_is o x e) k in cc
     by false e = refl
 
 -- each object of the first list is one of the second

@@ -2,6 +2,7 @@
 use Rattle.std.proofs.Common.{◌≡◌, ℕ, true, List, [], ◌∷◌, pos, Option, Some, None, is_some, is_none, refl, ap, subst}
 use Rattle.tx_base.specs.declared.steps.Call.{Call}
 use Rattle.tx_base.specs.declared.steps.Call.TheVariants as call
+use Rattle.tx_model.specs.ObjectFacts.{has_head}
 use Rattle.tx_model.specs.State.{Process, State, Sending, Object, Proc, Held, has_object}
 use Rattle.tx_model.specs.StateLaws.{AgreeOn}
 use Rattle.tx_model.specs.Effects.{Inside, idle}
@@ -15,7 +16,7 @@ use Rattle.tx_model.specs.Answer.{is_running}
 use Rattle.tx_model.specs.BookLaws.{names_as, where_runs, where_there}
 use Rattle.tx_model.specs.Words.{call_effect, call_objects}
 use Rattle.tx_laws.specs.Fits.{IsIn}
-use Rattle.tx_laws.proofs.Objects.{WritesFit, ConclusionIn, Covers, has_head}
+use Rattle.tx_laws.proofs.Objects.{WritesFit, ConclusionIn, Covers}
 use Rattle.tx_laws.proofs.Owed.{IsLocal}
 use Rattle.tx_laws.proofs.Mild.{IsMild}
 use Rattle.tx_laws.proofs.InPlace.{held_nowhere, idle_local}

@@ -3,6 +3,7 @@ use Rattle.std.proofs.Common.{◌≡◌, ℕ, zero, suc, ◌+◌, Bool, true, fa
 use Rattle.std.proofs.lemmas.Bool.{both_ways}
 use Rattle.tx_base.specs.declared.errors.Errno.TheVariants.{BadDescriptor}
 use Rattle.tx_base.specs.declared.steps.Refusal.TheVariants.{NumberTaken}
+use Rattle.tx_model.specs.ObjectFacts.{same_is, has_head, has_tail}
 use Rattle.tx_model.specs.State.{Process, ReadSide, WriteSide, Side, Description, State, Object, Proc, Desc, Pipe, Held, SetDesc, is_number, side_in, same_object, has_object}
 use Rattle.tx_model.specs.StateLaws.{AgreeOn}
 use Rattle.tx_model.specs.Effects.{Inside, with_answer}
@@ -11,7 +12,7 @@ use Rattle.tx_model.specs.Words.{pipe_objects, dup2_objects, with_two_slots}
 use Rattle.tx_model.specs.Forms.{fails, answers, changes, refuses, effect_of, caller}
 use Rattle.tx_model.specs.Book.{release, pipe, dup, dup2, close, set_nonblock}
 use Rattle.tx_model.specs.BookLaws.{pipe_lines, dup_lines, dup2_lines, close_lines, set_nonblock_lines}
-use Rattle.tx_laws.proofs.Objects.{WriteFits, Covers, has_head, has_tail, same_true}
+use Rattle.tx_laws.proofs.Objects.{WriteFits, Covers}
 use Rattle.tx_laws.proofs.Owed.{IsLocal}
 use Rattle.tx_laws.proofs.InPlace.{in_place, self_fits}
 use Rattle.tx_laws.proofs.OfPages.{or_same, when_same, Owes, answers_owes, fails_owes, refuses_owes, changes_owes, writes_owe, page_local}
@@ -34,7 +35,7 @@ not_named all (Some r) c d h = by (r == d) (λ e. eqb-true r d e)
 
 one_covered : (all : List Object) (r : ℕ) → has_object (Desc r) all ≡ true → Covers all (Desc r ∷ [])
 unfolding has_object
-one_covered all r h o k = by (same_object o (Desc r)) (λ z. same_true o (Desc r) z) k
+one_covered all r h o k = by (same_object o (Desc r)) (λ z. same_is o (Desc r) z) k
   where
     by : (b : Bool) → (b ≡ true → o ≡ Desc r) → (if b then true else false) ≡ true → has_object o all ≡ true
     by true z l = subst (λ (x : Object). has_object x all ≡ true) (sym (z refl)) h

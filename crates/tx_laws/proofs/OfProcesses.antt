@@ -5,6 +5,7 @@ use Rattle.tx_base.specs.declared.errors.Errno.TheVariants.{NotPermitted, NoChil
 use Rattle.tx_base.specs.declared.steps.Refusal.TheVariants.{NumberTaken, Wait}
 use Rattle.tx_base.specs.declared.steps.Reply.TheVariants.{Ended}
 use Rattle.tx_model.specs.Numbers.{error_answer}
+use Rattle.tx_model.specs.ObjectFacts.{has_head, has_tail}
 use Rattle.tx_model.specs.State.{Process, State, Sending, Object, Proc, Desc, Held, Write, SetProc, SetHeld, write_one, has_parent, is_number, names_at, has_object}
 use Rattle.tx_model.specs.StateLaws.{AgreeAt, AgreeOn}
 use Rattle.tx_model.specs.Effects.{Inside, Replies, with_answer}
@@ -15,7 +16,7 @@ use Rattle.tx_model.specs.Words.{exit_objects, numbered_objects, fork_objects, w
 use Rattle.tx_model.specs.Forms.{fails, refuses, does, effect_of, ◌when◌, caller}
 use Rattle.tx_model.specs.Book.{fork, exit, waitpid}
 use Rattle.tx_model.specs.BookLaws.{fork_lines, waitpid_lines}
-use Rattle.tx_laws.proofs.Objects.{WriteFits, WritesFit, Covers, has_head, has_tail, writes_append}
+use Rattle.tx_laws.proofs.Objects.{WriteFits, WritesFit, Covers, writes_append}
 use Rattle.tx_laws.proofs.Owed.{IsLocal}
 use Rattle.tx_laws.proofs.InPlace.{StaysIn, in_place, kept_fits, done_local}
 use Rattle.tx_laws.proofs.OfPages.{none_there, or_same, when_same, Owes, answers_owes, fails_owes, refuses_owes, changes_owes, page_local}

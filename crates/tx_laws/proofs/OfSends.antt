@@ -2,6 +2,7 @@
 use Rattle.std.proofs.Common.{◌≡◌, ℕ, Bool, true, false, List, [], ◌∷◌, ℤ, pos, Option, Some, None, if◌then◌else◌, refl, sym, ap, subst, inl, inr}
 use Rattle.tx_base.specs.declared.errors.Errno.TheVariants.{NoSuchProcess, InvalidArgument}
 use Rattle.tx_model.specs.Numbers.{error_answer}
+use Rattle.tx_model.specs.ObjectFacts.{has_head, has_tail}
 use Rattle.tx_model.specs.State.{Process, State, Sending, Object, Proc, Held, has_object}
 use Rattle.tx_model.specs.StateLaws.{AgreeOn}
 use Rattle.tx_model.specs.Effects.{Inside, with_answer}
@@ -10,7 +11,7 @@ use Rattle.tx_model.specs.Processes.{pid_of, held_objects}
 use Rattle.tx_model.specs.Forms.{fails, posts, effect_of, caller}
 use Rattle.tx_laws.specs.Fits.{IsIn}
 use Rattle.tx_model.specs.BookLaws.{sigqueue_lines}
-use Rattle.tx_laws.proofs.Objects.{Covers, has_head, has_tail}
+use Rattle.tx_laws.proofs.Objects.{Covers}
 use Rattle.tx_laws.proofs.Owed.{IsLocal}
 use Rattle.tx_laws.proofs.OfPages.{or_same}
 use Rattle.tx_laws.proofs.OfProcesses.{held_own}

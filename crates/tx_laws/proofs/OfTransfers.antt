@@ -3,6 +3,7 @@ use Rattle.std.proofs.Common.{◌≡◌, ℕ, Bool, true, false, List, [], ◌�
 use Rattle.tx_base.specs.declared.errors.Errno.TheVariants.{BadDescriptor, BrokenPipe}
 use Rattle.tx_base.specs.declared.steps.Refusal.TheVariants.{Wait}
 use Rattle.tx_model.specs.Numbers.{error_answer}
+use Rattle.tx_model.specs.ObjectFacts.{has_head, has_tail}
 use Rattle.tx_model.specs.State.{Process, Side, Description, State, Sending, Object, Proc, Desc, Pipe, has_object}
 use Rattle.tx_model.specs.StateLaws.{AgreeOn}
 use Rattle.tx_model.specs.Effects.{Inside}
@@ -11,7 +12,6 @@ use Rattle.tx_model.specs.Words.{pipe_list}
 use Rattle.tx_model.specs.Book.{is_read_side, is_write_side, broken_pipe, of_side, description_in, read, write}
 use Rattle.tx_model.specs.Forms.{Outcome, fails, does, effect_of, caller}
 use Rattle.tx_model.specs.BookLaws.{read_lines, write_lines}
-use Rattle.tx_laws.proofs.Objects.{has_head, has_tail}
 use Rattle.tx_laws.proofs.Owed.{IsLocal}
 use Rattle.tx_laws.proofs.OfPages.{or_same, Owes, answers_owes, fails_owes, refuses_owes, writes_owe, page_local}
 use Rattle.tx_laws.proofs.Released.{has_end_below_same, agree_rest, covers_head, ends_held, ends_same}

@@ -1,12 +1,13 @@
 -- What goes with names of descriptions that were given up depends on those descriptions and their pipes alone.
 use Rattle.std.proofs.Common.{◌≡◌, ℕ, zero, suc, ◌+◌, Bool, true, false, List, [], ◌∷◌, ◌++◌, Option, Some, None, if◌then◌else◌, ◌==◌, refl, sym, ap, ap₂, ◌∙◌, subst, eqb-true}
 use Rattle.std.proofs.lemmas.Bool.{both_ways}
+use Rattle.tx_model.specs.ObjectFacts.{has_head, has_tail, has_left, has_right}
 use Rattle.tx_model.specs.State.{Process, Side, Description, State, Object, Desc, Pipe, Held, Write, SetProc, SetDesc, SetPipe, write_one, with_writes, names_at, side_in, same_object, has_object}
 use Rattle.tx_model.specs.StateLaws.{AgreeAt, AgreeOn}
 use Rattle.tx_model.specs.Descriptors.{is_named, is_side, has_description, pipe_of, pipes_of, description_removals, pipe_removals, removals, desc_objects, desc_pipe_objects, some_below}
 use Rattle.tx_model.specs.Words.{names_below, is_named_below, has_side_below, pipe_list}
 use Rattle.tx_laws.proofs.Agree.{written_keeps}
-use Rattle.tx_laws.proofs.Objects.{WriteFits, WritesFit, Covers, has_head, has_tail, has_left, has_right, writes_append}
+use Rattle.tx_laws.proofs.Objects.{WriteFits, WritesFit, Covers, writes_append}
 
 or_same : (a b c d : Bool) → a ≡ b → c ≡ d → (if a then true else c) ≡ (if b then true else d)
 or_same a b c d h k = ap₂ (λ (x y : Bool). if x then true else y) h k

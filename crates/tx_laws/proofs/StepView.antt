@@ -2,6 +2,7 @@
 use Rattle.std.proofs.Common.{◌≡◌, true, false, List, [], ◌∷◌, ◌++◌, refl, ap₂, subst}
 use Rattle.tx_base.specs.declared.steps.Step.{Step}
 use Rattle.tx_base.specs.declared.steps.Reply.{Reply}
+use Rattle.tx_model.specs.ObjectFacts.{has_head, has_tail, has_left, has_right}
 use Rattle.tx_model.specs.State.{State, Sending, Object, Proc, has_object}
 use Rattle.tx_model.specs.StateLaws.{EqualAt, AgreeAt}
 use Rattle.tx_model.specs.Events.{Event, process_of, effect, objects, after}
@@ -12,7 +13,7 @@ use Rattle.tx_model.specs.Answer.{answer, IsAccepted}
 use Rattle.tx_laws.specs.Sound.{IsSound}
 use Rattle.tx_laws.specs.Fits.{Fits, Passes}
 use Rattle.tx_laws.specs.TwoStates.{TwoStates, states_view, states_next}
-use Rattle.tx_laws.proofs.Objects.{TargetsIn, has_head, has_tail, has_left, has_right}
+use Rattle.tx_laws.proofs.Objects.{TargetsIn}
 use Rattle.tx_laws.proofs.Elsewhere.{effect_fits, after_else}
 use Rattle.tx_laws.proofs.Taken.{IsTaken, taken}
 use Rattle.tx_laws.proofs.TwoStatesView.{states_next_view}

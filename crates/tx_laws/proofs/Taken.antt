@@ -11,6 +11,7 @@ use Rattle.tx_base.specs.declared.steps.Reply.{Reply}
 use Rattle.tx_base.specs.declared.steps.Reply.TheVariants.{Aborted}
 use Rattle.tx_base.specs.declared.steps.Step.{Step}
 use Rattle.tx_base.specs.declared.steps.Step.TheVariants.{Call as Calls, Deliver, KernelAbort}
+use Rattle.tx_model.specs.ObjectFacts.{has_head, has_tail}
 use Rattle.tx_model.specs.State.{State, Sending, Proc, Held, has_object, is_between, Object}
 use Rattle.tx_model.specs.Numbers.{negative}
 use Rattle.tx_model.specs.Effects.{Inside}
@@ -24,7 +25,6 @@ use Rattle.tx_model.specs.History.{is_other_starter}
 use Rattle.tx_model.specs.View.{View, present, kernel_status, abort_status, first_reply, role_on, event_on, in_way, least, starter_in_way}
 use Rattle.tx_model.specs.Answer.{is_running, is_there, is_doomed_at, is_parked, refusal, plain_reply, accepted_reply, answer, IsAccepted}
 use Rattle.tx_laws.specs.Sound.{IsSound}
-use Rattle.tx_laws.proofs.Objects.{has_head, has_tail}
 use Rattle.tx_laws.proofs.OfActs.{act_sends, act_holds, runs_some}
 use Rattle.tx_laws.proofs.Tables.{of_unique, of_none}
 use Rattle.tx_laws.specs.Fits.{IsIn, ProgressFits, FitsWithin, Fits, Passes}

@@ -42,6 +42,7 @@ use Rattle.tx_live.specs.declared.marking.Progress.TheVariants.{Continues, Parks
 use Rattle.tx_model.specs.Effects.{Inside as InsideOf}
 use Rattle.tx_model.specs.Events.{Event, actor, effect, objects, reply_of}
 use Rattle.tx_model.specs.History.{event_footprint, objects_reserved, targets, is_other_starter}
+use Rattle.tx_model.specs.ObjectFacts.{has_left}
 use Rattle.tx_model.specs.Words.{processes_of}
 use Rattle.tx_model.specs.Membership.{Within, is_of, marks_after, new_mark, parked_mark, defers_in, Table}
 use Rattle.tx_model.specs.Book.{member_sends}
@@ -124,10 +125,10 @@ targets_hold_none t p n (m ∷ ms) = by (is_other_starter t p m.target) (targets
     by true rest = rest
     by false rest = rest
 
-has_either : (o : Object) (xs ys : List Object) → has_object o ys ≡ false → has_object o (xs ++ ys) ≡ has_object o xs
+has_left_alone : (o : Object) (xs ys : List Object) → has_object o ys ≡ false → has_object o (xs ++ ys) ≡ has_object o xs
 unfolding has_object
-has_either o [] ys none = none
-has_either o (x ∷ xs) ys none = by (same_object o x) (has_either o xs ys none)
+has_left_alone o [] ys none = none
+has_left_alone o (x ∷ xs) ys none = by (same_object o x) (has_left_alone o xs ys none)
   where
     by : (b : Bool) → has_object o (xs ++ ys) ≡ has_object o xs → (if b then true else has_object o (xs ++ ys)) ≡ (if b then true else has_object o xs)
     by true rest = refl
@@ -206,15 +207,6 @@ new_defers s defers m e is = sym (ap of e)
 defers_live : (s : ℕ) (defers : Bool) (x : Option Mark) → is_of s x ≡ true → DefersSo s defers x → defers_in x ≡ defers
 defers_live s defers None live so = cc
 defers_live s defers (Some m) live so = so m refl (eqb-true m.starter.0 s live)
-
-has_first : (o : Object) (xs ys : List Object) → has_object o xs ≡ true → has_object o (xs ++ ys) ≡ true
-unfolding has_object
-has_first o [] ys h = cc
-has_first o (x ∷ xs) ys h = by (same_object o x) (has_first o xs ys) h
-  where
-    by : (b : Bool) → (has_object o xs ≡ true → has_object o (xs ++ ys) ≡ true) → (if b then true else has_object o xs) ≡ true → (if b then true else has_object o (xs ++ ys)) ≡ true
-    by true rest e = refl
-    by false rest e = rest e
 
 -- what one transaction owns is not free for another one
 not_free : (s n : ℕ) (was : Option ℕ) → was ≡ Some n → unless (Some s) was ≡ None → n ≡ s
@@ -353,7 +345,7 @@ module _ (laws : LiveLaws) (old new : Content) (pid starter : Pid) (act : Act) (
       | inl e ↦ rw e (same_starter n (eqb-true n s e)
           (has_object (Held n) (objects_reserved (part_of progress) s (event_footprint (table_at old.marks) event S))) (slot_at old.txns n) (ap (slot_at old.txns) (eqb-true n s e) ∙ there))
       | inr e ↦ rw e (sym (ap (λ (b : Bool). if b then Some s else own_held n (slot_at old.txns n))
-          (reserved_same (Held n) ∙ has_either (Held n) (objects event S) (targets (table_at old.marks) (actor event) (effect event S).sends) (targets_hold_none (table_at old.marks) (actor event) n (effect event S).sends)
+          (reserved_same (Held n) ∙ has_left_alone (Held n) (objects event S) (targets (table_at old.marks) (actor event) (effect event S).sends) (targets_hold_none (table_at old.marks) (actor event) n (effect event S).sends)
           ∙ apart n e)))
     ]
       where
@@ -445,7 +437,7 @@ module _ (laws : LiveLaws) (old new : Content) (pid starter : Pid) (act : Act) (
         by (Forks d) e f =
             let named : has_object (Proc d.0) (objects event S) ≡ true = subst (λ (z : State). has_object (Proc d.0) (objects event z) ≡ true) (laws.present _) f.progress_fits.1 in
             subst (λ (p : Pid). is_in footprint (Proc p.0) ≡ true) (ap child_in e)
-            (footprint_at (Proc d.0) refl ∙ has_first (Proc d.0) (objects event S) (targets (table_at old.marks) (actor event) (effect event S).sends) named)
+            (footprint_at (Proc d.0) refl ∙ has_left (Proc d.0) (objects event S) (targets (table_at old.marks) (actor event) (effect event S).sends) named)
           where
             child_in : Progress → Pid
             child_in Continues = d
@@ -539,7 +531,7 @@ module _ (laws : LiveLaws) (old new : Content) (pid starter : Pid) (act : Act) (
 
         unnamed : (o : Object) → is_shared o ≡ true → owner_at old o ≡ Some n → (x : Bool) → has_object o (objects event S) ≡ x → x ≡ false
         unnamed o shared own true e = absurd (differs (not_free s n (owner_of old.owners o) (owned o shared own)
-            (free o (footprint_at o shared ∙ has_first o (objects event S) (targets (table_at old.marks) (actor event) (effect event S).sends) e))))
+            (free o (footprint_at o shared ∙ has_left o (objects event S) (targets (table_at old.marks) (actor event) (effect event S).sends) e))))
         unnamed o shared own false e = refl
 
     each_after : (n : ℕ) (b : BoxedTxn) → slot_at new.txns n ≡ Some b → IsTxn new n b.txn.value

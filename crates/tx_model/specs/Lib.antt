@@ -25,4 +25,5 @@ pub mod FreeNumbers
 -- Words and first laws, for the contracts and proofs above. Nothing here has to be believed.
 pub mod Words
 pub mod StateLaws
+pub mod ObjectFacts
 pub mod BookLaws

@@ -1,6 +1,7 @@
 -- An event of another may be made before the events of a transaction as well as after them.
 use Rattle.std.proofs.Common.{◌≡◌, ◌≢◌, ℕ, Bool, true, false, List, [], ◌∷◌, ◌++◌, Some, None, is_some, refl, sym, ap, ◌∙◌, subst, inl, inr}
 use Rattle.std.proofs.lemmas.Bool.{both_ways, cases_Bool, false_from_ne_true, true_from_ne_false}
+use Rattle.tx_model.specs.ObjectFacts.{same_is}
 use Rattle.tx_model.specs.State.{Process, State, Sending, Object, Proc, same_object, has_object}
 use Rattle.tx_model.specs.StateLaws.{state_ext, EqualAt, AgreeAt, AgreeOn}
 use Rattle.tx_model.specs.Posts.{after_posts, post_answers}
@@ -11,7 +12,6 @@ use Rattle.tx_model.specs.Answer.{is_running}
 use Rattle.tx_laws.specs.Fits.{IsIn}
 use Rattle.tx_laws.specs.OneMoment.{is_sent_to}
 use Rattle.tx_laws.proofs.Agree.{agree_refl, agree_sym, agree_trans, part_sym, part_trans, written_part, posts_part}
-use Rattle.tx_laws.proofs.Objects.{same_true}
 use Rattle.tx_laws.proofs.Local.{after_width}
 use Rattle.tx_laws.proofs.Answered.{answers_known}
 use Rattle.tx_laws.proofs.Released.{lacks_both}
@@ -23,7 +23,7 @@ use Rattle.tx_moment.proofs.SignalsAside.{after_family, with_signals_family, wit
 
 -- objects that a test tells apart are different
 told_apart : (T : Object → Bool) (o x : Object) → T o ≢ T x → same_object o x ≡ false
-told_apart T o x ne = false_from_ne_true (same_object o x) (λ e. ne (ap T (same_true o x e)))
+told_apart T o x ne = false_from_ne_true (same_object o x) (λ e. ne (ap T (same_is o x e)))
 
 -- what differs from each target is none of the processes that the sends go to
 sent_nowhere : (o : Object) (ms : List Sending) → ((m : Sending) → IsIn m ms → same_object o (Proc m.target) ≡ false) → has_object o (processes_of ms) ≡ false
@@ -157,7 +157,7 @@ module _ (laws : EventLaws) (T : Object → Bool) (s : ℕ) where
       at_first : (o : Object) → T o ≡ true → AgreeAt (with_signals s g Q) (after b Q) o
       at_first o h =
           elim (cases_Bool (same_object o (Proc s))) [
-            | inl e ↦ subst (λ (z : Object). AgreeAt (with_signals s g Q) (after b Q) z) (sym (same_true o (Proc s) e)) at_starter
+            | inl e ↦ subst (λ (z : Object). AgreeAt (with_signals s g Q) (after b Q) z) (sym (same_is o (Proc s) e)) at_starter
             | inr e ↦ agree_trans (with_signals s g Q) Q (after b Q) o
                 (record { width = refl; equal = with_signals_apart s g Q o e; family = with_signals_family s g Q o })
                 (agree_sym (after b Q) Q o
@@ -204,7 +204,7 @@ module _ (laws : EventLaws) (T : Object → Bool) (s : ℕ) where
           let N : State = run Q evs in
           let sends : List Sending = (effect b Q).sends in
           elim (cases_Bool (same_object o (Proc s))) [
-            | inl e ↦ subst (λ (z : Object). EqualAt (with_signals s g N) (after_posts sends N) z) (sym (same_true o (Proc s) e)) (with_signals_here s g N ∙ starter_gets)
+            | inl e ↦ subst (λ (z : Object). EqualAt (with_signals s g N) (after_posts sends N) z) (sym (same_is o (Proc s) e)) (with_signals_here s g N ∙ starter_gets)
             | inr e ↦ part_trans (with_signals s g N) N (after_posts sends N) o (with_signals_apart s g N o e) (part_sym (after_posts sends N) N o (posts_apart sends N o (unsent o h e)))
           ]
 

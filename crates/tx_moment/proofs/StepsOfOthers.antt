@@ -2,6 +2,7 @@
 use Rattle.std.proofs.Common.{◌≡◌, inl, inr, ◌⊎◌, ℕ, Bool, true, false, List, ◌∷◌, ℤ, None, if◌then◌else◌, ◌==◌, refl, sym, ap, ◌∙◌, subst, eq-eqb, eqb-true}
 use Rattle.std.proofs.lemmas.Bool.{both_ways, cases_Bool, not-true}
 use Rattle.tx_base.specs.declared.steps.Accepted.{Accepted}
+use Rattle.tx_model.specs.ObjectFacts.{same_is, has_right}
 use Rattle.tx_model.specs.State.{State, Sending, Object, Proc, same_object, has_object}
 use Rattle.tx_model.specs.StateLaws.{AgreeOn}
 use Rattle.tx_model.specs.Effects.{Effect, send_answers}
@@ -16,7 +17,6 @@ use Rattle.tx_laws.specs.Fits.{IsIn, IsQuiet, Fits, Passes}
 use Rattle.tx_laws.specs.OneMoment.{is_step_of}
 use Rattle.tx_laws.specs.Sound.{IsSound}
 use Rattle.tx_laws.proofs.Coherence.{clear_foot, in_targets, objects_in, outside_quiet, commits_quiet}
-use Rattle.tx_laws.proofs.Objects.{same_true, has_right}
 use Rattle.tx_laws.proofs.Tables.{eq_comm, of_unique, of_none}
 use Rattle.tx_moment.proofs.Marks.{other_of, not_mine}
 use Rattle.tx_moment.specs.Laws.{MomentLaws}
@@ -141,7 +141,7 @@ module _ (V : View) (ev : Event) (s : ℕ) (sound : IsSound V) (live : is_live V
       only o h = by (same_object o (Proc u)) refl h
         where
           by : (b : Bool) → same_object o (Proc u) ≡ b → (if b then true else false) ≡ true → o ≡ Proc u
-          by true e k = same_true o (Proc u) e
+          by true e k = same_is o (Proc u) e
           by false e k = cc
 
 -- a step that is of another than s, by its role

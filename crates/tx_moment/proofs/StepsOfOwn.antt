@@ -5,6 +5,7 @@ use Rattle.tx_base.specs.declared.steps.Accepted.{Accepted}
 use Rattle.tx_base.specs.declared.steps.Reply.{Reply}
 use Rattle.tx_base.specs.declared.steps.Step.{Step}
 use Rattle.tx_base.specs.declared.steps.Step.TheVariants.{Call as Calls, Deliver, KernelAbort}
+use Rattle.tx_model.specs.ObjectFacts.{has_right}
 use Rattle.tx_model.specs.State.{Process, State, Sending, Object, Proc, has_object}
 use Rattle.tx_model.specs.StateLaws.{AgreeOn}
 use Rattle.tx_model.specs.Effects.{Effect}
@@ -20,7 +21,6 @@ use Rattle.tx_laws.specs.Sound.{IsSound}
 use Rattle.tx_laws.specs.WellFormed.{IsWellFormed}
 use Rattle.tx_laws.specs.WellFormedTable.{HoldsNothing}
 use Rattle.tx_laws.proofs.Coherence.{clear_foot, in_targets, objects_in, reserved_new, taken_foot}
-use Rattle.tx_laws.proofs.Objects.{has_right}
 use Rattle.tx_laws.proofs.Local.{actor_in}
 use Rattle.tx_moment.specs.Laws.{MomentLaws}
 use Rattle.tx_moment.proofs.OwnEvents.{IsOwnEvent}

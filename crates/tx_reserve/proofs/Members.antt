@@ -9,6 +9,7 @@ use Rattle.std.proofs.lemmas.Nat.{le_or_l, le_or_r}
 use Rattle.std.specs.Int.Bits.{or_zero_l}
 use Rattle.std.proofs.lemmas.Nat.Bits.{bit_at_and, bit_at_or, bit_at_not, bit_at-lt, bit_at-trailing_zeros, bit_at-zero}
 use Rattle.std.specs.Int.{bit_at, bit_not, trailing_zeros}
+use Rattle.tx_model.specs.ObjectFacts.{same_is}
 use Rattle.tx_model.specs.State.{Object, Proc, Desc, Pipe, Held, same_object}
 use Rattle.tx_reserve.specs.Objects.{has_place, is_in, is_small, place_of, TakesOut}
 use Rattle.tx_reserve.specs.declared.objects.Objects.{Objects}
@@ -52,25 +53,6 @@ place_below (Proc (suc n)) s = let lt = ltb-true n 256 s in omega arith
 place_below (Desc n) s = let lt = ltb-true n 64 s in omega arith
 place_below (Pipe n) s = let lt = ltb-true n 32 s in omega arith
 place_below (Held n) s = absurd (both_ways false refl s)
-
--- objects that are tested to be the same are the same
-pub same_is : (a b : Object) → same_object a b ≡ true → a ≡ b
-same_is (Proc n) (Proc m) e = ap Proc (eqb-true n m e)
-same_is (Proc n) (Desc m) e = absurd (both_ways false refl e)
-same_is (Proc n) (Pipe m) e = absurd (both_ways false refl e)
-same_is (Proc n) (Held m) e = absurd (both_ways false refl e)
-same_is (Desc n) (Proc m) e = absurd (both_ways false refl e)
-same_is (Desc n) (Desc m) e = ap Desc (eqb-true n m e)
-same_is (Desc n) (Pipe m) e = absurd (both_ways false refl e)
-same_is (Desc n) (Held m) e = absurd (both_ways false refl e)
-same_is (Pipe n) (Proc m) e = absurd (both_ways false refl e)
-same_is (Pipe n) (Desc m) e = absurd (both_ways false refl e)
-same_is (Pipe n) (Pipe m) e = ap Pipe (eqb-true n m e)
-same_is (Pipe n) (Held m) e = absurd (both_ways false refl e)
-same_is (Held n) (Proc m) e = absurd (both_ways false refl e)
-same_is (Held n) (Desc m) e = absurd (both_ways false refl e)
-same_is (Held n) (Pipe m) e = absurd (both_ways false refl e)
-same_is (Held n) (Held m) e = ap Held (eqb-true n m e)
 
 pub both_same : {A : Type 0} (t : Bool) (b : A) → (if t then b else b) ≡ b
 both_same true b = refl
@@ -312,9 +294,3 @@ in_small objects o there = elim (cases_Bool (is_small o)) [
   | inl e ↦ e
   | inr e ↦ absurd (both_ways (is_in objects o) (sym (not_in objects o e)) there)
 ]
-
-pub same_self : (o : Object) → same_object o o ≡ true
-same_self (Proc n) = eq-eqb n n refl
-same_self (Desc n) = eq-eqb n n refl
-same_self (Pipe n) = eq-eqb n n refl
-same_self (Held n) = eq-eqb n n refl

@@ -3,11 +3,12 @@ use Rattle.std.proofs.Common.{◌≡◌, ℕ, ◌<◌, ◌≤◌, Bool, true, fa
 use Rattle.std.proofs.lemmas.Bool.{cases_Bool, cases_lt, both_ways, eqb-false, ltb-true, ltb-false}
 use Rattle.std.proofs.lemmas.List.{get_or-replicate, get_or-set_same, get_or-set_other, get_or_past, length-replicate}
 use Rattle.tx_base.specs.declared.names.Pid.{Pid}
+use Rattle.tx_model.specs.ObjectFacts.{same_self, same_is}
 use Rattle.tx_model.specs.State.{Object, same_object}
 use Rattle.tx_reserve.specs.Objects.{is_in, is_small, place_of, TakesOut}
 use Rattle.tx_reserve.specs.declared.objects.Objects.{Objects}
 use Rattle.tx_reserve.specs.Reservations.{number_of, owner_of, lesser_of, IsLeast}
-use Rattle.tx_reserve.proofs.Members.{same_place, same_is, place_below, both_same, in_small, same_self}
+use Rattle.tx_reserve.proofs.Members.{same_place, place_below, both_same, in_small}
 
 -- what no number may be is nobody's
 pub owner_large : (places : List (Option Pid)) (o : Object) → is_small o ≡ false → owner_of places o ≡ None

@@ -1,5 +1,6 @@
 -- Footprints name objects of numbers that there are.
 use Rattle.std.proofs.Common.{◌≡◌, ℕ, ℤ, zero, suc, pos, negsuc, ◌+◌, ◌≤◌, Bool, true, false, not, ◌&&◌, ◌||◌, nat_lt, List, [], ◌∷◌, ◌++◌, length, if◌then◌else◌, ◌==◌, Option, Some, None, is_some, is_none, refl, ap, sym, ◌∙◌, inl, inr, get_or, eq-eqb, arith, ◌⊎◌}
+use Rattle.tx_model.specs.ObjectFacts.{same_is}
 use Rattle.tx_model.specs.SignalSets.{is_in_set, is_realtime}
 use Rattle.std.specs.Prelude.{All}
 use Rattle.std.proofs.lemmas.List.Elements.{All-head, All-tail}
@@ -21,7 +22,7 @@ use Rattle.tx_model.specs.Processes.{children_below, children_of, pid_of, procs_
 use Rattle.tx_model.specs.Book.{sendable}
 use Rattle.tx_model.specs.State.{Description, Object, is_number, Proc, Desc, Pipe, Held, Process, Queued, Sending, State, has_object, has_parent, is_between, names_at, same_object}
 use Rattle.tx_reserve.specs.Laws.{FootprintIsWithin, WithinIsSmall, is_within}
-use Rattle.tx_reserve.proofs.Members.{no_bit, same_is}
+use Rattle.tx_reserve.proofs.Members.{no_bit}
 use Rattle.tx_reserve.proofs.Rows.{has-append, has_two}
 
 record Within (width : ℕ) (xs : List Object) : Type 0 where

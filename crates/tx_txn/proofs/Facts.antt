@@ -5,6 +5,7 @@ use Rattle.tx_base.specs.declared.marks.Mark.{Mark}
 use Rattle.tx_laws.specs.Fits.{IsIn}
 use Rattle.tx_laws.specs.TwoStates.{in_set, is_owner, pick, freed}
 use Rattle.tx_model.specs.History.{just, is_other_starter, targets, objects_reserved}
+use Rattle.tx_model.specs.ObjectFacts.{same_is, has_head, has_tail}
 use Rattle.tx_model.specs.Words.{processes_of}
 use Rattle.tx_model.specs.Membership.{Table, is_of, Progress, Continues, Parks, Forks, Begins, mark_unless_of}
 use Rattle.tx_model.specs.State.{State, Sending, Object, Proc, Desc, Pipe, Held, same_object, has_object}
@@ -53,50 +54,6 @@ pub none_left : (x y : Bool) → (if x then true else y) ≡ false → (x ≡ fa
 none_left true y h = cc
 none_left false y h = (refl, h)
 
-pub same_true : (o x : Object) → same_object o x ≡ true → o ≡ x
-same_true (Proc n) (Proc m) h = ap Proc (eqb-true n m h)
-same_true (Proc n) (Desc m) h = cc
-same_true (Proc n) (Pipe m) h = cc
-same_true (Proc n) (Held m) h = cc
-same_true (Desc n) (Proc m) h = cc
-same_true (Desc n) (Desc m) h = ap Desc (eqb-true n m h)
-same_true (Desc n) (Pipe m) h = cc
-same_true (Desc n) (Held m) h = cc
-same_true (Pipe n) (Proc m) h = cc
-same_true (Pipe n) (Desc m) h = cc
-same_true (Pipe n) (Pipe m) h = ap Pipe (eqb-true n m h)
-same_true (Pipe n) (Held m) h = cc
-same_true (Held n) (Proc m) h = cc
-same_true (Held n) (Desc m) h = cc
-same_true (Held n) (Pipe m) h = cc
-same_true (Held n) (Held m) h = ap Held (eqb-true n m h)
-
-pub same_self : (n : ℕ) (os : List Object) → has_object (Proc n) (Proc n ∷ os) ≡ true
-unfolding has_object
-same_self n os = rw (eq-eqb n n refl) refl
-
-pub has_tail : (o x : Object) (os : List Object) → has_object o os ≡ true → has_object o (x ∷ os) ≡ true
-unfolding has_object
-has_tail o x os h = by (same_object o x)
-  where
-    by : (b : Bool) → (if b then true else has_object o os) ≡ true
-    by true = refl
-    by false = h
-
--- an object of either of two lists is one of the two together
-pub has_left : (o : Object) (xs ys : List Object) → has_object o xs ≡ true → has_object o (xs ++ ys) ≡ true
-unfolding has_object
-has_left o [] ys h = cc
-has_left o (x ∷ xs) ys h = by (same_object o x) h (has_left o xs ys)
-  where
-    by : (b : Bool) → (if b then true else has_object o xs) ≡ true → (has_object o xs ≡ true → has_object o (xs ++ ys) ≡ true) → (if b then true else has_object o (xs ++ ys)) ≡ true
-    by true k rest = refl
-    by false k rest = rest k
-
-pub has_right : (o : Object) (xs ys : List Object) → has_object o ys ≡ true → has_object o (xs ++ ys) ≡ true
-has_right o [] ys h = h
-has_right o (x ∷ xs) ys h = has_tail o x (xs ++ ys) (has_right o xs ys h)
-
 -- what passes the test is met
 pub meets_not : (os : List Object) (P : Object → Bool) (o : Object) → has_object o os ≡ true → P o ≡ true → some_object os P ≡ false → ⊥
 unfolding has_object some_object
@@ -104,7 +61,7 @@ meets_not [] P o h k e = cc
 meets_not (x ∷ xs) P o h k e = by (same_object o x) refl h (λ j. meets_not xs P o j k (none_left (P x) (some_object xs P) e).1)
   where
     by : (b : Bool) → same_object o x ≡ b → (if b then true else has_object o xs) ≡ true → (has_object o xs ≡ true → ⊥) → ⊥
-    by true z j rest = both_ways (P x) (none_left (P x) (some_object xs P) e).0 (subst (λ (y : Object). P y ≡ true) (same_true o x z) k)
+    by true z j rest = both_ways (P x) (none_left (P x) (some_object xs P) e).0 (subst (λ (y : Object). P y ≡ true) (same_is o x z) k)
     by false z j rest = rest j
 
 -- the target of a send, no live starter of another transaction, is one of the targets
@@ -113,7 +70,7 @@ unfolding targets
 in_targets t p [] m i e = absurd i
 in_targets t p (n ∷ ms) m (inl i) e =
     subst (λ (x : Sending). has_object (Proc m.target) (if is_other_starter t p x.target then targets t p ms else Proc x.target ∷ targets t p ms) ≡ true) i
-    (rw e (same_self m.target (targets t p ms)))
+    (rw e (has_head (Proc m.target) (targets t p ms)))
 in_targets t p (n ∷ ms) m (inr i) e = by (is_other_starter t p n.target) (in_targets t p ms m i e)
   where
     by : (b : Bool) → has_object (Proc m.target) (targets t p ms) ≡ true → has_object (Proc m.target) (if b then targets t p ms else Proc n.target ∷ targets t p ms) ≡ true
@@ -141,7 +98,7 @@ reserved_cases (Forks c) s F o h = inr h
 reserved_cases (Begins defers) s F o h = by (same_object o (Held s)) refl h
   where
     by : (b : Bool) → same_object o (Held s) ≡ b → (if b then true else has_object o F) ≡ true → (o ≡ Held s) ⊎ (has_object o F ≡ true)
-    by true e k = inl (same_true o (Held s) e)
+    by true e k = inl (same_is o (Held s) e)
     by false e k = inr k
 
 pub not_reserved : (part : Progress) (s : ℕ) (F : List Object) (o : Object) → has_object o (objects_reserved part s F) ≡ false → has_object o F ≡ false

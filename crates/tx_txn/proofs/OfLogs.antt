@@ -7,6 +7,7 @@ use Rattle.tx_change.specs.declared.change.Change.{Change}
 use Rattle.tx_change.specs.declared.change.Change.TheVariants.{Slot}
 use Rattle.tx_change.specs.declared.parts.Parts.{Parts}
 use Rattle.tx_kernel.specs.Plans.{AreAmong}
+use Rattle.tx_model.specs.ObjectFacts.{same_is}
 use Rattle.tx_model.specs.State.{State, Sending, Object, Proc, Desc, Pipe, Held, same_object, has_object}
 use Rattle.tx_model.specs.StateLaws.{state_ext, EqualAt}
 use Rattle.tx_proc.specs.Parts.{process_in}
@@ -16,7 +17,6 @@ use Rattle.tx_txn.specs.Content.{Txn, overlay, overlay_if, with_kept, led_by, is
 use Rattle.tx_txn.specs.Laws.{LogLaws}
 use Rattle.tx_txn.specs.Logs.{newest_first, with_pending_in, with_pending_at, pending_or}
 use Rattle.tx_txn.specs.Steps.{AgreeBut, LeadsBack}
-use Rattle.tx_txn.proofs.Facts.{same_true}
 
 -- a change of the two lists together is of one of them
 pub named_append : (o : Object) (new log : List Change) → is_named o (new ++ log) ≡ true → (is_named o new ≡ true) ⊎ (is_named o log ≡ true)
@@ -31,7 +31,7 @@ named_append o (x ∷ new) log h = by (same_object o (object_of x)) h (named_app
 
 named_one : (o : Object) (change : Change) → is_named o (change ∷ []) ≡ true → o ≡ object_of change
 unfolding is_named
-named_one o change h = same_true o (object_of change) (by (same_object o (object_of change)) h)
+named_one o change h = same_is o (object_of change) (by (same_object o (object_of change)) h)
   where
     by : (b : Bool) → (if b then true else false) ≡ true → b ≡ true
     by true k = refl

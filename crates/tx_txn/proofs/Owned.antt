@@ -9,6 +9,7 @@ use Rattle.tx_model.specs.Effects.{send_answers}
 use Rattle.tx_model.specs.Events.{Event, actor, effect, objects, after}
 use Rattle.tx_model.specs.History.{is_other_starter, targets, event_footprint, objects_reserved}
 use Rattle.tx_model.specs.Membership.{Table, Progress, is_member_of, is_live}
+use Rattle.tx_model.specs.ObjectFacts.{same_is, has_left, has_right}
 use Rattle.tx_model.specs.Posts.{after_posts}
 use Rattle.tx_model.specs.State.{Process, State, Object, Proc, Desc, Pipe, Held, same_object, has_object}
 use Rattle.tx_model.specs.StateLaws.{EqualAt}
@@ -18,7 +19,7 @@ use Rattle.tx_txn.specs.Content.{Txn, LogKernel, overlay, with_kept, led_by, kep
 use Rattle.tx_txn.specs.Faces.{Face, face_of, running, pending_in, pending_by}
 use Rattle.tx_txn.specs.Laws.{RoleLaws}
 use Rattle.tx_txn.specs.Steps.{posted, AgreeBut}
-use Rattle.tx_txn.proofs.Facts.{part_trans, none_left, same_true, has_left, has_right, meets_not, in_targets, all_targets, not_reserved, reserved_cases, owner_true, owner_self}
+use Rattle.tx_txn.proofs.Facts.{part_trans, none_left, meets_not, in_targets, all_targets, not_reserved, reserved_cases, owner_true, owner_self}
 use Rattle.tx_txn.proofs.Overlays.{but_part, but_sym, but_trans, with_kept_but, changed_by_but, with_own, with_kept_else, unnamed}
 use Rattle.tx_txn.proofs.Posted.{GoTo, face_posts, pending_posts, posts_but, posts_held}
 
@@ -74,7 +75,7 @@ module _ (c : LogKernel) (k : IsKept c) where
   else_same s q o own not_own = by (same_object o q) refl
     where
       by : (b : Bool) → same_object o q ≡ b → b ≡ false
-      by true e = absurd (not_own (subst (λ (x : Object). c.owner x ≡ Some s) (sym (same_true o q e)) own))
+      by true e = absurd (not_own (subst (λ (x : Object). c.owner x ≡ Some s) (sym (same_is o q e)) own))
       by false e = refl
 
   else_named : (s : ℕ) (x : Txn) (o : Object) → c.txns s ≡ Some x → (c.owner o ≡ Some s → ⊥) → is_named o x.log ≡ false
@@ -154,7 +155,7 @@ module _ (laws : RoleLaws) where
       goes_to o t h other m i e = by (is_other_starter c.table (actor ev) m.target) refl
         where
           mine : c.owner (Proc m.target) ≡ Some t
-          mine = subst (λ (x : Object). c.owner x ≡ Some t) (same_true o (Proc m.target) e) h
+          mine = subst (λ (x : Object). c.owner x ≡ Some t) (same_is o (Proc m.target) e) h
 
           by : (b : Bool) → is_other_starter c.table (actor ev) m.target ≡ b → m.target ≡ t
           by true x =

@@ -10,6 +10,7 @@ use Rattle.tx_model.specs.Answer.{answer, is_running, IsAccepted}
 use Rattle.tx_model.specs.Events.{Event, Note, process_of, actor, effect, objects}
 use Rattle.tx_model.specs.History.{just, targets, event_footprint, objects_reserved}
 use Rattle.tx_model.specs.Membership.{Progress, Role, Outside, Within, Commits, Aborts, is_live, table_after}
+use Rattle.tx_model.specs.ObjectFacts.{has_left}
 use Rattle.tx_model.specs.State.{Ids, Process, State, Sending, Object, Proc, Held, put_at, has_object}
 use Rattle.tx_model.specs.View.{View, next, role_on, event_on}
 use Rattle.tx_model.specs.Words.{IsClear}
@@ -17,7 +18,7 @@ use Rattle.tx_txn.specs.Content.{Txn, LogKernel, kept_of, two_states_of, is_name
 use Rattle.tx_txn.specs.Faces.{face_of, running}
 use Rattle.tx_txn.specs.Laws.{RoleLaws}
 use Rattle.tx_txn.specs.Steps.{ids_in, posted, logged, next_content, Logs, IsNext}
-use Rattle.tx_txn.proofs.Facts.{pick_true, in_just, has_left, reserved_foot, owner_true, freed_else, of_other, of_unmarked}
+use Rattle.tx_txn.proofs.Facts.{pick_true, in_just, reserved_foot, owner_true, freed_else, of_other, of_unmarked}
 use Rattle.tx_txn.proofs.OfLogs.{named_append}
 use Rattle.tx_txn.proofs.Owned.{live_txn, live_of, txn_of, own_proc, made_face, posted_face, own_reserved}
 use Rattle.tx_txn.proofs.Roles.{outside_kept, commits_kept, aborts_kept, keeps_now, keeps_old, within_kept, next_view}
