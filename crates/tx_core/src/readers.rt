@@ -14,6 +14,7 @@ ghost use Rattle.tx_model.specs.View.{kernel_status, present};
 ghost use Rattle.tx_reserve.specs.Footprints.{HoldsBy, IsSetOf};
 ghost use Rattle.tx_reserve.specs.Objects.{object_of};
 ghost use Rattle.tx_reserve.specs.Reservations.{number_of};
+ghost use Rattle.tx_step.specs.TwoAnswers.{two_answers};
 
 use crate::free::other_owner;
 use crate::laws::laws;
@@ -21,7 +22,7 @@ use crate::machine::{Machine, maker};
 use tx_base::{Mark, Pid, Sending, Slots, Step};
 use tx_change::Parts;
 use tx_reserve::{Object, Objects, footprint};
-use tx_step::{contents_are_whole, kernel_status};
+use tx_step::{TwoAnswers, contents_are_whole, kernel_status, two_answers};
 
 impl Machine {
     /// How many process numbers there are: 64, or 256 of a wide machine.
@@ -104,6 +105,18 @@ impl Machine {
         contents_are_whole();
         let held = self.held_with(maker(step));
         footprint(&self.content.parts, &self.content.marks, held, step)
+    }
+
+    /// The first signal of a step to the starter of another's live transaction that has two answers: it is
+    /// answered otherwise now than it would be if that transaction were aborted first. Each signal is
+    /// answered as if those that the step sends before it had been posted.
+    ///
+    /// Nothing where there is none; of a step that is refused before it is asked who is in its way; and of a
+    /// starter that the step names. It takes no memory.
+    pub fn two_answers(&self, step: &Step, starter: Pid) -> Option<TwoAnswers>
+        ensures { result ≡ two_answers (view_of self.now) step.now starter.0 }
+    {
+        two_answers(&self.content, step, starter)
     }
 
     /// What the transaction holds that the process is a member of; nothing where it is of none.

@@ -2,7 +2,7 @@
 use Rattle.std.proofs.Common.{◌≡◌, ◌≤◌, arith, ℕ, ℤ, Bool, true, false, [], ◌∷◌, length, Option, Some, None, if◌then◌else◌, refl, sym, ap, subst, ◌∙◌, eqb-true}
 use Rattle.tx_base.specs.Slots.{slot_at}
 use Rattle.tx_base.specs.declared.marks.Mark.{Mark}
-use Rattle.tx_step.proofs.MetObjects.{same_is}
+use Rattle.tx_model.specs.ObjectFacts.{same_is}
 use Rattle.tx_step.proofs.Refusals.{between}
 use Rattle.tx_step.specs.InWay.{IsOfMember, starter_in}
 use Rattle.tx_base.specs.SlotFacts.{slot_there}

@@ -1,7 +1,8 @@
 -- Where nobody is in the way of a step, nobody else owns what it names.
-use Rattle.std.proofs.Common.{◌≡◌, ℕ, Bool, true, false, List, [], ◌∷◌, ◌++◌, Option, Some, None, if◌then◌else◌, ◌==◌, refl, sym, ap, ◌∙◌, eq-eqb, eqb-true}
+use Rattle.std.proofs.Common.{◌≡◌, ℕ, Bool, true, false, Option, Some, None, if◌then◌else◌, ◌==◌, refl, sym, ap, ◌∙◌, eq-eqb, eqb-true}
 use Rattle.tx_base.specs.Slots.{slot_at}
 use Rattle.tx_base.specs.declared.marks.Mark.{Mark}
+use Rattle.tx_model.specs.ObjectFacts.{has_left}
 use Rattle.tx_step.specs.Contents.{IsContent}
 use Rattle.tx_laws.specs.Footprints.{is_shared}
 use Rattle.tx_laws.specs.TwoStates.{is_owner, states_view}
@@ -21,20 +22,10 @@ use Rattle.tx_step.specs.Laws.{StepLaws}
 use Rattle.tx_txn.specs.Content.{two_states_of}
 use Rattle.tx_txn.specs.Marks.{table_at}
 
--- an object of a list is one of the list with more behind it
-pub has_before : (o : Object) (xs ys : List Object) → has_object o xs ≡ true → has_object o (xs ++ ys) ≡ true
-unfolding has_object
-has_before o [] ys h = cc
-has_before o (x ∷ xs) ys h = by (same_object o x) h (has_before o xs ys)
-  where
-    by : (b : Bool) → (if b then true else has_object o xs) ≡ true → (has_object o xs ≡ true → has_object o (xs ++ ys) ≡ true) → (if b then true else has_object o (xs ++ ys)) ≡ true
-    by true h rest = refl
-    by false h rest = rest h
-
 -- what an event reads or writes it names
 pub named_too : (k : Content) (ev : Event) (S : State) (o : Object) → has_object o (objects ev S) ≡ true → has_object o (event_footprint (table_at k.marks) ev S) ≡ true
 unfolding event_footprint
-named_too k ev S o h = has_before o (objects ev S) (targets (table_at k.marks) (actor ev) (effect ev S).sends) h
+named_too k ev S o h = has_left o (objects ev S) (targets (table_at k.marks) (actor ev) (effect ev S).sends) h
 
 -- what is read or written before a commit is so by it too
 pub commits_too : (s : ℕ) (ev : Event) (S : State) (o : Object) → has_object o (objects ev S) ≡ true → has_object o (objects (Commit s ev) S) ≡ true

@@ -6,7 +6,7 @@ use Rattle.tx_base.specs.declared.marks.Mark.{Mark}
 use Rattle.tx_base.specs.declared.names.Pid.{Pid}
 use Rattle.tx_step.proofs.Leasts.{IsLeastThat, among, either, least_found, least_same, lesser_least, targets_least}
 use Rattle.tx_step.proofs.MetObjects.{held_named, meets_some, some_meets}
-use Rattle.tx_step.proofs.TwoFaces.{differ_target}
+use Rattle.tx_step.proofs.TwoFaces.{difference_target, difference_told}
 use Rattle.tx_step.specs.Faces.{is_target, starter_differs}
 use Rattle.tx_step.specs.InWay.{IsOfMember, gives_two_answers, two_answers_in, least_target, starter_in}
 use Rattle.tx_laws.specs.Footprints.{is_shared}
@@ -209,8 +209,9 @@ module _ (k : Content) (kept : IsKept (content_of k)) (own : Option ℕ) (footpr
           ap (λ (b : Bool). if b then false else (if some_object named (owned_by s) then true else starter_differs_in (content_of k) event s (txn_of boxed))) member
           ∙ chosen (is_owner s own) (some_object named (owned_by s)) (starter_differs_in (content_of k) event s (txn_of boxed))
           (starter_differs s ms (process_in (slot_at k.parts.procs s)) boxed.txn.value.kept) (is_target s ms)
-          (ap (λ (all : List Sending). starter_differs s all (process_in (slot_at k.parts.procs s)) boxed.txn.value.kept) sends)
-          (differ_target s ms _ _ _ _)
+          (sym (difference_told s (effect event (now_of k)).sends _ _ _ _)
+          ∙ ap (λ (all : List Sending). starter_differs s all (process_in (slot_at k.parts.procs s)) boxed.txn.value.kept) sends)
+          (difference_target s ms _ _ _ _)
 
   -- it has a number of the table
   way_within : (s : ℕ) → stands_in_way (content_of k) event s ((content_of k).txns s) ≡ true → s ≤ length k.marks

@@ -5,6 +5,7 @@ pub mod TwoFaces
 pub mod Leasts
 pub mod MetObjects
 pub mod InWay
+pub mod KeptStarters
 pub mod RolesTold
 pub mod StepEvents
 pub mod StepSends
@@ -18,6 +19,7 @@ pub mod LateTold
 pub mod NamedObjects
 pub mod Taken
 pub mod RefusedSteps
+pub mod StepAnswers
 pub mod Alone
 pub mod Aborted
 pub mod Told

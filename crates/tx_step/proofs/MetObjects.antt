@@ -1,10 +1,11 @@
 -- Lists of objects that meet a test, and what an event names of what transactions hold.
-use Rattle.std.proofs.Common.{◌≡◌, ℕ, Bool, true, false, List, [], ◌∷◌, ◌++◌, if◌then◌else◌, ◌⊎◌, refl, sym, ap, ◌∙◌, inl, inr, eq-eqb, eqb-true}
+use Rattle.std.proofs.Common.{◌≡◌, ℕ, Bool, true, false, List, [], ◌∷◌, if◌then◌else◌, refl, sym, ap, ◌∙◌, inl, inr}
 use Rattle.std.proofs.lemmas.Bool.{both_ways}
 use Rattle.tx_model.specs.Events.{Event, actor, effect, objects}
 use Rattle.tx_model.specs.History.{event_footprint, is_other_starter, targets}
 use Rattle.tx_model.specs.Membership.{Table}
-use Rattle.tx_model.specs.State.{Object, Proc, Desc, Pipe, Held, Sending, State, has_object, same_object}
+use Rattle.tx_model.specs.ObjectFacts.{same_is, has_head, has_tail, has_either}
+use Rattle.tx_model.specs.State.{Object, Proc, Held, Sending, State, has_object, same_object}
 use Rattle.tx_model.specs.View.{some_object}
 
 -- an object of the list passes the test
@@ -13,42 +14,6 @@ pub record Meets (os : List Object) (P : Object → Bool) : Type 0 where
   pub named : has_object at os ≡ true
   pub passes : P at ≡ true
 
-pub same_self : (o : Object) → same_object o o ≡ true
-same_self (Proc n) = eq-eqb n n refl
-same_self (Desc n) = eq-eqb n n refl
-same_self (Pipe n) = eq-eqb n n refl
-same_self (Held n) = eq-eqb n n refl
-
-pub same_is : (o x : Object) → same_object o x ≡ true → o ≡ x
-same_is (Proc n) (Proc m) h = ap Proc (eqb-true n m h)
-same_is (Proc n) (Desc m) h = cc
-same_is (Proc n) (Pipe m) h = cc
-same_is (Proc n) (Held m) h = cc
-same_is (Desc n) (Proc m) h = cc
-same_is (Desc n) (Desc m) h = ap Desc (eqb-true n m h)
-same_is (Desc n) (Pipe m) h = cc
-same_is (Desc n) (Held m) h = cc
-same_is (Pipe n) (Proc m) h = cc
-same_is (Pipe n) (Desc m) h = cc
-same_is (Pipe n) (Pipe m) h = ap Pipe (eqb-true n m h)
-same_is (Pipe n) (Held m) h = cc
-same_is (Held n) (Proc m) h = cc
-same_is (Held n) (Desc m) h = cc
-same_is (Held n) (Pipe m) h = cc
-same_is (Held n) (Held m) h = ap Held (eqb-true n m h)
-
-has_more : (o x : Object) (os : List Object) → has_object o os ≡ true → has_object o (x ∷ os) ≡ true
-unfolding has_object
-has_more o x os h = by (same_object o x)
-  where
-    by : (b : Bool) → (if b then true else has_object o os) ≡ true
-    by true = refl
-    by false = h
-
-has_first : (o : Object) (os : List Object) → has_object o (o ∷ os) ≡ true
-unfolding has_object
-has_first o os = rw (same_self o) refl
-
 -- a list that meets a test has an object that passes it
 pub meets_some : (os : List Object) (P : Object → Bool) → some_object os P ≡ true → Meets os P
 unfolding some_object
@@ -56,8 +21,8 @@ meets_some [] P h = cc
 meets_some (x ∷ xs) P h = by (P x) refl h (meets_some xs P)
   where
     by : (b : Bool) → P x ≡ b → (if b then true else some_object xs P) ≡ true → (some_object xs P ≡ true → Meets xs P) → Meets (x ∷ xs) P
-    by true e k rest = record { at = x; named = has_first x xs; passes = e }
-    by false e k rest = let m = rest k in record { at = m.at; named = has_more m.at x xs m.named; passes = m.passes }
+    by true e k rest = record { at = x; named = has_head x xs; passes = e }
+    by false e k rest = let m = rest k in record { at = m.at; named = has_tail m.at x xs m.named; passes = m.passes }
 
 pub some_meets : (os : List Object) (P : Object → Bool) (o : Object) → has_object o os ≡ true → P o ≡ true → some_object os P ≡ true
 unfolding has_object some_object
@@ -81,16 +46,6 @@ targets_lack t p s (m ∷ ms) = by (is_other_starter t p m.target) (targets_lack
     by : (b : Bool) → has_object (Held s) (targets t p ms) ≡ false → has_object (Held s) (if b then targets t p ms else Proc m.target ∷ targets t p ms) ≡ false
     by true h = h
     by false h = h
-
-has_either : (o : Object) (xs ys : List Object) → has_object o (xs ++ ys) ≡ true → (has_object o xs ≡ true) ⊎ (has_object o ys ≡ true)
-unfolding has_object
-has_either o [] ys h = inr h
-has_either o (x ∷ xs) ys h = by (same_object o x) h (has_either o xs ys)
-  where
-    by : (b : Bool) → (if b then true else has_object o (xs ++ ys)) ≡ true → (has_object o (xs ++ ys) ≡ true → (has_object o xs ≡ true) ⊎ (has_object o ys ≡ true))
-        → ((if b then true else has_object o xs) ≡ true) ⊎ (has_object o ys ≡ true)
-    by true k rest = inl refl
-    by false k rest = rest k
 
 -- what an event names of what transactions hold, it reads or writes
 pub held_named : (t : Table) (ev : Event) (S : State) (s : ℕ) → has_object (Held s) (event_footprint t ev S) ≡ true → has_object (Held s) (objects ev S) ≡ true

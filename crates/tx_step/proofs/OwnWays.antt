@@ -6,8 +6,8 @@ use Rattle.tx_base.specs.declared.marks.Mark.{Mark}
 use Rattle.tx_base.specs.declared.names.Pid.{Pid}
 use Rattle.tx_base.specs.declared.steps.Call.{Call}
 use Rattle.tx_base.specs.declared.steps.Step.TheVariants.{Call as Calls}
+use Rattle.tx_model.specs.ObjectFacts.{same_self, same_is}
 use Rattle.tx_step.proofs.InWay.{starter_in_way_is}
-use Rattle.tx_step.proofs.MetObjects.{same_is, same_self}
 use Rattle.tx_step.proofs.StepSends.{call_posts}
 use Rattle.tx_step.specs.InWay.{IsOfMember}
 use Rattle.tx_step.specs.Roles.{role_as}

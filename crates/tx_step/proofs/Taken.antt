@@ -9,6 +9,7 @@ use Rattle.tx_base.specs.declared.steps.Reply.TheVariants.{Done, Ended, Committe
 use Rattle.tx_base.specs.declared.steps.Step.{Step}
 use Rattle.tx_change.specs.declared.change.Change.{Change}
 use Rattle.std.specs.Option.{option_or}
+use Rattle.tx_model.specs.ObjectFacts.{has_left, has_either}
 use Rattle.tx_step.specs.Contents.{IsContent}
 use Rattle.tx_step.specs.declared.roles.StepRole.{StepRole}
 use Rattle.tx_kernel.specs.Plans.{AreAmong}
@@ -34,7 +35,7 @@ use Rattle.tx_model.specs.State.{Object, State, has_object}
 use Rattle.tx_model.specs.View.{View, event_on, next, present, role_on}
 use Rattle.tx_proc.specs.Parts.{process_in}
 use Rattle.tx_proc.specs.declared.proc.Proc.{Proc}
-use Rattle.tx_step.proofs.NamedObjects.{has_either, has_left, named_among, named_shared}
+use Rattle.tx_step.proofs.NamedObjects.{named_among, named_shared}
 use Rattle.tx_step.specs.Requests.{step_of}
 use Rattle.tx_step.specs.Laws.{StepLaws}
 use Rattle.tx_step.specs.Steps.{FitsReply, IsNamedBy, InFootprint, GetsSend, WasTouched, IsStep}

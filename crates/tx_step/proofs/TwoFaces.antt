@@ -1,17 +1,18 @@
 -- How sends to a live starter are answered, by its faces.
 use Rattle.std.proofs.Common.{◌≡◌, ℕ, ◌+◌, ◌<◌, ◌≤◌, Bool, true, false, not, ◌&&◌, List, [], ◌∷◌, length, replicate, Option, Some, None, is_some, if◌then◌else◌, nat_lt, refl, sym, ap, ◌∙◌, Result, ℤ, pos, zero, suc, map, drop, drop-cons, get_or, ◌++◌, ◌==◌, option_map, arith}
 use Rattle.std.proofs.lemmas.Bool.{false≢true}
-use Rattle.std.proofs.lemmas.Bool.Decides.{Decides-eqb, Decides-int_eq, same_from_decides}
+use Rattle.std.proofs.lemmas.Bool.Decides.{Decides-int_eq}
 use Rattle.std.proofs.lemmas.List.{length-replicate}
 use Rattle.tx_base.specs.declared.errors.Errno.{Errno}
 use Rattle.tx_base.specs.declared.limits.TheConstants.{QUEUED}
 use Rattle.tx_cred.specs.Cred.{ids_of}
 use Rattle.std.specs.Ordering.{int_eq}
 use Rattle.tx_base.specs.declared.names.Sending.{Sending as TheSending}
-use Rattle.tx_step.specs.Faces.{differ, face_as, is_target, posted_to, queued_at, starter_differs}
+use Rattle.tx_step.specs.Faces.{difference, face_as, faces_difference, is_target, posted_to, queued_at, starter_difference}
+use Rattle.tx_step.specs.TwoAnswers.{answered_twice}
+use Rattle.tx_step.specs.declared.differing.TwoAnswers.{TwoAnswers}
 use Rattle.tx_step.specs.declared.faces.Faces.{Faces}
 use Rattle.tx_kernel.specs.Plans.{sending_of}
-use Rattle.tx_model.specs.Numbers.{negative}
 use Rattle.tx_kernel.specs.Posts.{HasFace}
 use Rattle.tx_kernel.specs.declared.posts.Face.{Face}
 use Rattle.tx_model.specs.Posts.{may_signal, is_quiet, post_answer}
@@ -78,50 +79,45 @@ pub face_after : (m : Sending) (face : Face) (b r l : Bool) → reaches_at m fac
 face_after m face b r l hb hr hl =
     ap (λ (n : ℕ). record face { queued = n }) (sym (queued_told m face ∙ (λ j. if hb j then (if hr j then (if hl j then face.queued + 1 else face.queued) else face.queued) else face.queued)))
 
-negative_apart : (a b : ℕ) → negative a ≡ negative b → a ≡ b
-negative_apart zero zero e = refl
-negative_apart zero (suc b) e = cc
-negative_apart (suc a) zero e = cc
-negative_apart (suc a) (suc b) e = let same : a ≡ b = cc in ap suc same
-
-same_negative : (a b : ℕ) → int_eq (negative a) (negative b) ≡ (a == b)
-same_negative a b =
-    let same = Decides-int_eq (negative a) (negative b) in
-    same_from_decides (int_eq (negative a) (negative b)) (a == b) (λ e. negative_apart a b (same.0 e), λ e. same.1 (ap negative e)) (Decides-eqb a b)
-
--- answers are the same where their numbers are
-numbers_told : (a b : ℕ) (x y : ℤ) → negative a ≡ x → negative b ≡ y → int_eq x y ≡ not (not (a == b))
-numbers_told a b x y hx hy = (λ j. int_eq (sym hx j) (sym hy j)) ∙ same_negative a b ∙ sym (twice (a == b))
-  where
-    twice : (t : Bool) → not (not t) ≡ t
-    twice true = refl
-    twice false = refl
-
 -- both faces after a post
 abbrev pub posted_both : Sending → Faces → Faces
 posted_both m faces = record { present = option_map (posted_to m) faces.present; kept = posted_to m faces.kept }
 
 -- a send to another
-pub post_elsewhere : (s : ℕ) (m : Sending) (ms : List Sending) (faces : Faces) → (m.target == s) ≡ false → differ s (m ∷ ms) faces ≡ differ s ms faces
-unfolding faces_differ
+pub post_elsewhere : (s : ℕ) (m : Sending) (ms : List Sending) (faces : Faces) → (m.target == s) ≡ false → difference s (m ∷ ms) faces ≡ difference s ms faces
+unfolding faces_difference
 post_elsewhere s m ms faces h = rw h refl
 
--- a send to it, whose answers have these numbers
-pub post_here : (s : ℕ) (m : Sending) (ms : List Sending) (faces : Faces) (a b : ℕ) → (m.target == s) ≡ true →
-    negative a ≡ answer_at m (option_map face_as faces.present) (queued_at faces.present) → negative b ≡ answer_at m (Some (face_as faces.kept)) faces.kept.queued →
-    differ s (m ∷ ms) faces ≡ (if not (a == b) then true else differ s ms (posted_both m faces))
-unfolding faces_differ
-post_here s m ms faces a b here now kept = rw here (by faces.present (not (a == b)) (numbers_told a b _ _ now kept))
+-- a send to it, which has these answers
+post_here : (s : ℕ) (m : Sending) (ms : List Sending) (faces : Faces) (x y : ℤ) → (m.target == s) ≡ true →
+    x ≡ answer_at m (option_map face_as faces.present) (queued_at faces.present) → y ≡ answer_at m (Some (face_as faces.kept)) faces.kept.queued →
+    difference s (m ∷ ms) faces ≡ (if int_eq x y then difference s ms (posted_both m faces) else Some (answered_twice m x y))
+unfolding faces_difference
+post_here s m ms faces x y here now kept = rw here (λ j. if int_eq (sym now j) (sym kept j) then posted faces.present j else Some (answered_twice m (sym now j) (sym kept j)))
   where
-    by : (present : Option Face) (d : Bool) → int_eq (answer_at m (option_map face_as present) (queued_at present)) (answer_at m (Some (face_as faces.kept)) faces.kept.queued) ≡ not d →
-        (if int_eq (answer_at m (option_map face_as present) (queued_at present)) (answer_at m (Some (face_as faces.kept)) faces.kept.queued)
-        then faces_differ s ms (option_map face_as present) (queued_after m (option_map face_as present) (queued_at present)) (Some (face_as faces.kept)) (queued_after m (Some (face_as faces.kept)) faces.kept.queued)
-        else true)
-        ≡ (if d then true else differ s ms (posted_both m (record faces { present = present })))
-    by None true h = rw h refl
-    by None false h = rw h refl
-    by (Some face) true h = rw h refl
-    by (Some face) false h = rw h refl
+    posted : (present : Option Face) →
+        faces_difference s ms (option_map face_as present) (queued_after m (option_map face_as present) (queued_at present)) (Some (face_as faces.kept)) (queued_after m (Some (face_as faces.kept)) faces.kept.queued)
+        ≡ difference s ms (posted_both m (record faces { present = present }))
+    posted None = refl
+    posted (Some face) = refl
+
+-- one whose answers are the same, and one whose are not
+pub post_same : (s : ℕ) (m : Sending) (ms : List Sending) (faces : Faces) (x y : ℤ) → (m.target == s) ≡ true →
+    x ≡ answer_at m (option_map face_as faces.present) (queued_at faces.present) → y ≡ answer_at m (Some (face_as faces.kept)) faces.kept.queued →
+    x ≡ y → difference s (m ∷ ms) faces ≡ difference s ms (posted_both m faces)
+post_same s m ms faces x y here now kept same =
+    post_here s m ms faces x y here now kept
+    ∙ ap (λ (b : Bool). if b then difference s ms (posted_both m faces) else Some (answered_twice m x y)) ((Decides-int_eq x y).1 same)
+
+pub post_otherwise : (s : ℕ) (m : Sending) (ms : List Sending) (faces : Faces) (x y : ℤ) → (m.target == s) ≡ true →
+    x ≡ answer_at m (option_map face_as faces.present) (queued_at faces.present) → y ≡ answer_at m (Some (face_as faces.kept)) faces.kept.queued →
+    (x ≡ y → ⊥) → difference s (m ∷ ms) faces ≡ Some (answered_twice m x y)
+post_otherwise s m ms faces x y here now kept other =
+    post_here s m ms faces x y here now kept ∙ by (int_eq x y) (λ e. other ((Decides-int_eq x y).0 e))
+  where
+    by : (b : Bool) → (b ≡ true → ⊥) → (if b then difference s ms (posted_both m faces) else Some (answered_twice m x y)) ≡ Some (answered_twice m x y)
+    by true never = absurd (never refl)
+    by false never = refl
 
 pub sends_end : (ms : List TheSending) (i : ℕ) → length ms ≤ i → map sending_of (drop i ms) ≡ []
 sends_end [] zero few = refl
@@ -130,36 +126,50 @@ sends_end (m ∷ ms) zero few = let never : ⊥ = omega (arith, few) in absurd n
 sends_end (m ∷ ms) (suc i) few = sends_end ms i (omega (arith, few))
 
 -- a list from one of its sends on is that send, and the list from the next on
-pub differ_next : (s : ℕ) (ms : List TheSending) (i : ℕ) (d : TheSending) (rest : List Sending) (faces : Faces) → i < length ms →
-    differ s (sending_of (get_or ms i d) ∷ (map sending_of (drop (i + 1) ms) ++ rest)) faces ≡ differ s (map sending_of (drop i ms) ++ rest) faces
-differ_next s ms i d rest faces few =
+pub difference_next : (s : ℕ) (ms : List TheSending) (i : ℕ) (d : TheSending) (rest : List Sending) (faces : Faces) → i < length ms →
+    difference s (sending_of (get_or ms i d) ∷ (map sending_of (drop (i + 1) ms) ++ rest)) faces ≡ difference s (map sending_of (drop i ms) ++ rest) faces
+difference_next s ms i d rest faces few =
     let next : suc i ≡ i + 1 = omega arith in
-    sym (ap (λ (xs : List TheSending). differ s (map sending_of xs ++ rest) faces) (drop-cons ms i d few)
-    ∙ ap (λ (k : ℕ). differ s (sending_of (get_or ms i d) ∷ (map sending_of (drop k ms) ++ rest)) faces) next)
+    sym (ap (λ (xs : List TheSending). difference s (map sending_of xs ++ rest) faces) (drop-cons ms i d few)
+    ∙ ap (λ (k : ℕ). difference s (sending_of (get_or ms i d) ∷ (map sending_of (drop k ms) ++ rest)) faces) next)
 
-pub none_differ : (s : ℕ) (faces : Faces) → differ s [] faces ≡ false
-unfolding faces_differ
-none_differ s faces = refl
+pub none_is : {A : Type 0} (x : Option A) → is_some x ≡ false → x ≡ None
+none_is None h = refl
+none_is (Some item) h = cc
+
+pub none_otherwise : (s : ℕ) (faces : Faces) → difference s [] faces ≡ None
+unfolding faces_difference
+none_otherwise s faces = refl
 
 -- what is kept of a starter has the face with which it would run
 kept_same : (face : Face) (kept : Kept) → ((me : Process) → HasFace face (kept_as kept me)) → face_as face ≡ running (ids_of kept.ids)
 kept_same face kept f = sym (face_same face (kept_as kept (booted_process 1)) (f (booted_process 1)))
 
--- the faces of a starter tell whether sends to it are answered otherwise
+-- the faces of a starter tell which send to it is answered otherwise
 pub faces_told : (s : ℕ) (faces : Faces) (x : Option Process) (kept : Kept) → option_map face_as faces.present ≡ face_of x → queued_at faces.present ≡ length (pending_in x).queued →
-    ((me : Process) → HasFace faces.kept (kept_as kept me)) → (ms : List Sending) → differ s ms faces ≡ starter_differs s ms x kept
+    ((me : Process) → HasFace faces.kept (kept_as kept me)) → (ms : List Sending) → difference s ms faces ≡ starter_difference s ms x kept
 faces_told s faces x kept face queued f ms =
-    λ j. faces_differ s ms (face j) (queued j) (Some (kept_same faces.kept kept f j)) ((f (booted_process 1)).queued j)
+    λ j. faces_difference s ms (face j) (queued j) (Some (kept_same faces.kept kept f j)) ((f (booted_process 1)).queued j)
 
--- sends that are answered otherwise have one to that process
-pub differ_target : (s : ℕ) (ms : List Sending) (one other : Option TheFace) (first second : ℕ) → faces_differ s ms one first other second ≡ true → is_target s ms ≡ true
-unfolding faces_differ is_target
-differ_target s [] one other first second h = absurd (false≢true h)
-differ_target s (m ∷ ms) one other first second h = by (m.target == s) h (differ_target s ms one other first second)
+-- whether one is
+pub difference_told : (s : ℕ) (ms : List Sending) (one other : Option TheFace) (first second : ℕ) → is_some (faces_difference s ms one first other second) ≡ faces_differ s ms one first other second
+unfolding faces_differ faces_difference
+difference_told s [] one other first second = refl
+difference_told s (m ∷ ms) one other first second =
+    by (m.target == s) (int_eq (answer_at m one first) (answer_at m other second)) _ _ _ _ (difference_told s ms one other (queued_after m one first) (queued_after m other second)) (difference_told s ms one other first second)
   where
-    by : (b : Bool) → (if b
-        then (if int_eq (answer_at m one first) (answer_at m other second) then faces_differ s ms one (queued_after m one first) other (queued_after m other second) else true)
-        else faces_differ s ms one first other second) ≡ true →
-        (faces_differ s ms one first other second ≡ true → is_target s ms ≡ true) → (if b then true else is_target s ms) ≡ true
-    by true k rest = refl
-    by false k rest = rest k
+    by : (b same : Bool) (x y : Option TwoAnswers) (p q : Bool) → is_some x ≡ p → is_some y ≡ q →
+        is_some (if b then (if same then x else Some (answered_twice m (answer_at m one first) (answer_at m other second))) else y) ≡ (if b then (if same then p else true) else q)
+    by true true x y p q h k = h
+    by true false x y p q h k = refl
+    by false same x y p q h k = k
+
+-- sends of which one is answered otherwise have one to that process
+pub difference_target : (s : ℕ) (ms : List Sending) (one other : Option TheFace) (first second : ℕ) → is_some (faces_difference s ms one first other second) ≡ true → is_target s ms ≡ true
+unfolding faces_difference is_target
+difference_target s [] one other first second h = absurd (false≢true h)
+difference_target s (m ∷ ms) one other first second h = by (m.target == s) _ _ h (difference_target s ms one other first second)
+  where
+    by : (b : Bool) (x y : Option TwoAnswers) → is_some (if b then x else y) ≡ true → (is_some y ≡ true → is_target s ms ≡ true) → (if b then true else is_target s ms) ≡ true
+    by true x y k rest = refl
+    by false x y k rest = rest k

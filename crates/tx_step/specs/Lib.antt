@@ -10,3 +10,4 @@ pub mod Requests
 pub mod Laws
 pub mod Steps
 pub mod Through
+pub mod TwoAnswers

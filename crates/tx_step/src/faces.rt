@@ -1,14 +1,15 @@
 //! How sends to the starter of a live transaction are answered, now and after its abort.
-ghost use Rattle.std.specs.Prelude.{◌≡◌, ◌∷◌, ◌++◌, List, Some, true, if◌then◌else◌, length, map, option_map};
+ghost use Rattle.std.specs.Option.{option_or};
+ghost use Rattle.std.specs.Prelude.{◌≡◌, ◌∷◌, ◌++◌, List, length, map, option_map};
 ghost use Rattle.tx_base.specs.Slots.{slot_at};
-ghost use Rattle.tx_step.specs.Faces.{differ, face_as, posted_to, queued_at, sent, starter_differs};
+ghost use Rattle.tx_step.specs.Faces.{difference, face_as, posted_to, queued_at, sent, starter_difference};
 ghost use Rattle.tx_kernel.specs.Plans.{sending_of};
-ghost use Rattle.tx_model.specs.Numbers.{negative};
 ghost use Rattle.tx_model.specs.State.{Sending as TheSending};
 ghost use Rattle.tx_proc.specs.Parts.{process_in};
 ghost use Rattle.tx_signal.specs.Parts.{answer_of};
 ghost use Rattle.tx_txn.specs.Faces.{answer_at, face_of, pending_in};
 
+use crate::differing::TwoAnswers;
 use tx_base::{Errno, Pid, QUEUED, Sending};
 use tx_change::Parts;
 use tx_kernel::{Face, Sends};
@@ -28,8 +29,8 @@ impl Faces {
     /// The faces of the process of a number, by what is kept of it.
     pub fn of(parts: &Parts, pid: Pid, kept: &Kept) -> Faces
         ensures { (ms : List TheSending) →
-            differ pid.0 ms result
-            ≡ starter_differs pid.0 ms (process_in (slot_at parts.now.procs pid.0)) kept.now }
+            difference pid.0 ms result
+            ≡ starter_difference pid.0 ms (process_in (slot_at parts.now.procs pid.0)) kept.now }
     {
         Faces {
             present: face_of(parts, pid),
@@ -37,51 +38,68 @@ impl Faces {
         }
     }
 
-    /// Whether one of these sends to the process is answered otherwise now than after an abort, where
+    /// The first of these sends to the process that is answered otherwise now than after an abort, where
     /// each is posted in turn: what is sent at once first, then what is held, and last what is handed out.
-    pub fn differ(self, pid: Pid, first: &Sends, held: &[Sending]) -> bool
-        ensures { result ≡ differ pid.0 (sent first.now held.now) self }
+    pub fn difference(self, pid: Pid, first: &Sends, held: &[Sending]) -> Option<TwoAnswers>
+        ensures { result ≡ difference pid.0 (sent first.now held.now) self }
     {
         let mut faces = self;
         match first {
             Sends::Nothing => faces.post_all(pid, held),
-            Sends::AtOnce(sending) => faces.post(pid, sending) || faces.post_all(pid, held),
-            Sends::AtCommit(sending) => faces.post_all(pid, held) || faces.post(pid, sending),
+            Sends::AtOnce(sending) => match faces.post(pid, sending) {
+                Some(answers) => Some(answers),
+                None => faces.post_all(pid, held),
+            },
+            Sends::AtCommit(sending) => match faces.post_all(pid, held) {
+                Some(answers) => Some(answers),
+                None => faces.post(pid, sending),
+            },
         }
     }
 
-    /// Posts these that are held to both. Whether one is answered otherwise at the one than at the other.
-    fn post_all(&mut self, pid: Pid, held: &[Sending]) -> bool
+    /// Posts these that are held to both. The first that is answered otherwise at the one than at the
+    /// other, behind which none is posted.
+    fn post_all(&mut self, pid: Pid, held: &[Sending]) -> Option<TwoAnswers>
         ensures { (ms : List TheSending) →
-            differ pid.0 (map sending_of held.now ++ ms) self.old
-            ≡ (if result then true else differ pid.0 ms self.new) }
+            difference pid.0 (map sending_of held.now ++ ms) self.old
+            ≡ option_or result (difference pid.0 ms self.new) }
     {
         for place in 0..held.len() {
             // Most are for others, and worth no call.
-            if held[place].target == pid && self.post(pid, &held[place]) {
-                return true;
+            if held[place].target == pid {
+                let answers = self.post(pid, &held[place]);
+                if answers.is_some() {
+                    return answers;
+                }
             }
         }
-        false
+        None
     }
 
-    /// Posts a signal to both, if it is for the process. Whether it is answered otherwise at the one
-    /// than at the other.
-    fn post(&mut self, pid: Pid, sending: &Sending) -> bool
+    /// Posts a signal to both, if it is for the process. Its answers, where it is answered otherwise at
+    /// the one than at the other.
+    fn post(&mut self, pid: Pid, sending: &Sending) -> Option<TwoAnswers>
         ensures { (ms : List TheSending) →
-            differ pid.0 (sending_of sending.now ∷ ms) self.old
-            ≡ (if result then true else differ pid.0 ms self.new) }
+            difference pid.0 (sending_of sending.now ∷ ms) self.old
+            ≡ option_or result (difference pid.0 ms self.new) }
     {
         if sending.target != pid {
-            return false;
+            return None;
         }
         let present = number(answer(self.present, sending));
-        let kept = number(self.kept.answer(sending));
+        let after_abort = number(self.kept.answer(sending));
         *self = Faces {
             present: after_if(self.present, sending),
             kept: after(self.kept, sending),
         };
-        present != kept
+        if present == after_abort {
+            return None;
+        }
+        Some(TwoAnswers {
+            signo: sending.signo,
+            present,
+            after_abort,
+        })
     }
 }
 
@@ -109,13 +127,13 @@ fn answer(face: Option<Face>, sending: &Sending) -> Result<(), Errno>
     }
 }
 
-/// The number of the error that a post is answered with, and 0 where there is none.
-fn number(answer: Result<(), Errno>) -> u8
-    ensures { negative result ≡ answer_of answer }
+/// The answer that the result of a post is.
+fn number(posted: Result<(), Errno>) -> i64
+    ensures { result ≡ answer_of posted }
 {
-    match answer {
+    match posted {
         Ok(()) => 0,
-        Err(errno) => errno.number(),
+        Err(errno) => -(errno.number() as i64),
     }
 }
 

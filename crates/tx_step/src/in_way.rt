@@ -92,7 +92,7 @@ fn target(
     }
     let boxed = content.txns.get(pid)?;
     let faces = Faces::of(&content.parts, pid, &boxed.txn.kept);
-    if faces.differ(pid, first, held) {
+    if faces.difference(pid, first, held).is_some() {
         Some(pid)
     } else {
         None

@@ -47,6 +47,7 @@
 mod aborts;
 mod answered;
 mod begins;
+mod differing;
 mod early;
 mod ends;
 mod faces;
@@ -65,6 +66,7 @@ mod ways;
 
 pub use aborts::{kernel_status, take_kernel_abort};
 pub use answered::Answered;
+pub use differing::{TwoAnswers, two_answers};
 pub use refusal_laws::{booted_is_content, contents_are_whole, posts_are_told};
 pub use replies::put_reply;
 pub use roles::{StepRole, role_of_call, role_of_delivery};

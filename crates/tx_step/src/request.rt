@@ -8,9 +8,10 @@ ghost use Rattle.tx_step.specs.Contents.{IsContent, IsIdle};
 ghost use Rattle.tx_step.specs.Early.{early_refusal};
 ghost use Rattle.tx_step.specs.Roles.{role_alone, role_as};
 ghost use Rattle.tx_kernel.specs.Acts.{event_of};
-ghost use Rattle.tx_live.specs.Content.{view_of};
+ghost use Rattle.tx_live.specs.Content.{now_of, view_of};
 ghost use Rattle.tx_live.specs.Insides.{IsFootprint};
 ghost use Rattle.tx_live.specs.Made.{IsRunning};
+ghost use Rattle.tx_model.specs.Events.{effect};
 ghost use Rattle.tx_model.specs.Words.{has_bad_number, kind_of};
 ghost use Rattle.tx_model.specs.Membership.{Table, inside_by, kind_event};
 ghost use Rattle.tx_model.specs.State.{Object as TheObject};
@@ -18,13 +19,14 @@ ghost use Rattle.tx_model.specs.View.{event_on, starter_in_way, role_on};
 ghost use Rattle.tx_reserve.specs.Objects.{is_in};
 ghost use Rattle.tx_reserve.specs.Reservations.{number_of};
 ghost use Rattle.tx_step.specs.Requests.{IsActOf, is_own, step_of};
+ghost use Rattle.tx_step.specs.Ways.{posted_with};
 
 use crate::early::{early_refusal_of_call, early_refusal_of_delivery};
-use crate::refusal_laws::{contents_are_whole, laws};
+use crate::refusal_laws::{contents_are_whole, laws, posts_are_told};
 use crate::roles::{StepRole, beginning, role_of_call, role_of_delivery};
-use crate::ways::{way_of_call, way_of_delivery};
+use crate::ways::{actor_of, way_of_call, way_of_delivery};
 use tx_base::{Call, Pid, Refusal, Signo};
-use tx_kernel::Act;
+use tx_kernel::{Act, Sends};
 use tx_laws::endings;
 use tx_live::Content;
 use tx_reserve::Objects;
@@ -88,6 +90,22 @@ impl<'a> Request<'a> {
         match self {
             Request::Call(call) => beginning(call),
             Request::Delivery(_) => None,
+        }
+    }
+
+    /// What it sends first, where it is this to the transactions.
+    pub(crate) fn sends(self, content: &Content, pid: Pid, role: StepRole) -> Sends
+        requires content { IsContent content.now }
+        requires running { IsRunning (slot_at content.now.parts.procs pid.0) }
+        requires role { role_as pid.0 role ≡ role_on (view_of content.now) (step_of pid self) }
+        ensures { (effect (event_on (view_of content.now) (step_of pid self.entry))
+            (now_of content.now)).sends ≡ posted_with content.now role result }
+    {
+        posts_are_told();
+        let actor = actor_of(content, pid);
+        match self {
+            Request::Call(call) => actor.sends_of_call(call),
+            Request::Delivery(signo) => actor.sends_of_delivery(signo),
         }
     }
 

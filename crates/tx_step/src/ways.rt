@@ -186,7 +186,7 @@ fn last_by<'a>(content: &'a Content, role: StepRole) -> Option<&'a [Sending]>
 }
 
 /// What the transaction of a starter holds; nothing where none is live.
-fn held_by<'a>(content: &'a Content, starter: Pid) -> &'a [Sending]
+pub(crate) fn held_by<'a>(content: &'a Content, starter: Pid) -> &'a [Sending]
     ensures { map sending_of result.now ≡ held_of content.now starter.0 }
 {
     match content.txns.get(starter) {
@@ -227,7 +227,7 @@ fn find_in_way(
 }
 
 /// What is sent at once of this.
-fn at_once(first: &Sends) -> Sends
+pub(crate) fn at_once(first: &Sends) -> Sends
     ensures { sent result [] ≡ sent_at_once first.now }
 {
     match first {

@@ -1,0 +1,37 @@
+-- The two answers of the signals of a step: as things are, and after an abort. Own rules.
+use Rattle.std.specs.Prelude.{ℕ, List, [], ◌∷◌, ℤ, Option, Some, None, is_some, if◌then◌else◌, ◌==◌}
+use Rattle.std.specs.Ordering.{int_eq}
+use Rattle.tx_base.specs.declared.steps.Step.{Step}
+use Rattle.tx_model.specs.Effects.{send_answers}
+use Rattle.tx_model.specs.Events.{Event, effect, process_of}
+use Rattle.tx_model.specs.History.{event_footprint, just}
+use Rattle.tx_model.specs.State.{Proc, Sending, has_object}
+use Rattle.tx_model.specs.View.{View, event_on, present}
+use Rattle.tx_step.specs.Early.{early_refusal}
+use Rattle.tx_step.specs.declared.differing.TwoAnswers.{TwoAnswers}
+
+-- a send with its answer as things are, and that after an abort
+abbrev pub answered_twice : Sending → ℤ → ℤ → TwoAnswers
+answered_twice m x y = record { signo = record { 0 = m.signo }; present = x; after_abort = y }
+
+-- the first post to target t that the two lists answer otherwise
+unfoldable pub first_difference : ℕ → List Sending → List ℤ → List ℤ → Option TwoAnswers
+first_difference t [] xs ys = None
+first_difference t (m ∷ ms) [] ys = None
+first_difference t (m ∷ ms) (x ∷ xs) [] = None
+first_difference t (m ∷ ms) (x ∷ xs) (y ∷ ys) =
+    if m.target == t then (if int_eq x y then first_difference t ms xs ys else Some (answered_twice m x y)) else first_difference t ms xs ys
+
+module _ (V : View) where
+  -- the first post of the event to s that is answered otherwise without the transaction of s
+  abbrev pub difference_at : Event → ℕ → Option TwoAnswers
+  difference_at ev s =
+      let f = effect ev (present V) in first_difference s f.sends (send_answers f (present V)) (send_answers f (V.without (just s)))
+
+  -- the same, where s is none of the processes that the event names
+  abbrev pub two_answers_at : Event → ℕ → Option TwoAnswers
+  two_answers_at ev s = if has_object (Proc s) (event_footprint V.table ev (present V)) then None else difference_at ev s
+
+  -- the same of a step; none of one that is refused before it is asked who is in its way
+  abbrev pub two_answers : Step → ℕ → Option TwoAnswers
+  two_answers step s = if is_some (early_refusal V (process_of step) step) then None else two_answers_at (event_on V step) s

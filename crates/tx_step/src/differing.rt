@@ -1,0 +1,120 @@
+//! Signals of a step that are answered otherwise now than after an abort.
+ghost use Rattle.std.specs.Prelude.{◌≡◌, false};
+ghost use Rattle.tx_kernel.specs.Plans.{sent_at_once};
+ghost use Rattle.tx_live.specs.Content.{now_of, view_of};
+ghost use Rattle.tx_model.specs.Events.{Event, effect};
+ghost use Rattle.tx_model.specs.History.{event_footprint};
+ghost use Rattle.tx_model.specs.State.{Proc, has_object};
+ghost use Rattle.tx_step.specs.Contents.{IsContent};
+ghost use Rattle.tx_step.specs.Faces.{sent};
+ghost use Rattle.tx_step.specs.Requests.{step_of};
+ghost use Rattle.tx_step.specs.TwoAnswers.{difference_at, two_answers};
+ghost use Rattle.tx_step.specs.Ways.{posted_with};
+ghost use Rattle.tx_txn.specs.Marks.{table_at};
+
+use crate::faces::Faces;
+use crate::laws::laws;
+use crate::request::Request;
+use crate::roles::StepRole;
+use crate::ways::{at_once, held_by};
+use tx_base::{Pid, Sending, Signo, Step};
+use tx_kernel::Sends;
+use tx_laws::{answers_of_states, locality};
+use tx_live::Content;
+use tx_reserve::{Object, Objects};
+use tx_txn::posts_by_faces;
+
+/// A signal to the starter of a live transaction that is answered otherwise now than after an abort of that
+/// transaction. An answer is 0, or the negative number of an error.
+#[derive(Clone, Copy, PartialEq, Eq)]
+pub struct TwoAnswers {
+    pub signo: Signo,
+    pub present: i64,
+    pub after_abort: i64,
+}
+
+/// The first signal of a step to the starter of another's live transaction that has two answers. Each is
+/// answered as if those before it had been posted: what is sent at once first, then what is held, where the
+/// step commits it, and last what the step hands out to be held.
+///
+/// Nothing where there is none; of a step that is refused before it is asked who is in its way; and of a
+/// starter that the step names, which is in its way anyhow. It takes no memory.
+pub fn two_answers(content: &Content, step: &Step, starter: Pid) -> Option<TwoAnswers>
+    requires { IsContent content.now }
+    ensures { result ≡ two_answers (view_of content.now) step.now starter.0 }
+{
+    match step {
+        Step::Call(pid, call) => answers_of_request(content, *pid, Request::Call(call), starter),
+        Step::Deliver(pid, signo) => {
+            answers_of_request(content, *pid, Request::Delivery(*signo), starter)
+        }
+        Step::KernelAbort(_) => None,
+    }
+}
+
+/// The same of what a step requests of its process.
+fn answers_of_request(
+    content: &Content,
+    pid: Pid,
+    request: Request,
+    starter: Pid,
+) -> Option<TwoAnswers>
+    requires { IsContent content.now }
+    ensures { result ≡ two_answers (view_of content.now) (step_of pid request.entry) starter.0 }
+{
+    laws();
+    if request.early_refusal(content, pid).is_some() {
+        return None;
+    }
+    let role = request.role(content, pid);
+    let mut footprint = Objects::new();
+    let _in_way = request.way(content, pid, role, &mut footprint);
+    if footprint.has(Object::Proc(starter)) {
+        return None;
+    }
+    let first = request.sends(content, pid, role);
+    posted_difference(content, role, &first, starter)
+}
+
+/// The first signal to a starter that has two answers, of those that a step of this role posts which sends
+/// this first. Nothing where the step's event does not name the starter and there is none.
+fn posted_difference(
+    content: &Content,
+    role: StepRole,
+    first: &Sends,
+    starter: Pid,
+) -> Option<TwoAnswers>
+    requires { IsContent content.now }
+    ensures { (event : Event) →
+        (effect event (now_of content.now)).sends ≡ posted_with content.now role first.now →
+        has_object (Proc starter.0)
+        (event_footprint (table_at content.now.marks) event (now_of content.now)) ≡ false →
+        result ≡ difference_at (view_of content.now) event starter.0 }
+{
+    match role {
+        StepRole::Commits(own) => difference_at(content, starter, first, held_by(content, own)),
+        _ => difference_at(content, starter, &at_once(first), &[]),
+    }
+}
+
+/// The first of these sends to a starter that has two answers, where a step's event posts them.
+fn difference_at(
+    content: &Content,
+    starter: Pid,
+    first: &Sends,
+    held: &[Sending],
+) -> Option<TwoAnswers>
+    requires { IsContent content.now }
+    ensures { (event : Event) →
+        (effect event (now_of content.now)).sends ≡ sent first.now held.now →
+        has_object (Proc starter.0)
+        (event_footprint (table_at content.now.marks) event (now_of content.now)) ≡ false →
+        result ≡ difference_at (view_of content.now) event starter.0 }
+{
+    answers_of_states();
+    locality();
+    posts_by_faces();
+    let boxed = content.txns.get(starter)?;
+    let faces = Faces::of(&content.parts, starter, &boxed.txn.kept);
+    faces.difference(starter, first, held)
+}
