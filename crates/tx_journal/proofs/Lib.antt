@@ -25,3 +25,10 @@ pub mod Trial
 pub mod Newest
 pub mod There
 pub mod Reserving
+pub mod OwnNames
+pub mod Unreached
+pub mod SameLines
+pub mod OwnMarks
+pub mod Chosen
+pub mod Covered
+pub mod Reaching

@@ -1,35 +1,21 @@
--- What a session shows after a step or an abort at its position.
-use Rattle.std.proofs.Common.{◌≡◌, ◌⊎◌, inl, inr, ℕ, List, ◌∷◌, reverse, refl, sym, ap, subst, ◌∙◌}
-use Rattle.tx_base.specs.declared.names.Pid.{Pid}
+-- What a session shows after a step at its position.
+use Rattle.std.proofs.Common.{◌≡◌, ◌⊎◌, inl, inr, List, ◌∷◌, reverse, refl, sym, ap, subst, ◌∙◌}
 use Rattle.tx_base.specs.declared.steps.Accepted.{Accepted}
 use Rattle.tx_base.specs.declared.steps.Refusal.TheVariants.{NoMemory}
 use Rattle.tx_base.specs.declared.steps.Reply.{Reply}
 use Rattle.tx_base.specs.declared.steps.Reply.TheVariants.{Done, Ended, Committed, Aborted, Out, No}
 use Rattle.tx_base.specs.declared.steps.Step.{Step}
-use Rattle.tx_base.specs.declared.steps.Step.TheVariants.{KernelAbort}
 use Rattle.tx_core.specs.Runs.{Continues}
 use Rattle.tx_journal.proofs.Extended.{walks_view}
 use Rattle.tx_journal.proofs.Walked.{lawful_to}
 use Rattle.tx_journal.specs.Entries.{history_of}
 use Rattle.tx_journal.specs.Sessions.{IsJournal, SessionState, made_of, position_of, start_of}
-use Rattle.tx_journal.specs.Trials.{answer_there, shown_with, shown_without}
+use Rattle.tx_journal.specs.Trials.{answer_there, shown_with}
 use Rattle.tx_live.specs.Content.{view_of}
 use Rattle.tx_live.specs.declared.content.Content.{Content}
-use Rattle.tx_model.specs.Answer.{answer, IsAccepted, Lawful}
+use Rattle.tx_model.specs.Answer.{answer, IsAccepted}
 use Rattle.tx_model.specs.Schedules.{history_with}
-use Rattle.tx_model.specs.State.{State}
-use Rattle.tx_model.specs.View.{View, kernel_status, view}
-
-pub shown : (k : SessionState) (starter : Pid) (new : Content) → IsJournal k →
-    ((start : State) (earlier : List Accepted) → Lawful start earlier → view_of k.machine ≡ view start earlier →
-    Lawful start (record { step = KernelAbort starter; reply = Aborted (kernel_status (view_of k.machine) starter.0) } ∷ earlier)
-    × (view_of new ≡ view start (record { step = KernelAbort starter; reply = Aborted (kernel_status (view_of k.machine) starter.0) } ∷ earlier))) →
-    view_of new ≡ shown_without k starter.0
-shown k starter new is along =
-    let made : List Accepted = history_of (made_of k) in
-    let seen : view_of k.machine ≡ view (start_of k) made = walks_view (start_of k) k.machine (reverse k.inverses) made is.walks in
-    (along (start_of k) made (lawful_to (start_of k) k.entries (position_of k) is.lawful) seen).1
-    ∙ ap (λ (V : View). view (start_of k) (record { step = KernelAbort starter; reply = Aborted (kernel_status V starter.0) } ∷ made)) seen
+use Rattle.tx_model.specs.View.{View, view}
 
 -- an accepted step is the newest of its history then, and a refused one leaves it
 with_accepted : (h : List Accepted) (step : Step) (reply : Reply) → IsAccepted reply → history_with h step reply ≡ record { step = step; reply = reply } ∷ h

@@ -6,6 +6,10 @@ pub mod Lives
 pub mod Moved
 pub mod Noted
 pub mod Pieces
+pub mod Reach
+pub mod Reaches
+pub mod ReachLaws
+pub mod Rows
 pub mod Rooms
 pub mod Crossings
 pub mod Sessions

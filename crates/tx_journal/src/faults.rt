@@ -38,14 +38,3 @@ pub enum MovedFault {
     #[error("no memory")]
     NoMemory,
 }
-
-/// Why it is not told what would be without a transaction.
-#[derive(Clone, Copy, PartialEq, Eq, Debug, Error)]
-pub enum TrialFault {
-    /// The starter has no live transaction.
-    #[error("no transaction")]
-    NoTransaction,
-    /// A growth of memory was refused.
-    #[error("no memory")]
-    NoMemory,
-}

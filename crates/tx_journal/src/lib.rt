@@ -25,9 +25,9 @@
 //!   them. So it pays for one pass over the journal, and the session is only read.
 //! - `cut` lets go of the entries after the position, so that steps can be made there: what is live
 //!   there is counted anew, and has room, since each entry that goes ended one transaction at most
-//!   (`Cut.antt`). `trial` says what a step there would be answered, and the text of the state
-//!   after it, `reply_to` the answer alone; `state_text_without` is the text of the state that an
-//!   abort there would leave.
+//!   (`Cut.antt`). `trial` says what a step there would be answered, and the lines that pieces of
+//!   the state would have after it; `pieces_reached` has the pieces that it may change (`Reach`),
+//!   so nothing else need be printed; `reply_to` is the answer alone.
 //! - `first_touch` is the step since which a transaction has reserved an object: the newest one of
 //!   that transaction whose inverse has not reserved it.
 //! - `position` is how many entries are made, `len` how many there are, `entry` the entry of a
@@ -35,7 +35,8 @@
 //!   `state_text` the text of the state there.
 //! - `print_state` gives the text of a machine's state, and `put_state` appends it: that of the
 //!   definitions' state, all of it. Live transactions are printed in one pass over the marks, and a
-//!   second one over the starters. `put_piece` appends the lines of one `Piece` of the state.
+//!   second one over the starters. `put_piece` appends the lines of one `Piece` of the state, and
+//!   `print_pieces` gives those of some.
 //!
 //! What is so of every session is its type's invariant (`IsJournal`): the journal is lawful from
 //! the booted state, and from the machine's content each inverse leads back to what has the view of
@@ -59,8 +60,11 @@ mod notes;
 mod parted;
 mod pieces;
 mod posted;
+mod reach;
+mod reach_laws;
 mod retrace;
 mod retrace_laws;
+mod rows;
 mod session;
 mod since;
 mod state;
@@ -69,9 +73,9 @@ mod trials;
 mod walks;
 
 pub use entry::Entry;
-pub use faults::{AtStart, ForwardFault, GotoFault, MovedFault, TrialFault};
+pub use faults::{AtStart, ForwardFault, GotoFault, MovedFault};
 pub use moved::Moved;
-pub use pieces::{Piece, put_piece};
+pub use pieces::{Piece, print_pieces, put_piece};
 pub use session::Session;
 pub use since::Touch;
 pub use state::{print_state, put_state};

@@ -159,7 +159,7 @@ pub(crate) fn abort(
 
 /// Whether a step has its place from the sys_xbegin of the transaction that it aborts: the kernel's
 /// abort, and a member's sys_xabort.
-fn has_place(machine: &Machine, step: &Step) -> bool
+pub(crate) fn has_place(machine: &Machine, step: &Step) -> bool
     ensures { result ≡ has_place (view_of machine.now).table step.now }
 {
     match step {
@@ -170,7 +170,7 @@ fn has_place(machine: &Machine, step: &Step) -> bool
 }
 
 /// Whose transaction a step may begin or end.
-fn starter_of(machine: &Machine, step: &Step) -> Pid
+pub(crate) fn starter_of(machine: &Machine, step: &Step) -> Pid
     ensures { result.0 ≡ starter_of (view_of machine.now).table step.now }
 {
     match step {

@@ -1,11 +1,12 @@
 //! Prints pieces of the state of a machine.
-ghost use Rattle.std.specs.Prelude.{◌≡◌, ◌++◌, OnOk, string_bytes};
+ghost use Rattle.std.specs.Prelude.{◌≡◌, ◌++◌, IfOk, OnOk, map, string_bytes};
 ghost use Rattle.tx_journal.specs.Pieces.{piece_text};
+ghost use Rattle.tx_journal.specs.Rows.{lines_of};
 ghost use Rattle.tx_journal.specs.declared.pieces.Piece.TheVariants.{Txn};
 ghost use Rattle.tx_live.specs.Content.{view_of};
 
-use std::alloc::AllocError;
-use tx_base::{DescNo, Pid, PipeNo};
+use std::alloc::{AllocError, Global};
+use tx_base::{DescNo, NoMemory, Pid, PipeNo};
 use tx_core::Machine;
 use tx_text::{
     Links, put_desc_line, put_fd_of, put_ids_of, put_page_of, put_pending_of, put_pipe_line,
@@ -33,6 +34,34 @@ pub enum Piece {
     Pipe(PipeNo),
     /// The live transaction of a starter, with what it holds.
     Txn(Pid),
+}
+
+/// The lines of each of some pieces of a machine's state: none of one that is not there.
+///
+/// NoMemory where a growth is refused.
+pub fn print_pieces(
+    alloc: Global,
+    machine: &Machine,
+    pieces: &[Piece],
+) -> Result<Vec<String>, NoMemory>
+    ensures { IfOk result (λ texts.
+        map string_bytes texts.items ≡ lines_of pieces.now (view_of machine.now)) }
+{
+    let mut texts = Vec::new(alloc);
+    for piece in pieces {
+        texts.push(print_piece(alloc, machine, *piece)?)?;
+    }
+    Ok(texts)
+}
+
+/// The lines of a piece of a machine's state.
+fn print_piece(alloc: Global, machine: &Machine, piece: Piece) -> Result<String, AllocError>
+    ensures { IfOk result (λ text.
+        string_bytes text ≡ piece_text piece (view_of machine.now)) }
+{
+    let mut text = String::new(alloc);
+    put_piece(&mut text, machine, piece)?;
+    Ok(text)
 }
 
 /// Appends the lines of a piece of a machine's state: none where it is not there. The only error is

@@ -1,32 +1,38 @@
-//! What would be if a step were made now, or a transaction aborted.
-ghost use Rattle.std.specs.Prelude.{◌≡◌, ◌↔◌, Err, IfOk, false, string_bytes};
+//! What would be if a step were made now.
+ghost use Rattle.std.specs.Prelude.{◌≡◌, IfOk, map, string_bytes};
 ghost use Rattle.tx_core.specs.Undo.{LeadsBack};
-ghost use Rattle.tx_journal.specs.Trials.{answer_there, shown_with, shown_without};
-ghost use Rattle.tx_journal.specs.declared.faults.TrialFault.TheVariants as fault;
+ghost use Rattle.tx_journal.specs.Reach.{CoverChanges};
+ghost use Rattle.tx_journal.specs.Rows.{lines_of};
+ghost use Rattle.tx_journal.specs.Trials.{answer_there, shown_at, shown_with};
 ghost use Rattle.tx_live.specs.Content.{view_of};
 ghost use Rattle.tx_live.specs.Inverses.{Undoes};
 ghost use Rattle.tx_live.specs.declared.content.Content.{Content};
-ghost use Rattle.tx_model.specs.Membership.{is_live};
-ghost use Rattle.tx_text.specs.State.{state_text};
 
-use crate::faults::TrialFault;
+use crate::pieces::{Piece, print_pieces};
+use crate::reach_laws::reach_laws;
+use crate::rows::list_reached;
 use crate::session::Session;
-use crate::state::print_state;
 use std::alloc::Global;
-use tx_base::{NoMemory, Pid, Reply, Step};
+use tx_base::{NoMemory, Reply, Step};
 use tx_core::Machine;
 use tx_live::Inverse;
 
 impl Session {
-    /// The reply that a step would get at the position, and the text of the state after it: of the same
-    /// state where it is refused. It is made and taken back, whatever comes: the session is as it was.
+    /// The reply that a step would get at the position, and the lines that each of some pieces of the
+    /// state would have after it: those that it has where the step is refused. The step is made and taken
+    /// back, whatever comes: the session is as it was.
     ///
     /// `NoMemory` where a growth is refused.
-    pub fn trial(&mut self, alloc: Global, step: &Step) -> Result<(Reply, String), NoMemory>
+    pub fn trial(
+        &mut self,
+        alloc: Global,
+        step: &Step,
+        pieces: &[Piece],
+    ) -> Result<(Reply, Vec<String>), NoMemory>
         ensures same { self.new ≡ self.old }
         ensures reply { IfOk result (λ r. r.0 ≡ answer_there self.old step.now) }
-        ensures text { IfOk result (λ r.
-            string_bytes r.1 ≡ state_text (shown_with self.old step.now)) }
+        ensures lines { IfOk result (λ r.
+            map string_bytes r.1.items ≡ lines_of pieces.now (shown_with self.old step.now)) }
     {
         let mut reply = Reply::Ended;
         let mut inverse = Inverse::blank();
@@ -34,14 +40,28 @@ impl Session {
             .machine
             .step_into(alloc, step, &mut reply, &mut inverse);
         if is_made {
-            let text = print_and_undo(alloc, &mut self.machine, inverse)?;
-            return Ok((reply, text));
+            let texts = print_and_undo(alloc, &mut self.machine, inverse, pieces)?;
+            return Ok((reply, texts));
         }
         if reply.wants_memory() {
             return Err(NoMemory);
         }
-        let text = print_state(alloc, &self.machine)?;
-        Ok((reply, text))
+        let texts = print_pieces(alloc, &self.machine, pieces)?;
+        Ok((reply, texts))
+    }
+
+    /// The pieces of the state whose lines a step may change at the position, in the order of the
+    /// state's text: what it names, and what it gives up where it aborts, and its own transaction. Each
+    /// other piece has the same lines after the step.
+    ///
+    /// `NoMemory` where a growth is refused.
+    pub fn pieces_reached(&self, alloc: Global, step: &Step) -> Result<Vec<Piece>, NoMemory>
+        ensures { IfOk result (λ found.
+            CoverChanges (shown_at self.now) (shown_with self.now step.now) found.items) }
+    {
+        reach_laws();
+        self.is_lawful();
+        list_reached(alloc, self.machine(), step)
     }
 
     /// The reply that a step would get at the position. It is made and taken back: the session is as it
@@ -66,43 +86,25 @@ impl Session {
         }
         Ok(reply)
     }
-
-    /// The text of the state as it would be at the position if the kernel aborted the live
-    /// transaction of a starter there. The abort is made and taken back: the session is as it was.
-    ///
-    /// `NoTransaction` where the starter has no live transaction. `NoMemory` where a growth is refused.
-    pub fn state_text_without(&mut self, alloc: Global, starter: Pid) -> Result<String, TrialFault>
-        ensures same { self.new ≡ self.old }
-        ensures text { IfOk result (λ text.
-            string_bytes text ≡ state_text (shown_without self.old starter.0)) }
-        ensures none { (result ≡ Err fault.NoTransaction)
-            ↔ (is_live (view_of self.old.machine).table starter.0 ≡ false) }
-    {
-        let Ok(inverse) = self.machine.kernel_abort(starter) else {
-            return Err(TrialFault::NoTransaction);
-        };
-        match print_and_undo(alloc, &mut self.machine, inverse) {
-            Ok(text) => Ok(text),
-            Err(NoMemory) => Err(TrialFault::NoMemory),
-        }
-    }
 }
 
-/// The text of the state of a machine, as the step left it whose inverse this is. The step is taken
-/// back, whatever comes.
+/// The lines of some pieces of a machine's state, as the step left it whose inverse this is. The step is
+/// taken back, whatever comes.
 ///
 /// NoMemory where a growth is refused.
 fn print_and_undo(
     alloc: Global,
     machine: &mut Machine,
     inverse: Inverse,
-) -> Result<String, NoMemory>
+    pieces: &[Piece],
+) -> Result<Vec<String>, NoMemory>
     requires { LeadsBack machine.old inverse }
-    ensures text { IfOk result (λ text. string_bytes text ≡ state_text (view_of machine.old)) }
+    ensures lines { IfOk result (λ texts.
+        map string_bytes texts.items ≡ lines_of pieces.now (view_of machine.old)) }
     ensures back { (before : Content) → Undoes machine.old inverse before →
         machine.new ≡ before }
 {
-    let text = print_state(alloc, machine);
+    let texts = print_pieces(alloc, machine, pieces);
     machine.undo(inverse);
-    text
+    texts
 }

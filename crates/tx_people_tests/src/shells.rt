@@ -110,12 +110,24 @@ fn a_header_begins_a_talk(rt: HostRuntime) -> Result<(), Fail> {
 /// A talk of what would be, with steps ahead too, and what it shows.
 const TRIED: (&str, &str) = (
     "2 sys_xbegin\n2 map 0\n2 store 0 \"hi\"\ntry 2 load 0\ntry 1 map 0\nback\nwithout 2\ntry 2 sys_xabort\ntry 3 map 0\nwithout 1\ntry 2 store 0 \"hi\" # two bytes\nforward\n",
-    "ok 0\nok 0\nok 0\nok 104\n- proc 2 parent 1 run point 3 ret 0\n+ proc 2 parent 1 run point 4 ret 104\nok 0\n- proc 1 parent 0 run point 0 ret 0\n+ proc 1 parent 0 run point 1 ret 0\n+ page 0 rw\nat 2\n- proc 2 parent 1 run point 2 ret 0\n- page 0 rw\n- txn 2 open 2 ended -\n+ proc 2 parent 1 run point 1 ret -202\naborted 201\n- proc 2 parent 1 run point 2 ret 0\n- page 0 rw\n- txn 2 open 2 ended -\n+ proc 2 parent 1 run point 1 ret -201\nno N1\nno transaction\nok 0\n- proc 2 parent 1 run point 2 ret 0\n- page 0 rw\n+ proc 2 parent 1 run point 3 ret 0\n+ page 0 rw 0=68 1=69\nat 3\n",
+    "ok 0\nok 0\nok 0\nok 104\n- proc 2 parent 1 run point 3 ret 0\n+ proc 2 parent 1 run point 4 ret 104\nok 0\n- proc 1 parent 0 run point 0 ret 0\n+ proc 1 parent 0 run point 1 ret 0\n+ page 0 rw\nat 2\n- proc 2 parent 1 run point 2 ret 0\n- page 0 rw\n+ proc 2 parent 1 run point 1 ret -202\n- txn 2 open 2 ended -\naborted 201\n- proc 2 parent 1 run point 2 ret 0\n- page 0 rw\n+ proc 2 parent 1 run point 1 ret -201\n- txn 2 open 2 ended -\nno N1\nno transaction\nok 0\n- proc 2 parent 1 run point 2 ret 0\n- page 0 rw\n+ proc 2 parent 1 run point 3 ret 0\n+ page 0 rw 0=68 1=69\nat 3\n",
 );
 
 #[test]
 fn what_would_be_is_told(rt: HostRuntime) -> Result<(), Fail> {
     assert!(rt; shows(rt.alloc(), TRIED.0, TRIED.1)?);
+    Ok(())
+}
+
+/// A talk in which a page would come back to one process and go with another, and what it shows.
+const APART: (&str, &str) = (
+    "2 map 0\n2 sys_xbegin\n2 fork 4\n2 unmap 0\ntry 2 sys_xabort\n",
+    "ok 0\nok 0\nok 4\nok 0\naborted 201\n- proc 2 parent 1 run point 4 ret 0\n+ proc 2 parent 1 run point 2 ret -201\n+ page 0 rw\n- proc 4 parent 2 run point 3 ret 0\n- page 0 rw\n- txn 2 open 2,4 ended -\n",
+);
+
+#[test]
+fn each_process_is_told_by_itself(rt: HostRuntime) -> Result<(), Fail> {
+    assert!(rt; shows(rt.alloc(), APART.0, APART.1)?);
     Ok(())
 }
 
@@ -153,6 +165,34 @@ fn why_a_step_is_refused_is_told(rt: HostRuntime) -> Result<(), Fail> {
         "ok 0\nok 4\nok 0\nok 0\nok 3\nok 1\n4 read 0 0 3: {busy}pipe 0: the transaction of 2 has it since step 5: 2 write 1 0 3\ncommitted\n4 read 0 0 3: it would be answered ok -14\nok 0\nok 1\n4 close 0: {busy}pipe 0: the transaction of 2 has it since step 9: 2 write 1 0 1\nat 8\n4 close 0: it would be answered ok 0\nkernel 4: {none}"
     )?;
     assert!(rt; shows(rt.alloc(), lines, wanted.as_str())?);
+    Ok(())
+}
+
+/// A commit that sends to two starters, which a sender of user 5 may signal as they are now alone.
+const TO_TWO: &str =
+    "txos 3 schedule 4\n2 setuid 5\n3 sys_xbegin\n3 setuid 5\n4 sys_xbegin\n4 setuid 5\n2 sys_xbegin\n2 kill 4 12\n2 kill 3 10\n2 sys_xend\nwhy\n3 sys_xend\nkernel 4\nwhy\n";
+
+#[test]
+fn two_answers_are_told(rt: HostRuntime) -> Result<(), Fail> {
+    let busy = explain("N8").unwrap_or("");
+    let wanted = format!(in rt.alloc();
+        "at 0\nok 0\nok 0\nok 0\nok 0\nok 0\nok 0\nok 0\nok 0\nno N8 3\n2 sys_xend: {busy}signal 10 to 3: it would be answered 0 now, and -1 if the transaction of 3 were aborted\nsignal 12 to 4: it would be answered 0 now, and -1 if the transaction of 4 were aborted\ncommitted\naborted 202\n2 sys_xend: it would be answered committed 4:12:1\n"
+    )?;
+    assert!(rt; shows(rt.alloc(), TO_TWO, wanted.as_str())?);
+    Ok(())
+}
+
+/// Fifteen signals in a queue, of which one is taken out inside of a transaction: a commit that sends two
+/// more finds room for both now, and for the first alone after an abort.
+const TO_A_QUEUE: &str =
+    "txos 3 schedule 4\n3 sigaction 32 ignore\n4 sigqueue 3 32 0\n4 sigqueue 3 32 0\n4 sigqueue 3 32 0\n4 sigqueue 3 32 0\n4 sigqueue 3 32 0\n4 sigqueue 3 32 0\n4 sigqueue 3 32 0\n4 sigqueue 3 32 0\n4 sigqueue 3 32 0\n4 sigqueue 3 32 0\n4 sigqueue 3 32 0\n4 sigqueue 3 32 0\n4 sigqueue 3 32 0\n4 sigqueue 3 32 0\n4 sigqueue 3 32 0\n3 sys_xbegin\n3 deliver 32\n2 sys_xbegin\n2 sigqueue 3 33 1\n2 sigqueue 3 34 2\nwhy 2 sys_xend\n";
+
+#[test]
+fn a_later_signal_has_two_answers(rt: HostRuntime) -> Result<(), Fail> {
+    let (ended, shown) = talk_over(rt.alloc(), Form::Text, TO_A_QUEUE, 1_000)?;
+    let last =
+        b"\nsignal 34 to 3: it would be answered 0 now, and -11 if the transaction of 3 were aborted\n";
+    assert!(rt; ended == Ok(()) && shown.ends_with(last));
     Ok(())
 }
 
@@ -222,7 +262,7 @@ try 3 kill 2 12
 {"step":7,"reply":"ok","ret":0}
 {"step":8,"reply":"aborted","status":201}
 {"step":9,"reply":"ok","ret":0}
-{"at":9,"reply":"ok","ret":0,"lines":["- proc 3 parent 1 run point 0 ret 0","+ pending 12","+ proc 3 parent 1 run point 1 ret 0"]}
+{"at":9,"reply":"ok","ret":0,"lines":["+ pending 12","- proc 3 parent 1 run point 0 ret 0","+ proc 3 parent 1 run point 1 ret 0"]}
 "#,
 );
 

@@ -9,7 +9,7 @@ use Rattle.tx_base.specs.declared.steps.Reply.{Reply}
 use Rattle.tx_base.specs.declared.steps.Step.{Step}
 use Rattle.tx_journal.specs.Entries.{history_of}
 use Rattle.tx_journal.specs.Sessions.{made_of, position_of, start_of, IsBetween, SessionState}
-use Rattle.tx_journal.specs.Trials.{answer_there, shown_with, view_with}
+use Rattle.tx_journal.specs.Trials.{answer_there, shown_at as shown_here, shown_with, view_with}
 use Rattle.tx_json.specs.Answers.{lines_answer, position_answer, state_answer, trial_answer}
 use Rattle.tx_json.specs.Line.{IsLineOf}
 use Rattle.tx_lines.specs.declared.read.command.Command.{Command}
@@ -21,14 +21,13 @@ use Rattle.tx_shell.proofs.Listed.{history_to}
 use Rattle.tx_shell.specs.Answers.{ask_tokens, tried_text, AnswersAsk, AnswersAskJson}
 use Rattle.tx_shell.specs.Asks.{IsToldByLines}
 use Rattle.tx_shell.specs.Changes.{shown_at, TellsNext}
-use Rattle.tx_shell.specs.Differences.{differing}
+use Rattle.tx_shell.specs.Differences.{views_differing}
 use Rattle.tx_shell.specs.Origins.{start_in, Origin}
 use Rattle.tx_shell.specs.Places.{origin_of, place_of, Place}
 use Rattle.tx_shell.specs.Refused.{StopsShort}
 use Rattle.tx_shell.specs.declared.asks.Ask.{Ask}
 use Rattle.tx_shell.specs.declared.asks.Ask.TheVariants as asks
 use Rattle.tx_shell.specs.declared.versions.TextVersion.{TextVersion}
-use Rattle.tx_text.specs.State.{state_text}
 
 -- all but a state, a step that is tried and a cut
 pub told_by_lines : (ask : Ask) → ((command : Command) → ask ≢ asks.Walk command) → ((step : Step) → ask ≢ asks.Try step) → ask ≢ asks.Cut → IsToldByLines ask
@@ -150,14 +149,14 @@ module _ (version : TextVersion) (refused : Option Step) (k : SessionState) wher
     says = subst (λ (tokens : List Token). IsLineOf tokens text) (λ i. state_answer (here i) ((seen ∙ ap (view (start_of k)) there) i)) line;
   }
 
-  pub trial_told : (step : Step) (reply : Reply) (at : ℕ) (before after lines text : List ℕ) → reply ≡ answer_there k step → at ≡ position_of k → before ≡ state_text (view (start_of k) (history_of (made_of k)))
-      → after ≡ state_text (shown_with k step) → lines ≡ differing before after → IsLineOf (trial_answer at reply lines) text → AnswersAskJson (origin_of version k) (place_of k) refused (asks.Try step) text (place_of k)
-  trial_told step reply at before after lines text answered here was is differ line = record {
+  pub trial_told : (step : Step) (reply : Reply) (at : ℕ) (lines text : List ℕ) → reply ≡ answer_there k step → at ≡ position_of k → lines ≡ views_differing (shown_here k) (shown_with k step) → IsLineOf (trial_answer at reply lines) text
+      → AnswersAskJson (origin_of version k) (place_of k) refused (asks.Try step) text (place_of k)
+  trial_told step reply at lines text answered here differ line = record {
     told = tried_text (start_of k) (first_steps (position_of k) (history_of k.entries)) step;
     answers = (refl, refl);
     says = subst (λ (tokens : List Token). IsLineOf tokens text)
         (λ i. trial_answer (here i) ((answered ∙ ap (λ (h : List Accepted). answer (view (start_of k) h) step) there) i)
-        ((differ ∙ (λ j. differing (was j) (is j)) ∙ ap (λ (h : List Accepted). differing (state_text (view (start_of k) h)) (state_text (view_with (start_of k) h step))) there) i)) line;
+        ((differ ∙ ap (λ (h : List Accepted). views_differing (view (start_of k) h) (view_with (start_of k) h step)) there) i)) line;
   }
 
   pub cut_told : (new : SessionState) (at : ℕ) (text : List ℕ) → at ≡ position_of k → new.entries ≡ made_of k → position_of new ≡ position_of k → IsLineOf (position_answer at) text

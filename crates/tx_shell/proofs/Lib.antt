@@ -7,6 +7,7 @@ pub mod Jsons
 pub mod LeftOver
 pub mod Listed
 pub mod Numbered
+pub mod OwnSteps
 pub mod Owned
 pub mod Replayed
 pub mod Sentences
@@ -16,3 +17,4 @@ pub mod Spelled
 pub mod Talked
 pub mod TwoNumbers
 pub mod Without
+pub mod Differed

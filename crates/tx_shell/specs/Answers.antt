@@ -3,8 +3,9 @@ use Rattle.std.specs.Prelude.{◌≡◌, ◌⊎◌, ◌<◌, ℕ, ◌&&◌, List
 use Rattle.json.specs.Token.{Token}
 use Rattle.tx_base.specs.declared.steps.Accepted.{Accepted}
 use Rattle.tx_base.specs.declared.steps.Step.{Step}
+use Rattle.tx_base.specs.declared.steps.Step.TheVariants.{KernelAbort}
 use Rattle.tx_explain.specs.Topics.{is_page}
-use Rattle.tx_journal.specs.Trials.{view_with, view_without}
+use Rattle.tx_journal.specs.Trials.{view_with}
 use Rattle.tx_json.specs.Answers.{lines_answer, position_answer, state_answer, trial_answer}
 use Rattle.tx_json.specs.Line.{IsLineOf}
 use Rattle.tx_lines.specs.Lines.{FitsStep, IsOf, step_text}
@@ -19,7 +20,7 @@ use Rattle.tx_model.specs.View.{View, view}
 use Rattle.tx_script.specs.Debug.{command_answer, first_steps, position_after, position_text}
 use Rattle.tx_shell.specs.Asks.{ask_text, FitsAsk, IsNoAsk}
 use Rattle.tx_shell.specs.Changes.{shown_at, TellsLast, TellsNext}
-use Rattle.tx_shell.specs.Differences.{differing}
+use Rattle.tx_shell.specs.Differences.{views_differing}
 use Rattle.tx_shell.specs.Forms.{SaysAhead, SaysReply, TellsIn}
 use Rattle.tx_shell.specs.Helps.{HelpsOn}
 use Rattle.tx_shell.specs.Journals.{schedule_so_far, steps_listed, steps_made}
@@ -33,7 +34,6 @@ use Rattle.tx_shell.specs.declared.asks.Ask.TheVariants as asks
 use Rattle.tx_shell.specs.declared.forms.Form.{Form}
 use Rattle.tx_shell.specs.declared.forms.Form.TheVariants.{Text, Json}
 use Rattle.tx_text.specs.Replies.{reply_text}
-use Rattle.tx_text.specs.State.{state_text}
 
 -- at the end a step is made: its reply is told, and it is recorded where it was accepted
 pub record MakesStep (form : Form) (start : State) (p : Place) (step : Step) (text : List ℕ) (q : Place) : Type 0 where
@@ -63,14 +63,14 @@ pub record PrintsSchedule (o : Origin) (p : Place) (text : List ℕ) (q : Place)
   pub leads : history_of (start_in o) [] (steps_made p) ≡ first_steps p.at p.history
   pub stays : q ≡ p
 
--- the reply is told that a step would get after a history, and the lines by which the state after it would differ
+-- the reply is told that a step would get after a history, and how the state after it would differ
 abbrev pub tried_text : State → List Accepted → Step → List ℕ
-tried_text start h step = reply_text (answer (view start h) step) ++ 10 ∷ differing (state_text (view start h)) (state_text (view_with start h step))
+tried_text start h step = reply_text (answer (view start h) step) ++ 10 ∷ views_differing (view start h) (view_with start h step)
 
--- the lines are told by which the state would differ that an abort of the live transaction of process s would leave at the position, or that there is none
+-- it is told how the state would differ that an abort of the live transaction of process s by the kernel would leave at the position, or that there is none
 pub record TellsWithout (start : State) (p : Place) (s : ℕ) (text : List ℕ) : Type 0 where
   pub open_one : is_live (view start (first_steps p.at p.history)).table s ≡ true →
-      text ≡ differing (state_text (view start (first_steps p.at p.history))) (state_text (view_without start (first_steps p.at p.history) s))
+      text ≡ views_differing (view start (first_steps p.at p.history)) (view_with start (first_steps p.at p.history) (KernelAbort (record { 0 = s })))
   pub none : is_live (view start (first_steps p.at p.history)).table s ≡ false → text ≡ codes "no transaction\n"
 
 -- the view of the steps that are made
@@ -119,7 +119,7 @@ pub record IsAskLine (o : Origin) (words : List ℕ) (ask : Ask) : Type 0 where
 abbrev pub ask_tokens : Origin → Place → Ask → List ℕ → ℕ → List Token
 ask_tokens o p (asks.Walk commands.State) told at = state_answer at (view_at o p)
 ask_tokens o p (asks.Try step) told at =
-    trial_answer at (answer (view_at o p) step) (differing (state_text (view_at o p)) (state_text (view_with (start_in o) (first_steps p.at p.history) step)))
+    trial_answer at (answer (view_at o p) step) (views_differing (view_at o p) (view_with (start_in o) (first_steps p.at p.history) step))
 ask_tokens o p asks.Cut told at = position_answer at
 ask_tokens o p ask told at = lines_answer at told
 

@@ -1,7 +1,11 @@
--- How two texts differ.
+-- How two texts differ, and two states.
 use Rattle.std.specs.Prelude.{ℕ, Bool, List, [], ◌∷◌, ◌++◌, bytes_eq, codes, if◌then◌else◌}
 use Rattle.std.specs.List.{list_any}
 use Rattle.std.specs.Str.Lines.{lines}
+use Rattle.tx_journal.specs.Pieces.{piece_text}
+use Rattle.tx_journal.specs.Rows.{state_pieces}
+use Rattle.tx_journal.specs.declared.pieces.Piece.{Piece}
+use Rattle.tx_model.specs.View.{View}
 use Rattle.tx_text.specs.Each.{each_text}
 
 -- whether one of the lines is that one
@@ -25,3 +29,17 @@ marked mark found = each_text (λ line. mark ++ (line ++ 10 ∷ [])) found
 -- the lines that go from a text, and those that come in their place
 abbrev pub differing : List ℕ → List ℕ → List ℕ
 differing before after = marked (codes "- ") (left_over (lines before) (lines after)) ++ marked (codes "+ ") (left_over (lines after) (lines before))
+
+-- how the lines of a piece differ
+abbrev pub piece_differing : View → View → Piece → List ℕ
+piece_differing before after piece = differing (piece_text piece before) (piece_text piece after)
+
+-- how two states differ: the lines of each process, description, pipe and live transaction, in the order of the state's text
+abbrev pub views_differing : View → View → List ℕ
+views_differing before after = each_text (piece_differing before after) (state_pieces before.table.width)
+
+-- how texts differ from others, one pair after another
+abbrev pub all_differing : List (List ℕ) → List (List ℕ) → List ℕ
+all_differing [] others = []
+all_differing (before ∷ texts) [] = []
+all_differing (before ∷ texts) (after ∷ others) = differing before after ++ all_differing texts others

@@ -15,6 +15,7 @@ pub mod Places
 pub mod Reasons
 pub mod Refused
 pub mod Shown
+pub mod Signals
 pub mod Spelled
 pub mod Standings
 pub mod Told

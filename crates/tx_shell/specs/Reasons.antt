@@ -21,6 +21,7 @@ use Rattle.tx_model.specs.View.{present, view}
 use Rattle.tx_reserve.specs.Objects.{is_small}
 use Rattle.tx_shell.specs.Helps.{HelpsOn}
 use Rattle.tx_shell.specs.Kinds.{limit_of, object_in, word_of}
+use Rattle.tx_shell.specs.Signals.{signal_lines}
 use Rattle.tx_shell.specs.declared.kinds.Kind.{Kind}
 use Rattle.tx_shell.specs.declared.kinds.Kind.TheVariants.{Processes, Descriptions, Pipes}
 use Rattle.tx_text.specs.Each.{upto}
@@ -107,9 +108,13 @@ module _ (S : State) (h : List Accepted) (step : Step) where
   abbrev pub waited_text : List ℕ
   waited_text = waited_by pipe_lines step
 
-  -- what is told behind the reason: of a step in whose way a transaction is, the objects; of one that waits, for what
+  -- the objects in the way of the step, and its signals that have two answers
+  abbrev pub busy_lines : List ℕ
+  busy_lines = object_lines ++ signal_lines S h step
+
+  -- what is told behind the reason: of a step in whose way a transaction is, these; of one that waits, for what
   abbrev pub lines_behind : Refusal → List ℕ
-  lines_behind (Busy starter) = object_lines
+  lines_behind (Busy starter) = busy_lines
   lines_behind Wait = waited_text
   lines_behind why = []
 

@@ -28,11 +28,11 @@ use tx_journal::Session;
 use tx_lines::{Command, read_step};
 use tx_script::put_answer;
 
-/// Does what a line of that version says, which means those words, and answers it in a form. Keeps which
-/// step was refused last.
+/// Does what a line of that version says, which means those words, and puts its answer in a form in place
+/// of what the text had. Keeps which step was refused last.
 ///
 /// NoMemory where a growth is refused: no step came or went then, and the position is the old one, or
-/// lies between that and the one that is asked for.
+/// lies between that and the one that is asked for. The text has nothing to be shown.
 pub fn answer_words(
     alloc: Global,
     form: Form,
@@ -41,10 +41,11 @@ pub fn answer_words(
     refused: &mut Option<Step>,
     line: &[u8],
     words: &[u8],
-) -> Result<String, NoMemory>
-    ensures answer { IfOk result (λ text.
-        AnswersWords form (origin_of version session.old) (place_of session.old) refused.old
-        line.now words.now (string_bytes text) (place_of session.new) refused.new) }
+    text: &mut String,
+) -> Result<(), NoMemory>
+    ensures answer { OnOk result
+        (AnswersWords form (origin_of version session.old) (place_of session.old) refused.old
+        line.now words.now (string_bytes text.new) (place_of session.new) refused.new) }
     ensures stops { OnErr result
         (StopsShortOf (origin_of version session.old) (place_of session.old) words.now
         (place_of session.new)) }
@@ -52,46 +53,51 @@ pub fn answer_words(
     ensures boot { SameBoot session.new session.old }
 {
     if let Some(step) = read_step(version.grammar(), words) {
-        return answer_step_line(alloc, form, session, refused, step);
+        return answer_step_line(alloc, form, session, refused, &step, text);
     }
-    match read_ask(version.grammar(), words) {
-        Some(ask) => answer_ask(alloc, form, version, session, refused, ask),
-        None => tell_in(alloc, form, version, line, words),
+    if let Some(ask) = read_ask(version.grammar(), words) {
+        *text = answer_ask(alloc, form, version, session, refused, ask)?;
+        return Ok(());
     }
+    *text = tell_in(alloc, form, version, line, words)?;
+    Ok(())
 }
 
-/// Answers a step in a form, and keeps it where it was to be made and was refused.
+/// Makes a step, and puts its answer in a form in place of what the text had. Keeps the step where it was
+/// to be made and was refused.
 ///
-/// NoMemory where a growth is refused; no step came or went then.
-fn answer_step_line(
+/// NoMemory where a growth is refused; no step came or went then. The text has nothing to be shown.
+pub fn answer_step_line(
     alloc: Global,
     form: Form,
     session: &mut Session,
     refused: &mut Option<Step>,
-    step: Step,
-) -> Result<String, NoMemory>
-    ensures answer { IfOk result (λ text.
-        AnswersStep form (start_of session.old) (place_of session.old) step (string_bytes text)
-        (place_of session.new)) }
+    step: &Step,
+    text: &mut String,
+) -> Result<(), NoMemory>
+    ensures answer { OnOk result
+        (AnswersStep form (start_of session.old) (place_of session.old) step.now
+        (string_bytes text.new) (place_of session.new)) }
     ensures kept { OnOk result (refused.new
-        ≡ refused_by (place_of session.old) step (place_of session.new) refused.old) }
+        ≡ refused_by (place_of session.old) step.now (place_of session.new) refused.old) }
     ensures stops { OnErr result (place_of session.new ≡ place_of session.old) }
     ensures same { OnErr result (refused.new ≡ refused.old) }
     ensures boot { SameBoot session.new session.old }
 {
     let count = count_steps(session);
     let is_at_end = session.position() == count;
-    let text = answer_step(alloc, form, session, &step)?;
+    answer_step(alloc, form, session, step, text)?;
     if is_at_end && count_steps(session) == count {
-        *refused = Some(step);
+        *refused = Some(step.copy());
     }
-    Ok(text)
+    Ok(())
 }
 
 /// Does what is asked for, and answers it in a form.
 ///
 /// NoMemory where a growth is refused: no step came or went then, and the position lies between the old
 /// one and that which is asked for.
+#[inline(never)] // inlined, each step that is spelled otherwise would reserve its stack
 fn answer_ask(
     alloc: Global,
     form: Form,

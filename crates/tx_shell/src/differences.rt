@@ -1,12 +1,30 @@
-//! Tells by which lines two texts differ.
+//! Tells by which lines texts differ.
 ghost use Rattle.std.specs.Prelude.{◌≡◌, ◌++◌, ◌∷◌, [], IfOk, OnOk, bytes_eq, map, string_bytes};
 ghost use Rattle.std.specs.List.{position};
 ghost use Rattle.std.specs.Str.Lines.{lines};
-ghost use Rattle.tx_shell.specs.Differences.{differing, has_line, left_over, less_line, marked};
+ghost use Rattle.tx_shell.specs.Differences.{all_differing, differing, has_line, left_over, less_line, marked};
 
 use std::alloc::{AllocError, Global};
 use tx_base::NoMemory;
 use tx_lines::put;
+
+/// Appends how each of some texts differs from the one of the others that has its place.
+///
+/// NoMemory where a growth is refused; some of the lines may then stand behind the text.
+pub fn put_all_differing(
+    text: &mut String,
+    before: &[String],
+    after: &[String],
+) -> Result<(), NoMemory>
+    ensures { OnOk result (string_bytes text.new ≡ string_bytes text.old
+        ++ all_differing (map string_bytes before.now) (map string_bytes after.now)) }
+{
+    let end = before.len().min(after.len());
+    for i in 0..end {
+        put_differing(text, before[i].as_str(), after[i].as_str())?;
+    }
+    Ok(())
+}
 
 /// Appends the lines of a text that another has not, and then those of the other that it has not, a line
 /// each. Each line of the one is looked for in the other, from its first line on that is left.

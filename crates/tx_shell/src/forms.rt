@@ -1,10 +1,10 @@
 //! In which form a talk is answered, and answers that are the same in each.
-ghost use Rattle.std.specs.Prelude.{IfOk, string_bytes};
+ghost use Rattle.std.specs.Prelude.{IfOk, OnOk, string_bytes};
 ghost use Rattle.tx_shell.specs.Forms.{SaysAhead, SaysNothing, SaysPosition, SaysReply};
 
 use crate::helps::text_as;
 use crate::journals::position_line;
-use crate::steps::reply_line;
+use crate::steps::put_reply_line;
 use std::alloc::Global;
 use tx_base::{NoMemory, Reply};
 
@@ -45,20 +45,24 @@ impl Form {
         }
     }
 
-    /// The reply of a step, which has that number where it was accepted.
+    /// Puts the reply of a step, which has that number where it was accepted, in place of what the text had.
     ///
-    /// NoMemory where a growth is refused.
-    pub(crate) fn reply(
+    /// NoMemory where a growth is refused; the text has nothing to be shown then.
+    pub(crate) fn put_reply(
         self,
         alloc: Global,
         number: usize,
         reply: &Reply,
-    ) -> Result<String, NoMemory>
-        ensures { IfOk result (λ text. SaysReply self number reply.now (string_bytes text)) }
+        text: &mut String,
+    ) -> Result<(), NoMemory>
+        ensures { OnOk result (SaysReply self number reply.now (string_bytes text.new)) }
     {
         match self {
-            Form::Text => reply_line(alloc, reply),
-            Form::Json => tx_json::step_answer(alloc, number, reply),
+            Form::Text => Ok(put_reply_line(text, reply)?),
+            Form::Json => {
+                *text = tx_json::step_answer(alloc, number, reply)?;
+                Ok(())
+            }
         }
     }
 

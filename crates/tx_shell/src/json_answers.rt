@@ -12,7 +12,7 @@ ghost use Rattle.tx_shell.specs.declared.versions.TextVersion.{TextVersion as Th
 
 use crate::answers::answer_as_text;
 use crate::asks::Ask;
-use crate::trials::differing;
+use crate::trials::try_at;
 use crate::versions::TextVersion;
 use std::alloc::Global;
 use tx_base::{NoMemory, Step};
@@ -104,8 +104,7 @@ fn tell_state(alloc: Global, session: &Session) -> Result<String, NoMemory>
     state_answer(alloc, session.position(), session.machine())
 }
 
-/// The position, the reply that a step would get there, and the lines by which the state after it would
-/// differ.
+/// The position, the reply that a step would get there, and how the state after it would differ.
 ///
 /// NoMemory where a growth is refused.
 fn tell_trial(alloc: Global, session: &mut Session, step: &Step) -> Result<String, NoMemory>
@@ -114,9 +113,7 @@ fn tell_trial(alloc: Global, session: &mut Session, step: &Step) -> Result<Strin
         (asks.Try step.now) (string_bytes text) (place_of session.old)) }
     ensures same { session.new ≡ session.old }
 {
-    let before = session.state_text(alloc)?;
-    let (reply, after) = session.trial(alloc, step)?;
-    let lines = differing(alloc, before.as_str(), after.as_str())?;
+    let (reply, lines) = try_at(alloc, session, step)?;
     trial_answer(alloc, session.position(), &reply, lines.as_str())
 }
 

@@ -5,17 +5,19 @@
 //! `talk` reads the lines of a `Terminal`, a trait with one log of all that comes and goes, so that
 //! its contract says the order; a `Shell` is what a talk goes on: a session, in which form it is
 //! answered, of which version its lines are, and which step was refused last. `Shell::answer`
-//! answers one line. What a line of version 3 means is found as in a text (`meanings.rt`, over
-//! tx_plain), so it has comments, strings and names as there. Then it is read as a step (tx_lines),
-//! and else as what a talk is asked for (`asks.rt`). The debugger's commands are answered by
+//! answers one line, in a text that the talk uses again. A line that spells a step means itself,
+//! and is read at once (tx_lines). What any other line of version 3 means is found as in a text
+//! (`meanings.rt`, over tx_plain), so it has comments, strings and names as there; then it is read
+//! as a step, and else as what a talk is asked for (`asks.rt`). The debugger's commands are answered by
 //! tx_script, and so as in a text for it; `journals.rt` lists the steps, and prints the schedule
-//! that makes them again; `trials.rt` tells what would be, by the lines that differ
+//! that makes them again; `trials.rt` tells what would be: it prints those pieces of the state that
+//! a step may change, before it and after it, and tells by which lines they differ
 //! (`differences.rt`); `changes.rt` finds the step that changed a piece of the state (`pieces.rt`)
 //! last, or changes it next; `owners.rt` tells what live transactions have reserved, by the kinds
 //! of objects that there are (`kinds.rt`); `reasons.rt` why a step would be refused, with the
-//! objects in its way (`blockers.rt`) or what it waits for (`waits.rt`); `helps.rt` what a word
-//! means, by tx_explain; and what is neither is told of as a check tells of it (`tells.rt`, over
-//! tx_check). A talk has a form (`forms.rt`): in JSON the answers are the same, each as one line
+//! objects in its way (`blockers.rt`), the signals that have two answers (`signals.rt`) or what it
+//! waits for (`waits.rt`); `helps.rt` what a word means, by tx_explain; and what is neither is told
+//! of as a check tells of it (`tells.rt`, over tx_check). A talk has a form (`forms.rt`): in JSON the answers are the same, each as one line
 //! (`json_answers.rt`, over tx_json).
 //!
 //! A refused growth leaves no step half done: a step whose answer could not be put down is taken
@@ -41,6 +43,7 @@ mod pieces;
 mod reasons;
 mod reserving;
 mod shell;
+mod signals;
 mod steps;
 mod taking;
 mod talks;

@@ -20,6 +20,7 @@ pub struct Opening {
 /// What a line says as the first line of a schedule. Nothing where it is none.
 ///
 /// NoMemory where a growth is refused.
+#[inline(never)] // inlined, each line would reserve its stack
 pub fn read_opening(alloc: Global, line: &[u8]) -> Result<Option<Opening>, NoMemory>
     ensures says { IfOk result (λ opening.
         MatchOption opening (SaysNoOrigin line.now) (λ o. SaysOrigin line.now (origin_said o))) }

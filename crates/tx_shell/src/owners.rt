@@ -83,7 +83,7 @@ fn put_owner(text: &mut String, machine: &Machine, starter: Pid) -> Result<(), A
 }
 
 /// Whether a process has begun a transaction that is live.
-fn is_live(machine: &Machine, starter: Pid) -> bool
+pub fn is_live(machine: &Machine, starter: Pid) -> bool
     ensures { result ≡ is_live (view_of machine.now).table starter.0 }
 {
     machine.txn_of(starter) == Some(starter)

@@ -4,10 +4,11 @@ ghost use Rattle.tx_explain.specs.Calls.{refusal_word};
 ghost use Rattle.tx_journal.specs.Entries.{history_of};
 ghost use Rattle.tx_journal.specs.Sessions.{made_of, position_of, start_of};
 ghost use Rattle.tx_script.specs.Debug.{first_steps};
-ghost use Rattle.tx_shell.specs.Reasons.{accepted_text, lines_behind, refusal_in, TellsRefusal, TellsRefused, TellsReply, TellsWhy};
+ghost use Rattle.tx_shell.specs.Reasons.{accepted_text, busy_lines, lines_behind, refusal_in, TellsRefusal, TellsRefused, TellsReply, TellsWhy};
 
 use crate::blockers::put_objects;
 use crate::helps::{meaning, text_as};
+use crate::signals::put_signals;
 use crate::waits::put_waited;
 use std::alloc::{AllocError, Global};
 use tx_base::{NoMemory, Refusal, Reply, Step};
@@ -105,8 +106,8 @@ fn put_refusal(
     put_lines_behind(text, session, step, why)
 }
 
-/// Appends the lines behind the reason: of a step in whose way a transaction is, the objects; of one that
-/// waits, what for.
+/// Appends the lines behind the reason: of a step in whose way a transaction is, the objects and the
+/// signals that have two answers; of one that waits, what for.
 fn put_lines_behind(
     text: &mut String,
     session: &Session,
@@ -117,10 +118,20 @@ fn put_lines_behind(
         ++ lines_behind (start_of session.now) (history_of (made_of session.now)) step.now why) }
 {
     match why {
-        Refusal::Busy { .. } => put_objects(text, session, step),
+        Refusal::Busy { .. } => put_blockers(text, session, step),
         Refusal::Wait => put_waited(text, session, step),
         _ => Ok(()),
     }
+}
+
+/// Appends a line for each object in the way of a step, and for each starter at which a signal of it has
+/// two answers.
+fn put_blockers(text: &mut String, session: &Session, step: &Step) -> Result<(), AllocError>
+    ensures { OnOk result (string_bytes text.new ≡ string_bytes text.old
+        ++ busy_lines (start_of session.now) (history_of (made_of session.now)) step.now) }
+{
+    put_objects(text, session, step)?;
+    put_signals(text, session, step)
 }
 
 /// The word by which a refusal is explained.

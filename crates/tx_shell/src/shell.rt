@@ -1,14 +1,15 @@
 //! What a talk goes on.
-ghost use Rattle.std.specs.Prelude.{◌≡◌, [], IfOk, IfSome, MatchOption, OnErr, OnOk, Some, string_bytes, true};
+ghost use Rattle.std.specs.Prelude.{◌≡◌, [], ℕ, List, IfOk, IfSome, MatchBool, MatchOption, OnErr, OnOk, Some, string_bytes, true};
 ghost use Rattle.tx_journal.specs.Sessions.{position_of};
-ghost use Rattle.tx_lines.specs.Lines.{most_of, FitsHeader};
+ghost use Rattle.tx_lines.specs.Lines.{most_of, step_text, FitsHeader, FitsStep, IsOf};
 ghost use Rattle.tx_shell.specs.Forms.{SaysPosition};
 ghost use Rattle.tx_shell.specs.Meanings.{meant_line};
 ghost use Rattle.tx_shell.specs.Origins.{origin_said, SaysOrigin};
 ghost use Rattle.tx_shell.specs.Standings.{begun_by, first_standing, quit_line, standing_of, Answers, AnswersMeant};
 ghost use Rattle.tx_shell.specs.Standings.{IsNoHeader, IsQuit, Stops, StopsMeant};
+ghost use Rattle.tx_shell.specs.Versions.{grammar_of};
 
-use crate::answers::answer_words;
+use crate::answers::{answer_step_line, answer_words};
 use crate::forms::Form;
 use crate::meanings::meant_line;
 use crate::openings::{Opening, read_opening};
@@ -16,8 +17,8 @@ use crate::versions::TextVersion;
 use std::alloc::Global;
 use tx_base::{NoMemory, Step};
 use tx_journal::Session;
-use tx_lines::{Header, Version};
-use tx_plain::Room;
+use tx_lines::{Header, Version, read_step, take_line};
+use tx_plain::{Room, second_stays_itself};
 
 /// A session at a terminal, in which form it is answered, and of which version its lines are.
 #[derive(Drop)]
@@ -56,42 +57,109 @@ impl Shell {
         self.session.position()
     }
 
-    /// Does what a line says, and answers it. Nothing where the line asks for the end of the talk.
+    /// Does what a line says, and puts its answer in place of what the text had. Answers whether the talk
+    /// goes on: a line that asks for its end is not answered. The room is for what the line means.
     ///
     /// NoMemory where a growth is refused: no step came or went then, and the position is the old one,
-    /// or lies between that and the one that the line asks for.
-    pub fn answer(&mut self, alloc: Global, line: &[u8]) -> Result<Option<String>, NoMemory>
-        ensures answer { IfOk result (λ answer.
-            MatchOption answer
+    /// or lies between that and the one that the line asks for. The text has nothing to be shown.
+    pub fn answer(
+        &mut self,
+        alloc: Global,
+        room: &mut Room,
+        line: &[u8],
+        text: &mut String,
+    ) -> Result<bool, NoMemory>
+        ensures answer { IfOk result (λ goes_on.
+            MatchBool goes_on
+            (Answers (standing_of self.old) line.now (string_bytes text.new)
+            (standing_of self.new))
             (IsQuit (standing_of self.old) line.now
-            × (standing_of self.new ≡ standing_of self.old))
-            (λ text. Answers (standing_of self.old) line.now (string_bytes text)
-            (standing_of self.new))) }
+            × (standing_of self.new ≡ standing_of self.old))) }
         ensures stops { OnErr result
             (Stops (standing_of self.old) line.now (standing_of self.new)) }
     {
         if let Some(opening) = self.opening(alloc, line)? {
-            return Ok(Some(self.open(alloc, opening)?));
+            *text = self.open(alloc, opening)?;
+            return Ok(true);
         }
-        self.answer_other(alloc, line)
+        self.answer_other(alloc, room, line, text)
     }
 
-    /// Does what a line says that is no header, and answers it. Nothing where it asks for the end.
-    fn answer_other(&mut self, alloc: Global, line: &[u8]) -> Result<Option<String>, NoMemory>
-        ensures answer { IfOk result (λ answer.
-            MatchOption answer
+    /// Does what a line says that is no header, and answers it, as `answer` does. A step as version 2
+    /// spells it means itself, and is not looked at as a line of version 3.
+    fn answer_other(
+        &mut self,
+        alloc: Global,
+        room: &mut Room,
+        line: &[u8],
+        text: &mut String,
+    ) -> Result<bool, NoMemory>
+        ensures answer { IfOk result (λ goes_on.
+            MatchBool goes_on
+            (AnswersMeant (standing_of self.old) line.now (meant_line self.old.version line.now)
+            (string_bytes text.new) (standing_of self.new))
             ((meant_line self.old.version line.now ≡ Some quit_line)
-            × (standing_of self.new ≡ standing_of self.old))
-            (λ text. AnswersMeant (standing_of self.old) line.now
-            (meant_line self.old.version line.now) (string_bytes text) (standing_of self.new))) }
+            × (standing_of self.new ≡ standing_of self.old))) }
         ensures stops { OnErr result
             (Stops (standing_of self.old) line.now (standing_of self.new)) }
     {
-        let mut room = Room::new();
-        match meant_line(alloc, &mut room, self.version, line)? {
-            Some(words) => self.answer_meant(alloc, line, words.as_bytes()),
-            None => Ok(Some(self.form.nothing(alloc)?)),
+        second_stays_itself();
+        let (words, _behind) = take_line(line);
+        if let Some(step) = read_step(self.version.grammar(), words) {
+            self.answer_step(alloc, &step, text)?;
+            return Ok(true);
         }
+        self.answer_meaning(alloc, room, line, text)
+    }
+
+    /// Does what a line means, and answers it, as `answer` does.
+    #[inline(never)] // inlined, each step would reserve its stack, which is large
+    fn answer_meaning(
+        &mut self,
+        alloc: Global,
+        room: &mut Room,
+        line: &[u8],
+        text: &mut String,
+    ) -> Result<bool, NoMemory>
+        ensures answer { IfOk result (λ goes_on.
+            MatchBool goes_on
+            (AnswersMeant (standing_of self.old) line.now (meant_line self.old.version line.now)
+            (string_bytes text.new) (standing_of self.new))
+            ((meant_line self.old.version line.now ≡ Some quit_line)
+            × (standing_of self.new ≡ standing_of self.old))) }
+        ensures stops { OnErr result
+            (Stops (standing_of self.old) line.now (standing_of self.new)) }
+    {
+        match meant_line(alloc, room, self.version, line)? {
+            Some(words) => self.answer_meant(alloc, line, words.as_bytes(), text),
+            None => {
+                *text = self.form.nothing(alloc)?;
+                Ok(true)
+            }
+        }
+    }
+
+    /// Makes a step that a line spells, and answers it.
+    ///
+    /// NoMemory where a growth is refused; nothing has changed then.
+    fn answer_step(&mut self, alloc: Global, step: &Step, text: &mut String) -> Result<(), NoMemory>
+        requires fits { FitsStep step.now }
+        requires of { IsOf (grammar_of self.old.version) step.now }
+        ensures answer { (line : List ℕ) → OnOk result
+            (AnswersMeant (standing_of self.old) line (Some (step_text step.now))
+            (string_bytes text.new) (standing_of self.new)) }
+        ensures stops { OnErr result (standing_of self.new ≡ standing_of self.old) }
+    {
+        answer_step_line(
+            alloc,
+            self.form,
+            &mut self.session,
+            &mut self.refused,
+            step,
+            text,
+        )?;
+        self.is_fresh = false;
+        Ok(())
     }
 
     /// What a line says as a header, where one may come. Nothing where it is none.
@@ -111,6 +179,7 @@ impl Shell {
     /// Begins anew, as a header says.
     ///
     /// NoMemory where a growth is refused; nothing has changed then.
+    #[inline(never)] // as `answer_meaning`
     fn open(&mut self, alloc: Global, opening: Opening) -> Result<String, NoMemory>
         requires { FitsHeader opening.header }
         ensures told { IfOk result (λ text. SaysPosition self.old.form 0 (string_bytes text)) }
@@ -126,25 +195,26 @@ impl Shell {
         Ok(text)
     }
 
-    /// Does what the words say that a line means, and answers it. Nothing where they ask for the end.
+    /// Does what the words say that a line means, and answers it, as `answer` does.
     fn answer_meant(
         &mut self,
         alloc: Global,
         line: &[u8],
         words: &[u8],
-    ) -> Result<Option<String>, NoMemory>
-        ensures answer { IfOk result (λ answer.
-            MatchOption answer
-            ((Some words.now ≡ Some quit_line) × (standing_of self.new ≡ standing_of self.old))
-            (λ text. AnswersMeant (standing_of self.old) line.now (Some words.now)
-            (string_bytes text) (standing_of self.new))) }
+        text: &mut String,
+    ) -> Result<bool, NoMemory>
+        ensures answer { IfOk result (λ goes_on.
+            MatchBool goes_on
+            (AnswersMeant (standing_of self.old) line.now (Some words.now)
+            (string_bytes text.new) (standing_of self.new))
+            ((Some words.now ≡ Some quit_line) × (standing_of self.new ≡ standing_of self.old))) }
         ensures stops { OnErr result
             (StopsMeant (standing_of self.old) words.now (standing_of self.new)) }
     {
         if words == b"quit".as_slice() {
-            return Ok(None);
+            return Ok(false);
         }
-        let text = answer_words(
+        answer_words(
             alloc,
             self.form,
             self.version,
@@ -152,9 +222,10 @@ impl Shell {
             &mut self.refused,
             line,
             words,
+            text,
         )?;
         self.is_fresh = false;
-        Ok(Some(text))
+        Ok(true)
     }
 }
 

@@ -1,14 +1,13 @@
 //! Makes a step.
-ghost use Rattle.std.specs.Prelude.{◌≡◌, ◌+◌, ◌≤◌, ◌++◌, ◌∷◌, [], IfOk, OnErr, length, string_bytes, take};
+ghost use Rattle.std.specs.Prelude.{◌≡◌, ◌+◌, ◌≤◌, ◌++◌, ◌∷◌, [], OnErr, OnOk, length, string_bytes, take};
 ghost use Rattle.tx_journal.specs.Sessions.{start_of, IsAtEnd, SameBoot};
 ghost use Rattle.tx_shell.specs.Answers.{AnswersStep, MakesStep};
 ghost use Rattle.tx_shell.specs.Places.{place_of};
 ghost use Rattle.tx_text.specs.Replies.{reply_text};
 
 use crate::forms::Form;
-use crate::helps::text_as;
-use std::alloc::Global;
-use tx_base::{NoMemory, Reply, Step};
+use std::alloc::{AllocError, Global};
+use tx_base::{ABORTED_BY_CALL, NoMemory, Reply, Step};
 use tx_journal::Session;
 use tx_lines::put;
 use tx_text::put_reply;
@@ -16,32 +15,31 @@ use tx_text::put_reply;
 /// The worker that makes the steps.
 const WORKER: u16 = 1;
 
-/// How many bytes most replies take at most.
-const REPLY_BYTES: usize = 32;
-
-/// Makes a step at the end of the journal, and answers its reply. Elsewhere it is not made, and both
-/// ways out are named.
+/// Makes a step at the end of the journal, and puts its reply in place of what the text had. Elsewhere it is
+/// not made, and both ways out are named.
 ///
-/// NoMemory where a growth is refused; no step came or went then.
+/// NoMemory where a growth is refused; no step came or went then. The text has nothing to be shown.
 pub fn answer_step(
     alloc: Global,
     form: Form,
     session: &mut Session,
     step: &Step,
-) -> Result<String, NoMemory>
-    ensures answer { IfOk result (λ text.
-        AnswersStep form (start_of session.old) (place_of session.old) step.now (string_bytes text)
-        (place_of session.new)) }
+    text: &mut String,
+) -> Result<(), NoMemory>
+    ensures answer { OnOk result
+        (AnswersStep form (start_of session.old) (place_of session.old) step.now
+        (string_bytes text.new) (place_of session.new)) }
     ensures refused { OnErr result (place_of session.new ≡ place_of session.old) }
     ensures boot { SameBoot session.new session.old }
 {
     if session.position() == session.len() {
-        return make_step(alloc, form, session, step);
+        return make_step(alloc, form, session, step, text);
     }
-    form.ahead(alloc)
+    *text = form.ahead(alloc)?;
+    Ok(())
 }
 
-/// Makes a step at the end of the journal, and answers its reply.
+/// Makes a step at the end of the journal, and puts its reply in place of what the text had.
 ///
 /// NoMemory where a growth is refused; no step came or went then.
 fn make_step(
@@ -49,22 +47,24 @@ fn make_step(
     form: Form,
     session: &mut Session,
     step: &Step,
-) -> Result<String, NoMemory>
+    text: &mut String,
+) -> Result<(), NoMemory>
     requires { IsAtEnd session.old }
-    ensures answer { IfOk result (λ text.
-        MakesStep form (start_of session.old) (place_of session.old) step.now (string_bytes text)
-        (place_of session.new)) }
+    ensures answer { OnOk result
+        (MakesStep form (start_of session.old) (place_of session.old) step.now
+        (string_bytes text.new) (place_of session.new)) }
     ensures refused { OnErr result (place_of session.new ≡ place_of session.old) }
     ensures boot { SameBoot session.new session.old }
 {
     let _machine = session.machine();
     let count = session.len();
-    let reply = session.step(alloc, WORKER, step);
+    let mut reply = Reply::Ended;
+    session.step_into(alloc, WORKER, step, &mut reply);
     if reply.wants_memory() {
         return Err(NoMemory);
     }
-    match form.reply(alloc, session.len(), &reply) {
-        Ok(text) => Ok(text),
+    match form.put_reply(alloc, session.len(), &reply, text) {
+        Ok(()) => Ok(()),
         Err(NoMemory) => {
             take_back(session, count);
             Err(NoMemory)
@@ -72,21 +72,24 @@ fn make_step(
     }
 }
 
-/// The line of a reply.
-///
-/// NoMemory where a growth is refused.
-pub fn reply_line(alloc: Global, reply: &Reply) -> Result<String, NoMemory>
-    ensures { IfOk result (λ text. string_bytes text ≡ reply_text reply.now ++ 10 ∷ []) }
+/// Puts the line of a reply in place of what the text had. The only error is that a growth of memory was
+/// refused: the text may then have some of it.
+pub fn put_reply_line(text: &mut String, reply: &Reply) -> Result<(), AllocError>
+    ensures { OnOk result (string_bytes text.new ≡ reply_text reply.now ++ 10 ∷ []) }
 {
+    text.clear();
     if let Reply::Done(ret) = reply {
         if *ret == 0 {
-            return text_as(alloc, "ok 0\n"); // what most steps are answered
+            return put(text, "ok 0\n"); // what most steps are answered
         }
     }
-    let mut text = String::with_capacity(alloc, REPLY_BYTES)?;
-    put_reply(&mut text, reply)?;
-    put(&mut text, "\n")?;
-    Ok(text)
+    if let Reply::Aborted(status) = reply {
+        if *status == ABORTED_BY_CALL {
+            return put(text, "aborted 201\n"); // and most aborts
+        }
+    }
+    put_reply(text, reply)?;
+    put(text, "\n")
 }
 
 /// Takes the step after so many back, if it was made, and lets go of it. It takes no memory.

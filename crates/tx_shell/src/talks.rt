@@ -7,6 +7,7 @@ use crate::terminal::{Got, Terminal};
 use std::alloc::Global;
 use thiserror::Error;
 use tx_base::NoMemory;
+use tx_plain::Room;
 
 /// How many lines a talk may have.
 const LINES: u64 = 1 << 32;
@@ -42,19 +43,19 @@ pub fn talk<T: Terminal>(
         (T.log terminal.new) result }
 {
     let mut line = Vec::new(alloc);
+    let mut room = Room::new();
+    let mut text = String::new(alloc);
     for _number in 0..LINES {
         match terminal.line(shell.position(), &mut line) {
             Got::Line => {}
             Got::End => return Ok(()),
             Got::Failed => return Err(TalkFault::Reader),
         }
-        let answer = match shell.answer(alloc, line.as_slice()) {
-            Ok(answer) => answer,
+        match shell.answer(alloc, &mut room, line.as_slice(), &mut text) {
+            Ok(true) => {}
+            Ok(false) => return Ok(()),
             Err(NoMemory) => return Err(TalkFault::NoMemory),
-        };
-        let Some(text) = answer else {
-            return Ok(());
-        };
+        }
         if !terminal.show(text.as_bytes()) {
             return Err(TalkFault::Writer);
         }

@@ -18,6 +18,7 @@ const NEITHER: &str = "column 1: neither a step nor a command\n";
 /// What is wrong with a line of that version, which means those words, in a form.
 ///
 /// NoMemory where a growth is refused.
+#[inline(never)] // as `answer_ask`
 pub fn tell_in(
     alloc: Global,
     form: Form,

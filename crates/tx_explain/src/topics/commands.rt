@@ -47,10 +47,10 @@ debug: walks back and forward over the steps of a schedule, as commands say.
         ],
         text: "\
 shell: answers steps and commands, each line before it reads the next.
-  form     txos shell
+  form     txos shell, or txos shell --json for answers in JSON
   lines    a step of a schedule; back, forward, goto K, state, moved K as debug
            has them; goto end, steps, steps K, steps K L, text, try STEP,
-           without S, why STEP, owns, owns S, when PIECE, next PIECE, cut,
+           without S, why, why STEP, owns, owns S, when PIECE, next PIECE, cut,
            help, help WORD, quit; and before all others a header, if any
   writes   the reply, the answer, or what is wrong with the line
   example  txos shell

@@ -12,8 +12,7 @@ use Rattle.tx_shell.proofs.json_answers.tell_trial.Goals as goal
 pub returns-clause-answer : goal.returns-clause-answer
 returns-clause-answer c = λ version refused.
     let k = c.args.session.now in
-    on_ok c.trial_answer.result (λ text. IsLineOf (trial_answer c.position.result c.in_ok-reply.reply c.as_str-3.result.now) (string_bytes text))
+    on_ok c.trial_answer.result (λ text. IsLineOf (trial_answer c.position.result c.in_ok-reply.reply c.as_str.result.now) (string_bytes text))
     (λ text. AnswersAskJson (origin_of version k) (place_of k) refused (asks.Try c.args.step.now) (string_bytes text) (place_of k))
-    (λ text line. trial_told version refused k c.args.step.now c.in_ok-reply.reply c.position.result c.as_str.result.now c.as_str-2.result.now c.as_str-3.result.now (string_bytes text) c.in_ok-reply.ensures.reply
-    (c.position.ensures.count ∙ ap (λ (s : SessionState). position_of s) c.in_ok-reply.ensures.same) (c.as_str.ensures.value ∙ c.in_ok-before.ensures) (c.as_str-2.ensures.value ∙ c.in_ok-reply.ensures.text)
-    (c.as_str-3.ensures.value ∙ c.in_ok-lines.ensures) line) c.trial_answer.ensures
+    (λ text line. trial_told version refused k c.args.step.now c.in_ok-reply.reply c.position.result c.as_str.result.now (string_bytes text) c.in_ok-reply.ensures.reply
+    (c.position.ensures.count ∙ ap (λ (s : SessionState). position_of s) c.in_ok-reply.ensures.same) (c.as_str.ensures.value ∙ c.in_ok-reply.ensures.lines) line) c.trial_answer.ensures

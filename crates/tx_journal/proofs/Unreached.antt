@@ -1,0 +1,437 @@
+-- What a step leaves of the state as it was.
+use Rattle.std.proofs.Common.{◌≡◌, ◌≢◌, ◌⊎◌, ◌==◌, ℕ, Bool, true, false, not, List, [], ◌∷◌, ◌++◌, ◌&&◌, ◌||◌, Option, Some, None, if◌then◌else◌, is_some, refl, sym, ap, subst, ◌∙◌, eqb-true, inl, inr, true≢false}
+use Rattle.std.proofs.lemmas.Bool.{both_ways}
+use Rattle.tx_base.specs.declared.marks.Mark.{Mark}
+use Rattle.tx_base.specs.declared.names.Pid.{Pid}
+use Rattle.tx_base.specs.declared.names.Signo.{Signo}
+use Rattle.tx_base.specs.declared.steps.Call.{Call}
+use Rattle.tx_base.specs.declared.steps.Call.TheVariants as call
+use Rattle.tx_base.specs.declared.steps.Refusal.{Refusal}
+use Rattle.tx_base.specs.declared.steps.Refusal.TheVariants.{NoProcess, NotRunning}
+use Rattle.tx_base.specs.declared.steps.Reply.{Reply}
+use Rattle.tx_base.specs.declared.steps.Step.{Step}
+use Rattle.tx_base.specs.declared.steps.Step.TheVariants.{Call as Calls, Deliver, KernelAbort}
+use Rattle.tx_journal.proofs.OwnNames.{all_targets, alone, is_alike}
+use Rattle.tx_journal.specs.Lives.{has_place, starter_by, starter_of}
+use Rattle.tx_journal.specs.Reach.{is_given_up, is_named, may_change, own_mark, own_table}
+use Rattle.tx_journal.specs.ReachLaws.{ReachLaws}
+use Rattle.tx_laws.specs.Fits.{Fits, Passes, HoldsFor}
+use Rattle.tx_laws.specs.Footprints.{is_abort, is_shared}
+use Rattle.tx_laws.specs.Sound.{IsSound}
+use Rattle.tx_model.specs.Answer.{accepted_reply, answer, is_running, is_there, IsAccepted}
+use Rattle.tx_model.specs.Events.{Event, Note, actor, after, effect, objects, process_of}
+use Rattle.tx_model.specs.History.{event_footprint, is_left_in, left_out_before, nobody, targets}
+use Rattle.tx_model.specs.Membership.{Kind, Ordinary, Forking, Beginning, Leaving, Aborting, Role, Outside, Within, Continues, Parks, Forks, Begins, Commits, Aborts, Table, event_in, is_member_of, is_of, kind_event, mark_unless_of, marks_after, new_mark, defers_in, others_open, parked_mark, says_ended}
+use Rattle.tx_model.specs.ObjectFacts.{has_either, has_left, same_is}
+use Rattle.tx_model.specs.State.{Object, Proc, Desc, Pipe, Held, Sending, State, has_object, same_object}
+use Rattle.tx_model.specs.StateLaws.{EqualAt}
+use Rattle.tx_model.specs.View.{View, event_on, first_reply, next, present, role_on}
+use Rattle.tx_model.specs.Words.{kind_of, kind_role, processes_of, unless_refused}
+
+-- the process of an accepted step runs
+runs_if : (there runs : Bool) (rest : Option Refusal) (reply : Reply) → IsAccepted (unless_refused (if not there then Some NoProcess else (if not runs then Some NotRunning else rest)) reply) → runs ≡ true
+runs_if true true rest reply h = refl
+runs_if true false rest reply h = absurd h
+runs_if false runs rest reply h = absurd h
+
+call_runs : (V : View) (p : Pid) (c : Call) → IsAccepted (answer V (Calls p c)) → is_running ((present V).procs p.0) ≡ true
+unfolding answer
+call_runs V p c h = runs_if (is_there V p.0) (is_running ((present V).procs p.0)) _ (accepted_reply V (Calls p c)) h
+
+delivery_runs : (V : View) (p : Pid) (signo : Signo) → IsAccepted (answer V (Deliver p signo)) → is_running ((present V).procs p.0) ≡ true
+unfolding answer
+delivery_runs V p signo h = runs_if (is_there V p.0) (is_running ((present V).procs p.0)) _ (accepted_reply V (Deliver p signo)) h
+
+-- who makes the event of a step that is no abort
+actor_in : (r : Role) (ev : Event) → actor (event_in r ev) ≡ actor ev
+actor_in Outside ev = refl
+actor_in (Within s part) ev = refl
+actor_in (Commits s) ev = refl
+actor_in (Aborts s k) ev = refl
+
+kind_actor : (t : Table) (p : ℕ) (step : Step) (kind : Kind) (r : Reply) (mark : Option Mark) → process_of step ≡ p → is_abort (kind_role t p kind r mark) ≡ false → actor (kind_event t p step kind mark) ≡ p
+kind_actor t p step Ordinary r mark own h = own
+kind_actor t p step (Forking c) r mark own h = own
+kind_actor t p step (Beginning defers) r None own h = refl
+kind_actor t p step (Beginning defers) r (Some m) own h = refl
+kind_actor t p step Leaving r None own h = refl
+kind_actor t p step Leaving r (Some m) own h = refl
+kind_actor t p step Aborting r None own h = refl
+kind_actor t p step Aborting r (Some m) own h = cc
+
+-- a step is of the transaction of its starter, if it is of one
+abbrev IsOf : ℕ → Role → Type 0
+IsOf s Outside = Unit {0}
+IsOf s (Within u part) = u ≡ s
+IsOf s (Commits u) = u ≡ s
+IsOf s (Aborts u k) = u ≡ s
+
+kind_starter : (t : Table) (p : ℕ) (kind : Kind) (r : Reply) (mark : Option Mark) → IsOf (starter_by p mark) (kind_role t p kind r mark)
+kind_starter t p Ordinary r None = tt
+kind_starter t p Ordinary r (Some m) = by (says_ended r) (others_open t m.starter.0 p t.width)
+  where
+    by : (ends others : Bool) → IsOf m.starter.0 (if ends then (if others then Within m.starter.0 Parks else Commits m.starter.0) else Within m.starter.0 Continues)
+    by true true = refl
+    by true false = refl
+    by false others = refl
+kind_starter t p (Forking c) r None = tt
+kind_starter t p (Forking c) r (Some m) = refl
+kind_starter t p (Beginning defers) r None = refl
+kind_starter t p (Beginning defers) r (Some m) = refl
+kind_starter t p Leaving r None = tt
+kind_starter t p Leaving r (Some m) = by (others_open t m.starter.0 p t.width)
+  where
+    by : (others : Bool) → IsOf m.starter.0 (if others then Within m.starter.0 Parks else Commits m.starter.0)
+    by true = refl
+    by false = refl
+kind_starter t p Aborting r None = tt
+kind_starter t p Aborting r (Some m) = refl
+
+step_starter : (V : View) (step : Step) → IsOf (starter_of V.table step) (role_on V step)
+step_starter V (Calls p c) = kind_starter V.table p.0 (kind_of c) (first_reply V (Calls p c)) (V.table.marks p.0)
+step_starter V (Deliver p signo) = kind_starter V.table p.0 Ordinary (first_reply V (Deliver p signo)) (V.table.marks p.0)
+step_starter V (KernelAbort s) = refl
+
+-- what aborts is the kernel's abort, or a member's
+aborting : (t : Table) (p : ℕ) (kind : Kind) (r : Reply) (mark : Option Mark) → is_abort (kind_role t p kind r mark) ≡ true → (kind ≡ Aborting) × (is_some mark ≡ true)
+aborting t p Ordinary r None h = cc
+aborting t p Ordinary r (Some m) h = absurd (by (says_ended r) (others_open t m.starter.0 p t.width) h)
+  where
+    by : (ends others : Bool) → is_abort (if ends then (if others then Within m.starter.0 Parks else Commits m.starter.0) else Within m.starter.0 Continues) ≡ true → ⊥
+    by true true h = cc
+    by true false h = cc
+    by false others h = cc
+aborting t p (Forking c) r None h = cc
+aborting t p (Forking c) r (Some m) h = cc
+aborting t p (Beginning defers) r None h = cc
+aborting t p (Beginning defers) r (Some m) h = cc
+aborting t p Leaving r None h = cc
+aborting t p Leaving r (Some m) h = absurd (by (others_open t m.starter.0 p t.width) h)
+  where
+    by : (others : Bool) → is_abort (if others then Within m.starter.0 Parks else Commits m.starter.0) ≡ true → ⊥
+    by true h = cc
+    by false h = cc
+aborting t p Aborting r None h = cc
+aborting t p Aborting r (Some m) h = (refl, refl)
+
+xabort_place : (t : Table) (p : Pid) (c : Call) → kind_of c ≡ Aborting → is_some (t.marks p.0) ≡ true → has_place t (Calls p c) ≡ true
+xabort_place t p (call.Map a) is some = cc
+xabort_place t p (call.Unmap a) is some = cc
+xabort_place t p (call.Protect a b) is some = cc
+xabort_place t p (call.Store a b) is some = cc
+xabort_place t p (call.Load a) is some = cc
+xabort_place t p (call.Fork c) is some = cc
+xabort_place t p (call.Exit status) is some = cc
+xabort_place t p (call.Waitpid a b) is some = cc
+xabort_place t p call.Getpid is some = cc
+xabort_place t p call.Getppid is some = cc
+xabort_place t p (call.Setuid a) is some = cc
+xabort_place t p (call.Seteuid a) is some = cc
+xabort_place t p (call.Setgid a) is some = cc
+xabort_place t p (call.Setegid a) is some = cc
+xabort_place t p (call.Pipe q r w) is some = cc
+xabort_place t p (call.Dup a) is some = cc
+xabort_place t p (call.Dup2 a b) is some = cc
+xabort_place t p (call.Close a) is some = cc
+xabort_place t p (call.SetNonblock a b) is some = cc
+xabort_place t p (call.Read a b c) is some = cc
+xabort_place t p (call.Write a b c) is some = cc
+xabort_place t p (call.Kill a b) is some = cc
+xabort_place t p (call.Sigqueue a b c) is some = cc
+xabort_place t p (call.Sigaction a b) is some = cc
+xabort_place t p (call.Sigprocmask a b) is some = cc
+xabort_place t p call.Sigpending is some = cc
+xabort_place t p call.Sigreturn is some = cc
+xabort_place t p (call.ConsoleWrite a b) is some = cc
+xabort_place t p (call.Jump a b) is some = cc
+xabort_place t p (call.Keep a) is some = cc
+xabort_place t p call.SysXbegin is some = cc
+xabort_place t p call.SysXbeginDefer is some = cc
+xabort_place t p call.SysXend is some = cc
+xabort_place t p call.SysXabort is some = some
+
+abort_place : (V : View) (step : Step) → is_abort (role_on V step) ≡ true → has_place V.table step ≡ true
+abort_place V (Calls p c) h =
+    let is = aborting V.table p.0 (kind_of c) (first_reply V (Calls p c)) (V.table.marks p.0) h in
+    xabort_place V.table p c is.0 is.1
+abort_place V (Deliver p signo) h =
+    let is = aborting V.table p.0 Ordinary (first_reply V (Deliver p signo)) (V.table.marks p.0) h in absurd (never is.0)
+  where
+    never : Ordinary ≡ Aborting → ⊥
+    never = λ e. cc
+abort_place V (KernelAbort s) h = refl
+
+equal_trans : (R S T : State) (o : Object) → EqualAt R S o → EqualAt S T o → EqualAt R T o
+equal_trans R S T (Proc n) a b = a ∙ b
+equal_trans R S T (Desc n) a b = a ∙ b
+equal_trans R S T (Pipe n) a b = a ∙ b
+equal_trans R S T (Held n) a b = a ∙ b
+
+none_left : (n s : ℕ) → (if n == s then false else false) ≡ false
+none_left n s = by (n == s)
+  where
+    by : (b : Bool) → (if b then false else false) ≡ false
+    by true = refl
+    by false = refl
+
+-- no abort is made on the state as it is
+made_on : (V : View) (r : Role) (ev : Event) → is_abort r ≡ false → (if is_left_in r nobody then after ev (V.without (left_out_before r nobody)) else V.without (left_out_before r nobody)) ≡ after ev (present V)
+made_on V Outside ev h = refl
+made_on V (Within s part) ev h = refl
+made_on V (Commits s) ev h = λ i. after ev (V.without (λ n. none_left n s i))
+made_on V (Aborts s k) ev h = cc
+
+next_on : (V : View) (step : Step) → is_abort (role_on V step) ≡ false → present (next V step) ≡ after (event_on V step) (present V)
+unfolding next
+next_on V step h = made_on V (role_on V step) (event_on V step) h
+
+-- an abort on the state without its transaction
+abbrev only : ℕ → ℕ → Bool
+only s n = if n == s then true else false
+
+next_after : (V : View) (step : Step) (s k : ℕ) (ev : Event) → role_on V step ≡ Aborts s k → event_on V step ≡ ev → present (next V step) ≡ after ev (V.without (only s))
+unfolding next
+next_after V step s k ev is same = λ i. by (is i) (same i)
+  where
+    by : Role → Event → State
+    by r ev = if is_left_in r nobody then after ev (V.without (left_out_before r nobody)) else V.without (left_out_before r nobody)
+
+either_false : (a b : Bool) → (a || b) ≡ false → (a ≡ false) × (b ≡ false)
+either_false true b h = cc
+either_false false b h = (refl, h)
+
+module _ (laws : ReachLaws) (V : View) (step : Step) (sound : IsSound V) (accepted : IsAccepted (answer V step)) where
+  abbrev s : ℕ
+  s = starter_of V.table step
+
+  abbrev ev : Event
+  ev = event_on V step
+
+  abbrev S : State
+  S = present V
+
+  -- an abort leaves what its transaction has not reserved
+  abort_leaves : (u k : ℕ) → role_on V step ≡ Aborts u k → (o : Object) → V.reserved u o ≡ false → EqualAt (present (next V step)) S o
+  unfolding objects effect has_object
+  abort_leaves u k is o free =
+      let fit = subst (λ (r : Role). Fits r ev (process_of step) V) is (laws.fits V step sound accepted).1 in
+      let own : V.reserved u (Proc u) ≡ true = sound.own_procs u u fit.0 in
+      let other : same_object o (Proc u) ≡ false = by_same o own free in
+      let there : State = V.without (only u) in
+      subst (λ (T : State). EqualAt T S o) (sym (next_after V step u k (Note u fit.1.0) is fit.1.1))
+      (equal_trans (after (Note u fit.1.0) there) there S o
+      (laws.stay (Note u fit.1.0) there o (ap (λ (b : Bool). if b then true else false) other))
+      (sound.coherent (only u) nobody o (λ w reserved. by_owner w reserved)).equal)
+    where
+      by_same : (o : Object) → V.reserved u (Proc u) ≡ true → V.reserved u o ≡ false → same_object o (Proc u) ≡ false
+      by_same o own free = by (same_object o (Proc u)) refl
+        where
+          by : (b : Bool) → same_object o (Proc u) ≡ b → b ≡ false
+          by true same = absurd (both_ways (V.reserved u o) free (ap (V.reserved u) (same_is o (Proc u) same) ∙ own))
+          by false same = refl
+
+      by_owner : (w : ℕ) → V.reserved w o ≡ true → only u w ≡ false
+      by_owner w reserved = by (w == u) refl
+        where
+          by : (b : Bool) → (w == u) ≡ b → (if b then true else false) ≡ false
+          by true same = absurd (both_ways (V.reserved u o) free (subst (λ (n : ℕ). V.reserved n o ≡ true) (eqb-true w u same) reserved))
+          by false other = refl
+
+  -- another step leaves what it does not name, and sends nothing to
+  others_named : (p : ℕ) → process_of step ≡ p → s ≡ starter_by p (V.table.marks p) → is_running (S.procs (process_of step)) ≡ true → actor ev ≡ p → is_abort (role_on V step) ≡ false → (o : Object) → is_shared o ≡ true →
+      is_named V step o ≡ has_object o (objects ev S ++ processes_of (effect ev S).sends)
+  unfolding event_footprint
+  others_named p own at runs made no_abort o shared =
+      let alike = is_alike V step in
+      laws.named (alone V step) step o runs (ap is_abort alike.role ∙ no_abort) shared
+      ∙ ap (λ (e : Event). has_object o (objects e S ++ targets (own_table s V.table) (actor e) (effect e S).sends)) alike.event
+      ∙ ap (λ (q : ℕ). has_object o (objects ev S ++ targets (own_table s V.table) q (effect ev S).sends)) made
+      ∙ ap (λ (u : ℕ). has_object o (objects ev S ++ targets (own_table u V.table) p (effect ev S).sends)) at
+      ∙ ap (λ (os : List Object). has_object o (objects ev S ++ os)) (all_targets V.table p (effect ev S).sends)
+
+  named_stays : (p : ℕ) → process_of step ≡ p → s ≡ starter_by p (V.table.marks p) → is_running (S.procs (process_of step)) ≡ true → actor ev ≡ p → is_abort (role_on V step) ≡ false → (o : Object) → is_shared o ≡ true →
+      is_named V step o ≡ false → EqualAt (present (next V step)) S o
+  named_stays p own at runs made no_abort o shared unnamed =
+      subst (λ (T : State). EqualAt T S o) (sym (next_on V step no_abort))
+      (laws.stay ev S o (sym (others_named p own at runs made no_abort o shared) ∙ unnamed))
+
+-- a step leaves every object as it was that it may not change
+module _ (laws : ReachLaws) where
+  plain_stays : (V : View) (step : Step) (sound : IsSound V) (accepted : IsAccepted (answer V step)) → is_abort (role_on V step) ≡ false → (o : Object) → is_shared o ≡ true → is_named V step o ≡ false →
+      EqualAt (present (next V step)) (present V) o
+  plain_stays V (Calls p c) sound accepted no_abort o shared unnamed =
+      let step : Step = Calls p c in
+      let made : actor (event_on V step) ≡ p.0 = actor_in (role_on V step) (kind_event V.table p.0 step (kind_of c) (V.table.marks p.0)) ∙ kind_actor V.table p.0 step (kind_of c) (first_reply V step) (V.table.marks p.0) refl no_abort in
+      named_stays laws V step sound accepted p.0 refl refl (call_runs V p c accepted) made no_abort o shared unnamed
+  plain_stays V (Deliver p signo) sound accepted no_abort o shared unnamed =
+      let step : Step = Deliver p signo in
+      let made : actor (event_on V step) ≡ p.0 = actor_in (role_on V step) (kind_event V.table p.0 step Ordinary (V.table.marks p.0)) ∙ kind_actor V.table p.0 step Ordinary (first_reply V step) (V.table.marks p.0) refl no_abort in
+      named_stays laws V step sound accepted p.0 refl refl (delivery_runs V p signo accepted) made no_abort o shared unnamed
+  plain_stays V (KernelAbort u) sound accepted no_abort o shared unnamed = absurd (true≢false no_abort)
+
+  pub objects_stay : (V : View) (step : Step) (o : Object) → IsSound V → IsAccepted (answer V step) → is_shared o ≡ true → may_change V step o ≡ false → EqualAt (present (next V step)) (present V) o
+  objects_stay V step o sound accepted shared unchanged = by (role_on V step) refl
+    where
+      apart : (is_named V step o ≡ false) × (is_given_up V step o ≡ false)
+      apart = either_false (is_named V step o) (is_given_up V step o) unchanged
+
+      kept : (u k : ℕ) → role_on V step ≡ Aborts u k → V.reserved u o ≡ false
+      kept u k is =
+          let place : has_place V.table step ≡ true = abort_place V step (ap is_abort is) in
+          let same : u ≡ starter_of V.table step = subst (IsOf (starter_of V.table step)) is (step_starter V step) in
+          ap (λ (n : ℕ). V.reserved n o) same
+          ∙ ap (λ (b : Bool). b && V.reserved (starter_of V.table step) o) (sym place)
+          ∙ apart.1
+
+      by : (r : Role) → role_on V step ≡ r → EqualAt (present (next V step)) (present V) o
+      by Outside is = plain_stays V step sound accepted (ap is_abort is) o shared apart.0
+      by (Within u part) is = plain_stays V step sound accepted (ap is_abort is) o shared apart.0
+      by (Commits u) is = plain_stays V step sound accepted (ap is_abort is) o shared apart.0
+      by (Aborts u k) is = abort_leaves laws V step sound accepted u k is o (kept u k is)
+
+-- a mark that is none of s
+none_own : (s : ℕ) (mark : Option Mark) → is_of s mark ≡ false → own_mark s mark ≡ None
+none_own s None h = refl
+none_own s (Some m) h = ap (λ (b : Bool). if b then Some m else None) h
+
+not_both : (s u : ℕ) (mark : Option Mark) → u ≢ s → is_of u mark ≡ true → is_of s mark ≡ false
+not_both s u None other h = refl
+not_both s u (Some m) other h = by (m.starter.0 == s) refl
+  where
+    by : (b : Bool) → (m.starter.0 == s) ≡ b → b ≡ false
+    by true is = absurd (other (sym (eqb-true m.starter.0 u h) ∙ eqb-true m.starter.0 s is))
+    by false is = refl
+
+new_other : (s u : ℕ) (defers : Bool) → u ≢ s → own_mark s (Some (new_mark u defers)) ≡ None
+new_other s u defers other = by (u == s) refl
+  where
+    by : (b : Bool) → (u == s) ≡ b → (if b then Some (new_mark u defers) else None) ≡ None
+    by true is = absurd (other (eqb-true u s is))
+    by false is = refl
+
+parked_other : (s : ℕ) (mark : Option Mark) → is_of s mark ≡ false → own_mark s (parked_mark mark) ≡ own_mark s mark
+parked_other s None h = refl
+parked_other s (Some m) h = ap (λ (b : Bool). if b then Some (record m { ended = true }) else None) h ∙ sym (ap (λ (b : Bool). if b then Some m else None) h)
+
+unmarked_other : (s u : ℕ) (mark : Option Mark) → u ≢ s → own_mark s (mark_unless_of u mark) ≡ own_mark s mark
+unmarked_other s u None other = refl
+unmarked_other s u (Some m) other = by (m.starter.0 == u) refl
+  where
+    by : (b : Bool) → (m.starter.0 == u) ≡ b → own_mark s (if b then None else Some m) ≡ own_mark s (Some m)
+    by true is = sym (none_own s (Some m) (not_both s u (Some m) other is))
+    by false is = refl
+
+put_other : (s k : ℕ) (marks : ℕ → Option Mark) (mark : Option Mark) → own_mark s mark ≡ own_mark s (marks k) → (n : ℕ) → own_mark s (if n == k then mark else marks n) ≡ own_mark s (marks n)
+put_other s k marks mark same n = by (n == k) refl
+  where
+    by : (b : Bool) → (n == k) ≡ b → own_mark s (if b then mark else marks n) ≡ own_mark s (marks n)
+    by true at = same ∙ ap (λ (m : ℕ). own_mark s (marks m)) (sym (eqb-true n k at))
+    by false at = refl
+
+-- the step is of no transaction of s
+abbrev IsApart : ℕ → Role → Type 0
+IsApart s Outside = Unit {0}
+IsApart s (Within u part) = u ≢ s
+IsApart s (Commits u) = u ≢ s
+IsApart s (Aborts u k) = u ≢ s
+
+-- the marks of another transaction stay
+marks_stay : (laws : ReachLaws) (V : View) (made : Event) (p s : ℕ) (r : Role) → IsSound V → Passes r made V → Fits r made p V → IsApart s r → (n : ℕ) → own_mark s (marks_after r p V.table.marks n) ≡ own_mark s (V.table.marks n)
+unfolding event_footprint
+marks_stay laws V made p s Outside sound clear fit other n = refl
+marks_stay laws V made p s (Within u Continues) sound clear fit other n = refl
+marks_stay laws V made p s (Within u Parks) sound clear fit other n =
+    put_other s p V.table.marks (parked_mark (V.table.marks p)) (parked_other s (V.table.marks p) (not_both s u (V.table.marks p) other fit.progress_fits)) n
+marks_stay laws V made p s (Within u (Forks c)) sound clear fit other n =
+    put_other s c V.table.marks (Some (new_mark u (defers_in (V.table.marks u)))) (new_other s u (defers_in (V.table.marks u)) other ∙ sym (none_own s (V.table.marks c) (no_child (is_of s (V.table.marks c)) refl))) n
+  where
+    no_child : (b : Bool) → is_of s (V.table.marks c) ≡ b → b ≡ false
+    no_child true member =
+        let its : is_member_of V.table s (actor made) ≡ true =
+        laws.clear V made (Proc c) s sound clear (has_left (Proc c) (objects made (present V)) (targets V.table (actor made) (effect made (present V)).sends) fit.progress_fits.1) (sound.own_procs s c member) in
+        absurd (other (sym (fit.mine s (subst (λ (q : ℕ). is_member_of V.table s q ≡ true) fit.actor_is its))))
+    no_child false none = refl
+marks_stay laws V made p s (Within u (Begins defers)) sound clear fit other n =
+    put_other s u V.table.marks (Some (new_mark u defers)) (new_other s u defers other ∙ sym (ap (own_mark s) (ap V.table.marks fit.progress_fits.0 ∙ fit.progress_fits.1))) n
+marks_stay laws V made p s (Commits u) sound clear fit other n = unmarked_other s u (V.table.marks n) other
+marks_stay laws V made p s (Aborts u k) sound clear fit other n = unmarked_other s u (V.table.marks n) other
+
+-- what is sent is held by nobody
+held_sent : (s : ℕ) (ms : List Sending) → has_object (Held s) (processes_of ms) ≡ true → ⊥
+unfolding has_object
+held_sent s [] h = cc
+held_sent s (m ∷ ms) h = held_sent s ms h
+
+-- an event of a step holds for its own transaction alone
+kind_holds : (s : ℕ) (t : Table) (p : ℕ) (step : Step) (kind : Kind) (mark : Option Mark) → HoldsFor s (kind_event t p step kind mark) → s ≡ starter_by p mark
+kind_holds s t p step Ordinary None h = absurd h
+kind_holds s t p step Ordinary (Some m) h = sym h
+kind_holds s t p step (Forking c) None h = absurd h
+kind_holds s t p step (Forking c) (Some m) h = sym h
+kind_holds s t p step (Beginning defers) None h = absurd h
+kind_holds s t p step (Beginning defers) (Some m) h = absurd h
+kind_holds s t p step Leaving None h = absurd h
+kind_holds s t p step Leaving (Some m) h = absurd h
+kind_holds s t p step Aborting None h = absurd h
+kind_holds s t p step Aborting (Some m) h = absurd h
+
+role_holds : (s own : ℕ) (r : Role) (made : Event) → IsOf own r → (HoldsFor s made → s ≡ own) → HoldsFor s (event_in r made) → s ≡ own
+role_holds s own Outside made of its h = its h
+role_holds s own (Within u part) made of its h = its h
+role_holds s own (Commits u) made of its (inl same) = same ∙ of
+role_holds s own (Commits u) made of its (inr h) = its h
+role_holds s own (Aborts u k) made of its h = its h
+
+step_holds : (V : View) (step : Step) (s : ℕ) → HoldsFor s (event_on V step) → s ≡ starter_of V.table step
+step_holds V (Calls p c) s h =
+    let step : Step = Calls p c in
+    role_holds s (starter_of V.table step) (role_on V step) (kind_event V.table p.0 step (kind_of c) (V.table.marks p.0)) (step_starter V step) (kind_holds s V.table p.0 step (kind_of c) (V.table.marks p.0)) h
+step_holds V (Deliver p signo) s h =
+    let step : Step = Deliver p signo in
+    role_holds s (starter_of V.table step) (role_on V step) (kind_event V.table p.0 step Ordinary (V.table.marks p.0)) (step_starter V step) (kind_holds s V.table p.0 step Ordinary (V.table.marks p.0)) h
+step_holds V (KernelAbort u) s h = absurd h
+
+-- and every other transaction: the marks of its members, and what it holds
+module _ (laws : ReachLaws) (V : View) (step : Step) (s : ℕ) (sound : IsSound V) (accepted : IsAccepted (answer V step)) (other : s ≢ starter_of V.table step) where
+  abbrev it : Event
+  it = event_on V step
+
+  held_plain : is_abort (role_on V step) ≡ false → (present (next V step)).held s ≡ (present V).held s
+  held_plain no_abort =
+      ap (λ (T : State). T.held s) (next_on V step no_abort)
+      ∙ laws.stay it (present V) (Held s) (by (has_object (Held s) (objects it (present V) ++ processes_of (effect it (present V)).sends)) refl)
+    where
+      named : (has_object (Held s) (objects it (present V)) ≡ true) ⊎ (has_object (Held s) (processes_of (effect it (present V)).sends) ≡ true) → ⊥
+      named (inl here) = other (step_holds V step s (laws.holds it (present V) s here))
+      named (inr sent) = held_sent s (effect it (present V)).sends sent
+
+      by : (b : Bool) → has_object (Held s) (objects it (present V) ++ processes_of (effect it (present V)).sends) ≡ b → b ≡ false
+      by true has = absurd (named (has_either (Held s) (objects it (present V)) (processes_of (effect it (present V)).sends) has))
+      by false has = refl
+
+  pub held_stays : (present (next V step)).held s ≡ (present V).held s
+  held_stays = by (role_on V step) refl
+    where
+      free : (u : ℕ) → u ≡ starter_of V.table step → (b : Bool) → V.reserved u (Held s) ≡ b → b ≡ false
+      free u own true reserved = absurd (other (sym (sound.held_own u s reserved) ∙ own))
+      free u own false reserved = refl
+
+      by : (r : Role) → role_on V step ≡ r → (present (next V step)).held s ≡ (present V).held s
+      by Outside is = held_plain (ap is_abort is)
+      by (Within u part) is = held_plain (ap is_abort is)
+      by (Commits u) is = held_plain (ap is_abort is)
+      by (Aborts u k) is =
+          abort_leaves laws V step sound accepted u k is (Held s)
+          (free u (subst (IsOf (starter_of V.table step)) is (step_starter V step)) (V.reserved u (Held s)) refl)
+
+  pub marks_there : (n : ℕ) → own_mark s ((next V step).table.marks n) ≡ own_mark s (V.table.marks n)
+  unfolding next
+  marks_there n =
+      let fit = laws.fits V step sound accepted in
+      marks_stay laws V it (process_of step) s (role_on V step) sound fit.0 fit.1 (by (role_on V step) (step_starter V step)) n
+    where
+      by : (r : Role) → IsOf (starter_of V.table step) r → IsApart s r
+      by Outside of = tt
+      by (Within u part) of = λ same. other (sym same ∙ of)
+      by (Commits u) of = λ same. other (sym same ∙ of)
+      by (Aborts u k) of = λ same. other (sym same ∙ of)
