@@ -1,13 +1,13 @@
 //! Whole texts, from readers and to writers that are interrupted or fail.
 use crate::programs::{PROGRAM, RUN, RUN_STEPS};
-use crate::sessions::session_of;
+use crate::sessions::session_after;
 use std::alloc::Global;
 use std::io::{Error, ErrorKind, Read, Result, Write};
 use std::result;
 use std::test::Fail;
 use tx_check::check;
 use tx_journal::Session;
-use tx_lines::{Fault, OverRead, OverWrite, read_program, read_schedule};
+use tx_lines::{Fault, OverRead, OverWrite, read_program};
 use tx_plain::write_plain;
 use tx_script::{debug, replay};
 use tx_workers::write_run;
@@ -111,6 +111,19 @@ fn answer(
     (answered, taken)
 }
 
+/// Whether that comes of a command, and that is written.
+fn answers_so(
+    alloc: Global,
+    command: Command,
+    reader: Given<'_>,
+    limits: Limits,
+    wanted: result::Result<(), Fault>,
+    written: &[u8],
+) -> bool {
+    let (answered, taken) = answer(alloc, command, reader, limits);
+    answered == wanted && taken.as_slice() == written
+}
+
 /// A reader of so many first bytes of a text, which then ends or fails.
 fn reader_of(text: &str, count: usize, fails: bool) -> Given<'_> {
     let bytes = text.as_bytes();
@@ -159,16 +172,22 @@ fn readers_fail_after_each_byte(rt: HostRuntime) {
     for (command, (text, _)) in ANSWERED {
         for count in 0..text.len() {
             let reader = reader_of(text, count, true);
-            let (answered, taken) = answer(rt.alloc(), command, reader, ALL);
-            assert!(rt;
-                answered == Err(Fault::Reader) && taken.is_empty(),
-                "after {count}"
-            );
+            let told = answers_so(rt.alloc(), command, reader, ALL, Err(Fault::Reader), b"");
+            assert!(rt; told, "after {count}");
         }
     }
+}
+
+/// Why a program is not read of which the reader fails after so many bytes.
+fn fault_of_program(alloc: Global, count: usize) -> Option<Fault> {
+    let mut source = OverRead::new(reader_of(PROGRAM, count, true));
+    read_program(alloc, &mut source).err()
+}
+
+#[test]
+fn readers_of_programs_fail_after_each_byte(rt: HostRuntime) {
     for count in 0..PROGRAM.len() {
-        let mut source = OverRead::new(reader_of(PROGRAM, count, true));
-        let fault = read_program(rt.alloc(), &mut source).err();
+        let fault = fault_of_program(rt.alloc(), count);
         assert!(rt; fault == Some(Fault::Reader), "after {count}");
     }
 }
@@ -190,24 +209,39 @@ fn write_into(
     (written, taken)
 }
 
+/// Whether a run that is written to a writer with so much room fills it, and is then at fault.
+fn fills_room(alloc: Global, session: &Session, room: usize) -> bool {
+    let (written, taken) = write_into(alloc, session, room);
+    written == Err(Fault::Writer) && taken.as_slice() == &RUN.as_bytes()[..room.min(RUN.len())]
+}
+
 #[test]
-fn writers_fail_after_each_byte(rt: HostRuntime) -> result::Result<(), Fail> {
+fn writers_of_runs_fail_after_each_byte(rt: HostRuntime) -> result::Result<(), Fail> {
+    let session = session_after(rt.alloc(), RUN_STEPS)?;
+    for room in 0..RUN.len() {
+        assert!(rt; fills_room(rt.alloc(), &session, room), "after {room}");
+    }
+    Ok(())
+}
+
+#[test]
+fn writers_fail_after_each_byte(rt: HostRuntime) {
     for (command, (text, told)) in ANSWERED {
         for room in 0..told.len() {
             let reader = reader_of(text, text.len(), false);
-            let (answered, taken) = answer(rt.alloc(), command, reader, (0, room, room));
-            assert!(rt; answered == Err(Fault::Writer), "after {room}");
-            assert!(rt; taken.as_slice() == &told.as_bytes()[..room]);
+            let front = &told.as_bytes()[..room];
+            let limits = (0, room, room);
+            let filled = answers_so(
+                rt.alloc(),
+                command,
+                reader,
+                limits,
+                Err(Fault::Writer),
+                front,
+            );
+            assert!(rt; filled, "after {room}");
         }
     }
-    let schedule = read_schedule(rt.alloc(), RUN_STEPS.as_bytes())?;
-    let session = session_of(rt.alloc(), schedule.header, schedule.steps.as_slice())?;
-    for room in 0..RUN.len() {
-        let (written, taken) = write_into(rt.alloc(), &session, room);
-        assert!(rt; written == Err(Fault::Writer), "after {room}");
-        assert!(rt; taken.as_slice() == &RUN.as_bytes()[..room]);
-    }
-    Ok(())
 }
 
 /// A reader of a text that is interrupted so often, and then gives a byte at a time.
@@ -224,18 +258,34 @@ fn interrupted(text: &str, interruptions: u32) -> Given<'_> {
 fn ends_may_be_interrupted_a_thousand_times(rt: HostRuntime) {
     for (command, (text, told)) in ANSWERED {
         let reader = interrupted(text, 1000);
-        let (answered, taken) = answer(rt.alloc(), command, reader, (1000, 1, 10_000));
-        assert!(rt; answered == Ok(()) && taken.as_slice() == told.as_bytes());
-        let (answered, taken) = answer(rt.alloc(), command, interrupted(text, 1001), ALL);
-        assert!(rt; answered == Err(Fault::Reader) && taken.is_empty());
+        let limits = (1000, 1, 10_000);
+        let told = told.as_bytes();
+        assert!(rt; answers_so(rt.alloc(), command, reader, limits, Ok(()), told));
+    }
+}
+
+#[test]
+fn readers_may_not_be_interrupted_once_more(rt: HostRuntime) {
+    for (command, (text, _told)) in ANSWERED {
+        let reader = interrupted(text, 1001);
+        assert!(rt; answers_so(rt.alloc(), command, reader, ALL, Err(Fault::Reader), b""));
+    }
+}
+
+#[test]
+fn writers_may_not_be_interrupted_once_more(rt: HostRuntime) {
+    for (command, (text, _told)) in ANSWERED {
         let reader = interrupted(text, 0);
-        let (answered, taken) = answer(rt.alloc(), command, reader, (1001, 1, 10_000));
-        assert!(rt; answered == Err(Fault::Writer) && taken.is_empty());
+        let limits = (1001, 1, 10_000);
+        assert!(rt; answers_so(rt.alloc(), command, reader, limits, Err(Fault::Writer), b""));
+    }
+}
+
+#[test]
+fn writers_that_take_no_byte_fail(rt: HostRuntime) {
+    for (command, (text, _told)) in ANSWERED {
         let reader = interrupted(text, 0);
-        let (answered, taken) = answer(rt.alloc(), command, reader, (0, 0, 10_000));
-        assert!(rt;
-            answered == Err(Fault::Writer) && taken.is_empty(),
-            "no byte is taken"
-        );
+        let limits = (0, 0, 10_000);
+        assert!(rt; answers_so(rt.alloc(), command, reader, limits, Err(Fault::Writer), b""));
     }
 }

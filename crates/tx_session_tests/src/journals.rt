@@ -1,14 +1,10 @@
 //! Sessions: their journals beside the histories of runs, walks over them, and their calls.
-ghost use Rattle.std.specs.Prelude.{IfOk};
-ghost use Rattle.tx_journal.specs.Sessions.{IsAtEnd};
-
 use crate::runs::{go, ran, ran_wide};
-use crate::schedules::call;
-use crate::sessions::{session_of, wants_memory};
+use crate::sessions::{session_after, session_of};
 use crate::texts::{told, told_by};
 use std::alloc::Global;
 use std::test::Fail;
-use tx_base::{Call, NoMemory, Pid};
+use tx_base::{NoMemory, Pid};
 use tx_core::{NoTransaction, Ran};
 use tx_journal::{AtStart, ForwardFault, GotoFault, MovedFault, Session};
 use tx_lines::{Schedule, Version, read_schedule};
@@ -96,54 +92,82 @@ fn a_journal_is_the_history_of_a_run(rt: HostRuntime) -> Result<(), Fail> {
     Ok(())
 }
 
-/// A session in which process 2 began a transaction and mapped a page.
-fn begun(alloc: Global) -> Result<Session, NoMemory>
-    ensures { IfOk result IsAtEnd }
-{
-    let mut session = Session::boot(alloc, 2)?;
-    session.reserve(3)?;
-    let _refused = wants_memory(alloc, &mut session, &call(2, Call::SysXbegin));
-    let _refused = wants_memory(alloc, &mut session, &call(2, Call::Map(0)));
-    Ok(session)
-}
+/// Process 2 began a transaction and mapped a page.
+const BEGUN: &str = "txos 1 schedule 2\n2 sys_xbegin\n2 map 0\n";
+
+/// And then it aborted that.
+const ABORTED: &str = "txos 1 schedule 2\n2 sys_xbegin\n2 map 0\n2 sys_xabort\n";
 
 #[test]
-fn walks_over_an_abort_and_back(rt: HostRuntime) -> Result<(), Fail> {
-    let mut session = begun(rt.alloc())?;
-    assert!(rt; !wants_memory(rt.alloc(), &mut session, &call(2, Call::SysXabort)));
+fn an_abort_is_walked_over(rt: HostRuntime) -> Result<(), Fail> {
+    let mut session = session_after(rt.alloc(), ABORTED)?;
     assert!(rt; session.forward(rt.alloc()) == Err(ForwardFault::AtEnd));
     assert!(rt; session.back() == Ok(()));
     assert!(rt; session.machine().txn_of(Pid(2)) == Some(Pid(2)));
-    assert!(rt; go(rt.alloc(), &mut session, 0) == Ok(()) && session.back() == Err(AtStart));
-    assert!(rt; go(rt.alloc(), &mut session, 4) == Err(GotoFault::Beyond));
-    assert!(rt; go(rt.alloc(), &mut session, 3) == Ok(()));
+    Ok(())
+}
+
+/// Whether a session of three steps goes to its places, and to no others.
+fn goes_to_its_places(alloc: Global, session: &mut Session) -> bool {
+    go(alloc, session, 0) == Ok(())
+        && session.back() == Err(AtStart)
+        && go(alloc, session, 4) == Err(GotoFault::Beyond)
+        && go(alloc, session, 3) == Ok(())
+}
+
+#[test]
+fn places_are_gone_to(rt: HostRuntime) -> Result<(), Fail> {
+    let mut session = session_after(rt.alloc(), ABORTED)?;
+    assert!(rt; goes_to_its_places(rt.alloc(), &mut session));
     assert!(rt; session.machine().txn_of(Pid(2)).is_none());
     Ok(())
 }
 
 #[test]
+fn room_is_made_for_steps(rt: HostRuntime) -> Result<(), Fail> {
+    let mut session = session_after(rt.alloc(), BEGUN)?;
+    session.reserve(3)?;
+    assert!(rt; session.len() == 2 && session.position() == 2);
+    Ok(())
+}
+
+/// Whether the third entry is the kernel's abort, by worker 3.
+fn has_the_abort(alloc: Global, session: &Session) -> Result<bool, NoMemory> {
+    let by_it = session.entry(3).is_some_and(|entry| entry.worker == 3);
+    let text = session.state_text(alloc)?;
+    Ok(
+        by_it
+            && text
+                .as_str()
+                .ends_with("proc 2 parent 1 run point 1 ret -202\n"),
+    )
+}
+
+#[test]
 fn the_kernels_abort_has_its_entry(rt: HostRuntime) -> Result<(), Fail> {
-    let mut session = begun(rt.alloc())?;
+    let mut session = session_after(rt.alloc(), BEGUN)?;
     assert!(rt; matches!(session.kernel_abort(3, Pid(1)), Err(NoTransaction)));
     assert!(rt; session.kernel_abort(3, Pid(2)).is_ok());
-    assert!(rt; session.entry(3).is_some_and(|entry| entry.worker == 3));
-    let text = session.state_text(rt.alloc())?;
-    assert!(rt;
-        text.as_str()
-            .ends_with("proc 2 parent 1 run point 1 ret -202\n"),
-        "{text}"
-    );
+    assert!(rt; matches!(has_the_abort(rt.alloc(), &session), Ok(true)));
     Ok(())
+}
+
+/// Whether the first transaction is moved to one moment, and its entries so.
+fn is_one_moment(alloc: Global, session: &Session) -> Result<bool, MovedFault> {
+    let first = session.moved(alloc, 5)?;
+    let wanted = [2, 4, 1, 3, 5, 6, 7, 8, 9];
+    Ok(first.one_moment && first.entries.as_slice() == wanted.as_slice())
 }
 
 #[test]
 fn committed_transactions_are_moved(rt: HostRuntime) -> Result<(), Fail> {
-    let schedule = read_schedule(rt.alloc(), OVERLAPPING.as_bytes())?;
-    let session = session_of(rt.alloc(), schedule.header, schedule.steps.as_slice())?;
-    let first = session.moved(rt.alloc(), 5)?;
-    assert!(rt; first.entries.as_slice() == [2, 4, 1, 3, 5, 6, 7, 8, 9].as_slice());
-    let second = session.moved(rt.alloc(), 7)?;
-    assert!(rt; first.one_moment && !second.one_moment);
+    let session = session_after(rt.alloc(), OVERLAPPING)?;
+    assert!(rt; matches!(is_one_moment(rt.alloc(), &session), Ok(true)));
+    assert!(rt;
+        session
+            .moved(rt.alloc(), 7)
+            .is_ok_and(|second| !second.one_moment)
+    );
     let none = session.moved(rt.alloc(), 9);
     assert!(rt; matches!(none, Err(MovedFault::NotCommit)), "an abort");
     assert!(rt; session.position() == 9);

@@ -3,25 +3,39 @@ use crate::runs::{partial, ran, ran_wide};
 use crate::schedules::{NUMBERS_AGAIN, SIDE_BY_SIDE, numbers_again, side_by_side};
 use crate::texts::told;
 use std::alloc::Global;
-use std::test::Fail;
 use tx_base::{NoMemory, Step};
-use tx_core::Machine;
+use tx_core::{Machine, Ran};
 use tx_journal::print_state;
-use tx_lines::read_schedule;
+use tx_lines::{Fault, read_schedule};
 
-#[test]
-fn runs_a_schedule(rt: HostRuntime) -> Result<(), Fail> {
-    let made = ran(rt.alloc(), 3, &side_by_side())?;
-    assert!(rt; told(rt.alloc(), &made)?.as_str() == SIDE_BY_SIDE);
-    Ok(())
+/// Whether a run tells that.
+fn is_told(alloc: Global, run: &Ran, wanted: &str) -> Result<bool, NoMemory> {
+    let text = told(alloc, run)?;
+    Ok(text.as_str() == wanted)
+}
+
+/// Whether the run of a schedule from three processes tells that.
+fn tells(alloc: Global, steps: &[Step], wanted: &str) -> Result<bool, NoMemory> {
+    let made = ran(alloc, 3, steps)?;
+    is_told(alloc, &made, wanted)
 }
 
 #[test]
-fn keeps_a_run_to_its_end(rt: HostRuntime) -> Result<(), Fail> {
-    let whole = partial(rt.alloc(), &numbers_again())?;
-    assert!(rt; whole.stopped.is_none());
-    assert!(rt; told(rt.alloc(), &whole.ran)?.as_str() == NUMBERS_AGAIN);
-    Ok(())
+fn runs_a_schedule(rt: HostRuntime) {
+    let steps = side_by_side();
+    assert!(rt; matches!(tells(rt.alloc(), &steps, SIDE_BY_SIDE), Ok(true)));
+}
+
+/// Whether the run of a schedule goes to its end, and tells that.
+fn ends_with(alloc: Global, steps: &[Step], wanted: &str) -> Result<bool, NoMemory> {
+    let whole = partial(alloc, steps)?;
+    Ok(whole.stopped.is_none() && is_told(alloc, &whole.ran, wanted)?)
+}
+
+#[test]
+fn keeps_a_run_to_its_end(rt: HostRuntime) {
+    let steps = numbers_again();
+    assert!(rt; matches!(ends_with(rt.alloc(), &steps, NUMBERS_AGAIN), Ok(true)));
 }
 
 /// A transaction that defers deliveries, of a member of the last number.
@@ -49,12 +63,21 @@ proc 3 parent 1 run point 1 ret 0
 proc 256 parent 1 run point 4 ret 0
 ";
 
+/// Whether the run of a schedule on a wide machine, from three processes, tells that.
+fn tells_wide(alloc: Global, steps: &[Step], wanted: &str) -> Result<bool, NoMemory> {
+    let wide = ran_wide(alloc, 3, steps)?;
+    is_told(alloc, &wide, wanted)
+}
+
+/// Whether the run of the schedule that a text spells tells that on a wide machine.
+fn reads_wide(alloc: Global, text: &str, wanted: &str) -> Result<bool, Fault> {
+    let schedule = read_schedule(alloc, text.as_bytes())?;
+    Ok(tells_wide(alloc, schedule.steps.as_slice(), wanted)?)
+}
+
 #[test]
-fn runs_a_deferring_schedule_on_a_wide_machine(rt: HostRuntime) -> Result<(), Fail> {
-    let schedule = read_schedule(rt.alloc(), WIDE.as_bytes())?;
-    let wide = ran_wide(rt.alloc(), 3, schedule.steps.as_slice())?;
-    assert!(rt; told(rt.alloc(), &wide)?.as_str() == WIDE_RUN);
-    Ok(())
+fn runs_a_deferring_schedule_on_a_wide_machine(rt: HostRuntime) {
+    assert!(rt; matches!(reads_wide(rt.alloc(), WIDE, WIDE_RUN), Ok(true)));
 }
 
 /// Makes a step, takes it back, and makes it again. Whether the state between was that before it.
@@ -70,13 +93,26 @@ fn makes_and_undoes(alloc: Global, machine: &mut Machine, step: &Step) -> Result
     Ok(before.as_str() == between.as_str())
 }
 
-#[test]
-fn takes_each_step_back(rt: HostRuntime) -> Result<(), Fail> {
-    let mut machine = Machine::boot(rt.alloc(), 3)?;
-    for step in side_by_side().as_slice() {
-        assert!(rt; makes_and_undoes(rt.alloc(), &mut machine, step)?);
+/// Whether each of the steps is made, and was taken back before.
+fn all_are_undone(alloc: Global, machine: &mut Machine, steps: &[Step]) -> Result<bool, NoMemory> {
+    for step in steps {
+        if !makes_and_undoes(alloc, machine, step)? {
+            return Ok(false);
+        }
     }
-    let state = print_state(rt.alloc(), &machine)?;
-    assert!(rt; SIDE_BY_SIDE.ends_with(state.as_str()));
-    Ok(())
+    Ok(true)
+}
+
+/// Whether that is so from three processes on, and the text ends with the state that is left.
+fn are_undone(alloc: Global, steps: &[Step], wanted: &str) -> Result<bool, NoMemory> {
+    let mut machine = Machine::boot(alloc, 3)?;
+    let undone = all_are_undone(alloc, &mut machine, steps)?;
+    let state = print_state(alloc, &machine)?;
+    Ok(undone && wanted.ends_with(state.as_str()))
+}
+
+#[test]
+fn takes_each_step_back(rt: HostRuntime) {
+    let steps = side_by_side();
+    assert!(rt; matches!(are_undone(rt.alloc(), &steps, SIDE_BY_SIDE), Ok(true)));
 }

@@ -10,6 +10,7 @@ use std::test::Fail;
 use std::thread;
 use std::thread::Threads;
 use tx_base::{Pid, Step};
+use tx_journal::{Entry, Session};
 use tx_lines::OverWrite;
 use tx_workers::{Gate, NoGate, Tally, Worked, run_queue, write_run};
 
@@ -23,18 +24,22 @@ fn queue_over<R: Threads + Wait + Sync, G: Gate + Sync>(
     gate: &G,
 ) -> Result<(Worked, Tally), Fail> {
     let program = read(alloc, program)?;
-    let none = Vec::new(alloc);
-    let session = session_of(alloc, program.header, none.as_slice())?;
+    let session = session_of(alloc, program.header, &[])?;
     Ok(run_queue(rt, alloc, session, &program, workers, turns, gate)?)
 }
 
 #[test]
 fn one_worker_takes_processes_in_order(rt: HostRuntime) -> Result<(), Fail> {
     let (worked, _tally) = queue_over(&rt, rt.alloc(), PROGRAM, 1, 7, &NoGate)?;
-    let mut taken = Vec::new(rt.alloc());
-    write_run(rt.alloc(), &worked.session, &mut OverWrite::new(&mut taken))?;
-    assert!(rt; taken.as_slice() == RUN.as_bytes());
+    assert!(rt; is_written(rt.alloc(), &worked.session, RUN));
     Ok(())
+}
+
+/// Whether that is written of a run.
+fn is_written(alloc: Global, session: &Session, wanted: &str) -> bool {
+    let mut taken = Vec::new(alloc);
+    let written = write_run(alloc, session, &mut OverWrite::new(&mut taken));
+    written == Ok(()) && taken.as_slice() == wanted.as_bytes()
 }
 
 #[test]
@@ -87,10 +92,15 @@ fn any_worker_takes_any_process(rt: HostRuntime) -> Result<(), Fail> {
         gate.is_seen.load(SeqCst),
         "worker 2 sees the end of worker 1"
     );
-    let mut entries = worked.session.entries().iter();
-    let of_another = entries.any(|entry| {
-        entry.worker == 1 && matches!(entry.step, Step::Call(Pid(2), _))
-    });
-    assert!(rt; of_another, "worker 1 takes a turn of process 2");
+    assert!(rt;
+        has_turn_of_another(worked.session.entries()),
+        "worker 1 takes a turn of process 2"
+    );
     Ok(())
+}
+
+/// Whether worker 1 took a turn of process 2.
+fn has_turn_of_another(entries: &[Entry]) -> bool {
+    let mut entries = entries.iter();
+    entries.any(|entry| entry.worker == 1 && matches!(entry.step, Step::Call(Pid(2), _)))
 }

@@ -32,16 +32,21 @@ fn are_same(one: Result<String, NoMemory>, other: Result<String, NoMemory>) -> b
     }
 }
 
+/// The whole run, made again where it was refused.
+fn whole_run(rt: &impl Abort, alloc: Global, steps: &[Step]) -> Ran {
+    match ran(alloc, 3, steps) {
+        Ok(first) => first,
+        Err(NoMemory) => match ran(alloc, 3, steps) {
+            Ok(second) => second,
+            Err(NoMemory) => panic!(rt; "one growth alone is refused"),
+        },
+    }
+}
+
 #[test]
 fn a_run_is_made_whole_the_second_time(rt: HostRuntime) {
     let steps = side_by_side();
-    let made = match ran(rt.alloc(), 3, &steps) {
-        Ok(made) => made,
-        Err(NoMemory) => match ran(rt.alloc(), 3, &steps) {
-            Ok(made) => made,
-            Err(NoMemory) => panic!(rt; "one growth alone is refused"),
-        },
-    };
+    let made = whole_run(&rt, rt.alloc(), &steps);
     assert!(rt; is_text(told(rt.alloc(), &made), SIDE_BY_SIDE));
 }
 
@@ -77,6 +82,11 @@ fn go_on(alloc: Global, ran: &mut Ran, left: &[Step]) -> bool {
     true
 }
 
+/// Whether the steps that are left are made, and the run is then the whole one.
+fn is_whole_behind(alloc: Global, run: &mut Ran, left: &[Step]) -> bool {
+    go_on(alloc, run, left) && is_text(told(alloc, run), NUMBERS_AGAIN)
+}
+
 #[test]
 fn a_partial_run_goes_on_where_it_stopped(rt: HostRuntime) {
     let steps = numbers_again();
@@ -85,9 +95,8 @@ fn a_partial_run_goes_on_where_it_stopped(rt: HostRuntime) {
     let (made, left) = steps.split_at(stopped);
     let mut run = first.ran;
     assert!(rt; is_run_of(rt.alloc(), &run, made), "stopped at {stopped}");
-    assert!(rt; go_on(rt.alloc(), &mut run, left));
     assert!(rt;
-        is_text(told(rt.alloc(), &run), NUMBERS_AGAIN),
+        is_whole_behind(rt.alloc(), &mut run, left),
         "stopped at {stopped}"
     );
 }
@@ -124,18 +133,28 @@ fn tells_of(alloc: Global, session: &Session, steps: &[Step]) -> bool {
     }
 }
 
+/// Whether a session tells of all the steps but that of a place, if there is one. It does where memory is
+/// refused.
+fn tells_of_all_but(
+    alloc: Global,
+    session: &Session,
+    steps: &[Step],
+    refused: Option<usize>,
+) -> bool {
+    match without(alloc, steps, refused) {
+        Some(others) => tells_of(alloc, session, others.as_slice()),
+        None => true,
+    }
+}
+
 #[test]
 fn a_refused_step_has_not_come(rt: HostRuntime) {
     let steps = side_by_side();
     let mut session = booted(&rt, rt.alloc());
     let refused = make_steps(rt.alloc(), &mut session, &steps);
-    let Some(others) = without(rt.alloc(), &steps, refused) else {
-        return;
-    };
-    let same = tells_of(rt.alloc(), &session, others.as_slice());
+    let same = tells_of_all_but(rt.alloc(), &session, &steps, refused);
     assert!(rt; same, "without {refused:?}");
-    let whole = is_text(told_by(rt.alloc(), &session), SIDE_BY_SIDE);
-    assert!(rt; whole || refused.is_some());
+    assert!(rt; refused.is_some() || is_text(told_by(rt.alloc(), &session), SIDE_BY_SIDE));
 }
 
 /// Whether a session stands where so many of the steps are made. It does where memory is refused.
@@ -149,20 +168,27 @@ fn stands_after(alloc: Global, session: &Session, steps: &[Step]) -> bool {
     }
 }
 
+/// Goes on to the end. Answers whether it is there, or memory was refused between.
+fn goes_on_to(alloc: Global, session: &mut Session, end: usize) -> bool {
+    match go(alloc, session, end) {
+        Ok(()) => session.position() == end,
+        Err(fault) => fault == GotoFault::NoMemory && (1..end).contains(&session.position()),
+    }
+}
+
+/// Whether a session stands where the steps up to its position are made.
+fn stands_at_its_position(alloc: Global, session: &Session, steps: &[Step]) -> bool {
+    let (made, _left) = steps.split_at(session.position().min(steps.len()));
+    stands_after(alloc, session, made)
+}
+
 /// Walks from the end to the first entry and to the end again, and looks at where it stands.
 fn walk_and_look(rt: &impl Abort, alloc: Global, session: &mut Session, steps: &[Step]) {
     let end = session.len();
     assert!(rt; end == 12 && go(alloc, session, 1) == Ok(()));
-    let moved = go(alloc, session, end);
-    let position = session.position();
-    match moved {
-        Ok(()) => assert!(rt; position == end),
-        Err(fault) => assert!(rt; fault == GotoFault::NoMemory && position < end),
-    }
-    assert!(rt; position >= 1);
-    let (made, _left) = steps.split_at(position.min(steps.len()));
-    assert!(rt; stands_after(alloc, session, made), "at {position}");
-    assert!(rt; go(alloc, session, end) == Ok(()) || position == end);
+    assert!(rt; goes_on_to(alloc, session, end));
+    assert!(rt; stands_at_its_position(alloc, session, steps));
+    assert!(rt; session.position() == end || go(alloc, session, end) == Ok(()));
     assert!(rt; is_text(told_by(alloc, session), SIDE_BY_SIDE));
 }
 
@@ -202,19 +228,31 @@ fn bytes_of(space: &Space) -> [u8; 128] {
     bytes
 }
 
+/// Whether the first store into a page that was copied is made, or wants memory and changes nothing.
+fn is_stored_or_not(alloc: Global, copy: &mut Space) -> bool {
+    let before = bytes_of(copy);
+    match copy.store(alloc, 63, &[9]) {
+        Ok(()) => matches!(copy.load(63), Ok(9)),
+        Err(PageError::NoMemory) => bytes_of(copy) == before,
+        Err(_) => false,
+    }
+}
+
+/// Whether a store into the other page of the space is made, or changes nothing.
+fn is_stored_beside(alloc: Global, space: &mut Space) -> bool {
+    let before = bytes_of(space);
+    space.store(alloc, 64, &[6]).is_ok() || bytes_of(space) == before
+}
+
 #[test]
 fn a_first_store_after_a_copy_is_made_or_not(rt: HostRuntime) {
     let Ok((mut space, mut copy)) = two_spaces(rt.alloc()) else {
         return;
     };
     let before = bytes_of(&space);
-    match copy.store(rt.alloc(), 63, &[9]) {
-        Ok(()) => assert!(rt; matches!(copy.load(63), Ok(9))),
-        Err(PageError::NoMemory) => assert!(rt; bytes_of(&copy) == before),
-        Err(_) => panic!(rt; "the page may be written"),
-    }
+    assert!(rt; is_stored_or_not(rt.alloc(), &mut copy));
     assert!(rt; bytes_of(&space) == before);
-    assert!(rt; space.store(rt.alloc(), 64, &[6]).is_ok() || bytes_of(&space) == before);
+    assert!(rt; is_stored_beside(rt.alloc(), &mut space));
     assert!(rt; matches!(copy.load(64), Ok(8)));
 }
 

@@ -5,7 +5,15 @@ ghost use Rattle.tx_journal.specs.Sessions.{IsAtEnd};
 use std::alloc::Global;
 use tx_base::{NoMemory, Step};
 use tx_journal::Session;
-use tx_lines::{Header, Version};
+use tx_lines::{Fault, Header, Version, read_schedule};
+
+/// A session in which the steps of the schedule are made that a text spells.
+pub(crate) fn session_after(alloc: Global, text: &str) -> Result<Session, Fault>
+    ensures { IfOk result IsAtEnd }
+{
+    let schedule = read_schedule(alloc, text.as_bytes())?;
+    Ok(session_of(alloc, schedule.header, schedule.steps.as_slice())?)
+}
 
 /// A session in which the steps are made.
 pub(crate) fn session_of(alloc: Global, header: Header, steps: &[Step]) -> Result<Session, NoMemory>
@@ -34,7 +42,7 @@ pub(crate) fn make_steps(alloc: Global, session: &mut Session, steps: &[Step]) -
 }
 
 /// Makes a step, by worker 1. Answers whether it wanted memory.
-pub(crate) fn wants_memory(alloc: Global, session: &mut Session, step: &Step) -> bool
+fn wants_memory(alloc: Global, session: &mut Session, step: &Step) -> bool
     requires { IsAtEnd session.old }
     ensures { IsAtEnd session.new }
 {

@@ -1,18 +1,17 @@
 //! Whole runs of workers.
 use crate::programs::read;
 use crate::runs::ran;
-use crate::sessions::session_of;
+use crate::sessions::session_after;
 use crate::texts::{told, told_by};
-use std::alloc::Global;
+use std::alloc::{AllocError, Global};
 use std::sync::Wait;
 use std::sync::atomic::AtomicBool;
 use std::sync::atomic::Ordering::SeqCst;
 use std::test::Fail;
 use std::thread;
 use std::thread::Threads;
-use tx_base::{Call, Pid, Reply, Step};
-use tx_journal::Entry;
-use tx_lines::read_schedule;
+use tx_base::{Call, NoMemory, Pid, Reply, Step};
+use tx_journal::{Entry, Session};
 use tx_workers::{Gate, NoGate, RunFault, WorkFault, Worked, run_workers};
 
 /// What so many workers give back of a program and a session after some steps.
@@ -25,8 +24,7 @@ fn run_after<R: Threads + Wait + Sync, G: Gate + Sync>(
     turns: u32,
     gate: &G,
 ) -> Result<Worked, Fail> {
-    let schedule = read_schedule(alloc, schedule.as_bytes())?;
-    let session = session_of(alloc, schedule.header, schedule.steps.as_slice())?;
+    let session = session_after(alloc, schedule)?;
     let program = read(alloc, program)?;
     Ok(run_workers(rt, alloc, session, &program, workers, turns, gate)?)
 }
@@ -42,11 +40,16 @@ fn a_run_goes_on_from_what_was_handed_in(rt: HostRuntime) -> Result<(), Fail> {
     let schedule = "txos 1 schedule 2\n2 map 0\n";
     let program = "txos 1 program 2\ngetpid\ngetpid\n";
     let worked = run_after(&rt, rt.alloc(), schedule, program, 2, 1, &NoGate)?;
-    assert!(rt; worked.session.len() == 3 && worked.workers.len() == 2);
-    let first = worked.session.entry(1).map(|entry| &entry.step);
-    assert!(rt; matches!(first, Some(Step::Call(Pid(2), Call::Map(0)))));
-    assert!(rt; each_took_one(&worked));
+    assert!(rt; has_gone_on(&worked) && each_took_one(&worked));
     Ok(())
+}
+
+/// Whether two workers went on from a session whose one step is a map.
+fn has_gone_on(worked: &Worked) -> bool {
+    let first = worked.session.entry(1).map(|entry| &entry.step);
+    worked.session.len() == 3
+        && worked.workers.len() == 2
+        && matches!(first, Some(Step::Call(Pid(2), Call::Map(0))))
 }
 
 /// A gate at which each of two workers looks for the other before its first turn.
@@ -121,7 +124,7 @@ sys_xabort
 ";
 
 /// The steps of entries, in their order.
-fn steps_of(alloc: Global, entries: &[Entry]) -> Result<Vec<Step>, Fail> {
+fn steps_of(alloc: Global, entries: &[Entry]) -> Result<Vec<Step>, NoMemory> {
     let mut steps = Vec::new(alloc);
     for entry in entries {
         steps.push(entry.step.copy())?;
@@ -133,25 +136,44 @@ fn steps_of(alloc: Global, entries: &[Entry]) -> Result<Vec<Step>, Fail> {
 fn what_many_workers_did_can_be_replayed(rt: HostRuntime) -> Result<(), Fail> {
     let alloc = rt.alloc();
     let worked = run_after(&rt, alloc, "txos 1 schedule 16\n", TREES, 16, 1000, &NoGate)?;
-    let entries = worked.session.entries();
-    let steps = steps_of(alloc, entries)?;
-    let again = ran(alloc, 16, steps.as_slice())?;
-    assert!(rt; told(alloc, &again)?.as_str() == told_by(alloc, &worked.session)?.as_str());
-    let mut replies = entries.iter().map(|entry| &entry.reply);
-    assert!(rt; replies.any(|reply| matches!(reply, Reply::Aborted(_))));
+    assert!(rt; matches!(is_replayed(alloc, &worked.session), Ok(true)));
+    assert!(rt; has_an_abort(worked.session.entries()));
     Ok(())
 }
 
+/// Whether the run of a session's steps from 16 processes tells what the session tells.
+fn is_replayed(alloc: Global, session: &Session) -> Result<bool, NoMemory> {
+    let steps = steps_of(alloc, session.entries())?;
+    let again = ran(alloc, 16, steps.as_slice())?;
+    let wanted = told(alloc, &again)?;
+    let told = told_by(alloc, session)?;
+    Ok(told.as_str() == wanted.as_str())
+}
+
+/// Whether one of the entries is an abort.
+fn has_an_abort(entries: &[Entry]) -> bool {
+    let mut replies = entries.iter().map(|entry| &entry.reply);
+    replies.any(|reply| matches!(reply, Reply::Aborted(_)))
+}
+
+/// Whether a fault of workers is told by a name, also as one of a run.
+fn is_told_by(alloc: Global, fault: WorkFault, name: &str) -> Result<bool, AllocError> {
+    let told = format!(in alloc; "{fault}")?;
+    let run = RunFault::Work(fault);
+    let told_of_run = format!(in alloc; "{run}")?;
+    Ok(told.as_str() == name && told_of_run.as_str() == name)
+}
+
 #[test]
-fn faults_of_runs_are_told_by_name(rt: HostRuntime) -> Result<(), Fail> {
+fn faults_of_runs_are_told_by_name(rt: HostRuntime) {
     for (fault, name) in [
         (WorkFault::NoMemory, "F6"),
         (WorkFault::Strayed, "F7"),
         (WorkFault::Spawn, "F8"),
     ] {
-        assert!(rt; format!(in rt.alloc(); "{fault}")?.as_str() == name);
-        let fault = RunFault::Work(fault);
-        assert!(rt; format!(in rt.alloc(); "{fault}")?.as_str() == name);
+        assert!(rt;
+            matches!(is_told_by(rt.alloc(), fault, name), Ok(true)),
+            "{name}"
+        );
     }
-    Ok(())
 }
