@@ -1,0 +1,97 @@
+"""The pages of the manual, and the completions for shells, made of the program's own words."""
+import re
+from pathlib import Path
+
+HERE = Path(__file__).resolve().parent
+LONG = re.compile(r"--[a-z]+")
+# What the program's own page has.
+OTHERS = re.compile(r"commands of txos|faults")
+
+
+def filled(name, values):
+    """A template of this folder with its places filled."""
+    text = (HERE / name).read_text(encoding="utf-8")
+    return re.sub(r"@([A-Z_]+)@", lambda place: values[place[1]], text)
+
+
+def roff(text):
+    """A text as roff prints it letter by letter."""
+    escaped = text.replace("\\", "\\e").replace("-", "\\-")
+    return re.sub(r"^([.'])", r"\\&\1", escaped, flags=re.MULTILINE)
+
+
+def block(text):
+    """Lines that stay as they are."""
+    return f".PP\n.nf\n{roff(text.rstrip())}\n.fi"
+
+
+def row(word, told):
+    """A word, and what is said of it."""
+    return f".TP\n.B {roff(word)}\n{roff(told)}"
+
+
+def command_part(program, command):
+    """What the manual says of a command; how it asks for help is said once of all."""
+    rows = [f".RS\n{row(*it)}\n.RE" for it in command.rows if "--help" not in it[0]]
+    more = [f".RS\n{block(it)}\n.RE" for it in program.page(command.name).split("\n", 1)[1:] if it]
+    return "\n".join([row(command.name, f"{command.about}."), *rows, *more])
+
+
+def fault_part(page):
+    """What the manual says of a fault, by the first line of its page."""
+    word, _, told = page.splitlines()[0].partition(": ")
+    return f".RS\n{row(word, told)}\n.RE"
+
+
+def manual(program, date):
+    """The page of the program."""
+    commands = program.commands()
+    faults = next(it for it in program.groups() if it.title.startswith("faults"))
+    return filled("txos.1", {
+        "DATE": date,
+        "VERSION": program.version()[0],
+        "SYNOPSIS": "\n.br\n".join(f".B {roff(it.usage)}" for it in commands),
+        "COMMANDS": "\n".join(command_part(program, it) for it in commands),
+        "OPTIONS": "\n".join(row(*it) for it in program.options()),
+        "FAULTS": "\n".join(fault_part(program.page(it)) for it in faults.words),
+    })
+
+
+def group_part(program, group):
+    """What the manual says of the words of a group."""
+    return "\n".join([f".SH {roff(group.title).upper()}", *(block(program.page(it)) for it in group.words)])
+
+
+def texts_manual(program, date):
+    """The page of the texts: each word that the program explains, but for those of the other page."""
+    return filled("txos-texts.5", {
+        "DATE": date,
+        "VERSION": program.version()[0],
+        "WORDS": "\n".join(group_part(program, it) for it in program.groups() if not OTHERS.match(it.title)),
+    })
+
+
+def long_options(rows):
+    """The long options of rows, as `--help`."""
+    return [option for word, _ in rows for option in LONG.findall(word)]
+
+
+def choices(program):
+    """For each command the words that may stand behind it."""
+    commands = program.commands()
+    words = {it.name: long_options(it.rows) for it in commands}
+    words["help"] += [it.name for it in commands]
+    words["explain"] += [word for it in program.groups() for word in it.words]
+    return words
+
+
+def completion(name, program):
+    """A file of completions."""
+    commands, behind = program.commands(), choices(program)
+    return filled(name, {
+        "COMMANDS": " ".join(it.name for it in commands),
+        "COMMANDS_TOLD": "\n".join(f"    '{it.name}:{it.about}'" for it in commands),
+        "OPTIONS": " ".join(long_options(program.options())),
+        "BASH_CASES": "\n".join(f"        *:{it}) words='{' '.join(behind[it])}' ;;" for it in behind),
+        "ZSH_CASES": "\n".join(f"    *:{it}) compadd -- {' '.join(behind[it])} ;;" for it in behind),
+    })

@@ -1,0 +1,75 @@
+"""What the program says of its own words: its commands, and the words that it explains."""
+import re
+import subprocess
+from dataclasses import dataclass
+
+ROW = re.compile(r" {2,}(\S.*?)(?: {2,}(.*))?")
+
+
+@dataclass(frozen=True)
+class Command:
+    """A command: what it does, how it is called, and its arguments and options, each with what it is."""
+
+    name: str
+    about: str
+    usage: str
+    rows: tuple
+
+
+@dataclass(frozen=True)
+class Group:
+    """Words that go together."""
+
+    title: str
+    words: tuple
+
+
+def rows_of(text, *titles):
+    """The rows of a help text below the given titles: a word, and what is said of it."""
+    rows, title = [], None
+    for line in text.splitlines():
+        if re.fullmatch(r"\w+:", line):
+            title = line[:-1]
+        elif title in titles and (row := ROW.fullmatch(line)):
+            rows.append((row[1], row[2] or ""))
+    return tuple(rows)
+
+
+class Program:
+    """The program at a path, which is asked for its words."""
+
+    def __init__(self, path):
+        self.path = path
+
+    def said(self, *words):
+        """What it writes of these words, wherever it writes that."""
+        ran = subprocess.run([self.path, *words], stdin=subprocess.DEVNULL, capture_output=True, text=True, check=False)
+        return ran.stdout or ran.stderr
+
+    def version(self):
+        """Its version, such as 1.0.0, and the line of the kits in whose logic it is proved."""
+        first, kits = self.said("version").splitlines()
+        return first.split()[1], kits
+
+    def command(self, name):
+        """A command, by its help."""
+        help_text = self.said("help", name)
+        usage = re.search(r"^Usage: (.*)", help_text, re.MULTILINE)
+        return Command(name, help_text.splitlines()[0], usage[1], rows_of(help_text, "Arguments", "Options"))
+
+    def commands(self):
+        """All its commands, in the order in which its help lists them."""
+        return [self.command(name) for name, _ in rows_of(self.said("help"), "Commands")]
+
+    def options(self):
+        """Its own options, as `-h, --help`, each with what it is."""
+        return rows_of(self.said("help"), "Options")
+
+    def groups(self):
+        """The words that it explains, in groups."""
+        lines = self.said("explain").splitlines()
+        return [Group(title, tuple(words.split())) for title, words in zip(lines[::2], lines[1::2])]
+
+    def page(self, word):
+        """What it explains of a word."""
+        return self.said("explain", word)
