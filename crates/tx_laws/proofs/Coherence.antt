@@ -1,7 +1,7 @@
 -- What stands at an object in the states without some transactions depends on who reserved it.
 use Rattle.std.proofs.Common.{◌≡◌, ℕ, Bool, true, false, not, List, [], ◌∷◌, ◌++◌, ℤ, Option, if◌then◌else◌, ◌==◌, refl, sym, ap, ap₂, ◌∙◌, subst, inl, inr, ◌⊎◌, eq-eqb, eqb-true}
 use Rattle.std.proofs.lemmas.Bool.{both_ways, cases_Bool}
-use Rattle.tx_model.specs.ObjectFacts.{same_is, has_head, has_tail, has_left, has_right, has_either}
+use Rattle.tx_model.specs.ObjectFacts.{same_is, has_head, has_tail, has_left, has_right, has_either, meets_not, targets_lack}
 use Rattle.tx_model.specs.State.{Process, State, Sending, Object, Proc, Held, same_object, has_object, is_between}
 use Rattle.tx_model.specs.StateLaws.{AgreeAt, AgreeOn}
 use Rattle.tx_model.specs.Effects.{Effect, send_answers}
@@ -10,7 +10,7 @@ use Rattle.tx_model.specs.Posts.{post_answers}
 use Rattle.tx_model.specs.Events.{Event, Note, actor, effect, objects, after, reply_of}
 use Rattle.tx_model.specs.Membership.{Table, is_of, is_member_of, is_live, Progress, Continues, Parks, Forks, Begins, Role, Outside, Within, Commits, Aborts, mark_unless_of, table_after}
 use Rattle.tx_model.specs.History.{Starters, nobody, just, is_other_starter, targets, event_footprint, objects_reserved}
-use Rattle.tx_model.specs.View.{View, present, some_object, in_way, has_two_answers}
+use Rattle.tx_model.specs.View.{View, present, in_way, has_two_answers}
 use Rattle.tx_laws.specs.Sound.{IsSound}
 use Rattle.tx_laws.proofs.Agree.{agree_sym, agree_trans, written_part}
 use Rattle.tx_laws.proofs.Objects.{TargetsIn}
@@ -33,15 +33,6 @@ pub not_left : (x y : Bool) → (if x then false else y) ≡ true → (x ≡ fal
 not_left true y h = cc
 not_left false y h = (refl, h)
 
-pub meets_not : (os : List Object) (P : Object → Bool) (o : Object) → has_object o os ≡ true → P o ≡ true → some_object os P ≡ false → ⊥
-unfolding has_object some_object
-meets_not [] P o h k e = cc
-meets_not (x ∷ xs) P o h k e =
-    elim (or_true (same_object o x) (has_object o xs) h) [
-      | inl a ↦ both_ways (P x) (or_false_left (P x) (some_object xs P) e) (subst (λ (y : Object). P y ≡ true) (same_is o x a) k)
-      | inr a ↦ meets_not xs P o a k (or_false_right (P x) (some_object xs P) e)
-    ]
-
 in_targets_cons : (b : Bool) (n m : Sending) (os : List Object) → has_object (Proc m.target) os ≡ true → has_object (Proc m.target) (if b then os else Proc n.target ∷ os) ≡ true
 in_targets_cons true n m os h = h
 in_targets_cons false n m os h = has_tail (Proc m.target) (Proc n.target) os h
@@ -55,15 +46,6 @@ in_targets t p (n ∷ ms) m (inl i) e =
 in_targets t p (n ∷ ms) m (inr i) e = in_targets_cons (is_other_starter t p n.target) n m (targets t p ms) (in_targets t p ms m i e)
 
 -- the targets are processes
-targets_held : (t : Table) (p : ℕ) (ms : List Sending) (u : ℕ) → has_object (Held u) (targets t p ms) ≡ false
-unfolding targets has_object
-targets_held t p [] u = refl
-targets_held t p (m ∷ ms) u = by (is_other_starter t p m.target) (targets_held t p ms u)
-  where
-    by : (b : Bool) → has_object (Held u) (targets t p ms) ≡ false → has_object (Held u) (if b then targets t p ms else Proc m.target ∷ targets t p ms) ≡ false
-    by true rest = rest
-    by false rest = rest
-
 -- a live transaction that the actor is no member of, and that is not in the way, reserved nothing of the footprint, and answers the posts alike
 way_clear : (V : View) (ev : Event) (t : ℕ) → is_live V.table t ≡ true → is_member_of V.table t (actor ev) ≡ false → in_way V ev t ≡ false
     → (if meets_reserved V ev t then true else has_two_answers V ev t) ≡ false
@@ -411,7 +393,7 @@ module _ (V : View) (ev : Event) (sound : IsSound V) (clear : IsClear V ev) (s :
   unfolding event_footprint
   foot_held u h = elim (has_either (Held u) (objects ev (present V)) (targets V.table (actor ev) (effect ev (present V)).sends) h) [
     | inl e ↦ fits.holds (present V) u e
-    | inr e ↦ absurd (both_ways (has_object (Held u) (targets V.table (actor ev) (effect ev (present V)).sends)) (targets_held V.table (actor ev) (effect ev (present V)).sends u) e)
+    | inr e ↦ absurd (both_ways (has_object (Held u) (targets V.table (actor ev) (effect ev (present V)).sends)) (targets_lack (Held u) (λ n. refl) V.table (actor ev) (effect ev (present V)).sends) e)
   ]
 
   held_same : (u : ℕ) → Held u ≡ Held s → u ≡ s

@@ -4,6 +4,7 @@ use Rattle.tx_base.specs.declared.marks.Mark.{Mark}
 use Rattle.tx_base.specs.declared.steps.Call.{Call}
 use Rattle.tx_base.specs.declared.steps.Call.TheVariants as call
 use Rattle.tx_base.specs.declared.steps.Step.TheVariants.{Call as Calls, Deliver, KernelAbort}
+use Rattle.tx_model.specs.ObjectFacts.{targets_lack}
 use Rattle.tx_model.specs.State.{Process, State, Sending, Object, Proc, Held, same_object, has_object}
 use Rattle.tx_model.specs.Descriptors.{descriptor, description_named, option_list, open_in, desc_pipe_objects, desc_objects, other_than}
 use Rattle.tx_model.specs.Processes.{children_of, pid_of, procs_of}
@@ -28,16 +29,6 @@ module _ (o : Object) (other : (n : ℕ) → same_object o (Proc n) ≡ false) w
   unfolding has_object
   procs_lack [] = refl
   procs_lack (q ∷ qs) = no_proc q (procs_of qs) (procs_lack qs)
-
-  -- nor is it one of the targets of sends
-  pub targets_lack : (t : Table) (p : ℕ) (ms : List Sending) → has_object o (targets t p ms) ≡ false
-  unfolding has_object targets
-  targets_lack t p [] = refl
-  targets_lack t p (m ∷ ms) = by (is_other_starter t p m.target) (targets_lack t p ms)
-    where
-      by : (b : Bool) → has_object o (targets t p ms) ≡ false → has_object o (if b then targets t p ms else Proc m.target ∷ targets t p ms) ≡ false
-      by true rest = rest
-      by false rest = no_proc m.target (targets t p ms) rest
 
 -- what the transaction of u holds is in no row
 module _ (t : Table) (u p : ℕ) (S : State) where

@@ -2,6 +2,7 @@
 use Rattle.std.proofs.Common.{◌≡◌, ℕ, Bool, true, false, not, List, [], ◌∷◌, Option, Some, if◌then◌else◌, ◌==◌, refl, sym, ap, ap₂, ◌∙◌, eq-eqb, eqb-true}
 use Rattle.std.specs.Ordering.{int_eq}
 use Rattle.tx_model.specs.SignalSets.{kill_signo}
+use Rattle.tx_model.specs.ObjectFacts.{meets_not}
 use Rattle.tx_model.specs.State.{Process, State, Sending, Proc, has_object}
 use Rattle.tx_model.specs.Posts.{target_after, post_answer, after_post, post_answers}
 use Rattle.tx_model.specs.Effects.{Effect, send_answers}
@@ -13,7 +14,7 @@ use Rattle.tx_model.specs.View.{present, has_pending, is_doomed, some_object, di
 use Rattle.tx_laws.specs.Sound.{IsSound}
 use Rattle.tx_laws.specs.TwoStates.{TwoStates, in_set, is_owner, states_without, states_view}
 use Rattle.tx_laws.specs.TwoAnswers.{differs_by, owns_named, sends_differ, states_in_way}
-use Rattle.tx_laws.proofs.Coherence.{meets_not, objects_in}
+use Rattle.tx_laws.proofs.Coherence.{objects_in}
 use Rattle.tx_laws.proofs.StatesElsewhere.{writes_elsewhere}
 use Rattle.tx_laws.proofs.Tables.{eq_comm}
 use Rattle.tx_laws.proofs.TwoStatesView.{pick_true, owner_true, is_owner_self, states_nobody}

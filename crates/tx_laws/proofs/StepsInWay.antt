@@ -9,7 +9,7 @@ use Rattle.tx_base.specs.declared.steps.Call.TheVariants.{SysXabort}
 use Rattle.tx_base.specs.declared.steps.Reply.{Reply}
 use Rattle.tx_base.specs.declared.steps.Step.{Step}
 use Rattle.tx_base.specs.declared.steps.Step.TheVariants.{Call as Calls, Deliver, KernelAbort}
-use Rattle.tx_model.specs.ObjectFacts.{has_head, has_tail, has_either}
+use Rattle.tx_model.specs.ObjectFacts.{has_head, has_tail, has_either, meets_not, targets_lack}
 use Rattle.tx_model.specs.State.{Process, Object, Proc, Desc, Pipe, Held, has_object}
 use Rattle.tx_model.specs.Numbers.{negative}
 use Rattle.tx_model.specs.Events.{Event, Do, Note, process_of, actor, effect, objects}
@@ -22,9 +22,9 @@ use Rattle.tx_model.specs.Answer.{is_running}
 use Rattle.tx_laws.specs.Fits.{HoldsFor}
 use Rattle.tx_laws.specs.Footprints.{is_abort, is_asked, is_in_way, StarterInWayIsOfStep}
 use Rattle.tx_laws.specs.Sound.{IsSound}
-use Rattle.tx_laws.proofs.Coherence.{or_true, meets_not}
+use Rattle.tx_laws.proofs.Coherence.{or_true}
 use Rattle.tx_laws.proofs.HoldsInside.{holds_own}
-use Rattle.tx_laws.proofs.SharedFootprints.{footprint_held, targets_lack}
+use Rattle.tx_laws.proofs.SharedFootprints.{footprint_held}
 use Rattle.tx_laws.proofs.StepFootprints.{footprint_of_event}
 use Rattle.tx_laws.proofs.Tables.{of_unique}
 

@@ -41,10 +41,10 @@ use Rattle.tx_live.specs.declared.marking.Progress.{Progress}
 use Rattle.tx_live.specs.declared.marking.Progress.TheVariants.{Continues, Parks, Forks}
 use Rattle.tx_model.specs.Effects.{Inside as InsideOf}
 use Rattle.tx_model.specs.Events.{Event, actor, effect, objects, reply_of}
-use Rattle.tx_model.specs.History.{event_footprint, objects_reserved, targets, is_other_starter}
-use Rattle.tx_model.specs.ObjectFacts.{has_left}
+use Rattle.tx_model.specs.History.{event_footprint, objects_reserved, targets}
+use Rattle.tx_model.specs.ObjectFacts.{has_left, targets_lack}
 use Rattle.tx_model.specs.Words.{processes_of}
-use Rattle.tx_model.specs.Membership.{Within, is_of, marks_after, new_mark, parked_mark, defers_in, Table}
+use Rattle.tx_model.specs.Membership.{Within, is_of, marks_after, new_mark, parked_mark, defers_in}
 use Rattle.tx_model.specs.Book.{member_sends}
 use Rattle.tx_model.specs.State.{Object, Proc, Desc, Pipe, Held, Sending, State, has_object, same_object}
 use Rattle.tx_reserve.specs.Objects.{is_in}
@@ -114,16 +114,6 @@ held_now inside (AtOnce m) held s n before is was = elim (cases_Bool (n == s)) [
 held_now inside (AtCommit m) held s n before is was =
     subst (λ (t : ℕ). (if n == t then held t ++ sending_of m ∷ [] else held n) ≡ (if n == s then map sending_of (before ++ m ∷ []) else held n)) (sym is)
     (ap (λ (xs : List Sending). if n == s then xs else held n) (ap (λ (xs : List Sending). xs ++ sending_of m ∷ []) was ∙ sym (map_append sending_of before (m ∷ []))))
-
--- no process is the place of held sends
-targets_hold_none : (t : Table) (p n : ℕ) (ms : List Sending) → has_object (Held n) (targets t p ms) ≡ false
-unfolding targets has_object
-targets_hold_none t p n [] = refl
-targets_hold_none t p n (m ∷ ms) = by (is_other_starter t p m.target) (targets_hold_none t p n ms)
-  where
-    by : (b : Bool) → has_object (Held n) (targets t p ms) ≡ false → has_object (Held n) (if b then targets t p ms else Proc m.target ∷ targets t p ms) ≡ false
-    by true rest = rest
-    by false rest = rest
 
 has_left_alone : (o : Object) (xs ys : List Object) → has_object o ys ≡ false → has_object o (xs ++ ys) ≡ has_object o xs
 unfolding has_object
@@ -345,7 +335,7 @@ module _ (laws : LiveLaws) (old new : Content) (pid starter : Pid) (act : Act) (
       | inl e ↦ rw e (same_starter n (eqb-true n s e)
           (has_object (Held n) (objects_reserved (part_of progress) s (event_footprint (table_at old.marks) event S))) (slot_at old.txns n) (ap (slot_at old.txns) (eqb-true n s e) ∙ there))
       | inr e ↦ rw e (sym (ap (λ (b : Bool). if b then Some s else own_held n (slot_at old.txns n))
-          (reserved_same (Held n) ∙ has_left_alone (Held n) (objects event S) (targets (table_at old.marks) (actor event) (effect event S).sends) (targets_hold_none (table_at old.marks) (actor event) n (effect event S).sends)
+          (reserved_same (Held n) ∙ has_left_alone (Held n) (objects event S) (targets (table_at old.marks) (actor event) (effect event S).sends) (targets_lack (Held n) (λ m. refl) (table_at old.marks) (actor event) (effect event S).sends)
           ∙ apart n e)))
     ]
       where

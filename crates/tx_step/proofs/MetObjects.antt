@@ -2,10 +2,10 @@
 use Rattle.std.proofs.Common.{◌≡◌, ℕ, Bool, true, false, List, [], ◌∷◌, if◌then◌else◌, refl, sym, ap, ◌∙◌, inl, inr}
 use Rattle.std.proofs.lemmas.Bool.{both_ways}
 use Rattle.tx_model.specs.Events.{Event, actor, effect, objects}
-use Rattle.tx_model.specs.History.{event_footprint, is_other_starter, targets}
+use Rattle.tx_model.specs.History.{event_footprint, targets}
 use Rattle.tx_model.specs.Membership.{Table}
-use Rattle.tx_model.specs.ObjectFacts.{same_is, has_head, has_tail, has_either}
-use Rattle.tx_model.specs.State.{Object, Proc, Held, Sending, State, has_object, same_object}
+use Rattle.tx_model.specs.ObjectFacts.{same_is, has_head, has_tail, has_either, targets_lack}
+use Rattle.tx_model.specs.State.{Object, Held, State, has_object, same_object}
 use Rattle.tx_model.specs.View.{some_object}
 
 -- an object of the list passes the test
@@ -37,20 +37,10 @@ some_meets (x ∷ xs) P o there passes = by (same_object o x) refl there (λ res
     by true e h rest = let here : P x ≡ true = ap P (sym (same_is o x e)) ∙ passes in rw here refl
     by false e h rest = later (P x) (rest h)
 
--- what transactions hold is no target of a send
-targets_lack : (t : Table) (p s : ℕ) (ms : List Sending) → has_object (Held s) (targets t p ms) ≡ false
-unfolding targets has_object
-targets_lack t p s [] = refl
-targets_lack t p s (m ∷ ms) = by (is_other_starter t p m.target) (targets_lack t p s ms)
-  where
-    by : (b : Bool) → has_object (Held s) (targets t p ms) ≡ false → has_object (Held s) (if b then targets t p ms else Proc m.target ∷ targets t p ms) ≡ false
-    by true h = h
-    by false h = h
-
 -- what an event names of what transactions hold, it reads or writes
 pub held_named : (t : Table) (ev : Event) (S : State) (s : ℕ) → has_object (Held s) (event_footprint t ev S) ≡ true → has_object (Held s) (objects ev S) ≡ true
 unfolding event_footprint
 held_named t ev S s h = elim (has_either (Held s) (objects ev S) (targets t (actor ev) (effect ev S).sends) h) [
   | inl e ↦ e
-  | inr e ↦ absurd (both_ways (has_object (Held s) (targets t (actor ev) (effect ev S).sends)) (targets_lack t (actor ev) s (effect ev S).sends) e)
+  | inr e ↦ absurd (both_ways (has_object (Held s) (targets t (actor ev) (effect ev S).sends)) (targets_lack (Held s) (λ n. refl) t (actor ev) (effect ev S).sends) e)
 ]

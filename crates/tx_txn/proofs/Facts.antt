@@ -1,5 +1,5 @@
 -- First facts on objects, lists of objects, owners and marks.
-use Rattle.std.proofs.Common.{◌≡◌, ℕ, Bool, true, false, List, [], ◌∷◌, ◌++◌, Option, Some, None, if◌then◌else◌, ◌==◌, refl, sym, ap, ◌∙◌, subst, inl, inr, ◌⊎◌, eq-eqb, eqb-true, ne_eqb}
+use Rattle.std.proofs.Common.{◌≡◌, ℕ, Bool, true, false, List, [], ◌∷◌, Option, Some, None, if◌then◌else◌, ◌==◌, refl, sym, ap, ◌∙◌, subst, inl, inr, ◌⊎◌, eq-eqb, eqb-true, ne_eqb}
 use Rattle.std.proofs.lemmas.Bool.{both_ways, cases_Bool}
 use Rattle.tx_base.specs.declared.marks.Mark.{Mark}
 use Rattle.tx_laws.specs.Fits.{IsIn}
@@ -10,7 +10,6 @@ use Rattle.tx_model.specs.Words.{processes_of}
 use Rattle.tx_model.specs.Membership.{Table, is_of, Progress, Continues, Parks, Forks, Begins, mark_unless_of}
 use Rattle.tx_model.specs.State.{State, Sending, Object, Proc, Desc, Pipe, Held, same_object, has_object}
 use Rattle.tx_model.specs.StateLaws.{EqualAt}
-use Rattle.tx_model.specs.View.{some_object}
 
 pub part_refl : (S : State) (o : Object) → EqualAt S S o
 part_refl S (Proc n) = refl
@@ -53,16 +52,6 @@ eq_comm s t = elim (cases_Bool (s == t)) [
 pub none_left : (x y : Bool) → (if x then true else y) ≡ false → (x ≡ false) × (y ≡ false)
 none_left true y h = cc
 none_left false y h = (refl, h)
-
--- what passes the test is met
-pub meets_not : (os : List Object) (P : Object → Bool) (o : Object) → has_object o os ≡ true → P o ≡ true → some_object os P ≡ false → ⊥
-unfolding has_object some_object
-meets_not [] P o h k e = cc
-meets_not (x ∷ xs) P o h k e = by (same_object o x) refl h (λ j. meets_not xs P o j k (none_left (P x) (some_object xs P) e).1)
-  where
-    by : (b : Bool) → same_object o x ≡ b → (if b then true else has_object o xs) ≡ true → (has_object o xs ≡ true → ⊥) → ⊥
-    by true z j rest = both_ways (P x) (none_left (P x) (some_object xs P) e).0 (subst (λ (y : Object). P y ≡ true) (same_is o x z) k)
-    by false z j rest = rest j
 
 -- the target of a send, no live starter of another transaction, is one of the targets
 pub in_targets : (t : Table) (p : ℕ) (ms : List Sending) (m : Sending) → IsIn m ms → is_other_starter t p m.target ≡ false → has_object (Proc m.target) (targets t p ms) ≡ true

@@ -9,7 +9,7 @@ use Rattle.tx_model.specs.Effects.{send_answers}
 use Rattle.tx_model.specs.Events.{Event, actor, effect, objects, after}
 use Rattle.tx_model.specs.History.{is_other_starter, targets, event_footprint, objects_reserved}
 use Rattle.tx_model.specs.Membership.{Table, Progress, is_member_of, is_live}
-use Rattle.tx_model.specs.ObjectFacts.{same_is, has_left, has_right}
+use Rattle.tx_model.specs.ObjectFacts.{same_is, has_left, has_right, meets_not}
 use Rattle.tx_model.specs.Posts.{after_posts}
 use Rattle.tx_model.specs.State.{Process, State, Object, Proc, Desc, Pipe, Held, same_object, has_object}
 use Rattle.tx_model.specs.StateLaws.{EqualAt}
@@ -19,7 +19,7 @@ use Rattle.tx_txn.specs.Content.{Txn, LogKernel, overlay, with_kept, led_by, kep
 use Rattle.tx_txn.specs.Faces.{Face, face_of, running, pending_in, pending_by}
 use Rattle.tx_txn.specs.Laws.{RoleLaws}
 use Rattle.tx_txn.specs.Steps.{posted, AgreeBut}
-use Rattle.tx_txn.proofs.Facts.{part_trans, none_left, meets_not, in_targets, all_targets, not_reserved, reserved_cases, owner_true, owner_self}
+use Rattle.tx_txn.proofs.Facts.{part_trans, none_left, in_targets, all_targets, not_reserved, reserved_cases, owner_true, owner_self}
 use Rattle.tx_txn.proofs.Overlays.{but_part, but_sym, but_trans, with_kept_but, changed_by_but, with_own, with_kept_else, unnamed}
 use Rattle.tx_txn.proofs.Posted.{GoTo, face_posts, pending_posts, posts_but, posts_held}
 
