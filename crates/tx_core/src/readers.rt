@@ -11,7 +11,7 @@ ghost use Rattle.tx_model.specs.Events.{process_of};
 ghost use Rattle.tx_model.specs.Footprints.{footprint};
 ghost use Rattle.tx_model.specs.Membership.{is_live};
 ghost use Rattle.tx_model.specs.View.{kernel_status, present};
-ghost use Rattle.tx_reserve.specs.Footprints.{HoldsBy, IsSetOf};
+ghost use Rattle.tx_reserve.specs.Footprints.{IsSetOf};
 ghost use Rattle.tx_reserve.specs.Objects.{object_of};
 ghost use Rattle.tx_reserve.specs.Reservations.{number_of};
 ghost use Rattle.tx_step.specs.TwoAnswers.{two_answers};
@@ -21,8 +21,8 @@ use crate::laws::laws;
 use crate::machine::{Machine, maker};
 use tx_base::{Mark, Pid, Sending, Slots, Step};
 use tx_change::Parts;
-use tx_reserve::{Object, Objects, footprint};
-use tx_step::{TwoAnswers, contents_are_whole, kernel_status, two_answers};
+use tx_reserve::{Object, Objects};
+use tx_step::{TwoAnswers, contents_are_whole, footprint, kernel_status, two_answers};
 
 impl Machine {
     /// How many process numbers there are: 64, or 256 of a wide machine.
@@ -101,33 +101,20 @@ impl Machine {
         ensures { IsSetOf result
             (footprint (view_of self.now).table step.now (present (view_of self.now))) }
     {
-        laws();
-        contents_are_whole();
-        let held = self.held_with(maker(step));
-        footprint(&self.content.parts, &self.content.marks, held, step)
+        footprint(&self.content, step)
     }
 
-    /// The first signal of a step to the starter of another's live transaction that has two answers: it is
-    /// answered otherwise now than it would be if that transaction were aborted first. Each signal is
-    /// answered as if those that the step sends before it had been posted.
+    /// The first signal of a step to the starter of a live transaction that has two answers: it is answered
+    /// otherwise now than it would be if that transaction were aborted first. Each signal is answered as if
+    /// those that the step sends before it had been posted.
     ///
-    /// Nothing where there is none; of a step that is refused before it is asked who is in its way; and of a
-    /// starter that the step names. It takes no memory.
+    /// Nothing where there is none, or the starter has no live transaction; of a starter that the step
+    /// names; and of a step whose process does not run. Whether the step is refused for another reason is
+    /// not asked. It takes no memory.
     pub fn two_answers(&self, step: &Step, starter: Pid) -> Option<TwoAnswers>
         ensures { result ≡ two_answers (view_of self.now) step.now starter.0 }
     {
         two_answers(&self.content, step, starter)
-    }
-
-    /// What the transaction holds that the process is a member of; nothing where it is of none.
-    fn held_with(&self, pid: Pid) -> &[Sending]
-        ensures { HoldsBy (slot_at self.now.marks pid.0) result.now
-            (present (view_of self.now)).held }
-    {
-        match self.content.marks.get(pid) {
-            Some(mark) => self.held(mark.starter),
-            None => &[],
-        }
     }
 
     /// The status that `kernel_abort` of a starter's live transaction gives: 203 where it is doomed, and

@@ -1,5 +1,5 @@
 //! What a step of a history is to its transaction.
-ghost use Rattle.std.specs.Prelude.{◌≡◌, ℕ, IfSome, IsTrue, option_map};
+ghost use Rattle.std.specs.Prelude.{◌≡◌, ℕ, IfSome, option_map};
 ghost use Rattle.tx_base.specs.Slots.{slot_at};
 ghost use Rattle.tx_base.specs.declared.steps.Step.TheVariants.{Call as Calls, Deliver, KernelAbort};
 ghost use Rattle.tx_step.specs.Contents.{IsContent};
@@ -16,7 +16,7 @@ use crate::retrace_laws::laws;
 use tx_base::{Call, Pid, Signo, Step};
 use tx_kernel::Sends;
 use tx_live::Content;
-use tx_step::{StepRole, actor_of, role_of_call, role_of_delivery};
+use tx_step::{StepRole, actor_of, is_running, role_of_call, role_of_delivery};
 
 /// What a step of a history is to its transaction.
 #[derive(Clone, Copy)]
@@ -46,16 +46,6 @@ pub(crate) fn note_of(content: &Content, step: &Step) -> Option<Note>
         )),
         Step::KernelAbort(starter) => Some(note_of_kernel_abort(content, *starter)),
         _ => None,
-    }
-}
-
-/// Whether there is a process of that number, and it runs.
-fn is_running(content: &Content, pid: Pid) -> bool
-    ensures { IsTrue result → IsRunning (slot_at content.now.parts.procs pid.0) }
-{
-    match content.parts.proc(pid) {
-        Some(proc) => proc.status.is_none(),
-        None => false,
     }
 }
 

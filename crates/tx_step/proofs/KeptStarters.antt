@@ -1,5 +1,5 @@
 -- The first send to a starter that is answered otherwise without its transaction.
-use Rattle.std.proofs.Common.{◌≡◌, ℕ, Bool, true, false, List, [], ◌∷◌, ◌++◌, length, ℤ, Option, Some, None, is_some, if◌then◌else◌, ◌==◌, option_map, refl, sym, ap, subst, ◌∙◌, eq-eqb, eqb-true}
+use Rattle.std.proofs.Common.{◌≡◌, ℕ, Bool, true, false, List, [], ◌∷◌, ◌++◌, length, Option, Some, None, if◌then◌else◌, ◌==◌, option_map, refl, sym, ap, subst, ◌∙◌, eq-eqb, eqb-true}
 use Rattle.std.proofs.lemmas.Bool.{both_ways}
 use Rattle.std.specs.Ordering.{int_eq}
 use Rattle.tx_base.specs.Slots.{slot_at}
@@ -12,9 +12,8 @@ use Rattle.tx_live.specs.declared.content.BoxedTxn.{BoxedTxn}
 use Rattle.tx_live.specs.declared.content.Content.{Content}
 use Rattle.tx_model.specs.Effects.{send_answers}
 use Rattle.tx_model.specs.Events.{Event, actor, effect, objects}
-use Rattle.tx_model.specs.History.{event_footprint, is_other_starter, just, targets}
-use Rattle.tx_model.specs.Membership.{Table, is_live}
-use Rattle.tx_model.specs.ObjectFacts.{has_left, has_right}
+use Rattle.tx_model.specs.History.{event_footprint, just, targets}
+use Rattle.tx_model.specs.ObjectFacts.{has_left}
 use Rattle.tx_model.specs.Posts.{after_post, post_answer, post_answers, target_after}
 use Rattle.tx_model.specs.State.{Object, Proc, Process, Sending, State, has_object}
 use Rattle.tx_model.specs.StateLaws.{put_here, put_there}
@@ -85,46 +84,13 @@ module _ (answered : PostIsAnsweredByFace) (stays : PostLeavesFace) (queued : Po
           rest
           ∙ (λ j. faces_difference s ms (face_of (sent_elsewhere s m S e j)) (count (sent_elsewhere s m S e j)) (face_of (sent_elsewhere s m R e j)) (count (sent_elsewhere s m R e j)))
 
--- what is no object of two lists is none of either
+-- what is no object of two lists is none of the first
 not_left : (o : Object) (xs ys : List Object) → has_object o (xs ++ ys) ≡ false → has_object o xs ≡ false
 not_left o xs ys out = by (has_object o xs) refl
   where
     by : (b : Bool) → has_object o xs ≡ b → b ≡ false
     by true e = absurd (both_ways (has_object o (xs ++ ys)) out (has_left o xs ys e))
     by false e = refl
-
-not_right : (o : Object) (xs ys : List Object) → has_object o (xs ++ ys) ≡ false → has_object o ys ≡ false
-not_right o xs ys out = by (has_object o ys) refl
-  where
-    by : (b : Bool) → has_object o ys ≡ b → b ≡ false
-    by true e = absurd (both_ways (has_object o (xs ++ ys)) out (has_right o xs ys e))
-    by false e = refl
-
--- an event names each process that it sends a signal, but the starters of others
-module _ (t : Table) (p s : ℕ) (dead : is_live t s ≡ false) where
-  targets_rest : (m : Sending) (ms : List Sending) → has_object (Proc s) (targets t p (m ∷ ms)) ≡ false → has_object (Proc s) (targets t p ms) ≡ false
-  unfolding targets
-  targets_rest m ms out = by (is_other_starter t p m.target) out
-    where
-      by : (b : Bool) → has_object (Proc s) (if b then targets t p ms else Proc m.target ∷ targets t p ms) ≡ false → has_object (Proc s) (targets t p ms) ≡ false
-      by true h = h
-      by false h = not_right (Proc s) (Proc m.target ∷ []) (targets t p ms) h
-
-  target_named : (m : Sending) (ms : List Sending) → m.target ≡ s → has_object (Proc s) (targets t p (m ∷ ms)) ≡ true
-  unfolding targets has_object
-  target_named m ms here = rw here (rw dead (rw (eq-eqb s s refl) refl))
-
-  none_sent : (ms : List Sending) (xs ys : List ℤ) → has_object (Proc s) (targets t p ms) ≡ false → first_difference s ms xs ys ≡ None
-  unfolding first_difference
-  none_sent [] xs ys out = refl
-  none_sent (m ∷ ms) [] ys out = refl
-  none_sent (m ∷ ms) (x ∷ xs) [] out = refl
-  none_sent (m ∷ ms) (x ∷ xs) (y ∷ ys) out = by (m.target == s) refl (none_sent ms xs ys (targets_rest m ms out))
-    where
-      by : (b : Bool) → (m.target == s) ≡ b → first_difference s ms xs ys ≡ None →
-          (if b then (if int_eq x y then first_difference s ms xs ys else Some (answered_twice m x y)) else first_difference s ms xs ys) ≡ None
-      by true e rest = absurd (both_ways (has_object (Proc s) (targets t p (m ∷ ms))) out (target_named m ms (eqb-true m.target s e)))
-      by false e rest = rest
 
 -- a process with a pending part put over it has that part
 laid : (P : PendingView) (x : Option Process) (face : Face) → face_of (overlay P x) ≡ Some face → pending_in (overlay P x) ≡ P
@@ -162,10 +128,6 @@ module _ (k : Content) (is : IsContent k) (s : ℕ) where
     unfolding event_footprint
     not_object = not_left (Proc s) (objects event (now_of k)) (targets (table_at k.marks) (actor event) (effect event (now_of k)).sends) out
 
-    not_target : has_object (Proc s) (targets (table_at k.marks) (actor event) (effect event (now_of k)).sends) ≡ false
-    unfolding event_footprint
-    not_target = not_right (Proc s) (objects event (now_of k)) (targets (table_at k.marks) (actor event) (effect event (now_of k)).sends) out
-
     difference_now : difference_at (view_of k) event s
         ≡ first_difference s (effect event (now_of k)).sends (send_answers (effect event (now_of k)) (now_of k)) (send_answers (effect event (now_of k)) ((view_of k).without (just s)))
     difference_now = ap (λ (S : State). first_difference s (effect event S).sends (send_answers (effect event S) S) (send_answers (effect event S) ((view_of k).without (just s)))) (now_seen seen k)
@@ -182,9 +144,3 @@ module _ (k : Content) (is : IsContent k) (s : ℕ) where
         ∙ difference_posts answered stays queued s f.sends (before_sends f (now_of k)) (before_sends f W)
         ∙ (λ j. faces_difference s f.sends (face_of (now j)) (count (now j)) (face_of (kept j)) (count (kept j)))
         ∙ (λ j. faces_difference s f.sends (face_of ((now_of k).procs s)) (count ((now_of k).procs s)) (face_left boxed there j) (count_left boxed there j))
-
-    -- of another process there is none
-    pub none_at : slot_at k.txns s ≡ None → difference_at (view_of k) event s ≡ None
-    none_at none =
-        let dead : is_live (table_at k.marks) s ≡ false = sym (is.kept.live s) ∙ ap (λ (slot : Option BoxedTxn). is_some (option_map txn_of slot)) none in
-        difference_now ∙ none_sent (table_at k.marks) (actor event) s dead (effect event (now_of k)).sends _ _ not_target

@@ -1,5 +1,5 @@
 -- The set of a step's footprint is what the event of the step names.
-use Rattle.std.proofs.Common.{◌≡◌, Bool, true, false, length, Option, Some, None, if◌then◌else◌, refl, sym, ap, ◌∙◌}
+use Rattle.std.proofs.Common.{◌≡◌, Bool, true, false, length, Option, Some, None, if◌then◌else◌, refl, sym, ap, subst, ◌∙◌}
 use Rattle.std.proofs.lemmas.Bool.{both_ways}
 use Rattle.tx_base.specs.Slots.{slot_at}
 use Rattle.tx_base.specs.declared.steps.Step.{Step}
@@ -44,7 +44,16 @@ runs (Some proc) running = rw running refl
 pub same_tables : (k : Content) → IsShaped k → table_of k.parts k.marks ≡ table_at k.marks
 same_tables k shaped = λ j. record { width = sym shaped.marks j; marks = slot_at k.marks }
 
-told : FootprintIsOfEvent → PresentIsNow → (k : Content) (step : Step) (o : Object) → IsRunning (slot_at k.parts.procs (process_of step)) →
+-- the set of a step's footprint, by the parts and the marks, is that by the view
+pub set_seen : PresentIsNow → (k : Content) (step : Step) (set : Objects) → IsShaped k → IsSetOf set (footprint (table_of k.parts k.marks) step (now_of k)) →
+    IsSetOf set (footprint (view_of k).table step (present (view_of k)))
+unfolding view_of states_view
+set_seen seen k step set shaped is =
+    subst (λ (S : State). IsSetOf set (footprint (table_at k.marks) step S)) (sym (now_seen seen k))
+    (subst (λ (t : Table). IsSetOf set (footprint t step (now_of k))) (same_tables k shaped) is)
+
+-- outside of aborts its objects are those of its event
+pub told : FootprintIsOfEvent → PresentIsNow → (k : Content) (step : Step) (o : Object) → IsRunning (slot_at k.parts.procs (process_of step)) →
     is_abort (role_on (view_of k) step) ≡ false → is_shared o ≡ true →
     has_object o (footprint (table_at k.marks) step (now_of k)) ≡ has_object o (event_footprint (table_at k.marks) (event_on (view_of k) step) (now_of k))
 unfolding view_of states_view

@@ -1,13 +1,15 @@
 -- The two answers of the signals of a step: as things are, and after an abort. Own rules.
-use Rattle.std.specs.Prelude.{ℕ, List, [], ◌∷◌, ℤ, Option, Some, None, is_some, if◌then◌else◌, ◌==◌}
+use Rattle.std.specs.Prelude.{◌≡◌, ℕ, not, List, [], ◌∷◌, ℤ, Option, Some, None, is_some, if◌then◌else◌, ◌==◌}
 use Rattle.std.specs.Ordering.{int_eq}
 use Rattle.tx_base.specs.declared.steps.Step.{Step}
+use Rattle.tx_model.specs.Answer.{is_running}
 use Rattle.tx_model.specs.Effects.{send_answers}
 use Rattle.tx_model.specs.Events.{Event, effect, process_of}
-use Rattle.tx_model.specs.History.{event_footprint, just}
+use Rattle.tx_model.specs.Footprints.{footprint}
+use Rattle.tx_model.specs.History.{just}
+use Rattle.tx_model.specs.Membership.{is_live}
 use Rattle.tx_model.specs.State.{Proc, Sending, has_object}
-use Rattle.tx_model.specs.View.{View, event_on, present}
-use Rattle.tx_step.specs.Early.{early_refusal}
+use Rattle.tx_model.specs.View.{View, event_on, has_two_answers, present}
 use Rattle.tx_step.specs.declared.differing.TwoAnswers.{TwoAnswers}
 
 -- a send with its answer as things are, and that after an abort
@@ -28,10 +30,14 @@ module _ (V : View) where
   difference_at ev s =
       let f = effect ev (present V) in first_difference s f.sends (send_answers f (present V)) (send_answers f (V.without (just s)))
 
-  -- the same, where s is none of the processes that the event names
-  abbrev pub two_answers_at : Event → ℕ → Option TwoAnswers
-  two_answers_at ev s = if has_object (Proc s) (event_footprint V.table ev (present V)) then None else difference_at ev s
-
-  -- the same of a step; none of one that is refused before it is asked who is in its way
+  -- the first signal of a step that has two answers, to the starter s of a live transaction: none where the step names s, and
+  -- none of a step whose process does not run
   abbrev pub two_answers : Step → ℕ → Option TwoAnswers
-  two_answers step s = if is_some (early_refusal V (process_of step) step) then None else two_answers_at (event_on V step) s
+  two_answers step s =
+      if not (is_live V.table s) then None else
+      if has_object (Proc s) (footprint V.table step (present V)) then None else
+      if not (is_running ((present V).procs (process_of step))) then None else difference_at (event_on V step) s
+
+-- an event has such a signal exactly where the definitions say that one of its posts has two answers
+abbrev pub DifferencesAreTold : Type 0
+DifferencesAreTold = (V : View) (event : Event) (s : ℕ) → is_some (difference_at V event s) ≡ has_two_answers V event s

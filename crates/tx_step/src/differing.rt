@@ -1,27 +1,31 @@
 //! Signals of a step that are answered otherwise now than after an abort.
-ghost use Rattle.std.specs.Prelude.{◌≡◌, false};
+ghost use Rattle.std.specs.Prelude.{◌≡◌, false, true};
 ghost use Rattle.tx_kernel.specs.Plans.{sent_at_once};
 ghost use Rattle.tx_live.specs.Content.{now_of, view_of};
 ghost use Rattle.tx_model.specs.Events.{Event, effect};
+ghost use Rattle.tx_model.specs.Footprints.{footprint};
 ghost use Rattle.tx_model.specs.History.{event_footprint};
+ghost use Rattle.tx_model.specs.Membership.{is_live};
 ghost use Rattle.tx_model.specs.State.{Proc, has_object};
+ghost use Rattle.tx_model.specs.View.{present};
 ghost use Rattle.tx_step.specs.Contents.{IsContent};
 ghost use Rattle.tx_step.specs.Faces.{sent};
 ghost use Rattle.tx_step.specs.Requests.{step_of};
-ghost use Rattle.tx_step.specs.TwoAnswers.{difference_at, two_answers};
+ghost use Rattle.tx_step.specs.TwoAnswers.{DifferencesAreTold, difference_at, two_answers};
 ghost use Rattle.tx_step.specs.Ways.{posted_with};
 ghost use Rattle.tx_txn.specs.Marks.{table_at};
 
 use crate::faces::Faces;
 use crate::laws::laws;
+use crate::named::footprint;
 use crate::request::Request;
 use crate::roles::StepRole;
-use crate::ways::{at_once, held_by};
+use crate::ways::{at_once, held_by, is_running};
 use tx_base::{Pid, Sending, Signo, Step};
 use tx_kernel::Sends;
 use tx_laws::{answers_of_states, locality};
 use tx_live::Content;
-use tx_reserve::{Object, Objects};
+use tx_reserve::Object;
 use tx_txn::posts_by_faces;
 
 /// A signal to the starter of a live transaction that is answered otherwise now than after an abort of that
@@ -33,16 +37,23 @@ pub struct TwoAnswers {
     pub after_abort: i64,
 }
 
-/// The first signal of a step to the starter of another's live transaction that has two answers. Each is
-/// answered as if those before it had been posted: what is sent at once first, then what is held, where the
-/// step commits it, and last what the step hands out to be held.
+/// The first signal of a step to the starter of a live transaction that has two answers. Each is answered
+/// as if those before it had been posted: what is sent at once first, then what is held, where the step
+/// commits it, and last what the step hands out to be held.
 ///
-/// Nothing where there is none; of a step that is refused before it is asked who is in its way; and of a
-/// starter that the step names, which is in its way anyhow. It takes no memory.
+/// Nothing where there is none, or the starter has no live transaction; of a starter that the step names,
+/// which is in its way anyhow, or is its own; and of a step whose process does not run. Whether the step is
+/// refused for another reason is not asked. It takes no memory.
 pub fn two_answers(content: &Content, step: &Step, starter: Pid) -> Option<TwoAnswers>
     requires { IsContent content.now }
     ensures { result ≡ two_answers (view_of content.now) step.now starter.0 }
 {
+    if content.txns.get(starter).is_none() {
+        return None;
+    }
+    if footprint(content, step).has(Object::Proc(starter)) {
+        return None;
+    }
     match step {
         Step::Call(pid, call) => answers_of_request(content, *pid, Request::Call(call), starter),
         Step::Deliver(pid, signo) => {
@@ -52,24 +63,25 @@ pub fn two_answers(content: &Content, step: &Step, starter: Pid) -> Option<TwoAn
     }
 }
 
-/// The same of what a step requests of its process.
+/// The same of what a step requests of its process, at a starter that the step does not name.
 fn answers_of_request(
     content: &Content,
     pid: Pid,
     request: Request,
     starter: Pid,
 ) -> Option<TwoAnswers>
-    requires { IsContent content.now }
+    requires content { IsContent content.now }
+    requires live { is_live (view_of content.now).table starter.0 ≡ true }
+    requires unnamed { has_object (Proc starter.0) (footprint (view_of content.now).table
+        (step_of pid request) (present (view_of content.now))) ≡ false }
     ensures { result ≡ two_answers (view_of content.now) (step_of pid request.entry) starter.0 }
 {
     laws();
-    if request.early_refusal(content, pid).is_some() {
+    if !is_running(content, pid) {
         return None;
     }
     let role = request.role(content, pid);
-    let mut footprint = Objects::new();
-    let _in_way = request.way(content, pid, role, &mut footprint);
-    if footprint.has(Object::Proc(starter)) {
+    if let StepRole::Aborts(_) = role {
         return None;
     }
     let first = request.sends(content, pid, role);
@@ -77,14 +89,15 @@ fn answers_of_request(
 }
 
 /// The first signal to a starter that has two answers, of those that a step of this role posts which sends
-/// this first. Nothing where the step's event does not name the starter and there is none.
+/// this first, where the step's event does not name the starter.
 fn posted_difference(
     content: &Content,
     role: StepRole,
     first: &Sends,
     starter: Pid,
 ) -> Option<TwoAnswers>
-    requires { IsContent content.now }
+    requires content { IsContent content.now }
+    requires live { is_live (table_at content.now.marks) starter.0 ≡ true }
     ensures { (event : Event) →
         (effect event (now_of content.now)).sends ≡ posted_with content.now role first.now →
         has_object (Proc starter.0)
@@ -104,7 +117,8 @@ fn difference_at(
     first: &Sends,
     held: &[Sending],
 ) -> Option<TwoAnswers>
-    requires { IsContent content.now }
+    requires content { IsContent content.now }
+    requires live { is_live (table_at content.now.marks) starter.0 ≡ true }
     ensures { (event : Event) →
         (effect event (now_of content.now)).sends ≡ sent first.now held.now →
         has_object (Proc starter.0)
@@ -114,7 +128,13 @@ fn difference_at(
     answers_of_states();
     locality();
     posts_by_faces();
-    let boxed = content.txns.get(starter)?;
+    let boxed = content.txns.get(starter).unwrap();
     let faces = Faces::of(&content.parts, starter, &boxed.txn.kept);
     faces.difference(starter, first, held)
 }
+
+/// An event has a signal to a starter with two answers exactly where the definitions say that one of its
+/// posts has.
+pub fn differences_are_told()
+    ensures { DifferencesAreTold }
+{}

@@ -26,6 +26,10 @@
 //! with the transaction that it is a member of; what is posted with a step of it is a law
 //! (`posts_are_told`).
 //!
+//! Whoever asks why a step is refused asks for its `footprint`, whether or not its process runs, and for
+//! the `two_answers` of its signals. Neither calls what a step itself is asked first: with a second
+//! caller that would stand in line no more, and each step would pay for it.
+//!
 //! Why a step's plan was refused is told by `late_refusal`: the plan's reason; where that is want of
 //! memory, the rule is asked, and its reason told if it has one.
 //!
@@ -55,6 +59,7 @@ mod in_way;
 mod inside;
 mod late;
 mod laws;
+mod named;
 mod outside;
 mod own;
 mod refusal_laws;
@@ -66,9 +71,10 @@ mod ways;
 
 pub use aborts::{kernel_status, take_kernel_abort};
 pub use answered::Answered;
-pub use differing::{TwoAnswers, two_answers};
+pub use differing::{TwoAnswers, differences_are_told, two_answers};
+pub use named::footprint;
 pub use refusal_laws::{booted_is_content, contents_are_whole, posts_are_told};
 pub use replies::put_reply;
 pub use roles::{StepRole, role_of_call, role_of_delivery};
 pub use steps::{take_call, take_delivery};
-pub use ways::actor_of;
+pub use ways::{actor_of, is_running};

@@ -1,6 +1,6 @@
 //! What a step names, and who is in its way.
 ghost use Rattle.std.specs.Option.{option_copied};
-ghost use Rattle.std.specs.Prelude.{◌≡◌, false, map, length, [], ◌∷◌, option_map};
+ghost use Rattle.std.specs.Prelude.{◌≡◌, false, map, length, [], ◌∷◌, option_map, IsTrue};
 ghost use Rattle.tx_base.specs.Slots.{slot_at};
 ghost use Rattle.tx_base.specs.declared.steps.Step.TheVariants.{Call as Calls, Deliver};
 ghost use Rattle.tx_step.specs.Contents.{IsContent};
@@ -14,11 +14,13 @@ ghost use Rattle.tx_laws.specs.Footprints.{is_abort};
 ghost use Rattle.tx_live.specs.Content.{content_of, held_of, now_of, view_of, IsShaped};
 ghost use Rattle.tx_live.specs.Insides.{IsFootprint};
 ghost use Rattle.tx_live.specs.Made.{IsRunning};
+ghost use Rattle.tx_model.specs.Answer.{is_running};
 ghost use Rattle.tx_model.specs.Words.{has_bad_number};
 ghost use Rattle.tx_model.specs.Events.{Event, effect};
 ghost use Rattle.tx_model.specs.Membership.{inside_by};
 ghost use Rattle.tx_model.specs.State.{Object as TheObject, Proc};
 ghost use Rattle.tx_model.specs.View.{event_on, starter_in_way, role_on};
+ghost use Rattle.tx_proc.specs.Parts.{process_in};
 ghost use Rattle.tx_reserve.specs.Footprints.{IsSetOf};
 ghost use Rattle.tx_reserve.specs.Objects.{is_in};
 ghost use Rattle.tx_reserve.specs.Reservations.{number_of};
@@ -142,6 +144,17 @@ fn way_of_process(
     answers_of_faces();
     footprint.insert(Object::Proc(process));
     content.owners.other_owner(Object::Proc(process), own)
+}
+
+/// Whether there is a process of that number, and it runs.
+pub fn is_running(content: &Content, pid: Pid) -> bool
+    ensures told { result ≡ is_running (process_in (slot_at content.now.parts.procs pid.0)) }
+    ensures runs { IsTrue result → IsRunning (slot_at content.now.parts.procs pid.0) }
+{
+    match content.parts.proc(pid) {
+        Some(proc) => proc.status.is_none(),
+        None => false,
+    }
 }
 
 /// The process of a number, which runs, with the transaction that it is a member of. It takes no memory.

@@ -2,14 +2,9 @@ use Rattle.std.proofs.Common.{sym, ap, ◌∙◌}
 use Rattle.std.specs.Option.{option_copied}
 use Rattle.tx_base.specs.Slots.{slot_at}
 use Rattle.tx_proc.specs.Parts.{process_in}
-use Rattle.tx_step.proofs.KeptStarters.{difference_kept, none_at}
+use Rattle.tx_step.proofs.KeptStarters.{difference_kept}
 use Rattle.tx_step.specs.Faces.{sent, starter_difference}
 use Rattle.tx_step.proofs.differing.difference_at.Goals as goal
-
-pub returns-in_err-boxed : goal.returns-in_err-boxed
-returns-in_err-boxed c = λ event sends out.
-    c.from_residual.ensures
-    ∙ sym (none_at c.args.content.now c.requires c.args.starter.0 c.answers_of_states.ensures.present event out (sym c.get.ensures ∙ ap option_copied c.in_err-boxed.was))
 
 pub returns : goal.returns
 returns c = λ event sends out.
@@ -18,5 +13,5 @@ returns c = λ event sends out.
     c.difference.ensures
     ∙ c.of-faces.ensures (sent c.args.first.now c.args.held.now)
     ∙ (λ j. starter_difference c.args.starter.0 (sym sends j) (process_in (slot_at k.parts.procs c.args.starter.0)) (c.deref.ensures j).kept)
-    ∙ sym (difference_kept k c.requires c.args.starter.0 c.answers_of_states.ensures.present event out c.locality.ensures.writes laws.answer laws.face laws.queued c.in_ok-boxed.boxed.now
-    (sym c.get.ensures ∙ ap option_copied c.in_ok-boxed.was))
+    ∙ sym (difference_kept k c.requires.content c.args.starter.0 c.answers_of_states.ensures.present event out c.locality.ensures.writes laws.answer laws.face laws.queued c.unwrap-boxed.result.now
+    (sym c.get.ensures ∙ ap option_copied c.unwrap-boxed.ensures))
