@@ -23,8 +23,10 @@ pub fn debug<S: Source, W: Sink>(alloc: Global, source: &mut S, sink: &mut W) ->
     write_whole(sink, answers.as_bytes())
 }
 
-/// What the commands of a text answer.
-fn debug_text(alloc: Global, text: &[u8]) -> Result<String, Fault>
+/// What the commands of a text answer, as `debug` writes it. The text may be of any version.
+///
+/// A fault where the text can't be read, or a growth of memory is refused, as `debug` tells it.
+pub fn debug_text(alloc: Global, text: &[u8]) -> Result<String, Fault>
     ensures { AnswersText walks text.now result }
 {
     let meant = Meant::by(alloc, text)?;

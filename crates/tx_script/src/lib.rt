@@ -17,7 +17,7 @@ mod replays;
 mod reports;
 mod walks;
 
-pub use debugs::debug;
-pub use replays::replay;
+pub use debugs::{debug, debug_text};
+pub use replays::{replay, replay_text};
 pub use reports::report;
 pub use walks::put_answer;
