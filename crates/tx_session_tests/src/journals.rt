@@ -1,4 +1,4 @@
-//! Sessions: their journals beside the histories of runs, walks over them, and their calls.
+//! Sessions: their journals beside the histories of runs, and what no text asks of them.
 use crate::runs::{go, ran, ran_wide};
 use crate::sessions::{session_after, session_of};
 use crate::texts::{told, told_by};
@@ -6,7 +6,7 @@ use std::alloc::Global;
 use std::test::Fail;
 use tx_base::{NoMemory, Pid};
 use tx_core::{NoTransaction, Ran};
-use tx_journal::{AtStart, ForwardFault, GotoFault, MovedFault, Session};
+use tx_journal::Session;
 use tx_lines::{Schedule, Version, read_schedule};
 
 /// A tree of processes grows in a transaction and is taken back, and a number is used again.
@@ -95,34 +95,6 @@ fn a_journal_is_the_history_of_a_run(rt: HostRuntime) -> Result<(), Fail> {
 /// Process 2 began a transaction and mapped a page.
 const BEGUN: &str = "txos 1 schedule 2\n2 sys_xbegin\n2 map 0\n";
 
-/// And then it aborted that.
-const ABORTED: &str = "txos 1 schedule 2\n2 sys_xbegin\n2 map 0\n2 sys_xabort\n";
-
-#[test]
-fn an_abort_is_walked_over(rt: HostRuntime) -> Result<(), Fail> {
-    let mut session = session_after(rt.alloc(), ABORTED)?;
-    assert!(rt; session.forward(rt.alloc()) == Err(ForwardFault::AtEnd));
-    assert!(rt; session.back() == Ok(()));
-    assert!(rt; session.machine().txn_of(Pid(2)) == Some(Pid(2)));
-    Ok(())
-}
-
-/// Whether a session of three steps goes to its places, and to no others.
-fn goes_to_its_places(alloc: Global, session: &mut Session) -> bool {
-    go(alloc, session, 0) == Ok(())
-        && session.back() == Err(AtStart)
-        && go(alloc, session, 4) == Err(GotoFault::Beyond)
-        && go(alloc, session, 3) == Ok(())
-}
-
-#[test]
-fn places_are_gone_to(rt: HostRuntime) -> Result<(), Fail> {
-    let mut session = session_after(rt.alloc(), ABORTED)?;
-    assert!(rt; goes_to_its_places(rt.alloc(), &mut session));
-    assert!(rt; session.machine().txn_of(Pid(2)).is_none());
-    Ok(())
-}
-
 #[test]
 fn room_is_made_for_steps(rt: HostRuntime) -> Result<(), Fail> {
     let mut session = session_after(rt.alloc(), BEGUN)?;
@@ -149,27 +121,5 @@ fn the_kernels_abort_has_its_entry(rt: HostRuntime) -> Result<(), Fail> {
     assert!(rt; matches!(session.kernel_abort(3, Pid(1)), Err(NoTransaction)));
     assert!(rt; session.kernel_abort(3, Pid(2)).is_ok());
     assert!(rt; matches!(has_the_abort(rt.alloc(), &session), Ok(true)));
-    Ok(())
-}
-
-/// Whether the first transaction is moved to one moment, and its entries so.
-fn is_one_moment(alloc: Global, session: &Session) -> Result<bool, MovedFault> {
-    let first = session.moved(alloc, 5)?;
-    let wanted = [2, 4, 1, 3, 5, 6, 7, 8, 9];
-    Ok(first.one_moment && first.entries.as_slice() == wanted.as_slice())
-}
-
-#[test]
-fn committed_transactions_are_moved(rt: HostRuntime) -> Result<(), Fail> {
-    let session = session_after(rt.alloc(), OVERLAPPING)?;
-    assert!(rt; matches!(is_one_moment(rt.alloc(), &session), Ok(true)));
-    assert!(rt;
-        session
-            .moved(rt.alloc(), 7)
-            .is_ok_and(|second| !second.one_moment)
-    );
-    let none = session.moved(rt.alloc(), 9);
-    assert!(rt; matches!(none, Err(MovedFault::NotCommit)), "an abort");
-    assert!(rt; session.position() == 9);
     Ok(())
 }

@@ -1,5 +1,5 @@
-//! The tests of sessions, of their workers, and of the texts that commands read and write: what no
-//! contract says and no text shows that the program answers.
+//! The tests of sessions and of their workers: what no contract says and no text shows that the program
+//! answers.
 //!
 //! The tests of `refused` pass whichever growth of memory is refused to them, and are run so, too.
 //!
@@ -7,8 +7,6 @@
 //! that leads down from it, which takes minutes; a program is not.
 #![tactic(auto)]
 
-#[cfg(test)]
-mod ends;
 #[cfg(test)]
 mod journals;
 #[cfg(test)]

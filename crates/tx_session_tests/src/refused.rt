@@ -11,7 +11,6 @@ use crate::texts::{told, told_by};
 use std::alloc::Global;
 use std::process::Abort;
 use tx_base::{Accepted, NoMemory, Step};
-use tx_check::check_text;
 use tx_core::{PartialRun, Ran};
 use tx_journal::{GotoFault, Session, print_state};
 use tx_pages::{PageError, Space};
@@ -254,14 +253,4 @@ fn a_first_store_after_a_copy_is_made_or_not(rt: HostRuntime) {
     assert!(rt; bytes_of(&space) == before);
     assert!(rt; is_stored_beside(rt.alloc(), &mut space));
     assert!(rt; matches!(copy.load(64), Ok(8)));
-}
-
-#[test]
-fn a_text_is_told_of_wholly_or_memory_is_wanted(rt: HostRuntime) {
-    let text = b"txos 1 schedule 2\n1 mpa 0\n1 store 0\n2 getpid 1";
-    let told = "line 2, column 3: no such call: mpa; did you mean map?\n\
-                line 3, column 3: store takes A HEX; got 1 word\n\
-                line 4, column 3: getpid takes no words; got 1 word\n";
-    assert!(rt; is_text(check_text(rt.alloc(), text), told));
-    assert!(rt; is_text(check_text(rt.alloc(), b"txos 1 schedule 2\n1 map 0\n"), ""));
 }
