@@ -40,6 +40,7 @@ impl Faces {
 
     /// The first of these sends to the process that is answered otherwise now than after an abort, where
     /// each is posted in turn: what is sent at once first, then what is held, and last what is handed out.
+    #[inline(always)] // it has few callers, and most ask only whether there is one
     pub fn difference(self, pid: Pid, first: &Sends, held: &[Sending]) -> Option<TwoAnswers>
         ensures { result ≡ difference pid.0 (sent first.now held.now) self }
     {

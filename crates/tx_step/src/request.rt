@@ -66,6 +66,7 @@ impl<'a> Request<'a> {
     }
 
     /// What it is to the transactions.
+    #[inline(always)] // it has few callers, and each step asks it
     pub(crate) fn role(self, content: &Content, pid: Pid) -> StepRole
         requires content { IsContent content.now }
         requires running { IsRunning (slot_at content.now.parts.procs pid.0) }
