@@ -25,6 +25,8 @@ abbrev pub command_words : List (List Text)
 command_words =
     (codes "replay" ∷ [])
     ∷ (codes "debug" ∷ [])
+    ∷ (codes "json" ∷ [])
+    ∷ (codes "picture" ∷ [])
     ∷ (codes "shell" ∷ codes "cut" ∷ codes "owns" ∷ codes "steps" ∷ codes "try" ∷ codes "why" ∷ codes "without" ∷ codes "when" ∷ codes "next" ∷ codes "quit" ∷ [])
     ∷ (codes "run" ∷ [])
     ∷ (codes "check" ∷ [])

@@ -14,7 +14,7 @@ pub fn listing() -> &'static str
 
 const LISTING: &str = "\
 commands of txos
-  replay debug shell run check plain explain version
+  replay debug json picture shell run check plain explain version
 refusals of a step, as in: no N9
   N1 N2 N3 N4 N5 N6 N7 N8 N9 N10 N11 N12 N13 N14
 faults, as in: txos: F1 line 2

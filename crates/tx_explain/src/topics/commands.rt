@@ -14,7 +14,7 @@ pub fn topics() -> &'static [Topic]
     &TOPICS
 }
 
-const TOPICS: [Topic; 8] = [
+const TOPICS: [Topic; 10] = [
     Topic {
         word: "replay",
         also: &[],
@@ -38,6 +38,31 @@ debug: walks back and forward over the steps of a schedule, as commands say.
            goto K, state, moved K (not in version 1); 4096 commands at most
   writes   what each command answers; not the replies to the steps
   example  txos debug < examples/commit_and_abort.walk
+",
+    },
+    Topic {
+        word: "json",
+        also: &[],
+        text: "\
+json: writes what a text is answered, as lines of JSON.
+  form     txos json < TEXT
+  TEXT     a schedule, or one with the line debug and commands
+  writes   for each step its reply, and then the state; where the text has
+           commands, what each command answers. The lines are those of
+           txos shell --json
+  example  txos json < examples/first.txos
+",
+    },
+    Topic {
+        word: "picture",
+        also: &[],
+        text: "\
+picture: draws what the steps of a schedule did, as a picture in SVG.
+  form     txos picture < TEXT
+  TEXT     a schedule of 200 steps at most
+  writes   a column for each process and a row for each step; a transaction is
+           a shaded box over its members
+  example  txos picture < examples/first.txos
 ",
     },
     Topic {
