@@ -10,7 +10,7 @@ use Rattle.clap.specs.declared.builder.value_parser.ValueParser.TheVariants.{Sig
 use Rattle.tx_shell.specs.declared.forms.Form.{Form}
 use Rattle.tx_shell.specs.declared.forms.Form.TheVariants as forms
 use Rattle.txos.specs.declared.words.Asked.{Asked}
-use Rattle.txos.specs.declared.words.Asked.TheVariants.{Check, Debug, Explain, Plain, Replay, Run, Shell, Version}
+use Rattle.txos.specs.declared.words.Asked.TheVariants.{Check, Debug, Explain, Json, Plain, Replay, Run, Shell, Version}
 
 -- an option that is required, whose value is a number from 1 to that one
 abbrev pub number_option : Text → ℕ → Rule
@@ -50,8 +50,8 @@ explain_line = record (new_shape (codes "explain")) { rules = new_rule (codes "w
 -- the commands, in the order in which they are added
 abbrev pub commands : List Shape
 commands =
-    text_line (codes "replay") ∷ text_line (codes "debug") ∷ shell_line ∷ run_line ∷ text_line (codes "check") ∷ text_line (codes "plain") ∷ explain_line
-    ∷ text_line (codes "version") ∷ []
+    text_line (codes "replay") ∷ text_line (codes "debug") ∷ text_line (codes "json") ∷ shell_line ∷ run_line ∷ text_line (codes "check")
+    ∷ text_line (codes "plain") ∷ explain_line ∷ text_line (codes "version") ∷ []
 
 -- the program's name, and that a command is wanted; clap adds its own `--version`
 abbrev pub top_line : App
@@ -65,6 +65,7 @@ command_line = fold with_subcommand top_line commands
 abbrev pub name_of : Asked → Text
 name_of Replay = codes "replay"
 name_of Debug = codes "debug"
+name_of Json = codes "json"
 name_of (Shell form) = codes "shell"
 name_of (Run crew) = codes "run"
 name_of Check = codes "check"

@@ -1,8 +1,8 @@
 //! The program: reads its words, and then a text.
 //!
-//! The program. `main` is thin: it reads the words with `clap`, calls `replay`, `debug`, `talk`,
-//! `run_program`, `check` or `write_plain` over the standard streams, or writes what a word means,
-//! and answers a status.
+//! The program. `main` is thin: it reads the words with `clap`, calls `replay`, `debug`, `write_json`,
+//! `talk`, `run_program`, `check` or `write_plain` over the standard streams, or writes what a word
+//! means, and answers a status.
 #![tactic(auto)]
 
 ghost use Rattle.std.specs.Prelude.{◌≡◌, IfOk, OnErr, OnOk, false, true};
@@ -23,6 +23,7 @@ use tx_check::check;
 use tx_explain::{explain, listing, nearest};
 use tx_lines::{Fault, OverRead, OverWrite, Sink, Source, write_whole};
 use tx_plain::write_plain;
+use tx_report_json::write_json;
 use tx_script::{debug, replay};
 use tx_shell::{Console, Form, Shell, TalkFault, talk};
 use tx_workers::run_program;
@@ -93,6 +94,7 @@ where
     match asked {
         Asked::Replay => status_of(rt, replay(alloc, source, sink)),
         Asked::Debug => status_of(rt, debug(alloc, source, sink)),
+        Asked::Json => status_of(rt, write_json(alloc, source, sink)),
         Asked::Shell(form) => status_of(rt, converse(rt, alloc, form, prompts)),
         Asked::Run(Crew { workers, turns }) => {
             status_of(rt, run_program(rt, alloc, source, sink, workers, turns))

@@ -26,6 +26,8 @@ pub enum Asked<'a> {
     Replay,
     /// To read a schedule and commands, and write what each command answers.
     Debug,
+    /// To read a schedule, or one with commands, and write what it is answered as JSON.
+    Json,
     /// To read steps and commands line by line, and answer each before the next, in that form.
     Shell(Form),
     /// To read a program, run it by workers, and write what they did.
@@ -62,6 +64,7 @@ pub fn read_words<'a>(alloc: Global, words: &'a [String]) -> Result<Asked<'a>, E
     match matches.subcommand_name() {
         Some("replay") => Ok(Asked::Replay),
         Some("debug") => Ok(Asked::Debug),
+        Some("json") => Ok(Asked::Json),
         Some("shell") => Ok(Asked::Shell(form_of(&matches))),
         Some("run") => Ok(Asked::Run(crew_of(&matches)?)),
         Some("check") => Ok(Asked::Check),
@@ -140,6 +143,7 @@ fn new_command<'a>(alloc: Global) -> Result<Command<'a>, AllocError>
     let command = top_command(alloc)
         .subcommand(text_command(alloc, "replay", REPLAY)?)?
         .subcommand(text_command(alloc, "debug", DEBUG)?)?
+        .subcommand(text_command(alloc, "json", JSON)?)?
         .subcommand(shell_command(alloc)?)?
         .subcommand(run_command(alloc)?)?
         .subcommand(text_command(alloc, "check", CHECK)?)?
@@ -174,6 +178,11 @@ const REPLAY: Told = Told {
 const DEBUG: Told = Told {
     about: "Reads a schedule and commands from standard input, and walks back and forward",
     example: "Example: txos debug < examples/commit_and_abort.walk",
+};
+
+const JSON: Told = Told {
+    about: "Reads a schedule, maybe with commands, and writes what it is answered as JSON",
+    example: "Example: txos json < examples/first.txos",
 };
 
 const SHELL: Told = Told {

@@ -8,6 +8,9 @@ returns-in-Some-replay-clause-reads c = no_fault _ _ c.in_ok-command.ensures c.i
 pub returns-in-Some-debug-clause-reads : goal.returns-in-Some-debug-clause-reads
 returns-in-Some-debug-clause-reads c = no_fault _ _ c.in_ok-command.ensures c.in_ok-matches.ensures.kinds
 
+pub returns-in-Some-json-clause-reads : goal.returns-in-Some-json-clause-reads
+returns-in-Some-json-clause-reads c = no_fault _ _ c.in_ok-command.ensures c.in_ok-matches.ensures.kinds
+
 pub returns-in-Some-shell-clause-reads : goal.returns-in-Some-shell-clause-reads
 returns-in-Some-shell-clause-reads c = no_fault _ _ c.in_ok-command.ensures c.in_ok-matches.ensures.kinds
 
@@ -62,18 +65,21 @@ unreachable-requires c =
             | inr two ↦ elim two [
               | inl debug ↦ absurd (w.in_default.not-debug (search (rules, debug)))
               | inr three ↦ elim three [
-                | inl shell ↦ absurd (w.in_default.not-shell (search (rules, shell)))
+                | inl json ↦ absurd (w.in_default.not-json (search (rules, json)))
                 | inr four ↦ elim four [
-                  | inl run ↦ absurd (w.in_default.not-run (search (rules, run)))
+                  | inl shell ↦ absurd (w.in_default.not-shell (search (rules, shell)))
                   | inr five ↦ elim five [
-                    | inl check ↦ absurd (w.in_default.not-check (search (rules, check)))
+                    | inl run ↦ absurd (w.in_default.not-run (search (rules, run)))
                     | inr six ↦ elim six [
-                      | inl plain ↦ absurd (w.in_default.not-plain (search (rules, plain)))
+                      | inl check ↦ absurd (w.in_default.not-check (search (rules, check)))
                       | inr seven ↦ elim seven [
-                        | inl explain ↦ absurd (w.in_default.not-explain (search (rules, explain)))
+                        | inl plain ↦ absurd (w.in_default.not-plain (search (rules, plain)))
                         | inr eight ↦ elim eight [
-                          | inl version ↦ absurd (w.in_default.not-version (search (rules, version)))
-                          | inr none ↦ none
+                          | inl explain ↦ absurd (w.in_default.not-explain (search (rules, explain)))
+                          | inr nine ↦ elim nine [
+                            | inl version ↦ absurd (w.in_default.not-version (search (rules, version)))
+                            | inr none ↦ none
+                          ]
                         ]
                       ]
                     ]

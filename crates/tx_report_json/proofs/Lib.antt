@@ -1,0 +1,13 @@
+pub mod Answered
+pub mod Gathered
+pub mod Lined
+pub mod MembersRead
+pub mod NumbersRead
+pub mod Printable
+pub mod ProcessesRead
+pub mod RepliesRead
+pub mod SignalsRead
+pub mod StatesBack
+pub mod StatesPrintable
+pub mod StatesRead
+pub mod StepsBack

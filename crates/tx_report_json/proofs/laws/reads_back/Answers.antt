@@ -1,0 +1,9 @@
+use Rattle.tx_report_json.proofs.StatesBack.{states_read_back}
+use Rattle.tx_report_json.proofs.StepsBack.{steps_read_back}
+use Rattle.tx_report_json.proofs.laws.reads_back.Goals as goal
+
+pub returns-clause-steps : goal.returns-clause-steps
+returns-clause-steps c = steps_read_back
+
+pub returns-clause-states : goal.returns-clause-states
+returns-clause-states c = states_read_back

@@ -1,0 +1,9 @@
+pub mod Lines
+pub mod Numbers
+pub mod ReadBack
+pub mod ReadProcesses
+pub mod ReadReplies
+pub mod ReadStates
+pub mod Reading
+pub mod Texts
+pub mod ToldStates

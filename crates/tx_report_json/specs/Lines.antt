@@ -1,0 +1,57 @@
+-- The lines of JSON that a schedule, or commands on it, are answered: functions of the history of the schedule.
+use Rattle.std.specs.Prelude.{ℕ, List, [], ◌∷◌, ◌++◌, length}
+use Rattle.json.specs.Print.{print}
+use Rattle.json.specs.Token.{Token}
+use Rattle.tx_base.specs.declared.steps.Accepted.{Accepted}
+use Rattle.tx_base.specs.declared.steps.Step.{Step}
+use Rattle.tx_json.specs.Answers.{lines_answer, state_answer, step_answer}
+use Rattle.tx_lines.specs.declared.read.command.Command.{Command}
+use Rattle.tx_lines.specs.declared.read.command.Command.TheVariants as commands
+use Rattle.tx_lines.specs.declared.read.header.Header.{Header}
+use Rattle.tx_model.specs.Answer.{answer}
+use Rattle.tx_model.specs.Schedules.{history_of, history_with}
+use Rattle.tx_model.specs.State.{State}
+use Rattle.tx_model.specs.View.{view}
+use Rattle.tx_script.specs.Debug.{command_answer, position_after, view_at}
+use Rattle.tx_script.specs.Report.{start_state}
+
+-- a line: the JSON of its tokens, and a line's end
+abbrev pub line_of : List Token → List ℕ
+line_of tokens = print tokens ++ 10 ∷ []
+
+-- some lines, one after another
+unfoldable pub text_of : List (List Token) → List ℕ
+text_of [] = []
+text_of (line ∷ lines) = line_of line ++ text_of lines
+
+-- what each step is answered, on the history before it; where it is accepted its number is that of the steps accepted so far
+unfoldable pub step_lines : State → List Accepted → List Step → List (List Token)
+step_lines start earlier [] = []
+step_lines start earlier (step ∷ steps) =
+    let reply = answer (view start earlier) step in
+    let history = history_with earlier step reply in
+    step_answer (length history) reply ∷ step_lines start history steps
+
+-- what a command answers at a position: the state there; or else the position behind it, and the lines that it answers as text
+abbrev pub command_line : State → List Accepted → ℕ → Command → List Token
+command_line start history at commands.State = state_answer at (view_at start history at)
+command_line start history at command = lines_answer (position_after history at command) (command_answer start history at command)
+
+-- what some commands answer in turn, from a position on
+unfoldable pub command_lines : State → List Accepted → ℕ → List Command → List (List Token)
+command_lines start history at [] = []
+command_lines start history at (command ∷ rest) = command_line start history at command ∷ command_lines start history (position_after history at command) rest
+
+-- a schedule: the answer to each step in turn, and then the state of the history that all leave
+abbrev pub schedule_lines : Header → List Step → List (List Token)
+schedule_lines header steps =
+    let start = start_state header in
+    let history = history_of start [] steps in
+    step_lines start [] steps ++ command_line start history (length history) commands.State ∷ []
+
+-- commands, of which the first stands at the end of the schedule's history
+abbrev pub walk_lines : Header → List Step → List Command → List (List Token)
+walk_lines header steps rest =
+    let start = start_state header in
+    let history = history_of start [] steps in
+    command_lines start history (length history) rest

@@ -1,0 +1,12 @@
+//! The law that lines of JSON read back to what they tell.
+ghost use Rattle.tx_report_json.specs.ReadBack.{StatesReadBack, StepsReadBack};
+
+/// The line of a step reads back to its reply and, where it was accepted, its number; and the line of a
+/// state to the position and to all that is told of the state (`told_of_view`): by the reader of the
+/// kit's JSON and the definitions of `ReadReplies` and `ReadStates`. The law asks that numbers are of
+/// the kernel's types, and of a view what is so after every lawful history.
+pub fn reads_back()
+    ensures steps { StepsReadBack }
+    ensures states { StatesReadBack }
+{
+}

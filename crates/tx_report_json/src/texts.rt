@@ -1,0 +1,53 @@
+//! Reads a text of any version, and answers it as lines of JSON.
+ghost use Rattle.std.specs.Prelude.{◌≡◌, ◌≢◌};
+ghost use Rattle.tx_check.specs.Kinds.{kind_of};
+ghost use Rattle.tx_check.specs.declared.kinds.Kind.TheVariants as kinds;
+ghost use Rattle.tx_plain.specs.Meant.{meant_of, IsMeantBy};
+ghost use Rattle.tx_report_json.specs.Texts.{texts};
+ghost use Rattle.tx_script.specs.Grammars.{AnswersText};
+
+use crate::commands::walk_lines;
+use crate::steps::schedule_lines;
+use std::alloc::Global;
+use tx_check::{Kind, kind_of};
+use tx_lines::{Fault, read_schedule, read_walk};
+use tx_plain::{Meant, MeantLines};
+
+/// What a text of any version is answered, a line of JSON each: of a schedule the reply to each step, and
+/// then the state; of a schedule with commands what each command answers.
+///
+/// A fault where the text can't be read, or a growth of memory is refused, as `replay` and `debug` tell
+/// it. A program is no schedule: its first line is at fault.
+pub fn json_text(alloc: Global, text: &[u8]) -> Result<String, Fault>
+    ensures { AnswersText texts text.now result }
+{
+    let meant = Meant::by(alloc, text)?;
+    match kind_of(MeantLines::of(text)) {
+        Kind::Walk => walk_text(alloc, text, &meant),
+        Kind::Schedule | Kind::Program => schedule_text(alloc, text, &meant),
+    }
+}
+
+/// What the commands of a text answer. Such a text has the line before commands.
+fn walk_text(alloc: Global, text: &[u8], meant: &Meant<'_>) -> Result<String, Fault>
+    requires meant { IsMeantBy text.now meant.now }
+    requires kind { kind_of (meant_of text.now) ≡ kinds.Walk }
+    ensures { AnswersText texts text.now result }
+{
+    match read_walk(alloc, meant.as_bytes()) {
+        Ok(walk) => walk_lines(alloc, &walk),
+        Err(fault) => Err(meant.own_fault(fault)),
+    }
+}
+
+/// What the steps of a text are answered, and the state that they leave.
+fn schedule_text(alloc: Global, text: &[u8], meant: &Meant<'_>) -> Result<String, Fault>
+    requires meant { IsMeantBy text.now meant.now }
+    requires kind { kind_of (meant_of text.now) ≢ kinds.Walk }
+    ensures { AnswersText texts text.now result }
+{
+    match read_schedule(alloc, meant.as_bytes()) {
+        Ok(schedule) => schedule_lines(alloc, &schedule),
+        Err(fault) => Err(meant.own_fault(fault)),
+    }
+}
