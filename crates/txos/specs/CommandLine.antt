@@ -1,7 +1,7 @@
 -- The words of the program's command line.
 use Rattle.std.specs.Char.{is_ascii_digit}
 use Rattle.std.specs.Str.{bytes_eq}
-use Rattle.std.specs.Prelude.{◌≢◌, ◌==◌, ◌&&◌, if◌then◌else◌, Bool, false, None, ℕ, List, [], ◌∷◌, Option, Some, codes, fold, option_and_then, option_map, pos, true}
+use Rattle.std.specs.Prelude.{◌≢◌, ◌==◌, ◌&&◌, ◌++◌, if◌then◌else◌, Bool, false, None, ℕ, List, [], ◌∷◌, Option, Some, codes, fold, option_and_then, option_map, pos, true}
 use Rattle.clap.specs.Simple.{Shape, new_rule, new_shape, on_top}
 use Rattle.clap.specs.Walk.{Rule}
 use Rattle.clap.specs.Words.{App, Row, Text, new_app, one_of, subcommand_of, with_subcommand}
@@ -10,7 +10,7 @@ use Rattle.clap.specs.declared.builder.value_parser.ValueParser.TheVariants.{Sig
 use Rattle.tx_shell.specs.declared.forms.Form.{Form}
 use Rattle.tx_shell.specs.declared.forms.Form.TheVariants as forms
 use Rattle.txos.specs.declared.words.Asked.{Asked}
-use Rattle.txos.specs.declared.words.Asked.TheVariants.{Check, Debug, Explain, Json, Plain, Replay, Run, Shell, Version}
+use Rattle.txos.specs.declared.words.Asked.TheVariants.{Check, Debug, Explain, Json, Picture, Plain, Replay, Run, Shell, Version}
 
 -- an option that is required, whose value is a number from 1 to that one
 abbrev pub number_option : Text → ℕ → Rule
@@ -47,11 +47,20 @@ run_line = record (new_shape (codes "run")) { rules = number_option (codes "work
 abbrev pub explain_line : Shape
 explain_line = record (new_shape (codes "explain")) { rules = new_rule (codes "word") ∷ [] }
 
--- the commands, in the order in which they are added
+-- the commands, in the order in which they are added: those that answer a schedule
+abbrev pub schedule_commands : List Shape
+schedule_commands = text_line (codes "replay") ∷ text_line (codes "debug") ∷ text_line (codes "json") ∷ text_line (codes "picture") ∷ []
+
+-- those that make steps as they come
+abbrev pub run_commands : List Shape
+run_commands = shell_line ∷ run_line ∷ []
+
+-- and those about texts and words
+abbrev pub text_commands : List Shape
+text_commands = text_line (codes "check") ∷ text_line (codes "plain") ∷ explain_line ∷ text_line (codes "version") ∷ []
+
 abbrev pub commands : List Shape
-commands =
-    text_line (codes "replay") ∷ text_line (codes "debug") ∷ text_line (codes "json") ∷ shell_line ∷ run_line ∷ text_line (codes "check")
-    ∷ text_line (codes "plain") ∷ explain_line ∷ text_line (codes "version") ∷ []
+commands = schedule_commands ++ run_commands ++ text_commands
 
 -- the program's name, and that a command is wanted; clap adds its own `--version`
 abbrev pub top_line : App
@@ -66,6 +75,7 @@ abbrev pub name_of : Asked → Text
 name_of Replay = codes "replay"
 name_of Debug = codes "debug"
 name_of Json = codes "json"
+name_of Picture = codes "picture"
 name_of (Shell form) = codes "shell"
 name_of (Run crew) = codes "run"
 name_of Check = codes "check"

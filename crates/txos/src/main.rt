@@ -1,8 +1,8 @@
 //! The program: reads its words, and then a text.
 //!
 //! The program. `main` is thin: it reads the words with `clap`, calls `replay`, `debug`, `write_json`,
-//! `talk`, `run_program`, `check` or `write_plain` over the standard streams, or writes what a word
-//! means, and answers a status.
+//! `picture`, `talk`, `run_program`, `check` or `write_plain` over the standard streams, or writes what a
+//! word means, and answers a status.
 #![tactic(auto)]
 
 ghost use Rattle.std.specs.Prelude.{◌≡◌, IfOk, OnErr, OnOk, false, true};
@@ -22,6 +22,7 @@ use std::{env, io};
 use tx_check::check;
 use tx_explain::{explain, listing, nearest};
 use tx_lines::{Fault, OverRead, OverWrite, Sink, Source, write_whole};
+use tx_picture::picture;
 use tx_plain::write_plain;
 use tx_report_json::write_json;
 use tx_script::{debug, replay};
@@ -99,6 +100,7 @@ where
         Asked::Run(Crew { workers, turns }) => {
             status_of(rt, run_program(rt, alloc, source, sink, workers, turns))
         }
+        Asked::Picture => status_of(rt, picture(alloc, source, sink)),
         Asked::Check => status_of_check(rt, check(alloc, source, sink)),
         Asked::Plain => status_of(rt, write_plain(alloc, source, sink)),
         Asked::Explain(word) => tell(rt, alloc, word, sink),

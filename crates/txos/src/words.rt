@@ -1,11 +1,11 @@
 //! The words that the program is given.
-ghost use Rattle.std.specs.Prelude.{◌≡◌, IfOk, Some, codes, false, map, option_map, string_bytes};
-ghost use Rattle.clap.specs.Words.{FailsBy, app_of, fault_of, subcommand_name_of, subcommand_of};
+ghost use Rattle.std.specs.Prelude.{◌≡◌, IfOk, Some, codes, false, fold, map, option_map, string_bytes};
+ghost use Rattle.clap.specs.Words.{FailsBy, app_of, fault_of, subcommand_name_of, subcommand_of, with_subcommand};
 ghost use Rattle.clap.specs.Simple.{subcommand_rows_of};
 ghost use Rattle.clap.specs.declared.builder.command.Command.TheViews.{out-Command};
 ghost use Rattle.txos.specs.CommandLine.{asked_number, begins_negative, command_line, explain_line, flag_in};
 ghost use Rattle.txos.specs.CommandLine.{IsAskedIn, IsFormOf, name_of, named, number_behind, run_line, shell_line, text_line};
-ghost use Rattle.txos.specs.CommandLine.{top_line, workers_line};
+ghost use Rattle.txos.specs.CommandLine.{run_commands, schedule_commands, text_commands, top_line, workers_line};
 
 use clap::error::Error;
 use clap::{Arg, ArgAction, ArgMatches, Command, value_parser};
@@ -28,6 +28,8 @@ pub enum Asked<'a> {
     Debug,
     /// To read a schedule, or one with commands, and write what it is answered as JSON.
     Json,
+    /// To read a schedule, make its steps, and write a picture of them.
+    Picture,
     /// To read steps and commands line by line, and answer each before the next, in that form.
     Shell(Form),
     /// To read a program, run it by workers, and write what they did.
@@ -65,6 +67,7 @@ pub fn read_words<'a>(alloc: Global, words: &'a [String]) -> Result<Asked<'a>, E
         Some("replay") => Ok(Asked::Replay),
         Some("debug") => Ok(Asked::Debug),
         Some("json") => Ok(Asked::Json),
+        Some("picture") => Ok(Asked::Picture),
         Some("shell") => Ok(Asked::Shell(form_of(&matches))),
         Some("run") => Ok(Asked::Run(crew_of(&matches)?)),
         Some("check") => Ok(Asked::Check),
@@ -140,12 +143,42 @@ fn word_of<'a>(matches: &ArgMatches<'a>) -> Option<&'a str> {
 fn new_command<'a>(alloc: Global) -> Result<Command<'a>, AllocError>
     ensures { IfOk result (λ command. app_of command ≡ command_line) }
 {
-    let command = top_command(alloc)
+    let with_schedules = add_schedules(alloc, top_command(alloc))?;
+    let with_runs = add_runs(alloc, with_schedules)?;
+    let command = add_texts(alloc, with_runs)?;
+    Ok(command)
+}
+
+/// Adds the commands that answer a schedule.
+fn add_schedules<'a>(alloc: Global, line: Command<'a>) -> Result<Command<'a>, AllocError>
+    ensures { IfOk result (λ command. app_of command
+        ≡ fold with_subcommand (app_of line.entry) schedule_commands) }
+{
+    let command = line
         .subcommand(text_command(alloc, "replay", REPLAY)?)?
         .subcommand(text_command(alloc, "debug", DEBUG)?)?
         .subcommand(text_command(alloc, "json", JSON)?)?
+        .subcommand(text_command(alloc, "picture", PICTURE)?)?;
+    Ok(command)
+}
+
+/// Adds the commands that make steps as they come.
+fn add_runs<'a>(alloc: Global, line: Command<'a>) -> Result<Command<'a>, AllocError>
+    ensures { IfOk result (λ command. app_of command
+        ≡ fold with_subcommand (app_of line.entry) run_commands) }
+{
+    let command = line
         .subcommand(shell_command(alloc)?)?
-        .subcommand(run_command(alloc)?)?
+        .subcommand(run_command(alloc)?)?;
+    Ok(command)
+}
+
+/// Adds the commands about texts and words.
+fn add_texts<'a>(alloc: Global, line: Command<'a>) -> Result<Command<'a>, AllocError>
+    ensures { IfOk result (λ command. app_of command
+        ≡ fold with_subcommand (app_of line.entry) text_commands) }
+{
+    let command = line
         .subcommand(text_command(alloc, "check", CHECK)?)?
         .subcommand(text_command(alloc, "plain", PLAIN)?)?
         .subcommand(explain_command(alloc)?)?
@@ -183,6 +216,11 @@ const DEBUG: Told = Told {
 const JSON: Told = Told {
     about: "Reads a schedule, maybe with commands, and writes what it is answered as JSON",
     example: "Example: txos json < examples/first.txos",
+};
+
+const PICTURE: Told = Told {
+    about: "Reads a schedule from standard input, and writes a picture of it in SVG",
+    example: "Example: txos picture < examples/first.txos > first.svg",
 };
 
 const SHELL: Told = Told {

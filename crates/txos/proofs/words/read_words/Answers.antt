@@ -17,6 +17,9 @@ returns-in-Some-shell-clause-reads c = no_fault _ _ c.in_ok-command.ensures c.in
 pub returns-in-Some-run-clause-reads : goal.returns-in-Some-run-clause-reads
 returns-in-Some-run-clause-reads c = no_fault _ _ c.in_ok-command.ensures c.in_ok-matches.ensures.kinds
 
+pub returns-in-Some-picture-clause-reads : goal.returns-in-Some-picture-clause-reads
+returns-in-Some-picture-clause-reads c = no_fault _ _ c.in_ok-command.ensures c.in_ok-matches.ensures.kinds
+
 pub returns-in-Some-check-clause-reads : goal.returns-in-Some-check-clause-reads
 returns-in-Some-check-clause-reads c = no_fault _ _ c.in_ok-command.ensures c.in_ok-matches.ensures.kinds
 
@@ -33,6 +36,12 @@ pub returns-in_err-matches-clause-reads : goal.returns-in_err-matches-clause-rea
 returns-in_err-matches-clause-reads c =
     let kind = fault_kind _ _ c.in_err-matches.field-0.0 c.in_ok-command.ensures c.in_err-matches.ensures.kinds in
     search (rules, kind)
+
+pub returns-in-Some-picture-clause-asked : goal.returns-in-Some-picture-clause-asked
+returns-in-Some-picture-clause-asked c =
+    let name : c.in-Some-picture.field-0.now ≡ codes "picture" = search rules in
+    parse_names _ _ _ c.in_ok-command.ensures c.in_ok-matches.ensures.matches ∙ sym c.subcommand_name.ensures
+    ∙ ap (option_map (λ (s : Bor (List ℕ)). s.now)) c.in-Some-picture.is ∙ ap (λ (t : List ℕ). Some t) name
 
 pub returns-in-Some-check-clause-asked : goal.returns-in-Some-check-clause-asked
 returns-in-Some-check-clause-asked c =
@@ -67,18 +76,21 @@ unreachable-requires c =
               | inr three ↦ elim three [
                 | inl json ↦ absurd (w.in_default.not-json (search (rules, json)))
                 | inr four ↦ elim four [
-                  | inl shell ↦ absurd (w.in_default.not-shell (search (rules, shell)))
+                  | inl picture ↦ absurd (w.in_default.not-picture (search (rules, picture)))
                   | inr five ↦ elim five [
-                    | inl run ↦ absurd (w.in_default.not-run (search (rules, run)))
+                    | inl shell ↦ absurd (w.in_default.not-shell (search (rules, shell)))
                     | inr six ↦ elim six [
-                      | inl check ↦ absurd (w.in_default.not-check (search (rules, check)))
+                      | inl run ↦ absurd (w.in_default.not-run (search (rules, run)))
                       | inr seven ↦ elim seven [
-                        | inl plain ↦ absurd (w.in_default.not-plain (search (rules, plain)))
+                        | inl check ↦ absurd (w.in_default.not-check (search (rules, check)))
                         | inr eight ↦ elim eight [
-                          | inl explain ↦ absurd (w.in_default.not-explain (search (rules, explain)))
+                          | inl plain ↦ absurd (w.in_default.not-plain (search (rules, plain)))
                           | inr nine ↦ elim nine [
-                            | inl version ↦ absurd (w.in_default.not-version (search (rules, version)))
-                            | inr none ↦ none
+                            | inl explain ↦ absurd (w.in_default.not-explain (search (rules, explain)))
+                            | inr ten ↦ elim ten [
+                              | inl version ↦ absurd (w.in_default.not-version (search (rules, version)))
+                              | inr none ↦ none
+                            ]
                           ]
                         ]
                       ]

@@ -1,0 +1,9 @@
+pub mod DrawnSteps
+pub mod Followed
+pub mod Made
+pub mod Mapped
+pub mod Numbered
+pub mod OneMore
+pub mod PictureFormed
+pub mod Told
+pub mod WellFormed

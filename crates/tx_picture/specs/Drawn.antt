@@ -1,0 +1,16 @@
+-- What there is to draw of a schedule.
+use Rattle.std.specs.Prelude.{List}
+use Rattle.tx_picture.specs.declared.drawing.Drawing.{Drawing}
+use Rattle.tx_picture.specs.declared.rows.Row.{Row}
+use Rattle.tx_picture.specs.declared.spans.Span.{Span}
+
+pub record Drawn : Type 0 where
+  -- the steps with their answers, in order
+  pub rows : List Row
+  -- where each process runs
+  pub lanes : List Span
+  -- where each process is a member of a transaction: a transaction's box is the stretches of its members
+  pub strips : List Span
+
+abbrev pub drawn_as : Drawing → Drawn
+drawn_as drawing = record { rows = drawing.rows.items; lanes = drawing.lanes.items; strips = drawing.strips.items }

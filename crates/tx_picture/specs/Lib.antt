@@ -1,0 +1,13 @@
+pub mod Columns
+pub mod Drawings
+pub mod Drawn
+pub mod Grammars
+pub mod Held
+pub mod Layout
+pub mod Pictures
+pub mod Spans
+pub mod Steps
+pub mod Stretches
+pub mod Svg
+pub mod Ties
+pub mod WellFormed

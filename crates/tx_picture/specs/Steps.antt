@@ -1,0 +1,61 @@
+-- How the steps of a schedule are shown: each by a mark in its process's column and in its own row, in order.
+use Rattle.std.specs.Prelude.{ℕ, ◌+◌, List, [], ◌∷◌, ◌++◌, Option, Some, None, codes}
+use Rattle.std.specs.Fmt.{decimal}
+use Rattle.tx_base.specs.declared.names.Pid.{Pid}
+use Rattle.tx_base.specs.declared.steps.Reply.{Reply}
+use Rattle.tx_base.specs.declared.steps.Reply.TheVariants.{No}
+use Rattle.tx_lines.specs.Lines.{step_text}
+use Rattle.tx_model.specs.Events.{process_of}
+use Rattle.tx_picture.specs.Held.{signal_text}
+use Rattle.tx_picture.specs.Layout.{words_left, x_of, y_of}
+use Rattle.tx_picture.specs.Svg.{shape_text, words_text}
+use Rattle.tx_picture.specs.Ties.{tie_of}
+use Rattle.tx_picture.specs.declared.elements.Numbers.{Numbers}
+use Rattle.tx_picture.specs.declared.elements.Shape.TheVariants.{Ellipse, Line}
+use Rattle.tx_picture.specs.declared.held.Place.{Place}
+use Rattle.tx_picture.specs.declared.rows.Row.{Row}
+use Rattle.tx_picture.specs.declared.spans.Span.{Span}
+use Rattle.tx_picture.specs.declared.ties.Tie.{Tie}
+use Rattle.tx_picture.specs.declared.ties.Tie.TheVariants.{Holder, Child, Signal}
+use Rattle.tx_text.specs.Replies.{reply_text}
+
+abbrev pub mark_class : Reply → List ℕ
+mark_class (No why) = codes "refused"
+mark_class reply = codes "accepted"
+
+abbrev pub mark_text : ℕ → ℕ → Reply → List ℕ
+mark_text x y reply = shape_text Ellipse (mark_class reply) (record { 0 = x; 1 = y; 2 = 5; 3 = 5 })
+
+-- a line of a class in a row
+abbrev pub line_text : List ℕ → ℕ → ℕ → ℕ → List ℕ
+line_text class x y to = shape_text Line class (record { 0 = x; 1 = y; 2 = to; 3 = y })
+
+-- what leads from a mark to another column
+abbrev pub tie_text : List Pid → List Span → ℕ → ℕ → Row → Option Tie → List ℕ
+tie_text columns strips last number row None = []
+tie_text columns strips last number row (Some (Holder starter)) = line_text (codes "refusal") (x_of columns (process_of row.step)) (y_of number) (x_of columns starter.0)
+tie_text columns strips last number row (Some (Child child)) = line_text (codes "fork") (x_of columns (process_of row.step)) (y_of number) (x_of columns child.0)
+tie_text columns strips last number row (Some (Signal target)) =
+    signal_text (record { x = x_of columns (process_of row.step); y = y_of number; to = x_of columns target.0 }) strips last number row
+
+abbrev pub tied_text : List Pid → List Span → ℕ → ℕ → Row → List ℕ
+tied_text columns strips last number row = tie_text columns strips last number row (tie_of row.step row.reply)
+
+-- what a step is, and what it was answered
+abbrev pub words_of : Row → List ℕ
+words_of row = step_text row.step ++ (codes " : " ++ reply_text row.reply)
+
+-- its number, and its text
+abbrev pub label_text : ℕ → ℕ → Row → List ℕ
+label_text x number row = words_text (codes "number") 64 (y_of number + 4) (decimal number) ++ words_text (codes "step") x (y_of number + 4) (words_of row)
+
+abbrev pub row_text : List Pid → List Span → ℕ → ℕ → Row → List ℕ
+row_text columns strips last number row =
+    let x = x_of columns (process_of row.step) in
+    line_text (codes "guide") x (y_of number) (words_left columns)
+    ++ (tied_text columns strips last number row ++ (mark_text x (y_of number) row.reply ++ label_text (words_left columns + 8) number row))
+
+-- steps, of which the first has that number
+abbrev pub rows_text : List Pid → List Span → ℕ → ℕ → List Row → List ℕ
+rows_text columns strips last number [] = []
+rows_text columns strips last number (row ∷ rows) = row_text columns strips last number row ++ rows_text columns strips last (number + 1) rows

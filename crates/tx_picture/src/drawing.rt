@@ -1,0 +1,15 @@
+//! What there is to draw of a schedule.
+use crate::rows::Row;
+use crate::spans::Span;
+
+/// What there is to draw of a schedule.
+#[derive(Drop)]
+pub struct Drawing {
+    /// Each step with its answer, in order.
+    pub rows: Vec<Row>,
+    /// Where each process runs, in the order in which they come.
+    pub lanes: Vec<Span>,
+    /// Where each process is a member of a transaction, in the order in which they join. The box of a
+    /// transaction is the stretches of its members.
+    pub strips: Vec<Span>,
+}

@@ -1,0 +1,123 @@
+//! Elements of a picture in SVG.
+ghost use Rattle.std.specs.Prelude.{◌≡◌, ◌++◌, OnOk, string_bytes};
+ghost use Rattle.tx_picture.specs.Svg.{numbered, numbers_text, shape_name, shape_text, words_text, worded};
+
+use crate::escape::put_escaped;
+use std::alloc::AllocError;
+use tx_lines::{put, put_count};
+
+/// A shape with four numbers.
+#[derive(Clone, Copy)]
+pub(crate) enum Shape {
+    /// Its left, its top, its width and its height.
+    Rect,
+    /// Where it begins, and where it ends.
+    Line,
+    /// Its middle, and how far it reaches to each side and up.
+    Ellipse,
+}
+
+/// Four numbers of a shape, in pixels.
+#[derive(Clone, Copy)]
+pub(crate) struct Numbers(pub u64, pub u64, pub u64, pub u64);
+
+/// Appends a shape of a class.
+#[tactic(auto, unfolding(crate::specs::Svg::shape_text))]
+pub(crate) fn put_shape(
+    text: &mut String,
+    shape: Shape,
+    class: &str,
+    numbers: Numbers,
+) -> Result<(), AllocError>
+    ensures { OnOk result
+        (string_bytes text.new ≡ string_bytes text.old ++ shape_text shape class.now numbers) }
+{
+    put(text, "<")?;
+    put(text, shape_name(shape))?;
+    put_word(text, "class", class)?;
+    put_numbers(text, shape, numbers)?;
+    put(text, "/>\n")
+}
+
+/// The name of a shape's element.
+fn shape_name(shape: Shape) -> &'static str
+    ensures { result.now ≡ shape_name shape }
+{
+    match shape {
+        Shape::Rect => "rect",
+        Shape::Line => "line",
+        Shape::Ellipse => "ellipse",
+    }
+}
+
+/// Appends the four numbers of a shape.
+fn put_numbers(text: &mut String, shape: Shape, numbers: Numbers) -> Result<(), AllocError>
+    ensures { OnOk result
+        (string_bytes text.new ≡ string_bytes text.old ++ numbers_text shape numbers) }
+{
+    match shape {
+        Shape::Rect => {
+            put_number(text, "x", numbers.0)?;
+            put_number(text, "y", numbers.1)?;
+            put_number(text, "width", numbers.2)?;
+            put_number(text, "height", numbers.3)
+        }
+        Shape::Line => {
+            put_number(text, "x1", numbers.0)?;
+            put_number(text, "y1", numbers.1)?;
+            put_number(text, "x2", numbers.2)?;
+            put_number(text, "y2", numbers.3)
+        }
+        Shape::Ellipse => {
+            put_number(text, "cx", numbers.0)?;
+            put_number(text, "cy", numbers.1)?;
+            put_number(text, "rx", numbers.2)?;
+            put_number(text, "ry", numbers.3)
+        }
+    }
+}
+
+/// Appends a text of a class, that begins, ends or has its middle at a place, as the class says.
+#[tactic(auto, unfolding(crate::specs::Svg::words_text))]
+pub(crate) fn put_words(
+    text: &mut String,
+    class: &str,
+    x: u64,
+    y: u64,
+    words: &[u8],
+) -> Result<(), AllocError>
+    ensures { OnOk result
+        (string_bytes text.new ≡ string_bytes text.old ++ words_text class.now x y words.now) }
+{
+    put(text, "<text")?;
+    put_word(text, "class", class)?;
+    put_number(text, "x", x)?;
+    put_number(text, "y", y)?;
+    put(text, ">")?;
+    put_escaped(text, words)?;
+    put(text, "</text>\n")
+}
+
+/// Appends an attribute that is a number.
+pub(crate) fn put_number(text: &mut String, name: &str, number: u64) -> Result<(), AllocError>
+    ensures { OnOk result
+        (string_bytes text.new ≡ string_bytes text.old ++ numbered name.now number) }
+{
+    put(text, " ")?;
+    put(text, name)?;
+    put(text, "=\"")?;
+    put_count(text, number)?;
+    put(text, "\"")
+}
+
+/// Appends an attribute that is a word.
+pub(crate) fn put_word(text: &mut String, name: &str, word: &str) -> Result<(), AllocError>
+    ensures { OnOk result
+        (string_bytes text.new ≡ string_bytes text.old ++ worded name.now word.now) }
+{
+    put(text, " ")?;
+    put(text, name)?;
+    put(text, "=\"")?;
+    put_escaped(text, word.as_bytes())?;
+    put(text, "\"")
+}

@@ -1,0 +1,47 @@
+//! The looks of a picture, and its legend. Two colours that a colour-blind reader tells apart, and two
+//! hatchings, so that it reads in black and white too.
+
+/// What stands in every picture before all else: the styles of the classes, the two hatchings, the head
+/// of an arrow, the white page, and the heading of the columns.
+pub(crate) const STYLE: &str = "
+<style>
+text{font:13px monospace;fill:#000}
+.number{fill:#555;text-anchor:end}
+.head{font-weight:bold;text-anchor:middle}
+line{stroke:#000;stroke-width:2}
+.guide{stroke:#999;stroke-width:1;stroke-dasharray:1 4}
+.end{stroke-width:3}
+.refusal{stroke-dasharray:5 3;marker-end:url(#head)}
+.signal{stroke-width:1.5;marker-end:url(#head)}
+.held{stroke-width:1.5}
+.dropped{stroke-width:3}
+.accepted{fill:#000}
+.refused{fill:#fff;stroke:#000;stroke-width:2}
+.committed{fill:url(#committed);stroke:#0072b2;stroke-width:2}
+.aborted{fill:url(#aborted);stroke:#d55e00;stroke-width:2;stroke-dasharray:6 3}
+.open{fill:#eee;stroke:#555;stroke-width:2;stroke-dasharray:2 3}
+</style>
+<defs><pattern id=\"committed\" width=\"8\" height=\"8\" patternUnits=\"userSpaceOnUse\"><rect width=\"8\" height=\"8\" fill=\"#e1f0fa\"/>
+<path d=\"M-2,2 L2,-2 M0,8 L8,0 M6,10 L10,6\" stroke=\"#56b4e9\"/>
+</pattern>
+<pattern id=\"aborted\" width=\"8\" height=\"8\" patternUnits=\"userSpaceOnUse\"><rect width=\"8\" height=\"8\" fill=\"#fdf0e3\"/>
+<path d=\"M-2,6 L2,10 M0,0 L8,8 M6,-2 L10,2 M-2,2 L2,-2 M0,8 L8,0 M6,10 L10,6\" stroke=\"#e69f00\"/>
+</pattern>
+<marker id=\"head\" viewBox=\"0 0 10 10\" refX=\"9\" refY=\"5\" markerWidth=\"7\" markerHeight=\"7\" orient=\"auto\"><path d=\"M0,0 L10,5 L0,10 z\"/>
+</marker>
+</defs>
+<rect width=\"100%\" height=\"100%\" fill=\"#fff\"/>
+<text class=\"number\" x=\"64\" y=\"28\">process</text>
+";
+
+/// What the boxes and the marks mean.
+pub(crate) const LEGEND: &str = "
+<rect class=\"committed\" width=\"24\" height=\"16\"/>
+<text x=\"32\" y=\"13\">committed</text>
+<rect class=\"aborted\" x=\"120\" width=\"24\" height=\"16\"/>
+<text x=\"152\" y=\"13\">aborted</text>
+<rect class=\"open\" x=\"224\" width=\"24\" height=\"16\"/>
+<text x=\"256\" y=\"13\">open</text>
+<ellipse class=\"refused\" cx=\"312\" cy=\"8\" rx=\"5\" ry=\"5\"/>
+<text x=\"324\" y=\"13\">refused</text>
+";
