@@ -71,6 +71,11 @@ def texts_manual(program, date):
     })
 
 
+def library_manual(program, date):
+    """The page of the library."""
+    return filled("libtxos.3", {"DATE": date, "VERSION": program.version()[0]})
+
+
 def long_options(rows):
     """The long options of rows, as `--help`."""
     return [option for word, _ in rows for option in LONG.findall(word)]

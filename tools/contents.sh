@@ -14,10 +14,14 @@ program=$out/txos
 mark=$out/txos.sum
 # The sums that were worked out last, and the listing at which they were.
 seen=$out/txos.seen
+# The library for C, with the sums of the contents that it was made from and its own.
+library=$top/crates/txos_c/out/libtxos.a
+library_mark=$top/crates/txos_c/out/libtxos.sum
 
-# The crates that the program stands on, lowest first, and itself at the end.
+# The crates that a crate stands on, lowest first, and itself at the end: where none is
+# named, those of the program.
 crates_below() {
-    awk -F ': *' '
+    awk -F ': *' -v top="${1:-txos}" '
         /^[a-z]/ { split($1, counted, " "); below[counted[1]] = $2 }
         function list(name, each, names, number) {
             if (!(name in below) || name in seen) return
@@ -26,7 +30,7 @@ crates_below() {
             for (each = 1; each <= number; each++) list(names[each])
             print name
         }
-        END { list("txos") }
+        END { list(top) }
     ' "$top/crates.txt"
 }
 
@@ -111,4 +115,14 @@ is_proved() {
 mark_program() {
     look && [ "$contents" = "$1" ] && [ "$made" != none ] &&
         printf '%s %s\n' "$contents" "$made" >"$mark.$$" && mv -f "$mark.$$" "$mark"
+}
+
+# The sums of the contents that the library is made from, and of the library that is there.
+library_sums() {
+    printf '%s %s\n' "$(sum_of $(crates_below txos_c))" "$(file_sum "$library")"
+}
+
+# Whether the library is there and was made from these contents.
+is_library_proved() {
+    [ -f "$library" ] && library_sums | cmp -s - "$library_mark"
 }

@@ -1,0 +1,4 @@
+mod EmptyTexts
+mod ShorterLines
+mod TalkedSoFar
+mod TooLong

@@ -1,0 +1,13 @@
+-- A text that is too long is answered by that.
+use Rattle.std.proofs.Common.{◌<◌, ℕ, List, length, inl, refl}
+use Rattle.tx_lines.specs.declared.faults.Fault.TheVariants.{TooLong}
+use Rattle.tx_script.specs.Grammars.{Grammar}
+use Rattle.txos_c.specs.Faults.{TellsFault}
+use Rattle.txos_c.specs.Texts.{IsAnswered}
+use Rattle.txos_c.specs.declared.answers.Answer.{Answer}
+use Rattle.txos_c.specs.declared.answers.Answer.TheVariants.{NoMemory, Read, Unread}
+
+pub too_long : {A : Type 0} (G : Grammar A) (text : List ℕ) (answer : Answer) → 1048576 < length text → TellsFault (TooLong 0) answer → IsAnswered G text answer
+too_long G text (Read told) long tells = absurd tells
+too_long G text (Unread words) long tells = (TooLong 0, inl (long, refl), tells)
+too_long G text NoMemory long tells = tt

@@ -1,0 +1,22 @@
+-- How a fault is told.
+use Rattle.std.specs.Prelude.{◌≡◌, ◌≢◌, ℕ, List, ◌++◌, codes, string_bytes}
+use Rattle.std.specs.Fmt.{decimal}
+use Rattle.tx_lines.specs.declared.faults.Fault.{Fault}
+use Rattle.tx_lines.specs.declared.faults.Fault.TheVariants as faults
+use Rattle.txos_c.specs.declared.answers.Answer.{Answer}
+use Rattle.txos_c.specs.declared.answers.Answer.TheVariants.{NoMemory, Read, Unread}
+
+-- the words of a fault, as the program prints them
+abbrev pub fault_text : Fault → List ℕ
+fault_text (faults.NotALine line) = codes "F1 line " ++ decimal line
+fault_text (faults.NoLabel line) = codes "F2 line " ++ decimal line
+fault_text (faults.TooLong line) = codes "F3 line " ++ decimal line
+fault_text faults.Reader = codes "F4"
+fault_text faults.Writer = codes "F5"
+fault_text faults.NoMemory = codes "F6"
+
+-- a fault is told by its words; that memory was refused is told by the status alone, also where the words want some
+abbrev pub TellsFault : Fault → Answer → Type 0
+TellsFault fault (Read text) = ⊥
+TellsFault fault (Unread text) = (fault ≢ faults.NoMemory) × (string_bytes text ≡ fault_text fault)
+TellsFault fault NoMemory = Unit {0}

@@ -1,0 +1,4 @@
+pub mod Faults
+pub mod Handed
+pub mod Talks
+pub mod Texts

@@ -1,0 +1,66 @@
+//! What the lines of a talk are answered, where all of them are there.
+ghost use Rattle.std.specs.Prelude.{◌≡◌, IfOk, string_bytes};
+ghost use Rattle.tx_plain.specs.MeantLines.{behind};
+ghost use Rattle.txos_c.specs.Talks.{form_of, front_line, IsTalked, IsTalkOf};
+
+use crate::answers::Answer;
+use std::alloc::Global;
+use tx_base::NoMemory;
+use tx_lines::{LINE_BYTES, put, take_line};
+use tx_plain::Room;
+use tx_shell::{Form, Shell};
+
+/// How many bytes of a line are looked at, as at a terminal: a longer line is told of as too long.
+const LINE_MOST: usize = LINE_BYTES + 2;
+
+/// The form that a number from C names: 0 is text, and any other JSON.
+pub fn form_of(form: i32) -> Form
+    ensures { result ≡ form_of form }
+{
+    if form == 0 { Form::Text } else { Form::Json }
+}
+
+/// The answers to the lines of a text.
+pub fn talked(alloc: Global, form: Form, text: &[u8]) -> Answer
+    ensures { IsTalked form text.now result }
+{
+    match talk_over(alloc, form, text) {
+        Ok(told) => Answer::Read(told),
+        Err(NoMemory) => Answer::NoMemory,
+    }
+}
+
+/// Answers each line of a text, up to the end of the text or a line that asks for the end of the talk.
+///
+/// NoMemory where a growth is refused.
+fn talk_over(alloc: Global, form: Form, text: &[u8]) -> Result<String, NoMemory>
+    ensures { IfOk result (λ told. IsTalkOf form text.now (string_bytes told)) }
+{
+    let mut shell = Shell::new(alloc, form)?;
+    let mut room = Room::new();
+    let mut answer = String::new(alloc);
+    let mut told = String::new(alloc);
+    let mut left = text;
+    while !left.is_empty() {
+        let (line, behind) = cut(left);
+        if !shell.answer(alloc, &mut room, line, &mut answer)? {
+            return Ok(told);
+        }
+        put(&mut told, answer.as_str())?;
+        left = behind;
+    }
+    Ok(told)
+}
+
+/// The first line of a text, or the front of a long one, and what stands behind the line's end.
+fn cut(text: &[u8]) -> (&[u8], &[u8])
+    ensures line { result.0.now ≡ front_line text.now }
+    ensures behind { result.1.now ≡ behind text.now }
+{
+    let (line, rest) = take_line(text);
+    let behind = match rest {
+        Some(rest) => rest,
+        None => &[],
+    };
+    (&line[..LINE_MOST.min(line.len())], behind)
+}
