@@ -10,8 +10,8 @@ ghost use Rattle.tx_picture.specs.Grammars.{pictures, ReadsShort};
 ghost use Rattle.tx_script.specs.Answered.{Answers};
 ghost use Rattle.tx_script.specs.Grammars.{AnswersText};
 
-use crate::whole::picture_of;
 use crate::walk::draw;
+use crate::whole::picture_of;
 use std::alloc::Global;
 use tx_lines::{Fault, Schedule, Sink, Source, read_schedule, read_whole, write_whole};
 use tx_plain::Meant;
@@ -20,11 +20,7 @@ use tx_plain::Meant;
 /// written where the fault is another one than `Writer`.
 ///
 /// A schedule of more than 200 steps is `TooLong` at the line of the first step that is too many.
-pub fn picture<S: Source, W: Sink>(
-    alloc: Global,
-    source: &mut S,
-    sink: &mut W,
-) -> Result<(), Fault>
+pub fn picture<S: Source, W: Sink>(alloc: Global, source: &mut S, sink: &mut W) -> Result<(), Fault>
     requires source { IsFresh (S.counts source.old) }
     requires sink { IsFresh (W.counts sink.old) }
     ensures { Answers pictures (S.left source.old) (S.counts source.old) (W.written sink.old)

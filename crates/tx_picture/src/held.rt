@@ -44,12 +44,7 @@ pub(crate) fn put_signal(
 }
 
 /// Appends a signal that a transaction holds, which ends there.
-fn put_held(
-    text: &mut String,
-    place: Place,
-    last: u16,
-    end: Option<End>,
-) -> Result<(), AllocError>
+fn put_held(text: &mut String, place: Place, last: u16, end: Option<End>) -> Result<(), AllocError>
     requires { place.x ≤ 100000 }
     ensures { OnOk result
         (string_bytes text.new ≡ string_bytes text.old ++ held_text place last end) }
@@ -77,12 +72,7 @@ fn put_kept(text: &mut String, place: Place, bottom: u64) -> Result<(), AllocErr
 }
 
 /// Appends the way of a held signal from a commit to its target, or that it is dropped at an abort.
-fn put_sent(
-    text: &mut String,
-    place: Place,
-    bottom: u64,
-    aborted: bool,
-) -> Result<(), AllocError>
+fn put_sent(text: &mut String, place: Place, bottom: u64, aborted: bool) -> Result<(), AllocError>
     requires { place.x ≤ 100000 }
     ensures { OnOk result
         (string_bytes text.new ≡ string_bytes text.old ++ sent_text place bottom aborted) }
@@ -92,7 +82,12 @@ fn put_sent(
         let bar = Numbers(x - 6, bottom, x + 6, bottom);
         return put_shape(text, Shape::Line, "dropped", bar);
     }
-    put_shape(text, Shape::Line, "signal", Numbers(x, bottom, place.to, bottom))
+    put_shape(
+        text,
+        Shape::Line,
+        "signal",
+        Numbers(x, bottom, place.to, bottom),
+    )
 }
 
 /// Where the transaction ends that a process is a member of in a row; nothing where it does not end.

@@ -8,7 +8,6 @@ mod elements;
 mod escape;
 mod held;
 mod layout;
-
 mod rows;
 mod spans;
 mod steps;

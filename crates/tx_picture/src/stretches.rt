@@ -27,12 +27,7 @@ pub(crate) fn put_strips(
 }
 
 /// Appends a stretch in which a process is a member of a transaction.
-fn put_strip(
-    text: &mut String,
-    columns: &[Pid],
-    last: u16,
-    strip: &Span,
-) -> Result<(), AllocError>
+fn put_strip(text: &mut String, columns: &[Pid], last: u16, strip: &Span) -> Result<(), AllocError>
     ensures { OnOk result (string_bytes text.new
         ≡ string_bytes text.old ++ strip_text columns.now last strip.now) }
 {
@@ -49,13 +44,7 @@ fn strip_class(end: Option<End>) -> &'static str
 {
     match end {
         None => "open",
-        Some(end) => {
-            if end.aborted {
-                "aborted"
-            } else {
-                "committed"
-            }
-        }
+        Some(end) => { if end.aborted { "aborted" } else { "committed" } }
     }
 }
 

@@ -77,12 +77,7 @@ fn put_seen(text: &mut String, width: u64, height: u64) -> Result<(), AllocError
 
 /// Appends a number between two texts.
 #[tactic(auto, unfolding(crate::specs::Pictures::between))]
-fn put_between(
-    text: &mut String,
-    front: &str,
-    number: u64,
-    back: &str,
-) -> Result<(), AllocError>
+fn put_between(text: &mut String, front: &str, number: u64, back: &str) -> Result<(), AllocError>
     ensures { OnOk result (string_bytes text.new
         ≡ string_bytes text.old ++ between front.now number back.now) }
 {

@@ -81,7 +81,7 @@ pub step_made : (old new : SessionState) (worker : ℕ) (step : Step) (reply : R
     → (reply ≡ answer (view (start_of old) (history_of old.entries)) step) × (history_of new.entries ≡ history_with (history_of old.entries) step reply)
 step_made old new worker step reply at_end shows answers other adds same = (
   replied_answer (view_of old.machine) step reply answers other
-  ∙ ap (λ (V : View). answer V step) (shows ∙ ap (λ (xs : List Entry). view (start_of old) (history_of xs)) (made_all old at_end)),
+      ∙ ap (λ (V : View). answer V step) (shows ∙ ap (λ (xs : List Entry). view (start_of old) (history_of xs)) (made_all old at_end)),
   step_recorded old new worker step reply adds same,
 )
 

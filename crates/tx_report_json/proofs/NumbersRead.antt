@@ -20,8 +20,8 @@ value_decimal : (n : ℕ) → n < 2 ^ 64 → value_of (decimal n) ≡ n
 value_decimal n small =
     decimal_by_steps (λ n digits. value_of digits ≡ n) (λ n one. omega arith)
     (λ n digits more before.
-      fold-append (λ value digit. value * 10 + (digit - 48)) 0 digits ((48 + n % 10) ∷ [])
-      ∙ ap (λ (value : ℕ). value * 10 + ((48 + n % 10) - 48)) before ∙ omega arith) n small
+    fold-append (λ value digit. value * 10 + (digit - 48)) 0 digits ((48 + n % 10) ∷ [])
+    ∙ ap (λ (value : ℕ). value * 10 + ((48 + n % 10) - 48)) before ∙ omega arith) n small
 
 pub count_read : (n : ℕ) → n < 2 ^ 64 → count_of (decimal n) ≡ Some n
 unfolding count_of

@@ -121,9 +121,9 @@ below_limit : (set limit k : ℕ) → k < limit → is_one_of (signals_in_set se
 unfolding gathered
 below_limit set zero k below = absurd (omega (arith, below))
 below_limit set (suc limit) k below = one_of_append (signals_in_set set limit) last k ∙ elim (cases_lt k limit) [
-    | inl less ↦ ap (λ (is : Bool). is || is_one_of last k) (below_limit set limit k less) ∙ ap (λ (is : Bool). is_in_set set k || is) (other (is_in_set set limit) (λ same. absurd (omega (arith, same, less)))) ∙ or_false (is_in_set set k)
-    | inr above ↦ ap (λ (is : Bool). is || is_one_of last k) (beyond_limit set limit k above) ∙ (let same : limit ≡ k = omega (arith, above, below) in here (is_in_set set limit) same ∙ ap (is_in_set set) same)
-  ]
+  | inl less ↦ ap (λ (is : Bool). is || is_one_of last k) (below_limit set limit k less) ∙ ap (λ (is : Bool). is_in_set set k || is) (other (is_in_set set limit) (λ same. absurd (omega (arith, same, less)))) ∙ or_false (is_in_set set k)
+  | inr above ↦ ap (λ (is : Bool). is || is_one_of last k) (beyond_limit set limit k above) ∙ (let same : limit ≡ k = omega (arith, above, below) in here (is_in_set set limit) same ∙ ap (is_in_set set) same)
+]
   where
     last : List ℕ
     last = cond (is_in_set set limit) (limit ∷ []) []

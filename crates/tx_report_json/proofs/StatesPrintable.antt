@@ -147,15 +147,15 @@ process_printed n q good =
     let point = limits.point in
     let registers = count_printed (codes "point") q.registers.point (omega (arith, point)) & number_printed (codes "ret") q.registers.ret types.registers.ret & numbers_printed (codes "slots") q.registers.slots types.registers.slots in
     let owner = three_printed (codes "users") q.ids.real_user q.ids.effective_user q.ids.saved_user ids.real_user ids.effective_user ids.saved_user
-        & three_printed (codes "groups") q.ids.real_group q.ids.effective_group q.ids.saved_group ids.real_group ids.effective_group ids.saved_group in
+    & three_printed (codes "groups") q.ids.real_group q.ids.effective_group q.ids.saved_group ids.real_group ids.effective_group ids.saved_group in
     let pages = listed (codes "pages") (upto (λ number. page_item number (page_at q.memory number)) 16)
-        (upto_printed (λ number. page_item number (page_at q.memory number)) 16 (λ n below. page_printed n (page_at q.memory n) (omega (arith, below)))) in
+    (upto_printed (λ number. page_item number (page_at q.memory number)) 16 (λ n below. page_printed n (page_at q.memory n) (omega (arith, below)))) in
     let fds = listed (codes "fds") (upto (λ fd. fd_item fd (slice_index_or q.descriptors fd None)) DESCRIPTORS)
-        (upto_printed (λ fd. fd_item fd (slice_index_or q.descriptors fd None)) DESCRIPTORS
-        (λ n below. fd_printed n (slice_index_or q.descriptors n None) (omega (arith, below)) (types.descriptors n None (let long = good.sizes.descriptors in omega (arith, below, long))))) in
+    (upto_printed (λ fd. fd_item fd (slice_index_or q.descriptors fd None)) DESCRIPTORS
+    (λ n below. fd_printed n (slice_index_or q.descriptors n None) (omega (arith, below)) (types.descriptors n None (let long = good.sizes.descriptors in omega (arith, below, long))))) in
     let actions = listed (codes "actions") (upto (λ signo. action_item signo (slice_index_or q.actions signo Usual)) SIGNALS)
-        (upto_printed (λ signo. action_item signo (slice_index_or q.actions signo Usual)) SIGNALS
-        (λ n below. action_printed n (slice_index_or q.actions n Usual) (omega (arith, below)) (limits.actions n Usual (let long = good.sizes.actions in omega (arith, below, long))))) in
+    (upto_printed (λ signo. action_item signo (slice_index_or q.actions signo Usual)) SIGNALS
+    (λ n below. action_printed n (slice_index_or q.actions n Usual) (omega (arith, below)) (limits.actions n Usual (let long = good.sizes.actions in omega (arith, below, long))))) in
     let queued = listed (codes "queued") (each_tokens entry_item q.queued) (each_printed entry_item IsEntry entry_printed q.queued (good_entries q.queued limits.queued types.queued)) in
     let frames = listed (codes "frames") (each_tokens frame_item q.frames) (each_printed frame_item IsFrame frame_printed q.frames (good_frames q.frames limits.frames types.frames)) in
     let signals = set_printed (codes "mask") q.mask & actions & set_printed (codes "pending") q.pending & queued & frames in
@@ -197,9 +197,9 @@ module _ (V : View) (kernel : IsOfKernel V) where
   descs_printed =
       listed (codes "descs") (upto (λ n. desc_item n (S.descs n)) DESCRIPTIONS) (upto_printed (λ n. desc_item n (S.descs n)) DESCRIPTIONS
       (λ n below. if_there (S.descs n) (desc_item n) refl (λ desc is.
-        let pipe = is_some_of (S.pipes desc.pipe) (kernel.formed.named n desc is).2 in
-        let small = (kernel.formed.pipes desc.pipe pipe.0 pipe.1).1 in
-        desc_printed n desc (omega (arith, below)) (omega (arith, small)))))
+      let pipe = is_some_of (S.pipes desc.pipe) (kernel.formed.named n desc is).2 in
+      let small = (kernel.formed.pipes desc.pipe pipe.0 pipe.1).1 in
+      desc_printed n desc (omega (arith, below)) (omega (arith, small)))))
 
   pipes_printed : Prints (pipes_member S.pipes)
   pipes_printed =

@@ -8,5 +8,4 @@ ghost use Rattle.tx_report_json.specs.ReadBack.{StatesReadBack, StepsReadBack};
 pub fn reads_back()
     ensures steps { StepsReadBack }
     ensures states { StatesReadBack }
-{
-}
+{}

@@ -29,11 +29,10 @@ loop-step-preserved c =
     let so = subst (λ (xs : List Step). StepsSoFar first old steps xs) cut c.loop-step.invariant.0 in
     let made = c.in_ok-make_step.ensures in
     let whole = string_bytes c.args.text.now ++ text_of (step_lines (start_of first) (history_of first.entries) steps) in
-    let lines = c.loop-step.invariant.1 ∙ ap (λ (xs : List Step). text ++ text_of (step_lines (start_of first) (history_of old.entries) xs)) cut in
-    (
+    let lines = c.loop-step.invariant.1 ∙ ap (λ (xs : List Step). text ++ text_of (step_lines (start_of first) (history_of old.entries) xs)) cut in (
       one_step_more first old new steps step left reply so made.answer made.history made.boot made.at_end,
       one_reply_more first old new steps step left reply so made.answer made.history text (string_bytes c.put_reply.new.text) whole lines
-      (c.in_ok-put_reply.ensures.text ∙ ap (λ (n : ℕ). text ++ line_of (step_answer n reply)) c.len.ensures),
+          (c.in_ok-put_reply.ensures.text ∙ ap (λ (n : ℕ). text ++ line_of (step_answer n reply)) c.len.ensures),
     )
 
 pub returns-clause-text : goal.returns-clause-text
