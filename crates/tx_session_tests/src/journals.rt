@@ -59,29 +59,41 @@ fn run_of(alloc: Global, schedule: &Schedule) -> Result<Ran, NoMemory> {
     }
 }
 
-/// What a session tells after a walk to the start and back.
-fn told_after_a_walk(alloc: Global, session: &mut Session) -> Result<String, Fail> {
+/// What the run of a schedule tells.
+fn told_of_run(alloc: Global, schedule: &Schedule) -> Result<String, NoMemory> {
+    let run = run_of(alloc, schedule)?;
+    told(alloc, &run)
+}
+
+/// Whether a session tells that.
+fn tells(alloc: Global, session: &Session, wanted: &str) -> Result<bool, NoMemory> {
+    let told = told_by(alloc, session)?;
+    Ok(told.as_str() == wanted)
+}
+
+/// Whether a session tells that after a walk to the start and back.
+fn tells_after_a_walk(alloc: Global, session: &mut Session, wanted: &str) -> Result<bool, Fail> {
     go(alloc, session, 0)?;
     let end = session.len();
     go(alloc, session, end)?;
-    Ok(told_by(alloc, session)?)
+    Ok(tells(alloc, session, wanted)?)
 }
 
-/// Whether a session of the schedule tells what its run tells, and again after a walk to the start and
-/// back: one that makes its steps anew, and one that exchanges what was taken back.
+/// Whether a session tells that, and again after a walk to the start and back: one that makes its steps
+/// anew, and one that exchanges what was taken back.
+fn tells_both_ways(alloc: Global, session: &mut Session, wanted: &str) -> Result<bool, Fail> {
+    let anew = tells_after_a_walk(alloc, session, wanted)?;
+    session.reserve_forward(0)?;
+    Ok(anew && tells_after_a_walk(alloc, session, wanted)?)
+}
+
+/// Whether a session of the schedule tells what its run tells, before it is walked over and after.
 fn are_alike(alloc: Global, text: &str) -> Result<bool, Fail> {
     let schedule = read_schedule(alloc, text.as_bytes())?;
-    let run = told(alloc, &run_of(alloc, &schedule)?)?;
+    let wanted = told_of_run(alloc, &schedule)?;
     let mut session = session_of(alloc, schedule.header, schedule.steps.as_slice())?;
-    let made = told_by(alloc, &session)?;
-    let anew = told_after_a_walk(alloc, &mut session)?;
-    session.reserve_forward(0)?;
-    let exchanged = told_after_a_walk(alloc, &mut session)?;
-    Ok(
-        [made, anew, exchanged]
-            .iter()
-            .all(|it| it.as_str() == run.as_str()),
-    )
+    let made = tells(alloc, &session, wanted.as_str())?;
+    Ok(made && tells_both_ways(alloc, &mut session, wanted.as_str())?)
 }
 
 #[test]

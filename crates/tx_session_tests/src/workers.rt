@@ -11,6 +11,7 @@ use std::test::Fail;
 use std::thread;
 use std::thread::Threads;
 use tx_base::{Call, NoMemory, Pid, Reply, Step};
+use tx_core::Ran;
 use tx_journal::{Entry, Session};
 use tx_workers::{Gate, NoGate, RunFault, WorkFault, Worked, run_workers};
 
@@ -141,13 +142,18 @@ fn what_many_workers_did_can_be_replayed(rt: HostRuntime) -> Result<(), Fail> {
     Ok(())
 }
 
+/// Whether a run tells what a session tells.
+fn tells_the_same(alloc: Global, run: &Ran, session: &Session) -> Result<bool, NoMemory> {
+    let told = told(alloc, run)?;
+    let wanted = told_by(alloc, session)?;
+    Ok(told.as_str() == wanted.as_str())
+}
+
 /// Whether the run of a session's steps from 16 processes tells what the session tells.
 fn is_replayed(alloc: Global, session: &Session) -> Result<bool, NoMemory> {
     let steps = steps_of(alloc, session.entries())?;
     let again = ran(alloc, 16, steps.as_slice())?;
-    let wanted = told(alloc, &again)?;
-    let told = told_by(alloc, session)?;
-    Ok(told.as_str() == wanted.as_str())
+    tells_the_same(alloc, &again, session)
 }
 
 /// Whether one of the entries is an abort.
