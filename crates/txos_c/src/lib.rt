@@ -1,9 +1,12 @@
 //! The library for C: a text in, and its answer out, into the caller's buffer.
 //!
-//! Each function that C calls is thin: it makes the answer, as the program's command of that name does
-//! (`texts.rt`, `talks.rt`), and hands it out (`answers.rt`). `include/txos.h` declares them, and says
-//! what a caller owes. A slice crosses as a pointer and a length, and the allocator as nothing.
-//! Nothing is kept from one call to the next, so calls on several threads don't meet.
+//! Each function that C calls is thin: it makes the answer, as the program's command of that name
+//! does (`texts.rt`, `talks.rt`), and hands it out (`answers.rt`). Its status is 0 where the text
+//! could be read, 1 where it could not, which the answer tells, 2 where memory was refused, and 3
+//! where the buffer is too small; the last two leave the buffer as it was. `include/txos.h` declares
+//! the functions, and says what a caller owes. A slice crosses as a pointer and a length, and the
+//! allocator as nothing. Nothing is kept from one call to the next, so calls on several threads
+//! don't meet.
 #![tactic(auto)]
 
 ghost use Rattle.std.specs.Prelude.{◌≡◌};
@@ -48,8 +51,8 @@ pub extern "C" fn txos_check(alloc: Global, text: &[u8], answer: &mut [u8], size
     texts::checked(alloc, text).hand_out(answer, size)
 }
 
-/// The answers to the lines of a talk, as `txos shell` writes them. The form is 0 for text; any other
-/// number is for JSON.
+/// The answers to the lines of a talk, as `txos shell` writes them. The form is 0 for text; any
+/// other number is for JSON. The status is never 1.
 #[unsafe(no_mangle)]
 pub extern "C" fn txos_shell(
     alloc: Global,

@@ -30,7 +30,8 @@ pub fn talked(alloc: Global, form: Form, text: &[u8]) -> Answer
     }
 }
 
-/// Answers each line of a text, up to the end of the text or a line that asks for the end of the talk.
+/// Answers each line of a text, up to the end of the text or a line that asks for the end of the
+/// talk.
 ///
 /// NoMemory where a growth is refused.
 fn talk_over(alloc: Global, form: Form, text: &[u8]) -> Result<String, NoMemory>
