@@ -19,8 +19,9 @@ longer a b = if nat_lt a b then b else a
 abbrev pub widest : List Row → ℕ
 widest rows = fold (λ most row. longer most (length (words_of row))) 0 rows
 
+-- the legend has room in each picture
 abbrev pub width_of : List Pid → List Row → ℕ
-width_of columns rows = words_left columns + 8 * min (widest rows) 2000 + 24
+width_of columns rows = longer 480 (words_left columns + 8 * min (widest rows) 2000 + 24)
 
 abbrev pub height_of : List Row → ℕ
 height_of rows = y_of (length rows) + 64

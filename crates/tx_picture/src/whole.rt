@@ -186,12 +186,12 @@ fn put_legend(text: &mut String, y: u64) -> Result<(), AllocError>
     put(text, "</g>\n")
 }
 
-/// How wide the picture is.
+/// How wide the picture is: the legend has room in each.
 fn width_of(alloc: Global, columns: &[Pid], rows: &[Row]) -> Result<u64, AllocError>
     ensures { IfOk result (λ width. width ≡ width_of columns.now rows.now) }
 {
     let widest = widest(alloc, rows)?;
-    Ok(words_left(columns) + 8 * widest.min(2000) + 24)
+    Ok(longer(480, words_left(columns) + 8 * widest.min(2000) + 24))
 }
 
 /// How many characters the longest text of a step has.
