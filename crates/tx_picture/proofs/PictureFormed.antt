@@ -1,16 +1,15 @@
 -- Each part of a picture is well formed, and so is the whole.
-use Rattle.std.proofs.Common.{◌≡◌, ℕ, ◌+◌, ◌*◌, ◌-◌, List, [], ◌∷◌, ◌++◌, Bool, codes, refl, true, false, length, if◌then◌else◌, Option, Some, None}
+use Rattle.std.proofs.Common.{ℕ, ◌+◌, List, [], ◌∷◌, ◌++◌, Bool, codes, refl, true, false, length, Option, Some, None}
 use Rattle.std.specs.Fmt.{decimal}
 use Rattle.std.specs.List.{flat_map}
 use Rattle.tx_base.specs.declared.names.Pid.{Pid}
-use Rattle.tx_base.specs.declared.steps.Reply.{Reply}
 use Rattle.tx_model.specs.Events.{process_of}
 use Rattle.tx_picture.proofs.WellFormed.{a_number, a_word, each_formed, meanings_formed, shape_formed, style_formed, words_formed}
 use Rattle.tx_picture.specs.Columns.{columns_of}
 use Rattle.tx_picture.specs.Drawn.{Drawn}
 use Rattle.tx_picture.specs.Held.{end_at, held_text, kept_text, sent_text, signal_by, signal_text}
 use Rattle.tx_picture.specs.Layout.{words_left, x_of, y_of}
-use Rattle.tx_picture.specs.Pictures.{between, head_text, height_of, inner_text, legend_text, meanings_text, moved_text, picture_in, picture_of, seen_text, size_text, style_text, width_of}
+use Rattle.tx_picture.specs.Pictures.{between, head_text, height_of, inner_text, legend_text, meanings_text, moved_text, picture_of, seen_text, size_text, style_text, width_of}
 use Rattle.tx_picture.specs.Steps.{label_text, line_text, mark_class, mark_text, row_text, rows_text, tie_text, tied_text, words_of}
 use Rattle.tx_picture.specs.Stretches.{bar_text, lane_text, last_row, strip_class, strip_text}
 use Rattle.tx_picture.specs.Svg.{attribute, numbered, shape_text, worded, words_text}

@@ -1,10 +1,10 @@
 -- A picture is well formed.
-use Rattle.std.proofs.Common.{◌≡◌, ℕ, ◌+◌, List, [], ◌∷◌, ◌++◌, Bool, codes, refl, sym, subst, if◌then◌else◌, true, false, Option, Some, None, IsTrue}
+use Rattle.std.proofs.Common.{ℕ, List, [], ◌∷◌, ◌++◌, codes, refl, IsTrue}
 use Rattle.std.specs.Fmt.{decimal}
 use Rattle.std.specs.List.{flat_map}
 use Rattle.tx_picture.specs.Pictures.{meanings_text, style_text}
-use Rattle.tx_picture.specs.Svg.{attribute, element, empty_element, escaped, numbered, numbers_text, shape_name, shape_text, worded, words_text}
-use Rattle.tx_picture.specs.WellFormed.{is_name, AreAttributes, IsValue, IsWellFormed, none, one, more, numeral, word, joined, nothing, words, empty, holding, beside}
+use Rattle.tx_picture.specs.Svg.{escaped, numbered, numbers_text, shape_name, shape_text, worded, words_text}
+use Rattle.tx_picture.specs.WellFormed.{is_name, AreAttributes, IsWellFormed, none, one, more, numeral, word, nothing, words, empty, holding, beside}
 use Rattle.tx_picture.specs.declared.elements.Numbers.{Numbers}
 use Rattle.tx_picture.specs.declared.elements.Shape.{Shape}
 use Rattle.tx_picture.specs.declared.elements.Shape.TheVariants.{Rect, Line, Ellipse}

@@ -4,7 +4,6 @@ use Rattle.tx_base.specs.declared.names.Pid.{Pid}
 use Rattle.tx_model.specs.Events.{process_of}
 use Rattle.tx_picture.specs.Layout.{y_of}
 use Rattle.tx_picture.specs.Svg.{shape_text}
-use Rattle.tx_picture.specs.declared.elements.Numbers.{Numbers}
 use Rattle.tx_picture.specs.declared.elements.Shape.TheVariants.{Line}
 use Rattle.tx_picture.specs.declared.held.Place.{Place}
 use Rattle.tx_picture.specs.declared.rows.Row.{Row}

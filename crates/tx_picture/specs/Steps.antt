@@ -10,9 +10,7 @@ use Rattle.tx_picture.specs.Held.{signal_text}
 use Rattle.tx_picture.specs.Layout.{words_left, x_of, y_of}
 use Rattle.tx_picture.specs.Svg.{shape_text, words_text}
 use Rattle.tx_picture.specs.Ties.{tie_of}
-use Rattle.tx_picture.specs.declared.elements.Numbers.{Numbers}
 use Rattle.tx_picture.specs.declared.elements.Shape.TheVariants.{Ellipse, Line}
-use Rattle.tx_picture.specs.declared.held.Place.{Place}
 use Rattle.tx_picture.specs.declared.rows.Row.{Row}
 use Rattle.tx_picture.specs.declared.spans.Span.{Span}
 use Rattle.tx_picture.specs.declared.ties.Tie.{Tie}

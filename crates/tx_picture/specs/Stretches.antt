@@ -3,7 +3,6 @@ use Rattle.std.specs.Prelude.{ℕ, ◌+◌, ◌*◌, ◌-◌, List, [], ◌++◌
 use Rattle.tx_base.specs.declared.names.Pid.{Pid}
 use Rattle.tx_picture.specs.Layout.{x_of, y_of}
 use Rattle.tx_picture.specs.Svg.{shape_text}
-use Rattle.tx_picture.specs.declared.elements.Numbers.{Numbers}
 use Rattle.tx_picture.specs.declared.elements.Shape.TheVariants.{Rect, Line}
 use Rattle.tx_picture.specs.declared.spans.End.{End}
 use Rattle.tx_picture.specs.declared.spans.Span.{Span}

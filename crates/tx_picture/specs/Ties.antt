@@ -1,5 +1,5 @@
 -- What leads from a step's mark to the column of another process.
-use Rattle.std.specs.Prelude.{ℕ, ℤ, pos, negsuc, Option, Some, None, option_map, if◌then◌else◌, nat_lt}
+use Rattle.std.specs.Prelude.{ℤ, pos, negsuc, Option, Some, None, option_map, if◌then◌else◌, nat_lt}
 use Rattle.std.specs.Ordering.{int_eq}
 use Rattle.tx_base.specs.declared.names.Pid.{Pid}
 use Rattle.tx_base.specs.declared.steps.Call.TheVariants.{Fork, Kill, Sigqueue}

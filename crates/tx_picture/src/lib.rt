@@ -1,5 +1,14 @@
 #![tactic(auto)]
-//! A picture of a schedule.
+//! A picture of a schedule, in SVG.
+//!
+//! `picture` reads a schedule from one end and writes its picture to the other; `picture_text` answers
+//! a text. `walk` makes the steps on a machine and notes in a `Drawing` what there is to draw: each
+//! step with its answer (`Row`), and the stretches of columns (`Span`) in which a process runs, or is a
+//! member of a transaction. `whole` writes it: the stretches (`stretches`), and each step by its mark
+//! and its text (`steps`), with what leads to another column (`ties`, and `held` for signals that wait
+//! for a commit). `columns` and `layout` say where things stand; `elements` and `escape` write the text
+//! of elements, of which `specs/WellFormed.antt` says when it is well formed. A box begins and ends by
+//! the rules' table of members, and whether its end is an abort, the rules' role of the step says.
 
 mod columns;
 mod commands;

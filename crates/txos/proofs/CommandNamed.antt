@@ -231,6 +231,12 @@ parse_names a words m is has =
     let met = has (ap is_simple is) in
     ap (λ (x : App). name_entered (subcommand_of x words)) (sym is) ∙ ap name_entered (sym met.1) ∙ name_met (out-ArgMatches m).subcommand
 
+-- and has its rows
+pub parse_rows : (a : App) (words : List Text) (m : ArgMatches) → a ≡ command_line → HasMatchesOf a words m → subcommand_of command_line words ≡ subcommand_rows (out-ArgMatches m).subcommand
+parse_rows a words m is has =
+    let met = has (ap is_simple is) in
+    ap (λ (x : App). subcommand_of x words) (sym is) ∙ sym met.1
+
 pub no_fault : (a : App) (words : List Text) → a ≡ command_line → (is_simple_and_free a ≡ true → fault_of a words ≡ []) → fault_of command_line words ≡ []
 no_fault a words is passes = ap (λ (x : App). fault_of x words) (sym is) ∙ passes (ap is_simple_and_free is)
 

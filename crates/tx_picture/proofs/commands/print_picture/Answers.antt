@@ -1,4 +1,4 @@
-use Rattle.std.proofs.Common.{◌≤◌, [], ℕ, List, ap, arith, length, string_bytes, subst, sym}
+use Rattle.std.proofs.Common.{[], ap, arith, length, subst, sym}
 use Rattle.tx_picture.proofs.DrawnSteps.{rows_counted}
 use Rattle.tx_picture.proofs.PictureFormed.{picture_formed}
 use Rattle.tx_picture.specs.Drawings.{first_drawn}

@@ -1,4 +1,3 @@
-use Rattle.std.proofs.Common.{length}
 use Rattle.tx_picture.proofs.Mapped.{mapped_more}
 use Rattle.tx_picture.specs.Spans.{ended_at}
 use Rattle.tx_picture.proofs.spans.end_open.Goals as goal

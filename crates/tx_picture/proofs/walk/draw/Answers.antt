@@ -1,10 +1,9 @@
-use Rattle.std.proofs.Common.{◌≡◌, [], List, ap, ◌∙◌}
+use Rattle.std.proofs.Common.{[], List, ap, ◌∙◌}
 use Rattle.tx_base.specs.declared.steps.Step.{Step}
-use Rattle.tx_model.specs.View.{View}
 use Rattle.tx_picture.proofs.Made.{after_boot}
 use Rattle.tx_picture.specs.Drawings.{drawn_from, first_drawn}
 use Rattle.tx_picture.specs.Drawn.{drawn_as, Drawn}
-use Rattle.tx_script.specs.Report.{start_of, start_state}
+use Rattle.tx_script.specs.Report.{start_state}
 use Rattle.tx_picture.proofs.walk.draw.Goals as goal
 
 pub returns-clause-drawn : goal.returns-clause-drawn

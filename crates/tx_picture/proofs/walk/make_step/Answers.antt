@@ -1,4 +1,4 @@
-use Rattle.std.proofs.Common.{sym, subst, List, true≢false}
+use Rattle.std.proofs.Common.{sym, subst, true≢false}
 use Rattle.tx_base.specs.declared.steps.Reply.{Reply}
 use Rattle.tx_core.specs.Runs.{IsAfter}
 use Rattle.tx_live.specs.Content.{view_of}

@@ -1,5 +1,7 @@
-use Rattle.std.proofs.Common.{rules, ◌≡◌, ◌∙◌, ℕ, List, Some, Bor, ap, codes, inl, inr, map, option_map, string_bytes, subst, sym}
-use Rattle.txos.proofs.CommandNamed.{SomeOneOf, command_names, fault_kind, no_fault, no_fault_names, parse_names}
+use Rattle.std.proofs.Common.{rules, ◌≡◌, ◌∙◌, ℕ, List, Option, Some, Bor, ap, codes, inl, inr, map, option_map, string_bytes, subst, sym}
+use Rattle.txos.proofs.CommandNamed.{SomeOneOf, command_names, fault_kind, no_fault, no_fault_names, parse_names, parse_rows}
+use Rattle.clap.specs.Words.{Row, Text}
+use Rattle.txos.specs.CommandLine.{flag_in, IsFormOf}
 use Rattle.txos.proofs.words.read_words.Goals as goal
 
 pub returns-in-Some-replay-clause-reads : goal.returns-in-Some-replay-clause-reads
@@ -60,6 +62,47 @@ returns-in-Some-plain-clause-asked c =
     let name : c.in-Some-plain.field-0.now ≡ codes "plain" = search rules in
     parse_names _ _ _ c.in_ok-command.ensures c.in_ok-matches.ensures.matches ∙ sym c.subcommand_name.ensures
     ∙ ap (option_map (λ (s : Bor (List ℕ)). s.now)) c.in-Some-plain.is ∙ ap (λ (t : List ℕ). Some t) name
+
+pub returns-in-Some-replay-clause-asked : goal.returns-in-Some-replay-clause-asked
+returns-in-Some-replay-clause-asked c =
+    let name : c.in-Some-replay.field-0.now ≡ codes "replay" = search rules in
+    parse_names _ _ _ c.in_ok-command.ensures c.in_ok-matches.ensures.matches ∙ sym c.subcommand_name.ensures
+    ∙ ap (option_map (λ (s : Bor (List ℕ)). s.now)) c.in-Some-replay.is ∙ ap (λ (t : List ℕ). Some t) name
+
+pub returns-in-Some-debug-clause-asked : goal.returns-in-Some-debug-clause-asked
+returns-in-Some-debug-clause-asked c =
+    let name : c.in-Some-debug.field-0.now ≡ codes "debug" = search rules in
+    parse_names _ _ _ c.in_ok-command.ensures c.in_ok-matches.ensures.matches ∙ sym c.subcommand_name.ensures
+    ∙ ap (option_map (λ (s : Bor (List ℕ)). s.now)) c.in-Some-debug.is ∙ ap (λ (t : List ℕ). Some t) name
+
+pub returns-in-Some-json-clause-asked : goal.returns-in-Some-json-clause-asked
+returns-in-Some-json-clause-asked c =
+    let name : c.in-Some-json.field-0.now ≡ codes "json" = search rules in
+    parse_names _ _ _ c.in_ok-command.ensures c.in_ok-matches.ensures.matches ∙ sym c.subcommand_name.ensures
+    ∙ ap (option_map (λ (s : Bor (List ℕ)). s.now)) c.in-Some-json.is ∙ ap (λ (t : List ℕ). Some t) name
+
+pub returns-in-Some-shell-clause-asked : goal.returns-in-Some-shell-clause-asked
+returns-in-Some-shell-clause-asked c =
+    let name : c.in-Some-shell.field-0.now ≡ codes "shell" = search rules in
+    parse_names _ _ _ c.in_ok-command.ensures c.in_ok-matches.ensures.matches ∙ sym c.subcommand_name.ensures
+    ∙ ap (option_map (λ (s : Bor (List ℕ)). s.now)) c.in-Some-shell.is ∙ ap (λ (t : List ℕ). Some t) name
+
+pub returns-in-Some-run-clause-asked : goal.returns-in-Some-run-clause-asked
+returns-in-Some-run-clause-asked c =
+    let name : c.in-Some-run.field-0.now ≡ codes "run" = search rules in
+    parse_names _ _ _ c.in_ok-command.ensures c.in_ok-matches.ensures.matches ∙ sym c.subcommand_name.ensures
+    ∙ ap (option_map (λ (s : Bor (List ℕ)). s.now)) c.in-Some-run.is ∙ ap (λ (t : List ℕ). Some t) name
+
+pub returns-in-Some-version-clause-asked : goal.returns-in-Some-version-clause-asked
+returns-in-Some-version-clause-asked c =
+    let name : c.in-Some-version.field-0.now ≡ codes "version" = search rules in
+    parse_names _ _ _ c.in_ok-command.ensures c.in_ok-matches.ensures.matches ∙ sym c.subcommand_name.ensures
+    ∙ ap (option_map (λ (s : Bor (List ℕ)). s.now)) c.in-Some-version.is ∙ ap (λ (t : List ℕ). Some t) name
+
+pub returns-in-Some-shell-clause-form : goal.returns-in-Some-shell-clause-form
+returns-in-Some-shell-clause-form c =
+    subst (λ (rows : Option (Text × List Row)). IsFormOf (flag_in (codes "json") rows) c.form_of.result)
+    (sym (parse_rows _ _ _ c.in_ok-command.ensures c.in_ok-matches.ensures.matches)) c.form_of.ensures
 
 pub unreachable-requires : goal.unreachable-requires
 unreachable-requires c =
