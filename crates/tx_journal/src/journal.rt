@@ -5,7 +5,7 @@ ghost use Rattle.tx_journal.specs.Rooms.{HasPlaces, SameRecord};
 use crate::crossings::Crossings;
 use crate::entry::Entry;
 use std::alloc::Global;
-use tx_base::NoMemory;
+use tx_base::{NoMemory, Reply, Step};
 use tx_live::Inverse;
 
 /// All entries of a session, and what leads over them.
@@ -65,13 +65,14 @@ impl Journal {
         self.crossings.reserve(count)
     }
 
-    /// Adds an entry that is made, where it was and is so many times live, and nothing is kept of entries
-    /// that were taken back.
-    pub fn push(&mut self, entry: Entry, inverse: Inverse)
+    /// Adds the entry of a step that is made, where it was and is so many times live, and nothing is kept
+    /// of entries that were taken back. The step is moved there, and leaves a getpid in its place.
+    pub fn add(&mut self, worker: u16, step: &mut Step, reply: &Reply, inverse: Inverse)
         requires none { self.old.crossings.undone ≡ [] }
         requires entries { length self.old.entries.items < vec_capacity self.old.entries }
         requires inverses { length self.old.crossings.inverses < self.old.crossings.room }
-        ensures entries { self.new.entries.items ≡ self.old.entries.items ++ entry ∷ [] }
+        ensures entries { self.new.entries.items ≡ self.old.entries.items
+            ++ record { step = step.old; worker = worker; reply = reply.now } ∷ [] }
         ensures inverses { self.new.crossings.inverses
             ≡ self.old.crossings.inverses ++ inverse ∷ [] }
         ensures undone { self.new.crossings.undone ≡ [] }
@@ -79,7 +80,9 @@ impl Journal {
         ensures room { vec_capacity self.new.entries ≡ vec_capacity self.old.entries }
         ensures places { self.new.crossings.room ≡ self.old.crossings.room }
     {
-        self.entries.push_reserved(entry);
+        let place = self.entries.len();
+        self.entries.push_reserved(Entry::blank());
+        self.entries[place].fill(worker, step, reply);
         self.crossings.push(inverse);
     }
 }

@@ -5,14 +5,15 @@
 //! and its reply, and beside it stands what leads over each entry (`Crossings`). Steps are made at
 //! its end; walks go back and forward over the entries.
 //!
-//! - `boot` and `boot_wide` make a session before its first step. `step` makes a step as the
-//!   machine does and adds its entry; `step_into` puts the reply where the caller has a place for
-//!   it. `kernel_abort` makes the kernel's abort and adds its entry, without memory.
+//! - `boot` and `boot_wide` make a session before its first step, and `boot_by` the one that a
+//!   header names. `step` makes a step as the machine does and adds its entry; `step_into` puts the
+//!   reply where the caller has a place for it, and `enter` also moves the step into its entry.
+//!   `kernel_abort` makes the kernel's abort and adds its entry, without memory.
 //! - `back` undoes the newest entry that is made by its inverse, and puts what makes it again into
 //!   the inverse's place, if there is room for its changes (`reserve_forward` makes it). `forward`
-//!   makes the next one again from there, by exchange, and else by its step, whose answer is the entry's reply since the journal is lawful; `goto` goes
-//!   step by step, so it pays for the entries between. Nothing is replayed from the start, and no
-//!   state is kept but the machine's.
+//!   makes the next one again from there, by exchange, and else by its step, whose answer is the
+//!   entry's reply since the journal is lawful; `goto` goes step by step, so it pays for the entries
+//!   between. Nothing is replayed from the start, and no state is kept but the machine's.
 //! - The place of an entry is reserved before its step, or for many steps at once by `reserve`: a
 //!   list that grows as it needs would have room for twice its entries, and for a while both rooms.
 //!   A transaction that begins takes one place more, for its abort, so an abort never wants memory.

@@ -13,7 +13,6 @@ ghost use Rattle.tx_model.specs.Membership.{is_live};
 ghost use Rattle.tx_model.specs.View.{kernel_status};
 ghost use Rattle.tx_step.specs.Steps.{IsKernelAbort, IsXabort};
 
-use crate::entry::Entry;
 use crate::journal::Journal;
 use crate::laws::laws;
 use std::alloc::Global;
@@ -21,14 +20,14 @@ use tx_base::{Call, NoMemory, Pid, Refusal, Reply, Step};
 use tx_core::{Machine, NoTransaction};
 use tx_live::Inverse;
 
-/// Makes a step, puts its reply where it is to stand, and adds its entry where it was accepted. The place
-/// of the entry is reserved first, but for an abort, which has its own. Answers whether it was.
+/// Makes a step, puts its reply where it is to stand, and moves it into its entry where it was accepted. The
+/// place of the entry is reserved first, but for an abort, which has its own. Answers whether it was.
 pub(crate) fn record(
     alloc: Global,
     machine: &mut Machine,
     journal: &mut Journal,
     worker: u16,
-    step: &Step,
+    step: &mut Step,
     reply: &mut Reply,
 ) -> bool
     requires sound { IsSound (view_of machine.old) }
@@ -38,16 +37,17 @@ pub(crate) fn record(
     ensures accepted { IsTrue result ↔ IsAccepted reply.new }
     ensures added { IsTrue result →
         IsAdded machine.old journal.old
-        (record { step = step.now; worker = worker; reply = reply.new }) machine.new journal.new }
+        (record { step = step.old; worker = worker; reply = reply.new }) machine.new journal.new }
     ensures machine { result ≡ false → machine.new ≡ machine.old }
     ensures journal { result ≡ false → SameRecord journal.new journal.old }
     ensures counted { result ≡ false → IsCounted machine.old journal.new }
     ensures answer { (reply.new ≡ No Refusal.NoMemory)
-        ⊎ (answer (view_of machine.old) step.now ≡ reply.new) }
+        ⊎ (answer (view_of machine.old) step.old ≡ reply.new) }
     ensures history { IsTrue result →
-        Continues machine.old (record { step = step.now; reply = reply.new }) machine.new }
-    ensures xabort { IsXabort machine.old step.now → reply.new ≢ No Refusal.NoMemory }
-    ensures kernel { IsKernelAbort step.now → reply.new ≢ No Refusal.NoMemory }
+        Continues machine.old (record { step = step.old; reply = reply.new }) machine.new }
+    ensures step { result ≡ false → step.new ≡ step.old }
+    ensures xabort { IsXabort machine.old step.old → reply.new ≢ No Refusal.NoMemory }
+    ensures kernel { IsKernelAbort step.old → reply.new ≢ No Refusal.NoMemory }
 {
     if prepare(machine, journal, step).is_err() {
         *reply = Reply::No(Refusal::NoMemory);
@@ -74,33 +74,34 @@ fn prepare(machine: &Machine, journal: &mut Journal, step: &Step) -> Result<(), 
     journal.reserve()
 }
 
-/// Makes a step, puts its reply where it is to stand, and adds its entry where it was accepted: there
-/// must be room. Answers whether it was.
+/// Makes a step, puts its reply where it is to stand, and moves it into its entry where it was accepted:
+/// there must be room. Answers whether it was.
 fn make(
     alloc: Global,
     machine: &mut Machine,
     journal: &mut Journal,
     worker: u16,
-    step: &Step,
+    step: &mut Step,
     reply: &mut Reply,
 ) -> bool
     requires sound { IsSound (view_of machine.old) }
     requires at_end { length journal.old.crossings.inverses ≡ length journal.old.entries.items }
     requires none { journal.old.crossings.undone ≡ [] }
     requires counted { IsCounted machine.old journal.old }
-    requires ready { IsReady (view_of machine.old).table step.now journal.old }
+    requires ready { IsReady (view_of machine.old).table step.old journal.old }
     ensures accepted { IsTrue result ↔ IsAccepted reply.new }
     ensures added { IsTrue result →
         IsAdded machine.old journal.old
-        (record { step = step.now; worker = worker; reply = reply.new }) machine.new journal.new }
+        (record { step = step.old; worker = worker; reply = reply.new }) machine.new journal.new }
     ensures machine { result ≡ false → machine.new ≡ machine.old }
     ensures journal { result ≡ false → journal.new ≡ journal.old }
     ensures answer { (reply.new ≡ No Refusal.NoMemory)
-        ⊎ (answer (view_of machine.old) step.now ≡ reply.new) }
+        ⊎ (answer (view_of machine.old) step.old ≡ reply.new) }
     ensures history { IsAccepted reply.new →
-        Continues machine.old (record { step = step.now; reply = reply.new }) machine.new }
-    ensures xabort { IsXabort machine.old step.now → reply.new ≢ No Refusal.NoMemory }
-    ensures kernel { IsKernelAbort step.now → reply.new ≢ No Refusal.NoMemory }
+        Continues machine.old (record { step = step.old; reply = reply.new }) machine.new }
+    ensures step { result ≡ false → step.new ≡ step.old }
+    ensures xabort { IsXabort machine.old step.old → reply.new ≢ No Refusal.NoMemory }
+    ensures kernel { IsKernelAbort step.old → reply.new ≢ No Refusal.NoMemory }
 {
     laws();
     let starter = starter_of(machine, step);
@@ -110,12 +111,7 @@ fn make(
         return false;
     }
     let is = is_live(machine, starter);
-    let entry = Entry {
-        step: step.copy(),
-        worker,
-        reply: reply.copy(),
-    };
-    journal.push(entry, inverse);
+    journal.add(worker, step, reply, inverse);
     journal.live = live_after(journal.live, was, is);
     true
 }
@@ -147,12 +143,8 @@ pub(crate) fn abort(
         return Err(NoTransaction);
     };
     let inverse = machine.kernel_abort(starter)?;
-    let entry = Entry {
-        step: Step::KernelAbort(starter),
-        worker,
-        reply: Reply::Aborted(status),
-    };
-    journal.push(entry, inverse);
+    let mut step = Step::KernelAbort(starter);
+    journal.add(worker, &mut step, &Reply::Aborted(status), inverse);
     journal.live -= 1;
     Ok(())
 }

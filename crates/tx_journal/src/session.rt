@@ -4,6 +4,7 @@ ghost use Rattle.std.specs.Prelude.{◌≡◌, ◌≤◌, [], IfOk, length, stri
 ghost use Rattle.tx_core.specs.Machines.{IsWidth};
 ghost use Rattle.tx_journal.specs.Entries.{entry_at, history_of};
 ghost use Rattle.tx_journal.specs.Sessions.{made_of, position_of, start_of};
+ghost use Rattle.tx_lines.specs.Lines.{most_of, FitsHeader};
 ghost use Rattle.tx_live.specs.Content.{view_of};
 ghost use Rattle.tx_model.specs.Answer.{Agreement, Lawful};
 ghost use Rattle.tx_model.specs.View.{view};
@@ -18,6 +19,7 @@ use std::alloc::Global;
 use std::marker::Model;
 use tx_base::{NoMemory, PROCESSES, WIDE_PROCESSES};
 use tx_core::Machine;
+use tx_lines::{Header, Version};
 
 /// A machine with the journal of all steps that it accepted, which can be walked both ways. Contracts
 /// see what it keeps: its machine's content, all entries, and what takes those back that are made.
@@ -87,6 +89,22 @@ impl Session {
             width: WIDE_PROCESSES,
             count,
         })
+    }
+
+    /// A session as a header says: as `boot` of version 1, and as `boot_wide` of version 2.
+    ///
+    /// NoMemory where a growth is refused.
+    pub fn boot_by(alloc: Global, header: Header) -> Result<Session, NoMemory>
+        requires { FitsHeader header }
+        ensures entries { IfOk result (λ session. session.entries ≡ []) }
+        ensures inverses { IfOk result (λ session. session.inverses ≡ []) }
+        ensures count { IfOk result (λ session. session.count ≡ header.count) }
+        ensures width { IfOk result (λ session. session.width ≡ most_of header.version) }
+    {
+        match header.version {
+            Version::One => Session::boot(alloc, header.count),
+            Version::Two => Session::boot_wide(alloc, header.count),
+        }
     }
 
     /// Makes room for the entries of so many steps more, and for the aborts of all transactions that

@@ -58,6 +58,27 @@ impl Session {
         ensures kernel { IsKernelAbort step.now → reply.new ≢ No Refusal.NoMemory }
         ensures moments { HasMoments (start_of self.new) (history_of self.new.entries) }
     {
+        let mut own = step.copy();
+        self.enter(alloc, worker, &mut own, reply);
+    }
+
+    /// Makes a step as `step_into` does, and moves it into its entry where it is accepted: for a caller that
+    /// needs it no more then, since a step is large too. A refused step stays where it is.
+    pub fn enter(&mut self, alloc: Global, worker: u16, step: &mut Step, reply: &mut Reply)
+        requires { IsAtEnd self.old }
+        ensures answer { (reply.new ≡ No Refusal.NoMemory)
+            ⊎ (answer (view_of self.old.machine) step.old ≡ reply.new) }
+        ensures accepted { IsAccepted reply.new →
+            self.new.entries ≡ self.old.entries
+            ++ record { step = step.old; worker = worker; reply = reply.new } ∷ [] }
+        ensures refused { (IsAccepted reply.new → ⊥) → self.new ≡ self.old }
+        ensures stays { (IsAccepted reply.new → ⊥) → step.new ≡ step.old }
+        ensures boot { SameBoot self.new self.old }
+        ensures at_end { IsAtEnd self.new }
+        ensures xabort { IsXabort self.old.machine step.old → reply.new ≢ No Refusal.NoMemory }
+        ensures kernel { IsKernelAbort step.old → reply.new ≢ No Refusal.NoMemory }
+        ensures moments { HasMoments (start_of self.new) (history_of self.new.entries) }
+    {
         laws();
         let _made = record(
             alloc,

@@ -8,7 +8,6 @@ ghost use Rattle.tx_model.specs.Schedules.{history_with, history_of as history_a
 ghost use Rattle.tx_model.specs.View.{view};
 ghost use Rattle.tx_script.specs.Debug.{answers_at, command_answer, moved_text, position_after, position_text, told_text, view_at, walk_answers};
 ghost use Rattle.tx_lines.specs.Lines.{FitsHeader};
-ghost use Rattle.tx_script.specs.Report.{start_state};
 ghost use Rattle.tx_lines.specs.declared.faults.Fault.TheVariants.{NoMemory};
 ghost use Rattle.tx_lines.specs.declared.read.command.Command.TheVariants as command;
 ghost use Rattle.tx_text.specs.State.{state_text};
@@ -16,7 +15,7 @@ ghost use Rattle.tx_text.specs.State.{state_text};
 use std::alloc::{AllocError, Global};
 use tx_base::Step;
 use tx_journal::{AtStart, ForwardFault, GotoFault, Moved, MovedFault, Session, put_state};
-use tx_lines::{Command, Fault, Header, Version, Walk, put, put_count, put_numbers};
+use tx_lines::{Command, Fault, Walk, put, put_count, put_numbers};
 
 /// The worker that makes the steps of a schedule.
 const WORKER: u16 = 1;
@@ -30,7 +29,7 @@ pub fn answer_walk(alloc: Global, walk: &Walk) -> Result<String, Fault>
         walk.now.commands.items) }
     ensures fault { IfErr result (λ fault. fault ≡ NoMemory) }
 {
-    let mut session = boot(alloc, walk.schedule.header)?;
+    let mut session = Session::boot_by(alloc, walk.schedule.header)?;
     session.reserve(walk.schedule.steps.len())?;
     make_steps(alloc, &mut session, walk.schedule.steps.as_slice())?;
     // Where it is refused, a walk forward makes each step anew.
@@ -38,21 +37,6 @@ pub fn answer_walk(alloc: Global, walk: &Walk) -> Result<String, Fault>
     let mut text = String::new(alloc);
     put_answers(alloc, &mut text, &mut session, walk.commands.as_slice())?;
     Ok(text)
-}
-
-/// A session before its first step.
-fn boot(alloc: Global, header: Header) -> Result<Session, Fault>
-    requires { FitsHeader header }
-    ensures start { IfOk result (λ session. start_of session ≡ start_state header) }
-    ensures entries { IfOk result (λ session. session.entries ≡ []) }
-    ensures inverses { IfOk result (λ session. session.inverses ≡ []) }
-    ensures fault { IfErr result (λ fault. fault ≡ NoMemory) }
-{
-    let session = match header.version {
-        Version::One => Session::boot(alloc, header.count)?,
-        Version::Two => Session::boot_wide(alloc, header.count)?,
-    };
-    Ok(session)
 }
 
 /// Makes the steps at the end of the journal.

@@ -52,8 +52,8 @@ pub fn answer_words(
     ensures kept { OnErr result (refused.new ≡ refused.old) }
     ensures boot { SameBoot session.new session.old }
 {
-    if let Some(step) = read_step(version.grammar(), words) {
-        return answer_step_line(alloc, form, session, refused, &step, text);
+    if let Some(mut step) = read_step(version.grammar(), words) {
+        return answer_step_line(alloc, form, session, refused, &mut step, text);
     }
     if let Some(ask) = read_ask(version.grammar(), words) {
         *text = answer_ask(alloc, form, version, session, refused, ask)?;
@@ -72,14 +72,14 @@ pub fn answer_step_line(
     form: Form,
     session: &mut Session,
     refused: &mut Option<Step>,
-    step: &Step,
+    step: &mut Step,
     text: &mut String,
 ) -> Result<(), NoMemory>
     ensures answer { OnOk result
-        (AnswersStep form (start_of session.old) (place_of session.old) step.now
+        (AnswersStep form (start_of session.old) (place_of session.old) step.old
         (string_bytes text.new) (place_of session.new)) }
     ensures kept { OnOk result (refused.new
-        ≡ refused_by (place_of session.old) step.now (place_of session.new) refused.old) }
+        ≡ refused_by (place_of session.old) step.old (place_of session.new) refused.old) }
     ensures stops { OnErr result (place_of session.new ≡ place_of session.old) }
     ensures same { OnErr result (refused.new ≡ refused.old) }
     ensures boot { SameBoot session.new session.old }

@@ -1,7 +1,7 @@
 //! What a talk goes on.
-ghost use Rattle.std.specs.Prelude.{◌≡◌, [], ℕ, List, IfOk, IfSome, MatchBool, MatchOption, OnErr, OnOk, Some, string_bytes, true};
+ghost use Rattle.std.specs.Prelude.{◌≡◌, ℕ, List, IfOk, IfSome, MatchBool, MatchOption, OnErr, OnOk, Some, string_bytes, true};
 ghost use Rattle.tx_journal.specs.Sessions.{position_of};
-ghost use Rattle.tx_lines.specs.Lines.{most_of, step_text, FitsHeader, FitsStep, IsOf};
+ghost use Rattle.tx_lines.specs.Lines.{step_text, FitsHeader, FitsStep, IsOf};
 ghost use Rattle.tx_shell.specs.Forms.{SaysPosition};
 ghost use Rattle.tx_shell.specs.Meanings.{meant_line};
 ghost use Rattle.tx_shell.specs.Origins.{origin_said, SaysOrigin};
@@ -17,7 +17,7 @@ use crate::versions::TextVersion;
 use std::alloc::Global;
 use tx_base::{NoMemory, Step};
 use tx_journal::Session;
-use tx_lines::{Header, Version, read_step, take_line};
+use tx_lines::{read_step, take_line};
 use tx_plain::{Room, second_stays_itself};
 
 /// A session at a terminal, in which form it is answered, and of which version its lines are.
@@ -40,7 +40,8 @@ impl Shell {
     pub fn new(alloc: Global, form: Form) -> Result<Shell, NoMemory>
         ensures { IfOk result (λ shell. standing_of shell ≡ first_standing form) }
     {
-        let session = Session::boot_wide(alloc, 2)?;
+        let mut session = Session::boot_wide(alloc, 2)?;
+        reserve_ahead(&mut session);
         Ok(Shell {
             form,
             session,
@@ -105,8 +106,9 @@ impl Shell {
     {
         second_stays_itself();
         let (words, _behind) = take_line(line);
-        if let Some(step) = read_step(self.version.grammar(), words) {
-            self.answer_step(alloc, &step, text)?;
+        let mut read = read_step(self.version.grammar(), words);
+        if let Some(step) = &mut read {
+            self.answer_step(alloc, step, text)?;
             return Ok(true);
         }
         self.answer_meaning(alloc, room, line, text)
@@ -142,11 +144,16 @@ impl Shell {
     /// Makes a step that a line spells, and answers it.
     ///
     /// NoMemory where a growth is refused; nothing has changed then.
-    fn answer_step(&mut self, alloc: Global, step: &Step, text: &mut String) -> Result<(), NoMemory>
-        requires fits { FitsStep step.now }
-        requires of { IsOf (grammar_of self.old.version) step.now }
+    fn answer_step(
+        &mut self,
+        alloc: Global,
+        step: &mut Step,
+        text: &mut String,
+    ) -> Result<(), NoMemory>
+        requires fits { FitsStep step.old }
+        requires of { IsOf (grammar_of self.old.version) step.old }
         ensures answer { (line : List ℕ) → OnOk result
-            (AnswersMeant (standing_of self.old) line (Some (step_text step.now))
+            (AnswersMeant (standing_of self.old) line (Some (step_text step.old))
             (string_bytes text.new) (standing_of self.new)) }
         ensures stops { OnErr result (standing_of self.new ≡ standing_of self.old) }
     {
@@ -186,7 +193,8 @@ impl Shell {
         ensures begun { OnOk result (standing_of self.new ≡ begun_by self.old.form (origin_said opening)) }
         ensures refused { OnErr result (self.new ≡ self.old) }
     {
-        let session = boot(alloc, opening.header)?;
+        let mut session = Session::boot_by(alloc, opening.header)?;
+        reserve_ahead(&mut session);
         let text = self.form.position(alloc, 0)?;
         self.session = session;
         self.version = opening.version;
@@ -229,16 +237,13 @@ impl Shell {
     }
 }
 
-/// A session before its first step, as a header says.
-fn boot(alloc: Global, header: Header) -> Result<Session, NoMemory>
-    requires { FitsHeader header }
-    ensures entries { IfOk result (λ session. session.entries ≡ []) }
-    ensures inverses { IfOk result (λ session. session.inverses ≡ []) }
-    ensures width { IfOk result (λ session. session.width ≡ most_of header.version) }
-    ensures count { IfOk result (λ session. session.count ≡ header.count) }
+/// How many steps have room from the start: those of the longest text.
+const STEPS_AHEAD: usize = 4_096;
+
+/// Makes room for the steps of a long talk, which the system gives as it is used: lists that grow are
+/// copied. Where it is refused, each step asks for its own.
+fn reserve_ahead(session: &mut Session)
+    ensures { session.new ≡ session.old }
 {
-    match header.version {
-        Version::One => Session::boot(alloc, header.count),
-        Version::Two => Session::boot_wide(alloc, header.count),
-    }
+    let _room = session.reserve(STEPS_AHEAD);
 }

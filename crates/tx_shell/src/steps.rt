@@ -16,19 +16,21 @@ use tx_text::put_reply;
 const WORKER: u16 = 1;
 
 /// Makes a step at the end of the journal, and puts its reply in place of what the text had. Elsewhere it is
-/// not made, and both ways out are named.
+/// not made, and both ways out are named. A step that is accepted is moved into its entry, any other stays.
 ///
 /// NoMemory where a growth is refused; no step came or went then. The text has nothing to be shown.
 pub fn answer_step(
     alloc: Global,
     form: Form,
     session: &mut Session,
-    step: &Step,
+    step: &mut Step,
     text: &mut String,
 ) -> Result<(), NoMemory>
     ensures answer { OnOk result
-        (AnswersStep form (start_of session.old) (place_of session.old) step.now
+        (AnswersStep form (start_of session.old) (place_of session.old) step.old
         (string_bytes text.new) (place_of session.new)) }
+    ensures stays { OnOk result (
+        length session.new.entries ≡ length session.old.entries → step.new ≡ step.old) }
     ensures refused { OnErr result (place_of session.new ≡ place_of session.old) }
     ensures boot { SameBoot session.new session.old }
 {
@@ -46,20 +48,22 @@ fn make_step(
     alloc: Global,
     form: Form,
     session: &mut Session,
-    step: &Step,
+    step: &mut Step,
     text: &mut String,
 ) -> Result<(), NoMemory>
     requires { IsAtEnd session.old }
     ensures answer { OnOk result
-        (MakesStep form (start_of session.old) (place_of session.old) step.now
+        (MakesStep form (start_of session.old) (place_of session.old) step.old
         (string_bytes text.new) (place_of session.new)) }
+    ensures stays { OnOk result (
+        length session.new.entries ≡ length session.old.entries → step.new ≡ step.old) }
     ensures refused { OnErr result (place_of session.new ≡ place_of session.old) }
     ensures boot { SameBoot session.new session.old }
 {
     let _machine = session.machine();
     let count = session.len();
     let mut reply = Reply::Ended;
-    session.step_into(alloc, WORKER, step, &mut reply);
+    session.enter(alloc, WORKER, step, &mut reply);
     if reply.wants_memory() {
         return Err(NoMemory);
     }

@@ -7,19 +7,19 @@ use Rattle.tx_live.specs.Content.{view_of}
 use Rattle.tx_model.specs.View.{kernel_status}
 use Rattle.tx_journal.proofs.making.abort.Goals as goal
 
-pub push-requires-clause-entries : goal.push-requires-clause-entries
-push-requires-clause-entries c =
+pub add-requires-clause-entries : goal.add-requires-clause-entries
+add-requires-clause-entries c =
     abort_room_entries c.laws.ensures c.args.machine.now c.kernel_abort.new.self c.args.journal.now c.args.starter (kernel_status (view_of c.args.machine.now) c.args.starter.0) c.in_ok-inverse.inverse
     c.requires.sound c.requires.at_end c.requires.counted (c.in-Some.ensures.live.0 refl) c.in_ok-inverse.ensures.ok
 
-pub push-requires-clause-inverses : goal.push-requires-clause-inverses
-push-requires-clause-inverses c =
+pub add-requires-clause-inverses : goal.add-requires-clause-inverses
+add-requires-clause-inverses c =
     abort_room_inverses c.laws.ensures c.args.machine.now c.kernel_abort.new.self c.args.journal.now c.args.starter (kernel_status (view_of c.args.machine.now) c.args.starter.0) c.in_ok-inverse.inverse
     c.requires.sound c.requires.at_end c.requires.counted (c.in-Some.ensures.live.0 refl) c.in_ok-inverse.ensures.ok
 
 pub overflow_sub-journal : goal.overflow_sub-journal
 overflow_sub-journal c =
-    subst (λ (n : ℕ). 1 ≤ n) (sym c.push.ensures.live)
+    subst (λ (n : ℕ). 1 ≤ n) (sym c.add.ensures.live)
     (abort_some c.laws.ensures c.args.machine.now c.kernel_abort.new.self c.args.journal.now c.args.starter (kernel_status (view_of c.args.machine.now) c.args.starter.0) c.in_ok-inverse.inverse
     c.requires.sound c.requires.at_end c.requires.counted (c.in-Some.ensures.live.0 refl) c.in_ok-inverse.ensures.ok)
 
@@ -27,9 +27,9 @@ pub returns-clause-added : goal.returns-clause-added
 returns-clause-added c =
     let status : ℕ = kernel_status (view_of c.args.machine.now) c.args.starter.0 in
     let entry : Entry = record { step = KernelAbort c.args.starter; worker = c.args.worker; reply = Aborted status } in
-    let items : c.push.new.self.entries.items ≡ c.args.journal.now.entries.items ++ entry ∷ []
-    = c.push.ensures.entries ∙ ap (λ (n : ℕ). c.args.journal.now.entries.items ++ record { step = KernelAbort c.args.starter; worker = c.args.worker; reply = Aborted n } ∷ []) c.in-Some.ensures.status in
+    let items : c.add.new.self.entries.items ≡ c.args.journal.now.entries.items ++ entry ∷ []
+    = c.add.ensures.entries ∙ ap (λ (n : ℕ). c.args.journal.now.entries.items ++ record { step = KernelAbort c.args.starter; worker = c.args.worker; reply = Aborted n } ∷ []) c.in-Some.ensures.status in
     abort_added c.laws.ensures c.args.machine.now c.kernel_abort.new.self c.args.journal.now c.args.starter status c.in_ok-inverse.inverse
     c.requires.sound c.requires.at_end c.requires.counted (c.in-Some.ensures.live.0 refl) c.in_ok-inverse.ensures.ok
-    entry (record { entries = c.push.new.self.entries; crossings = c.push.new.self.crossings; live = c.push.new.self.live - 1 }) c.in_ok-inverse.ensures.back items c.push.ensures.inverses c.push.ensures.undone c.push.ensures.room c.push.ensures.places
-    (ap (λ (n : ℕ). n - 1) c.push.ensures.live)
+    entry (record { entries = c.add.new.self.entries; crossings = c.add.new.self.crossings; live = c.add.new.self.live - 1 }) c.in_ok-inverse.ensures.back items c.add.ensures.inverses c.add.ensures.undone c.add.ensures.room c.add.ensures.places
+    (ap (λ (n : ℕ). n - 1) c.add.ensures.live)

@@ -1,32 +1,30 @@
-use Rattle.std.proofs.Common.{◌≡◌, ℕ, ◌+◌, ◌≤◌, ◌++◌, ◌∷◌, [], sym, ap, subst, ◌∙◌}
+use Rattle.std.proofs.Common.{ℕ, ◌+◌, ◌≤◌, sym, ap, subst, ◌∙◌}
 use Rattle.tx_journal.proofs.Made.{added, live_some, room_entries, room_inverses}
 use Rattle.tx_journal.specs.Lives.{one_if}
 use Rattle.tx_journal.specs.declared.entry.Entry.{Entry}
 use Rattle.tx_journal.proofs.making.make.Goals as goal
 
-pub push-requires-clause-entries : goal.push-requires-clause-entries
-push-requires-clause-entries c =
+pub add-requires-clause-entries : goal.add-requires-clause-entries
+add-requires-clause-entries c =
     room_entries c.laws.ensures c.args.machine.now c.step_into.new.self c.args.journal.now c.args.step.now c.step_into.new.reply c.step_into.new.inverse c.requires.sound c.requires.at_end c.requires.counted c.requires.ready
     (c.step_into.ensures.accepted c.if-not-step_into.false)
 
-pub push-requires-clause-inverses : goal.push-requires-clause-inverses
-push-requires-clause-inverses c =
+pub add-requires-clause-inverses : goal.add-requires-clause-inverses
+add-requires-clause-inverses c =
     room_inverses c.laws.ensures c.args.machine.now c.step_into.new.self c.args.journal.now c.args.step.now c.step_into.new.reply c.step_into.new.inverse c.requires.sound c.requires.at_end c.requires.counted c.requires.ready
     (c.step_into.ensures.accepted c.if-not-step_into.false)
 
 pub live_after-journal-requires-clause-some : goal.live_after-journal-requires-clause-some
 live_after-journal-requires-clause-some c live =
-    subst (λ (n : ℕ). 1 ≤ n) (sym c.push.ensures.live)
+    subst (λ (n : ℕ). 1 ≤ n) (sym c.add.ensures.live)
     (live_some c.laws.ensures c.args.machine.now c.step_into.new.self c.args.journal.now c.args.step.now c.step_into.new.reply c.step_into.new.inverse c.requires.sound c.requires.at_end c.requires.counted c.requires.ready
     (c.step_into.ensures.accepted c.if-not-step_into.false) c.starter_of-starter.result.0 c.is_live-was.result c.is_live-is.result c.starter_of-starter.ensures c.is_live-was.ensures c.is_live-is.ensures live)
 
 pub returns-clause-added : goal.returns-clause-added
 returns-clause-added c made =
-    let pushed : Entry = record { step = c.copy.result; worker = c.args.worker; reply = c.copy-2.result } in
     let entry : Entry = record { step = c.args.step.now; worker = c.args.worker; reply = c.step_into.new.reply } in
-    let same : pushed ≡ entry = λ j. record { step = c.copy.ensures j; worker = c.args.worker; reply = c.copy-2.ensures j } in
     added c.laws.ensures c.args.machine.now c.step_into.new.self c.args.journal.now c.args.step.now c.step_into.new.reply c.step_into.new.inverse c.requires.sound c.requires.at_end c.requires.counted c.requires.ready
     (c.step_into.ensures.accepted c.if-not-step_into.false) c.starter_of-starter.result.0 c.is_live-was.result c.is_live-is.result c.starter_of-starter.ensures c.is_live-was.ensures c.is_live-is.ensures
-    entry (record { entries = c.push.new.self.entries; crossings = c.push.new.self.crossings; live = c.live_after-journal.result }) (c.step_into.ensures.back c.if-not-step_into.false)
-    (c.push.ensures.entries ∙ ap (λ (e : Entry). c.args.journal.now.entries.items ++ e ∷ []) same) c.push.ensures.inverses c.push.ensures.undone c.push.ensures.room c.push.ensures.places
-    (c.live_after-journal.ensures ∙ ap (λ (n : ℕ). n + one_if c.is_live-is.result) c.push.ensures.live)
+    entry (record { entries = c.add.new.self.entries; crossings = c.add.new.self.crossings; live = c.live_after-journal.result }) (c.step_into.ensures.back c.if-not-step_into.false)
+    c.add.ensures.entries c.add.ensures.inverses c.add.ensures.undone c.add.ensures.room c.add.ensures.places
+    (c.live_after-journal.ensures ∙ ap (λ (n : ℕ). n + one_if c.is_live-is.result) c.add.ensures.live)

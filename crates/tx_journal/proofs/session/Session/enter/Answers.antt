@@ -2,7 +2,7 @@ use Rattle.std.proofs.Common.{sym, subst}
 use Rattle.tx_journal.proofs.Aheads.{none_after, none_at_end, nothing_ahead}
 use Rattle.tx_journal.proofs.Kept.{counted_now, kept_after, sound_now}
 use Rattle.tx_journal.specs.Sessions.{session_state, IsAtEnd}
-use Rattle.tx_journal.proofs.session.Session.step_into.Goals as goal
+use Rattle.tx_journal.proofs.session.Session.enter.Goals as goal
 
 pub record-made-requires-clause-sound : goal.record-made-requires-clause-sound
 record-made-requires-clause-sound c =
