@@ -30,8 +30,8 @@ help_words() {
     esac
 }
 
-# The words after `replay`, `debug`, `json`, `picture`, `check`, `plain` or `version`, or behind
-# those of `shell`: there are none.
+# The words after `replay`, `debug`, `picture`, `check`, `plain` or `version`, or behind those of
+# `shell`: there are none.
 lone_words() {
     local command=$1
     shift
@@ -65,28 +65,34 @@ explain_words() {
     [ $# -le 1 ] || [ "$#:$2" = 2:-- ] || refuse explain "'$2' is not understood after explain"
 }
 
-# The words after `run`: its two numbers, each once.
-run_words() {
-    local workers='' turns='' name value
+# The words after `run` or `json`: the two numbers of a run, each once. Behind `json` both may be
+# missing.
+numbers_words() {
+    local command=$1 workers='' turns='' name value
+    shift
     while [ $# -gt 0 ]; do
         case $1 in
-            -h | --help) tell run ;;
+            -h | --help) tell "$command" ;;
             --workers=* | --turns=*) name=${1%%=*} value=${1#*=} ;;
             --workers | --turns)
                 name=$1 value=${2-}
-                [[ $value == [!-]* ]] || refuse run "$name wants a number"
+                [[ $value == [!-]* ]] || refuse "$command" "$name wants a number"
                 shift
                 ;;
-            --) [ $# -eq 1 ] || refuse run "'$2' is not understood after run"; break ;;
-            *) refuse run "'$1' is not understood after run" ;;
+            --) [ $# -eq 1 ] || refuse "$command" "'$2' is not understood after $command"; break ;;
+            *) refuse "$command" "'$1' is not understood after $command" ;;
         esac
         shift
         case $name in
             --workers) [ -z "$workers" ] && is_number "$value" 16 && workers=$value ;;
             --turns) [ -z "$turns" ] && is_number "$value" 10000 && turns=$value ;;
-        esac || refuse run "$name is a number from 1 on, given once: 16 workers and 10000 turns at most"
+        esac || refuse "$command" "$name is a number from 1 on, given once: 16 workers and 10000 turns at most"
     done
-    [ -n "$workers" ] && [ -n "$turns" ] || refuse run "run wants --workers and --turns"
+    case $command:${workers:+w}${turns:+t} in
+        run:wt | json:wt | json:) ;;
+        run:*) refuse run "run wants --workers and --turns" ;;
+        json:*) refuse json "json takes --workers and --turns together, or neither" ;;
+    esac
 }
 
 # Answers the words and ends the script, or returns where they ask for a run.
@@ -96,11 +102,11 @@ answer_words() {
     case $1 in
         -h | --help) tell txos ;;
         help) help_words "${@:2}" ;;
-        replay | debug | json | picture | check | plain | version) lone_words "$@" ;;
+        replay | debug | picture | check | plain | version) lone_words "$@" ;;
         shell) shell_words "${@:2}" ;;
         explain) explain_words "${@:2}" ;;
         -V | --version) tell own_version ;;
-        run) run_words "${@:2}" ;;
+        run | json) numbers_words "$@" ;;
         *) refuse txos "'$1' is no command" ;;
     esac
 }

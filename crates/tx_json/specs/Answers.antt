@@ -43,6 +43,11 @@ number_members number (Out bytes) = count_member (codes "step") number
 abbrev pub step_answer : ℕ → Reply → List Token
 step_answer number reply = begin_object ++ (number_members number reply ++ (reply_members reply ++ end_object))
 
+-- an entry of a journal: its number, the worker that made the step, the step's text, and its reply
+abbrev pub entry_answer : ℕ → ℕ → List ℕ → Reply → List Token
+entry_answer number worker step reply =
+    begin_object ++ (count_member (codes "step") number ++ (count_member (codes "worker") worker ++ (word_member (codes "text") step ++ (reply_members reply ++ end_object))))
+
 -- a position, the reply that a step would get there, and the lines of a text
 abbrev pub trial_answer : ℕ → Reply → List ℕ → List Token
 trial_answer at reply text = begin_object ++ (count_member (codes "at") at ++ (reply_members reply ++ (lines_member text ++ end_object)))

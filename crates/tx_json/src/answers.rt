@@ -1,7 +1,7 @@
 //! Writes what a line is answered, an object each.
 ghost use Rattle.std.specs.Prelude.{◌≡◌, ◌++◌, IfOk, OnOk, map, string_bytes};
 ghost use Rattle.std.specs.Str.Lines.{lines};
-ghost use Rattle.tx_json.specs.Answers.{empty_answer, error_answer, line_item, lines_answer, lines_member, number_members, position_answer, state_answer, state_key, step_answer, trial_answer};
+ghost use Rattle.tx_json.specs.Answers.{empty_answer, entry_answer, error_answer, line_item, lines_answer, lines_member, number_members, position_answer, state_answer, state_key, step_answer, trial_answer};
 ghost use Rattle.tx_json.specs.Each.{each_tokens};
 ghost use Rattle.tx_json.specs.Line.{IsLineOf};
 ghost use Rattle.tx_live.specs.Content.{view_of};
@@ -116,6 +116,30 @@ fn put_number(writer: &mut LineWriter, number: usize, reply: &Reply) -> Result<(
         | Reply::Aborted(_)
         | Reply::Out(_) => put_count(writer, "step", number as u64),
     }
+}
+
+/// An entry of a journal, of which the step is told by its text, as
+/// `{"step":7,"worker":1,"text":"2 map 0","reply":"ok","ret":0}`.
+///
+/// NoMemory where a growth is refused.
+pub fn entry_answer(
+    alloc: Global,
+    number: usize,
+    worker: u16,
+    step: &str,
+    reply: &Reply,
+) -> Result<String, NoMemory>
+    ensures { IfOk result (λ text.
+        IsLineOf (entry_answer number worker step.now reply.now) (string_bytes text)) }
+{
+    let mut writer = LineWriter::new(alloc);
+    begin_object(&mut writer)?;
+    put_count(&mut writer, "step", number as u64)?;
+    put_count(&mut writer, "worker", u64::from(worker))?;
+    put_word(&mut writer, "text", step)?;
+    put_reply(alloc, &mut writer, reply)?;
+    end_object(&mut writer)?;
+    writer.into_text()
 }
 
 /// A position, the reply that a step would get there, and the lines of a text.

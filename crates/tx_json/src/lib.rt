@@ -14,6 +14,6 @@ mod state;
 mod txns;
 
 pub use answers::{
-    empty_answer, error_answer, lines_answer, position_answer, state_answer, step_answer,
-    trial_answer,
+    empty_answer, entry_answer, error_answer, lines_answer, position_answer, state_answer,
+    step_answer, trial_answer,
 };

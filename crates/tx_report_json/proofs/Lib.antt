@@ -1,4 +1,5 @@
 pub mod Answered
+pub mod EntriesBack
 pub mod Gathered
 pub mod Lined
 pub mod MembersRead
@@ -6,6 +7,7 @@ pub mod NumbersRead
 pub mod Printable
 pub mod ProcessesRead
 pub mod RepliesRead
+pub mod RunTold
 pub mod SignalsRead
 pub mod StatesBack
 pub mod StatesPrintable

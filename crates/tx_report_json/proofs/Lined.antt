@@ -33,7 +33,7 @@ unfolding text_of
 one_line line = append-nil (line_of line)
 
 -- a line behind a text, and then the rest
-line_behind : (text line rest more : List ℕ) → more ≡ text ++ line → text ++ (line ++ rest) ≡ more ++ rest
+pub line_behind : (text line rest more : List ℕ) → more ≡ text ++ line → text ++ (line ++ rest) ≡ more ++ rest
 line_behind text line rest more is = sym (append_assoc text line rest) ∙ ap (λ (t : List ℕ). t ++ rest) (sym is)
 
 -- ---- histories of entries

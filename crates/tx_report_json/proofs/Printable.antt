@@ -15,12 +15,12 @@ use Rattle.tx_base.specs.declared.steps.Refusal.{Refusal}
 use Rattle.tx_base.specs.declared.steps.Refusal.TheVariants.{NoProcess, NotRunning, BadNumber, NumberTaken, Doomed, Parked, KillPending, Busy, Wait, NotDeliverable, FramesFull, NoTransaction, NoMemory, Deferred}
 use Rattle.tx_base.specs.declared.steps.Reply.{Reply}
 use Rattle.tx_base.specs.declared.steps.Reply.TheVariants.{Done, Ended, Committed, Aborted, Out, No}
-use Rattle.tx_json.specs.Answers.{step_answer}
+use Rattle.tx_json.specs.Answers.{entry_answer, step_answer}
 use Rattle.tx_json.specs.Each.{each_tokens}
 use Rattle.tx_json.specs.Members.{begin_list, begin_object, count_member, end_list, end_object, list_member, number_member, word_member}
-use Rattle.tx_json.specs.Replies.{missed_tokens}
+use Rattle.tx_json.specs.Replies.{missed_tokens, refusal_members, reply_members}
 use Rattle.tx_report_json.proofs.RepliesRead.{small_error}
-use Rattle.tx_report_json.specs.ReadBack.{IsTypedMissed, IsTypedReply}
+use Rattle.tx_report_json.specs.ReadBack.{IsTypedMissed, IsTypedRefusal, IsTypedReply}
 
 pub both : (ts us : List Token) → ArePrintable ts → ArePrintable us → ArePrintable (ts ++ us)
 unfolding ArePrintable
@@ -48,22 +48,22 @@ missed_printable missed typed =
     let signo = typed.signo in
     (tt, (tt, (IsNumber-decimal missed.target.0 (omega (arith, target)), (tt, (IsNumber-decimal missed.signo.0 (omega (arith, signo)), (tt, (IsNumber-decimal (error_number missed.errno) (small_error missed.errno), (tt, tt))))))))
 
-refused_printable : (refusal : Refusal) (number : ℕ) → IsTypedReply (No refusal) → ArePrintable (step_answer number (No refusal))
-unfolding ArePrintable begin_object count_member end_object word_member
-refused_printable NoProcess number typed = (tt, (tt, (tt, (tt, tt))))
-refused_printable NotRunning number typed = (tt, (tt, (tt, (tt, tt))))
-refused_printable BadNumber number typed = (tt, (tt, (tt, (tt, tt))))
-refused_printable NumberTaken number typed = (tt, (tt, (tt, (tt, tt))))
-refused_printable Doomed number typed = (tt, (tt, (tt, (tt, tt))))
-refused_printable Parked number typed = (tt, (tt, (tt, (tt, tt))))
-refused_printable KillPending number typed = (tt, (tt, (tt, (tt, tt))))
-refused_printable (Busy starter) number typed = (tt, (tt, (tt, (tt, (IsNumber-decimal starter.0 (omega (arith, typed)), (tt, tt))))))
-refused_printable Wait number typed = (tt, (tt, (tt, (tt, tt))))
-refused_printable NotDeliverable number typed = (tt, (tt, (tt, (tt, tt))))
-refused_printable FramesFull number typed = (tt, (tt, (tt, (tt, tt))))
-refused_printable NoTransaction number typed = (tt, (tt, (tt, (tt, tt))))
-refused_printable NoMemory number typed = (tt, (tt, (tt, (tt, tt))))
-refused_printable Deferred number typed = (tt, (tt, (tt, (tt, tt))))
+refusal_printable : (refusal : Refusal) → IsTypedRefusal refusal → ArePrintable (refusal_members refusal ++ end_object)
+unfolding ArePrintable count_member end_object word_member
+refusal_printable NoProcess typed = (tt, (tt, (tt, tt)))
+refusal_printable NotRunning typed = (tt, (tt, (tt, tt)))
+refusal_printable BadNumber typed = (tt, (tt, (tt, tt)))
+refusal_printable NumberTaken typed = (tt, (tt, (tt, tt)))
+refusal_printable Doomed typed = (tt, (tt, (tt, tt)))
+refusal_printable Parked typed = (tt, (tt, (tt, tt)))
+refusal_printable KillPending typed = (tt, (tt, (tt, tt)))
+refusal_printable (Busy starter) typed = (tt, (tt, (tt, (IsNumber-decimal starter.0 (omega (arith, typed)), (tt, tt)))))
+refusal_printable Wait typed = (tt, (tt, (tt, tt)))
+refusal_printable NotDeliverable typed = (tt, (tt, (tt, tt)))
+refusal_printable FramesFull typed = (tt, (tt, (tt, tt)))
+refusal_printable NoTransaction typed = (tt, (tt, (tt, tt)))
+refusal_printable NoMemory typed = (tt, (tt, (tt, tt)))
+refusal_printable Deferred typed = (tt, (tt, (tt, tt)))
 
 undelivered_printable : (items : List Missed) → All IsTypedMissed items → ArePrintable (list_member (codes "undelivered") (each_tokens missed_tokens items) ++ end_object)
 unfolding ArePrintable end_object
@@ -71,11 +71,26 @@ undelivered_printable items typed =
     both (list_member (codes "undelivered") (each_tokens missed_tokens items)) (Token.end_object ∷ [])
     (list_printable (codes "undelivered") (each_tokens missed_tokens items) (each_printable missed_tokens IsTypedMissed missed_printable items typed)) (tt, tt)
 
+-- the members of a reply, up to the end of their object
+reply_printable : (reply : Reply) → IsTypedReply reply → ArePrintable (reply_members reply ++ end_object)
+unfolding ArePrintable count_member end_object number_member word_member
+reply_printable (No refusal) typed = refusal_printable refusal typed
+reply_printable (Done ret) typed = (tt, (tt, (tt, (signed_number ret typed, (tt, tt)))))
+reply_printable Ended typed = (tt, (tt, (tt, tt)))
+reply_printable (Committed undelivered) typed = (tt, (tt, undelivered_printable undelivered.items typed))
+reply_printable (Aborted status) typed = (tt, (tt, (tt, (IsNumber-decimal status (omega (arith, typed)), (tt, tt)))))
+reply_printable (Out bytes) typed = (tt, (tt, (tt, (tt, (tt, tt)))))
+
 pub step_printable : (number : ℕ) (reply : Reply) → number < 2 ^ 64 → IsTypedReply reply → ArePrintable (step_answer number reply)
-unfolding ArePrintable begin_object count_member end_object number_member word_member
-step_printable number (No refusal) small typed = refused_printable refusal number typed
-step_printable number (Done ret) small typed = (tt, (tt, (IsNumber-decimal number small, (tt, (tt, (tt, (signed_number ret typed, (tt, tt))))))))
-step_printable number Ended small typed = (tt, (tt, (IsNumber-decimal number small, (tt, (tt, (tt, tt))))))
-step_printable number (Committed undelivered) small typed = (tt, (tt, (IsNumber-decimal number small, (tt, (tt, undelivered_printable undelivered.items typed)))))
-step_printable number (Aborted status) small typed = (tt, (tt, (IsNumber-decimal number small, (tt, (tt, (tt, (IsNumber-decimal status (omega (arith, typed)), (tt, tt))))))))
-step_printable number (Out bytes) small typed = (tt, (tt, (IsNumber-decimal number small, (tt, (tt, (tt, (tt, (tt, tt))))))))
+unfolding ArePrintable begin_object count_member
+step_printable number (No refusal) small typed = (tt, reply_printable (No refusal) typed)
+step_printable number (Done ret) small typed = (tt, (tt, (IsNumber-decimal number small, reply_printable (Done ret) typed)))
+step_printable number Ended small typed = (tt, (tt, (IsNumber-decimal number small, reply_printable Ended typed)))
+step_printable number (Committed undelivered) small typed = (tt, (tt, (IsNumber-decimal number small, reply_printable (Committed undelivered) typed)))
+step_printable number (Aborted status) small typed = (tt, (tt, (IsNumber-decimal number small, reply_printable (Aborted status) typed)))
+step_printable number (Out bytes) small typed = (tt, (tt, (IsNumber-decimal number small, reply_printable (Out bytes) typed)))
+
+pub entry_printable : (number worker : ℕ) (step : List ℕ) (reply : Reply) → number < 2 ^ 64 → worker < 2 ^ 16 → IsTypedReply reply → ArePrintable (entry_answer number worker step reply)
+unfolding ArePrintable begin_object count_member word_member
+entry_printable number worker step reply small narrow typed =
+    (tt, (tt, (IsNumber-decimal number small, (tt, (IsNumber-decimal worker (omega (arith, narrow)), (tt, (tt, reply_printable reply typed)))))))

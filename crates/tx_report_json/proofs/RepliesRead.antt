@@ -16,11 +16,11 @@ use Rattle.tx_base.specs.declared.steps.Reply.TheVariants.{Done, Ended, Committe
 use Rattle.tx_json.specs.Answers.{step_answer}
 use Rattle.tx_json.specs.Each.{each_tokens}
 use Rattle.tx_json.specs.Members.{begin_object, count_member, end_object, list_member, number_member, word_member}
-use Rattle.tx_json.specs.Replies.{missed_tokens}
+use Rattle.tx_json.specs.Replies.{missed_tokens, refusal_members, reply_members}
 use Rattle.tx_report_json.proofs.MembersRead.{list_read, IsItem}
 use Rattle.tx_report_json.proofs.NumbersRead.{bytes_read, count_read, number_read}
-use Rattle.tx_report_json.specs.ReadBack.{told_of, IsTypedMissed, IsTypedReply}
-use Rattle.tx_report_json.specs.ReadReplies.{errors, missed_at, missed_members, numbered_by, step_members}
+use Rattle.tx_report_json.specs.ReadBack.{told_of, IsTypedMissed, IsTypedRefusal, IsTypedReply}
+use Rattle.tx_report_json.specs.ReadReplies.{answer_in, errors, missed_at, missed_members, numbered_by, or_else, refusal_in, reply_in, step_members}
 use Rattle.tx_report_json.specs.Reading.{bytes_in, count_at, count_in, list_in, number_at, number_in, object_by, whole, word_in}
 
 pub small_error : (errno : Errno) → error_number errno < 2 ^ 64
@@ -64,26 +64,45 @@ undelivered_read : (items : List Missed) (rest : List Token) → All IsTypedMiss
     → list_in (codes "undelivered") missed_at (list_member (codes "undelivered") (each_tokens missed_tokens items) ++ rest) ≡ Some (items, rest)
 undelivered_read = list_read missed_at missed_tokens IsTypedMissed missed_item (codes "undelivered")
 
--- a refusal
-refused : (refusal : Refusal) (number : ℕ) → IsTypedReply (No refusal) → whole (object_by step_members (step_answer number (No refusal))) ≡ Some (None, No refusal)
-unfolding begin_object count_at count_in count_member end_object object_by step_members word_in word_member
-refused NoProcess number typed = refl
-refused NotRunning number typed = refl
-refused BadNumber number typed = refl
-refused NumberTaken number typed = refl
-refused Doomed number typed = refl
-refused Parked number typed = refl
-refused KillPending number typed = refl
-refused (Busy starter) number typed = rw (count_read starter.0 (omega (arith, typed))) refl
-refused Wait number typed = refl
-refused NotDeliverable number typed = refl
-refused FramesFull number typed = refl
-refused NoTransaction number typed = refl
-refused NoMemory number typed = refl
-refused Deferred number typed = refl
+-- the members of a refusal, and of any reply
+refusal_read : (refusal : Refusal) (rest : List Token) → IsTypedRefusal refusal → refusal_in (refusal_members refusal ++ rest) ≡ Some (No refusal, rest)
+unfolding count_at count_in count_member refusal_in word_in word_member
+refusal_read NoProcess rest typed = refl
+refusal_read NotRunning rest typed = refl
+refusal_read BadNumber rest typed = refl
+refusal_read NumberTaken rest typed = refl
+refusal_read Doomed rest typed = refl
+refusal_read Parked rest typed = refl
+refusal_read KillPending rest typed = refl
+refusal_read (Busy starter) rest typed = rw (count_read starter.0 (omega (arith, typed))) refl
+refusal_read Wait rest typed = refl
+refusal_read NotDeliverable rest typed = refl
+refusal_read FramesFull rest typed = refl
+refusal_read NoTransaction rest typed = refl
+refusal_read NoMemory rest typed = refl
+refusal_read Deferred rest typed = refl
+
+refused_reply : (refusal : Refusal) (rest : List Token) → IsTypedRefusal refusal → reply_in (refusal_members refusal ++ rest) ≡ Some (No refusal, rest)
+unfolding reply_in
+refused_reply refusal rest typed =
+    ap (λ (found : Option (Reply × List Token)). or_else found (answer_in (refusal_members refusal ++ rest))) (refusal_read refusal rest typed)
+
+pub reply_read : (reply : Reply) (rest : List Token) → IsTypedReply reply → reply_in (reply_members reply ++ rest) ≡ Some (reply, rest)
+unfolding answer_in bytes_in count_at count_in count_member number_at number_in number_member refusal_in reply_in word_in word_member
+reply_read (No refusal) rest typed = refused_reply refusal rest typed
+reply_read (Done ret) rest typed = rw (number_read ret typed) refl
+reply_read Ended rest typed = refl
+reply_read (Committed undelivered) rest typed = rw (undelivered_read undelivered.items rest typed) refl
+reply_read (Aborted status) rest typed = rw (count_read status (omega (arith, typed))) refl
+reply_read (Out bytes) rest typed = rw (bytes_read bytes.items typed) refl
+
+-- the line of a refused step, and of any step
+refused : (refusal : Refusal) (number : ℕ) → IsTypedRefusal refusal → whole (object_by step_members (step_answer number (No refusal))) ≡ Some (None, No refusal)
+unfolding begin_object end_object object_by step_members
+refused refusal number typed = rw (refusal_read refusal (Token.end_object ∷ []) typed) refl
 
 pub step_read : (number : ℕ) (reply : Reply) → number < 2 ^ 64 → IsTypedReply reply → whole (object_by step_members (step_answer number reply)) ≡ Some (told_of number reply)
-unfolding begin_object bytes_in count_at count_in count_member end_object number_at number_in number_member object_by step_members word_in word_member
+unfolding answer_in begin_object bytes_in count_at count_in count_member end_object number_at number_in number_member object_by refusal_in step_members word_in word_member
 step_read number (No refusal) small typed = refused refusal number typed
 step_read number (Done ret) small typed = rw (count_read number small, number_read ret typed) refl
 step_read number Ended small typed = rw (count_read number small) refl

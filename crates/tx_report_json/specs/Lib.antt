@@ -1,9 +1,11 @@
 pub mod Lines
 pub mod Numbers
 pub mod ReadBack
+pub mod ReadEntries
 pub mod ReadProcesses
 pub mod ReadReplies
 pub mod ReadStates
 pub mod Reading
+pub mod Runs
 pub mod Texts
 pub mod ToldStates

@@ -10,9 +10,13 @@ use Rattle.tx_base.specs.declared.steps.Reply.{Reply}
 use Rattle.tx_base.specs.declared.steps.Reply.TheVariants.{Done, Ended, Committed, Aborted, Out, No}
 use Rattle.tx_faithful.specs.Told.{IsOfKernel}
 use Rattle.tx_json.specs.Answers.{state_answer, step_answer}
+use Rattle.tx_journal.specs.declared.entry.Entry.{Entry}
+use Rattle.tx_lines.specs.Lines.{step_text}
 use Rattle.tx_model.specs.View.{View}
+use Rattle.tx_report_json.specs.ReadEntries.{entry_of_json, EntryTold}
 use Rattle.tx_report_json.specs.ReadReplies.{step_of_json}
 use Rattle.tx_report_json.specs.ReadStates.{state_of_json}
+use Rattle.tx_report_json.specs.Runs.{entry_line}
 use Rattle.tx_report_json.specs.ToldStates.{told_of_view}
 
 -- the numbers of a send that could not be delivered are those of the kernel's types
@@ -45,6 +49,15 @@ told_of number (Out bytes) = (Some number, Out bytes)
 -- the line of a step, without its end, reads back to what it tells
 abbrev pub StepsReadBack : Type 0
 StepsReadBack = (number : ℕ) (reply : Reply) → number < 2 ^ 64 → IsTypedReply reply → step_of_json (print (step_answer number reply)) ≡ Some (told_of number reply)
+
+-- what the line of an entry tells: its step by the text, of which `read_step` reads no other step
+abbrev pub told_of_entry : ℕ → Entry → EntryTold
+told_of_entry number entry = record { number = number; worker = entry.worker; step = step_text entry.step; reply = entry.reply }
+
+-- the line of an entry, without its end, reads back to what it tells
+abbrev pub EntriesReadBack : Type 0
+EntriesReadBack =
+    (number : ℕ) (entry : Entry) → number < 2 ^ 64 → entry.worker < 2 ^ 16 → IsTypedReply entry.reply → entry_of_json (print (entry_line number entry)) ≡ Some (told_of_entry number entry)
 
 -- the line of a state, without its end, reads back to the position and to what is told of the state. What is asked of the view is so after every lawful history, but that its numbers are of the kernel's types
 abbrev pub StatesReadBack : Type 0

@@ -76,23 +76,36 @@ refusal_by word tokens =
       refusal ← named_by refusals word
       Some (No refusal, tokens))
 
+-- the members of a refusal, and of any other reply
+unfoldable pub refusal_in : Read Reply
+refusal_in tokens = do
+  word ← word_in (codes "refused") tokens
+  refusal_by word.0 word.1
+
+unfoldable pub answer_in : Read Reply
+answer_in tokens = do
+  word ← word_in (codes "reply") tokens
+  reply_by word.0 word.1
+
+abbrev pub or_else : {A : Type 0} → Option A → Option A → Option A
+or_else (Some one) other = Some one
+or_else None other = other
+
+-- the members of a reply
+unfoldable pub reply_in : Read Reply
+reply_in tokens = or_else (refusal_in tokens) (answer_in tokens)
+
 -- a step that was refused, or else the number of one that was accepted, and its reply
 abbrev pub refused_members : Read (Option ℕ × Reply)
 refused_members tokens = do
-  word ← word_in (codes "refused") tokens
-  reply ← refusal_by word.0 word.1
+  reply ← refusal_in tokens
   Some ((None, reply.0), reply.1)
 
 abbrev pub accepted_members : Read (Option ℕ × Reply)
 accepted_members tokens = do
   number ← count_in (codes "step") tokens
-  word ← word_in (codes "reply") number.1
-  reply ← reply_by word.0 word.1
+  reply ← answer_in number.1
   Some ((Some number.0, reply.0), reply.1)
-
-abbrev pub or_else : {A : Type 0} → Option A → Option A → Option A
-or_else (Some one) other = Some one
-or_else None other = other
 
 unfoldable pub step_members : Read (Option ℕ × Reply)
 step_members tokens = or_else (refused_members tokens) (accepted_members tokens)

@@ -92,8 +92,9 @@ pub fn put_answer(
     }
 }
 
-/// Appends the line of the position and the state there.
-fn put_state(alloc: Global, text: &mut String, session: &Session) -> Result<(), Fault>
+/// Appends the line of the position and the state there. The only fault is `NoMemory`: some of the line
+/// may then stand behind what the text had.
+pub fn put_state(alloc: Global, text: &mut String, session: &Session) -> Result<(), Fault>
     ensures text { OnOk result (string_bytes text.new ≡ string_bytes text.old
         ++ line_of (command_line (start_of session.now) (history_of session.now.entries)
         (position_of session.now) commands.State)) }

@@ -5,7 +5,6 @@ use Rattle.tx_journal.specs.Sessions.{SessionState}
 use Rattle.tx_lines.specs.Ends.{Counts}
 use Rattle.tx_lines.specs.Lines.{most_of}
 use Rattle.tx_plain.specs.MeantPrograms.{MeansProgram, MeansProgramFrom}
-use Rattle.tx_workers.specs.RunText.{run_text}
 use Rattle.tx_lines.specs.Whole.{IsCalm, WritesWhole}
 use Rattle.tx_lines.specs.declared.faults.Fault.TheVariants as fault
 use Rattle.tx_lines.specs.declared.programs.Program.{Program}
@@ -37,11 +36,11 @@ RunsFrom left reads workers turns (Ok session) reads' = IsRunOf left workers tur
 RunsFrom left reads workers turns (Err (Text why)) reads' = MeansProgramFrom left reads (Err why) reads'
 RunsFrom left reads workers turns (Err (Work why)) reads' = Unit {0}
 
--- a program is read, and its run written, or a front of it, or nothing, as the fault says
-abbrev pub RunsText : Option (List ℕ) → Counts → Option (List ℕ) → Counts → ℕ → ℕ → Result (Unit {0}) RunFault → Counts → Option (List ℕ) → Counts → Type 0
-RunsText left reads written writes workers turns (Ok _) reads' written' writes' =
-    ((session : SessionState) × IsRunOf left workers turns session × Appends written written' (run_text session)) × IsCalm reads reads' × IsCalm writes writes'
-RunsText left reads written writes workers turns (Err (Text fault.Writer)) reads' written' writes' =
-    (session : SessionState) × IsRunOf left workers turns session × WritesWhole written writes (run_text session) (Err fault.Writer) written' writes'
-RunsText left reads written writes workers turns (Err (Text why)) reads' written' writes' = MeansProgramFrom left reads (Err why) reads' × Keeps written written'
-RunsText left reads written writes workers turns (Err (Work why)) reads' written' writes' = Keeps written written'
+-- a program is read, and what is told of its run is written, or a front of it, or nothing, as the fault says
+abbrev pub RunsText : (SessionState → List ℕ) → Option (List ℕ) → Counts → Option (List ℕ) → Counts → ℕ → ℕ → Result (Unit {0}) RunFault → Counts → Option (List ℕ) → Counts → Type 0
+RunsText told left reads written writes workers turns (Ok _) reads' written' writes' =
+    ((session : SessionState) × IsRunOf left workers turns session × Appends written written' (told session)) × IsCalm reads reads' × IsCalm writes writes'
+RunsText told left reads written writes workers turns (Err (Text fault.Writer)) reads' written' writes' =
+    (session : SessionState) × IsRunOf left workers turns session × WritesWhole written writes (told session) (Err fault.Writer) written' writes'
+RunsText told left reads written writes workers turns (Err (Text why)) reads' written' writes' = MeansProgramFrom left reads (Err why) reads' × Keeps written written'
+RunsText told left reads written writes workers turns (Err (Work why)) reads' written' writes' = Keeps written written'

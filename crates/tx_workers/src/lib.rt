@@ -24,8 +24,8 @@
 //! again the book is audited, so that as many entries were added as the shares count. `checked`
 //! compares each worker's notes with the entries of its number (`compare.rt`, `same.rt`).
 //! `run_queue` (`ready.rt`, `crew.rt`, `service.rt`) does the same with a station beside the share.
-//! `run_program` (`whole.rt`) reads a program, runs it by `run_workers` and writes the run
-//! (`text.rt`). A `Gate` is told of each turn before the lock is taken and after it is let go; by
+//! `run_from` (`whole.rt`) reads a program and runs it by `run_workers`, and `run_program` writes such
+//! a run (`text.rt`). A `Gate` is told of each turn before the lock is taken and after it is let go; by
 //! it tests say in which order turns are taken.
 
 mod compare;
@@ -55,6 +55,6 @@ pub use run::run_workers;
 pub use text::write_run;
 pub use turns::{Took, turn, turn_of};
 pub use tx_ready::Tally;
-pub use whole::{RunFault, run_program};
+pub use whole::{RunFault, run_from, run_program};
 pub use worked::Worked;
 pub use workers::Worker;

@@ -2,6 +2,7 @@
 ghost use Rattle.std.specs.Prelude.{IfOk};
 ghost use Rattle.tx_lines.specs.Ends.{IsFresh};
 ghost use Rattle.tx_lines.specs.Lines.{FitsHeader};
+ghost use Rattle.tx_workers.specs.RunText.{run_text};
 ghost use Rattle.tx_workers.specs.Texts.{IsBooted, RunsFrom, RunsText};
 
 use crate::faults::WorkFault;
@@ -46,7 +47,7 @@ where
     W: Sink,
     requires source { IsFresh (S.counts source.old) }
     requires sink { IsFresh (W.counts sink.old) }
-    ensures { RunsText (S.left source.old) (S.counts source.old) (W.written sink.old)
+    ensures { RunsText run_text (S.left source.old) (S.counts source.old) (W.written sink.old)
         (W.counts sink.old) workers turns result (S.counts source.new) (W.written sink.new)
         (W.counts sink.new) }
 {
@@ -57,9 +58,10 @@ where
     }
 }
 
-/// The session after the run of a program whose text is read. The faults are those of `run_program`, but
-/// for `Writer`.
-fn run_from<R, S>(
+/// Reads the text of a program to its end, and runs it as `run_program` does: the session of that run, for
+/// its caller to tell. The faults are those of `run_program`, but for `Writer`; after one there is no
+/// session.
+pub fn run_from<R, S>(
     rt: &R,
     alloc: Global,
     source: &mut S,

@@ -1,7 +1,7 @@
 -- The words of the program's command line.
 use Rattle.std.specs.Char.{is_ascii_digit}
 use Rattle.std.specs.Str.{bytes_eq}
-use Rattle.std.specs.Prelude.{◌≢◌, ◌==◌, ◌&&◌, ◌++◌, if◌then◌else◌, Bool, false, None, ℕ, List, [], ◌∷◌, Option, Some, codes, fold, option_and_then, option_map, pos, true}
+use Rattle.std.specs.Prelude.{◌≡◌, ◌≢◌, ◌==◌, ◌&&◌, ◌++◌, if◌then◌else◌, Bool, false, None, ℕ, List, [], ◌∷◌, Option, Some, codes, fold, is_some, option_and_then, option_map, pos, true}
 use Rattle.clap.specs.Simple.{Shape, new_rule, new_shape, on_top}
 use Rattle.clap.specs.Walk.{Rule}
 use Rattle.clap.specs.Words.{App, Row, Text, new_app, one_of, subcommand_of, with_subcommand}
@@ -10,15 +10,17 @@ use Rattle.clap.specs.declared.builder.value_parser.ValueParser.TheVariants.{Sig
 use Rattle.tx_shell.specs.declared.forms.Form.{Form}
 use Rattle.tx_shell.specs.declared.forms.Form.TheVariants as forms
 use Rattle.txos.specs.declared.words.Asked.{Asked}
-use Rattle.txos.specs.declared.words.Asked.TheVariants.{Check, Debug, Explain, Json, Picture, Plain, Replay, Run, Shell, Version}
+use Rattle.txos.specs.declared.words.Asked.TheVariants.{Check, Debug, Explain, HalfRun, Json, JsonRun, Picture, Plain, Replay, Run, Shell, Version}
 
--- an option that is required, whose value is a number from 1 to that one
+-- an option whose value is a number from 1 to that one, and one that is required
 abbrev pub number_option : Text → ℕ → Rule
 number_option name most = record (new_rule name) {
   long = Some name;
   parser = Some (Signed (pos 1) (pos most));
-  required = true;
 }
+
+abbrev pub required_option : Text → ℕ → Rule
+required_option name most = record (number_option name most) { required = true }
 
 -- a command with no words of its own
 abbrev pub text_line : Text → Shape
@@ -35,13 +37,13 @@ flag name = record (new_rule name) {
 abbrev pub shell_line : Shape
 shell_line = record (new_shape (codes "shell")) { rules = flag (codes "json") ∷ [] }
 
--- the command that runs a program, with the first of its numbers
-abbrev pub workers_line : Shape
-workers_line = record (new_shape (codes "run")) { rules = number_option (codes "workers") 16 ∷ [] }
+-- the command that answers by JSON, with the two numbers of a run, of which both may be missing
+abbrev pub json_line : Shape
+json_line = record (new_shape (codes "json")) { rules = number_option (codes "workers") 16 ∷ number_option (codes "turns") 10000 ∷ [] }
 
 -- the command that runs a program
 abbrev pub run_line : Shape
-run_line = record (new_shape (codes "run")) { rules = number_option (codes "workers") 16 ∷ number_option (codes "turns") 10000 ∷ [] }
+run_line = record (new_shape (codes "run")) { rules = required_option (codes "workers") 16 ∷ required_option (codes "turns") 10000 ∷ [] }
 
 -- the command that explains a word, which may be missing
 abbrev pub explain_line : Shape
@@ -49,7 +51,7 @@ explain_line = record (new_shape (codes "explain")) { rules = new_rule (codes "w
 
 -- the commands, in the order in which they are added: those that answer a schedule
 abbrev pub schedule_commands : List Shape
-schedule_commands = text_line (codes "replay") ∷ text_line (codes "debug") ∷ text_line (codes "json") ∷ text_line (codes "picture") ∷ []
+schedule_commands = text_line (codes "replay") ∷ text_line (codes "debug") ∷ json_line ∷ text_line (codes "picture") ∷ []
 
 -- those that make steps as they come
 abbrev pub run_commands : List Shape
@@ -75,6 +77,8 @@ abbrev pub name_of : Asked → Text
 name_of Replay = codes "replay"
 name_of Debug = codes "debug"
 name_of Json = codes "json"
+name_of (JsonRun crew) = codes "json"
+name_of HalfRun = codes "json"
 name_of Picture = codes "picture"
 name_of (Shell form) = codes "shell"
 name_of (Run crew) = codes "run"
@@ -87,18 +91,29 @@ name_of Version = codes "version"
 abbrev pub named : List Text → Option Text
 named words = option_map (λ found. found.0) (subcommand_of command_line words)
 
--- the text that a flag has in the rows of a command, where it has one
-abbrev pub flag_in : Text → Option (Text × List Row) → Option Text
-flag_in name entered = option_and_then (λ found. one_of name found.1) entered
+-- the text that a flag or an option has in the rows of a command, where it has one
+abbrev pub text_in : Text → Option (Text × List Row) → Option Text
+text_in name entered = option_and_then (λ found. one_of name found.1) entered
+
+-- whether the words give how many workers, and how many turns
+abbrev pub gives_workers : Option (Text × List Row) → Bool
+gives_workers entered = is_some (text_in (codes "workers") entered)
+
+abbrev pub gives_turns : Option (Text × List Row) → Bool
+gives_turns entered = is_some (text_in (codes "turns") entered)
 
 -- JSON is asked for only where the flag has a text other than `false`, and text only where that is not `true`
 abbrev pub IsFormOf : Option Text → Form → Type 0
 IsFormOf said forms.Text = said ≢ Some (codes "true")
 IsFormOf said forms.Json = (said ≢ None) × (said ≢ Some (codes "false"))
 
--- the form is the one that the flag of the words says
+-- the form is the one that the flag of the words says; and the JSON of a run is asked for where both of its numbers are given, and that of a schedule
+-- where neither is
 abbrev pub IsAskedIn : Option (Text × List Row) → Asked → Type 0
-IsAskedIn entered (Shell form) = IsFormOf (flag_in (codes "json") entered) form
+IsAskedIn entered (Shell form) = IsFormOf (text_in (codes "json") entered) form
+IsAskedIn entered Json = (gives_workers entered ≡ false) × (gives_turns entered ≡ false)
+IsAskedIn entered (JsonRun crew) = (gives_workers entered ≡ true) × (gives_turns entered ≡ true)
+IsAskedIn entered HalfRun = gives_workers entered ≢ gives_turns entered
 IsAskedIn entered asked = Unit {0}
 
 -- `-` and then a digit, and maybe more

@@ -2,16 +2,18 @@
 //!
 //! The program. `main` is thin: it reads the words with `clap`, calls `replay`, `debug`, `write_json`,
 //! `picture`, `talk`, `run_program`, `check` or `write_plain` over the standard streams, or writes what a
-//! word means, and answers a status.
+//! word means or what a run did as JSON (`runs.rt`), and answers a status.
 #![tactic(auto)]
 
 ghost use Rattle.std.specs.Prelude.{◌≡◌, IfOk, OnErr, OnOk, false, true};
 ghost use Rattle.std.specs.Process.{exit_status};
 ghost use Rattle.tx_lines.specs.Ends.{IsFresh};
 
+mod runs;
 mod words;
 
 use clap::error::ErrorKind;
+use runs::write_run_json;
 use std::alloc::Global;
 use std::fmt::Display;
 use std::io::{BufReader, IsTerminal};
@@ -96,6 +98,10 @@ where
         Asked::Replay => status_of(rt, replay(alloc, source, sink)),
         Asked::Debug => status_of(rt, debug(alloc, source, sink)),
         Asked::Json => status_of(rt, write_json(alloc, source, sink)),
+        Asked::JsonRun(Crew { workers, turns }) => {
+            status_of(rt, write_run_json(rt, alloc, source, sink, workers, turns))
+        }
+        Asked::HalfRun => half_run(rt),
         Asked::Shell(form) => status_of(rt, converse(rt, alloc, form, prompts)),
         Asked::Run(Crew { workers, turns }) => {
             status_of(rt, run_program(rt, alloc, source, sink, workers, turns))
@@ -156,6 +162,16 @@ fn unexplained(rt: &impl Eprint, alloc: Global, word: &str) -> ExitCode {
     if let Some(near) = near {
         let _ = eprintln!(rt; "  tip: a similar word exists: '{near}'");
     }
+    ExitCode::from(UNREAD)
+}
+
+/// Says that the words give one of the numbers of a run alone, in the form of what clap says.
+fn half_run(rt: &impl Eprint) -> ExitCode
+    ensures { exit_status result ≡ UNREAD }
+{
+    let _ = eprintln!(rt; "error: json takes --workers and --turns together, or neither\n");
+    let _ = eprintln!(rt; "Usage: txos json [OPTIONS]\n");
+    let _ = eprintln!(rt; "For more information, try '--help'.");
     ExitCode::from(UNREAD)
 }
 

@@ -2,10 +2,11 @@
 ghost use Rattle.std.specs.Prelude.{◌≡◌, IfOk, Some, codes, false, fold, map, option_map, string_bytes};
 ghost use Rattle.clap.specs.Words.{FailsBy, app_of, fault_of, subcommand_name_of, subcommand_of, with_subcommand};
 ghost use Rattle.clap.specs.Simple.{subcommand_rows_of};
+ghost use Rattle.clap.specs.Walk.{rule_of};
 ghost use Rattle.clap.specs.declared.builder.command.Command.TheViews.{out-Command};
-ghost use Rattle.txos.specs.CommandLine.{asked_number, begins_negative, command_line, explain_line, flag_in};
-ghost use Rattle.txos.specs.CommandLine.{IsAskedIn, IsFormOf, name_of, named, number_behind, run_line, shell_line, text_line};
-ghost use Rattle.txos.specs.CommandLine.{run_commands, schedule_commands, text_commands, top_line, workers_line};
+ghost use Rattle.txos.specs.CommandLine.{asked_number, begins_negative, command_line, explain_line, json_line};
+ghost use Rattle.txos.specs.CommandLine.{IsAskedIn, IsFormOf, name_of, named, number_behind, number_option, run_line};
+ghost use Rattle.txos.specs.CommandLine.{run_commands, schedule_commands, shell_line, text_commands, text_in, text_line, top_line};
 
 use clap::error::Error;
 use clap::{Arg, ArgAction, ArgMatches, Command, value_parser};
@@ -28,6 +29,10 @@ pub enum Asked<'a> {
     Debug,
     /// To read a schedule, or one with commands, and write what it is answered as JSON.
     Json,
+    /// To read a program, run it by workers, and write what they did as JSON.
+    JsonRun(Crew),
+    /// To say that JSON of a run wants both of its numbers, of which the words give one.
+    HalfRun,
     /// To read a schedule, make its steps, and write a picture of them.
     Picture,
     /// To read steps and commands line by line, and answer each before the next, in that form.
@@ -66,10 +71,10 @@ pub fn read_words<'a>(alloc: Global, words: &'a [String]) -> Result<Asked<'a>, E
     match matches.subcommand_name() {
         Some("replay") => Ok(Asked::Replay),
         Some("debug") => Ok(Asked::Debug),
-        Some("json") => Ok(Asked::Json),
+        Some("json") => Ok(json_of(&matches)?),
         Some("picture") => Ok(Asked::Picture),
         Some("shell") => Ok(Asked::Shell(form_of(&matches))),
-        Some("run") => Ok(Asked::Run(crew_of(&matches)?)),
+        Some("run") => Ok(Asked::Run(crew_of(&matches, "run")?)),
         Some("check") => Ok(Asked::Check),
         Some("plain") => Ok(Asked::Plain),
         Some("explain") => Ok(Asked::Explain(word_of(&matches))),
@@ -113,7 +118,7 @@ fn is_negative(word: &str) -> bool
 /// The form of answers that the words of `shell` give.
 fn form_of(matches: &ArgMatches<'_>) -> Form
     requires { subcommand_name_of matches.now ≡ Some (codes "shell") }
-    ensures { IsFormOf (flag_in (codes "json") (subcommand_rows_of matches.now)) result }
+    ensures { IsFormOf (text_in (codes "json") (subcommand_rows_of matches.now)) result }
 {
     let Some(shell) = matches.subcommand_matches("shell") else {
         unreachable!()
@@ -125,12 +130,33 @@ fn form_of(matches: &ArgMatches<'_>) -> Form
     }
 }
 
-/// The numbers that the words of `run` give. Clap gives no matches without both.
-fn crew_of(matches: &ArgMatches<'_>) -> Result<Crew, AllocError> {
-    let run = matches.subcommand_matches("run").ok_or(AllocError)?;
+/// What the words of `json` ask for.
+fn json_of<'a>(matches: &ArgMatches<'_>) -> Result<Asked<'a>, AllocError>
+    requires { subcommand_name_of matches.now ≡ Some (codes "json") }
+    ensures name { IfOk result (λ asked. name_of asked ≡ codes "json") }
+    ensures asked { IfOk result (IsAskedIn (subcommand_rows_of matches.now)) }
+{
+    let Some(json) = matches.subcommand_matches("json") else {
+        unreachable!()
+    };
+    let workers = json.get_str("workers").is_some();
+    let turns = json.get_str("turns").is_some();
+    if workers != turns {
+        return Ok(Asked::HalfRun);
+    }
+    if workers {
+        Ok(Asked::JsonRun(crew_of(matches, "json")?))
+    } else {
+        Ok(Asked::Json)
+    }
+}
+
+/// The two numbers that the words of a command give. Clap gives no matches of it whose numbers are none.
+fn crew_of(matches: &ArgMatches<'_>, command: &str) -> Result<Crew, AllocError> {
+    let given = matches.subcommand_matches(command).ok_or(AllocError)?;
     Ok(Crew {
-        workers: run.get_one::<u16>("workers").ok_or(AllocError)?,
-        turns: run.get_one::<u32>("turns").ok_or(AllocError)?,
+        workers: given.get_one::<u16>("workers").ok_or(AllocError)?,
+        turns: given.get_one::<u32>("turns").ok_or(AllocError)?,
     })
 }
 
@@ -157,7 +183,7 @@ fn add_schedules<'a>(alloc: Global, line: Command<'a>) -> Result<Command<'a>, Al
     let command = line
         .subcommand(text_command(alloc, "replay", REPLAY)?)?
         .subcommand(text_command(alloc, "debug", DEBUG)?)?
-        .subcommand(text_command(alloc, "json", JSON)?)?
+        .subcommand(json_command(alloc)?)?
         .subcommand(text_command(alloc, "picture", PICTURE)?)?;
     Ok(command)
 }
@@ -214,7 +240,7 @@ const DEBUG: Told = Told {
 };
 
 const JSON: Told = Told {
-    about: "Reads a schedule, maybe with commands, and writes what it is answered as JSON",
+    about: "Reads a schedule, maybe with commands, or runs a program, and answers in JSON",
     example: "Example: txos json < examples/first.txos",
 };
 
@@ -283,30 +309,54 @@ fn shell_command<'a>(alloc: Global) -> Result<Command<'a>, AllocError>
     told_command(alloc, "shell", SHELL).arg(json)
 }
 
+/// The command that answers by JSON, with the two numbers of a run.
+fn json_command<'a>(alloc: Global) -> Result<Command<'a>, AllocError>
+    ensures shape { IfOk result (λ command. (app_of command).top ≡ json_line) }
+    ensures local { IfOk result (λ command. (out-Command command).has_globals ≡ false) }
+{
+    let workers = workers_option(alloc).help(
+        "Run a program by so many workers, 1 to 16; wants --turns",
+    );
+    let turns = turns_option(alloc).help(
+        "How many turns each worker takes, 1 to 10000; wants --workers",
+    );
+    let command = told_command(alloc, "json", JSON).arg(workers)?;
+    command.arg(turns)
+}
+
 /// The command that runs a program, with its two numbers, both required.
 fn run_command<'a>(alloc: Global) -> Result<Command<'a>, AllocError>
     ensures shape { IfOk result (λ command. (app_of command).top ≡ run_line) }
     ensures local { IfOk result (λ command. (out-Command command).has_globals ≡ false) }
 {
-    let turns = Arg::new(alloc, "turns")
-        .long("turns")
+    let workers = workers_option(alloc)
+        .help("How many workers, 1 to 16")
+        .required(true);
+    let turns = turns_option(alloc)
         .help("How many turns each worker takes, 1 to 10000")
-        .required(true)
-        .value_parser(value_parser!(u32).range(1..=10_000));
-    workers_command(alloc)?.arg(turns)
+        .required(true);
+    let command = told_command(alloc, "run", RUN).arg(workers)?;
+    command.arg(turns)
 }
 
-/// The command that runs a program, with the first of its numbers.
-fn workers_command<'a>(alloc: Global) -> Result<Command<'a>, AllocError>
-    ensures shape { IfOk result (λ command. (app_of command).top ≡ workers_line) }
-    ensures local { IfOk result (λ command. (out-Command command).has_globals ≡ false) }
+/// The option that says how many workers there are.
+fn workers_option<'a>(alloc: Global) -> Arg<'a>
+    ensures rule { rule_of result ≡ number_option (codes "workers") 16 }
+    ensures local { result.global ≡ false }
 {
-    let workers = Arg::new(alloc, "workers")
+    Arg::new(alloc, "workers")
         .long("workers")
-        .help("How many workers, 1 to 16")
-        .required(true)
-        .value_parser(value_parser!(u16).range(1..=16));
-    told_command(alloc, "run", RUN).arg(workers)
+        .value_parser(value_parser!(u16).range(1..=16))
+}
+
+/// The option that says how many turns each worker takes.
+fn turns_option<'a>(alloc: Global) -> Arg<'a>
+    ensures rule { rule_of result ≡ number_option (codes "turns") 10000 }
+    ensures local { result.global ≡ false }
+{
+    Arg::new(alloc, "turns")
+        .long("turns")
+        .value_parser(value_parser!(u32).range(1..=10_000))
 }
 
 /// The command that says what a word means, with the word, which may be missing.

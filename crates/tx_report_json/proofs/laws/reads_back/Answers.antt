@@ -1,3 +1,4 @@
+use Rattle.tx_report_json.proofs.EntriesBack.{entries_read_back}
 use Rattle.tx_report_json.proofs.StatesBack.{states_read_back}
 use Rattle.tx_report_json.proofs.StepsBack.{steps_read_back}
 use Rattle.tx_report_json.proofs.laws.reads_back.Goals as goal
@@ -7,3 +8,6 @@ returns-clause-steps c = steps_read_back
 
 pub returns-clause-states : goal.returns-clause-states
 returns-clause-states c = states_read_back
+
+pub returns-clause-entries : goal.returns-clause-entries
+returns-clause-entries c = entries_read_back

@@ -1,7 +1,7 @@
 use Rattle.std.proofs.Common.{rules, ◌≡◌, ◌∙◌, ℕ, List, Option, Some, Bor, ap, codes, inl, inr, map, option_map, string_bytes, subst, sym}
 use Rattle.txos.proofs.CommandNamed.{SomeOneOf, command_names, fault_kind, no_fault, no_fault_names, parse_names, parse_rows}
 use Rattle.clap.specs.Words.{Row, Text}
-use Rattle.txos.specs.CommandLine.{flag_in, IsFormOf}
+use Rattle.txos.specs.CommandLine.{text_in, IsAskedIn, IsFormOf}
 use Rattle.txos.proofs.words.read_words.Goals as goal
 
 pub returns-in-Some-replay-clause-reads : goal.returns-in-Some-replay-clause-reads
@@ -79,7 +79,7 @@ pub returns-in-Some-json-clause-asked : goal.returns-in-Some-json-clause-asked
 returns-in-Some-json-clause-asked c =
     let name : c.in-Some-json.field-0.now ≡ codes "json" = search rules in
     parse_names _ _ _ c.in_ok-command.ensures c.in_ok-matches.ensures.matches ∙ sym c.subcommand_name.ensures
-    ∙ ap (option_map (λ (s : Bor (List ℕ)). s.now)) c.in-Some-json.is ∙ ap (λ (t : List ℕ). Some t) name
+    ∙ ap (option_map (λ (s : Bor (List ℕ)). s.now)) c.in-Some-json.is ∙ ap (λ (t : List ℕ). Some t) (name ∙ sym c.in_ok-json_of-in-Some-json.ensures.name)
 
 pub returns-in-Some-shell-clause-asked : goal.returns-in-Some-shell-clause-asked
 returns-in-Some-shell-clause-asked c =
@@ -99,9 +99,14 @@ returns-in-Some-version-clause-asked c =
     parse_names _ _ _ c.in_ok-command.ensures c.in_ok-matches.ensures.matches ∙ sym c.subcommand_name.ensures
     ∙ ap (option_map (λ (s : Bor (List ℕ)). s.now)) c.in-Some-version.is ∙ ap (λ (t : List ℕ). Some t) name
 
+pub returns-in-Some-json-clause-form : goal.returns-in-Some-json-clause-form
+returns-in-Some-json-clause-form c =
+    subst (λ (rows : Option (Text × List Row)). IsAskedIn rows c.in_ok-json_of-in-Some-json.field-0)
+    (sym (parse_rows _ _ _ c.in_ok-command.ensures c.in_ok-matches.ensures.matches)) c.in_ok-json_of-in-Some-json.ensures.asked
+
 pub returns-in-Some-shell-clause-form : goal.returns-in-Some-shell-clause-form
 returns-in-Some-shell-clause-form c =
-    subst (λ (rows : Option (Text × List Row)). IsFormOf (flag_in (codes "json") rows) c.form_of.result)
+    subst (λ (rows : Option (Text × List Row)). IsFormOf (text_in (codes "json") rows) c.form_of.result)
     (sym (parse_rows _ _ _ c.in_ok-command.ensures c.in_ok-matches.ensures.matches)) c.form_of.ensures
 
 pub unreachable-requires : goal.unreachable-requires
