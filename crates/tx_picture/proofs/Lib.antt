@@ -1,9 +1,11 @@
+pub mod Boxes
 pub mod DrawnSteps
 pub mod Followed
 pub mod Made
 pub mod Mapped
 pub mod Numbered
 pub mod OneMore
+pub mod OpenBoxes
 pub mod PictureFormed
 pub mod Told
 pub mod WellFormed

@@ -1,15 +1,16 @@
 -- Each part of a picture is well formed, and so is the whole.
-use Rattle.std.proofs.Common.{ℕ, ◌+◌, List, [], ◌∷◌, ◌++◌, Bool, codes, refl, true, false, length, Option, Some, None}
+use Rattle.std.proofs.Common.{ℕ, ◌+◌, ◌==◌, List, [], ◌∷◌, ◌++◌, Bool, codes, refl, true, false, if◌then◌else◌, length, Option, Some, None}
 use Rattle.std.specs.Fmt.{decimal}
 use Rattle.std.specs.List.{flat_map}
 use Rattle.tx_base.specs.declared.names.Pid.{Pid}
 use Rattle.tx_model.specs.Events.{process_of}
 use Rattle.tx_picture.proofs.WellFormed.{a_number, a_word, each_formed, meanings_formed, shape_formed, style_formed, words_formed}
+use Rattle.tx_picture.specs.Arrows.{bent_text, passage_text, straight_text}
 use Rattle.tx_picture.specs.Columns.{columns_of}
 use Rattle.tx_picture.specs.Drawn.{Drawn}
 use Rattle.tx_picture.specs.Held.{end_at, held_text, kept_text, sent_text, signal_by, signal_text}
 use Rattle.tx_picture.specs.Layout.{words_left, x_of, y_of}
-use Rattle.tx_picture.specs.Pictures.{between, head_text, height_of, inner_text, legend_text, meanings_text, moved_text, picture_of, seen_text, size_text, style_text, width_of}
+use Rattle.tx_picture.specs.Pictures.{between, drawn_text, head_text, height_of, inner_text, legend_text, meanings_text, moved_text, picture_of, seen_text, size_text, style_text, width_of}
 use Rattle.tx_picture.specs.Steps.{label_text, line_text, mark_class, mark_text, row_text, rows_text, tie_text, tied_text, words_of}
 use Rattle.tx_picture.specs.Stretches.{bar_text, lane_text, last_row, strip_class, strip_text}
 use Rattle.tx_picture.specs.Svg.{attribute, numbered, shape_text, worded, words_text}
@@ -17,6 +18,7 @@ use Rattle.tx_picture.specs.Ties.{tie_of}
 use Rattle.tx_picture.specs.WellFormed.{AreAttributes, IsValue, IsWellFormed, one, more, numeral, word, joined, nothing, holding, beside}
 use Rattle.tx_picture.specs.declared.elements.Shape.TheVariants.{Ellipse, Line, Rect}
 use Rattle.tx_picture.specs.declared.held.Place.{Place}
+use Rattle.tx_picture.specs.declared.passages.Passage.{Passage}
 use Rattle.tx_picture.specs.declared.rows.Row.{Row}
 use Rattle.tx_picture.specs.declared.spans.End.{End}
 use Rattle.tx_picture.specs.declared.spans.Span.{Span}
@@ -36,6 +38,13 @@ lane_formed columns last lane =
     let bottom = y_of (last_row last lane.end) + 8 in
     beside (shape_text Line (codes "lane") (record { 0 = x; 1 = y_of lane.from; 2 = x; 3 = bottom })) (bar_text x bottom lane.end)
     (shape_formed Line (codes "lane") (record { 0 = x; 1 = y_of lane.from; 2 = x; 3 = bottom })) (bar_formed x bottom lane.end)
+
+apart_formed : (x to : ℕ) (passage : Passage) (same : Bool) → IsWellFormed (if same then bent_text x passage else straight_text x to passage)
+apart_formed x to passage true = beside (shape_text Line (codes "bend") _) (shape_text Line (codes "pipe") _) (shape_formed Line (codes "bend") _) (shape_formed Line (codes "pipe") _)
+apart_formed x to passage false = shape_formed Line (codes "pipe") _
+
+passage_formed : (columns : List Pid) (passage : Passage) → IsWellFormed (passage_text columns passage)
+passage_formed columns passage = apart_formed (x_of columns passage.writer.0) (x_of columns passage.reader.0) passage (passage.writer.0 == passage.reader.0)
 
 kept_formed : (place : Place) (bottom : ℕ) → IsWellFormed (kept_text place bottom)
 kept_formed place bottom = beside (shape_text Line (codes "held") _) (shape_text Line (codes "held") _) (shape_formed Line (codes "held") _) (shape_formed Line (codes "held") _)
@@ -108,19 +117,25 @@ legend_formed y =
     holding (codes "g") (attribute (codes "transform") value) meanings_text refl
     (one (codes "transform") value refl (between_value (codes "translate(72,") (codes ")") y (word (codes "translate(72,")) (word (codes ")")))) meanings_formed
 
-inner_formed : (columns : List Pid) (drawn : Drawn) → IsWellFormed (inner_text columns drawn)
-inner_formed columns drawn =
+drawn_formed : (columns : List Pid) (drawn : Drawn) → IsWellFormed (drawn_text columns drawn)
+unfolding drawn_text
+drawn_formed columns drawn =
     let last = length drawn.rows in
-    let heads = flat_map (head_text columns) columns in
     let strips = flat_map (strip_text columns last) drawn.strips in
     let lanes = flat_map (lane_text columns last) drawn.lanes in
+    let passages = flat_map (passage_text columns) drawn.passages in
     let rows = rows_text columns drawn.strips last 1 drawn.rows in
-    let legend = legend_text (y_of last + 32) in
-    beside style_text (heads ++ (strips ++ (lanes ++ (rows ++ legend)))) style_formed
-    (beside heads (strips ++ (lanes ++ (rows ++ legend))) (each_formed (head_text columns) columns (λ process. words_formed (codes "head") (x_of columns process.0) 28 (decimal process.0)))
-    (beside strips (lanes ++ (rows ++ legend)) (each_formed (strip_text columns last) drawn.strips (strip_formed columns last))
-    (beside lanes (rows ++ legend) (each_formed (lane_text columns last) drawn.lanes (lane_formed columns last))
-    (beside rows legend (rows_formed columns drawn.strips last 1 drawn.rows) (legend_formed (y_of last + 32))))))
+    beside strips (lanes ++ (passages ++ rows)) (each_formed (strip_text columns last) drawn.strips (strip_formed columns last))
+    (beside lanes (passages ++ rows) (each_formed (lane_text columns last) drawn.lanes (lane_formed columns last))
+    (beside passages rows (each_formed (passage_text columns) drawn.passages (passage_formed columns)) (rows_formed columns drawn.strips last 1 drawn.rows)))
+
+inner_formed : (columns : List Pid) (drawn : Drawn) → IsWellFormed (inner_text columns drawn)
+inner_formed columns drawn =
+    let heads = flat_map (head_text columns) columns in
+    let legend = legend_text (y_of (length drawn.rows) + 32) in
+    beside style_text (heads ++ (drawn_text columns drawn ++ legend)) style_formed
+    (beside heads (drawn_text columns drawn ++ legend) (each_formed (head_text columns) columns (λ process. words_formed (codes "head") (x_of columns process.0) 28 (decimal process.0)))
+    (beside (drawn_text columns drawn) legend (drawn_formed columns drawn) (legend_formed (y_of (length drawn.rows) + 32))))
 
 -- the whole picture
 pub picture_formed : (drawn : Drawn) → IsWellFormed (picture_of drawn)

@@ -52,8 +52,8 @@ with_word name bytes rest named are = more (worded name bytes) rest (a_word name
 -- each part of what stands in every picture
 pub style_formed : IsWellFormed style_text
 unfolding style_text
-style_formed = beside _ _ (words (codes "\n")) (beside _ _ (holding (codes "style") _ _ refl none (words (codes "\ntext{font:13px monospace;fill:#000}\n.number{fill:#555;text-anchor:end}\n.head{font-weight:bold;text-anchor:middle}\nline{stroke:#000;stroke-width:2}\n.guide{stroke:#999;stroke-width:1;stroke-dasharray:1 4}\n.end{stroke-width:3}\n.refusal{stroke-dasharray:5 3;marker-end:url(#head)}\n.signal{stroke-width:1.5;marker-end:url(#head)}\n.held{stroke-width:1.5}\n.dropped{stroke-width:3}\n.accepted{fill:#000}\n.refused{fill:#fff;stroke:#000;stroke-width:2}\n.committed{fill:url(#committed);stroke:#0072b2;stroke-width:2}\n.aborted{fill:url(#aborted);stroke:#d55e00;stroke-width:2;stroke-dasharray:6 3}\n.open{fill:#eee;stroke:#555;stroke-width:2;stroke-dasharray:2 3}\n"))) (beside _ _ (holding (codes "defs") _ _ refl none (beside _ _ (holding (codes "pattern") _ _ refl (with_word (codes "id") (codes "committed") _ refl (with_word (codes "width") (codes "8") _ refl (with_word (codes "height") (codes "8") _ refl (with_word (codes "patternUnits") (codes "userSpaceOnUse") _ refl none)))) (beside _ _ (empty (codes "rect") _ refl (with_word (codes "width") (codes "8") _ refl (with_word (codes "height") (codes "8") _ refl (with_word (codes "fill") (codes "#e1f0fa") _ refl none)))) (empty (codes "path") _ refl (with_word (codes "d") (codes "M-2,2 L2,-2 M0,8 L8,0 M6,10 L10,6") _ refl (with_word (codes "stroke") (codes "#56b4e9") _ refl none))))) (beside _ _ (holding (codes "pattern") _ _ refl (with_word (codes "id") (codes "aborted") _ refl (with_word (codes "width") (codes "8") _ refl (with_word (codes "height") (codes "8") _ refl (with_word (codes "patternUnits") (codes "userSpaceOnUse") _ refl none)))) (beside _ _ (empty (codes "rect") _ refl (with_word (codes "width") (codes "8") _ refl (with_word (codes "height") (codes "8") _ refl (with_word (codes "fill") (codes "#fdf0e3") _ refl none)))) (empty (codes "path") _ refl (with_word (codes "d") (codes "M-2,6 L2,10 M0,0 L8,8 M6,-2 L10,2 M-2,2 L2,-2 M0,8 L8,0 M6,10 L10,6") _ refl (with_word (codes "stroke") (codes "#e69f00") _ refl none))))) (holding (codes "marker") _ _ refl (with_word (codes "id") (codes "head") _ refl (with_word (codes "viewBox") (codes "0 0 10 10") _ refl (with_word (codes "refX") (codes "9") _ refl (with_word (codes "refY") (codes "5") _ refl (with_word (codes "markerWidth") (codes "7") _ refl (with_word (codes "markerHeight") (codes "7") _ refl (with_word (codes "orient") (codes "auto") _ refl none))))))) (empty (codes "path") _ refl (with_word (codes "d") (codes "M0,0 L10,5 L0,10 z") _ refl none)))))) (beside _ _ (empty (codes "rect") _ refl (with_word (codes "width") (codes "100%") _ refl (with_word (codes "height") (codes "100%") _ refl (with_word (codes "fill") (codes "#fff") _ refl none)))) (holding (codes "text") _ _ refl (with_word (codes "class") (codes "number") _ refl (with_word (codes "x") (codes "64") _ refl (with_word (codes "y") (codes "28") _ refl none))) (words (codes "process"))))))
+style_formed = beside _ _ (words (codes "\n")) (beside _ _ (holding (codes "style") _ _ refl none (words (codes "\ntext{font:13px monospace;fill:#000}\n.number{fill:#555;text-anchor:end}\n.head{font-weight:bold;text-anchor:middle}\nline{stroke:#000;stroke-width:2}\n.guide{stroke:#999;stroke-width:1;stroke-dasharray:1 4}\n.end{stroke-width:3}\n.refusal{stroke-dasharray:5 3;marker-end:url(#head)}\n.signal{stroke-width:1.5;marker-end:url(#head)}\n.held{stroke-width:1.5;stroke-dasharray:2 2}\n.dropped{stroke-width:3}\n.bend{stroke-width:1.5;stroke-dasharray:8 3 2 3}\n.pipe{stroke-width:1.5;stroke-dasharray:8 3 2 3;marker-end:url(#taken)}\n.accepted{fill:#000}\n.refused{fill:#fff;stroke:#000;stroke-width:2}\n.committed{fill:url(#committed);stroke:#0072b2;stroke-width:2}\n.aborted{fill:url(#aborted);stroke:#d55e00;stroke-width:2;stroke-dasharray:6 3}\n.open{fill:#eee;stroke:#555;stroke-width:2;stroke-dasharray:2 3}\n"))) (beside _ _ (holding (codes "defs") _ _ refl none (beside _ _ (holding (codes "pattern") _ _ refl (with_word (codes "id") (codes "committed") _ refl (with_word (codes "width") (codes "8") _ refl (with_word (codes "height") (codes "8") _ refl (with_word (codes "patternUnits") (codes "userSpaceOnUse") _ refl none)))) (beside _ _ (empty (codes "rect") _ refl (with_word (codes "width") (codes "8") _ refl (with_word (codes "height") (codes "8") _ refl (with_word (codes "fill") (codes "#e1f0fa") _ refl none)))) (empty (codes "path") _ refl (with_word (codes "d") (codes "M-2,2 L2,-2 M0,8 L8,0 M6,10 L10,6") _ refl (with_word (codes "stroke") (codes "#56b4e9") _ refl none))))) (beside _ _ (holding (codes "pattern") _ _ refl (with_word (codes "id") (codes "aborted") _ refl (with_word (codes "width") (codes "8") _ refl (with_word (codes "height") (codes "8") _ refl (with_word (codes "patternUnits") (codes "userSpaceOnUse") _ refl none)))) (beside _ _ (empty (codes "rect") _ refl (with_word (codes "width") (codes "8") _ refl (with_word (codes "height") (codes "8") _ refl (with_word (codes "fill") (codes "#fdf0e3") _ refl none)))) (empty (codes "path") _ refl (with_word (codes "d") (codes "M-2,6 L2,10 M0,0 L8,8 M6,-2 L10,2 M-2,2 L2,-2 M0,8 L8,0 M6,10 L10,6") _ refl (with_word (codes "stroke") (codes "#e69f00") _ refl none))))) (beside _ _ (holding (codes "marker") _ _ refl (with_word (codes "id") (codes "head") _ refl (with_word (codes "viewBox") (codes "0 0 10 10") _ refl (with_word (codes "refX") (codes "9") _ refl (with_word (codes "refY") (codes "5") _ refl (with_word (codes "markerWidth") (codes "7") _ refl (with_word (codes "markerHeight") (codes "7") _ refl (with_word (codes "orient") (codes "auto") _ refl none))))))) (empty (codes "path") _ refl (with_word (codes "d") (codes "M0,0 L10,5 L0,10 z") _ refl none))) (holding (codes "marker") _ _ refl (with_word (codes "id") (codes "taken") _ refl (with_word (codes "viewBox") (codes "0 0 10 10") _ refl (with_word (codes "refX") (codes "14") _ refl (with_word (codes "refY") (codes "5") _ refl (with_word (codes "markerWidth") (codes "8") _ refl (with_word (codes "markerHeight") (codes "8") _ refl (with_word (codes "orient") (codes "auto") _ refl none))))))) (empty (codes "path") _ refl (with_word (codes "d") (codes "M1,1 L9,5 L1,9 z") _ refl (with_word (codes "fill") (codes "#fff") _ refl (with_word (codes "stroke") (codes "#000") _ refl none))))))))) (beside _ _ (empty (codes "rect") _ refl (with_word (codes "width") (codes "100%") _ refl (with_word (codes "height") (codes "100%") _ refl (with_word (codes "fill") (codes "#fff") _ refl none)))) (holding (codes "text") _ _ refl (with_word (codes "class") (codes "number") _ refl (with_word (codes "x") (codes "64") _ refl (with_word (codes "y") (codes "28") _ refl none))) (words (codes "process"))))))
 
 pub meanings_formed : IsWellFormed meanings_text
 unfolding meanings_text
-meanings_formed = beside _ _ (words (codes "\n")) (beside _ _ (empty (codes "rect") _ refl (with_word (codes "class") (codes "committed") _ refl (with_word (codes "width") (codes "24") _ refl (with_word (codes "height") (codes "16") _ refl none)))) (beside _ _ (holding (codes "text") _ _ refl (with_word (codes "x") (codes "32") _ refl (with_word (codes "y") (codes "13") _ refl none)) (words (codes "committed"))) (beside _ _ (empty (codes "rect") _ refl (with_word (codes "class") (codes "aborted") _ refl (with_word (codes "x") (codes "120") _ refl (with_word (codes "width") (codes "24") _ refl (with_word (codes "height") (codes "16") _ refl none))))) (beside _ _ (holding (codes "text") _ _ refl (with_word (codes "x") (codes "152") _ refl (with_word (codes "y") (codes "13") _ refl none)) (words (codes "aborted"))) (beside _ _ (empty (codes "rect") _ refl (with_word (codes "class") (codes "open") _ refl (with_word (codes "x") (codes "224") _ refl (with_word (codes "width") (codes "24") _ refl (with_word (codes "height") (codes "16") _ refl none))))) (beside _ _ (holding (codes "text") _ _ refl (with_word (codes "x") (codes "256") _ refl (with_word (codes "y") (codes "13") _ refl none)) (words (codes "open"))) (beside _ _ (empty (codes "ellipse") _ refl (with_word (codes "class") (codes "refused") _ refl (with_word (codes "cx") (codes "312") _ refl (with_word (codes "cy") (codes "8") _ refl (with_word (codes "rx") (codes "5") _ refl (with_word (codes "ry") (codes "5") _ refl none)))))) (holding (codes "text") _ _ refl (with_word (codes "x") (codes "324") _ refl (with_word (codes "y") (codes "13") _ refl none)) (words (codes "refused"))))))))))
+meanings_formed = beside _ _ (words (codes "\n")) (beside _ _ (empty (codes "rect") _ refl (with_word (codes "class") (codes "committed") _ refl (with_word (codes "width") (codes "24") _ refl (with_word (codes "height") (codes "16") _ refl none)))) (beside _ _ (holding (codes "text") _ _ refl (with_word (codes "x") (codes "32") _ refl (with_word (codes "y") (codes "13") _ refl none)) (words (codes "committed"))) (beside _ _ (empty (codes "rect") _ refl (with_word (codes "class") (codes "aborted") _ refl (with_word (codes "x") (codes "120") _ refl (with_word (codes "width") (codes "24") _ refl (with_word (codes "height") (codes "16") _ refl none))))) (beside _ _ (holding (codes "text") _ _ refl (with_word (codes "x") (codes "152") _ refl (with_word (codes "y") (codes "13") _ refl none)) (words (codes "aborted"))) (beside _ _ (empty (codes "rect") _ refl (with_word (codes "class") (codes "open") _ refl (with_word (codes "x") (codes "224") _ refl (with_word (codes "width") (codes "24") _ refl (with_word (codes "height") (codes "16") _ refl none))))) (beside _ _ (holding (codes "text") _ _ refl (with_word (codes "x") (codes "256") _ refl (with_word (codes "y") (codes "13") _ refl none)) (words (codes "open"))) (beside _ _ (empty (codes "ellipse") _ refl (with_word (codes "class") (codes "refused") _ refl (with_word (codes "cx") (codes "312") _ refl (with_word (codes "cy") (codes "8") _ refl (with_word (codes "rx") (codes "5") _ refl (with_word (codes "ry") (codes "5") _ refl none)))))) (beside _ _ (holding (codes "text") _ _ refl (with_word (codes "x") (codes "324") _ refl (with_word (codes "y") (codes "13") _ refl none)) (words (codes "refused"))) (beside _ _ (empty (codes "line") _ refl (with_word (codes "class") (codes "signal") _ refl (with_word (codes "y1") (codes "36") _ refl (with_word (codes "x2") (codes "24") _ refl (with_word (codes "y2") (codes "36") _ refl none))))) (beside _ _ (holding (codes "text") _ _ refl (with_word (codes "x") (codes "32") _ refl (with_word (codes "y") (codes "41") _ refl none)) (words (codes "signal"))) (beside _ _ (empty (codes "line") _ refl (with_word (codes "class") (codes "pipe") _ refl (with_word (codes "x1") (codes "120") _ refl (with_word (codes "y1") (codes "36") _ refl (with_word (codes "x2") (codes "150") _ refl (with_word (codes "y2") (codes "36") _ refl none)))))) (beside _ _ (empty (codes "ellipse") _ refl (with_word (codes "class") (codes "accepted") _ refl (with_word (codes "cx") (codes "150") _ refl (with_word (codes "cy") (codes "36") _ refl (with_word (codes "rx") (codes "5") _ refl (with_word (codes "ry") (codes "5") _ refl none)))))) (beside _ _ (holding (codes "text") _ _ refl (with_word (codes "x") (codes "160") _ refl (with_word (codes "y") (codes "41") _ refl none)) (words (codes "pipe"))) (beside _ _ (empty (codes "line") _ refl (with_word (codes "class") (codes "refusal") _ refl (with_word (codes "x1") (codes "224") _ refl (with_word (codes "y1") (codes "36") _ refl (with_word (codes "x2") (codes "248") _ refl (with_word (codes "y2") (codes "36") _ refl none)))))) (holding (codes "text") _ _ refl (with_word (codes "x") (codes "256") _ refl (with_word (codes "y") (codes "41") _ refl none)) (words (codes "in the way")))))))))))))))))

@@ -12,8 +12,11 @@ use Rattle.tx_model.specs.Schedules.{history_with}
 use Rattle.tx_model.specs.State.{Process, State}
 use Rattle.tx_model.specs.View.{View, present, role_on, view}
 use Rattle.tx_picture.specs.Drawn.{Drawn}
+use Rattle.tx_picture.specs.Passages.{passages_after, written_after}
 use Rattle.tx_picture.specs.Spans.{followed_upto}
 use Rattle.tx_picture.specs.Ties.{sent_to}
+use Rattle.tx_picture.specs.Transfers.{access_of}
+use Rattle.tx_picture.specs.declared.passages.Transfer.{Transfer}
 use Rattle.tx_picture.specs.declared.spans.End.{End}
 use Rattle.tx_script.specs.Report.{start_of, start_state}
 
@@ -43,6 +46,15 @@ held_by V p (Some target) = unless_same (members V p) (members V target.0)
 abbrev pub holder_of : View → Step → Option Pid
 holder_of V step = held_by V (process_of step) (sent_to step)
 
+-- the step of a row, as pipes see it
+abbrev pub transfer_of : View → Step → ℕ → Transfer
+transfer_of V step row = record {
+  process = record { 0 = process_of step };
+  row = row;
+  starter = members V (process_of step);
+  access = access_of (present V) step;
+}
+
 -- whether a step of that role aborts its transaction
 abbrev pub is_abort : Role → Bool
 is_abort Outside = false
@@ -60,6 +72,8 @@ drawn_with V step row W drawn = record {
   rows = drawn.rows ++ record { step = step; reply = answer V step; holder = holder_of V step } ∷ [];
   lanes = followed_upto (runners W) (ending V step row) W.table.width drawn.lanes;
   strips = followed_upto (members W) (ending V step row) W.table.width drawn.strips;
+  written = written_after (transfer_of V step row) (answer V step) drawn.written;
+  passages = passages_after (transfer_of V step row) (answer V step) drawn.written drawn.passages;
 }
 
 module _ (S : State) where
@@ -71,7 +85,13 @@ module _ (S : State) where
 
 -- before the first step
 abbrev pub first_drawn : View → Drawn
-first_drawn V = record { rows = []; lanes = followed_upto (runners V) (record { row = 0; aborted = false }) V.table.width []; strips = [] }
+first_drawn V = record {
+  rows = [];
+  lanes = followed_upto (runners V) (record { row = 0; aborted = false }) V.table.width [];
+  strips = [];
+  written = [];
+  passages = [];
+}
 
 -- the whole schedule
 abbrev pub drawing_of : Header → List Step → Drawn

@@ -1,6 +1,8 @@
 -- What there is to draw of a schedule.
 use Rattle.std.specs.Prelude.{List}
 use Rattle.tx_picture.specs.declared.drawing.Drawing.{Drawing}
+use Rattle.tx_picture.specs.declared.passages.Passage.{Passage}
+use Rattle.tx_picture.specs.declared.passages.Written.{Written}
 use Rattle.tx_picture.specs.declared.rows.Row.{Row}
 use Rattle.tx_picture.specs.declared.spans.Span.{Span}
 
@@ -11,6 +13,16 @@ pub record Drawn : Type 0 where
   pub lanes : List Span
   -- where each process is a member of a transaction: a transaction's box is the stretches of its members
   pub strips : List Span
+  -- the writes to pipes, the newest first
+  pub written : List Written
+  -- what went through pipes, by the reads, the first one first
+  pub passages : List Passage
 
 abbrev pub drawn_as : Drawing → Drawn
-drawn_as drawing = record { rows = drawing.rows.items; lanes = drawing.lanes.items; strips = drawing.strips.items }
+drawn_as drawing = record {
+  rows = drawing.rows.items;
+  lanes = drawing.lanes.items;
+  strips = drawing.strips.items;
+  written = drawing.written.items;
+  passages = drawing.passages.items;
+}

@@ -1,13 +1,17 @@
+pub mod Arrows
+pub mod Boxes
 pub mod Columns
 pub mod Drawings
 pub mod Drawn
 pub mod Grammars
 pub mod Held
 pub mod Layout
+pub mod Passages
 pub mod Pictures
 pub mod Spans
 pub mod Steps
 pub mod Stretches
 pub mod Svg
 pub mod Ties
+pub mod Transfers
 pub mod WellFormed

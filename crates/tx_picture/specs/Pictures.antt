@@ -3,6 +3,7 @@ use Rattle.std.specs.Prelude.{ℕ, ◌+◌, ◌*◌, List, ◌++◌, codes, fold
 use Rattle.std.specs.Fmt.{decimal}
 use Rattle.std.specs.List.{flat_map}
 use Rattle.tx_base.specs.declared.names.Pid.{Pid}
+use Rattle.tx_picture.specs.Arrows.{passage_text}
 use Rattle.tx_picture.specs.Columns.{columns_of}
 use Rattle.tx_picture.specs.Drawn.{Drawn}
 use Rattle.tx_picture.specs.Layout.{words_left, x_of, y_of}
@@ -24,7 +25,7 @@ abbrev pub width_of : List Pid → List Row → ℕ
 width_of columns rows = longer 480 (words_left columns + 8 * min (widest rows) 2000 + 24)
 
 abbrev pub height_of : List Row → ℕ
-height_of rows = y_of (length rows) + 64
+height_of rows = y_of (length rows) + 88
 
 -- the number of a process, above its column
 abbrev pub head_text : List Pid → Pid → List ℕ
@@ -54,13 +55,15 @@ moved_text y = attribute (codes "transform") (between (codes "translate(72,") y 
 unfoldable pub legend_text : ℕ → List ℕ
 legend_text y = element (codes "g") (moved_text y) meanings_text
 
--- the boxes of transactions behind all else, then the processes, and the steps
-abbrev pub inner_text : List Pid → Drawn → List ℕ
-inner_text columns drawn =
+-- the boxes of transactions behind all else, then the processes, what goes through pipes, and the steps
+unfoldable pub drawn_text : List Pid → Drawn → List ℕ
+drawn_text columns drawn =
     let last = length drawn.rows in
-    style_text
-    ++ (flat_map (head_text columns) columns
-    ++ (flat_map (strip_text columns last) drawn.strips ++ (flat_map (lane_text columns last) drawn.lanes ++ (rows_text columns drawn.strips last 1 drawn.rows ++ legend_text (y_of last + 32)))))
+    flat_map (strip_text columns last) drawn.strips
+    ++ (flat_map (lane_text columns last) drawn.lanes ++ (flat_map (passage_text columns) drawn.passages ++ rows_text columns drawn.strips last 1 drawn.rows))
+
+abbrev pub inner_text : List Pid → Drawn → List ℕ
+inner_text columns drawn = style_text ++ (flat_map (head_text columns) columns ++ (drawn_text columns drawn ++ legend_text (y_of (length drawn.rows) + 32)))
 
 abbrev pub picture_in : List Pid → Drawn → List ℕ
 picture_in columns drawn = element (codes "svg") (size_text (width_of columns drawn.rows) (height_of drawn.rows)) (inner_text columns drawn)

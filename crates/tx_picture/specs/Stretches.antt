@@ -16,11 +16,11 @@ abbrev pub last_row : ℕ → Option End → ℕ
 last_row last None = last
 last_row last (Some end) = end.row
 
--- a member of a transaction, from the row in which it joins to that of the end, both rows inside
+-- a member of a transaction, from the row in which it joins to that of the end, both rows inside. Boxes side by side do not touch
 abbrev pub strip_text : List Pid → ℕ → Span → List ℕ
 strip_text columns last strip =
     shape_text Rect (strip_class strip.end)
-    (record { 0 = x_of columns strip.process.0 - 24; 1 = y_of strip.from - 12; 2 = 48; 3 = 24 * (last_row last strip.end - strip.from) + 24 })
+    (record { 0 = x_of columns strip.process.0 - 22; 1 = y_of strip.from - 11; 2 = 44; 3 = 24 * (last_row last strip.end - strip.from) + 22 })
 
 -- the bar where a process ends
 abbrev pub bar_text : ℕ → ℕ → Option End → List ℕ

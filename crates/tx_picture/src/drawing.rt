@@ -1,4 +1,5 @@
 //! What there is to draw of a schedule.
+use crate::passages::{Passage, Written};
 use crate::rows::Row;
 use crate::spans::Span;
 
@@ -12,4 +13,8 @@ pub struct Drawing {
     /// Where each process is a member of a transaction, in the order in which they join. The box of a
     /// transaction is the stretches of its members.
     pub strips: Vec<Span>,
+    /// The writes to pipes so far, the newest first.
+    pub written: Vec<Written>,
+    /// What went through pipes, by the reads, the first one first.
+    pub passages: Vec<Passage>,
 }

@@ -3,30 +3,38 @@
 //!
 //! `picture` reads a schedule from one end and writes its picture to the other; `picture_text` answers
 //! a text. `walk` makes the steps on a machine and notes in a `Drawing` what there is to draw: each
-//! step with its answer (`Row`), and the stretches of columns (`Span`) in which a process runs, or is a
-//! member of a transaction. `whole` writes it: the stretches (`stretches`), and each step by its mark
-//! and its text (`steps`), with what leads to another column (`ties`, and `held` for signals that wait
-//! for a commit). `columns` and `layout` say where things stand; `elements` and `escape` write the text
-//! of elements, of which `specs/WellFormed.antt` says when it is well formed. A box begins and ends by
-//! the rules' table of members, and whether its end is an abort, the rules' role of the step says.
+//! step with its answer (`Row`), the stretches of columns (`Span`) in which a process runs, or is a
+//! member of a transaction, and which read took bytes of which write (`Passage`), by what each step asks
+//! of a pipe (`transfers`). `whole` writes it: the stretches (`stretches`), what went through pipes
+//! (`arrows`), and each step by its mark and its text (`steps`), with what leads to another column
+//! (`ties`, and `held` for signals that wait for a commit). `columns` and `layout` say where things
+//! stand; `elements` and `escape` write the text of elements, of which `specs/WellFormed.antt` says when
+//! it is well formed. A box begins and ends by the rules' table of members, and whether its end is an
+//! abort, the rules' role of the step says.
 
+mod arrows;
 mod columns;
 mod commands;
 mod drawing;
 mod elements;
 mod escape;
 mod held;
+mod laws;
 mod layout;
+mod passages;
 mod rows;
 mod spans;
 mod steps;
 mod stretches;
 mod styles;
 mod ties;
+mod transfers;
 mod walk;
 mod whole;
 
 pub use commands::{picture, picture_text};
 pub use drawing::Drawing;
+pub use laws::boxes_begin_and_end;
+pub use passages::{Passage, Written};
 pub use rows::Row;
 pub use spans::{End, Span};

@@ -31,10 +31,10 @@ fn put_strip(text: &mut String, columns: &[Pid], last: u16, strip: &Span) -> Res
     ensures { OnOk result (string_bytes text.new
         ≡ string_bytes text.old ++ strip_text columns.now last strip.now) }
 {
-    let left = x_of(columns, strip.process) - 24;
-    let top = y_of(strip.from) - 12;
+    let left = x_of(columns, strip.process) - 22;
+    let top = y_of(strip.from) - 11;
     let rows = last_row(last, strip.end).saturating_sub(strip.from);
-    let numbers = Numbers(left, top, 48, 24 * u64::from(rows) + 24);
+    let numbers = Numbers(left, top, 44, 24 * u64::from(rows) + 22);
     put_shape(text, Shape::Rect, strip_class(strip.end), numbers)
 }
 

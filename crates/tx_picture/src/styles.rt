@@ -1,8 +1,8 @@
-//! The looks of a picture, and its legend. Two colours that a colour-blind reader tells apart, and two
-//! hatchings, so that it reads in black and white too.
+//! The looks of a picture, and its legend. Two colours that a colour-blind reader tells apart, two
+//! hatchings, and dashes and heads of arrows, so that it reads in grey too.
 
-/// What stands in every picture before all else: the styles of the classes, the two hatchings, the head
-/// of an arrow, the white page, and the heading of the columns.
+/// What stands in every picture before all else: the styles of the classes, the two hatchings, the heads
+/// of arrows, the white page, and the heading of the columns.
 pub(crate) const STYLE: &str = "
 <style>
 text{font:13px monospace;fill:#000}
@@ -13,8 +13,10 @@ line{stroke:#000;stroke-width:2}
 .end{stroke-width:3}
 .refusal{stroke-dasharray:5 3;marker-end:url(#head)}
 .signal{stroke-width:1.5;marker-end:url(#head)}
-.held{stroke-width:1.5}
+.held{stroke-width:1.5;stroke-dasharray:2 2}
 .dropped{stroke-width:3}
+.bend{stroke-width:1.5;stroke-dasharray:8 3 2 3}
+.pipe{stroke-width:1.5;stroke-dasharray:8 3 2 3;marker-end:url(#taken)}
 .accepted{fill:#000}
 .refused{fill:#fff;stroke:#000;stroke-width:2}
 .committed{fill:url(#committed);stroke:#0072b2;stroke-width:2}
@@ -29,12 +31,14 @@ line{stroke:#000;stroke-width:2}
 </pattern>
 <marker id=\"head\" viewBox=\"0 0 10 10\" refX=\"9\" refY=\"5\" markerWidth=\"7\" markerHeight=\"7\" orient=\"auto\"><path d=\"M0,0 L10,5 L0,10 z\"/>
 </marker>
+<marker id=\"taken\" viewBox=\"0 0 10 10\" refX=\"14\" refY=\"5\" markerWidth=\"8\" markerHeight=\"8\" orient=\"auto\"><path d=\"M1,1 L9,5 L1,9 z\" fill=\"#fff\" stroke=\"#000\"/>
+</marker>
 </defs>
 <rect width=\"100%\" height=\"100%\" fill=\"#fff\"/>
 <text class=\"number\" x=\"64\" y=\"28\">process</text>
 ";
 
-/// What the boxes and the marks mean.
+/// What the boxes, the marks and the arrows mean.
 pub(crate) const LEGEND: &str = "
 <rect class=\"committed\" width=\"24\" height=\"16\"/>
 <text x=\"32\" y=\"13\">committed</text>
@@ -44,4 +48,11 @@ pub(crate) const LEGEND: &str = "
 <text x=\"256\" y=\"13\">open</text>
 <ellipse class=\"refused\" cx=\"312\" cy=\"8\" rx=\"5\" ry=\"5\"/>
 <text x=\"324\" y=\"13\">refused</text>
+<line class=\"signal\" y1=\"36\" x2=\"24\" y2=\"36\"/>
+<text x=\"32\" y=\"41\">signal</text>
+<line class=\"pipe\" x1=\"120\" y1=\"36\" x2=\"150\" y2=\"36\"/>
+<ellipse class=\"accepted\" cx=\"150\" cy=\"36\" rx=\"5\" ry=\"5\"/>
+<text x=\"160\" y=\"41\">pipe</text>
+<line class=\"refusal\" x1=\"224\" y1=\"36\" x2=\"248\" y2=\"36\"/>
+<text x=\"256\" y=\"41\">in the way</text>
 ";

@@ -16,9 +16,11 @@ ghost use Rattle.tx_script.specs.Report.{start_of};
 
 use crate::columns::maker;
 use crate::drawing::Drawing;
+use crate::passages::{note_passages, note_written};
 use crate::rows::Row;
 use crate::spans::{End, Span, follow};
 use crate::ties::sent_to;
+use crate::transfers::transfer_of;
 use std::alloc::{AllocError, Global};
 use tx_base::{Call, Pid, Reply, Step};
 use tx_core::Machine;
@@ -55,6 +57,8 @@ fn first_drawing(alloc: Global, machine: &Machine) -> Result<Drawing, AllocError
         rows: Vec::new(alloc),
         lanes,
         strips: Vec::new(alloc),
+        written: Vec::new(alloc),
+        passages: Vec::new(alloc),
     })
 }
 
@@ -118,7 +122,15 @@ fn draw_step(
 {
     let aborted = is_abort(machine, step);
     let holder = holder_of(machine, step);
+    let transfer = transfer_of(machine, step, row);
     let reply = make_step(alloc, machine, step, inverse)?;
+    note_passages(
+        &mut drawing.passages,
+        drawing.written.as_slice(),
+        transfer,
+        &reply,
+    )?;
+    note_written(&mut drawing.written, transfer, &reply)?;
     let made = Row {
         step: step.copy(),
         reply,

@@ -3,9 +3,10 @@ ghost use Rattle.std.specs.Prelude.{◌≡◌, ◌≤◌, ◌+◌, ◌++◌, IfO
 ghost use Rattle.std.specs.List.{flat_map};
 ghost use Rattle.tx_picture.specs.Drawn.{drawn_as};
 ghost use Rattle.tx_picture.specs.Svg.{attribute};
-ghost use Rattle.tx_picture.specs.Pictures.{between, head_text, height_of, inner_text, legend_text, longer, meanings_text, moved_text, picture_in, picture_of};
+ghost use Rattle.tx_picture.specs.Pictures.{between, drawn_text, head_text, height_of, inner_text, legend_text, longer, meanings_text, moved_text, picture_in, picture_of};
 ghost use Rattle.tx_picture.specs.Pictures.{seen_text, size_text, style_text, widest, width_of};
 
+use crate::arrows::put_passages;
 use crate::columns::columns_of;
 use crate::drawing::Drawing;
 use crate::elements::{put_number, put_word};
@@ -45,7 +46,7 @@ fn put_picture(
     let rows = drawing.rows.as_slice();
     let width = width_of(alloc, columns, rows)?;
     put(text, "<svg")?;
-    put_size(text, width, y_of(rows.len() as u16) + 64)?;
+    put_size(text, width, y_of(rows.len() as u16) + 88)?;
     put(text, ">")?;
     put_inner(alloc, text, columns, drawing)?;
     put(text, "</svg>\n")
@@ -97,15 +98,33 @@ fn put_inner(
     ensures { OnOk result (string_bytes text.new
         ≡ string_bytes text.old ++ inner_text columns.now (drawn_as drawing.now)) }
 {
+    let last = drawing.rows.len() as u16;
+    put_style(text)?;
+    put_heads(alloc, text, columns)?;
+    put_drawn(alloc, text, columns, drawing)?;
+    put_legend(text, y_of(last) + 32)
+}
+
+/// Appends what there is to draw: the boxes of transactions behind all else, then the processes, what
+/// goes through pipes, and the steps.
+#[tactic(auto, unfolding(crate::specs::Pictures::drawn_text))]
+fn put_drawn(
+    alloc: Global,
+    text: &mut String,
+    columns: &[Pid],
+    drawing: &Drawing,
+) -> Result<(), AllocError>
+    requires { length drawing.now.rows.items ≤ 200 }
+    ensures { OnOk result (string_bytes text.new
+        ≡ string_bytes text.old ++ drawn_text columns.now (drawn_as drawing.now)) }
+{
     let rows = drawing.rows.as_slice();
     let strips = drawing.strips.as_slice();
     let last = rows.len() as u16;
-    put_style(text)?;
-    put_heads(alloc, text, columns)?;
     put_strips(text, columns, last, strips)?;
     put_lanes(text, columns, last, drawing.lanes.as_slice())?;
-    put_rows(alloc, text, columns, strips, rows)?;
-    put_legend(text, y_of(last) + 32)
+    put_passages(text, columns, drawing.passages.as_slice())?;
+    put_rows(alloc, text, columns, strips, rows)
 }
 
 /// Appends the numbers of the processes, above their columns.
@@ -174,7 +193,7 @@ fn put_placed(
     put(text, "\"")
 }
 
-/// Appends what the boxes and the marks mean.
+/// Appends what the boxes, the marks and the arrows mean.
 #[tactic(auto, unfolding(crate::specs::Pictures::legend_text))]
 fn put_legend(text: &mut String, y: u64) -> Result<(), AllocError>
     ensures { OnOk result (string_bytes text.new ≡ string_bytes text.old ++ legend_text y) }

@@ -9,7 +9,7 @@ ghost use Rattle.tx_model.specs.Schedules.{history_of as history_after};
 ghost use Rattle.tx_report_json.specs.Lines.{command_line, command_lines, line_of, text_of, walk_lines};
 ghost use Rattle.tx_script.specs.Debug.{position_after};
 
-use crate::steps::{boot, make_step};
+use crate::steps::make_step;
 use std::alloc::Global;
 use tx_base::{Reply, Step};
 use tx_journal::Session;
@@ -26,7 +26,7 @@ pub fn walk_lines(alloc: Global, walk: &Walk) -> Result<String, Fault>
         walk.now.commands.items)) }
     ensures fault { IfErr result (λ fault. fault ≡ NoMemory) }
 {
-    let mut session = boot(alloc, walk.schedule.header)?;
+    let mut session = Session::boot_by(alloc, walk.schedule.header)?;
     session.reserve(walk.schedule.steps.len())?;
     make_steps(alloc, &mut session, walk.schedule.steps.as_slice())?;
     // Where it is refused, a walk forward makes each step anew.

@@ -1,5 +1,5 @@
 //! Makes the steps of a schedule, and answers a line of JSON for each.
-ghost use Rattle.std.specs.Prelude.{◌≡◌, ◌++◌, [], IfErr, IfOk, OnOk, length, string_bytes};
+ghost use Rattle.std.specs.Prelude.{◌≡◌, ◌++◌, IfErr, IfOk, OnOk, length, string_bytes};
 ghost use Rattle.tx_journal.specs.Entries.{history_of};
 ghost use Rattle.tx_journal.specs.Sessions.{start_of, IsAtEnd, SameBoot};
 ghost use Rattle.tx_json.specs.Answers.{step_answer};
@@ -9,14 +9,13 @@ ghost use Rattle.tx_model.specs.Answer.{answer};
 ghost use Rattle.tx_model.specs.Schedules.{history_with, history_of as history_after};
 ghost use Rattle.tx_model.specs.View.{view};
 ghost use Rattle.tx_report_json.specs.Lines.{line_of, schedule_lines, step_lines, text_of};
-ghost use Rattle.tx_script.specs.Report.{start_state};
 
 use crate::commands::put_answer;
 use std::alloc::Global;
 use tx_base::{Reply, Step};
 use tx_journal::Session;
 use tx_json::step_answer;
-use tx_lines::{Command, Fault, Header, Schedule, Version, put};
+use tx_lines::{Command, Fault, Schedule, put};
 
 /// The worker that makes the steps of a schedule.
 const WORKER: u16 = 1;
@@ -29,27 +28,12 @@ pub fn schedule_lines(alloc: Global, schedule: &Schedule) -> Result<String, Faul
         ≡ text_of (schedule_lines schedule.now.header schedule.now.steps.items)) }
     ensures fault { IfErr result (λ fault. fault ≡ NoMemory) }
 {
-    let mut session = boot(alloc, schedule.header)?;
+    let mut session = Session::boot_by(alloc, schedule.header)?;
     session.reserve(schedule.steps.len())?;
     let mut text = String::new(alloc);
     put_replies(alloc, &mut text, &mut session, schedule.steps.as_slice())?;
     put_answer(alloc, &mut text, &mut session, Command::State)?;
     Ok(text)
-}
-
-/// A session before its first step.
-pub fn boot(alloc: Global, header: Header) -> Result<Session, Fault>
-    requires { FitsHeader header }
-    ensures start { IfOk result (λ session. start_of session ≡ start_state header) }
-    ensures entries { IfOk result (λ session. session.entries ≡ []) }
-    ensures inverses { IfOk result (λ session. session.inverses ≡ []) }
-    ensures fault { IfErr result (λ fault. fault ≡ NoMemory) }
-{
-    let session = match header.version {
-        Version::One => Session::boot(alloc, header.count)?,
-        Version::Two => Session::boot_wide(alloc, header.count)?,
-    };
-    Ok(session)
 }
 
 /// Makes the steps at the end of the journal, and appends the line of each reply.

@@ -1,9 +1,7 @@
 //! From the text of a program to the text of its run.
-ghost use Rattle.std.specs.Prelude.{IfOk};
 ghost use Rattle.tx_lines.specs.Ends.{IsFresh};
-ghost use Rattle.tx_lines.specs.Lines.{FitsHeader};
 ghost use Rattle.tx_workers.specs.RunText.{run_text};
-ghost use Rattle.tx_workers.specs.Texts.{IsBooted, RunsFrom, RunsText};
+ghost use Rattle.tx_workers.specs.Texts.{RunsFrom, RunsText};
 
 use crate::faults::WorkFault;
 use crate::gate::NoGate;
@@ -13,9 +11,8 @@ use std::alloc::Global;
 use std::sync::Wait;
 use std::thread::Threads;
 use thiserror::Error;
-use tx_base::NoMemory;
 use tx_journal::Session;
-use tx_lines::{Fault, Header, Sink, Source, Version};
+use tx_lines::{Fault, Sink, Source};
 use tx_plain::read_program;
 
 /// Why no run was written, or not the whole of it. It prints as the fault that it holds.
@@ -79,22 +76,11 @@ where
         Ok(program) => program,
         Err(fault) => return Err(RunFault::Text(fault)),
     };
-    let Ok(session) = boot(alloc, program.header) else {
+    let Ok(session) = Session::boot_by(alloc, program.header) else {
         return Err(RunFault::Work(WorkFault::NoMemory));
     };
     match run_workers(rt, alloc, session, &program, workers, turns, &NoGate) {
         Ok(worked) => Ok(worked.session),
         Err(fault) => Err(RunFault::Work(fault)),
-    }
-}
-
-/// A session before its first step, of the processes that a header names.
-fn boot(alloc: Global, header: Header) -> Result<Session, NoMemory>
-    requires { FitsHeader header }
-    ensures { IfOk result (λ session. IsBooted header session) }
-{
-    match header.version {
-        Version::One => Session::boot(alloc, header.count),
-        Version::Two => Session::boot_wide(alloc, header.count),
     }
 }
