@@ -1,5 +1,6 @@
 use Rattle.std.proofs.Common.{◌∙◌, List, ap, string_bytes}
 use Rattle.tx_base.specs.declared.steps.Step.{Step}
+use Rattle.tx_model.specs.State.{boot_state}
 use Rattle.tx_report_json.proofs.Lined.{schedule_whole}
 use Rattle.tx_report_json.specs.Lines.{schedule_lines, text_of}
 use Rattle.tx_script.specs.Report.{start_state}
@@ -10,6 +11,6 @@ returns-clause-text c =
     let told = c.in_ok-put_replies.ensures in
     let header = c.args.schedule.now.header in
     schedule_whole (start_state header) c.as_slice.result.now c.in_ok-session.session c.reserve.new.self c.put_replies.new.session
-    (string_bytes c.new-text.result) (string_bytes c.put_replies.new.text) (string_bytes c.put_answer.new.text) c.in_ok-session.ensures.start c.in_ok-session.ensures.entries c.reserve.ensures c.new-text.ensures.bytes
+    (string_bytes c.new-text.result) (string_bytes c.put_replies.new.text) (string_bytes c.put_answer.new.text) (λ j. boot_state (c.in_ok-session.ensures.width j) (c.in_ok-session.ensures.count j)) c.in_ok-session.ensures.entries c.reserve.ensures c.new-text.ensures.bytes
     told.text told.history told.boot told.at_end c.in_ok-put_answer.ensures.text
     ∙ ap (λ (steps : List Step). text_of (schedule_lines header steps)) c.as_slice.ensures.value
