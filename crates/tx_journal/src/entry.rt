@@ -27,7 +27,7 @@ impl Entry {
     pub(crate) fn fill(&mut self, worker: u16, step: &mut Step, reply: &Reply)
         ensures { self.new ≡ record { step = step.old; worker = worker; reply = reply.now } }
     {
-        mem::swap(&mut self.step, step);
+        self.step = mem::replace(step, Step::Call(Pid(0), Call::Getpid));
         self.worker = worker;
         match reply {
             Reply::Done(ret) => self.reply = Reply::Done(*ret), // most have few bytes

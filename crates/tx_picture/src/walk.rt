@@ -12,7 +12,6 @@ ghost use Rattle.tx_model.specs.View.{present, role_on};
 ghost use Rattle.tx_picture.specs.Drawings.{drawing_of, drawn_from, drawn_with, first_drawn, holder_of, is_abort, members, runner, runners};
 ghost use Rattle.tx_picture.specs.Drawn.{drawn_as};
 ghost use Rattle.tx_picture.specs.Spans.{followed_upto};
-ghost use Rattle.tx_script.specs.Report.{start_of};
 
 use crate::columns::maker;
 use crate::drawing::Drawing;
@@ -24,8 +23,9 @@ use crate::transfers::transfer_of;
 use std::alloc::{AllocError, Global};
 use tx_base::{Call, Pid, Reply, Step};
 use tx_core::Machine;
-use tx_lines::{Fault, Header, Schedule, Version};
+use tx_lines::{Fault, Schedule};
 use tx_live::Inverse;
+use tx_script::boot;
 
 /// Makes the steps of a schedule, and notes what there is to draw of them. It may have 200 steps.
 ///
@@ -60,19 +60,6 @@ fn first_drawing(alloc: Global, machine: &Machine) -> Result<Drawing, AllocError
         written: Vec::new(alloc),
         passages: Vec::new(alloc),
     })
-}
-
-/// A machine as it is at the start.
-fn boot(alloc: Global, header: Header) -> Result<Machine, Fault>
-    requires { FitsHeader header }
-    ensures view { IfOk result (λ machine. view_of machine ≡ start_of header) }
-    ensures fault { IfErr result (λ fault. fault ≡ NoMemory) }
-{
-    let machine = match header.version {
-        Version::One => Machine::boot(alloc, header.count)?,
-        Version::Two => Machine::boot_wide(alloc, header.count)?,
-    };
-    Ok(machine)
 }
 
 /// Makes the steps, and notes what there is to draw of each.

@@ -2,6 +2,7 @@
 use Rattle.std.proofs.Common.{◌≡◌, ℕ, ◌<◌, List, [], ◌∷◌, ◌++◌, refl, ap, sym, ◌∙◌, arith}
 use Rattle.std.proofs.lemmas.Bool.{ne_eqb}
 use Rattle.std.proofs.lemmas.List.{append-nil}
+use Rattle.tx_lines.specs.Schedule.{first_line}
 use Rattle.tx_lines.specs.Words.{joined}
 use Rattle.tx_plain.specs.Lines.{spaced}
 use Rattle.tx_plain.specs.OwnLines.{ended_lines, with_byte, without_return}
@@ -67,6 +68,13 @@ ended_line (byte ∷ bytes) rest are =
     let above : 13 < byte = are.0 in
     let other = ne_eqb byte 10 (λ e. omega arith) in
     rw other (ap (with_byte byte) (ended_line bytes rest are.2))
+
+pub first_whole : (line : List ℕ) → AreWithin 13 128 line → first_line line ≡ line
+first_whole [] are = refl
+first_whole (byte ∷ bytes) are =
+    let above : 13 < byte = are.0 in
+    let other = ne_eqb byte 10 (λ e. omega arith) in
+    rw other (ap (λ (t : List ℕ). byte ∷ t) (first_whole bytes are.2))
 
 pub no_return : (line : List ℕ) → AreWithin 13 128 line → without_return line ≡ line
 no_return [] are = refl

@@ -46,7 +46,7 @@ pub all_stay : {A : Type 0} (kind : TextKind) (spelling : A → List ℕ) (Is : 
 all_stay kind spelling Is each [] all = tt
 all_stay kind spelling Is each (x ∷ xs) all = (each x (all 0 x (omega arith)), all_stay kind spelling Is each xs (λ k d below. all (suc k) d (omega arith)))
 
-stays_within : (kind : TextKind) (line : List ℕ) → StaysIn kind line → AreWithin 13 128 line
+pub stays_within : (kind : TextKind) (line : List ℕ) → StaysIn kind line → AreWithin 13 128 line
 stays_within kind line stays = let is = line_within stays.first stays.others stays.first_bare stays.others_bare in rw stays.spelled is
 
 short_line : (long : Bool) (line : List ℕ) → cond long (Some line) (Some line) ≡ Some line
@@ -54,7 +54,7 @@ short_line true line = refl
 short_line false line = refl
 
 -- such a line means itself
-line_means : (kind : TextKind) (line : List ℕ) → StaysIn kind line → plain_line (Within kind) line ≡ Some line
+pub line_means : (kind : TextKind) (line : List ℕ) → StaysIn kind line → plain_line (Within kind) line ≡ Some line
 line_means kind line stays =
     elim (two_ways (nat_lt 512 (length line))) [
       | inl h ↦ rw h refl

@@ -14,11 +14,11 @@ use Rattle.tx_lines.specs.declared.read.command.Command.{Command}
 use Rattle.tx_lines.specs.declared.read.command.Command.TheVariants.{Back, Forward, Goto, State, Moved}
 use Rattle.tx_lines.specs.declared.read.header.TextKind.TheVariants.{Schedule}
 use Rattle.tx_lines.specs.declared.read.header.Version.TheVariants.{Two}
-use Rattle.tx_plain.specs.Laws.{ScheduleStays, WalkStays, Means, second, third_header}
+use Rattle.tx_plain.specs.Laws.{ScheduleStays, StepsStay, WalkStays, Means, second, third_header}
 use Rattle.tx_lines.specs.Lines.{header_text}
-use Rattle.tx_plain.proofs.BareLines.{joined_spaced}
+use Rattle.tx_plain.proofs.BareLines.{first_whole, joined_spaced, no_return}
 use Rattle.tx_plain.proofs.Bytes.{bare, bare_decimal, low_decimal}
-use Rattle.tx_plain.proofs.StayingLines.{all_stay, ended_by, lines_mapped, text_means, AllStay, StaysIn}
+use Rattle.tx_plain.proofs.StayingLines.{all_stay, ended_by, line_means, lines_mapped, stays_within, text_means, AllStay, StaysIn}
 use Rattle.tx_plain.proofs.StayingWords.{call_bare, call_stays}
 use Rattle.tx_plain.proofs.Unnamed.{low_signal}
 
@@ -84,6 +84,15 @@ steps_stay taken fit = all_stay Schedule step_text (FitsStepOf Two) (λ step is.
 
 commands_stay : (commands : List Command) → All (FitsCommand Two) commands → AllStay Schedule (map command_text commands)
 commands_stay commands fit = all_stay Schedule command_text (FitsCommand Two) command_stays commands fit
+
+pub each_stays : StepsStay
+each_stays step fits =
+    let stays = step_stays step fits in
+    let within = stays_within Schedule (step_text step) stays in
+    record {
+      one = first_whole (step_text step) within;
+      means = rw (no_return (step_text step) within) (line_means Schedule (step_text step) stays);
+    }
 
 pub schedule_stays : ScheduleStays
 schedule_stays count taken small fit =

@@ -1,9 +1,10 @@
 -- What a text of version 2 means as one of version 3.
-use Rattle.std.specs.Prelude.{◌≡◌, ℕ, ◌+◌, ◌<◌, ◌≤◌, ◌^◌, true, List, ◌∷◌, ◌++◌, length, codes, All}
+use Rattle.std.specs.Prelude.{◌≡◌, ℕ, ◌+◌, ◌<◌, ◌≤◌, ◌^◌, true, List, ◌∷◌, ◌++◌, Some, length, codes, All}
 use Rattle.std.specs.Fmt.{decimal}
 use Rattle.tx_base.specs.declared.steps.Step.{Step}
 use Rattle.tx_lines.specs.Programs.{line_text, program_text, IsLineOf}
-use Rattle.tx_lines.specs.Schedule.{lines_of, schedule_text, steps_text, FitsStepOf}
+use Rattle.tx_lines.specs.Lines.{step_text, FitsStep}
+use Rattle.tx_lines.specs.Schedule.{first_line, lines_of, schedule_text, steps_text, FitsStepOf}
 use Rattle.tx_lines.specs.Walks.{before_commands, command_text, walk_text, FitsCommand}
 use Rattle.tx_lines.specs.declared.instructions.Line.{Line}
 use Rattle.tx_lines.specs.declared.read.command.Command.{Command}
@@ -11,8 +12,10 @@ use Rattle.tx_lines.specs.declared.read.header.Header.{Header}
 use Rattle.tx_lines.specs.declared.read.header.TextKind.{TextKind}
 use Rattle.tx_lines.specs.declared.read.header.TextKind.TheVariants.{Schedule, Program}
 use Rattle.tx_lines.specs.declared.read.header.Version.TheVariants.{Two}
-use Rattle.tx_plain.specs.OwnLines.{own_lines}
+use Rattle.tx_plain.specs.Lines.{plain_line}
+use Rattle.tx_plain.specs.OwnLines.{own_lines, without_return}
 use Rattle.tx_plain.specs.Plain.{is_third, line_in, plain_of}
+use Rattle.tx_plain.specs.declared.stage.Stage.TheVariants.{Within}
 
 -- the header of a text of version 3
 abbrev pub third_header : TextKind → ℕ → List ℕ
@@ -28,6 +31,14 @@ pub record Means (text plain : List ℕ) : Type 0 where
   pub third : is_third text ≡ true
   pub means : plain_of text ≡ plain
   pub lines : (number : ℕ) → number ≤ length (own_lines text) + 1 → line_in text number ≡ number
+
+-- a step's line has no end within, and means itself among the steps of a text
+pub record StepStays (step : Step) : Type 0 where
+  pub one : first_line (step_text step) ≡ step_text step
+  pub means : plain_line (Within Schedule) (without_return (step_text step)) ≡ Some (step_text step)
+
+abbrev pub StepsStay : Type 0
+StepsStay = (step : Step) → FitsStep step → StepStays step
 
 -- a schedule means itself, but for its header
 abbrev pub ScheduleStays : Type 0

@@ -5,19 +5,21 @@
 //! reads a schedule with commands, makes the steps in a session, and writes what the commands
 //! answer. `report` makes the steps and prints the line of each reply, by tx_text, and the state
 //! that the last one leaves, by tx_journal. `walks` makes the steps in a `Session`, does what each
-//! command says, and prints its answer, as `put_answer` does for one command. What a text of a kind spells, where it is at fault and what
-//! answers it is a `Grammar` of specs: `schedules` and `walks` are two, and one definition
-//! (`Answers`) says of both what is read and written. `replay` changes a kernel through `boot`,
-//! `boot_wide` and `step_into` alone, and takes no step back: each inverse is put in the place of the
-//! one before. `debug` does so through the calls of a session.
+//! command says, and prints its answer, as `put_answer` does for one command. What a text of a kind
+//! spells, where it is at fault and what answers it is a `Grammar` of specs: `schedules` and `walks`
+//! are two, and one definition (`Answers`) says of both what is read and written. `replay` changes a
+//! kernel through `boot` and `step_into` alone, and takes no step back: each inverse is put in the
+//! place of the one before. `debug` does so through the calls of a session.
 #![tactic(auto)]
 
 mod debugs;
+mod machines;
 mod replays;
 mod reports;
 mod walks;
 
 pub use debugs::{debug, debug_text};
+pub use machines::boot;
 pub use replays::{replay, replay_text};
 pub use reports::report;
 pub use walks::put_answer;

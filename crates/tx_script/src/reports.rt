@@ -7,14 +7,15 @@ ghost use Rattle.tx_model.specs.Answer.{answer};
 ghost use Rattle.tx_model.specs.Schedules.{history_with, answers_of, history_of};
 ghost use Rattle.tx_model.specs.State.{State};
 ghost use Rattle.tx_lines.specs.Lines.{FitsHeader};
-ghost use Rattle.tx_script.specs.Report.{line_text, lines_text, report_text, start_of};
+ghost use Rattle.tx_script.specs.Report.{line_text, lines_text, report_text};
 ghost use Rattle.tx_lines.specs.declared.faults.Fault.TheVariants.{NoMemory};
 
+use crate::machines::boot;
 use std::alloc::{AllocError, Global};
 use tx_base::{ABORTED_BY_CALL, Reply, Step};
 use tx_core::Machine;
 use tx_journal::put_state;
-use tx_lines::{Fault, Header, Schedule, Version, put, put_count};
+use tx_lines::{Fault, Schedule, put, put_count};
 use tx_live::Inverse;
 use tx_text::put_reply;
 
@@ -31,19 +32,6 @@ pub fn report(alloc: Global, schedule: &Schedule) -> Result<String, Fault>
     put_replies(alloc, &mut text, &mut machine, schedule.steps.as_slice())?;
     put_state(&mut text, &machine)?;
     Ok(text)
-}
-
-/// A machine as it is at the start.
-fn boot(alloc: Global, header: Header) -> Result<Machine, Fault>
-    requires { FitsHeader header }
-    ensures view { IfOk result (λ machine. view_of machine ≡ start_of header) }
-    ensures fault { IfErr result (λ fault. fault ≡ NoMemory) }
-{
-    let machine = match header.version {
-        Version::One => Machine::boot(alloc, header.count)?,
-        Version::Two => Machine::boot_wide(alloc, header.count)?,
-    };
-    Ok(machine)
 }
 
 /// Makes the steps, and appends the line of each reply.

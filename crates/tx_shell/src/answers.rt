@@ -1,5 +1,5 @@
 //! Answers what a line means.
-ghost use Rattle.std.specs.Prelude.{◌≡◌, IfOk, OnErr, OnOk, length, string_bytes};
+ghost use Rattle.std.specs.Prelude.{◌≡◌, IfOk, OnErr, OnOk, Some, length, string_bytes};
 ghost use Rattle.tx_journal.specs.Sessions.{position_of, start_of, IsBetween, SameBoot, SameJournal};
 ghost use Rattle.tx_journal.specs.Entries.{history_of};
 ghost use Rattle.tx_lines.specs.declared.read.command.Command.TheVariants as command;
@@ -23,7 +23,7 @@ use crate::tells::tell_in;
 use crate::trials::{try_step, without};
 use crate::versions::TextVersion;
 use std::alloc::Global;
-use tx_base::{NoMemory, Step};
+use tx_base::{NoMemory, Reply, Step};
 use tx_journal::Session;
 use tx_lines::{Command, read_step};
 use tx_script::put_answer;
@@ -52,8 +52,10 @@ pub fn answer_words(
     ensures kept { OnErr result (refused.new ≡ refused.old) }
     ensures boot { SameBoot session.new session.old }
 {
-    if let Some(mut step) = read_step(version.grammar(), words) {
-        return answer_step_line(alloc, form, session, refused, &mut step, text);
+    let mut read = read_step(version.grammar(), words);
+    if let Some(step) = &mut read {
+        let mut reply = Reply::Ended;
+        return answer_step_line(alloc, form, session, refused, step, &mut reply, text);
     }
     if let Some(ask) = read_ask(version.grammar(), words) {
         *text = answer_ask(alloc, form, version, session, refused, ask)?;
@@ -63,8 +65,8 @@ pub fn answer_words(
     Ok(())
 }
 
-/// Makes a step, and puts its answer in a form in place of what the text had. Keeps the step where it was
-/// to be made and was refused.
+/// Makes a step, puts its reply where it is to stand, and its answer in a form in place of what the text
+/// had. Keeps the step where it was to be made and was refused.
 ///
 /// NoMemory where a growth is refused; no step came or went then. The text has nothing to be shown.
 pub fn answer_step_line(
@@ -73,6 +75,7 @@ pub fn answer_step_line(
     session: &mut Session,
     refused: &mut Option<Step>,
     step: &mut Step,
+    reply: &mut Reply,
     text: &mut String,
 ) -> Result<(), NoMemory>
     ensures answer { OnOk result
@@ -86,11 +89,19 @@ pub fn answer_step_line(
 {
     let count = count_steps(session);
     let is_at_end = session.position() == count;
-    answer_step(alloc, form, session, step, text)?;
+    answer_step(alloc, form, session, step, reply, text)?;
     if is_at_end && count_steps(session) == count {
-        *refused = Some(step.copy());
+        keep_step(refused, step);
     }
     Ok(())
+}
+
+/// Keeps a step.
+#[inline(never)] // inlined, each step would fill its place
+fn keep_step(kept: &mut Option<Step>, step: &Step)
+    ensures { kept.new ≡ Some step.now }
+{
+    *kept = Some(step.copy());
 }
 
 /// Does what is asked for, and answers it in a form.

@@ -15,9 +15,9 @@ use crate::meanings::meant_line;
 use crate::openings::{Opening, read_opening};
 use crate::versions::TextVersion;
 use std::alloc::Global;
-use tx_base::{NoMemory, Step};
+use tx_base::{NoMemory, Reply, Step};
 use tx_journal::Session;
-use tx_lines::{read_step, take_line};
+use tx_lines::read_step;
 use tx_plain::{Room, second_stays_itself};
 
 /// A session at a terminal, in which form it is answered, and of which version its lines are.
@@ -30,6 +30,8 @@ pub struct Shell {
     is_fresh: bool,
     /// The last of its steps that was to be made and was refused.
     refused: Option<Step>,
+    /// Where the replies of steps are put, one after another, since a reply is large.
+    reply: Reply,
 }
 
 impl Shell {
@@ -48,6 +50,7 @@ impl Shell {
             version: TextVersion::Three,
             is_fresh: true,
             refused: None,
+            reply: Reply::Ended,
         })
     }
 
@@ -105,8 +108,7 @@ impl Shell {
             (Stops (standing_of self.old) line.now (standing_of self.new)) }
     {
         second_stays_itself();
-        let (words, _behind) = take_line(line);
-        let mut read = read_step(self.version.grammar(), words);
+        let mut read = read_step(self.version.grammar(), line);
         if let Some(step) = &mut read {
             self.answer_step(alloc, step, text)?;
             return Ok(true);
@@ -163,6 +165,7 @@ impl Shell {
             &mut self.session,
             &mut self.refused,
             step,
+            &mut self.reply,
             text,
         )?;
         self.is_fresh = false;

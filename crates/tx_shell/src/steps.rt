@@ -15,8 +15,9 @@ use tx_text::put_reply;
 /// The worker that makes the steps.
 const WORKER: u16 = 1;
 
-/// Makes a step at the end of the journal, and puts its reply in place of what the text had. Elsewhere it is
-/// not made, and both ways out are named. A step that is accepted is moved into its entry, any other stays.
+/// Makes a step at the end of the journal, puts its reply where it is to stand, and the line of that in place
+/// of what the text had. Elsewhere it is not made, and both ways out are named. A step that is accepted is
+/// moved into its entry, any other stays.
 ///
 /// NoMemory where a growth is refused; no step came or went then. The text has nothing to be shown.
 pub fn answer_step(
@@ -24,6 +25,7 @@ pub fn answer_step(
     form: Form,
     session: &mut Session,
     step: &mut Step,
+    reply: &mut Reply,
     text: &mut String,
 ) -> Result<(), NoMemory>
     ensures answer { OnOk result
@@ -35,13 +37,14 @@ pub fn answer_step(
     ensures boot { SameBoot session.new session.old }
 {
     if session.position() == session.len() {
-        return make_step(alloc, form, session, step, text);
+        return make_step(alloc, form, session, step, reply, text);
     }
     *text = form.ahead(alloc)?;
     Ok(())
 }
 
-/// Makes a step at the end of the journal, and puts its reply in place of what the text had.
+/// Makes a step at the end of the journal, puts its reply where it is to stand, and the line of that in place
+/// of what the text had.
 ///
 /// NoMemory where a growth is refused; no step came or went then.
 fn make_step(
@@ -49,6 +52,7 @@ fn make_step(
     form: Form,
     session: &mut Session,
     step: &mut Step,
+    reply: &mut Reply,
     text: &mut String,
 ) -> Result<(), NoMemory>
     requires { IsAtEnd session.old }
@@ -62,12 +66,11 @@ fn make_step(
 {
     let _machine = session.machine();
     let count = session.len();
-    let mut reply = Reply::Ended;
-    session.enter(alloc, WORKER, step, &mut reply);
+    session.enter(alloc, WORKER, step, reply);
     if reply.wants_memory() {
         return Err(NoMemory);
     }
-    match form.put_reply(alloc, session.len(), &reply, text) {
+    match form.put_reply(alloc, session.len(), reply, text) {
         Ok(()) => Ok(()),
         Err(NoMemory) => {
             take_back(session, count);

@@ -125,7 +125,10 @@ fn converse(
     let Ok(reader) = BufReader::new(alloc, rt.reader()) else {
         return Err(TalkFault::NoMemory);
     };
-    let Ok(mut shell) = Shell::new(alloc, form) else {
+    let Ok(shell) = Shell::new(alloc, form) else {
+        return Err(TalkFault::NoMemory);
+    };
+    let Ok(shell) = Box::new(alloc, shell) else {
         return Err(TalkFault::NoMemory);
     };
     let prompts = prompts && matches!(form, Form::Text);
@@ -133,7 +136,8 @@ fn converse(
     if !console.greet() {
         return Err(TalkFault::Writer);
     }
-    talk(alloc, &mut shell, &mut console)
+    // The program ends with the talk, and the system takes back at once what the steps left.
+    talk(alloc, Box::leak(shell), &mut console)
 }
 
 /// Writes what a word means, or without one the list of all words. A word that is not explained is

@@ -1,6 +1,9 @@
 use Rattle.tx_plain.proofs.StayingPrograms.{program_stays}
-use Rattle.tx_plain.proofs.StayingSteps.{schedule_stays, walk_stays}
+use Rattle.tx_plain.proofs.StayingSteps.{each_stays, schedule_stays, walk_stays}
 use Rattle.tx_plain.proofs.laws.second_stays_itself.Goals as goal
+
+pub returns-clause-step : goal.returns-clause-step
+returns-clause-step c = each_stays
 
 pub returns-clause-schedule : goal.returns-clause-schedule
 returns-clause-schedule c = schedule_stays
