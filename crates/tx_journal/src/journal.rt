@@ -5,7 +5,8 @@ ghost use Rattle.tx_journal.specs.Rooms.{HasPlaces, SameRecord};
 use crate::crossings::Crossings;
 use crate::entry::Entry;
 use std::alloc::Global;
-use tx_base::{NoMemory, Reply, Step};
+use std::mem;
+use tx_base::{Call, NoMemory, Pid, Reply, Step};
 use tx_live::Inverse;
 
 /// All entries of a session, and what leads over them.
@@ -80,9 +81,20 @@ impl Journal {
         ensures room { vec_capacity self.new.entries ≡ vec_capacity self.old.entries }
         ensures places { self.new.crossings.room ≡ self.old.crossings.room }
     {
-        let place = self.entries.len();
-        self.entries.push_reserved(Entry::blank());
-        self.entries[place].fill(worker, step, reply);
-        self.crossings.push(inverse);
+        self.crossings.push(inverse); // first: behind the entry it would be moved twice
+        let step = mem::replace(step, Step::Call(Pid(0), Call::Getpid));
+        match reply {
+            // Most replies are so, and have few bytes.
+            Reply::Done(ret) => self.entries.push_reserved(Entry {
+                step,
+                worker,
+                reply: Reply::Done(*ret),
+            }),
+            _ => self.entries.push_reserved(Entry {
+                step,
+                worker,
+                reply: reply.copy(),
+            }),
+        }
     }
 }

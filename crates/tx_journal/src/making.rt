@@ -104,8 +104,7 @@ fn make(
     ensures kernel { IsKernelAbort step.old → reply.new ≢ No Refusal.NoMemory }
 {
     laws();
-    let starter = starter_of(machine, step);
-    let was = is_live(machine, starter);
+    let (starter, was) = starter_before(machine, step);
     let mut inverse = Inverse::blank();
     if !machine.step_into(alloc, step, reply, &mut inverse) {
         return false;
@@ -161,24 +160,27 @@ pub(crate) fn has_place(machine: &Machine, step: &Step) -> bool
     }
 }
 
-/// Whose transaction a step may begin or end.
-pub(crate) fn starter_of(machine: &Machine, step: &Step) -> Pid
-    ensures { result.0 ≡ starter_of (view_of machine.now).table step.now }
+/// Whose transaction a step may begin or end, and whether he has a live one before it.
+pub(crate) fn starter_before(machine: &Machine, step: &Step) -> (Pid, bool)
+    ensures starter { result.0.0 ≡ starter_of (view_of machine.now).table step.now }
+    ensures live { result.1 ≡ is_live (view_of machine.now).table result.0.0 }
 {
     match step {
-        Step::KernelAbort(starter) => *starter,
+        Step::KernelAbort(starter) => (*starter, is_live(machine, *starter)),
         Step::Call(pid, _) => starter_by(machine, *pid),
         Step::Deliver(pid, _) => starter_by(machine, *pid),
     }
 }
 
-/// The starter of the live transaction that a process is a member of, and the process where it is none.
-fn starter_by(machine: &Machine, pid: Pid) -> Pid
-    ensures { result.0 ≡ starter_by pid.0 ((view_of machine.now).table.marks pid.0) }
+/// The starter of the live transaction that a process is a member of, and the process where it is none; and
+/// whether that has a live one.
+fn starter_by(machine: &Machine, pid: Pid) -> (Pid, bool)
+    ensures starter { result.0.0 ≡ starter_by pid.0 ((view_of machine.now).table.marks pid.0) }
+    ensures live { result.1 ≡ is_live (view_of machine.now).table result.0.0 }
 {
     match machine.txn_of(pid) {
-        Some(starter) => starter,
-        None => pid,
+        Some(starter) => (starter, is_live(machine, starter)),
+        None => (pid, false),
     }
 }
 

@@ -59,25 +59,35 @@ impl Form {
     {
         match self {
             Form::Text => Ok(put_reply_line(text, reply)?),
-            Form::Json => {
-                *text = tx_json::step_answer(alloc, number, reply)?;
-                Ok(())
-            }
+            Form::Json => put_json(alloc, number, reply, text),
         }
     }
 
-    /// That steps are ahead, and both ways out.
+    /// Puts in place of what the text had that steps are ahead, and both ways out.
     ///
     /// NoMemory where a growth is refused.
-    pub(crate) fn ahead(self, alloc: Global) -> Result<String, NoMemory>
-        ensures { IfOk result (λ text. SaysAhead self (string_bytes text)) }
+    #[inline(never)] // inlined, each step would fill the place of its answer
+    pub(crate) fn put_ahead(self, alloc: Global, text: &mut String) -> Result<(), NoMemory>
+        ensures { OnOk result (SaysAhead self (string_bytes text.new)) }
     {
-        match self {
+        *text = match self {
             Form::Text => text_as(
                 alloc,
                 "no: steps are ahead; cut lets go of them, forward makes them again\n",
-            ),
-            Form::Json => tx_json::error_answer(alloc, AHEAD),
-        }
+            )?,
+            Form::Json => tx_json::error_answer(alloc, AHEAD)?,
+        };
+        Ok(())
     }
+}
+
+/// Puts the reply of a step as a line of JSON in place of what the text had.
+///
+/// NoMemory where a growth is refused.
+#[inline(never)] // as `put_ahead`
+fn put_json(alloc: Global, number: usize, reply: &Reply, text: &mut String) -> Result<(), NoMemory>
+    ensures { OnOk result (SaysReply Form.Json number reply.now (string_bytes text.new)) }
+{
+    *text = tx_json::step_answer(alloc, number, reply)?;
+    Ok(())
 }

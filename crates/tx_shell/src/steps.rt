@@ -39,8 +39,7 @@ pub fn answer_step(
     if session.position() == session.len() {
         return make_step(alloc, form, session, step, reply, text);
     }
-    *text = form.ahead(alloc)?;
-    Ok(())
+    form.put_ahead(alloc, text)
 }
 
 /// Makes a step at the end of the journal, puts its reply where it is to stand, and the line of that in place

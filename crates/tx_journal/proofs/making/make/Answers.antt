@@ -18,13 +18,13 @@ pub live_after-journal-requires-clause-some : goal.live_after-journal-requires-c
 live_after-journal-requires-clause-some c live =
     subst (λ (n : ℕ). 1 ≤ n) (sym c.add.ensures.live)
     (live_some c.laws.ensures c.args.machine.now c.step_into.new.self c.args.journal.now c.args.step.now c.step_into.new.reply c.step_into.new.inverse c.requires.sound c.requires.at_end c.requires.counted c.requires.ready
-    (c.step_into.ensures.accepted c.if-not-step_into.false) c.starter_of-starter.result.0 c.is_live-was.result c.is_live-is.result c.starter_of-starter.ensures c.is_live-was.ensures c.is_live-is.ensures live)
+    (c.step_into.ensures.accepted c.if-not-step_into.false) c.starter_before-was.result.0.0 c.starter_before-was.result.1 c.is_live-is.result c.starter_before-was.ensures.starter c.starter_before-was.ensures.live c.is_live-is.ensures live)
 
 pub returns-clause-added : goal.returns-clause-added
 returns-clause-added c made =
     let entry : Entry = record { step = c.args.step.now; worker = c.args.worker; reply = c.step_into.new.reply } in
     added c.laws.ensures c.args.machine.now c.step_into.new.self c.args.journal.now c.args.step.now c.step_into.new.reply c.step_into.new.inverse c.requires.sound c.requires.at_end c.requires.counted c.requires.ready
-    (c.step_into.ensures.accepted c.if-not-step_into.false) c.starter_of-starter.result.0 c.is_live-was.result c.is_live-is.result c.starter_of-starter.ensures c.is_live-was.ensures c.is_live-is.ensures
+    (c.step_into.ensures.accepted c.if-not-step_into.false) c.starter_before-was.result.0.0 c.starter_before-was.result.1 c.is_live-is.result c.starter_before-was.ensures.starter c.starter_before-was.ensures.live c.is_live-is.ensures
     entry (record { entries = c.add.new.self.entries; crossings = c.add.new.self.crossings; live = c.live_after-journal.result }) (c.step_into.ensures.back c.if-not-step_into.false)
     c.add.ensures.entries c.add.ensures.inverses c.add.ensures.undone c.add.ensures.room c.add.ensures.places
     (c.live_after-journal.ensures ∙ ap (λ (n : ℕ). n + one_if c.is_live-is.result) c.add.ensures.live)
