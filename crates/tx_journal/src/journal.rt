@@ -68,6 +68,7 @@ impl Journal {
 
     /// Adds the entry of a step that is made, where it was and is so many times live, and nothing is kept
     /// of entries that were taken back. The step is moved there, and leaves a getpid in its place.
+    #[inline(always)] // as `record`
     pub fn add(&mut self, worker: u16, step: &mut Step, reply: &Reply, inverse: Inverse)
         requires none { self.old.crossings.undone ≡ [] }
         requires entries { length self.old.entries.items < vec_capacity self.old.entries }

@@ -22,6 +22,7 @@ use tx_live::Inverse;
 
 /// Makes a step, puts its reply where it is to stand, and moves it into its entry where it was accepted. The
 /// place of the entry is reserved first, but for an abort, which has its own. Answers whether it was.
+#[inline(always)] // calls here and below would cost each step their arguments, some 30 instructions
 pub(crate) fn record(
     alloc: Global,
     machine: &mut Machine,
@@ -76,6 +77,7 @@ fn prepare(machine: &Machine, journal: &mut Journal, step: &Step) -> Result<(), 
 
 /// Makes a step, puts its reply where it is to stand, and moves it into its entry where it was accepted:
 /// there must be room. Answers whether it was.
+#[inline(always)] // as `record`
 fn make(
     alloc: Global,
     machine: &mut Machine,
@@ -161,6 +163,7 @@ pub(crate) fn has_place(machine: &Machine, step: &Step) -> bool
 }
 
 /// Whose transaction a step may begin or end, and whether he has a live one before it.
+#[inline(always)] // as `record`
 pub(crate) fn starter_before(machine: &Machine, step: &Step) -> (Pid, bool)
     ensures starter { result.0.0 ≡ starter_of (view_of machine.now).table step.now }
     ensures live { result.1 ≡ is_live (view_of machine.now).table result.0.0 }
@@ -174,6 +177,7 @@ pub(crate) fn starter_before(machine: &Machine, step: &Step) -> (Pid, bool)
 
 /// The starter of the live transaction that a process is a member of, and the process where it is none; and
 /// whether that has a live one.
+#[inline(always)] // as `record`
 fn starter_by(machine: &Machine, pid: Pid) -> (Pid, bool)
     ensures starter { result.0.0 ≡ starter_by pid.0 ((view_of machine.now).table.marks pid.0) }
     ensures live { result.1 ≡ is_live (view_of machine.now).table result.0.0 }

@@ -64,7 +64,7 @@ impl Session {
 
     /// Makes a step as `step_into` does, and moves it into its entry where it is accepted: for a caller that
     /// needs it no more then, since a step is large too. A refused step stays where it is.
-    #[inline(always)] // a call of its own costs a line of the shell 26
+    #[inline(always)] // a call of its own would cost each line of a talk its arguments
     pub fn enter(&mut self, alloc: Global, worker: u16, step: &mut Step, reply: &mut Reply)
         requires { IsAtEnd self.old }
         ensures answer { (reply.new ≡ No Refusal.NoMemory)

@@ -31,7 +31,7 @@ mod read;
 
 pub use ends::flow::{Flow, Sink, Source};
 pub use ends::over::{OverRead, OverWrite};
-pub use ends::whole::{read_whole, write_whole};
+pub use ends::whole::{TEXT_BYTES, read_whole, write_whole};
 pub use faults::Fault;
 pub use instructions::{Instruction, Line, Name, Spelling};
 pub use print::bytes::put_bytes;
@@ -54,7 +54,7 @@ pub use read::sets::read_set;
 pub use read::small::{read_byte, read_pid, read_position};
 pub use read::spellings::read_name;
 pub use read::split::{split_at, split_word};
-pub use read::steps::read_step;
+pub use read::steps::{read_step, read_step_into};
 pub use read::text::read_schedule;
 pub use read::walk::Walk;
 pub use read::walk_text::read_walk;

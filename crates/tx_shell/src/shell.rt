@@ -15,9 +15,9 @@ use crate::meanings::meant_line;
 use crate::openings::{Opening, read_opening};
 use crate::versions::TextVersion;
 use std::alloc::Global;
-use tx_base::{NoMemory, Reply, Step};
+use tx_base::{Call, NoMemory, Pid, Reply, Step};
 use tx_journal::Session;
-use tx_lines::read_step;
+use tx_lines::read_step_into;
 use tx_plain::{Room, second_stays_itself};
 
 /// A session at a terminal, in which form it is answered, and of which version its lines are.
@@ -30,7 +30,9 @@ pub struct Shell {
     is_fresh: bool,
     /// The last of its steps that was to be made and was refused.
     refused: Option<Step>,
-    /// Where the replies of steps are put, one after another, since a reply is large.
+    /// Where the steps that lines spell are put, one after another, since a step is large.
+    step: Step,
+    /// Where their replies are put, since a reply is large too.
     reply: Reply,
 }
 
@@ -50,6 +52,7 @@ impl Shell {
             version: TextVersion::Three,
             is_fresh: true,
             refused: None,
+            step: Step::Call(Pid(0), Call::Getpid),
             reply: Reply::Ended,
         })
     }
@@ -108,9 +111,8 @@ impl Shell {
             (Stops (standing_of self.old) line.now (standing_of self.new)) }
     {
         second_stays_itself();
-        let mut read = read_step(self.version.grammar(), line);
-        if let Some(step) = &mut read {
-            self.answer_step(alloc, step, text)?;
+        if read_step_into(self.version.grammar(), line, &mut self.step) {
+            self.answer_step(alloc, text)?;
             return Ok(true);
         }
         self.answer_meaning(alloc, room, line, text)
@@ -143,19 +145,14 @@ impl Shell {
         }
     }
 
-    /// Makes a step that a line spells, and answers it.
+    /// Makes the step that a line spells, which stands in its place, and answers it.
     ///
     /// NoMemory where a growth is refused; nothing has changed then.
-    fn answer_step(
-        &mut self,
-        alloc: Global,
-        step: &mut Step,
-        text: &mut String,
-    ) -> Result<(), NoMemory>
-        requires fits { FitsStep step.old }
-        requires of { IsOf (grammar_of self.old.version) step.old }
+    fn answer_step(&mut self, alloc: Global, text: &mut String) -> Result<(), NoMemory>
+        requires fits { FitsStep self.old.step }
+        requires of { IsOf (grammar_of self.old.version) self.old.step }
         ensures answer { (line : List ℕ) → OnOk result
-            (AnswersMeant (standing_of self.old) line (Some (step_text step.old))
+            (AnswersMeant (standing_of self.old) line (Some (step_text self.old.step))
             (string_bytes text.new) (standing_of self.new)) }
         ensures stops { OnErr result (standing_of self.new ≡ standing_of self.old) }
     {
@@ -164,7 +161,7 @@ impl Shell {
             self.form,
             &mut self.session,
             &mut self.refused,
-            step,
+            &mut self.step,
             &mut self.reply,
             text,
         )?;

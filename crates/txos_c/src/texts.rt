@@ -8,11 +8,8 @@ use crate::faults::unread;
 use std::alloc::Global;
 use tx_base::NoMemory;
 use tx_check::check_text;
-use tx_lines::Fault;
+use tx_lines::{Fault, TEXT_BYTES};
 use tx_script::{debug_text, replay_text};
-
-/// How long a text may be, in bytes, as for a command.
-const TEXT_BYTES: usize = 1_048_576;
 
 /// The fault of a longer one.
 const TOO_LONG: Fault = Fault::TooLong { line: 0 };
