@@ -64,6 +64,7 @@ impl Content {
     /// Makes the act of a process that runs and is in no transaction, with an empty log.
     /// Puts what takes it back into the log, and where its post to what is kept of a starter stands.
     /// Refuses as the plan; the content is then as it was.
+    #[inline(always)] // a call of its own costs each step outside 25
     fn make_logged(
         &mut self,
         alloc: Global,
