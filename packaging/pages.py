@@ -1,9 +1,11 @@
-"""The pages of the manual, and the completions for shells, made of the program's own words."""
+"""The pages of the manual, and the completions for shells, made of the commands' own words."""
 import re
+import shlex
 from pathlib import Path
 
+from words import long_options
+
 HERE = Path(__file__).resolve().parent
-LONG = re.compile(r"--[a-z]+")
 # What the program's own page has.
 OTHERS = re.compile(r"commands of txos|faults")
 
@@ -30,17 +32,26 @@ def row(word, told):
     return f".TP\n.B {roff(word)}\n{roff(told)}"
 
 
+def rows_part(command):
+    """What the manual says of a command's arguments and options; how it asks for help is said once of all."""
+    return [f".RS\n{row(*it)}\n.RE" for it in command.rows if "--help" not in it[0]]
+
+
 def command_part(program, command):
-    """What the manual says of a command; how it asks for help is said once of all."""
-    rows = [f".RS\n{row(*it)}\n.RE" for it in command.rows if "--help" not in it[0]]
+    """What the manual says of a command of the program."""
     more = [f".RS\n{block(it)}\n.RE" for it in program.page(command.name).split("\n", 1)[1:] if it]
-    return "\n".join([row(command.name, f"{command.about}."), *rows, *more])
+    return "\n".join([row(command.name, f"{command.about}."), *rows_part(command), *more])
 
 
 def fault_part(page):
     """What the manual says of a fault, by the first line of its page."""
     word, _, told = page.splitlines()[0].partition(": ")
     return f".RS\n{row(word, told)}\n.RE"
+
+
+def synopsis(commands):
+    """How commands are called, each in a line."""
+    return "\n.br\n".join(f".B {roff(it.usage)}" for it in commands)
 
 
 def manual(program, date):
@@ -50,7 +61,7 @@ def manual(program, date):
     return filled("txos.1", {
         "DATE": date,
         "VERSION": program.version()[0],
-        "SYNOPSIS": "\n.br\n".join(f".B {roff(it.usage)}" for it in commands),
+        "SYNOPSIS": synopsis(commands),
         "COMMANDS": "\n".join(command_part(program, it) for it in commands),
         "OPTIONS": "\n".join(row(*it) for it in program.options()),
         "FAULTS": "\n".join(fault_part(program.page(it)) for it in faults.words),
@@ -76,27 +87,27 @@ def library_manual(program, date):
     return filled("libtxos.3", {"DATE": date, "VERSION": program.version()[0]})
 
 
-def long_options(rows):
-    """The long options of rows, as `--help`."""
-    return [option for word, _ in rows for option in LONG.findall(word)]
+def recorder_manual(recorder, program, date):
+    """The page of txos-record."""
+    commands = recorder.commands()
+    parts = ["\n".join([row(it.name, recorder.page(it.name)), *rows_part(it)]) for it in commands]
+    return filled("txos-record.1", {
+        "DATE": date,
+        "VERSION": program.version()[0],
+        "SYNOPSIS": synopsis(commands),
+        "DESCRIPTION": roff(recorder.about()),
+        "COMMANDS": "\n".join(parts),
+        "OPTIONS": "\n".join(row(*it) for it in recorder.options()),
+    })
 
 
-def choices(program):
-    """For each command the words that may stand behind it."""
-    commands = program.commands()
-    words = {it.name: long_options(it.rows) for it in commands}
-    words["help"] += [it.name for it in commands]
-    words["explain"] += [word for it in program.groups() for word in it.words]
-    return words
-
-
-def completion(name, program):
-    """A file of completions."""
-    commands, behind = program.commands(), choices(program)
+def completion(name, asked):
+    """A file of completions, of the program or of txos-record."""
+    commands, behind = asked.commands(), asked.words_behind()
     return filled(name, {
         "COMMANDS": " ".join(it.name for it in commands),
-        "COMMANDS_TOLD": "\n".join(f"    '{it.name}:{it.about}'" for it in commands),
-        "OPTIONS": " ".join(long_options(program.options())),
+        "COMMANDS_TOLD": "\n".join(f"    {shlex.quote(f'{it.name}:{it.about}')}" for it in commands),
+        "OPTIONS": " ".join(long_options(asked.options())),
         "BASH_CASES": "\n".join(f"        *:{it}) words='{' '.join(behind[it])}' ;;" for it in behind),
         "ZSH_CASES": "\n".join(f"    *:{it}) compadd -- {' '.join(behind[it])} ;;" for it in behind),
     })

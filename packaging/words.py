@@ -4,6 +4,7 @@ import subprocess
 from dataclasses import dataclass
 
 ROW = re.compile(r" {2,}(\S.*?)(?: {2,}(.*))?")
+LONG = re.compile(r"--[a-z]+")
 
 
 @dataclass(frozen=True)
@@ -33,6 +34,11 @@ def rows_of(text, *titles):
         elif title in titles and (row := ROW.fullmatch(line)):
             rows.append((row[1], row[2] or ""))
     return tuple(rows)
+
+
+def long_options(rows):
+    """The long options of rows, as `--help`."""
+    return [option for word, _ in rows for option in LONG.findall(word)]
 
 
 class Program:
@@ -73,3 +79,11 @@ class Program:
     def page(self, word):
         """What it explains of a word."""
         return self.said("explain", word)
+
+    def words_behind(self):
+        """For each command the words that may stand behind it."""
+        commands = self.commands()
+        words = {it.name: long_options(it.rows) for it in commands}
+        words["help"] += [it.name for it in commands]
+        words["explain"] += [word for it in self.groups() for word in it.words]
+        return words

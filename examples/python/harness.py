@@ -5,7 +5,8 @@ The steps that all tests begin with are made once. Behind each test the harness 
 position, over what the test did, its commits and aborts too, and lets go of it. Two of the tests
 are wrong, to show what is said of them.
 
-usage: TXOS=PROGRAM python3 examples/python/harness.py
+usage: PYTHONPATH=python python3 examples/python/harness.py
+After `pip install ./python` it needs no PYTHONPATH.
 """
 
 from txos import Kernel

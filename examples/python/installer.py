@@ -5,7 +5,8 @@ Process 2 installs a new version over the old one, in a transaction: it writes i
 service, process 3, to begin anew, and lets a child look whether all is there. The first time it
 forgets the configuration; so it looks what would be left, takes all back, and does it again.
 
-usage: TXOS=PROGRAM python3 examples/python/installer.py
+usage: PYTHONPATH=python python3 examples/python/installer.py
+After `pip install ./python` it needs no PYTHONPATH.
 """
 
 from txos import Kernel, Refused

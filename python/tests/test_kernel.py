@@ -1,10 +1,7 @@
-#!/usr/bin/env python3
-"""Tests of txos.py: what lines are answered, by the program that TXOS names, and how a talk ends.
+"""Tests of txos.kernel: how the program is found, what it answers, and how a session ends.
 
 What is expected follows from the rules. Where a program has to fail, a few lines of shell stand for
 it.
-
-usage: TXOS=PROGRAM python3 examples/python/test_txos.py
 """
 
 import doctest
@@ -14,9 +11,10 @@ import tempfile
 import unittest
 from contextlib import redirect_stderr
 from io import StringIO
+from pathlib import Path
 from unittest import mock
 
-import txos
+import txos.kernel
 from txos import (
     Action,
     BadLine,
@@ -29,6 +27,7 @@ from txos import (
     Kernel,
     Made,
     Moved,
+    NoProgram,
     Owned,
     Page,
     Process,
@@ -41,6 +40,7 @@ from txos import (
     Transaction,
     TxosError,
     Undelivered,
+    find_program,
 )
 
 
@@ -65,7 +65,7 @@ def process(pid, parent=1, **parts):
     return Process(pid=pid, parent=parent, **{**nothing, **parts})
 
 
-class Talks(unittest.TestCase):
+class Answers(unittest.TestCase):
     """Over the program."""
 
     def setUp(self):
@@ -258,7 +258,7 @@ class Talks(unittest.TestCase):
         self.assertEqual(self.kernel.moved(7), Moved(True, (1, 2, 3, 4, 6, 5, 7)))
         self.assertIsNone(self.kernel.moved(2))
 
-    def test_a_long_talk(self):
+    def test_a_long_session(self):
         with Kernel(processes=256) as kernel:
             for number in range(1, 257):
                 kernel.step(f"{number} map 0")
@@ -277,7 +277,7 @@ class Talks(unittest.TestCase):
 
 
 class Ends(unittest.TestCase):
-    """How a program is found, and ends."""
+    """How a program ends."""
 
     def setUp(self):
         folder = tempfile.TemporaryDirectory()
@@ -346,20 +346,6 @@ class Ends(unittest.TestCase):
         with self.assertRaises(ShellEnded):
             kernel.step("2 getpid")
 
-    def test_where_the_program_is(self):
-        self.write("read -r line")
-        folder = os.path.dirname(self.program)
-        with mock.patch.dict(os.environ, {"TXOS": self.program}):
-            Kernel().close()
-        with mock.patch.dict(os.environ, {"PATH": f"{folder}:{os.environ['PATH']}"}):
-            os.environ.pop("TXOS", None)
-            Kernel().close()
-        with mock.patch.dict(os.environ, {"PATH": "/nowhere"}, clear=True):
-            with self.assertRaises(FileNotFoundError):
-                Kernel()
-        with self.assertRaises(FileNotFoundError):
-            Kernel(program="/nowhere/txos")
-
     def test_what_is_told_first_is_handed_on(self):
         self.write("read -r line")
         with open(self.program, encoding="utf-8") as file:
@@ -370,11 +356,97 @@ class Ends(unittest.TestCase):
             self.assertEqual(told.getvalue(), "an unproved run\n")
 
 
+class Finds(unittest.TestCase):
+    """Where the program is, in the order in which it is looked for."""
+
+    def setUp(self):
+        folder = tempfile.TemporaryDirectory()
+        self.addCleanup(folder.cleanup)
+        self.folder = Path(folder.name).resolve()
+        self.on_path = self.make_program("path/txos")
+        environment = mock.patch.dict(os.environ, {"PATH": str(self.on_path.parent)})
+        environment.start()
+        self.addCleanup(environment.stop)
+        os.environ.pop("TXOS", None)
+
+    def make_program(self, place, text="#!/bin/sh\n"):
+        made = self.folder / place
+        made.parent.mkdir(parents=True, exist_ok=True)
+        made.write_text(text, encoding="utf-8")
+        made.chmod(0o700)
+        return made
+
+    def make_checkout(self):
+        (self.folder / "crates.txt").touch()
+        return self.make_program("txos")
+
+    def found(self, package="python/txos"):
+        """What is found where the package is in this folder."""
+        with mock.patch.object(txos.kernel, "__file__", str(self.folder / package / "kernel.py")):
+            return Path(find_program())
+
+    def test_what_is_given_comes_first(self):
+        given, of_variable = self.make_program("given"), self.make_program("variable")
+        with mock.patch.dict(os.environ, {"TXOS": str(of_variable)}):
+            self.assertEqual(find_program(given), str(given))
+            self.assertEqual(find_program(str(given)), str(given))
+
+    def test_the_variable_comes_before_the_checkout(self):
+        self.make_checkout()
+        of_variable = self.make_program("variable")
+        with mock.patch.dict(os.environ, {"TXOS": str(of_variable)}):
+            self.assertEqual(self.found(), of_variable)
+        with mock.patch.dict(os.environ, {"TXOS": "txos"}):
+            self.assertEqual(self.found(), self.on_path)
+
+    def test_a_checkout_comes_before_the_path(self):
+        script = self.make_checkout()
+        self.assertEqual(self.found(), script)
+        with mock.patch.dict(os.environ, {"TXOS": ""}):
+            self.assertEqual(self.found(), script)
+
+    def test_a_folder_that_is_no_checkout_has_no_program(self):
+        script = self.make_program("txos")
+        self.assertEqual(self.found(), self.on_path)
+        self.make_checkout()
+        script.chmod(0o600)
+        self.assertEqual(self.found(), self.on_path)
+
+    def test_what_is_installed_together_comes_before_the_path(self):
+        together = self.make_program("prefix/bin/txos")
+        for package in ("python3/dist-packages/txos", "python3.11/site-packages/txos"):
+            self.assertEqual(self.found(f"prefix/lib/{package}"), together)
+        self.assertEqual(self.found("prefix/share/python3/dist-packages/txos"), self.on_path)
+        self.assertEqual(self.found("other/lib/python3/dist-packages/txos"), self.on_path)
+
+    def test_no_program_is_told(self):
+        self.on_path.unlink()
+        with self.assertRaises(NoProgram) as told:
+            self.found()
+        self.assertIsInstance(told.exception, FileNotFoundError)
+        sentence = "the program txos is not found: set TXOS to its path, or put it on the PATH"
+        self.assertEqual(str(told.exception), sentence)
+
+    def test_a_name_that_is_no_program_is_told(self):
+        text = self.make_program("text")
+        text.chmod(0o600)
+        for named in (text, self.folder, "/nowhere/txos"):
+            with self.assertRaises(NoProgram) as told:
+                Kernel(program=named)
+            self.assertEqual(str(told.exception), f"{named} is not a program that can be run")
+        with mock.patch.dict(os.environ, {"TXOS": "/nowhere/txos"}):
+            with self.assertRaises(NoProgram) as told:
+                Kernel()
+
+    def test_a_program_that_cannot_be_started_is_told(self):
+        for text, reason in (("?", "Exec format error"), ("#!/nowhere/sh\n", "No such file")):
+            program = self.make_program("odd", text)
+            with self.assertRaises(NoProgram) as told:
+                Kernel(program=program)
+            self.assertIn(f"{program} can't be started: {reason}", str(told.exception))
+
+
 def load_tests(loader, tests, pattern):
-    """The tests of this file, and the talk with which txos.py begins."""
-    tests.addTests(doctest.DocTestSuite(txos))
+    """The tests of this file, and the session with which the module begins."""
+    tests.addTests(doctest.DocTestSuite(txos.kernel))
     return tests
-
-
-if __name__ == "__main__":
-    unittest.main()

@@ -19,10 +19,9 @@
     >>> kernel.close()
 
 A step is written as in a schedule (docs/TEXTS.md), what is asked besides as in the shell
-(docs/SHELL.md). Each line is answered before the next one is written, and an answer is one line:
-so there is no thread here, and neither side waits for the other. A `Kernel` is for one thread.
-
-This file stands alone, to be copied: it needs Python 3.8 and the program.
+(docs/SHELL.md). Each line is answered before the next one is written, or, in `make_all`, before
+more are written than a pipe holds, and an answer is one line: so there is no thread here, and
+neither side waits for the other. A `Kernel` is for one thread.
 """
 
 from __future__ import annotations
@@ -36,13 +35,18 @@ import subprocess
 import sys
 import tempfile
 from dataclasses import dataclass
-from typing import Any
+from pathlib import Path
+from typing import IO, Any, Iterable, Iterator, Sequence
 
 _Bytes = bytes  # for classes with a field that is called `bytes`
 
 
 class TxosError(Exception):
     """What all errors of this module are."""
+
+
+class NoProgram(TxosError, FileNotFoundError):
+    """The program is not found, or can't be started."""
 
 
 class Refused(TxosError):
@@ -59,8 +63,13 @@ class Refused(TxosError):
         self.code = code
         self.holder = holder
 
+    @property
+    def answer(self) -> str:
+        """The refusal as a report spells it, such as `no N8 2`."""
+        return f"no {self.code}" + (f" {self.holder}" if self.holder else "")
+
     def __str__(self) -> str:
-        return f"{self.step}: no {self.code}" + (f" {self.holder}" if self.holder else "")
+        return f"{self.step}: {self.answer}"
 
 
 class StepsAhead(TxosError):
@@ -307,31 +316,30 @@ class State:
     txns: dict[int, Transaction]
 
 
+# How many bytes of lines are written ahead of their answers: no pipe holds fewer, so that writing
+# them never waits for a program that itself waits until its answers are read.
+_MOST_AHEAD = 4096
+
+
 class Kernel:
     """A kernel that begins with so many processes, 1 to 256, in a program of its own.
 
-    `program` is a path; without one it is that of the environment variable TXOS, or else `txos` on
-    the PATH. Use a kernel in a `with`, or call `close`. What raises `Refused`, `StepsAhead` or
-    `BadLine` has changed nothing; after `ShellEnded` the kernel is closed.
+    `program` is as in `find_program`, and raises `NoProgram` where it can't be started. Use a
+    kernel in a `with`, or call `close`. What raises `Refused`, `StepsAhead` or `BadLine` has
+    changed nothing; after `ShellEnded` the kernel is closed.
 
     The script `txos` of a checkout may have to build its program first, for a minute or two.
     """
 
     def __init__(self, processes: int = 2, program: str | os.PathLike[str] | None = None) -> None:
-        command = [_find_program(program), "shell", "--json"]
+        found = find_program(program)
         self._position = 0
         self._closed = False
         self._fault = ""
         with contextlib.ExitStack() as where_it_fails:
             # A file, since a pipe that is not read fills up.
             self._errors = where_it_fails.enter_context(tempfile.TemporaryFile())
-            self._process = subprocess.Popen(
-                command,
-                stdin=subprocess.PIPE,
-                stdout=subprocess.PIPE,
-                stderr=self._errors,
-                start_new_session=True,  # so that a ^C at a prompt of Python does not end it
-            )
+            self._process = _start_shell(found, self._errors)
             assert self._process.stdin and self._process.stdout
             self._input, self._output = self._process.stdin, self._process.stdout
             where_it_fails.callback(self.close)
@@ -369,13 +377,28 @@ class Kernel:
 
     def step(self, line: str) -> Reply:
         """Makes a step, such as `2 store 0 41`; raises `Refused`, `StepsAhead` or `BadLine`."""
-        if not re.match(r"[ \t]*(\d|kernel\b)", line):
-            raise BadLine(line, "a step begins with the number of a process, or with kernel", 1)
+        _demand_step(line)
         answer = self.ask(line)
         refused = _read_refusal(line, answer)
         if refused:
             raise refused
         return _read_reply(answer)
+
+    def make_all(self, lines: Iterable[str]) -> Iterator[Reply | Refused]:
+        """Makes steps in order, and yields what each is answered; a refusal is not raised.
+
+        It is faster than `step` by far, since some lines are sent before the first of them is
+        answered. So where it raises `StepsAhead` or `BadLine`, or is left early, a few steps
+        behind that one may be made too.
+        """
+        for some in _split(lines):
+            for line in some:
+                _demand_step(line)
+            answers = self._exchange([_encode(it) for it in some])
+            for line, answer in zip(some, answers):
+                if "error" in answer:
+                    raise _error_of(line, answer["error"])
+                yield _read_refusal(line, answer) or _read_reply(answer)
 
     def back(self) -> bool:
         """Takes the newest step back that is made; False where none is."""
@@ -472,12 +495,9 @@ class Kernel:
 
         A refusal is in it, and not raised; the other errors are.
         """
-        if "\n" in line:
-            raise BadLine(line, "this is more than one line")
-        answer = self._exchange(line.encode("utf-8", "surrogateescape") + b"\n")
+        [answer] = self._exchange([_encode(line)])
         if "error" in answer:
             raise _error_of(line, answer["error"])
-        self._position = answer.get("step", answer.get("at", self._position))
         return answer
 
     def _lines(self, line: str) -> list[str]:
@@ -488,22 +508,25 @@ class Kernel:
         at, _, step = first.partition(": ")
         return None if step == "no change" else Found(*_read_sides(lines), int(at.split()[1]), step)
 
-    def _exchange(self, line: bytes) -> dict[str, Any]:
-        """Writes a line, and reads the one that answers it."""
-        answer = b""
+    def _exchange(self, lines: Sequence[bytes]) -> list[dict[str, Any]]:
+        """Writes lines, and reads those that answer them."""
+        answers = []
         if not self._closed:
             try:
                 with contextlib.suppress(BrokenPipeError):  # it has ended: there is no answer
-                    self._input.write(line)
+                    self._input.write(b"".join(lines))
                     self._input.flush()
-                answer = self._output.readline()
+                answers = [self._output.readline() for _ in lines]
             except BaseException:
                 self.close()  # an answer that was not read would be taken for the next line's
                 raise
-        if not answer.endswith(b"\n"):
+        if len(answers) < len(lines) or not all(it.endswith(b"\n") for it in answers):
             self.close()
             raise ShellEnded(self._process.returncode, self._fault)
-        return json.loads(answer.decode("utf-8", "surrogateescape"))
+        objects = [json.loads(it.decode("utf-8", "surrogateescape")) for it in answers]
+        for it in objects:
+            self._position = it.get("step", it.get("at", self._position))
+        return objects
 
     def _told(self) -> str:
         """What the program has written to its standard error."""
@@ -511,11 +534,73 @@ class Kernel:
         return os.pread(self._errors.fileno(), 1 << 16, 0).decode("utf-8", "replace")
 
 
-def _find_program(program: str | os.PathLike[str] | None) -> str:
-    found = program or os.environ.get("TXOS") or shutil.which("txos")
-    if not found:
-        raise FileNotFoundError("there is no txos: name it, set TXOS, or put it on the PATH")
-    return os.fspath(found)
+def find_program(program: str | os.PathLike[str] | None = None) -> str:
+    """The path of the program: the one that is named, or else that of the variable TXOS.
+
+    Where neither is given, it is the script `txos` of the checkout that this module is in, or the
+    program that is installed with this module, or `txos` on the PATH. Raises `NoProgram` where
+    none of these is there, or where the one that is named can't be run.
+    """
+    named = program or os.environ.get("TXOS")
+    if named:
+        found = shutil.which(os.fspath(named))
+        if not found:
+            raise NoProgram(f"{os.fspath(named)} is not a program that can be run")
+        return found
+    for place in [*_places_beside(Path(__file__).resolve().parent), "txos"]:
+        found = shutil.which(place)
+        if found:
+            return found
+    raise NoProgram("the program txos is not found: set TXOS to its path, or put it on the PATH")
+
+
+def _places_beside(package: Path) -> Iterator[str]:
+    """Where the program is, if the package is in a checkout, or installed together with it."""
+    above = list(package.parents)
+    if len(above) > 1 and (above[1] / "crates.txt").is_file():
+        yield str(above[1] / "txos")
+    if len(above) > 3 and above[2].name == "lib":  # PREFIX/lib/python3/dist-packages/txos
+        yield str(above[3] / "bin" / "txos")
+
+
+def _start_shell(program: str, errors: IO[bytes]) -> subprocess.Popen[bytes]:
+    """Starts a shell that answers by lines of JSON."""
+    try:
+        return subprocess.Popen(
+            [program, "shell", "--json"],
+            stdin=subprocess.PIPE,
+            stdout=subprocess.PIPE,
+            stderr=errors,
+            start_new_session=True,  # so that a ^C at a prompt of Python does not end it
+        )
+    except OSError as error:
+        raise NoProgram(f"{program} can't be started: {error.strerror}") from error
+
+
+def _demand_step(line: str) -> None:
+    """Raises `BadLine` where a line can't be a step, but may be a command."""
+    if not re.match(r"[ \t]*(\d|kernel\b)", line):
+        raise BadLine(line, "a step begins with the number of a process, or with kernel", 1)
+
+
+def _split(lines: Iterable[str]) -> Iterator[list[str]]:
+    """Parts lines into lists, each as long as may be sent ahead."""
+    part: list[str] = []
+    size = 0
+    for line in lines:
+        length = len(_encode(line))
+        if size + length > _MOST_AHEAD:
+            yield part
+            part, size = [], 0
+        part.append(line)
+        size += length
+    yield part
+
+
+def _encode(line: str) -> bytes:
+    if "\n" in line:
+        raise BadLine(line, "this is more than one line")
+    return line.encode("utf-8", "surrogateescape") + b"\n"
 
 
 def _error_of(line: str, told: str) -> TxosError:

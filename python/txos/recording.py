@@ -1,0 +1,225 @@
+"""A recording: what real processes did, as a schedule, with Linux's answer behind each step.
+
+Its text is a schedule of version 3, so `txos replay` and the shell read it as it is. What a
+recording knows beyond the steps is in comments, of which `read_recording` reads these:
+
+    # recorded: sh -c 'echo hello | tr a-z A-Z'      what was recorded
+    # log: 313 lines                                 how long the log is
+    # factor: 1                                      how many bytes of Linux are one byte here
+    # 4 is tr a-z A-Z                                from here on process 4 is this command
+    2 fork 4  # = ok 4  # 57 clone                   Linux's answer, the log's line and call
+    # left out: 12 of read of a file, first at line 7
+
+A step without `# =` has no answer to compare: Linux did it, so it must only be accepted.
+"""
+
+from __future__ import annotations
+
+import re
+from dataclasses import dataclass, field
+from typing import Dict, Iterator, List, Optional
+
+OUTSIDE = 1  # the process that stands for all that were not recorded
+ROOT = 2  # the process that was recorded first
+# A pipe whose write end stands for whatever is no pipe: files, terminals, sockets.
+FILE_PIPE, FILE_READ, FILE_WRITE = 31, 62, 63
+FILE_DESCRIPTOR = 15  # the descriptor by which each process keeps that end
+ABORT = "kernel"  # the call that a schedule spells `kernel P`: the kernel aborts P's transaction
+
+HEADER = "txos 3 schedule 2"
+_LINE_LIMIT = 512
+_STEP = re.compile(
+    r"(?:kernel (?P<starter>\d+)|(?P<process>\d+) (?P<call>[^#\"]*?(?:\"(?:[^\"\\]|\\.)*\")?))"
+    r"(?:\s+# = (?P<expected>[^#]+?))?(?:\s+# (?P<line>\d+) (?P<host>[^#]+?))?\s*"
+)
+_NAMED = re.compile(r"# (\d+) is (.+)")
+_LEFT_OUT = re.compile(r"# left out: (\d+) of (.+), first at line (\d+)")
+_FIELD = re.compile(r"# (recorded|log|factor): (.+)")
+
+
+class BadRecording(ValueError):
+    """A text is no recording. `line` is the first line at fault, from 1, `told` what is wrong."""
+
+    def __init__(self, line: int, told: str) -> None:
+        super().__init__(line, told)
+        self.line = line
+        self.told = told
+
+    def __str__(self) -> str:
+        return f"line {self.line}: {self.told}"
+
+
+@dataclass(frozen=True)
+class Step:
+    """A step of a recording.
+
+    `call` is the step without its process, as a schedule spells it. `expected` is what Linux
+    answered, as a report spells it (`ok 3`, `ended`, `no N9`), or None where Linux has no answer
+    that says more than that it was done. `line` is that of the log, and `host` the call there; a
+    step that only sets the kernel up has neither.
+    """
+
+    process: int
+    call: str
+    expected: Optional[str] = None
+    line: Optional[int] = None
+    host: str = ""
+
+    @property
+    def text(self) -> str:
+        """The step as a schedule spells it."""
+        return f"kernel {self.process}" if self.call == ABORT else f"{self.process} {self.call}"
+
+    @property
+    def words(self) -> list[str]:
+        """The words of the call."""
+        return self.call.split()
+
+    def spelled(self) -> str:
+        """The line of the recording that has the step."""
+        expected = f"  # = {self.expected}" if self.expected else ""
+        host = f"  # {self.line} {self.host}" if self.line else ""
+        return f"{self.text}{expected}{host}"
+
+
+@dataclass(frozen=True)
+class Naming:
+    """From the step with this index on, from 0, a process is this command."""
+
+    index: int
+    process: int
+    command: str
+
+
+@dataclass
+class LeftOut:
+    """What the log has and the recording has not: how often, and in which line first."""
+
+    kind: str
+    count: int
+    line: int
+
+
+@dataclass
+class Recording:
+    """The steps of real processes, what these are, and what was left out."""
+
+    command: str
+    log_lines: int
+    factor: int = 1
+    steps: list[Step] = field(default_factory=list)
+    names: list[Naming] = field(default_factory=list)
+    left_out: list[LeftOut] = field(default_factory=list)
+
+    def name(self, process: int, index: Optional[int] = None) -> str:
+        """The command that a process is before the step with an index, or at last; or ""."""
+        if process == OUTSIDE:
+            return "outside"
+        named = [
+            it.command
+            for it in self.names
+            if it.process == process and (index is None or it.index <= index)
+        ]
+        return named[-1] if named else ""
+
+    def label(self, process: int, index: Optional[int] = None) -> str:
+        """A process by its number and its short name, such as `4 tr`."""
+        short = short_name(self.name(process, index))
+        return f"{process} {short}" if short else str(process)
+
+    def processes(self) -> list[int]:
+        """The numbers of all recorded processes, in the order in which they begin."""
+        return list(dict.fromkeys(it.process for it in self.names))
+
+    def find(self, word: str) -> list[int]:
+        """The processes that a word means: a number, or a word of their names."""
+        if word.isdecimal():
+            return [it for it in self.processes() if it == int(word)]
+        return [
+            it
+            for it in self.processes()
+            if any(word in _words_of(n.command) for n in self.names if n.process == it)
+        ]
+
+    def text(self) -> str:
+        """The recording as a schedule."""
+        return "".join(f"{it[:_LINE_LIMIT]}\n" for it in self._lines())
+
+    def _lines(self) -> Iterator[str]:
+        yield HEADER
+        yield f"# recorded: {self.command}"
+        yield f"# log: {self.log_lines} lines"
+        yield f"# factor: {self.factor}"
+        names: Dict[int, List[Naming]] = {}
+        for naming in self.names:
+            names.setdefault(naming.index, []).append(naming)
+        for index, step in enumerate(self.steps):
+            for it in names.get(index, ()):
+                yield f"# {it.process} is {it.command}"
+            yield step.spelled()
+        for out in self.left_out:
+            yield f"# left out: {out.count} of {out.kind}, first at line {out.line}"
+
+
+def _words_of(command: str) -> list[str]:
+    """The words of a command, each also without its folder and without quotes."""
+    words = re.split(r"[\s'\"]+", command)
+    return [*words, *(it.rpartition("/")[2] for it in words)]
+
+
+def short_name(command: str) -> str:
+    """The first word of a command, without its folder."""
+    words = command.split()
+    return words[0].rpartition("/")[2] if words else ""
+
+
+def read_recording(text: str) -> Recording:
+    """The recording that a text is; raises `BadRecording` where it is none."""
+    lines = text.split("\n")
+    if lines[0] != HEADER:
+        raise BadRecording(1, f"a recording begins with {HEADER}: txos-record makes one")
+    if lines[-1]:
+        raise BadRecording(len(lines), "the last line has no end, so the recording is cut off")
+    made = Recording("", 0)
+    fields: Dict[str, str] = {}
+    for number, line in enumerate(lines[1:-1], 2):
+        _read_line(made, fields, number, line)
+    missing = {"recorded", "log", "factor"} - fields.keys()
+    if missing:
+        raise BadRecording(1, f"no line begins with `# {min(missing)}: `: txos-record makes one")
+    made.command = fields["recorded"]
+    made.log_lines = int(fields["log"].split()[0])
+    made.factor = int(fields["factor"].split()[0])
+    return made
+
+
+def _read_line(made: Recording, fields: Dict[str, str], number: int, line: str) -> None:
+    """Reads a line behind the first."""
+    if line.startswith("#"):
+        _read_comment(made, fields, line)
+        return
+    if not line.strip():
+        return
+    found = _STEP.fullmatch(line)
+    if not found:
+        raise BadRecording(number, f"this is no step of a recording: {line[:60]}")
+    made.steps.append(
+        Step(
+            int(found["process"] or found["starter"]),
+            found["call"] or ABORT,
+            found["expected"],
+            int(found["line"]) if found["line"] else None,
+            found["host"] or "",
+        )
+    )
+
+
+def _read_comment(made: Recording, fields: Dict[str, str], line: str) -> None:
+    """Reads a comment that has a line for itself; one that says nothing of these is skipped."""
+    named, out, known = _NAMED.fullmatch(line), _LEFT_OUT.fullmatch(line), _FIELD.fullmatch(line)
+    if named:
+        made.names.append(Naming(len(made.steps), int(named[1]), named[2]))
+    elif out:
+        made.left_out.append(LeftOut(out[2], int(out[1]), int(out[3])))
+    elif known and known[1] not in fields:
+        fields[known[1]] = known[2]

@@ -1,0 +1,154 @@
+"""The command `txos-record trial`: whether a part of a recording could have been a transaction."""
+
+from __future__ import annotations
+
+import argparse
+from typing import Any, Callable, Iterator, List, Optional
+
+from .faults import Fault
+from .files import write_whole
+from .kernel import Kernel
+from .lives import Life, Plan, make_plan
+from .progress import Progress
+from .recording import ABORT, OUTSIDE, ROOT, Recording
+from .replays import replay_file
+from .trial_circles import find_circles, find_forever
+from .trial_outcome import Outcome, Question
+from .trial_recording import trial_recording
+from .trial_report import Findings, report
+from .trial_schedule import Schedule
+from .trial_table import table
+
+_ABOUT = """Tries a process of a recording, and all that it forks, as a transaction: whether it
+commits, who waits for it, who waits for ever, and what is answered otherwise than on Linux. Each
+process makes its recorded steps in order. One that is refused, since the transaction is in the way
+or since it waits, is tried again after each step that is made. Files take no part."""
+_USAGE = "%(prog)s [-h] FILE (PROCESS [--abort [STEP]] [-o OUT] | --all)"
+_WRONG_WORDS = 2  # the status where the words are not understood
+_ITSELF = 0  # in place of the step after which the kernel aborts a transaction
+
+
+class _All(argparse.Action):
+    """`--all`, with which no process is named."""
+
+    def __init__(self, process: argparse.Action, **words: Any) -> None:
+        super().__init__(nargs=0, default=False, **words)
+        self._process = process
+
+    def __call__(self, parser: Any, args: Any, values: Any, option: Any = None) -> None:
+        self._process.required = False
+        setattr(args, self.dest, True)
+
+
+def add_command(commands: argparse._SubParsersAction) -> None:
+    """Adds the words of `txos-record trial`."""
+    parser = commands.add_parser(
+        "trial", help="try a process as a transaction", description=_ABOUT, usage=_USAGE
+    )
+    parser.add_argument("file", metavar="FILE", help="a recording, or - for standard input")
+    process = parser.add_argument(
+        "process", metavar="PROCESS", help="its number, its command, or a word of its name"
+    )
+    parser.add_argument(
+        "--abort",
+        metavar="STEP",
+        nargs="?",
+        type=_step_number,
+        const=_ITSELF,
+        help="the kernel aborts it after STEP; without STEP it aborts itself in place of its end",
+    )
+    parser.add_argument(
+        "-o", "--output", metavar="OUT", help="write the steps of the trial to OUT, as a recording"
+    )
+    parser.add_argument(
+        "--all", action=_All, process=process, help="try each process, and print a table"
+    )
+    parser.set_defaults(run=_run)
+
+
+def _step_number(word: str) -> int:
+    if not word.isdecimal() or int(word) == 0:
+        raise argparse.ArgumentTypeError(f"{word} is no number of a step")
+    return int(word)
+
+
+def read_plan(file: str) -> Plan:
+    """The plan of a recording; raises `Fault` where it is none, or is one of a trial."""
+    with replay_file(file) as replay:
+        recording = replay.recording
+    for number, step in enumerate(recording.steps, 1):
+        if step.words[0] in ("sys_xbegin", ABORT):
+            raise Fault(f"step {number} ({step.text}) is of a trial: name what was tried there")
+    return make_plan(recording)
+
+
+def choose(plan: Plan, word: str) -> Life:
+    """The process that a word means; raises `Fault`, which lists them, where it is not one."""
+    found = plan.find(word)
+    if len(found) == 1:
+        return found[0]
+    if word == str(OUTSIDE):
+        raise Fault(f"process {OUTSIDE} stands for all that were not recorded, and is not tried")
+    names = ", ".join(map(plan.spelled, found or plan.lives))
+    if found:
+        raise Fault(f"{word} means several processes, name one by its number: {names}")
+    raise Fault(f"{word} is none of the processes: {names}")
+
+
+def ask(plan: Plan, starter: Life, abort: Optional[int]) -> Question:
+    """What is tried with a process; raises `Fault` where there is no step after which to abort."""
+    if abort is None:
+        return Question(starter)
+    if abort == _ITSELF:
+        if not starter.turns or not starter.turns[-1].ends:
+            raise Fault(
+                f"process {starter.label} does not end in the recording, so it can't abort itself "
+                "in place of its end: name a step, --abort STEP"
+            )
+        return Question(starter, aborts_itself=True)
+    steps = len(plan.recording.steps)
+    if abort > steps:
+        raise Fault(f"there is no step {abort}: the recording has {steps}")
+    return Question(starter, aborted_after=abort - 1)
+
+
+def try_question(
+    plan: Plan,
+    question: Question,
+    alone: Optional[Outcome],
+    is_explained: bool,
+    advance: Callable[[], None],
+) -> Findings:
+    """Makes a trial; `alone` is what came of the same steps without a transaction, if known."""
+    with Kernel(ROOT) as kernel:
+        schedule = Schedule(kernel, plan, question, is_explained, advance)
+        outcome = schedule.run()
+        findings = Findings(plan, outcome, alone or outcome)
+        if not (question.is_abort_wanted and outcome.after):
+            findings.forever = find_forever(schedule)
+            findings.circles = find_circles(findings.forever)
+            findings.idle = schedule.idle_members()
+    return findings
+
+
+def try_all(plan: Plan, questions: List[Question], is_explained: bool) -> List[Findings]:
+    """Makes trials, with the progress shown."""
+    with Progress(len(plan.turns) * (len(questions) + 1), "steps") as progress:
+        alone = try_question(plan, Question(), None, False, progress.advance).outcome
+        return [try_question(plan, it, alone, is_explained, progress.advance) for it in questions]
+
+
+def _run(args: argparse.Namespace) -> int:
+    if args.all and (args.process or args.abort is not None or args.output):
+        raise Fault("with --all there is no PROCESS, no --abort and no -o", _WRONG_WORDS)
+    plan = read_plan(args.file)
+    if args.all:
+        trials = try_all(plan, [Question(it) for it in plan.lives], is_explained=False)
+        print("\n".join(table(trials)))
+        return 0
+    question = ask(plan, choose(plan, args.process), args.abort)
+    (findings,) = try_all(plan, [question], is_explained=True)
+    if args.output:
+        write_whole(args.output, trial_recording(plan, findings.outcome).text())
+    print("\n".join(report(findings)))
+    return 0
