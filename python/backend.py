@@ -112,9 +112,10 @@ def _package_files() -> Dict[str, bytes]:
 
 
 def _licences(tables: _Tables) -> Dict[str, bytes]:
-    """The licences, which in a copy of this folder without its checkout are links to nowhere."""
-    places = {it: HERE / it for it in tables["project"]["license-files"]}
-    return {name: place.read_bytes() for name, place in places.items() if place.is_file()}
+    """The licences: those of the checkout, or in an archive of the sources its own."""
+    names = tables["project"]["license-files"]
+    places = [folder / name for name in names for folder in (HERE, HERE.parent)]
+    return {it.name: it.read_bytes() for it in places if it.is_file()}
 
 
 def _source_files(tables: _Tables) -> Dict[str, bytes]:

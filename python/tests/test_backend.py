@@ -58,7 +58,7 @@ class Builds(unittest.TestCase):
         self.assertEqual(package, {*MODULES, "txos/py.typed"})
         self.assertEqual(files["txos/kernel.py"], (FOLDER / "txos/kernel.py").read_bytes())
         for name in ("LICENSE-APACHE", "LICENSE-MIT"):
-            self.assertEqual(files[f"{info}/licenses/{name}"], (FOLDER / name).read_bytes())
+            self.assertEqual(files[f"{info}/licenses/{name}"], (FOLDER.parent / name).read_bytes())
         scripts = files[f"{info}/entry_points.txt"].decode()
         self.assertEqual(scripts, "[console_scripts]\ntxos-record = txos.command:main\n")
 
