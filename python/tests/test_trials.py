@@ -22,7 +22,7 @@ from txos.trial_circles import Forever, Link, find_circles
 from txos.trial_lines import Wait, Why
 from txos.trial_outcome import Because, Question
 from txos.trial_recording import trial_recording
-from txos.trial_report import place, report
+from txos.trial_report import report
 from txos.trials import ask, choose, try_all
 
 HEAD = """txos 3 schedule 2
@@ -111,6 +111,19 @@ def circles(found):
     ]
 
 
+def written_by(case, found):
+    """A trial as a recording, of which the kernel answers each step as it is written."""
+    written = trial_recording(found.plan, found.outcome)
+    case.assertEqual(read_recording(written.text()), written)
+    answers = answers_of([it.text for it in written.steps])
+    accepted = [it for it in answers if not it.startswith("no ")]
+    case.assertEqual(accepted, [it.answer for it in found.outcome.made])
+    for step, answer in zip(written.steps, answers):
+        if answer.startswith("no "):
+            case.assertEqual(step.expected, answer)
+    return written
+
+
 class Outcomes(unittest.TestCase):
     """Whether a transaction commits, and who waits for it."""
 
@@ -136,7 +149,7 @@ class Outcomes(unittest.TestCase):
             waiting, {"3 tr": "3 exit 0", "4 cat": "4 read 3 0 1", "2 sh": "2 waitpid 3 wait"}
         )
 
-    def test_the_first_process_is_a_transaction_behind_the_setup(self):
+    def test_the_first_process_is_a_transaction_after_the_setup(self):
         found = trial(PIPELINE, 2)
         self.assertEqual(made(found)[:2], ["2 sys_xbegin", "2 pipe 0 0 1"])
         self.assertEqual([it.label for it in found.outcome.members], ["2 sh", "3 tr", "4 cat"])
@@ -149,12 +162,12 @@ class Outcomes(unittest.TestCase):
             steps = [it.turn.index for it in found.outcome.made if it.turn.life.number == number]
             self.assertEqual(steps, sorted(steps))
 
-    def test_without_a_transaction_the_steps_stand_as_they_were_recorded(self):
-        alone = trial(PIPELINE, 3).alone
+    def test_without_a_transaction_the_steps_are_made_as_they_were_recorded(self):
+        plain = trial(PIPELINE, 3).plain
         self.assertEqual(
-            [it.turn.index for it in alone.made], sorted(it.turn.index for it in alone.made)
+            [it.turn.index for it in plain.made], sorted(it.turn.index for it in plain.made)
         )
-        self.assertEqual((alone.waits, alone.differing, alone.left_out), ([], [], []))
+        self.assertEqual((plain.waits, plain.differing, plain.left_out), ([], [], []))
 
     def test_what_never_ended_on_linux_waits_here_without_being_a_wait_of_the_trial(self):
         found = trial(
@@ -191,6 +204,9 @@ class Outcomes(unittest.TestCase):
         # On Linux process 2 waits too, but for a child and not for a transaction.
         self.assertEqual(waits(found), [("2 waitpid 3 wait", "BUSY", "process 3 daemon", None)])
         self.assertEqual(found.circles, [])
+        lines = list(report(found))
+        self.assertIn("  3 daemon does nothing more in the recording, and does not end.", lines)
+        self.assertIn("There is no circle of those who wait for ever.", lines)
 
 
 class Signals(unittest.TestCase):
@@ -212,8 +228,8 @@ class Signals(unittest.TestCase):
         self.assertEqual([(it.target, it.signal) for it in found.outcome.held], [(2, 10)])
         self.assertEqual(waits(found), [("2 deliver USR1", "SIGNAL", "signal USR1", "3 exit 0")])
         self.assertEqual((found.outcome.left_out, found.outcome.differing), ([], []))
-        told = "  USR1 to 2 sh, of step 7 (3 kill 2 USR1, line 4): goes out at the commit"
-        self.assertIn(told, report(found))
+        said = "  USR1 to 2 sh, of step 7 (3 kill 2 USR1, line 4): goes out at the commit"
+        self.assertIn(said, report(found))
 
     def test_a_signal_that_is_held_for_ever_makes_a_circle(self):
         # Process 3 ends process 4, and waits until 4 has so closed its side of the pipe.
@@ -237,8 +253,8 @@ class Signals(unittest.TestCase):
         )
         circle = [("4 sleep", "signal TERM", "3 exit 0"), ("3 killer", "pipe 0", "4 deliver TERM")]
         self.assertEqual(circles(found), [circle])
-        told = "  4 sleep waits for 3 killer, whose transaction holds signal TERM, to end: step 14"
-        self.assertTrue(any(it.startswith(told) for it in report(found)))
+        said = "  4 sleep waits for 3 killer, whose transaction holds signal TERM, to end: step 14"
+        self.assertTrue(any(it.startswith(said) for it in report(found)))
 
     def test_sends_that_fail_come_out_at_the_commit(self):
         found = trial(
@@ -253,8 +269,8 @@ class Signals(unittest.TestCase):
         )
         answers = [(it.turn.recorded.text, it.answer) for it in found.outcome.differing]
         self.assertEqual(answers, [("3 kill 77 USR1", "ok 0"), ("3 kill 2 0", "ok -200")])
-        told = "  USR1 to 77, of step 6 (3 kill 77 USR1, line 3): fails at the commit: ESRCH"
-        self.assertIn(told, report(found))
+        said = "  USR1 to 77, of step 6 (3 kill 77 USR1, line 3): fails at the commit: ESRCH"
+        self.assertIn(said, report(found))
 
     def test_a_starter_that_ends_before_its_child_holds_its_sigchld(self):
         found = trial(
@@ -295,15 +311,19 @@ class Signals(unittest.TestCase):
         self.assertEqual((str(ending.reply), ending.made.turn.call), ("aborted 203", ABORT))
         steps = made(found)
         # The close was Busy, since process 3 wrote to the pipe.
-        self.assertEqual(steps[steps.index("kernel 3") - 1 :][:4],
-                         ["1 kill 3 KILL", "kernel 3", "2 close 1", "3 deliver KILL"])
+        self.assertEqual(
+            steps[steps.index("kernel 3") - 1 :][:4],
+            ["1 kill 3 KILL", "kernel 3", "2 close 1", "3 deliver KILL"],
+        )
         # Process 4 is gone with the abort, and so are the five bytes: nobody is left to write.
-        self.assertEqual([(it.turn.recorded.text, it.because) for it in found.outcome.left_out],
-                         [("4 exit 0", Because.ABORTED)])
+        self.assertEqual(
+            [(it.turn.recorded.text, it.because) for it in found.outcome.left_out],
+            [("4 exit 0", Because.ABORTED)],
+        )
         answers = [(it.turn.recorded.text, it.answer) for it in found.outcome.differing]
         self.assertEqual(answers, [("2 read 3 0 5", "ok 0")])
-        told = "It is aborted with the status 203: step 10 (1 kill 3 KILL, line 8) dooms it."
-        self.assertIn(told, report(found))
+        said = "It is aborted with the status 203: step 10 (1 kill 3 KILL, line 8) dooms it."
+        self.assertIn(said, report(found))
 
     def test_sigkill_ends_a_process_before_what_it_has_not_come_to(self):
         # Process 4 waits in the transaction for a byte that process 2 may not write.
@@ -324,8 +344,10 @@ class Signals(unittest.TestCase):
             """,
             3,
         )
-        self.assertEqual([(it.turn.recorded.text, it.because) for it in found.outcome.left_out],
-                         [("4 read 3 0 1", Because.ENDED)])
+        self.assertEqual(
+            [(it.turn.recorded.text, it.because) for it in found.outcome.left_out],
+            [("4 read 3 0 1", Because.ENDED)],
+        )
         self.assertEqual(found.outcome.ending.made.turn.recorded.text, "3 exit 0")
         self.assertEqual(waits(found)[0], ("2 write 4 0 1", "BUSY", "pipe 0", "3 exit 0"))
 
@@ -350,10 +372,11 @@ class Signals(unittest.TestCase):
         steps = made(found)
         self.assertIn("4 deliver KILL", steps)
         self.assertGreater(steps.index("4 deliver KILL"), steps.index("3 exit 0"))
-        self.assertEqual([it.turn.recorded.text for it in found.outcome.left_out],
-                         ["4 close 4", "4 exit 0"])
-        told = "  4 reader is ended by signal KILL here, which came too late on Linux"
-        self.assertIn(told, report(found))
+        self.assertEqual(
+            [it.turn.recorded.text for it in found.outcome.left_out], ["4 close 4", "4 exit 0"]
+        )
+        said = "  4 reader is ended by signal KILL here, which came too late on Linux"
+        self.assertIn(said, report(found))
 
     def test_a_signal_that_has_come_ends_a_process_while_it_waits(self):
         found = trial(
@@ -374,11 +397,53 @@ class Signals(unittest.TestCase):
             3,
         )
         # Process 2 is Busy, so that process 4 waits for the byte when SIGTERM comes.
-        self.assertEqual([(it.turn.recorded.text, it.because) for it in found.outcome.left_out],
-                         [("4 read 3 0 1", Because.ENDED),
-                          ("2 waitpid 3 nohang", Because.FOUND_NOTHING)])
+        self.assertEqual(
+            [(it.turn.recorded.text, it.because) for it in found.outcome.left_out],
+            [("4 read 3 0 1", Because.ENDED), ("2 waitpid 3 nohang", Because.FOUND_NOTHING)],
+        )
         answers = [(it.turn.recorded.text, it.answer) for it in found.outcome.differing]
         self.assertEqual(answers, [("2 write 4 0 1", "ok -32")])
+
+    def test_a_signal_whose_answer_an_abort_would_change_waits(self):
+        found = trial(
+            """
+            2 fork 4 = ok 4
+            # 4 is sender
+            4 setuid 5 = ok 0
+            2 fork 3 = ok 3
+            # 3 is child
+            3 setuid 5 = ok 0
+            4 kill 3 USR1 = ok 0
+            3 getpid = ok 3
+            3 exit 0 = ended
+            """,
+            3,
+        )
+        (wait,) = found.waits()
+        self.assertEqual((wait.why, wait.turn.recorded.text), (Why.BUSY, "4 kill 3 USR1"))
+        # Process 4 may signal process 3 as user 5, and were it user 0 again, it may not.
+        said = "signal 10 to 3: it would be answered 0 now, and -1 if the transaction of 3 were"
+        self.assertTrue(wait.what.startswith(said), wait.what)
+        self.assertEqual(made(found)[-2:], ["3 exit 0", "4 kill 3 USR1"])
+
+    def test_a_signal_that_is_lost_keeps_who_would_end_by_it_for_ever(self):
+        # What is pending goes where the signal is ignored; no process of Linux comes to this.
+        found = trial(
+            """
+            2 fork 3 = ok 3
+            # 3 is killer
+            3 kill 1 0 = ok 0
+            2 kill 2 TERM = ok 0
+            2 sigaction TERM ignore = ok 0
+            2 sigaction TERM default = ok 0
+            2 deliver TERM = ended
+            3 exit 0 = ended
+            """,
+            3,
+        )
+        said = "  2 sh at step 10 (2 deliver TERM, line 7): signal TERM has not come, and nobody "
+        self.assertTrue(any(it.startswith(said) for it in report(found)))
+        self.assertIn("There is no circle of those who wait for ever.", list(report(found)))
 
     def test_a_delivery_whose_signals_have_merged_is_left_out(self):
         found = trial(
@@ -403,11 +468,41 @@ class Signals(unittest.TestCase):
             5,
         )
         # All three have ended when process 2 goes on, and one SIGCHLD is pending.
-        self.assertEqual([(it.turn.recorded.text, it.because) for it in found.outcome.left_out],
-                         [("2 waitpid 5 nohang", Because.FOUND_NOTHING),
-                          ("2 deliver CHLD", Because.NO_SIGNAL),
-                          ("2 sigreturn", Because.NO_SIGNAL)])
+        self.assertEqual(
+            [(it.turn.recorded.text, it.because) for it in found.outcome.left_out],
+            [
+                ("2 waitpid 5 nohang", Because.FOUND_NOTHING),
+                ("2 deliver CHLD", Because.NO_SIGNAL),
+                ("2 sigreturn", Because.NO_SIGNAL),
+            ],
+        )
         self.assertEqual((found.outcome.differing, found.forever), ([], []))
+
+    def test_a_handler_runs_while_its_process_waits(self):
+        found = trial(
+            """
+            2 sigaction USR1 catch 1000 - = ok 0
+            2 fork 3 = ok 3
+            # 3 is child
+            2 waitpid 3 nohang = ok 0
+            1 kill 2 USR1 = ok 0
+            2 deliver USR1 = ok 0
+            2 kill 3 TERM = ok 0
+            2 sigreturn
+            3 deliver TERM = ended
+            2 waitpid 3 wait = ok 3
+            """,
+            3,
+        )
+        # Process 2 is Busy with its child, which ends only by what the handler of process 2 sends.
+        self.assertEqual(
+            made(found)[3:],
+            ["1 kill 2 USR1", "2 deliver USR1", "2 kill 3 TERM", "2 sigreturn"]
+            + ["3 deliver TERM", "2 waitpid 3 wait"],
+        )
+        self.assertEqual(texts(found.outcome.interrupts), ["2 deliver USR1"])
+        self.assertIn("  2 sh at step 9 (2 deliver USR1, line 6)", list(report(found)))
+        self.assertEqual((found.forever, found.outcome.differing), ([], []))
 
     def test_a_signal_that_does_nothing_keeps_nobody_waiting(self):
         # Process 2 ignores SIGCHLD, so it does not wait for the end of process 4.
@@ -427,8 +522,10 @@ class Signals(unittest.TestCase):
             3,
         )
         self.assertEqual(waits(found), [("4 exit 0", "BUSY", "pipe 0", "3 exit 0")])
-        self.assertEqual([(it.turn.recorded.text, it.because) for it in found.outcome.left_out],
-                         [("2 deliver CHLD", Because.IGNORED)])
+        self.assertEqual(
+            [(it.turn.recorded.text, it.because) for it in found.outcome.left_out],
+            [("2 deliver CHLD", Because.IGNORED)],
+        )
 
 
 class Asking(unittest.TestCase):
@@ -485,8 +582,10 @@ class Asking(unittest.TestCase):
         # Process 3 has process 4 since it asked for it.
         self.assertEqual(
             waits(found),
-            [("4 waitpid 3 nohang", "BUSY", "process 3 child", "3 exit 0"),
-             ("2 read 3 0 1", "CALL", "pipe 0", "4 write 1 0 1")],
+            [
+                ("4 waitpid 3 nohang", "BUSY", "process 3 child", "3 exit 0"),
+                ("2 read 3 0 1", "CALL", "pipe 0", "4 write 1 0 1"),
+            ],
         )
         self.assertEqual((found.outcome.differing, found.outcome.left_out), ([], []))
 
@@ -535,6 +634,27 @@ class Asking(unittest.TestCase):
         self.assertEqual(answers, [("2 waitpid 4 nohang", "ok 0")])
         circle = [("2 sh", "pipe 0", "3 exit 0"), ("3 reader", "pipe 0", "2 write 4 0 1")]
         self.assertEqual(circles(found), [circle])
+
+    def test_what_the_kernel_refuses_is_left_out_with_all_that_would_follow(self):
+        found = trial(
+            """
+            2 fork 999 = ok 999
+            # 999 is nobody
+            999 getpid = ok 999
+            2 fork 3 = ok 3
+            # 3 is child
+            3 exit 0 = ended
+            """,
+            3,
+        )
+        left = [(it.turn.recorded.text, it.because, it.answer) for it in found.outcome.left_out]
+        self.assertEqual(
+            left,
+            [
+                ("2 fork 999", Because.REFUSED, "no N3"),
+                ("999 getpid", Because.UNBORN, ""),
+            ],
+        )
 
     def test_a_pipe_has_numbers_that_are_free(self):
         found = trial(
@@ -595,8 +715,10 @@ class Asking(unittest.TestCase):
         )
         self.assertEqual(
             waits(found),
-            [("2 fork 5", "BUSY", "description 0 (reads pipe 0)", "3 exit 0"),
-             ("4 kill 5 USR1", "PROCESS", "process 5 late", "2 fork 5")],
+            [
+                ("2 fork 5", "BUSY", "description 0 (reads pipe 0)", "3 exit 0"),
+                ("4 kill 5 USR1", "PROCESS", "process 5 late", "2 fork 5"),
+            ],
         )
 
 
@@ -655,8 +777,8 @@ class Aborts(unittest.TestCase):
         self.assertEqual(str(found.outcome.ending.reply), "aborted 202")
         self.assertEqual(made(found)[-2:], ["5 exit 0", "kernel 3"])
         lines = list(report(found))
-        told = "It is aborted with the status 202: the kernel aborts it after step 15."
-        self.assertIn(told, lines)
+        said = "It is aborted with the status 202: the kernel aborts it after step 15."
+        self.assertIn(said, lines)
         left = lines[lines.index("What differs after the abort from before its sys_xbegin:") + 1 :]
         # The close and process 5 are taken back. The byte that process 2 read, and the others, and
         # the signal that came from outside, stay.
@@ -677,12 +799,12 @@ class Aborts(unittest.TestCase):
         )
 
     def test_a_step_before_its_begin_or_after_its_end_is_none_for_an_abort(self):
-        for step, told in [
+        for step, said in [
             (5, "step 5 is too early for an abort: process 3 tr begins after step 6"),
             (19, "step 19 is too late for an abort: it commits at step 14"),
             (20, "there is no step 20: the recording has 19"),
         ]:
-            with self.assertRaisesRegex(Fault, re.escape(told)):
+            with self.assertRaisesRegex(Fault, re.escape(said)):
                 trial(PIPELINE, 3, abort=step)
 
     def test_who_does_not_end_can_not_abort_itself(self):
@@ -698,20 +820,8 @@ class Aborts(unittest.TestCase):
 class Written(unittest.TestCase):
     """A trial as a recording."""
 
-    def check(self, found):
-        """Sees that the kernel answers the steps of a trial's recording as they are written."""
-        written = trial_recording(found.plan, found.outcome)
-        self.assertEqual(read_recording(written.text()), written)
-        answers = answers_of([it.text for it in written.steps])
-        accepted = [it for it in answers if not it.startswith("no ")]
-        self.assertEqual(accepted, [it.answer for it in found.outcome.made])
-        for step, answer in zip(written.steps, answers):
-            if answer.startswith("no "):
-                self.assertEqual(step.expected, answer)
-        return written
-
     def test_it_has_the_steps_in_the_order_made_and_who_waited(self):
-        written = self.check(trial(PIPELINE, 4))
+        written = written_by(self, trial(PIPELINE, 4))
         self.assertEqual(
             [it.spelled() for it in written.steps[1:]],
             [
@@ -731,9 +841,7 @@ class Written(unittest.TestCase):
             ],
         )
         names = [(it.index, it.process, it.command) for it in written.names]
-        self.assertEqual(
-            names, [(1, 2, "sh made.sh"), (4, 4, "cat -n"), (7, 3, "/bin/tr a-z A-Z")]
-        )
+        self.assertEqual(names, [(1, 2, "sh made.sh"), (4, 4, "cat -n"), (7, 3, "/bin/tr a-z A-Z")])
         self.assertEqual(
             [(it.kind, it.count, it.line) for it in written.left_out],
             [("step that the trial does not come to", 6, 12)],
@@ -741,14 +849,14 @@ class Written(unittest.TestCase):
 
     def test_what_is_left_out_is_counted(self):
         files = "2 dup 15 = ok 3\n2 fork 3 = ok 3\n# 3 is child\n3 close 3 = ok 0\n3 exit 0 = ended"
-        written = self.check(trial(files, 3))
+        written = written_by(self, trial(files, 3))
         self.assertEqual(
             [(it.kind, it.count, it.line) for it in written.left_out],
             [("step of a file, which takes no part in a trial", 2, 1)],
         )
 
     def test_an_abort_is_a_step(self):
-        written = self.check(trial(ABORTED, 3, abort=15))
+        written = written_by(self, trial(ABORTED, 3, abort=15))
         self.assertEqual(written.steps[-1].text, "kernel 3")
 
 
@@ -870,7 +978,7 @@ class Files(unittest.TestCase):
             ],
         )
 
-    def test_no_process_has_the_stand_in_of_files_open(self):
+    def test_no_process_has_the_pipe_open_that_files_have(self):
         left = without_files(recording("2 dup 15 = ok 3\n2 fork 3 = ok 3\n3 dup2 15 5 = ok 5"))
         with Kernel(ROOT) as kernel:
             for _, step in left.steps:
@@ -968,7 +1076,7 @@ class Words(unittest.TestCase):
         for word in ("9", "sed", "3@1", ""):
             with self.assertRaisesRegex(Fault, f"^{word} is none .*: 2 sh, 3@7 tr, 4 grep, "):
                 self.chosen(word)
-        with self.assertRaisesRegex(Fault, "process 1 stands for all that were not recorded"):
+        with self.assertRaisesRegex(Fault, "process 1 is all that were not recorded"):
             self.chosen("1")
 
     def test_a_process_whose_number_was_used_again_is_tried_for_itself(self):
@@ -1047,9 +1155,9 @@ process  steps  outcome             others waited      for ever
 
     def test_the_recording_of_a_trial(self):
         out = self.folder / "out.txos"
-        status, told, _ = self.run_trial("-o", out, "tr")
+        status, said, _ = self.run_trial("-o", out, "tr")
         self.assertEqual(status, 0)
-        self.assertIn("It commits at step 14 (3 exit 0, line 12).\n", told)
+        self.assertIn("It commits at step 14 (3 exit 0, line 12).\n", said)
         written = read_recording(out.read_text())
         self.assertIn("3 sys_xbegin", [it.text for it in written.steps])
         self.assertEqual(sorted(os.listdir(self.folder)), ["made.txos", "out.txos"])
@@ -1058,11 +1166,11 @@ process  steps  outcome             others waited      for ever
         out = self.folder / "out.txos"
         self.run_trial("tr", "--abort", "13", "-o", out)
         self.file.write_text(out.read_text())
-        told = "txos-record: step 4 (3 sys_xbegin) is of a trial: name what was tried there\n"
-        self.assertEqual(self.run_trial("tr"), (1, "", told))
+        said = "txos-record: step 4 (3 sys_xbegin) is of a trial: name what was tried there\n"
+        self.assertEqual(self.run_trial("tr"), (1, "", said))
 
     def test_what_is_wrong_is_told_and_nothing_is_written(self):
-        for words, status, told in [
+        for words, status, said in [
             (["sed"], 1, "sed is none of the processes: 2 sh, 3 tr, 4 cat"),
             (["tr", "--abort", "99"], 1, "there is no step 99: the recording has 19"),
             (["tr", "--abort", "x"], 2, "x is no number of a step"),
@@ -1076,7 +1184,7 @@ process  steps  outcome             others waited      for ever
             with self.subTest(words):
                 found, out, err = self.run_trial(*words)
                 self.assertEqual((found, out), (status, ""))
-                self.assertIn(told, err)
+                self.assertIn(said, err)
         self.assertEqual(os.listdir(self.folder), ["made.txos"])
 
     def test_a_file_that_is_no_recording_is_told(self):
@@ -1131,49 +1239,77 @@ def any_step(chance, state, child):
     return f"{process.pid} {chance.choice(calls)}"
 
 
-class Random(unittest.TestCase):
-    """What holds of every trial, tried with recordings made at random."""
+class EveryRecording(unittest.TestCase):
+    """What holds of every trial, tried with recordings made at random, and with real ones."""
 
-    def test_files_can_be_left_out_of_every_recording(self):
-        for seed in range(30):
-            left = without_files(recording(play(seed, 60)))
-            answers = answers_of([it.text for _, it in left.steps])
-            for (_, step), answer in zip(left.steps, answers):
-                self.assertEqual(answer, step.expected or answer, (seed, step))
-                self.assertFalse(answer.startswith("no "), (seed, step))
+    def check_without_files(self, made):
+        """Sees that a recording is answered without its files as it is with them."""
+        answers = answers_of([it.text for it in made.steps])
+        left = without_files(made)
+        for (index, step), answer in zip(left.steps, answers_of([it.text for _, it in left.steps])):
+            if answers[index] == made.steps[index].expected:
+                self.assertEqual(answer, step.expected, (index, step))
+            self.assertEqual(answer.startswith("no "), answers[index].startswith("no "), step)
 
-    def test_every_trial_can_be_replayed_and_keeps_each_process_in_order(self):
-        for seed in range(12):
-            plan = make_plan(recording(play(seed, 60)))
-            for found in try_all(plan, [Question(it) for it in plan.lives], is_explained=True):
-                with self.subTest(seed=seed, starter=found.outcome.question.starter.label):
-                    self.check(found)
+    def check_trials(self, made):
+        """Sees that the trial of each process of a recording is as a trial has to be."""
+        plan = make_plan(made)
+        for found in try_all(plan, [Question(it) for it in plan.lives], is_explained=True):
+            with self.subTest(starter=found.outcome.question.starter.label):
+                self.check_order(found)
+                self.check_ends(found)
+                written_by(self, found)
+                list(report(found))
 
-    def check(self, found):
-        outcome = found.outcome
-        # Without the transaction all is as it was recorded.
-        alone = found.alone
-        self.assertEqual((alone.waits, alone.differing, alone.left_out), ([], [], []))
-        Written.check(self, found)
+    def check_order(self, found):
+        """Each process makes its steps in their order; without a transaction all do."""
+        plain = found.plain
+        self.assertEqual((plain.waits, plain.differing, plain.left_out), ([], [], []))
+        self.assertEqual(
+            texts(it.turn for it in plain.made if it.turn not in plain.rests),
+            texts(it for it in found.plan.turns if it not in plain.rests),
+        )
         for life in found.plan.lives:
-            steps = [it.turn for it in outcome.made if it.turn.life is life and not it.turn.added]
-            self.assertEqual(steps, sorted(steps, key=lambda it: it.index))
-        # Each step is made, left out with a reason, or waits, or comes after one that does.
-        gone = {it.turn for it in outcome.made} | {it.turn for it in outcome.left_out}
+            turns = [it.turn for it in found.outcome.made if it.turn.life is life]
+            indices = [it.index for it in turns if not it.added]
+            if not any(it.life is life for it in found.outcome.interrupts):
+                self.assertEqual(indices, sorted(indices))
+
+    def check_ends(self, found):
+        """Each step is made, is left out, or waits, or comes after one that waits."""
+        outcome = found.outcome
+        gone = {it.turn for it in (*outcome.made, *outcome.left_out)} | {*outcome.rests}
         waiting = {it.wait.life for it in found.forever}
         for turn in found.plan.turns:
-            if turn not in gone and turn not in outcome.rests and not turn.life.is_outside:
-                life = turn.life
+            life = turn.life
+            if turn not in gone and not life.is_outside:
                 while life not in waiting and life.fork not in gone:
                     life = life.parent
                 self.assertIn(life, waiting)
-        # Each process of a circle waits for ever, for what the next one has still to make.
         for circle in found.circles:
             for link, after in zip(circle, [*circle[1:], circle[0]]):
                 self.assertIs(link.next, after.wait)
                 self.assertIsNone(link.wait.ended)
                 self.assertNotIn(link.turn, gone)
-        list(report(found))
+
+    def test_recordings_made_at_random(self):
+        for seed in range(30):
+            with self.subTest(seed=seed):
+                made = recording(play(seed, 60))
+                self.check_without_files(made)
+                if seed < 12:
+                    self.check_trials(made)
+
+    def test_recordings_of_real_processes(self):
+        files = sorted((Path(__file__).resolve().parents[2] / "tests/recordings").glob("*.txos"))
+        if not files:
+            self.skipTest("no tests/recordings beside the package")
+        for number, file in enumerate(files):
+            with self.subTest(file=file.name):
+                made = read_recording(file.read_text())
+                self.check_without_files(made)
+                if number % 3 == 0:
+                    self.check_trials(made)
 
 
 if __name__ == "__main__":

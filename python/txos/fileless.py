@@ -1,6 +1,6 @@
 """A recording without its files.
 
-The kernel has no files: one pipe stands for all of them, and each process has it open. In a
+The kernel has no files: one pipe is there for all of them, and each process has it open. In a
 transaction that pipe would be in everybody's way, where real files are in nobody's. So a trial
 leaves files out: descriptors that name them do not exist, and the others have the numbers that the
 kernel then gives them.

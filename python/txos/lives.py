@@ -112,14 +112,23 @@ class Plan:
 
         Where a number was used again, `7@900` is the process that has number 7 at step 900.
         """
-        number, _, step = word.partition("@")
-        if number.isdecimal() and (step.isdecimal() or word == number):
-            lives = [it for it in self.lives if it.number == int(number)]
-            return [it for it in lives if it.first < int(step)][-1:] if step else lives
+        number, at, step = word.partition("@")
+        if number.isdecimal() and step.isdecimal():
+            return self._at(int(number), int(step) - 1)
+        if number.isdecimal() and not at:
+            return [it for it in self.lives if it.number == int(number)]
         commands = [it for it in self.lives if it.label.partition(" ")[2] == word]
         if commands:
             return commands
         return [it for it in self.lives if replace(self.recording, names=it.names).find(word)]
+
+    def label(self, number: int, index: int) -> str:
+        """The label of the process that has a number at the step with an index."""
+        return self._at(number, index)[0].label if self._at(number, index) else str(number)
+
+    def _at(self, number: int, index: int) -> List[Life]:
+        """The process that has a number at the step with an index, if there is one."""
+        return [it for it in self.lives if it.number == number and it.first <= index][-1:]
 
     def spelled(self, life: Life) -> str:
         """A process as `find` finds it, with its command."""
@@ -142,7 +151,7 @@ def make_plan(recording: Recording) -> Plan:
 
 
 class _Planner:
-    """What is known of the processes where a step stands."""
+    """What is known of the processes before a step."""
 
     def __init__(self) -> None:
         self.lives: List[Life] = []

@@ -2,6 +2,7 @@
 
 from __future__ import annotations
 
+from collections import deque
 from typing import Dict, Iterator, List, Optional, Sequence, Set
 
 from .lives import Life, Plan, Turn, added_turn
@@ -71,9 +72,15 @@ class Agenda:
         self._lines.put(self._line_of_life[life])
 
     def put_last(self, turn: Turn) -> None:
-        """Puts a turn behind all others of its process."""
+        """Puts a turn after all others of its process."""
         line = self._line_of_turn[turn] = self._line_of_life[turn.life]
         line.turns.append(turn)
+        self._lines.put(line)
+
+    def put_first(self, turns: Sequence[Turn]) -> None:
+        """Puts turns of a process before all others of it."""
+        line = self._line_of_turn[turns[0]]
+        line.turns = deque([*turns, *(it for it in line.turns if it not in turns)])
         self._lines.put(line)
 
     def take(self, turn: Turn) -> None:

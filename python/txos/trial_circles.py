@@ -4,7 +4,7 @@ from __future__ import annotations
 
 from collections import deque
 from dataclasses import dataclass, field
-from typing import Deque, Dict, List, Optional, Sequence, Set, Tuple
+from typing import Deque, Dict, List, Optional, Sequence, Set
 
 from .lives import AT_END, NO_READER, Life, Turn
 from .trial_lines import Line, Wait, Why
@@ -46,7 +46,7 @@ def find_circles(waits: Sequence[Forever]) -> List[List[Link]]:
     No process is in two of them.
     """
     links = {it.wait: it.links for it in waits}
-    circles = []
+    circles: List[List[Link]] = []
     while True:
         found = [it for it in (_circle(wait, links) for wait in links) if it]
         if not found:
@@ -100,7 +100,7 @@ class _Finder:
         """Adds who has to go on for a turn to come: its process, or who is to fork that first."""
         life = turn.life
         line = self._schedule.agenda.line(turn)
-        while self._schedule.agenda.is_to_come(life.fork):
+        while life.fork and self._schedule.agenda.is_to_come(life.fork):
             line, life = self._schedule.agenda.line(life.fork), life.fork.life
         if line.wait:
             found.links.append(Link(found.wait, turn, line.wait))
@@ -144,7 +144,7 @@ def _turn_to_come(line: Line, descriptors: Set[int], call: Optional[str]) -> Opt
 
 
 def _after(turn: Turn, descriptors: Set[int]) -> Set[int]:
-    """The descriptors that name the same as before a turn, behind it."""
+    """The descriptors that name after a turn what some named before it."""
     name, *words = turn.step.words
     if name == "close":
         return descriptors - {int(words[0])}

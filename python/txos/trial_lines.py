@@ -52,6 +52,11 @@ class Wait:
         """The process that waits."""
         return self.turn.life
 
+    @property
+    def steps(self) -> int:
+        """How many steps were made while it waited; 0 where it waits for ever."""
+        return 0 if self.ended is None else self.ended - self.began
+
 
 class Line:
     """Turns that are made one after another: of a process, or one of somebody outside."""
@@ -69,6 +74,12 @@ class Line:
         """The turns that are made before one."""
         turns = list(self.turns)
         return turns[: turns.index(turn)]
+
+    def handler(self, delivery: Turn) -> List[Turn]:
+        """A delivery that is caught, and what comes after it up to its sigreturn; or none."""
+        turns = list(self.turns)
+        ends = [turns.index(it) + 1 for it in delivery.returns if it in turns]
+        return turns[turns.index(delivery) : ends[0]] if ends else []
 
 
 class Lines:

@@ -30,7 +30,7 @@ class Because(enum.Enum):
     """Why a recorded step is not made."""
 
     NO_SIGNAL = "its signal does not come"
-    IGNORED = "a signal that does nothing came later"
+    IGNORED = "a signal that does nothing is not pending"
     FOUND_NOTHING = "it found nothing on Linux, and would find something here"
     ENDED = "its process has ended before it"
     UNBORN = "its process is never forked"
@@ -89,6 +89,8 @@ class Outcome:
     waits: List[Wait] = field(default_factory=list)
     differing: List[Made] = field(default_factory=list)
     left_out: List[LeftOut] = field(default_factory=list)
+    # Deliveries that came before the turn at which their process waited.
+    interrupts: List[Turn] = field(default_factory=list)
     held: List[Sent] = field(default_factory=list)
     members: List[Life] = field(default_factory=list)  # its starter first
     begun: Optional[int] = None  # how many steps were made before its sys_xbegin

@@ -10,9 +10,10 @@ from typing import Callable, Dict, Iterator, List, Sequence, Tuple
 from .kernel import Undelivered
 from .leftovers import differences
 from .lives import NO_READER, Life, Plan, Turn
+from .reading import counted
 from .trial_circles import Forever, Link
 from .trial_lines import Need, Wait, Why
-from .trial_outcome import Because, LeftOut, Outcome, Sent
+from .trial_outcome import Outcome, Sent
 from .tree import spell_signal
 
 _MOST_STEPS = 40  # that are listed one by one
@@ -24,18 +25,16 @@ class Findings:
 
     plan: Plan
     outcome: Outcome
-    alone: Outcome  # without a transaction
+    plain: Outcome  # without a transaction
     forever: List[Forever] = field(default_factory=list)
     circles: List[List[Link]] = field(default_factory=list)
     idle: List[Life] = field(default_factory=list)  # members that neither end nor wait
 
     def waits(self) -> List[Wait]:
         """The waits that are due to the transaction, and not over at once."""
-        old = {(it.turn, it.why) for it in self.alone.waits}
+        old = {(it.turn, it.why) for it in self.plain.waits}
         return [
-            it
-            for it in self.outcome.waits
-            if (it.turn, it.why) not in old and it.ended != it.began
+            it for it in self.outcome.waits if (it.turn, it.why) not in old and it.ended != it.began
         ]
 
     def waits_of_others(self) -> List[Wait]:
@@ -55,11 +54,6 @@ def place(turn: Turn) -> str:
     return f"step {turn.index + 1} ({turn.recorded.text}{line})"
 
 
-def counted(count: int, noun: str) -> str:
-    """A number of things, in words."""
-    return f"{count:,} {noun}{'' if count == 1 else 's'}"
-
-
 def circle_in_short(circle: Sequence[Link]) -> str:
     """Each process of a circle, and the object for which it waits for the next one."""
     parts = [f"{it.wait.life.label} - {it.wait.what} - " for it in circle]
@@ -70,7 +64,7 @@ def report(findings: Findings) -> Iterator[str]:
     """The lines of a report, without their ends."""
     yield from _transaction(findings)
     parts: List[Callable[[Findings], Iterator[str]]] = [_waiting, _in_turn, _forever, _circles]
-    parts += [_otherwise, _renumbered, _signals, _left_out, _left]
+    parts += [_otherwise, _interrupts, _renumbered, _signals, _left_out, _left]
     for part in parts:
         lines = list(part(findings))
         if lines:
@@ -157,7 +151,7 @@ def _until(findings: Findings, wait: Wait) -> str:
     ended = f"until {findings.step_made(wait.ended)}"
     if wait.why is Why.BUSY and outcome.ending and wait.ended == outcome.ending.at:
         ended = f"until it {'commits' if outcome.ending.is_commit else 'is aborted'}"
-    return f"{ended}: {counted(wait.ended - wait.began, 'step')}"
+    return f"{ended}: {counted(wait.steps, 'step')}"
 
 
 def _in_turn(findings: Findings) -> Iterator[str]:
@@ -171,8 +165,8 @@ def _in_turn(findings: Findings) -> Iterator[str]:
     for life, some in waits.items():
         first, more = some[0], len(some) - 1
         again = f"; and {counted(more, 'time')} more" if more else ""
-        told = f"{_missing(first)}, {_until(findings, first)}{again}"
-        yield f"  {life.label} at {place(first.turn)}: {told}"
+        said = f"{_missing(first)}, {_until(findings, first)}{again}"
+        yield f"  {life.label} at {place(first.turn)}: {said}"
 
 
 def _missing(wait: Wait) -> str:
@@ -194,23 +188,23 @@ def _forever(findings: Findings) -> Iterator[str]:
     """Who waits for ever."""
     if findings.forever:
         yield "Who waits for ever:"
-    alone = {it.turn for it in findings.alone.waits if it.ended is None}
+    plain = {it.turn for it in findings.plain.waits if it.ended is None}
     for it in findings.forever:
         wait = it.wait
         if wait.why is Why.BUSY:
-            told = f"the transaction has {_needs(findings, wait.needs)}"
+            said = f"the transaction has {_needs(findings, wait.needs)}"
         else:
-            told = f"{_missing(wait)}{_by_whom(it)}"
-        also = "; so too without the transaction" if wait.turn in alone else ""
-        yield f"  {wait.life.label} at {place(wait.turn)}: {told}{also}"
+            said = f"{_missing(wait)}{_by_whom(it)}"
+        also = "; so too without the transaction" if wait.turn in plain else ""
+        yield f"  {wait.life.label} at {place(wait.turn)}: {said}{also}"
 
 
 def _by_whom(forever: Forever) -> str:
     """Who could end a wait for ever."""
-    told = [f"{it.turn.life.label} at {place(it.turn)}" for it in forever.links]
+    said = [f"{it.turn.life.label} at {place(it.turn)}" for it in forever.links]
     idle = [f"{it.label}, which does nothing more" for it in forever.idle]
-    if told or idle:
-        return f"; it waits for {' or '.join([*told, *idle])}"
+    if said or idle:
+        return f"; it waits for {' or '.join([*said, *idle])}"
     return ", and nobody sends it any more" if forever.wait.why is Why.SIGNAL else ""
 
 
@@ -235,9 +229,8 @@ def _to_do(link: Link) -> str:
         return f"{whom} to {'end' if turn.ends else f'send {wait.what}'}"
     if wait.why is Why.PROCESS:
         return f"{whom} to fork {wait.what}"
-    if turn.call in ("read", "write"):
-        return f"{whom} to {turn.call} {wait.what}"
-    return f"{whom} to {'end' if wait.turn.target else f'close {wait.what}'}"
+    verb = {"read": "read from", "write": "write to"}.get(turn.call, "close")
+    return f"{whom} to {'end' if wait.turn.target else f'{verb} {wait.what}'}"
 
 
 # What came otherwise.
@@ -245,17 +238,25 @@ def _to_do(link: Link) -> str:
 
 def _otherwise(findings: Findings) -> Iterator[str]:
     """Which answers are not Linux's."""
-    alone = {(it.turn, it.answer) for it in findings.alone.differing}
-    made = [it for it in findings.outcome.differing if (it.turn, it.answer) not in alone]
+    plain = {(it.turn, it.answer) for it in findings.plain.differing}
+    made = [it for it in findings.outcome.differing if (it.turn, it.answer) not in plain]
     ends = [it for it in findings.outcome.made if it.turn.added and it.turn.ends]
     yield "Answered otherwise than on Linux:" if made or ends else "All is answered as on Linux."
     for it in made:
-        yield f"  {place(it.turn)}: {it.answer}, on Linux {it.turn.recorded.expected}"
+        yield f"  {place(it.turn)}: {it.answer}, on Linux {it.turn.step.expected}"
     for it in ends:
         yield f"  {it.turn.life.label} is ended by signal KILL here, which came too late on Linux"
     both = len(findings.outcome.differing) - len(made)
     if both:
         yield f"  {counted(both, 'step')} more, as without the transaction"
+
+
+def _interrupts(findings: Findings) -> Iterator[str]:
+    """Which handlers ran earlier, since their process waited."""
+    if findings.outcome.interrupts:
+        yield "Signals that came while their process waited, and so earlier than recorded:"
+    for it in findings.outcome.interrupts:
+        yield f"  {it.life.label} at {place(it)}"
 
 
 def _renumbered(findings: Findings) -> Iterator[str]:
@@ -275,7 +276,7 @@ def _signals(findings: Findings) -> Iterator[str]:
     if held:
         yield "Signals that it held:"
     for it in held:
-        target = findings.plan.recording.label(it.target, it.turn.index)
+        target = findings.plan.label(it.target, it.turn.index)
         went = "never goes out"
         if ending:
             went = "goes out at the commit" if ending.is_commit else "is dropped by the abort"
@@ -293,20 +294,28 @@ def _is_of(failed: Undelivered, sent: Sent) -> bool:
 def _left_out(findings: Findings) -> Iterator[str]:
     """Which recorded steps are not made, and why."""
     outcome = findings.outcome
-    groups: Dict[Tuple[Because, Life], List[LeftOut]] = defaultdict(list)
+    groups: Dict[Tuple[str, Life], List[Turn]] = defaultdict(list)
     for it in outcome.left_out:
-        groups[it.because, it.turn.life].append(it)
-    made = sum(1 for it in outcome.made if not it.turn.added) + len(outcome.rests)
-    waiting = len(findings.plan.turns) - made - len(outcome.left_out)
-    if groups or waiting:
+        groups[it.because.value, it.turn.life].append(it.turn)
+    rest = _rest(findings)
+    is_over = outcome.after and outcome.question.is_abort_wanted
+    reaps = [] if is_over else [it for it in rest if it.life.is_outside and it.call == "waitpid"]
+    for turn in reaps:
+        groups["who has not ended is not taken away", turn.life].append(turn)
+    if groups or rest:
         yield "Steps that are not made:"
     for (because, life), some in groups.items():
-        first = place(some[0].turn)
-        yield f"  {len(some):,} of {life.label}, first {first}: {because.value}"
-    if waiting:
-        is_over = outcome.after and outcome.question.is_abort_wanted
+        yield f"  {len(some):,} of {life.label}, first {place(some[0])}: {because}"
+    if len(rest) > len(reaps):
         where = "after the abort" if is_over else "of those that wait for ever, from there on"
-        yield f"  {waiting:,} {where}"
+        yield f"  {len(rest) - len(reaps):,} {where}"
+
+
+def _rest(findings: Findings) -> List[Turn]:
+    """The steps that a trial did not come to."""
+    outcome = findings.outcome
+    gone = {*(it.turn for it in outcome.made), *(it.turn for it in outcome.left_out)}
+    return [it for it in findings.plan.turns if it not in gone and it not in outcome.rests]
 
 
 def _left(findings: Findings) -> Iterator[str]:
@@ -314,7 +323,8 @@ def _left(findings: Findings) -> Iterator[str]:
     outcome = findings.outcome
     if not outcome.before or not outcome.after or not outcome.ending or outcome.begun is None:
         return
-    left = differences(outcome.before, outcome.after, findings.plan.recording.label)
+    plan, last = findings.plan, outcome.ending.made.turn.index
+    left = differences(outcome.before, outcome.after, lambda number: plan.label(number, last))
     yield "What differs after the abort from before its sys_xbegin:" if left else (
         "After the abort all is as before its sys_xbegin."
     )

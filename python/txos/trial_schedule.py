@@ -7,7 +7,7 @@ since it waits, makes its process wait, as a kernel would, while the others go o
 
 from __future__ import annotations
 
-from typing import Callable, Dict, List, Optional, Set
+from typing import Callable, Dict, List, Set
 
 from .faults import Fault
 from .kernel import Kernel, Refused, Reply
@@ -26,7 +26,7 @@ _NO_SIGNAL = "N10"
 class Schedule:
     """A trial while it is made; `run` makes it, and `outcome` is what came of it.
 
-    Where it is explained, each wait says what it is for. `advance` is called behind each step that
+    Where it is explained, each wait says what it is for. `advance` is called after each step that
     is made.
     """
 
@@ -151,8 +151,9 @@ class Schedule:
 
     def _has_to_wait(self, line: Line) -> bool:
         """Whether a line has to wait, so that the kernel need not be asked."""
-        turn, target = line.head, line.head.target
-        if line.wait and line.wait.why is Why.BUSY and not self._has_two_answers(turn):
+        turn, target, wait = line.head, line.head.target, line.wait
+        is_busy = wait and wait.turn is turn and wait.why is Why.BUSY
+        if is_busy and not self._has_two_answers(turn):
             return True  # what the transaction has reserved it keeps to its end
         if target and self.agenda.is_to_come(target.fork):
             self._wait(line, Why.PROCESS)
@@ -175,6 +176,8 @@ class Schedule:
 
     def _give_way(self) -> bool:
         """Where nothing can be made: lets a process go on that need not wait; False without one."""
+        if any(self._interrupt(it) for it in self.agenda if it.wait):
+            return True
         for line in self.agenda:
             turn = line.head
             if line.wait and line.wait.why is Why.SIGNAL and turn.delivery is Delivery.CAUGHT:
@@ -183,6 +186,26 @@ class Schedule:
             if line.wait and line.wait.why is Why.CHILD:
                 self._as_answered.add(turn)
                 return True
+        return False
+
+    def _interrupt(self, line: Line) -> bool:
+        """Lets a signal that has come interrupt a process that waits; whether one does.
+
+        The process runs its handler then, and waits again after that.
+        """
+        for turn in list(line.turns)[1:]:
+            has_come = not any(self.agenda.is_to_come(it) for it in turn.senders)
+            handler = line.handler(turn) if turn.delivery is Delivery.CAUGHT and has_come else []
+            if not handler:
+                continue
+            try:
+                reply = self.kernel.step(self._step(turn).text)
+            except Refused:
+                continue
+            self.agenda.put_first(handler)
+            self.outcome.interrupts.append(turn)
+            self._made(turn, reply)
+            return True
         return False
 
     # Refusals.

@@ -2,9 +2,9 @@
 
 from __future__ import annotations
 
-from typing import Dict, Iterator, List, Optional, Sequence
+from typing import Iterator, Optional, Sequence
 
-from .lives import Life
+from .reading import counted
 from .trial_outcome import Ending
 from .trial_report import Findings, circle_in_short
 
@@ -40,18 +40,15 @@ def _outcome(ending: Optional[Ending]) -> str:
 def _waited(trial: Findings) -> str:
     """How many others waited, and for how many steps at most, of those that did not for ever."""
     waits = [it for it in trial.waits_of_others() if it.ended is not None]
-    most: Dict[Life, int] = {}
-    for it in waits:
-        most[it.life] = max(most.get(it.life, 0), it.ended - it.began)
-    if not most:
+    if not waits:
         return "-"
-    steps = max(most.values())
-    return f"{len(most)}, {steps:,} step{'' if steps == 1 else 's'} at most"
+    others = {it.life for it in waits}
+    return f"{len(others)}, {counted(max(it.steps for it in waits), 'step')} at most"
 
 
 def _forever(trial: Findings) -> str:
     """How many wait for ever, and in which circle."""
-    old = {it.turn for it in trial.alone.waits if it.ended is None}
+    old = {it.turn for it in trial.plain.waits if it.ended is None}
     waits = [it for it in trial.forever if it.wait.turn not in old]
     if not waits:
         return "-"

@@ -3,14 +3,14 @@
 from __future__ import annotations
 
 import argparse
-from typing import Any, Callable, Iterator, List, Optional
+from typing import Any, Callable, List, Optional
 
 from .faults import Fault
 from .files import write_whole
 from .kernel import Kernel
 from .lives import Life, Plan, make_plan
 from .progress import Progress
-from .recording import ABORT, OUTSIDE, ROOT, Recording
+from .recording import ABORT, OUTSIDE, ROOT
 from .replays import replay_file
 from .trial_circles import find_circles, find_forever
 from .trial_outcome import Outcome, Question
@@ -88,7 +88,7 @@ def choose(plan: Plan, word: str) -> Life:
     if len(found) == 1:
         return found[0]
     if word == str(OUTSIDE):
-        raise Fault(f"process {OUTSIDE} stands for all that were not recorded, and is not tried")
+        raise Fault(f"process {OUTSIDE} is all that were not recorded, and is not tried")
     names = ", ".join(map(plan.spelled, found or plan.lives))
     if found:
         raise Fault(f"{word} means several processes, name one by its number: {names}")
@@ -115,15 +115,15 @@ def ask(plan: Plan, starter: Life, abort: Optional[int]) -> Question:
 def try_question(
     plan: Plan,
     question: Question,
-    alone: Optional[Outcome],
+    plain: Optional[Outcome],
     is_explained: bool,
     advance: Callable[[], None],
 ) -> Findings:
-    """Makes a trial; `alone` is what came of the same steps without a transaction, if known."""
+    """Makes a trial; `plain` is what came of the same steps without a transaction, if known."""
     with Kernel(ROOT) as kernel:
         schedule = Schedule(kernel, plan, question, is_explained, advance)
         outcome = schedule.run()
-        findings = Findings(plan, outcome, alone or outcome)
+        findings = Findings(plan, outcome, plain or outcome)
         if not (question.is_abort_wanted and outcome.after):
             findings.forever = find_forever(schedule)
             findings.circles = find_circles(findings.forever)
@@ -134,8 +134,8 @@ def try_question(
 def try_all(plan: Plan, questions: List[Question], is_explained: bool) -> List[Findings]:
     """Makes trials, with the progress shown."""
     with Progress(len(plan.turns) * (len(questions) + 1), "steps") as progress:
-        alone = try_question(plan, Question(), None, False, progress.advance).outcome
-        return [try_question(plan, it, alone, is_explained, progress.advance) for it in questions]
+        plain = try_question(plan, Question(), None, False, progress.advance).outcome
+        return [try_question(plan, it, plain, is_explained, progress.advance) for it in questions]
 
 
 def _run(args: argparse.Namespace) -> int:
