@@ -19,7 +19,7 @@ import backend
 from txos import find_program
 
 FOLDER = Path(backend.__file__).resolve().parent
-MODULES = {f"txos/{it.name}" for it in (FOLDER / "txos").glob("*.py")}
+MODULES = {it.relative_to(FOLDER).as_posix() for it in (FOLDER / "txos").rglob("*.py")}
 
 
 def program_version():
@@ -69,9 +69,7 @@ class Builds(unittest.TestCase):
         self.assertEqual({*rows, f"{info}/RECORD"}, set(files))
         for path, (told, size) in rows.items():
             padded = f"{told.replace('sha256=', '')}="
-            self.assertEqual(
-                base64.urlsafe_b64decode(padded), hashlib.sha256(files[path]).digest()
-            )
+            self.assertEqual(base64.urlsafe_b64decode(padded), hashlib.sha256(files[path]).digest())
             self.assertEqual(int(size), len(files[path]))
 
     def test_an_editable_wheel_leads_to_this_folder(self):

@@ -84,8 +84,10 @@ class Pipes(unittest.TestCase):
     def test_how_much_it_holds(self):
         steps = "2 map 0\n2 pipe 5 0 1\n2 write 1 0 {}\n"
         for factor, count, size in (
-            (1, 1, "1 byte"), (1, 12, "12 bytes"),
-            (8, 1, "1 unit of 8 bytes"), (8, 3, "3 units of 8 bytes"),
+            (1, 1, "1 byte"),
+            (1, 12, "12 bytes"),
+            (8, 1, "1 unit of 8 bytes"),
+            (8, 3, "3 units of 8 bytes"),
         ):
             head = HEAD.replace("factor: 1", f"factor: {factor}")
             told = reported(steps.format(count), head=head)[1][0]
@@ -357,8 +359,15 @@ class Command(unittest.TestCase):
     def test_nothing_of_each_kind_is_a_sentence(self):
         status, output, _ = self.holders(text=HEAD)
         told = [
-            "After 0 of 0 steps: sh -c x", "", "No pipe is open.", "", "Each call ended.", "",
-            "No process ended without being waited for.", "", "No signal was lost.",
+            "After 0 of 0 steps: sh -c x",
+            "",
+            "No pipe is open.",
+            "",
+            "Each call ended.",
+            "",
+            "No process ended without being waited for.",
+            "",
+            "No signal was lost.",
         ]
         self.assertEqual((status, output.splitlines()), (0, told))
 

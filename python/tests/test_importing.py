@@ -6,10 +6,10 @@ Each recording is answered by the program too, and each answer has to be the hos
 import unittest
 
 from txos.faults import Fault
-from txos.importing import make_recording
+from txos.host.importing import make_recording
+from txos.host.strace import read_log
 from txos.kernel import Kernel, Refused
 from txos.recording import read_recording
-from txos.strace import read_log
 
 ROOT = '7 execve("/bin/sh", ["sh", "-c", "a b"], 0x7ffc /* 9 vars */) = 0'
 END = "7 +++ exited with 0 +++"

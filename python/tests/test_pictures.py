@@ -8,9 +8,9 @@ from contextlib import redirect_stderr, redirect_stdout
 from xml.etree import ElementTree
 
 import txos.command
-from txos.choosing import Part, choose, choose_part, part_of
-from txos.drawing import MOST_STEPS, Name, Row, draw
 from txos.faults import Fault
+from txos.picture.choosing import Part, choose, choose_part, part_of
+from txos.picture.drawing import MOST_STEPS, Name, Row, draw
 from txos.pictures import draw_choice
 from txos.recording import read_recording
 from txos.replays import Replay, is_refused
@@ -20,7 +20,10 @@ HEAD = "txos 3 schedule 2\n# recorded: sh -c x\n# log: 999 lines\n# factor: 1\n"
 SETUP = "2 map 0\n2 pipe 31 62 63\n2 dup2 1 15\n2 dup 15\n# 2 is sh -c 'echo a | cat'\n"
 FILE = "{0} dup 15  # = ok {1}  # 5 openat\n{0} close {1}  # = ok 0  # 6 close\n"
 # echo a | tr | cat, with a file that each opens.
-PIPELINE = SETUP + FILE.format(2, 3) + """2 pipe 0 0 1  # = ok 0  # 10 pipe2
+PIPELINE = (
+    SETUP
+    + FILE.format(2, 3)
+    + """2 pipe 0 0 1  # = ok 0  # 10 pipe2
 2 fork 3  # = ok 3  # 11 clone
 # 3 is sh -c 'echo a | cat', forked
 2 close 4  # = ok 0  # 12 close
@@ -41,7 +44,9 @@ PIPELINE = SETUP + FILE.format(2, 3) + """2 pipe 0 0 1  # = ok 0  # 10 pipe2
 4 dup2 5 1  # = ok 1  # 26 dup2
 4 close 5  # = ok 0  # 27 close
 # 4 is tr a-z A-Z
-""" + FILE.format(4, 3) + """2 fork 5  # = ok 5  # 28 clone
+"""
+    + FILE.format(4, 3)
+    + """2 fork 5  # = ok 5  # 28 clone
 5 dup2 4 0  # = ok 0  # 29 dup2
 5 close 4  # = ok 0  # 30 close
 # 5 is cat
@@ -61,18 +66,23 @@ PIPELINE = SETUP + FILE.format(2, 3) + """2 pipe 0 0 1  # = ok 0  # 10 pipe2
 2 waitpid 5 wait  # = ok 5  # 44 wait4
 2 exit 0  # = ended  # 45 exit_group
 """
+)
 COUNT = 44  # its steps
 # A process that echoes what it reads, for another one, again and again.
 ECHOES = "".join(
     f"2 write 1 0 {size}  # = ok {size}  # 50 write\n3 read 0 0 9  # = ok {size}  # 51 read\n"
     for size in (1, 3, 2)
 )
-LOOP = SETUP + "2 pipe 0 0 1  # = ok 0  # 9 pipe2\n2 dup2 4 1  # = ok 1  # 9 dup2\n" + "".join(
-    f"2 fork 3  # = ok 3  # 10 clone\n# 3 is cat\n3 dup2 3 0  # = ok 0  # 11 dup2\n{ECHOES}"
-    "2 write 1 0 2  # = ok 2  # 52 write\n"
-    "3 exit 0  # = ended  # 53 exit_group\n2 deliver CHLD  # 54 SIGCHLD\n"
-    "2 waitpid 3 wait  # = ok 3  # 55 wait4\n2 read 3 0 2  # = ok 2  # 56 read\n"
-    for _ in range(3)
+LOOP = (
+    SETUP
+    + "2 pipe 0 0 1  # = ok 0  # 9 pipe2\n2 dup2 4 1  # = ok 1  # 9 dup2\n"
+    + "".join(
+        f"2 fork 3  # = ok 3  # 10 clone\n# 3 is cat\n3 dup2 3 0  # = ok 0  # 11 dup2\n{ECHOES}"
+        "2 write 1 0 2  # = ok 2  # 52 write\n"
+        "3 exit 0  # = ended  # 53 exit_group\n2 deliver CHLD  # 54 SIGCHLD\n"
+        "2 waitpid 3 wait  # = ok 3  # 55 wait4\n2 read 3 0 2  # = ok 2  # 56 read\n"
+        for _ in range(3)
+    )
 )
 
 
@@ -102,9 +112,7 @@ class Picture:
 
     def names(self):
         """The short name and the title of each process."""
-        titles = {
-            self.columns[it.get("x")]: it.find(f"{SVG}title") for it in self._texts("name")
-        }
+        titles = {self.columns[it.get("x")]: it.find(f"{SVG}title") for it in self._texts("name")}
         return {process: (it.tail, it.text) for process, it in titles.items()}
 
     def rows(self):
@@ -197,8 +205,15 @@ class Drawing(unittest.TestCase):
 
     def test_arrows_through_hidden_rows(self):
         texts = [
-            "2 map 0", "2 pipe 0 0 1", "2 fork 3", "2 write 1 0 1", "2 getpid", "3 read 0 0 1",
-            "2 write 1 0 1", "2 read 0 0 1", "3 getpid",
+            "2 map 0",
+            "2 pipe 0 0 1",
+            "2 fork 3",
+            "2 write 1 0 1",
+            "2 getpid",
+            "3 read 0 0 1",
+            "2 write 1 0 1",
+            "2 read 0 0 1",
+            "3 getpid",
         ]
         for hidden, arrows in (
             (set(), {((2, 4), (3, 6)), ((2, 7), (2, 8))}),
@@ -225,7 +240,12 @@ class Drawing(unittest.TestCase):
 
     def test_what_a_transaction_holds_runs_down_to_its_end(self):
         texts = [
-            "3 getpid", "2 sys_xbegin", "2 fork 3", "2 kill 4 USR1", "2 map 0", "2 sys_xend",
+            "3 getpid",
+            "2 sys_xbegin",
+            "2 fork 3",
+            "2 kill 4 USR1",
+            "2 map 0",
+            "2 sys_xend",
             "3 sys_xend",
         ]
         for hidden, row, end in (((), 4, 7), ((1, 2, 5), 2, 4), ((3,), 3, 6)):
@@ -351,7 +371,9 @@ class Choices(unittest.TestCase):
         steps = PIPELINE.replace("# 4 is tr", "4 sys_xbegin\n4 fork 9\n9 exit 0\n# 4 is tr")
         with replayed(steps) as replay:
             first = number_of(replay, "4 write 1 0 6")
-            picture = Picture(draw_choice(replay, choose_part(replay, Part(first, first + 6, False))))
+            picture = Picture(
+                draw_choice(replay, choose_part(replay, Part(first, first + 6, False)))
+            )
         boxes = [it for it in picture.root.findall(f"{SVG}rect") if it.get("class") == "committed"]
         self.assertEqual(len(boxes), 2)
         self.assertEqual({it.get("y") for it in boxes}, {"52"})
@@ -369,9 +391,14 @@ class Choices(unittest.TestCase):
 
     def test_files_that_stay_open_are_made_but_not_drawn(self):
         opened = "".join(f"2 dup 15  # = ok {it}  # 5 openat\n" for it in (3, 4))
-        steps = SETUP + opened + FILE.format(2, 5) * 150 + (
-            "2 pipe 0 0 1  # = ok 0  # 7 pipe2\n2 write 6 0 3  # = ok 3  # 8 write\n"
-            "2 read 5 0 3  # = ok 3  # 9 read\n"
+        steps = (
+            SETUP
+            + opened
+            + FILE.format(2, 5) * 150
+            + (
+                "2 pipe 0 0 1  # = ok 0  # 7 pipe2\n2 write 6 0 3  # = ok 3  # 8 write\n"
+                "2 read 5 0 3  # = ok 3  # 9 read\n"
+            )
         )
         with replayed(steps) as replay:
             choice = choose(replay)

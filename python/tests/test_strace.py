@@ -3,7 +3,7 @@
 import unittest
 
 from txos.faults import Fault
-from txos.strace import Begun, Call, Done, End, Signal, bytes_of, read_log, split_args
+from txos.host.strace import Begun, Call, Done, End, Signal, bytes_of, read_log, split_args
 
 START = '7 execve("/bin/true", ["true"], 0x7ffc /* 9 vars */) = 0'
 END = "7 +++ exited with 0 +++"

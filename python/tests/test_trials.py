@@ -14,15 +14,15 @@ from pathlib import Path
 
 from txos.command import main
 from txos.faults import Fault
-from txos.fileless import without_files
 from txos.kernel import Kernel, Refused
-from txos.lives import make_plan
 from txos.recording import ABORT, ROOT, read_recording
-from txos.trial_circles import Forever, Link, find_circles
-from txos.trial_lines import Wait, Why
-from txos.trial_outcome import Because, Question
-from txos.trial_recording import trial_recording
-from txos.trial_report import report
+from txos.trial.circles import Forever, Link, find_circles
+from txos.trial.fileless import without_files
+from txos.trial.lines import Wait, Why
+from txos.trial.lives import make_plan
+from txos.trial.outcome import Because, Question
+from txos.trial.report import report
+from txos.trial.written import trial_recording
 from txos.trials import ask, choose, try_all
 
 HEAD = """txos 3 schedule 2

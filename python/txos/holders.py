@@ -83,9 +83,7 @@ class Report:
         return f"{side} side {held}"
 
     def _named(self, holders: List[Holder], count: int) -> str:
-        return ", ".join(
-            f"{self._label(it.process, count)} ({_descriptors(it)})" for it in holders
-        )
+        return ", ".join(f"{self._label(it.process, count)} ({_descriptors(it)})" for it in holders)
 
     # Calls that never ended.
 

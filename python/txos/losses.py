@@ -6,10 +6,10 @@ import enum
 from dataclasses import dataclass, replace
 from typing import Dict, Iterator, List, Optional, Sequence, Tuple
 
+from .host.tree import ERRORS, SIGNALS, signal_number, spell_signal
 from .kernel import Process, State
 from .recording import OUTSIDE
 from .replays import Replay
-from .tree import ERRORS, SIGNALS, signal_number, spell_signal
 
 _CHLD, _PIPE = SIGNALS["CHLD"], SIGNALS["PIPE"]
 _BROKEN_PIPE = f"ok {-ERRORS['EPIPE']}"
@@ -87,9 +87,7 @@ def zombies_until(replay: Replay, count: int) -> List[Zombie]:
 def _last_end(replay: Replay, count: int, process: int) -> int:
     """The last of so many steps at which a process ended."""
     return next(
-        it
-        for it in range(count, 0, -1)
-        if replay.is_end(it) and replay.step(it).process == process
+        it for it in range(count, 0, -1) if replay.is_end(it) and replay.step(it).process == process
     )
 
 

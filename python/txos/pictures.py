@@ -6,9 +6,9 @@ import argparse
 import sys
 from typing import Dict
 
-from .choosing import Choice, choose, choose_part, part_of
-from .drawing import MOST_STEPS, Name, Row, draw
 from .files import write_whole
+from .picture.choosing import Choice, choose, choose_part, part_of
+from .picture.drawing import MOST_STEPS, Name, Row, draw
 from .recording import OUTSIDE, Recording, short_name
 from .replays import Replay, replay_file
 

@@ -7,10 +7,10 @@ import sys
 from typing import Optional
 
 from .files import write_whole
-from .importing import left_out_sentence, make_recording
+from .host.importing import left_out_sentence, make_recording
+from .host.strace import HOW, read_log
 from .progress import Progress
 from .recording import Recording
-from .strace import HOW, read_log
 
 _ABOUT = f"""Reads what strace -f wrote of a tree of processes, and writes it as a schedule, with
 Linux's answer behind each step. {HOW[0].upper()}{HOW[1:]}."""

@@ -17,8 +17,8 @@ from typing import Iterator, List, Optional
 
 from .faults import NO_COMMAND, RUN_FAILED, Fault
 from .files import write_whole
+from .host.strace import OPTIONS
 from .reading import add_options, read_recording_of, say_what_was_made
-from .strace import OPTIONS
 
 _DEFAULT = "recording.txos"
 _PATIENCE = 1.0  # seconds after ^C until it is said how a command ends that goes on

@@ -8,16 +8,16 @@ from typing import Any, Callable, List, Optional
 from .faults import Fault
 from .files import write_whole
 from .kernel import Kernel
-from .lives import Life, Plan, make_plan
 from .progress import Progress
 from .recording import ABORT, OUTSIDE, ROOT
 from .replays import replay_file
-from .trial_circles import find_circles, find_forever
-from .trial_outcome import Outcome, Question
-from .trial_recording import trial_recording
-from .trial_report import Findings, report
-from .trial_schedule import Schedule
-from .trial_table import table
+from .trial.circles import find_circles, find_forever
+from .trial.lives import Life, Plan, make_plan
+from .trial.outcome import Outcome, Question
+from .trial.report import Findings, report
+from .trial.schedule import Schedule
+from .trial.table import table
+from .trial.written import trial_recording
 
 _ABOUT = """Tries a process of a recording, and all that it forks, as a transaction: whether it
 commits, who waits for it, who waits for ever, and what is answered otherwise than on Linux. Each

@@ -6,10 +6,10 @@ import enum
 from dataclasses import dataclass, field
 from typing import Dict, List, Optional
 
-from .kernel import Reply, State
+from ..kernel import Reply, State
+from ..recording import Step
+from .lines import Wait
 from .lives import Life, Turn
-from .recording import Step
-from .trial_lines import Wait
 
 
 @dataclass(frozen=True)

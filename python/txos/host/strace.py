@@ -6,7 +6,7 @@ import re
 from dataclasses import dataclass, field
 from typing import Dict, List, Optional, Sequence, Tuple, Union
 
-from .faults import Fault
+from ..faults import Fault
 
 # The calls that a recording reads. With `?` a version of strace that lacks one goes on.
 TRACED = (

@@ -4,11 +4,11 @@ from __future__ import annotations
 
 from typing import Dict, FrozenSet, Iterable, Iterator, List, Sequence, Tuple
 
+from ..kernel import Kernel
+from ..progress import Progress
+from ..recording import ROOT
+from ..replays import Replay, is_refused, spelled
 from .groups import Group, descriptors, gone_pipes, gone_trees, transfers
-from .kernel import Kernel
-from .progress import Progress
-from .recording import ROOT
-from .replays import Replay, is_refused, spelled
 from .roles import Kind, Role, pipes_named
 
 

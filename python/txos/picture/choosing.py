@@ -6,10 +6,10 @@ from collections import Counter
 from dataclasses import dataclass
 from typing import List, Optional, Sequence, Tuple
 
+from ..faults import Fault
+from ..replays import Replay
 from .drawing import MOST_STEPS
-from .faults import Fault
 from .reducing import steps_needed
-from .replays import Replay
 from .roles import Kind, Role, roles_of
 
 # What takes no part in what processes do with one another.

@@ -6,10 +6,10 @@ from collections import deque
 from dataclasses import dataclass, field
 from typing import Deque, Dict, List, Optional, Sequence, Set
 
+from ..waits import OTHER_SIDE, holders_of
+from .lines import Line, Wait, Why
 from .lives import AT_END, NO_READER, Life, Turn
-from .trial_lines import Line, Wait, Why
-from .trial_schedule import Schedule
-from .waits import OTHER_SIDE, holders_of
+from .schedule import Schedule
 
 
 @dataclass(frozen=True)

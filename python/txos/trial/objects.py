@@ -5,11 +5,11 @@ from __future__ import annotations
 import re
 from typing import Dict, List
 
-from .kernel import Kernel, State
+from ..host.tree import spell_signal
+from ..kernel import Kernel, State
+from ..recording import Step
+from .lines import Need, Why
 from .lives import Life, Turn
-from .recording import Step
-from .trial_lines import Need, Why
-from .tree import spell_signal
 
 _HAS = re.compile(r"(proc|desc|pipe) (\d+): the transaction of \d+ has it since step (\d+): .*")
 _TWO_ANSWERS = re.compile(r"signal \d+ to \d+: it would be answered .*")

@@ -9,15 +9,15 @@ from __future__ import annotations
 
 from typing import Callable, Dict, List, Set
 
-from .faults import Fault
-from .kernel import Kernel, Refused, Reply
+from ..faults import Fault
+from ..kernel import Kernel, Refused, Reply
+from ..recording import ABORT, Step
+from .agenda import Agenda
+from .lines import Line, Wait, Why
 from .lives import ENDED, KILL, Delivery, Life, Plan, Turn, added_end, added_turn
-from .recording import ABORT, Step
-from .trial_agenda import Agenda
-from .trial_lines import Line, Wait, Why
-from .trial_objects import Objects
-from .trial_outcome import Because, Ending, Made, Outcome, Question, Sent
-from .trial_rules import asks_again, found_nothing, with_free_numbers
+from .objects import Objects
+from .outcome import Because, Ending, Made, Outcome, Question, Sent
+from .rules import asks_again, found_nothing, with_free_numbers
 
 _REFUSALS = {"N8": Why.BUSY, "N9": Why.CALL, "N4": Why.NUMBER}
 _NO_SIGNAL = "N10"

@@ -4,9 +4,9 @@ from __future__ import annotations
 
 from typing import Iterator, Optional, Sequence
 
-from .reading import counted
-from .trial_outcome import Ending
-from .trial_report import Findings, circle_in_short
+from ..reading import counted
+from .outcome import Ending
+from .report import Findings, circle_in_short
 
 _HEAD = ("process", "steps", "outcome", "others waited", "for ever")
 

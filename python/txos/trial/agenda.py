@@ -5,9 +5,9 @@ from __future__ import annotations
 from collections import deque
 from typing import Dict, Iterator, List, Optional, Sequence, Set
 
+from .lines import Line, Lines, Wait, Why
 from .lives import Life, Plan, Turn, added_turn
-from .trial_lines import Line, Lines, Wait, Why
-from .trial_outcome import Because, LeftOut, Outcome
+from .outcome import Because, LeftOut, Outcome
 
 
 class Agenda:

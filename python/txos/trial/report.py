@@ -7,14 +7,14 @@ from collections import defaultdict
 from dataclasses import dataclass, field
 from typing import Callable, Dict, Iterator, List, Sequence, Tuple
 
-from .kernel import Undelivered
+from ..host.tree import spell_signal
+from ..kernel import Undelivered
+from ..reading import counted
+from .circles import Forever, Link
 from .leftovers import differences
+from .lines import Need, Wait, Why
 from .lives import NO_READER, Life, Plan, Turn
-from .reading import counted
-from .trial_circles import Forever, Link
-from .trial_lines import Need, Wait, Why
-from .trial_outcome import Outcome, Sent
-from .tree import spell_signal
+from .outcome import Outcome, Sent
 
 _MOST_STEPS = 40  # that are listed one by one
 

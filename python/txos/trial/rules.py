@@ -5,9 +5,9 @@ from __future__ import annotations
 from dataclasses import replace
 from typing import AbstractSet, Iterable, List, Optional
 
-from .kernel import Owned, Reply, State
+from ..kernel import Owned, Reply, State
+from ..recording import Step
 from .lives import NO_READER, Turn
-from .recording import Step
 
 FOUND_NOTHING = "ok -11"  # EAGAIN
 _RUNS_STILL = "ok 0"  # a child of which a waitpid asks without waiting

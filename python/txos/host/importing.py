@@ -7,10 +7,7 @@ from collections import defaultdict
 from dataclasses import replace
 from typing import Callable, Dict, Iterable, Iterator, List, Optional, Sequence, Set, Tuple
 
-from .contents import Memory
-from .descriptors import DATA, ZEROS
-from .order import Order
-from .recording import (
+from ..recording import (
     FILE_DESCRIPTOR,
     FILE_PIPE,
     FILE_READ,
@@ -21,6 +18,9 @@ from .recording import (
     Recording,
     Step,
 )
+from .contents import Memory
+from .descriptors import DATA, ZEROS
+from .order import Order
 from .strace import Event
 from .tree import READ, WRITE, Draft, Pipe, Transfer, Tree
 

@@ -5,8 +5,8 @@ from __future__ import annotations
 from collections import Counter
 from typing import Callable, Dict, Iterator, List, Optional
 
-from .kernel import Action, Description, Process, State
-from .tree import spell_signal
+from ..host.tree import spell_signal
+from ..kernel import Action, Description, Process, State
 
 
 def differences(before: State, after: State, label: Callable[[int], str]) -> List[str]:

@@ -9,8 +9,8 @@ from __future__ import annotations
 from dataclasses import dataclass, field
 from typing import Callable, Dict, FrozenSet, Iterator, List, Optional, Set, Tuple
 
-from .faults import Fault
-from .recording import FILE_DESCRIPTOR, FILE_PIPE, OUTSIDE, ROOT, LeftOut, Naming, Step
+from ..faults import Fault
+from ..recording import FILE_DESCRIPTOR, FILE_PIPE, OUTSIDE, ROOT, LeftOut, Naming, Step
 
 READ, WRITE = "read", "write"
 # The known signals: their numbers by their names, of those that are not realtime signals.

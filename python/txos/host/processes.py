@@ -6,15 +6,7 @@ import re
 from typing import Dict, Optional
 
 from .descriptors import WAITS, Effect, add_file, answer_of, leave_out_failed
-from .signals import (
-    CHLD,
-    KILL,
-    deliver,
-    post,
-    send_from_outside,
-    set_action,
-    unknown_number,
-)
+from .signals import CHLD, KILL, deliver, post, send_from_outside, set_action, unknown_number
 from .strace import Call, split_args
 from .tree import Action, Process, Tree, signal_number, spell_signal
 

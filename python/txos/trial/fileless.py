@@ -11,7 +11,7 @@ from __future__ import annotations
 from dataclasses import dataclass, replace
 from typing import Callable, Dict, List, Optional, Tuple
 
-from .recording import FILE_READ, FILE_WRITE, ROOT, Recording, Step
+from ..recording import FILE_READ, FILE_WRITE, ROOT, Recording, Step
 
 _DESCRIPTORS = range(16)
 _NEVER_OPEN = 16  # no process has a descriptor of this number

@@ -5,8 +5,8 @@ from __future__ import annotations
 from dataclasses import dataclass, field
 from typing import Dict, FrozenSet, Iterable, Iterator, List, Sequence, Set, Tuple
 
-from .kernel import State
-from .replays import Replay, is_refused
+from ..kernel import State
+from ..replays import Replay, is_refused
 from .roles import Kind, Role
 
 Group = FrozenSet[int]  # the numbers of steps
@@ -92,9 +92,7 @@ def _pipes_there(replay: Replay, steps: Iterable[int], state: State) -> FrozenSe
     return frozenset(made for pipe, made in last.items() if pipe in state.pipes)
 
 
-def transfers(
-    replay: Replay, roles: Sequence[Role], count: int
-) -> Tuple[List[Group], Group]:
+def transfers(replay: Replay, roles: Sequence[Role], count: int) -> Tuple[List[Group], Group]:
     """The transfers of bytes that are gone after so many steps, pipe by pipe, and all others.
 
     The bytes of a pipe are gone with the pipe, and those that went through it before it was empty

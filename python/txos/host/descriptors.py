@@ -5,7 +5,7 @@ from __future__ import annotations
 import re
 from typing import Callable, Dict, List, Optional, Tuple
 
-from .recording import FILE_DESCRIPTOR
+from ..recording import FILE_DESCRIPTOR
 from .strace import Call, bytes_of, split_args
 from .tree import ERRORS, READ, WRITE, Descriptor, Pipe, Process, Transfer, Tree
 

@@ -7,9 +7,9 @@ import signal as host_signals
 from dataclasses import replace
 from typing import Dict, FrozenSet, List, Optional
 
+from ..faults import Fault
+from ..recording import OUTSIDE
 from .descriptors import Effect, answer_of, leave_out_failed
-from .faults import Fault
-from .recording import OUTSIDE
 from .strace import Call
 from .tree import REALTIME, SIGNALS, Action, Process, Tree, signal_number, spell_signal
 

@@ -13,9 +13,9 @@ from collections import defaultdict
 from functools import partial
 from typing import Callable, Dict, FrozenSet, List, Optional, Sequence, Set, Tuple
 
+from ..faults import Fault
 from . import descriptors, processes, signals
 from .descriptors import Effect, closed_by_range, moved, size_asked
-from .faults import Fault
 from .processes import FORKS, command_of, end_by_exit, end_by_signal, waited_for
 from .signals import KILL, is_deadly, signal_sent, targets
 from .strace import HOW, Begun, Call, Done, End, Event, Signal, Superseded, event_task

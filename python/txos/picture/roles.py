@@ -6,10 +6,10 @@ import enum
 from dataclasses import dataclass
 from typing import Dict, FrozenSet, List, Tuple
 
-from .kernel import State
-from .progress import Progress
-from .recording import FILE_DESCRIPTOR, FILE_PIPE, OUTSIDE, Step
-from .replays import Replay
+from ..kernel import State
+from ..progress import Progress
+from ..recording import FILE_DESCRIPTOR, FILE_PIPE, OUTSIDE, Step
+from ..replays import Replay
 
 
 class Kind(enum.Enum):

@@ -13,9 +13,9 @@ from dataclasses import dataclass
 from typing import Dict, List, Sequence
 from xml.etree import ElementTree
 
-from .faults import Fault
-from .kernel import find_program
-from .recording import HEADER
+from ..faults import Fault
+from ..kernel import find_program
+from ..recording import HEADER
 
 MOST_STEPS = 200  # that the program draws
 _SVG = "http://www.w3.org/2000/svg"

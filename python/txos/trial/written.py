@@ -6,10 +6,10 @@ from collections import defaultdict
 from dataclasses import replace
 from typing import Dict, Iterable, Iterator, List, Optional, Tuple
 
+from ..recording import LeftOut, Naming, Recording, Step
+from .lines import Wait, Why
 from .lives import ENDED, Plan, Turn
-from .recording import LeftOut, Naming, Recording, Step
-from .trial_lines import Wait, Why
-from .trial_outcome import Outcome
+from .outcome import Outcome
 
 _Placed = Tuple[Turn, Step]
 

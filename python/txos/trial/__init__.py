@@ -1,0 +1,1 @@
+"""What comes of a recording where one of its processes is a transaction."""
