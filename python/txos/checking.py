@@ -8,7 +8,7 @@ import re
 from dataclasses import dataclass
 from typing import List, Optional
 
-from .recording import Recording, Step
+from .recording import ENDED, Recording, Step
 from .replays import is_refused, replay_file
 
 _ABOUT = """Makes the steps of a recording, and prints each whose answer is not Linux's. A step that
@@ -66,7 +66,7 @@ def compare(recording: Recording, answers: List[str]) -> Comparison:
 
 def _is_as(expected: Optional[str], answer: str) -> bool:
     """Whether an answer is Linux's. In a trial the end of a process may commit a transaction."""
-    return expected == answer or (expected == "ended" and answer.startswith("committed"))
+    return expected == answer or (expected == ENDED and answer.startswith("committed"))
 
 
 def add_command(commands: argparse._SubParsersAction) -> None:

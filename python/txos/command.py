@@ -20,7 +20,7 @@ a part of the tree could have been a transaction."""
 
 
 def build_parser() -> argparse.ArgumentParser:
-    """What reads the words behind `txos-record`."""
+    """What reads the words after `txos-record`."""
     parser = argparse.ArgumentParser(prog="txos-record", description=_ABOUT)
     commands = parser.add_subparsers(title="commands", metavar="COMMAND", required=True)
     for part in (running, reading, checking, trials, holders, pictures):

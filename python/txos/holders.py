@@ -8,12 +8,10 @@ from typing import Dict, Iterator, List, Optional, Tuple
 from .faults import Fault
 from .kernel import State
 from .losses import Harm, Lost, Zombie, lost_signals, zombies_after, zombies_until
-from .recording import FILE_PIPE
-from .replays import WAITS, Replay, replay_file
+from .recording import FILE_PIPE, READ, WAITS, WRITE
+from .replays import Replay, replay_file
 from .waits import (
     OTHER_SIDE,
-    READ,
-    WRITE,
     Holder,
     Reason,
     Wait,
@@ -24,6 +22,7 @@ from .waits import (
     reason_of,
     waiting_at,
 )
+from .wording import counted
 
 _ABOUT = """Prints who holds each pipe open, which calls never ended and who could end them, who
 ended without being waited for, and which signals were lost. Without --at the pipes are those at the
@@ -44,7 +43,7 @@ class Report:
     def lines(self) -> Iterator[str]:
         """The lines, without their ends."""
         recording = self._replay.recording
-        yield f"After {self._count:,} of {_counted(len(self._replay), 'step')}: {recording.command}"
+        yield f"After {self._count:,} of {counted(len(self._replay), 'step')}: {recording.command}"
         for part in (self._pipes(), self._calls(), self._zombies(), self._signals()):
             yield ""
             yield from part
@@ -75,7 +74,7 @@ class Report:
         count, factor = len(state.pipes[pipe]), self._replay.recording.factor
         if count == 0:
             return "empty"
-        return _counted(count, "byte" if factor == 1 else f"unit of {factor} bytes")
+        return counted(count, "byte" if factor == 1 else f"unit of {factor} bytes")
 
     def _side(self, state: State, pipe: int, side: str, count: int) -> str:
         holders = holders_of(state, pipe, side)
@@ -202,16 +201,10 @@ def add_command(commands: argparse._SubParsersAction) -> None:
 def _run(args: argparse.Namespace) -> int:
     with replay_file(args.file) as replay:
         if args.at is not None and not 0 <= args.at <= len(replay):
-            raise Fault(f"--at {args.at}: the recording has {_counted(len(replay), 'step')}")
+            raise Fault(f"--at {args.at}: the recording has {counted(len(replay), 'step')}")
         for line in Report(replay, args.at).lines():
             print(line)
     return 0
-
-
-def _counted(count: int, what: str) -> str:
-    """A count of things, such as `1 byte` and `2 units of 8 bytes`."""
-    first, _, rest = what.partition(" ")
-    return f"{count:,} {first}{'' if count == 1 else 's'}{' ' if rest else ''}{rest}"
 
 
 def _descriptors(holder: Holder) -> str:

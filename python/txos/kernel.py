@@ -389,7 +389,7 @@ class Kernel:
 
         It is faster than `step` by far, since some lines are sent before the first of them is
         answered. So where it raises `StepsAhead` or `BadLine`, or is left early, a few steps
-        behind that one may be made too.
+        after that one may be made too.
         """
         for some in _split(lines):
             for line in some:
@@ -409,16 +409,16 @@ class Kernel:
         return self._lines("forward") != ["no end"]
 
     def goto(self, position: int) -> None:
-        """Goes to the place behind so many steps; raises IndexError where there are fewer."""
+        """Goes to the place after so many steps; raises IndexError where there are fewer."""
         if self._lines(f"goto {position}") == ["no place"]:
             raise IndexError(f"there is no position {position}")
 
     def goto_end(self) -> None:
-        """Goes to the place behind all steps."""
+        """Goes to the place after all steps."""
         self._lines("goto end")
 
     def cut(self) -> None:
-        """Lets go of the steps behind the position."""
+        """Drops the steps after the position."""
         self.ask("cut")
 
     def state(self) -> State:
@@ -453,14 +453,14 @@ class Kernel:
         return {int(it[1]): Owned(*map(_read_numbers, it[3::2])) for it in lines}
 
     def when(self, piece: str) -> Found | None:
-        """Goes back behind the step that changed a piece of the state last, such as `page 2 0`.
+        """Goes back to after the step that changed a piece of the state last, as `page 2 0`.
 
         None, and the start, where none did.
         """
         return self._find(f"when {piece}")
 
     def next(self, piece: str) -> Found | None:
-        """Goes on behind the step that changes a piece next; None, and the end, where none does."""
+        """Goes on to after the step that changes a piece next; None, and the end, if none does."""
         return self._find(f"next {piece}")
 
     def steps(self) -> list[Made]:

@@ -13,7 +13,7 @@ _EVERY = 0.1  # seconds between two lines that are shown
 class Progress:
     """Shows how much of long work is done, in one line of a terminal; nothing is shown in a pipe.
 
-    Use it in a `with`, and call `advance` behind each part that is done.
+    Use it in a `with`, and call `advance` after each part that is done.
     """
 
     def __init__(self, total: int, what: str, stream: Optional[TextIO] = None) -> None:

@@ -11,9 +11,10 @@ from .host.importing import left_out_sentence, make_recording
 from .host.strace import HOW, read_log
 from .progress import Progress
 from .recording import Recording
+from .wording import counted
 
 _ABOUT = f"""Reads what strace -f wrote of a tree of processes, and writes it as a schedule, with
-Linux's answer behind each step. {HOW[0].upper()}{HOW[1:]}."""
+Linux's answer after each step. {HOW[0].upper()}{HOW[1:]}."""
 
 
 def add_command(commands: argparse._SubParsersAction) -> None:
@@ -48,11 +49,6 @@ def read_recording_of(log: str, is_short: bool) -> Recording:
     events = read_log(split)
     with Progress(len(events), "calls of the log") as progress:
         return make_recording(events, len(split), is_short, progress.advance)
-
-
-def counted(count: int, noun: str, plural: str = "s") -> str:
-    """A number of things, in words."""
-    return f"{count:,} {noun}{'' if count == 1 else plural}"
 
 
 def say_what_was_made(made: Recording, path: Optional[str]) -> None:

@@ -1,4 +1,4 @@
-"""A recording: what real processes did, as a schedule, with Linux's answer behind each step.
+"""A recording: what real processes did, as a schedule, with Linux's answer after each step.
 
 Its text is a schedule of version 3, so `txos replay` and the shell read it as it is. What a
 recording knows beyond the steps is in comments, of which `read_recording` reads these:
@@ -26,6 +26,9 @@ FILE_PIPE, FILE_READ, FILE_WRITE = 31, 62, 63
 FILE_DESCRIPTOR = 15  # the descriptor by which each process keeps that end
 ABORT = "kernel"  # the call that a schedule spells `kernel P`: the kernel aborts P's transaction
 
+READ, WRITE = "read", "write"  # the sides of a pipe, and the calls on them
+WAITS, ENDED = "no N9", "ended"  # answers, as a report spells them
+
 HEADER = "txos 3 schedule 2"
 _LINE_LIMIT = 512
 _STEP = re.compile(
@@ -38,15 +41,15 @@ _FIELD = re.compile(r"# (recorded|log|factor): (.+)")
 
 
 class BadRecording(ValueError):
-    """A text is no recording. `line` is the first line at fault, from 1, `told` what is wrong."""
+    """A text is no recording. `line` is the first line at fault, from 1, `fault` what is wrong."""
 
-    def __init__(self, line: int, told: str) -> None:
-        super().__init__(line, told)
+    def __init__(self, line: int, fault: str) -> None:
+        super().__init__(line, fault)
         self.line = line
-        self.told = told
+        self.fault = fault
 
     def __str__(self) -> str:
-        return f"line {self.line}: {self.told}"
+        return f"line {self.line}: {self.fault}"
 
 
 @dataclass(frozen=True)
@@ -194,7 +197,7 @@ def read_recording(text: str) -> Recording:
 
 
 def _read_line(made: Recording, fields: Dict[str, str], number: int, line: str) -> None:
-    """Reads a line behind the first."""
+    """Reads a line after the first."""
     if line.startswith("#"):
         _read_comment(made, fields, line)
         return

@@ -1,4 +1,4 @@
-"""A recording as the kernel answers it: what each step is answered, and the state behind it."""
+"""A recording as the kernel answers it: what each step is answered, and the state after it."""
 
 from __future__ import annotations
 
@@ -11,9 +11,8 @@ from typing import Callable, List, Optional, Sequence, Type, Union
 from .faults import Fault
 from .kernel import BadLine, Kernel, Refused, Reply, State, Trial
 from .progress import Progress
-from .recording import ROOT, BadRecording, Recording, Step, read_recording
+from .recording import ENDED, ROOT, BadRecording, Recording, Step, read_recording
 
-WAITS = "no N9"
 _REFUSED = "no "
 _STANDARD_INPUT = "-"
 
@@ -76,7 +75,7 @@ class Replay:
         """Whether the step with a number ends its process, which may commit a transaction too."""
         kind = self.answer(number).split()[0]
         may_end = self.step(number).words[0] in ("exit", "deliver")
-        return kind == "ended" or (kind == "committed" and may_end)
+        return kind == ENDED or (kind == "committed" and may_end)
 
     def state(self, count: int) -> State:
         """The state after so many steps."""

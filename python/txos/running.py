@@ -112,7 +112,7 @@ def _endings(tracer: "subprocess.Popen[bytes]") -> Iterator[None]:
 
 
 def _kill_traced(tracer: int) -> None:
-    """Ends every process that strace traces; strace ends behind the last one."""
+    """Ends every process that strace traces; strace ends after the last one."""
     for status in Path("/proc").glob("[0-9]*/status"):
         try:
             text = status.read_text()

@@ -7,10 +7,9 @@ from typing import Callable, Dict, List, Optional, Tuple
 
 from .kernel import State
 from .progress import Progress
-from .recording import Step
-from .replays import WAITS, Replay
+from .recording import READ, WAITS, WRITE, Step
+from .replays import Replay
 
-READ, WRITE = "read", "write"
 OTHER_SIDE = {READ: WRITE, WRITE: READ}
 
 

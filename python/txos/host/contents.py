@@ -4,8 +4,9 @@ from __future__ import annotations
 
 from typing import Dict, Optional
 
+from ..recording import READ
 from .descriptors import DATA, ZEROS
-from .tree import READ, Pipe, Transfer
+from .tree import Pipe, Transfer
 
 _SIZE = ZEROS - DATA
 _ESCAPES = {ord("\n"): "\\n", ord("\t"): "\\t", ord('"'): '\\"', ord("\\"): "\\\\"}

@@ -5,15 +5,14 @@ from __future__ import annotations
 import re
 from typing import Callable, Dict, List, Optional, Tuple
 
-from ..recording import FILE_DESCRIPTOR
+from ..recording import FILE_DESCRIPTOR, READ, WAITS, WRITE
 from .strace import Call, bytes_of, split_args
-from .tree import ERRORS, READ, WRITE, Descriptor, Pipe, Process, Transfer, Tree
+from .tree import ERRORS, Descriptor, Pipe, Process, Transfer, Tree
 
 Effect = Callable[[Tree, Process, Call], None]
 # Where the kernel's memory has the bytes that are read and stored, and where it has only zeros.
 DATA, ZEROS = 0, 512
 MOST_DATA = 64  # bytes that one store holds
-WAITS = "no N9"
 
 _UNKNOWN = "descriptor whose opening the log has not"
 _SAME_FILE = re.compile(r'"/(?:dev|proc/self)/fd/(\d+)"|"/dev/std(in|out|err)"')

@@ -12,7 +12,9 @@ from ..recording import (
     FILE_PIPE,
     FILE_READ,
     FILE_WRITE,
+    READ,
     ROOT,
+    WRITE,
     LeftOut,
     Naming,
     Recording,
@@ -22,7 +24,7 @@ from .contents import Memory
 from .descriptors import DATA, ZEROS
 from .order import Order
 from .strace import Event
-from .tree import READ, WRITE, Draft, Pipe, Transfer, Tree
+from .tree import Draft, Pipe, Transfer, Tree
 
 _PIPE_SIZE = 512  # bytes that a pipe of the kernel holds
 _PAGE = 64
@@ -35,7 +37,7 @@ def make_recording(
     """The recording of a log of so many lines.
 
     Where it is short, files that are opened and closed again are left out, and so are masks and
-    actions that are set to what they are. `advance` is called with 1 behind each event. Raises
+    actions that are set to what they are. `advance` is called with 1 after each event. Raises
     `Fault` where the log lacks the fork of a process, or has too many processes at once.
     """
     tree = Order(events).run(advance)
@@ -169,7 +171,7 @@ def _transfer(
 
 
 def _setup(steps: Sequence[Step]) -> Iterator[Step]:
-    """The steps before the recorded ones: pages for the bytes, and what stands for files."""
+    """The steps before the recorded ones: pages for the bytes, and the stand-in for files."""
     pages: Set[int] = set()
     for words in (it.words for it in steps if it.words[0] in (READ, WRITE)):
         address, size = int(words[2]), int(words[3])

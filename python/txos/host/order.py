@@ -14,12 +14,13 @@ from functools import partial
 from typing import Callable, Dict, FrozenSet, List, Optional, Sequence, Set, Tuple
 
 from ..faults import Fault
+from ..recording import READ, WRITE
 from . import descriptors, processes, signals
 from .descriptors import Effect, closed_by_range, moved, size_asked
 from .processes import FORKS, command_of, end_by_exit, end_by_signal, waited_for
 from .signals import KILL, is_deadly, signal_sent, targets
 from .strace import HOW, Begun, Call, Done, End, Event, Signal, Superseded, event_task
-from .tree import READ, REALTIME, SIGNALS, WRITE, Descriptor, Pipe, Process, Tree, signal_number
+from .tree import REALTIME, SIGNALS, Descriptor, Pipe, Process, Tree, signal_number
 
 _EFFECTS: Dict[str, Effect] = {
     **descriptors.EFFECTS,
@@ -57,7 +58,7 @@ class Order:
         self.tree.command_after_fork = self._command_after_fork
 
     def run(self, advance: Callable[[int], None]) -> Tree:
-        """Does all calls; `advance` is told behind each event that one more is done.
+        """Does all calls; `advance` is called with 1 after each event.
 
         Raises `Fault` where a process begins whose fork the log has not.
         """

@@ -5,7 +5,8 @@ from __future__ import annotations
 import re
 from typing import Dict, Optional
 
-from .descriptors import WAITS, Effect, add_file, answer_of, leave_out_failed
+from ..recording import ENDED, WAITS
+from .descriptors import Effect, add_file, answer_of, leave_out_failed
 from .signals import CHLD, KILL, deliver, post, send_from_outside, set_action, unknown_number
 from .strace import Call, split_args
 from .tree import Action, Process, Tree, signal_number, spell_signal
@@ -99,7 +100,7 @@ def _end(tree: Tree, process: Process, call: str) -> None:
     parent = process.parent
     if parent and parent.is_running:
         tree.before_post(CHLD, parent, process)
-    tree.emit(process, call, "ended")
+    tree.emit(process, call, ENDED)
     process.is_running = False
     process.descriptors.clear()
     for child in tree.children(process):

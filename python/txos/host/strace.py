@@ -51,7 +51,7 @@ class Call:
     """A call of a task, from the line where it starts to that where it ends.
 
     `end` is None where it never ends. `result` is None where strace has none (`?`), and `error`
-    the name that stands behind it. `args` has the words between the parentheses, `more` what
+    the name after it. `args` has the words between the parentheses, `more` what
     follows the result.
     """
 
@@ -172,7 +172,7 @@ def split_args(text: str) -> Tuple[str, ...]:
 
 
 def _after_string(text: str, quote: int) -> int:
-    """The place behind the string that begins at a quote."""
+    """The place after the string that begins at a quote."""
     at = quote + 1
     while at < len(text) and text[at] != '"':
         at += 2 if text[at] == "\\" else 1
@@ -320,9 +320,9 @@ class _Reader:
 
 def _not_a_line(rest: str, number: int) -> str:
     """What is wrong with a line that is none of a log's."""
-    told = re.match(r"\d+ +(.*)", rest)
+    found = re.match(r"\d+ +(.*)", rest)
     for pattern, sentence in _OTHER_OPTIONS:
-        if pattern.match(told[1] if told else rest):
+        if pattern.match(found[1] if found else rest):
             return f"this has {sentence}"
     if re.match(r"(\w+\(|---|\+\+\+|\[pid)", rest):
         return "no number of a process begins this line, as with -f and -o"
@@ -331,7 +331,7 @@ def _not_a_line(rest: str, number: int) -> str:
 
 def _not_the_first(rest: str) -> str:
     """What is wrong with a first line that is not the start of a command."""
-    told = _not_a_line(rest, 1)
-    if told.startswith("this has"):
-        return told
+    fault = _not_a_line(rest, 1)
+    if fault.startswith("this has"):
+        return fault
     return "the log does not begin with the execve of a command"

@@ -6,13 +6,13 @@ the kernel. A number of the kernel may lack: it has 16 descriptors a process, an
 
 from __future__ import annotations
 
+import errno
 from dataclasses import dataclass, field
 from typing import Callable, Dict, FrozenSet, Iterator, List, Optional, Set, Tuple
 
 from ..faults import Fault
-from ..recording import FILE_DESCRIPTOR, FILE_PIPE, OUTSIDE, ROOT, LeftOut, Naming, Step
+from ..recording import FILE_DESCRIPTOR, FILE_PIPE, OUTSIDE, ROOT, WRITE, LeftOut, Naming, Step
 
-READ, WRITE = "read", "write"
 # The known signals: their numbers by their names, of those that are not realtime signals.
 SIGNALS = {
     "HUP": 1, "INT": 2, "QUIT": 3, "ABRT": 6, "KILL": 9, "USR1": 10,
@@ -22,9 +22,9 @@ _NAMES = {number: name for name, number in SIGNALS.items()}
 REALTIME = {f"RT_{it}": 32 + it for it in range(1, 8)}
 REALTIME["RTMIN"] = 32
 ERRORS = {
-    "EPERM": 1, "ESRCH": 3, "EBADF": 9, "ECHILD": 10, "EAGAIN": 11,
-    "EINVAL": 22, "EMFILE": 24, "EPIPE": 32,
-}  # fmt: skip
+    it: int(getattr(errno, it))
+    for it in "EPERM ESRCH EBADF ECHILD EAGAIN EINVAL EMFILE EPIPE".split()
+}
 _LAST_NUMBER = 256
 
 
@@ -230,7 +230,7 @@ class Tree:
     # What several calls do.
 
     def close(self, process: Process, fd: int, expected: Optional[str] = None) -> None:
-        """A descriptor of the host's closes, and the kernel's that stands for it."""
+        """A descriptor of the host's closes, and so does the kernel's."""
         gone = process.descriptors.pop(fd)
         if gone.number is not None:
             self.emit(process, f"close {gone.number}", expected)

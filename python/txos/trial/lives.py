@@ -15,7 +15,7 @@ from .fileless import without_files
 
 KILL, PIPE, CHLD = SIGNALS["KILL"], SIGNALS["PIPE"], SIGNALS["CHLD"]
 # Answers of Linux: of an end; of a read where no writer is left, of a write where no reader is.
-ENDED, AT_END, NO_READER = "ended", "ok 0", "ok -32"
+AT_END, NO_READER = "ok 0", "ok -32"
 _FIRST_REALTIME = 32
 
 

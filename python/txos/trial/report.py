@@ -9,7 +9,7 @@ from typing import Callable, Dict, Iterator, List, Sequence, Tuple
 
 from ..host.tree import spell_signal
 from ..kernel import Undelivered
-from ..reading import counted
+from ..wording import counted
 from .circles import Forever, Link
 from .leftovers import differences
 from .lines import Need, Wait, Why

@@ -4,7 +4,7 @@ from __future__ import annotations
 
 from typing import Iterator, Optional, Sequence
 
-from ..reading import counted
+from ..wording import counted
 from .outcome import Ending
 from .report import Findings, circle_in_short
 

@@ -6,9 +6,9 @@ from collections import defaultdict
 from dataclasses import replace
 from typing import Dict, Iterable, Iterator, List, Optional, Tuple
 
-from ..recording import LeftOut, Naming, Recording, Step
+from ..recording import ENDED, LeftOut, Naming, Recording, Step
 from .lines import Wait, Why
-from .lives import ENDED, Plan, Turn
+from .lives import Plan, Turn
 from .outcome import Outcome
 
 _Placed = Tuple[Turn, Step]
