@@ -6,7 +6,9 @@ recording knows beyond the steps is in comments, of which `read_recording` reads
     # recorded: sh -c 'echo hello | tr a-z A-Z'      what was recorded
     # log: 313 lines                                 how long the log is
     # factor: 1                                      how many bytes of Linux are one byte here
+    # steps: 62                                      how many steps follow
     # 4 is tr a-z A-Z                                from here on process 4 is this command
+    # 4 waits in futex since line 98                 a call that the kernel lacks, and never ended
     2 fork 4  # = ok 4  # 57 clone                   Linux's answer, the log's line and call
     # left out: 12 of read of a file, first at line 7
 
@@ -16,6 +18,7 @@ A step without `# =` has no answer to compare: Linux did it, so it must only be 
 from __future__ import annotations
 
 import re
+from collections import defaultdict
 from dataclasses import dataclass, field
 from typing import Dict, Iterator, List, Optional
 
@@ -37,7 +40,10 @@ _STEP = re.compile(
 )
 _NAMED = re.compile(r"# (\d+) is (.+)")
 _LEFT_OUT = re.compile(r"# left out: (\d+) of (.+), first at line (\d+)")
-_FIELD = re.compile(r"# (recorded|log|factor): (.+)")
+_WAITING = re.compile(r"# (\d+) waits in (\w+) since line (\d+)")
+_FIELD = re.compile(r"# (?:(recorded): (.+)|(log|factor|steps): (\d+)(?: .*)?)")
+_FIELDS = {"recorded", "log", "factor"}  # which a recording must have
+_HOW = "txos-record run and txos-record read make one"
 
 
 class BadRecording(ValueError):
@@ -94,6 +100,19 @@ class Naming:
     command: str
 
 
+@dataclass(frozen=True)
+class Waiting:
+    """Before the step with this index, from 0, a process begins a call that the kernel lacks.
+
+    Its process ended before the call did, or a signal broke it off.
+    """
+
+    index: int
+    process: int
+    call: str
+    line: int
+
+
 @dataclass
 class LeftOut:
     """What the log has and the recording has not: how often, and in which line first."""
@@ -112,6 +131,7 @@ class Recording:
     factor: int = 1
     steps: list[Step] = field(default_factory=list)
     names: list[Naming] = field(default_factory=list)
+    waiting: list[Waiting] = field(default_factory=list)
     left_out: list[LeftOut] = field(default_factory=list)
 
     def name(self, process: int, index: Optional[int] = None) -> str:
@@ -153,13 +173,16 @@ class Recording:
         yield f"# recorded: {self.command}"
         yield f"# log: {self.log_lines} lines"
         yield f"# factor: {self.factor}"
-        names: Dict[int, List[Naming]] = {}
-        for naming in self.names:
-            names.setdefault(naming.index, []).append(naming)
+        yield f"# steps: {len(self.steps)}"
+        notes: Dict[int, List[str]] = defaultdict(list)
+        for named in self.names:
+            notes[named.index].append(f"# {named.process} is {named.command}")
+        for it in self.waiting:
+            notes[it.index].append(f"# {it.process} waits in {it.call} since line {it.line}")
         for index, step in enumerate(self.steps):
-            for it in names.get(index, ()):
-                yield f"# {it.process} is {it.command}"
+            yield from notes[index]
             yield step.spelled()
+        yield from notes[len(self.steps)]
         for out in self.left_out:
             yield f"# left out: {out.count} of {out.kind}, first at line {out.line}"
 
@@ -171,28 +194,31 @@ def _words_of(command: str) -> list[str]:
 
 
 def short_name(command: str) -> str:
-    """The first word of a command, without its folder."""
-    words = command.split()
-    return words[0].rpartition("/")[2] if words else ""
+    """The first word of a command, without its folder and its quotes."""
+    found = re.match(r"'([^']*)'|\"([^\"]*)\"|(\S+)", command)
+    word = next((it for it in found.groups() if it), "") if found else ""
+    return word.rpartition("/")[2]
 
 
 def read_recording(text: str) -> Recording:
     """The recording that a text is; raises `BadRecording` where it is none."""
     lines = text.split("\n")
     if lines[0] != HEADER:
-        raise BadRecording(1, f"a recording begins with {HEADER}: txos-record makes one")
+        raise BadRecording(1, f"this is no recording, which begins with `{HEADER}`; {_HOW}")
     if lines[-1]:
         raise BadRecording(len(lines), "the last line has no end, so the recording is cut off")
     made = Recording("", 0)
     fields: Dict[str, str] = {}
     for number, line in enumerate(lines[1:-1], 2):
         _read_line(made, fields, number, line)
-    missing = {"recorded", "log", "factor"} - fields.keys()
+    missing = _FIELDS - fields.keys()
     if missing:
-        raise BadRecording(1, f"no line begins with `# {min(missing)}: `: txos-record makes one")
+        raise BadRecording(1, f"no line begins with `# {min(missing)}: `; {_HOW}")
     made.command = fields["recorded"]
-    made.log_lines = int(fields["log"].split()[0])
-    made.factor = int(fields["factor"].split()[0])
+    made.log_lines, made.factor = int(fields["log"]), int(fields["factor"])
+    if int(fields.get("steps", len(made.steps))) != len(made.steps):
+        counts = f"here are {len(made.steps):,} steps, and the head says {fields['steps']}"
+        raise BadRecording(len(lines) - 1, f"{counts}: the recording is cut off, or was edited")
     return made
 
 
@@ -220,9 +246,13 @@ def _read_line(made: Recording, fields: Dict[str, str], number: int, line: str) 
 def _read_comment(made: Recording, fields: Dict[str, str], line: str) -> None:
     """Reads a comment that has a line for itself; one that says nothing of these is skipped."""
     named, out, known = _NAMED.fullmatch(line), _LEFT_OUT.fullmatch(line), _FIELD.fullmatch(line)
-    if named:
+    waiting = _WAITING.fullmatch(line)
+    if waiting:
+        process, call, since = int(waiting[1]), waiting[2], int(waiting[3])
+        made.waiting.append(Waiting(len(made.steps), process, call, since))
+    elif named:
         made.names.append(Naming(len(made.steps), int(named[1]), named[2]))
     elif out:
         made.left_out.append(LeftOut(out[2], int(out[1]), int(out[3])))
-    elif known and known[1] not in fields:
-        fields[known[1]] = known[2]
+    elif known:
+        fields.setdefault(known[1] or known[3], known[2] or known[4])
