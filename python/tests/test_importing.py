@@ -168,6 +168,59 @@ class Pipes(Recorded):
             ],
         )
 
+    def test_a_write_that_is_answered_bytes_was_done_before_the_last_reader_closes(self):
+        made = self.check(
+            [
+                "7 pipe([3, 4]) = 0",
+                FORK,
+                "7 close(4) = 0",
+                "8 close(3) = 0",
+                '8 write(4, "x", 1 <unfinished ...>',
+                "7 close(3) = 0",
+                "8 <... write resumed>) = 1",
+                "8 +++ exited with 0 +++",
+                END,
+            ],
+            [
+                "2 pipe 0 0 1 = ok 0",
+                "2 fork 3 = ok 3",
+                "2 close 4 = ok 0",
+                "3 close 3 = ok 0",
+                '3 store 0 "x"',
+                "3 write 4 0 1 = ok 1",
+                "2 close 3 = ok 0",
+                "3 exit 0 = ended",
+                "2 exit 0 = ended",
+                "1 waitpid 3 nohang",
+                "1 waitpid 2 nohang",
+            ],
+        )
+        self.assertEqual([it.line for it in made.steps[-6:-4]], [8, 7])
+
+    def test_a_write_is_done_before_its_last_reader_ends(self):
+        self.check(
+            [
+                "7 pipe([3, 4]) = 0",
+                FORK,
+                "7 close(3) = 0",
+                '7 write(4, "x", 1 <unfinished ...>',
+                "8 +++ exited with 0 +++",
+                "7 <... write resumed>) = 1",
+                END,
+            ],
+            [
+                "2 pipe 0 0 1 = ok 0",
+                "2 fork 3 = ok 3",
+                "2 close 3 = ok 0",
+                '2 store 0 "x"',
+                "2 write 4 0 1 = ok 1",
+                "3 exit 0 = ended",
+                "2 exit 0 = ended",
+                "1 waitpid 3 nohang",
+                "1 waitpid 2 nohang",
+            ],
+        )
+
     def test_bytes_are_divided_where_a_pipe_holds_more_than_512(self):
         made = self.check(
             [
@@ -274,6 +327,26 @@ class Descriptors(Recorded):
             ],
         )
 
+    def test_a_terminal_is_opened_by_its_other_side(self):
+        made = self.check(
+            [
+                '7 openat(AT_FDCWD, "/dev/ptmx", O_RDWR) = 3',
+                "7 ioctl(3, TIOCGPTPEER, 0x102) = 4",
+                "7 dup2(4, 0) = 0",
+                "7 close(4) = 0",
+                END,
+            ],
+            [
+                "2 dup 15 = ok 3",
+                "2 dup 15 = ok 4",
+                "2 dup2 4 0 = ok 0",
+                "2 close 4 = ok 0",
+                "2 exit 0 = ended",
+                "1 waitpid 2 nohang",
+            ],
+        )
+        self.assertEqual(self.left_out(made), {})
+
     def test_descriptors_over_15_have_another_number(self):
         self.check(
             [
@@ -306,6 +379,35 @@ class Descriptors(Recorded):
         left_out = self.left_out(made)
         self.assertEqual(left_out["file beyond 15 descriptors"], (3, 14))
         self.assertEqual(left_out["file, to have room for a pipe among 16 descriptors"], (2, 17))
+
+    def test_a_number_that_opens_again_was_closed_before(self):
+        made = self.check(
+            [
+                "7 pipe2([3, 4], 0) = 0",
+                "7 clone3({flags=CLONE_VM|CLONE_FILES|CLONE_THREAD, stack=0x7f}, 88) = 8",
+                "7 close(4 <unfinished ...>",
+                "8 pipe2([4, 5], 0) = 0",
+                "7 <... close resumed>) = 0",
+                '8 read(3, "", 1) = 0',
+                '8 write(5, "x", 1) = 1',
+                '8 read(4, "x", 1) = 1',
+                "8 exit(0) = ?",
+                "8 +++ exited with 0 +++",
+                END,
+            ],
+            [
+                "2 pipe 0 0 1 = ok 0",
+                "2 close 4 = ok 0",
+                "2 pipe 1 2 3 = ok 0",
+                "2 read 3 0 1 = ok 0",
+                '2 store 0 "x"',
+                "2 write 5 0 1 = ok 1",
+                "2 read 4 0 1 = ok 1",
+                "2 exit 0 = ended",
+                "1 waitpid 2 nohang",
+            ],
+        )
+        self.assertEqual([it.line for it in made.steps[-8:-6]], [6, 5])
 
     def test_an_execve_closes_what_is_marked(self):
         self.check(
@@ -482,6 +584,145 @@ class Processes(Recorded):
         )
         self.assertEqual(self.left_out(made)["thread, which is its process here"], (1, 3))
 
+    def test_a_wait_for_a_group_that_no_child_has(self):
+        self.check(
+            [
+                FORK,
+                "7 wait4(0,  <unfinished ...>",
+                "8 setsid() = 8",
+                "7 <... wait4 resumed>0x7f, 0, NULL) = -1 ECHILD (No child processes)",
+                "8 +++ exited with 0 +++",
+                "7 wait4(-8, [{WIFEXITED(s) && WEXITSTATUS(s) == 0}], 0, NULL) = 8",
+                END,
+            ],
+            [
+                "2 fork 3 = ok 3",
+                "2 waitpid 2 nohang = ok -10",
+                "3 exit 0 = ended",
+                "2 waitpid 3 wait = ok 3",
+                "2 exit 0 = ended",
+                "1 waitpid 2 nohang",
+            ],
+        )
+
+    def test_a_wait_that_does_not_want_to_know_what_it_found(self):
+        self.check(
+            [
+                FORK,
+                "7 waitid(P_PID, 8, NULL, WNOHANG|WEXITED, NULL) = 0",
+                "7 waitid(P_PID, 8,  <unfinished ...>",
+                "8 +++ exited with 0 +++",
+                "7 <... waitid resumed>NULL, WEXITED, NULL) = 0",
+                END,
+            ],
+            [
+                "2 fork 3 = ok 3",
+                "2 waitpid 3 nohang = ok 0",
+                "3 exit 0 = ended",
+                "2 waitpid 3 wait = ok 3",
+                "2 exit 0 = ended",
+                "1 waitpid 2 nohang",
+            ],
+        )
+
+    def test_a_call_that_strace_could_not_read(self):
+        made = self.check(
+            [
+                FORK,
+                "7 kill(8, SIGKILL <unfinished ...>",
+                "8 ???( <unfinished ...>",
+                "7 <... kill resumed>) = 0",
+                "8 <... ??? resumed>) = ?",
+                "8 +++ killed by SIGKILL +++",
+                END,
+            ],
+            [
+                "2 fork 3 = ok 3",
+                "2 kill 3 KILL = ok 0",
+                "3 deliver KILL = ended",
+                "2 exit 0 = ended",
+                "1 waitpid 3 nohang",
+                "1 waitpid 2 nohang",
+            ],
+        )
+        left_out = {"call that its process did not live to see ended": (1, 4)}
+        self.assertEqual(self.left_out(made), left_out)
+
+    def test_a_process_by_its_pidfd(self):
+        made = self.check(
+            [
+                FORK,
+                "7 pidfd_open(8, 0) = 3",
+                "7 dup(3) = 4",
+                "7 waitid(P_PIDFD, 4, {}, WNOHANG|WEXITED, NULL) = 0",
+                "7 pidfd_send_signal(3, SIGTERM, NULL, 0) = 0",
+                "8 --- SIGTERM {si_signo=SIGTERM, si_code=SI_USER, si_pid=7, si_uid=0} ---",
+                "8 +++ killed by SIGTERM +++",
+                "7 waitid(P_PIDFD, 4, {si_signo=SIGCHLD, si_pid=8}, WEXITED, NULL) = 0",
+                END,
+            ],
+            [
+                "2 fork 3 = ok 3",
+                "2 dup 15 = ok 3",
+                "2 dup 3 = ok 4",
+                "2 waitpid 3 nohang = ok 0",
+                "2 kill 3 TERM = ok 0",
+                "3 deliver TERM = ended",
+                "2 waitpid 3 wait = ok 3",
+                "2 exit 0 = ended",
+                "1 waitpid 2 nohang",
+            ],
+        )
+        self.assertEqual(self.left_out(made), {})
+
+    def test_a_process_that_is_killed_while_it_forks_leaves_a_child(self):
+        self.check(
+            [
+                FORK,
+                "8 clone(child_stack=NULL, flags=SIGCHLD <unfinished ...>",
+                "7 kill(8, SIGKILL) = 0",
+                "8 <... clone resumed> <unfinished ...>) = ?",
+                "8 +++ killed by SIGKILL +++",
+                "9 exit_group(1) = ?",
+                "9 +++ exited with 1 +++",
+                END,
+            ],
+            [
+                "2 fork 3 = ok 3",
+                "3 fork 4 = ok 4",
+                "2 kill 3 KILL = ok 0",
+                "3 deliver KILL = ended",
+                "4 exit 1 = ended",
+                "1 waitpid 4 nohang",
+                "2 exit 0 = ended",
+                "1 waitpid 3 nohang",
+                "1 waitpid 2 nohang",
+            ],
+        )
+
+    def test_a_thread_executes_a_program(self):
+        execve = '8 execve("/bin/cat", ["cat"], 0x7ffc /* 9 vars */ <%s ...>'
+        for cut in ("unfinished", "pid changed to 7"):
+            made = self.check(
+                [
+                    "7 pipe2([3, 4], O_CLOEXEC) = 0",
+                    "7 clone3({flags=CLONE_VM|CLONE_FILES|CLONE_THREAD, stack=0x7f}, 88) = 8",
+                    "7 read(3,  <unfinished ...>",
+                    execve % cut,
+                    "7 +++ superseded by execve in pid 8 +++",
+                    "7 <... execve resumed>) = 0",
+                    END,
+                ],
+                [
+                    "2 pipe 0 0 1 = ok 0",
+                    "2 close 3 = ok 0",
+                    "2 close 4 = ok 0",
+                    "2 exit 0 = ended",
+                    "1 waitpid 2 nohang",
+                ],
+            )
+            self.assertEqual(made.names[-1].command, "cat")
+
     def test_a_parent_that_ignores_the_end_of_its_child_is_rid_of_it(self):
         self.check(
             [
@@ -638,6 +879,86 @@ class Signals(Recorded):
                 "2 kill 4 TERM = ok 0",
                 "3 deliver TERM = ended",
                 "4 deliver TERM = ended",
+                "1 waitpid 4 nohang",
+                "2 exit 0 = ended",
+                "1 waitpid 3 nohang",
+                "1 waitpid 2 nohang",
+            ],
+        )
+
+    def test_the_end_of_a_pipe_shows_that_its_writer_is_killed(self):
+        for kill, sent in (
+            ("8 kill(8, SIGKILL) = ?", "3 kill 3 KILL"),
+            ("8 pause( <unfinished ...>", "1 kill 3 KILL"),
+        ):
+            self.check(
+                [
+                    "7 pipe([3, 4]) = 0",
+                    FORK,
+                    "7 close(4) = 0",
+                    kill,
+                    '7 read(3, "", 1) = 0',
+                    "8 +++ killed by SIGKILL +++",
+                    END,
+                ],
+                [
+                    "2 pipe 0 0 1 = ok 0",
+                    "2 fork 3 = ok 3",
+                    "2 close 4 = ok 0",
+                    sent,
+                    "3 deliver KILL = ended",
+                    "2 read 3 0 1 = ok 0",
+                    "2 exit 0 = ended",
+                    "1 waitpid 3 nohang",
+                    "1 waitpid 2 nohang",
+                ],
+            )
+
+    def test_a_process_is_killed_while_it_executes_a_program(self):
+        self.check(
+            [
+                "7 pipe2([3, 4], O_CLOEXEC) = 0",
+                FORK,
+                "7 close(4) = 0",
+                '8 execve("/bin/cat", ["cat"], 0x7ffc /* 9 vars */ <unfinished ...>',
+                '7 read(3, "", 1) = 0',
+                "7 kill(8, SIGKILL) = 0",
+                "8 <... execve resumed>) = ?",
+                "8 +++ killed by SIGKILL +++",
+                END,
+            ],
+            [
+                "2 pipe 0 0 1 = ok 0",
+                "2 fork 3 = ok 3",
+                "2 close 4 = ok 0",
+                "3 close 4",
+                "2 read 3 0 1 = ok 0",
+                "2 kill 3 KILL = ok 0",
+                "3 deliver KILL = ended",
+                "2 exit 0 = ended",
+                "1 waitpid 3 nohang",
+                "1 waitpid 2 nohang",
+            ],
+        )
+
+    def test_a_process_kills_its_own_group(self):
+        self.check(
+            [
+                FORK,
+                "8 setsid() = 8",
+                "8 clone(child_stack=NULL, flags=SIGCHLD) = 9",
+                "8 kill(0, SIGKILL) = ?",
+                "8 +++ killed by SIGKILL +++",
+                "9 +++ killed by SIGKILL +++",
+                END,
+            ],
+            [
+                "2 fork 3 = ok 3",
+                "3 fork 4 = ok 4",
+                "3 kill 4 KILL",
+                "3 kill 3 KILL",
+                "3 deliver KILL = ended",
+                "4 deliver KILL = ended",
                 "1 waitpid 4 nohang",
                 "2 exit 0 = ended",
                 "1 waitpid 3 nohang",

@@ -4,6 +4,7 @@ from __future__ import annotations
 
 import argparse
 import os
+import re
 import shutil
 import signal
 import subprocess
@@ -11,17 +12,20 @@ import sys
 import tempfile
 import threading
 from contextlib import contextmanager
+from itertools import islice
 from pathlib import Path
 from types import FrameType
 from typing import Iterator, List, Optional
 
-from .faults import NO_COMMAND, RUN_FAILED, Fault
-from .files import write_whole
+from .faults import NO_COMMAND, NOT_EXECUTABLE, RUN_FAILED, Fault
+from .files import see_writable, write_whole
 from .host.strace import OPTIONS
 from .reading import add_options, read_recording_of, say_what_was_made
 
 _DEFAULT = "recording.txos"
 _PATIENCE = 1.0  # seconds after ^C until it is said how a command ends that goes on
+# The whole log of a command that the system does not execute.
+_REFUSED = re.compile(r"\d+ +execve\(.*\) += -1 E\w+ \((.+)\)\n\d+ +\+\+\+ exited with 1 \+\+\+\n")
 _HINT = "txos-record: ^C again ends the command by SIGKILL"
 _ABOUT = """Runs a command under strace, records it and all processes that it starts, and ends with
 the command's own status. ^C goes to the command; a second one ends all its processes by SIGKILL,
@@ -49,11 +53,16 @@ def _run(args: argparse.Namespace) -> int:
     strace = shutil.which("strace")
     if not strace:
         raise Fault("there is no strace: install it (on Debian: apt install strace)", RUN_FAILED)
-    if not shutil.which(words[0]):
-        raise Fault(f"there is no command {words[0]}", NO_COMMAND)
+    _see_executable(words[0])
+    for path in filter(None, (args.output, args.log)):
+        try:
+            see_writable(path)
+        except OSError as error:
+            raise Fault(f"{path}: {error.strerror}", RUN_FAILED) from error
     with tempfile.TemporaryDirectory(prefix="txos-record.") as folder:
         log = os.path.join(folder, "log")
         status = _trace([strace, *OPTIONS, "-o", log, "--", *words])
+        _see_executed(log, words[0])
         try:
             _record(log, args)
         except Fault as fault:
@@ -61,6 +70,25 @@ def _run(args: argparse.Namespace) -> int:
         except OSError as error:
             raise Fault(f"{args.output}: {error.strerror}", RUN_FAILED) from error
     return status
+
+
+def _see_executable(word: str) -> None:
+    """Raises `Fault` where a command is not there, or may not be executed."""
+    if shutil.which(word):
+        return
+    if os.path.dirname(word) and os.path.exists(word):
+        why = "it is a folder" if os.path.isdir(word) else "its mode forbids it"
+        raise Fault(f"{word} can't be executed: {why}", NOT_EXECUTABLE)
+    raise Fault(f"there is no command {word}", NO_COMMAND)
+
+
+def _see_executed(log: str, word: str) -> None:
+    """Raises `Fault` where the system has refused to execute a command."""
+    if os.path.exists(log):
+        with open(log, encoding="utf-8", errors="surrogateescape") as file:
+            refused = _REFUSED.fullmatch("".join(islice(file, 3)))
+        if refused:
+            raise Fault(f"{word} can't be executed: {refused[1]}", NOT_EXECUTABLE)
 
 
 def _record(log: str, args: argparse.Namespace) -> None:
@@ -95,13 +123,15 @@ def _endings(tracer: "subprocess.Popen[bytes]") -> Iterator[None]:
 
     def interrupt(number: int, frame: Optional[FrameType]) -> None:
         nonlocal interrupted
+        if number == signal.SIGQUIT:
+            return  # the command gets it too
         if number != signal.SIGINT or interrupted:
             _kill_traced(tracer.pid)
         else:
             interrupted = True
             hint.start()
 
-    numbers = (signal.SIGINT, signal.SIGTERM, signal.SIGHUP)
+    numbers = (signal.SIGINT, signal.SIGQUIT, signal.SIGTERM, signal.SIGHUP)
     old = {it: signal.signal(it, interrupt) for it in numbers}
     try:
         yield

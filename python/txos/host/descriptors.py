@@ -3,6 +3,7 @@
 from __future__ import annotations
 
 import re
+from dataclasses import replace
 from typing import Callable, Dict, List, Optional, Tuple
 
 from ..recording import FILE_DESCRIPTOR, READ, WAITS, WRITE
@@ -16,6 +17,7 @@ MOST_DATA = 64  # bytes that one store holds
 
 _UNKNOWN = "descriptor whose opening the log has not"
 _SAME_FILE = re.compile(r'"/(?:dev|proc/self)/fd/(\d+)"|"/dev/std(in|out|err)"')
+_TERMINAL = "TIOCGPTPEER"  # the ioctl that opens the other side of a terminal
 _STANDARD = {"in": 0, "out": 1, "err": 2}
 
 
@@ -72,6 +74,17 @@ def _numbers(text: str) -> List[int]:
     return [int(it) for it in re.findall(r"\d+", text)]
 
 
+def opened(call: Call) -> List[int]:
+    """The descriptors that a call has opened at numbers that were free."""
+    if call.error or call.result is None or call.result < 0:
+        return []
+    if call.name in ("pipe", "pipe2", "socketpair"):
+        return _numbers(call.arg(3 if call.name == "socketpair" else 0))
+    is_copy = call.name == "dup" or call.arg(1).startswith("F_DUPFD")
+    is_new = is_copy or call.name in _OPENERS or call.arg(1) == _TERMINAL
+    return [call.result] if is_new else []
+
+
 def _open(tree: Tree, process: Process, call: Call) -> None:
     if call.result is None or call.result < 0:
         leave_out_failed(tree, call)
@@ -83,6 +96,8 @@ def _open(tree: Tree, process: Process, call: Call) -> None:
             _copy(tree, process, call, origin)
             return
     _add_files(tree, process, call, [call.result])
+    if call.name == "pidfd_open":
+        process.descriptors[call.result].process = call.number(0)
 
 
 def _open_pair(tree: Tree, process: Process, call: Call) -> None:
@@ -137,7 +152,8 @@ def _copy(tree: Tree, process: Process, call: Call, origin_fd: int) -> None:
             tree.emit(process, f"dup2 {origin.number} {origin.number}", f"ok {origin.number}")
         return
     number = _number_of_copy(tree, process, call, fd, is_pipe=origin.pipe is not None)
-    copy = Descriptor(origin.pipe, origin.side, number, "CLOEXEC" in ",".join(call.args))
+    closes_on_exec = "CLOEXEC" in ",".join(call.args)
+    copy = replace(origin, number=number, closes_on_exec=closes_on_exec)
     name = FILE_DESCRIPTOR if origin.number is None and not origin.pipe else origin.number
     is_least = process.free()[:1] == [number] and call.name not in ("dup2", "dup3")
     old = process.descriptors.get(fd)
@@ -245,6 +261,8 @@ def _ioctl(tree: Tree, process: Process, call: Call) -> None:
         found.closes_on_exec = call.arg(1) == "FIOCLEX"
     elif found and not call.error and call.arg(1) == "FIONBIO":
         _set_nonblock(tree, process, found, call.arg(2) != "[0]")
+    elif not call.error and call.arg(1) == _TERMINAL and call.result is not None:
+        add_file(tree, process, call.result, closes_on_exec=False)
     else:
         tree.leave_out("ioctl")
 
@@ -348,13 +366,14 @@ def _refuse(tree: Tree, process: Process, call: Call, verb: str, descriptor: Des
         tree.emit(process, f"{verb} {number} {address} 1", expected)
 
 
-_OPENERS = (
+_OPENERS = frozenset(
     "open openat openat2 creat socket accept accept4 eventfd eventfd2 epoll_create epoll_create1 "
     "signalfd signalfd4 timerfd_create inotify_init inotify_init1 memfd_create pidfd_open "
-    "pidfd_getfd userfaultfd perf_event_open io_uring_setup open_by_handle_at fanotify_init"
+    "pidfd_getfd userfaultfd perf_event_open io_uring_setup open_by_handle_at "
+    "fanotify_init".split()
 )
 EFFECTS: Dict[str, Effect] = {
-    **{it: _open for it in _OPENERS.split()},
+    **{it: _open for it in _OPENERS},
     **{it: _move for it in _MOVES},
     "socketpair": _open_pair,
     "recvmsg": _receive,

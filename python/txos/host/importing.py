@@ -3,7 +3,8 @@
 from __future__ import annotations
 
 import re
-from collections import defaultdict
+from bisect import bisect_left
+from collections import Counter, defaultdict
 from dataclasses import replace
 from typing import Callable, Dict, Iterable, Iterator, List, Optional, Sequence, Set, Tuple
 
@@ -49,7 +50,7 @@ def make_recording(
     setup = list(_setup(made.steps))
     made.steps[:0] = setup
     kept = [it for it in range(len(tree.drafts)) if it not in gone]
-    begins = [len(setup) + places[sum(1 for it in kept if it < n.index)] for n in tree.names]
+    begins = [len(setup) + places[bisect_left(kept, it.index)] for it in tree.names]
     made.names = [
         Naming(begin, it.process, _one_line(it.command)) for begin, it in zip(begins, tree.names)
     ]
@@ -120,9 +121,20 @@ def _count(drafts: Iterable[Draft], factor: int) -> Optional[Dict[int, int]]:
     return counts
 
 
+def _most_held(drafts: Iterable[Draft]) -> int:
+    """The most bytes of the host that a pipe holds."""
+    most = 0
+    held: Counter[Pipe] = Counter()
+    for transfer in (it.transfer for it in drafts if it.transfer and not it.expected):
+        size = transfer.size if transfer.verb == WRITE else -transfer.size
+        held[transfer.pipe] = max(held[transfer.pipe] + size, 0)
+        most = max(most, held[transfer.pipe])
+    return most
+
+
 def _scale(drafts: Sequence[Draft]) -> Tuple[Dict[int, int], int]:
     """The units of each transfer, and the least factor with which no pipe holds too many."""
-    factor = 1
+    factor = max(-(-_most_held(drafts) // _PIPE_SIZE), 1)
     while True:
         counts = _count(drafts, factor)
         if counts is not None:

@@ -9,16 +9,16 @@ would wait, is done as soon as its answer is right.
 
 from __future__ import annotations
 
-from collections import defaultdict
+from collections import defaultdict, deque
 from functools import partial
-from typing import Callable, Dict, FrozenSet, List, Optional, Sequence, Set, Tuple
+from typing import Callable, Deque, Dict, FrozenSet, Iterable, List, Optional, Sequence, Set, Tuple
 
 from ..faults import Fault
 from ..recording import READ, WRITE
 from . import descriptors, processes, signals
-from .descriptors import Effect, closed_by_range, moved, size_asked
-from .processes import FORKS, command_of, end_by_exit, end_by_signal, waited_for
-from .signals import KILL, is_deadly, signal_sent, targets
+from .descriptors import Effect, closed_by_range, moved, opened, size_asked
+from .processes import FORKS, PROGRAMS, children_asked, command_of, end_by_exit, end_by_signal
+from .signals import KILL, SENDERS, is_deadly, signal_sent, targets
 from .strace import HOW, Begun, Call, Done, End, Event, Signal, Superseded, event_task
 from .tree import REALTIME, SIGNALS, Descriptor, Pipe, Process, Tree, signal_number
 
@@ -28,6 +28,7 @@ _EFFECTS: Dict[str, Effect] = {
     **processes.EFFECTS,
 }
 _EXITS = ("exit_group", "exit")
+_CLOSERS = ("close", "close_range", "dup2", "dup3", *PROGRAMS)
 _PIPE_OF_HOST = 65536  # bytes that a pipe of the host holds
 
 
@@ -45,14 +46,19 @@ class Order:
         self._events = events
         self._flight: Dict[int, Call] = {}  # by tasks, what has started and is not done
         self._taken: Set[int] = set()  # the events that were taken before their turn
-        self._of_task: Dict[int, List[int]] = defaultdict(list)
+        self._of_task: Dict[int, Deque[int]] = defaultdict(deque)
+        self._signals: Dict[Tuple[int, int], Deque[int]] = defaultdict(deque)  # of task and number
+        self._last_from: Dict[Tuple[int, int, Optional[int]], int] = {}  # .. and its last sender's
         self._forks: Dict[int, List[Call]] = defaultdict(list)
         self._programs: Dict[int, List[Call]] = defaultdict(list)
         for place, event in enumerate(events):
             self._of_task[event_task(event)].append(place)
             if isinstance(event, Done):
                 self._note_call(event.call)
+            elif isinstance(event, Signal):
+                self._note_signal(place, event)
         self._mark_what_never_ends()
+        self._find_children_of_cut_forks()
         self.tree = Tree(known_signals(events))
         self.tree.before_post = self._before_post
         self.tree.command_after_fork = self._command_after_fork
@@ -73,8 +79,14 @@ class Order:
     def _note_call(self, call: Call) -> None:
         if call.name in FORKS and call.result and call.result > 0:
             self._forks[call.result].append(call)
-        elif call.name in ("execve", "execveat") and call.result == 0:
+        elif call.name in PROGRAMS and call.result == 0:
             self._programs[call.task].append(call)
+
+    def _note_signal(self, place: int, event: Signal) -> None:
+        number = signal_number(event.name)
+        if number is not None:
+            self._signals[event.task, number].append(place)
+            self._last_from[event.task, number, event.sender] = place
 
     def _mark_what_never_ends(self) -> None:
         """A call waits for ever where only signals, and its task's end, come after its start."""
@@ -86,6 +98,18 @@ class Order:
                 if isinstance(event, Begun):
                     event.call.never_ends = event.call.name not in _EXITS
                     break
+
+    def _find_children_of_cut_forks(self) -> None:
+        """A process that is killed while it forks may leave a child: the next one without a fork."""
+        begun = (it.call for it in self._events if isinstance(it, Begun))
+        cut = [it for it in begun if it.never_ends and it.name in FORKS]
+        root = event_task(self._events[0])
+        for task, places in self._of_task.items() if cut else ():
+            line = self._events[places[0]].line
+            makers = [it for it in cut if it.start < line and it.result is None]
+            if makers and task != root and task not in self._forks:
+                makers[-1].result = task
+                self._forks[task].append(makers[-1])
 
     def _command_after_fork(self, child: Process, line: int) -> str:
         """What a process will be: the program that it executes first, or its parent's."""
@@ -137,7 +161,9 @@ class Order:
         self.tree.name(root, command_of(first[0]) if first else "?")
 
     def _supersede(self, event: Superseded) -> None:
-        self.tree.tasks.pop(event.by, None)
+        process = self.tree.tasks.pop(event.by, None)
+        if process and event.by in process.tasks:
+            process.tasks.remove(event.by)
         call = self._flight.pop(event.by, None)
         if call:
             self._flight[event.task] = call
@@ -199,25 +225,39 @@ class Order:
         return None if place is None else self._events[place]
 
     def _next_place(self, task: int) -> Optional[int]:
-        return next((it for it in self._of_task[task] if it not in self._taken), None)
+        return self._first_not_taken(self._of_task[task])
+
+    def _first_not_taken(self, places: Deque[int]) -> Optional[int]:
+        while places and places[0] in self._taken:
+            places.popleft()
+        return places[0] if places else None
 
     def _end(self, process: Process, event: End) -> None:
+        self._finish_fork(event.task)
+        if event.signal == "KILL":
+            self._send(process, KILL)
         call = self._flight.pop(event.task, None)
         if event.task != process.pid:
             self.tree.tasks.pop(event.task)
+            process.tasks.remove(event.task)
             return
         if call and call.never_ends and process.is_running:
             self.tree.leave_out("call that its process did not live to see ended", call.start)
         if not process.is_running:
             return
-        if event.signal == "KILL":
-            self._send(process, KILL)
+        self._finish_writes(process, list(process.descriptors))
         self.tree.at = (event.line, f"SIG{event.signal}" if event.signal else "exit_group")
         if event.signal:
             end_by_signal(self.tree, process, event.signal)
         else:
             end_by_exit(self.tree, process, event.status or 0)
         self._do_what_is_right()
+
+    def _finish_fork(self, task: int) -> None:
+        """A task that ends while it forks has a child, where one was found."""
+        call = self._flight.get(task)
+        if call and call.name in FORKS and call.result:
+            self._do(call)
 
     # Calls.
 
@@ -226,9 +266,13 @@ class Order:
         self._flight.pop(call.task, None)
         process = self.tree.tasks[call.task]
         self.tree.at = (call.end or call.start, call.name)
-        if signal_sent(call) == KILL and call.name in ("kill", "tkill", "tgkill"):
+        if signal_sent(call) == KILL and call.name in SENDERS:
             self._finish_before_kill(process, call)
             self.tree.at = (call.end or call.start, call.name)
+        self._free_numbers(process, call)
+        if call.name in _CLOSERS:
+            fds = [it for it in process.descriptors if self._will_close(process, it, call)]
+            self._finish_writes(process, fds)
         effect = _EFFECTS.get(call.name)
         if effect and process.is_running:
             effect(self.tree, process, call)
@@ -236,10 +280,29 @@ class Order:
             self.tree.leave_out(call.name)
         self._do_what_is_right()
 
+    def _free_numbers(self, process: Process, call: Call) -> None:
+        """What opens has a number that was free, so another thread has closed what had it."""
+        at = self.tree.at
+        for fd in opened(call):
+            for other in self._in_flight(process):
+                if fd in process.descriptors and self._will_close(process, fd, other):
+                    self._do(other)
+        self.tree.at = at
+
+    def _finish_writes(self, process: Process, fds: Iterable[int]) -> None:
+        """Writes that were answered bytes were done before the last reader of a pipe closes."""
+        at, gone = self.tree.at, [process.descriptors[it] for it in fds]
+        for pipe in dict.fromkeys(it.pipe for it in gone if it.pipe and it.side == READ):
+            count = sum(it.pipe is pipe and it.side == READ for it in gone)
+            if len(self.tree.holders(pipe, READ)) == count:
+                self._move(pipe, WRITE, None, lambda: False)
+        self.tree.at = at
+
     def _finish_before_kill(self, process: Process, call: Call) -> None:
         """What a process has done before SIGKILL is sent to it is done first."""
         for target in targets(self.tree, process, call) or ():
             for other in self._in_flight(target):
+                self._finish_fork(other.task)
                 if other is not call and other.end and not other.never_ends:
                     self._complete(other)
 
@@ -274,10 +337,10 @@ class Order:
 
     def _finds_no_child(self, process: Process, call: Call) -> bool:
         """Whether a wait answers that no child has ended, or waits for that, and is right."""
-        if not call.never_ends and (call.error or call.result != 0 or "si_pid" in call.arg(2)):
+        is_found = call.error or call.result != 0 or "si_pid" in call.arg(2)
+        if not call.never_ends and (is_found or "WNOHANG" not in ",".join(call.args)):
             return False
-        wanted = self.tree.tasks.get(waited_for(call) or 0)
-        asked = [wanted] if wanted else self.tree.children(process)
+        asked = children_asked(self.tree, process, call)
         return bool(asked) and all(it.is_running for it in asked)
 
     # What an answer shows to have been done.
@@ -297,7 +360,9 @@ class Order:
             if not call.error and size_asked(call) != 0:
                 self._close_side(pipe, WRITE)
 
-    def _move(self, pipe: Pipe, verb: str, but: Call, is_enough: Callable[[], bool]) -> None:
+    def _move(
+        self, pipe: Pipe, verb: str, but: Optional[Call], is_enough: Callable[[], bool]
+    ) -> None:
         """Does reads or writes of a pipe that have started and will be answered bytes."""
         for call in sorted(self._flight.values(), key=lambda it: it.start):
             if is_enough():
@@ -327,7 +392,9 @@ class Order:
                 return partial(self._close_in_end, process, fd, call.start, call.name)
             if self._will_close(process, fd, call):
                 return partial(self._do, call)
-        if KILL in process.pending:
+            if call.never_ends and call.name in PROGRAMS and process.descriptors[fd].closes_on_exec:
+                return partial(self._close_in_end, process, fd, call.start, call.name)
+        if KILL in process.pending or self._is_killed_next(process):
             return partial(self._kill_now, process)
         if process.ends_at is not None:
             return partial(self._close_in_end, process, fd, process.ends_at, "signal")
@@ -340,19 +407,28 @@ class Order:
             return call.number(0) == fd
         if call.name in ("dup2", "dup3"):
             return call.result == fd
-        if call.name in ("execve", "execveat"):
+        if call.name in PROGRAMS:
             return process.descriptors[fd].closes_on_exec
         least, greatest = closed_by_range(call) if call.name == "close_range" else (1, 0)
         return least <= fd <= greatest
 
     def _close_in_end(self, process: Process, fd: int, line: int, host: str) -> None:
         """A process that ends has closed a descriptor, and its parent does not know of its end."""
+        self._finish_writes(process, [fd])
         self.tree.at = (line, host)
         self.tree.close(process, fd)
         self._do_what_is_right()
 
+    def _is_killed_next(self, process: Process) -> bool:
+        """Whether nothing comes of a process but its end by SIGKILL."""
+        event = self._next_event(process.pid)
+        return isinstance(event, End) and event.signal == "KILL"
+
     def _kill_now(self, process: Process) -> None:
         if process.is_running:
+            self._finish_fork(process.pid)
+            self._send(process, KILL)
+            self._finish_writes(process, list(process.descriptors))
             end_by_signal(self.tree, process, "KILL")
             self._do_what_is_right()
 
@@ -363,7 +439,7 @@ class Order:
         """Has the kill done that sends a signal which has come, where one has started."""
         for call in list(self._flight.values()):
             sender = self.tree.tasks.get(call.task)
-            is_sent = call.name.endswith(("kill", "queueinfo")) and signal_sent(call) == number
+            is_sent = call.name in SENDERS and signal_sent(call) == number
             if sender and is_sent and not call.error:
                 if process in (targets(self.tree, sender, call) or ()):
                     self._do(call)
@@ -377,20 +453,11 @@ class Order:
         if number not in target.pending or number in target.mask:
             return
         at = self.tree.at
-        come = self._signals_to_come(target, number)
-        if any(it.sender == sender.pid for _, it in come[1:]):
-            place, event = come[0]
-            if place == self._next_place(event.task):
-                self._take(place, event)
+        firsts = (self._first_not_taken(self._signals[it, number]) for it in target.tasks)
+        first = min((it for it in firsts if it is not None), default=None)
+        lasts = (self._last_from.get((it, number, sender.pid), -1) for it in target.tasks)
+        if first is not None and max(lasts) > first:
+            event = self._events[first]
+            if first == self._next_place(event_task(event)):
+                self._take(first, event)
         self.tree.at = at
-
-    def _signals_to_come(self, target: Process, number: int) -> List[Tuple[int, Signal]]:
-        """The deliveries of a signal to a process that were not taken, with their places."""
-        tasks = [task for task, process in self.tree.tasks.items() if process is target]
-        places = sorted(it for task in tasks for it in self._of_task[task])
-        come = ((it, self._events[it]) for it in places if it not in self._taken)
-        return [
-            (place, event)
-            for place, event in come
-            if isinstance(event, Signal) and signal_number(event.name) == number
-        ]

@@ -3,7 +3,7 @@
 from __future__ import annotations
 
 import re
-from typing import Dict, Optional
+from typing import Dict, List, Optional
 
 from ..recording import ENDED, WAITS
 from .descriptors import Effect, add_file, answer_of, leave_out_failed
@@ -12,6 +12,7 @@ from .strace import Call, split_args
 from .tree import Action, Process, Tree, signal_number, spell_signal
 
 FORKS = ("fork", "vfork", "clone", "clone3")
+PROGRAMS = ("execve", "execveat")
 _LONGEST_NAME = 160
 
 
@@ -39,6 +40,7 @@ def _fork(tree: Tree, process: Process, call: Call) -> None:
     words = ",".join(call.args)
     if "CLONE_THREAD" in words:
         tree.tasks[call.result] = process
+        process.tasks.append(call.result)
         tree.leave_out("thread, which is its process here")
         return
     if "CLONE_FILES" in words:
@@ -55,6 +57,7 @@ def _fork(tree: Tree, process: Process, call: Call) -> None:
         _forget_handlers(tree, child)
     for fd in re.findall(r"pidfd=\[(\d+)\]", words):
         add_file(tree, process, int(fd), closes_on_exec=True)
+        process.descriptors[int(fd)].process = child.pid
 
 
 def _execute(tree: Tree, process: Process, call: Call) -> None:
@@ -119,7 +122,7 @@ def _end(tree: Tree, process: Process, call: str) -> None:
 def _take_outside(tree: Tree, process: Process) -> None:
     """A process whose parent has ended is waited for, as the first process of a host does."""
     tree.emit_outside(f"waitpid {process.number} nohang")
-    process.is_there = False
+    tree.waited_for(process)
 
 
 def _take_at_once(tree: Tree, parent: Process, child: Process) -> None:
@@ -127,31 +130,56 @@ def _take_at_once(tree: Tree, parent: Process, child: Process) -> None:
     if parent.action(CHLD).kind == "ignore" and CHLD not in parent.mask:
         deliver(tree, parent, CHLD)
     tree.emit(parent, f"waitpid {child.number} nohang")
-    child.is_there = False
+    tree.waited_for(child)
 
 
 def _exit(tree: Tree, process: Process, call: Call) -> None:
     """An exit has its effect where its process ends."""
 
 
-def waited_for(call: Call) -> Optional[int]:
-    """The process that a wait asks for, or None where it asks for any child."""
+def _process_asked(process: Process, call: Call) -> Optional[int]:
+    """The process that a wait asks for, or None where it asks for any child, or a group."""
+    if call.arg(0) == "P_PIDFD":
+        found = process.descriptors.get(call.number(1) or 0)
+        return found.process if found else None
     if call.name == "waitid":
         return call.number(1) if call.arg(0) == "P_PID" else None
-    found = call.number(0)
-    return found if found and found > 0 else None
+    number = call.number(0)
+    return number if number and number > 0 else None
 
 
-def _child_found(call: Call) -> Optional[int]:
-    """The child that a wait has answered."""
+def _group_asked(process: Process, call: Call) -> Optional[int]:
+    """The group of which a wait asks for any child, or None where it does not."""
+    if call.name == "waitid":
+        return (call.number(1) or process.group) if call.arg(0) == "P_PGID" else None
+    number = call.number(0)
+    if number is None or number == -1 or number > 0:
+        return None
+    return -number or process.group
+
+
+def children_asked(tree: Tree, process: Process, call: Call) -> List[Process]:
+    """The children for which a wait asks."""
+    wanted, group = _process_asked(process, call), _group_asked(process, call)
+    children = tree.children(process)
+    if wanted is not None:
+        return [it for it in children if it.pid == wanted]
+    return [it for it in children if group in (None, it.group)]
+
+
+def _child_found(tree: Tree, process: Process, call: Call) -> Optional[int]:
+    """The child that a wait has answered, or has found though its program did not want it."""
     if call.name == "wait4":
         return call.result if call.result and call.result > 0 else None
     found = re.search(r"si_pid=(\d+)", call.arg(2))
-    return int(found[1]) or None if found and call.result == 0 else None
+    if found or call.result != 0 or call.arg(2) != "NULL":
+        return int(found[1]) or None if found and call.result == 0 else None
+    ended = (it.pid for it in children_asked(tree, process, call) if not it.is_running)
+    return next(ended, None)
 
 
 def _wait(tree: Tree, process: Process, call: Call) -> None:
-    found, words = _child_found(call), ",".join(call.args)
+    found, words = _child_found(tree, process, call), ",".join(call.args)
     how = "nohang" if "WNOHANG" in words else "wait"
     if re.search(r"WIFSTOPPED|WIFCONTINUED|CLD_STOPPED|CLD_CONTINUED|CLD_TRAPPED", words):
         tree.leave_out("wait for a child that stops or continues")
@@ -163,10 +191,10 @@ def _wait(tree: Tree, process: Process, call: Call) -> None:
         expected = WAITS if call.never_ends else "ok 0"
         _ask(tree, process, call, how, expected)
     elif call.error == "ECHILD":
-        child = next(iter(tree.children(process)), None)
-        wanted = tree.tasks.get(waited_for(call) or 0)
-        asked = wanted if waited_for(call) else child
-        number = asked.number if asked and asked.is_there else process.number
+        wanted = _process_asked(process, call)
+        known = tree.tasks.get(wanted) if wanted else None
+        asked = [known] if known else children_asked(tree, process, call)
+        number = asked[0].number if asked and asked[0].is_there else process.number
         tree.emit(process, f"waitpid {number} nohang", answer_of(call))
     else:
         leave_out_failed(tree, call)
@@ -181,14 +209,13 @@ def _take_child(tree: Tree, process: Process, pid: int, how: str) -> None:
         tree.leave_out("wait for a child of another process")
         return
     tree.emit(process, f"waitpid {child.number} {how}", f"ok {child.number}")
-    child.is_there = child.is_running
+    if not child.is_running:
+        tree.waited_for(child)
 
 
 def _ask(tree: Tree, process: Process, call: Call, how: str, expected: str) -> None:
     """A wait finds no child that has ended. Of several the one is asked for that might have."""
-    wanted = waited_for(call)
-    children = [tree.tasks[wanted]] if wanted in tree.tasks else tree.children(process)
-    children.sort(key=lambda it: it.is_running)
+    children = sorted(children_asked(tree, process, call), key=lambda it: it.is_running)
     if children:
         tree.emit(process, f"waitpid {children[0].number} {how}", expected)
     else:

@@ -18,6 +18,9 @@ _HANDLER = 1000  # the point at which every handler is said to begin
 _FRAMES = 4  # caught signals that have not returned, at most
 _NOBODY = 999  # a number that no process has
 _QUESTION = "question that changes nothing"
+SENDERS = (
+    "kill", "tkill", "tgkill", "rt_sigqueueinfo", "rt_tgsigqueueinfo", "pidfd_send_signal"
+)  # fmt: skip
 # Which argument has the mask that a call waits with.
 _WAIT_MASKS = {"rt_sigsuspend": 0, "ppoll": 3, "pselect6": 5, "epoll_pwait": 4, "epoll_pwait2": 4}
 
@@ -151,13 +154,18 @@ def targets(tree: Tree, process: Process, call: Call) -> Optional[List[Process]]
     """The recorded processes that a kill is sent to, or None where it is sent to none of them."""
     place = 1 if call.name == "tgkill" else 0
     target = call.number(place)
+    if call.name == "pidfd_send_signal":
+        named = process.descriptors.get(target or 0)
+        target = named.process if named else None
     if target is None or target == -1:
         return None
     if target > 0:
         found = tree.tasks.get(target)
         return [found] if found and found.is_there else None
     group = -target or process.group
-    return [it for it in tree.there() if it.group == group] or None
+    found = [it for it in tree.there() if it.group == group]
+    # A process that has sent itself a signal may do nothing more, so it is the last one.
+    return sorted(found, key=lambda it: it is process) or None
 
 
 def signal_sent(call: Call) -> Optional[int]:
@@ -245,10 +253,6 @@ EFFECTS: Dict[str, Effect] = {
     "rt_sigpending": _pending,
     "rt_sigreturn": _return,
     "rt_sigtimedwait": _take,
-    "kill": _kill,
-    "tkill": _kill,
-    "tgkill": _kill,
-    "rt_sigqueueinfo": _kill,
-    "rt_tgsigqueueinfo": _kill,
+    **{it: _kill for it in SENDERS},
     **{it: _wait for it in _WAIT_MASKS},
 }

@@ -28,8 +28,8 @@ HOW = (
 
 _TASK = re.compile(r"(\d+) +(.*)")
 _CALL = re.compile(r"(\w+)\((.*)\) += (.+)")
-_RESUMED = re.compile(r"<\.\.\. (\w+) resumed>(.*)")
-_UNFINISHED, _DETACHED = " <unfinished ...>", " <detached ...>"
+_RESUMED = re.compile(r"<\.\.\. (\w+|\?+) resumed>(.*)")
+_CUT = re.compile(r" <(unfinished|detached|pid changed to \d+) \.\.\.>$")
 _NEVER = re.compile(r"(.*?)\s*<unfinished \.\.\.>\) += \?")
 _SIGNAL = re.compile(r"--- SIG(\w+) \{(.*)\} ---")
 _STOPPED = re.compile(r"--- stopped by SIG\w+ ---")
@@ -272,11 +272,11 @@ class _Reader:
             rest = head + resumed[2]
         elif task in self.begun:
             raise Fault(f"line {number}: process {task} has not ended its last call; {HOW}")
-        for end in (_UNFINISHED, _DETACHED):
-            if rest.endswith(end):
-                self.is_detached |= end == _DETACHED
-                self._begin(task, start, rest[: -len(end)], resumed is None)
-                return
+        cut = _CUT.search(rest)
+        if cut:
+            self.is_detached |= cut[1] == "detached"
+            self._begin(task, start, rest[: cut.start()], resumed is None)
+            return
         never = _NEVER.fullmatch(rest)
         if never or rest.endswith("= ?"):
             self._begin(task, start, never[1] if never else rest, resumed is None, is_kept=False)

@@ -7,7 +7,7 @@ the kernel. A number of the kernel may lack: it has 16 descriptors a process, an
 from __future__ import annotations
 
 import errno
-from dataclasses import dataclass, field
+from dataclasses import dataclass, field, replace
 from typing import Callable, Dict, FrozenSet, Iterator, List, Optional, Set, Tuple
 
 from ..faults import Fault
@@ -52,16 +52,18 @@ class Descriptor:
     """A descriptor of the host: a side of a pipe, or a file where `pipe` is None.
 
     `number` is that of the kernel's descriptor, or None where the kernel has no room for it.
+    `process` is that of the host which a pidfd stands for.
     """
 
     pipe: Optional[Pipe] = None
     side: str = WRITE
     number: Optional[int] = None
     closes_on_exec: bool = False
+    process: Optional[int] = None
 
     def copy(self) -> Descriptor:
         """The descriptor as a fork copies it."""
-        return Descriptor(self.pipe, self.side, self.number, self.closes_on_exec)
+        return replace(self)
 
 
 @dataclass(frozen=True)
@@ -82,6 +84,7 @@ class Process:
     parent: Optional[Process]
     group: int
     command: str
+    tasks: List[int] = field(default_factory=list)  # its threads, of which the first is itself
     descriptors: Dict[int, Descriptor] = field(default_factory=dict)
     actions: Dict[int, Action] = field(default_factory=dict)
     mask: FrozenSet[int] = frozenset()
@@ -149,7 +152,7 @@ class Tree:
         # What a process will be called that a fork has made, with the line of the fork.
         self.command_after_fork: Callable[[Process, int], str] = lambda child, line: child.command
         self.tasks: Dict[int, Process] = {}
-        self.processes: List[Process] = []
+        self._there: Dict[Process, None] = {}
         self.drafts: List[Draft] = []
         self.names: List[Naming] = []
         self.left_out: Dict[str, LeftOut] = {}
@@ -181,9 +184,10 @@ class Tree:
     def begin(self, task: int, parent: Optional[Process], command: str) -> Process:
         """A process begins; raises `Fault` where the kernel has no number left for it."""
         number = self._free_number()
-        made = Process(task, number, parent, parent.group if parent else task, command)
+        group = parent.group if parent else task
+        made = Process(task, number, parent, group, command, tasks=[task])
         self.tasks[task] = made
-        self.processes.append(made)
+        self._there[made] = None
         return made
 
     def name(self, process: Process, command: str) -> None:
@@ -195,7 +199,7 @@ class Tree:
         if self._next_number <= _LAST_NUMBER:
             self._next_number += 1
             return self._next_number - 1
-        taken = {it.number for it in self.processes if it.is_there}
+        taken = {it.number for it in self._there}
         for number in range(ROOT, _LAST_NUMBER + 1):
             if number not in taken:
                 return number
@@ -203,7 +207,12 @@ class Tree:
 
     def there(self) -> Iterator[Process]:
         """The processes that run, or have ended and were not waited for."""
-        return (it for it in self.processes if it.is_there)
+        return iter(list(self._there))
+
+    def waited_for(self, process: Process) -> None:
+        """A process that has ended was waited for."""
+        process.is_there = False
+        self._there.pop(process, None)
 
     def children(self, parent: Process) -> List[Process]:
         """The children of a process that are there."""
