@@ -1,5 +1,7 @@
 """Tests of txos.files: what is written, and what stays as it was."""
 
+import contextlib
+import io
 import os
 import stat
 import tempfile
@@ -7,6 +9,7 @@ import threading
 import unittest
 from pathlib import Path
 
+from txos.faults import Fault
 from txos.files import write_whole
 
 
@@ -18,15 +21,34 @@ class Written(unittest.TestCase):
 
     def test_a_file(self):
         file = self.folder / "a"
-        file.write_text("old")
-        write_whole(str(file), "new")
-        self.assertEqual(file.read_text(), "new")
-        self.assertEqual(os.listdir(self.folder), ["a"])
+        for old in ("", "text of old"):
+            file.write_text(old)
+            write_whole(str(file), "text of new")
+            self.assertEqual(file.read_text(), "text of new")
+            self.assertEqual(os.listdir(self.folder), ["a"])
+
+    def test_a_file_that_has_something_else_stays(self):
+        file = self.folder / "a.py"
+        file.write_text("import os")
+        with self.assertRaisesRegex(Fault, "a.py is there, and has something else in it"):
+            write_whole(str(file), "txos 3 schedule 2\n")
+        self.assertEqual(file.read_text(), "import os")
+
+    def test_a_file_that_can_not_be_made_is_named(self):
+        with self.assertRaises(FileNotFoundError) as caught:
+            write_whole(str(self.folder / "none/a"), "text")
+        self.assertEqual(caught.exception.filename, str(self.folder / "none/a"))
+
+    def test_standard_output(self):
+        for name in (None, "-"):
+            with contextlib.redirect_stdout(io.StringIO()) as out:
+                write_whole(name, "text")
+            self.assertEqual(out.getvalue(), "text")
 
     def test_a_link_still_names_its_file(self):
         file, link = self.folder / "a", self.folder / "link"
         link.symlink_to("a")
-        for text in ("one", "two"):
+        for text in ("text one", "text two"):
             write_whole(str(link), text)
             self.assertTrue(link.is_symlink())
             self.assertEqual(file.read_text(), text)

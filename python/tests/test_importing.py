@@ -150,6 +150,97 @@ class Pipes(Recorded):
         )
         self.assertEqual(self.left_out(made), {})
 
+    def test_a_read_that_a_signal_breaks_off_has_waited(self):
+        self.check(
+            [
+                "7 pipe2([3, 4], 0) = 0",
+                f"7 rt_sigaction(SIGINT, {HANDLER}",
+                "7 read(3, 0x7f, 10) = ? ERESTARTSYS (To be restarted if SA_RESTART is set)",
+                "7 --- SIGINT {si_signo=SIGINT, si_code=SI_KERNEL} ---",
+                "7 rt_sigreturn({mask=[]}) = -1 EINTR (Interrupted system call)",
+                END,
+            ],
+            [
+                "2 pipe 0 0 1 = ok 0",
+                "2 sigaction INT catch 1000 - = ok 0",
+                "2 read 3 0 1 = no N9",
+                "1 kill 2 INT",
+                "2 deliver INT = ok 0",
+                "2 sigreturn",
+                "2 exit 0 = ended",
+                "1 waitpid 2 nohang",
+            ],
+        )
+
+    def test_a_poll_of_pipes_that_never_ends_is_a_read_of_each(self):
+        for call in (
+            "poll([{fd=3, events=POLLIN}, {fd=5, events=POLLIN|POLLPRI}], 2, -1",
+            "select(6, [3 5], NULL, NULL, NULL",
+        ):
+            made = self.check(
+                [
+                    "7 pipe([3, 4]) = 0",
+                    "7 pipe([5, 6]) = 0",
+                    f"7 {call} <unfinished ...>",
+                    "7 +++ killed by SIGKILL +++",
+                ],
+                [
+                    "2 pipe 0 0 1 = ok 0",
+                    "2 pipe 1 2 3 = ok 0",
+                    "2 read 3 0 1 = no N9",
+                    "2 read 5 0 1 = no N9",
+                    "1 kill 2 KILL",
+                    "2 deliver KILL = ended",
+                    "1 waitpid 2 nohang",
+                ],
+            )
+            self.assertEqual(made.waiting, [])
+
+    def test_a_call_that_the_kernel_lacks_and_that_never_ends_is_noted(self):
+        made = record(
+            "7 close(0) = 0",
+            "7 futex(0x7f, FUTEX_WAIT, 1, NULL) = ? ERESTARTSYS (To be restarted)",
+            "7 --- SIGTERM {si_signo=SIGTERM, si_code=SI_USER, si_pid=9, si_uid=0} ---",
+            "7 +++ killed by SIGTERM +++",
+        )
+        (waiting,) = made.waiting
+        self.assertEqual((waiting.process, waiting.call, waiting.line), (2, "futex", 3))
+        self.assertEqual(made.steps[waiting.index].text, "1 kill 2 TERM")
+        self.assertIn("\n# 2 waits in futex since line 3\n1 kill 2 TERM", made.text())
+
+    def test_a_write_that_waits_has_filled_its_pipe(self):
+        self.check(
+            [
+                "7 pipe2([3, 4], 0) = 0",
+                '7 write(4, "x"..., 100000) = 65536',
+                "7 --- SIGTERM {si_signo=SIGTERM, si_code=SI_USER, si_pid=9, si_uid=0} ---",
+                "7 +++ killed by SIGTERM +++",
+            ],
+            [
+                "2 pipe 0 0 1 = ok 0",
+                "2 write 4 512 512 = ok 512",
+                "2 write 4 512 270 = no N9",
+                "1 kill 2 TERM",
+                "2 deliver TERM = ended",
+                "1 waitpid 2 nohang",
+            ],
+        )
+        self.check(
+            [
+                "7 pipe2([3, 4], 0) = 0",
+                '7 write(4, "x"..., 100000 <unfinished ...>',
+                "7 +++ killed by SIGKILL +++",
+            ],
+            [
+                "2 pipe 0 0 1 = ok 0",
+                "2 write 4 512 512",
+                "2 write 4 512 270 = no N9",
+                "1 kill 2 KILL",
+                "2 deliver KILL = ended",
+                "1 waitpid 2 nohang",
+            ],
+        )
+
     def test_nobody_reads_any_more(self):
         self.check(
             [
@@ -517,7 +608,7 @@ class Processes(Recorded):
         named = [(it.process, it.command) for it in made.names]
         self.assertEqual(
             named,
-            [(2, "sh -c 'a b'"), (3, "tr a 'A B'"), (4, "sh -c 'a b', forked"), (3, "cat")],
+            [(2, "sh -c 'a b'"), (3, "tr a 'A B'"), (4, "sh -c 'a b' (forked)"), (3, "cat")],
         )
         self.assertEqual(made.steps[made.names[1].index - 1].text, "2 fork 3")
 
@@ -645,7 +736,7 @@ class Processes(Recorded):
                 "1 waitpid 2 nohang",
             ],
         )
-        left_out = {"call that its process did not live to see ended": (1, 4)}
+        left_out = {"call that strace could not read": (1, 4)}
         self.assertEqual(self.left_out(made), left_out)
 
     def test_a_process_by_its_pidfd(self):

@@ -4,18 +4,26 @@ from __future__ import annotations
 
 import errno
 import os
+import re
 import sys
 import tempfile
 from typing import Optional
+
+from .faults import Fault
+
+STANDARD = "-"  # the name of standard input and output
+_BEGINNING = 4  # characters by which a recording and a picture are told from all else
+_LONGEST_BEGINNING = 200
 
 
 def write_whole(path: Optional[str], text: str) -> None:
     """Writes a text to a file, which has it whole or stays as it was; or to standard output.
 
-    What a symbolic link names is written, and so is what is no file, such as a device. Raises
-    OSError where the file can't be written.
+    That is meant where there is no path, or `-`. What a symbolic link names is written, and so is
+    what is no file, such as a device. Raises `Fault` where a file is there that begins otherwise,
+    and OSError where the file can't be written.
     """
-    if path is None:
+    if path is None or path == STANDARD:
         sys.stdout.write(text)
         sys.stdout.flush()
         return
@@ -23,10 +31,19 @@ def write_whole(path: Optional[str], text: str) -> None:
         with open(path, "w", encoding="utf-8") as device:
             device.write(text)
         return
-    path = os.path.realpath(path)
+    see_replaceable(path, re.escape(text[:_BEGINNING]))
+    try:
+        _replace(os.path.realpath(path), text)
+    except OSError as error:
+        error.filename = path  # and not that of the file that was to replace it
+        raise
+
+
+def _replace(path: str, text: str) -> None:
+    """Writes a file beside another one, and puts it in its place."""
     folder, name = os.path.split(path)
     with tempfile.NamedTemporaryFile(
-        "w", encoding="utf-8", dir=folder or ".", prefix=f".{name}.", delete=False
+        "w", encoding="utf-8", dir=folder, prefix=f".{name}.", delete=False
     ) as file:
         try:
             os.chmod(file.name, 0o666 & ~_mask())
@@ -36,6 +53,15 @@ def write_whole(path: Optional[str], text: str) -> None:
         except BaseException:
             os.unlink(file.name)
             raise
+
+
+def see_replaceable(path: str, begins: str) -> None:
+    """Raises `Fault` where a file is there that does not begin as what is to replace it."""
+    if os.path.isfile(path):
+        with open(path, encoding="utf-8", errors="surrogateescape") as file:
+            beginning = file.read(_LONGEST_BEGINNING)
+        if beginning and not re.match(begins, beginning):
+            raise Fault(f"{path} is there, and has something else in it: name another file")
 
 
 def see_writable(path: str) -> None:

@@ -18,14 +18,16 @@ from types import FrameType
 from typing import Iterator, List, Optional
 
 from .faults import NO_COMMAND, NOT_EXECUTABLE, RUN_FAILED, Fault
-from .files import see_writable, write_whole
+from .files import STANDARD, see_replaceable, see_writable, write_whole
 from .host.strace import OPTIONS
 from .reading import add_options, read_recording_of, say_what_was_made
+from .recording import HEADER
 
 _DEFAULT = "recording.txos"
 _PATIENCE = 1.0  # seconds after ^C until it is said how a command ends that goes on
 # The whole log of a command that the system does not execute.
 _REFUSED = re.compile(r"\d+ +execve\(.*\) += -1 E\w+ \((.+)\)\n\d+ +\+\+\+ exited with 1 \+\+\+\n")
+_LOG_BEGINS = r"\d+ +execve\("
 _HINT = "txos-record: ^C again ends the command by SIGKILL"
 _ABOUT = """Runs a command under strace, records it and all processes that it starts, and ends with
 the command's own status. ^C goes to the command; a second one ends all its processes by SIGKILL,
@@ -40,7 +42,7 @@ def add_command(commands: argparse._SubParsersAction) -> None:
         description=_ABOUT,
         usage="%(prog)s [-h] [-o FILE] [--short] [--log FILE] -- CMD ..",
     )
-    add_options(parser)
+    add_options(parser, f"FILE; without it to {_DEFAULT}")
     parser.set_defaults(output=_DEFAULT, run=_run)
     parser.add_argument("--log", metavar="FILE", help="keep what strace wrote, in FILE")
     parser.add_argument("words", metavar="-- CMD", nargs=argparse.REMAINDER, help="the command")
@@ -54,11 +56,7 @@ def _run(args: argparse.Namespace) -> int:
     if not strace:
         raise Fault("there is no strace: install it (on Debian: apt install strace)", RUN_FAILED)
     _see_executable(words[0])
-    for path in filter(None, (args.output, args.log)):
-        try:
-            see_writable(path)
-        except OSError as error:
-            raise Fault(f"{path}: {error.strerror}", RUN_FAILED) from error
+    _see_outputs(args)
     with tempfile.TemporaryDirectory(prefix="txos-record.") as folder:
         log = os.path.join(folder, "log")
         status = _trace([strace, *OPTIONS, "-o", log, "--", *words])
@@ -70,6 +68,21 @@ def _run(args: argparse.Namespace) -> int:
         except OSError as error:
             raise Fault(f"{args.output}: {error.strerror}", RUN_FAILED) from error
     return status
+
+
+def _see_outputs(args: argparse.Namespace) -> None:
+    """Raises `Fault` where what is to be written can't be, or would replace something else."""
+    if args.log and os.path.realpath(args.log) == os.path.realpath(args.output):
+        raise Fault(f"{args.log} can't be both the recording and the log", RUN_FAILED)
+    begins = {args.output: re.escape(HEADER), args.log: _LOG_BEGINS}
+    for path in (it for it in begins if it and it != STANDARD):
+        try:
+            see_writable(path)
+            see_replaceable(path, begins[path])
+        except Fault as fault:
+            raise Fault(str(fault), RUN_FAILED) from fault
+        except OSError as error:
+            raise Fault(f"{path}: {error.strerror}", RUN_FAILED) from error
 
 
 def _see_executable(word: str) -> None:

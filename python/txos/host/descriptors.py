@@ -6,7 +6,7 @@ import re
 from dataclasses import replace
 from typing import Callable, Dict, List, Optional, Tuple
 
-from ..recording import FILE_DESCRIPTOR, READ, WAITS, WRITE
+from ..recording import FILE_DESCRIPTOR, READ, WAITS, WRITE, Waiting
 from .strace import Call, bytes_of, split_args
 from .tree import ERRORS, Descriptor, Pipe, Process, Transfer, Tree
 
@@ -14,8 +14,13 @@ Effect = Callable[[Tree, Process, Call], None]
 # Where the kernel's memory has the bytes that are read and stored, and where it has only zeros.
 DATA, ZEROS = 0, 512
 MOST_DATA = 64  # bytes that one store holds
+PIPE_OF_HOST = 65536  # bytes that a pipe of the host holds
+_ATOMIC = 4096  # bytes that a write puts into a pipe at once, or not at all
 
-_UNKNOWN = "descriptor whose opening the log has not"
+_UNKNOWN = "descriptor whose opening the log does not have"
+_OPEN_ALREADY = "descriptor that is open already where it opens"
+# What a log has where lines of it are missing, or calls were not traced.
+SIGNS_OF_A_GAP = (_UNKNOWN, _OPEN_ALREADY)
 _SAME_FILE = re.compile(r'"/(?:dev|proc/self)/fd/(\d+)"|"/dev/std(in|out|err)"')
 _TERMINAL = "TIOCGPTPEER"  # the ioctl that opens the other side of a terminal
 _STANDARD = {"in": 0, "out": 1, "err": 2}
@@ -52,7 +57,7 @@ def make_room(tree: Tree, process: Process, count: int) -> bool:
 def add_file(tree: Tree, process: Process, fd: int, closes_on_exec: bool) -> None:
     """A descriptor opens that names no pipe."""
     if fd in process.descriptors:
-        tree.leave_out("close that the log has not")
+        tree.leave_out(_OPEN_ALREADY)
         tree.close(process, fd)
     made = process.descriptors[fd] = Descriptor(closes_on_exec=closes_on_exec)
     free = process.free()
@@ -345,12 +350,31 @@ def _transfer(tree: Tree, process: Process, call: Call, verb: str, descriptor: D
     kept = data if data is not None and len(data) == size else None
     tree.emit_transfer(process, number, Transfer(pipe, verb, size, kept))
     pipe.held += size if verb == WRITE else -min(size, pipe.held)
+    if is_cut_short(call):
+        rest = Transfer(pipe, verb, (size_asked(call) or 0) - size)
+        tree.emit_transfer(process, number, rest, WAITS)
+
+
+def is_cut_short(call: Call) -> bool:
+    """Whether a write has written what had room, and waited with the rest until a signal came."""
+    is_write = call.name in ("write", "writev") and bool(call.broken_by) and not call.error
+    return is_write and 0 < (call.result or 0) < (size_asked(call) or 0)
+
+
+def _fill(tree: Tree, process: Process, number: int, pipe: Pipe, asked: int) -> int:
+    """A write that waits has filled its pipe, unless it is small; answers how much is left of it."""
+    size = PIPE_OF_HOST - pipe.held
+    if asked <= _ATOMIC or size <= 0:
+        return asked
+    tree.emit_transfer(process, number, Transfer(pipe, WRITE, size, is_answered=False))
+    pipe.held += size
+    return asked - size
 
 
 def _refuse(tree: Tree, process: Process, call: Call, verb: str, descriptor: Descriptor) -> None:
     """No byte goes through a pipe: the call fails, or waits for ever."""
     number, expected = descriptor.number, answer_of(call)
-    if call.never_ends:
+    if call.waits:
         expected = WAITS
     elif call.error not in ("EAGAIN", "EPIPE", "EBADF") or expected is None:
         leave_out_failed(tree, call)
@@ -359,13 +383,40 @@ def _refuse(tree: Tree, process: Process, call: Call, verb: str, descriptor: Des
         tree.before_post(13, process, process)
         process.pending.add(13)
     if verb == WRITE and call.error != "EPIPE" and descriptor.pipe and number is not None:
-        size = Transfer(descriptor.pipe, verb, size_asked(call) or 1)
-        tree.emit_transfer(process, number, size, expected)
+        asked = size_asked(call) or 1
+        if call.waits:
+            asked = _fill(tree, process, number, descriptor.pipe, asked)
+        tree.emit_transfer(process, number, Transfer(descriptor.pipe, verb, asked), expected)
     else:
         address = DATA if verb == READ else ZEROS
         tree.emit(process, f"{verb} {number} {address} 1", expected)
 
 
+# Waits for one of several descriptors: which argument has those that are to be read.
+_POLLS = {"poll": 0, "ppoll": 0, "select": 1, "pselect6": 1}
+_POLLED = re.compile(r"\{fd=(\d+), events=[^}]*\bPOLL(?:RD(?:NORM|HUP)|IN)\b")
+
+
+def note_wait(tree: Tree, process: Process, call: Call) -> None:
+    """A call waits for ever, or until a signal comes, and it is neither a read, a write nor a wait.
+
+    Where it waits for bytes of pipes, these are reads that wait.
+    """
+    if moved(process, call) or not (call.never_ends or call.broken_by != "CHLD"):
+        return
+    asked = call.arg(_POLLS.get(call.name, len(call.args)))
+    fds = _POLLED.findall(asked) if "fd=" in asked else re.findall(r"\d+", asked)
+    sides = [process.descriptors.get(int(it)) for it in fds]
+    read = [it for it in sides if it and it.pipe and it.side == READ and it.number is not None]
+    for side in read:
+        if side.pipe and side.pipe.held == 0 and tree.holders(side.pipe, WRITE):
+            tree.emit(process, f"{READ} {side.number} {DATA} 1", WAITS)
+    if not read and call.name not in _NO_WAITS and call.name.isidentifier():
+        tree.waiting.append(Waiting(len(tree.drafts), process.number, call.name, call.start))
+
+
+# Calls that end by themselves, or that a recording has in another way.
+_NO_WAITS = "wait4 waitid execve execveat fork vfork clone clone3 exit exit_group".split()
 _OPENERS = frozenset(
     "open openat openat2 creat socket accept accept4 eventfd eventfd2 epoll_create epoll_create1 "
     "signalfd signalfd4 timerfd_create inotify_init inotify_init1 memfd_create pidfd_open "

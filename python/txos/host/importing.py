@@ -17,10 +17,10 @@ from ..recording import (
     ROOT,
     WRITE,
     LeftOut,
-    Naming,
     Recording,
     Step,
 )
+from ..wording import counted
 from .contents import Memory
 from .descriptors import DATA, ZEROS
 from .order import Order
@@ -50,10 +50,15 @@ def make_recording(
     setup = list(_setup(made.steps))
     made.steps[:0] = setup
     kept = [it for it in range(len(tree.drafts)) if it not in gone]
-    begins = [len(setup) + places[bisect_left(kept, it.index)] for it in tree.names]
+
+    def begin(index: int) -> int:
+        """The step that is the first one from a draft on."""
+        return len(setup) + places[bisect_left(kept, index)]
+
     made.names = [
-        Naming(begin, it.process, _one_line(it.command)) for begin, it in zip(begins, tree.names)
+        replace(it, index=begin(it.index), command=_one_line(it.command)) for it in tree.names
     ]
+    made.waiting = [replace(it, index=begin(it.index)) for it in tree.waiting]
     made.left_out = list(tree.left_out.values())
     return made
 
@@ -169,15 +174,14 @@ def _transfer(
     draft: Draft, transfer: Transfer, units: int, memory: Optional[Memory]
 ) -> Iterator[Step]:
     """The steps of a transfer; what it writes is stored first, where it is known."""
+    expected = draft.expected or (f"ok {units}" if transfer.is_answered else None)
     step, address = draft.step(), DATA if transfer.verb == READ else ZEROS
     if memory and transfer.data is not None and not draft.expected:
         address = DATA
         store = memory.store(draft.process, transfer.data)
         if store:
             yield replace(step, call=store, expected=None)
-    yield replace(
-        step, call=f"{draft.call} {address} {units}", expected=draft.expected or f"ok {units}"
-    )
+    yield replace(step, call=f"{draft.call} {address} {units}", expected=expected)
     if memory and not draft.expected:
         memory.move(draft.process, transfer, units, address)
 
@@ -223,4 +227,5 @@ def idle_drafts(tree: Tree) -> Set[int]:
 def left_out_sentence(left_out: Sequence[LeftOut]) -> str:
     """How much was left out, in a few words."""
     count = sum(it.count for it in left_out)
-    return f"{count:,} calls and signals of {len(left_out)} kinds left out" if count else ""
+    kinds = counted(len(left_out), "kind")
+    return f"{counted(count, 'part')} of the log left out, of {kinds}" if count else ""

@@ -16,8 +16,26 @@ from typing import Callable, Deque, Dict, FrozenSet, Iterable, List, Optional, S
 from ..faults import Fault
 from ..recording import READ, WRITE
 from . import descriptors, processes, signals
-from .descriptors import Effect, closed_by_range, moved, opened, size_asked
-from .processes import FORKS, PROGRAMS, children_asked, command_of, end_by_exit, end_by_signal
+from .descriptors import (
+    PIPE_OF_HOST,
+    Effect,
+    closed_by_range,
+    is_cut_short,
+    leave_out_failed,
+    moved,
+    note_wait,
+    opened,
+    size_asked,
+)
+from .processes import (
+    FORKS,
+    PROGRAMS,
+    WAITS_FOR_CHILDREN,
+    children_asked,
+    command_of,
+    end_by_exit,
+    end_by_signal,
+)
 from .signals import KILL, SENDERS, is_deadly, signal_sent, targets
 from .strace import HOW, Begun, Call, Done, End, Event, Signal, Superseded, event_task
 from .tree import REALTIME, SIGNALS, Descriptor, Pipe, Process, Tree, signal_number
@@ -29,7 +47,6 @@ _EFFECTS: Dict[str, Effect] = {
 }
 _EXITS = ("exit_group", "exit")
 _CLOSERS = ("close", "close_range", "dup2", "dup3", *PROGRAMS)
-_PIPE_OF_HOST = 65536  # bytes that a pipe of the host holds
 
 
 def known_signals(events: Sequence[Event]) -> FrozenSet[int]:
@@ -58,6 +75,7 @@ class Order:
             elif isinstance(event, Signal):
                 self._note_signal(place, event)
         self._mark_what_never_ends()
+        self._mark_what_signals_break()
         self._find_children_of_cut_forks()
         self.tree = Tree(known_signals(events))
         self.tree.before_post = self._before_post
@@ -99,8 +117,15 @@ class Order:
                     event.call.never_ends = event.call.name not in _EXITS
                     break
 
+    def _mark_what_signals_break(self) -> None:
+        for places in self._of_task.values():
+            events = [self._events[it] for it in places]
+            for event, after in zip(events, events[1:]):
+                if isinstance(event, Done) and isinstance(after, Signal):
+                    event.call.broken_by = after.name
+
     def _find_children_of_cut_forks(self) -> None:
-        """A process that is killed while it forks may leave a child: the next one without a fork."""
+        """A process that is killed while it forks may leave a child: the next without a fork."""
         begun = (it.call for it in self._events if isinstance(it, Begun))
         cut = [it for it in begun if it.never_ends and it.name in FORKS]
         root = event_task(self._events[0])
@@ -118,7 +143,7 @@ class Order:
         if program:
             return command_of(program)
         words = child.command
-        return words if words.endswith(", forked") else f"{words}, forked"
+        return words if words.endswith(" (forked)") else f"{words} (forked)"
 
     # Events.
 
@@ -181,13 +206,21 @@ class Order:
         signals.begin_wait(self.tree, process, call)
         self._flight[call.task] = call
         self._do_where_right(call)
+        if call.waits and self._flight.get(call.task) is call:
+            note_wait(self.tree, process, call)
 
     def _complete(self, call: Call) -> None:
         """A call ends, so it is done by now, and so is all that its answer shows."""
         if call.never_ends:
             return
         process = self.tree.tasks[call.task]
-        for verb, side in moved(process, call):
+        sides = moved(process, call)
+        if call.is_interrupted and (sides or call.name in WAITS_FOR_CHILDREN):
+            if self._flight.pop(call.task, None):
+                self.tree.at = (call.end or call.start, call.name)
+                leave_out_failed(self.tree, call)
+            return
+        for verb, side in sides:
             if side.pipe and side.side == verb:
                 self._make_true(call, verb, side.pipe)
         if self._flight.get(call.task) is call:
@@ -241,8 +274,8 @@ class Order:
             self.tree.tasks.pop(event.task)
             process.tasks.remove(event.task)
             return
-        if call and call.never_ends and process.is_running:
-            self.tree.leave_out("call that its process did not live to see ended", call.start)
+        if call and call.never_ends and process.is_running and not call.name.isidentifier():
+            self.tree.leave_out("call that strace could not read", call.start)
         if not process.is_running:
             return
         self._finish_writes(process, list(process.descriptors))
@@ -319,26 +352,28 @@ class Order:
 
     def _is_right(self, process: Process, call: Call) -> bool:
         """Whether a call changes nothing, and its answer is what the kernel would answer now."""
-        if call.name in ("wait4", "waitid"):
+        if call.name in WAITS_FOR_CHILDREN:
             return self._finds_no_child(process, call)
         for verb, side in moved(process, call):
             pipe = side.pipe
             if pipe is None or side.side != verb:
                 continue
             others = bool(self.tree.holders(pipe, WRITE if verb == READ else READ))
-            waits = call.never_ends or call.error == "EAGAIN"
+            waits = call.waits or call.error == "EAGAIN"
             if verb == READ:
                 is_end = call.result == 0 and size_asked(call) != 0 and not call.error
                 return pipe.held == 0 and ((waits and others) or (is_end and not others))
             if call.error == "EPIPE":
                 return not others
-            return waits and others and pipe.held + (size_asked(call) or 1) > _PIPE_OF_HOST
+            if is_cut_short(call):
+                return others and pipe.held + (call.result or 0) <= PIPE_OF_HOST
+            return waits and others and pipe.held + (size_asked(call) or 1) > PIPE_OF_HOST
         return False
 
     def _finds_no_child(self, process: Process, call: Call) -> bool:
         """Whether a wait answers that no child has ended, or waits for that, and is right."""
         is_found = call.error or call.result != 0 or "si_pid" in call.arg(2)
-        if not call.never_ends and (is_found or "WNOHANG" not in ",".join(call.args)):
+        if not call.waits and (is_found or "WNOHANG" not in ",".join(call.args)):
             return False
         asked = children_asked(self.tree, process, call)
         return bool(asked) and all(it.is_running for it in asked)
@@ -350,7 +385,7 @@ class Order:
         if call.error == "EPIPE":
             self._close_side(pipe, READ)
         elif verb == WRITE:
-            if pipe.held + (call.result or 0) > _PIPE_OF_HOST:
+            if pipe.held + (call.result or 0) > PIPE_OF_HOST:
                 self._move(pipe, READ, call, lambda: pipe.held == 0)
         elif call.result and not call.error:
             wanted = call.result

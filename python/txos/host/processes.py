@@ -11,6 +11,7 @@ from .signals import CHLD, KILL, deliver, post, send_from_outside, set_action, u
 from .strace import Call, split_args
 from .tree import Action, Process, Tree, signal_number, spell_signal
 
+WAITS_FOR_CHILDREN = ("wait4", "waitid")
 FORKS = ("fork", "vfork", "clone", "clone3")
 PROGRAMS = ("execve", "execveat")
 _LONGEST_NAME = 160
@@ -187,8 +188,8 @@ def _wait(tree: Tree, process: Process, call: Call) -> None:
         tree.leave_out("wait that leaves the child")
     elif found:
         _take_child(tree, process, found, how)
-    elif call.never_ends or (not call.error and call.result == 0):
-        expected = WAITS if call.never_ends else "ok 0"
+    elif call.waits or (not call.error and call.result == 0):
+        expected = WAITS if call.waits else "ok 0"
         _ask(tree, process, call, how, expected)
     elif call.error == "ECHILD":
         wanted = _process_asked(process, call)

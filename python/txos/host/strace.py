@@ -18,13 +18,17 @@ TRACED = (
     "inotify_init inotify_init1 memfd_create pidfd_open pidfd_getfd recvmsg recvmmsg userfaultfd "
     "perf_event_open io_uring_setup open_by_handle_at fanotify_init unshare prctl "
     "rt_sigaction rt_sigprocmask rt_sigpending rt_sigreturn rt_sigsuspend rt_sigtimedwait "
-    "ppoll pselect6 epoll_pwait epoll_pwait2"
+    "ppoll pselect6 epoll_pwait epoll_pwait2 poll select epoll_wait pause nanosleep "
+    "clock_nanosleep futex recvfrom connect flock msgrcv semop semtimedop restart_syscall"
 ).split()
 OPTIONS = ("-f", "-s", "64", "-e", "trace=" + ",".join(f"?{it}" for it in TRACED))
 HOW = (
     "record it with strace -f -s 64 -e trace=%process,%desc,%signal,%network,setpgid,setsid "
     "-o LOG COMMAND"
 )
+
+# Of these each program makes one: its libraries are opened.
+_ON_DESCRIPTORS = frozenset("open openat close read write pipe pipe2 dup dup2 fcntl".split())
 
 _TASK = re.compile(r"(\d+) +(.*)")
 _CALL = re.compile(r"(\w+)\((.*)\) += (.+)")
@@ -63,11 +67,20 @@ class Call:
     result: Optional[int] = None
     error: str = ""
     more: str = ""
-    never_ends: bool = False  # it waits until its process ends; found from what comes after
+    # From what comes after it: it waits until its process ends, or a signal comes next.
+    never_ends: bool = False
+    broken_by: str = ""
+
+    @property
+    def waits(self) -> bool:
+        """Whether it has waited until its process ended, or a signal broke it off."""
+        return self.never_ends or self.is_interrupted
 
     @property
     def is_interrupted(self) -> bool:
         """Whether a signal came before it did anything."""
+        if self.name == "rt_sigreturn":  # it answers what the call has answered that came before
+            return False
         return self.error.startswith("ERESTART") or self.error == "EINTR"
 
     def arg(self, place: int) -> str:
@@ -152,6 +165,22 @@ def read_log(lines: Sequence[str]) -> List[Event]:
     return reader.finish(len(lines))
 
 
+def see_traced(events: Sequence[Event]) -> None:
+    """Raises `Fault` where the log of a program has none of the calls that every program makes."""
+    names = {it.call.name for it in events if isinstance(it, Begun)}
+    if not names & _ON_DESCRIPTORS:
+        line = events[-1].line
+        raise Fault(f"line {line}: the log ends, and has no call on a descriptor; {HOW}")
+
+
+def unexplained_signal(events: Sequence[Event]) -> Optional[Signal]:
+    """The first signal of a log that has no call on signals, as where these were not traced."""
+    names = {it.call.name for it in events if isinstance(it, Begun)}
+    if any(it.startswith("rt_sig") for it in names):
+        return None
+    return next((it for it in events if isinstance(it, Signal)), None)
+
+
 def split_args(text: str) -> Tuple[str, ...]:
     """The arguments between the parentheses of a call."""
     found, depth, begin, at = [], 0, 0, 0
@@ -231,7 +260,7 @@ class _Reader:
             task, line = next(iter(self.live.items()))
             raise Fault(
                 f"line {lines}: the log is cut off here: process {task}, which begins in line "
-                f"{line}, has not ended (or it was made with -q)"
+                f"{line}, has not ended (or it was made with -qq)"
             )
         return self.events
 

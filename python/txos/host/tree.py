@@ -11,7 +11,17 @@ from dataclasses import dataclass, field, replace
 from typing import Callable, Dict, FrozenSet, Iterator, List, Optional, Set, Tuple
 
 from ..faults import Fault
-from ..recording import FILE_DESCRIPTOR, FILE_PIPE, OUTSIDE, ROOT, WRITE, LeftOut, Naming, Step
+from ..recording import (
+    FILE_DESCRIPTOR,
+    FILE_PIPE,
+    OUTSIDE,
+    ROOT,
+    WRITE,
+    LeftOut,
+    Naming,
+    Step,
+    Waiting,
+)
 
 # The known signals: their numbers by their names, of those that are not realtime signals.
 SIGNALS = {
@@ -122,6 +132,7 @@ class Transfer:
     verb: str
     size: int
     data: Optional[bytes] = None
+    is_answered: bool = True  # whether Linux has said how many bytes went
 
 
 @dataclass
@@ -155,6 +166,7 @@ class Tree:
         self._there: Dict[Process, None] = {}
         self.drafts: List[Draft] = []
         self.names: List[Naming] = []
+        self.waiting: List[Waiting] = []
         self.left_out: Dict[str, LeftOut] = {}
         self.at: Tuple[int, str] = (0, "")
         self._next_number = ROOT
