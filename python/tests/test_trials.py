@@ -375,8 +375,34 @@ class Signals(unittest.TestCase):
         self.assertEqual(
             [it.turn.recorded.text for it in found.outcome.left_out], ["4 close 4", "4 exit 0"]
         )
+        lines = list(report(found))
         said = "  4 reader is ended by signal KILL here, which came too late on Linux"
-        self.assertIn(said, report(found))
+        self.assertIn(said, lines)
+        waited = [it for it in lines if it.startswith("  4 reader at ")]
+        self.assertIn(" at its deliver KILL after step 10, for ", waited[-1])
+
+    def test_who_is_killed_by_a_member_ends_as_recorded_before_its_sys_xabort(self):
+        found = trial(
+            """
+            2 fork 3 = ok 3
+            # 3 is worker
+            3 fork 4 = ok 4
+            # 4 is killer
+            4 kill 3 KILL = ok 0
+            3 deliver KILL = ended
+            4 exit 0 = ended
+            1 waitpid 4 nohang
+            2 waitpid 3 wait = ok 3
+            """,
+            3,
+            abort=0,
+        )
+        self.assertNotIn("3 sys_xabort", made(found))
+        self.assertEqual(found.outcome.ending.made.turn.recorded.text, "4 exit 0")
+        lines = list(report(found))
+        self.assertIn("It does not come to its sys_xabort.", lines)
+        self.assertIn("All is answered as on Linux.", lines)
+        self.assertNotIn("Steps that are not made:", lines)
 
     def test_a_signal_that_has_come_ends_a_process_while_it_waits(self):
         found = trial(
@@ -721,6 +747,27 @@ class Asking(unittest.TestCase):
             ],
         )
 
+    def test_who_waits_for_a_process_that_is_not_there_waits_for_who_is_to_fork_it(self):
+        found = trial(
+            """
+            2 fork 3 = ok 3
+            # 3 is killer
+            2 waitpid 3 nohang = ok 0
+            2 fork 4 = ok 4
+            # 4 is parent
+            4 fork 5 = ok 5
+            # 5 is child
+            3 kill 5 TERM = ok 0
+            5 deliver TERM = ended
+            3 exit 0 = ended
+            """,
+            3,
+        )
+        first, second = ("2 sh", "process 3 killer", "3 exit 0"), ("3 killer", "process 5 child")
+        self.assertEqual(circles(found), [[first, (*second, "4 fork 5")]])
+        said = "  3 killer waits for 2 sh, since 4 parent is not there yet: step 8 (4 fork 5, "
+        self.assertIn(said, "\n".join(report(found)))
+
 
 # Process 3 is a transaction; meanwhile process 2 closes, forks, and reads what process 4 writes.
 ABORTED = """
@@ -795,6 +842,34 @@ class Aborts(unittest.TestCase):
                 "  step 10 (4 write 6 0 4, line 8)",
                 "  step 11 (2 read 5 0 1, line 9)",
                 "  step 12 (1 kill 3 USR1, line 10)",
+            ],
+        )
+
+    def test_what_others_have_done_is_left_and_counted(self):
+        found = trial(
+            """
+            2 pipe 0 0 1 = ok 0
+            2 fork 3 = ok 3
+            # 3 is child
+            2 dup 3 = ok 5
+            2 pipe 1 2 3 = ok 0
+            2 write 4 0 1 = ok 1
+            3 exit 0 = ended
+            2 waitpid 3 wait = ok 3
+            """,
+            3,
+            abort=0,
+        )
+        lines = list(report(found))
+        left = lines[lines.index("What differs after the abort from before its sys_xbegin:") + 1 :]
+        self.assertEqual(
+            left[:-4],
+            [
+                "  2 sh has 2 descriptors that read pipe 0, before 1",
+                "  2 sh has 1 descriptor that reads pipe 1, before 0",
+                "  2 sh has 1 descriptor that writes pipe 1, before 0",
+                "  pipe 0 has 1 byte, before 0",
+                "  pipe 1 is there",
             ],
         )
 

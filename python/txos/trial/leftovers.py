@@ -7,6 +7,7 @@ from typing import Callable, Dict, Iterator, List, Optional
 
 from ..host.tree import spell_signal
 from ..kernel import Action, Description, Process, State
+from ..reading import counted
 
 
 def differences(before: State, after: State, label: Callable[[int], str]) -> List[str]:
@@ -63,9 +64,9 @@ def _of_signals(label: str, old: Process, new: Process) -> Iterator[str]:
         where = "is pending" if signal in new.pending else "is pending no more"
         yield f"signal {spell_signal(signal)} {where} at {label}"
     if old.queued != new.queued:
-        yield f"{len(new.queued)} signals are queued at {label}, before {len(old.queued)}"
+        yield f"{label} has {counted(len(new.queued), 'queued signal')}, before {len(old.queued)}"
     if len(old.frames) != len(new.frames):
-        yield f"{label} is in {len(new.frames)} handlers, before in {len(old.frames)}"
+        yield f"{label} is in {counted(len(new.frames), 'handler')}, before in {len(old.frames)}"
 
 
 def _does(action: Optional[Action]) -> str:
@@ -83,8 +84,9 @@ def _of_descriptors(
     for number in sorted({*had, *has}):
         side = sides[number]
         if had[number] != has[number]:
+            verb = side.side + ("s" if has[number] == 1 else "")
             yield (
-                f"{label} has {has[number]} descriptors that {side.side} pipe {side.pipe}, "
+                f"{label} has {counted(has[number], 'descriptor')} that {verb} pipe {side.pipe}, "
                 f"before {had[number]}"
             )
 
@@ -94,6 +96,6 @@ def _of_pipe(number: int, old: Optional[bytes], new: Optional[bytes]) -> Iterato
     if old is None or new is None:
         yield f"pipe {number} is {'gone' if new is None else 'there'}"
     elif len(old) != len(new):
-        yield f"pipe {number} has {len(new)} bytes, before {len(old)}"
+        yield f"pipe {number} has {counted(len(new), 'byte')}, before {len(old)}"
     elif old != new:
         yield f"pipe {number} has other bytes"

@@ -32,7 +32,7 @@ class Because(enum.Enum):
     NO_SIGNAL = "its signal does not come"
     IGNORED = "a signal that does nothing is not pending"
     FOUND_NOTHING = "it found nothing on Linux, and would find something here"
-    ENDED = "its process has ended before it"
+    ENDED = "its process ends before it"
     UNBORN = "its process is never forked"
     ABORTED = "its process is gone with the abort"
     REFUSED = "it is refused"

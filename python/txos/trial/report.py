@@ -49,7 +49,7 @@ class Findings:
 def place(turn: Turn) -> str:
     """A step of the recording: its number, its text, and the line of the log."""
     if turn.added:
-        return f"its {turn.call} after step {turn.index + 1}"
+        return f"its {turn.step.call} after step {turn.index + 1}"
     line = f", line {turn.recorded.line}" if turn.recorded.line else ""
     return f"step {turn.index + 1} ({turn.recorded.text}{line})"
 
@@ -221,6 +221,8 @@ def _circles(findings: Findings) -> Iterator[str]:
 def _to_do(link: Link) -> str:
     """What a process of a circle waits for: that the next one does something."""
     wait, turn, whom = link.wait, link.turn, link.next.life.label
+    if turn.life is not link.next.life:
+        return f"{whom}, since {turn.life.label} is not there yet"
     if wait.why is Why.BUSY:
         return f"{whom}, whose transaction has {wait.what}, to end"
     if wait.why is Why.SIGNAL:

@@ -274,10 +274,12 @@ class Schedule:
         for number, process in self.kernel.state().procs.items():
             if KILL not in process.pending:
                 continue
-            line = self.agenda.line_of(self.lives[number])
-            end = next((it for it in line.turns if it.delivery and it.signal == KILL), None)
-            if end is None:
-                end = added_end(self.lives[number])
+            life, line = self.lives[number], self.agenda.line_of(self.lives[number])
+            # Its recorded end is no more in the line where a sys_xabort has taken its place.
+            turns = [*line.turns, *life.turns]
+            ends = (it for it in turns if it.delivery and it.signal == KILL)
+            end = next(filter(self.agenda.is_to_come, ends), None) or added_end(life)
+            if end not in line.turns:
                 self.agenda.put_last(end)
             self.agenda.leave_out(line.before(end), Because.ENDED)
 
