@@ -312,6 +312,47 @@ class Pipes(Recorded):
             ],
         )
 
+    def test_a_long_write_that_never_ends_has_filled_its_pipe(self):
+        made = self.check(
+            [
+                "7 pipe([3, 4]) = 0",
+                '7 write(4, "x"..., 131072) = ? ERESTARTSYS (To be restarted if SA_RESTART is set)',
+                "7 --- SIGINT {si_signo=SIGINT, si_code=SI_KERNEL} ---",
+                "7 +++ killed by SIGINT +++",
+            ],
+            [
+                "2 pipe 0 0 1 = ok 0",
+                "2 write 4 512 512",
+                "2 write 4 512 512 = no N9",
+                "1 kill 2 INT",
+                "2 deliver INT = ended",
+                "1 waitpid 2 nohang",
+            ],
+        )
+        self.assertEqual(made.factor, 128)
+
+    def test_a_long_write_that_never_ends_has_written_what_is_read(self):
+        for last, size in ((100, 100), (70000, 70000)):
+            made = record(
+                "7 pipe([3, 4]) = 0",
+                FORK,
+                "7 close(4) = 0",
+                '8 write(4, "x"..., 131072 <unfinished ...>',
+                '7 read(3, "x"..., 100000) = 100',
+                "7 kill(8, SIGKILL) = 0",
+                f'7 read(3, "x"..., 100000) = {last}',
+                '7 read(3, "", 100000) = 0',
+                "8 <... write resumed>) = ?",
+                "8 +++ killed by SIGKILL +++",
+                END,
+            )
+            moved = [it for it in made.steps if it.line and it.words[0] in ("read", "write")]
+            factor, whole = made.factor, -(-(100 + size) // made.factor)
+            self.assertEqual(moved[0].text, f"3 write 4 512 {whole}")
+            self.assertEqual(moved[1].expected, "no N9")
+            read = [it.expected for it in moved[2:]]
+            self.assertEqual(read[-2:], [f"ok {whole - 100 // factor}", "ok 0"])
+
     def test_bytes_are_divided_where_a_pipe_holds_more_than_512(self):
         made = self.check(
             [
@@ -557,6 +598,32 @@ class Descriptors(Recorded):
             ],
         )
 
+    def test_a_pipe_that_is_given_to_another_process_is_known_until_then(self):
+        given = "msg_control=[{cmsg_type=SCM_RIGHTS, cmsg_data=[4]}]"
+        taken = given.replace("4", "5")
+        for give, take in (
+            (f"7 sendmsg(9, {{{given}}}, 0) = 1", f"8 recvmsg(9, {{{taken}}}, 0) = 1"),
+            ("8 pidfd_open(7, 0) = 3", "8 pidfd_getfd(3, 4, 0) = 5"),
+        ):
+            made = record(
+                FORK,
+                "7 pipe([3, 4]) = 0",
+                '7 write(4, "a", 1) = 1',
+                '7 read(3, "a", 1) = 1',
+                give,
+                take,
+                "7 close(4) = 0",
+                '8 write(5, "x", 1) = 1',
+                '7 read(3, "x", 1) = 1',
+                "8 +++ exited with 0 +++",
+                '7 read(3, "", 1) = 0',
+                END,
+            )
+            moved = [it.text for it in made.steps if it.words[0] in ("read", "write")]
+            self.assertEqual(moved, ["2 write 4 0 1", "2 read 3 0 1"])
+            kind = "transfer of a pipe that was given to a process by a socket or a pidfd"
+            self.assertEqual(self.left_out(made)[kind], (2, 10))
+
     def test_short_leaves_files_out_that_are_closed_again(self):
         made = self.check(
             [
@@ -674,6 +741,68 @@ class Processes(Recorded):
             ],
         )
         self.assertEqual(self.left_out(made)["thread, which is its process here"], (1, 3))
+
+    def test_children_that_have_another_parent_here(self):
+        made = self.check(
+            [
+                FORK,
+                "8 clone(child_stack=0x7f, flags=CLONE_PARENT|SIGCHLD) = 9",
+                "9 +++ exited with 0 +++",
+                "7 wait4(-1, [{WIFEXITED(s) && WEXITSTATUS(s) == 0}], 0, NULL) = 9",
+                "8 clone(child_stack=NULL, flags=SIGCHLD) = 10",
+                "8 +++ exited with 0 +++",
+                "7 wait4(-1, [{WIFEXITED(s) && WEXITSTATUS(s) == 0}], 0, NULL) = 8",
+                "10 +++ exited with 0 +++",
+                "7 wait4(-1, [{WIFEXITED(s) && WEXITSTATUS(s) == 0}], 0, NULL) = 10",
+                END,
+            ],
+            [
+                "2 fork 3 = ok 3",
+                "3 fork 4 = ok 4",
+                "4 exit 0 = ended",
+                "3 fork 5 = ok 5",
+                "3 exit 0 = ended",
+                "1 waitpid 4 nohang",
+                "2 waitpid 3 wait = ok 3",
+                "5 exit 0 = ended",
+                "1 waitpid 5 nohang",
+                "2 exit 0 = ended",
+                "1 waitpid 2 nohang",
+            ],
+        )
+        self.assertEqual(
+            self.left_out(made),
+            {
+                "fork of a child for its parent, which is its own child here": (1, 3),
+                "wait for a child that has another parent here": (2, 5),
+            },
+        )
+
+    def test_a_wait_that_a_kill_ends_is_answered_0(self):
+        self.check(
+            [
+                FORK,
+                "8 clone(child_stack=NULL, flags=SIGCHLD) = 9",
+                "8 wait4(-1,  <unfinished ...>",
+                "7 kill(8, SIGKILL) = 0",
+                "8 <... wait4 resumed>NULL, 0, NULL) = 0",
+                "8 +++ killed by SIGKILL +++",
+                "9 +++ exited with 0 +++",
+                END,
+            ],
+            [
+                "2 fork 3 = ok 3",
+                "3 fork 4 = ok 4",
+                "3 waitpid 4 wait = no N9",
+                "2 kill 3 KILL = ok 0",
+                "3 deliver KILL = ended",
+                "4 exit 0 = ended",
+                "1 waitpid 4 nohang",
+                "2 exit 0 = ended",
+                "1 waitpid 3 nohang",
+                "1 waitpid 2 nohang",
+            ],
+        )
 
     def test_a_wait_for_a_group_that_no_child_has(self):
         self.check(
@@ -839,6 +968,19 @@ class Processes(Recorded):
         with self.assertRaisesRegex(Fault, "line 2: process 8 begins, and no fork of it is here"):
             record("8 close(3) = 0", "8 +++ exited with 0 +++", END)
 
+    def test_a_process_of_another_namespace_is_reported(self):
+        told = (
+            "line 4: process 9 begins in the PID namespace of line 2, where it has another number"
+        )
+        with self.assertRaisesRegex(Fault, told):
+            record(
+                "7 unshare(CLONE_NEWNS|CLONE_NEWPID) = 0",
+                "7 clone(child_stack=NULL, flags=SIGCHLD) = 1",
+                "9 close(3) = 0",
+                "9 +++ exited with 0 +++",
+                END,
+            )
+
     def test_numbers_are_used_again_only_when_all_are_taken(self):
         lines = []
         for pid in range(100, 400):
@@ -903,6 +1045,33 @@ class Signals(Recorded):
             ],
         )
 
+    def test_a_signal_that_comes_was_not_dropped_by_another_action(self):
+        self.check(
+            [
+                FORK,
+                f"7 rt_sigaction(SIGCHLD, {HANDLER}",
+                "7 rt_sigprocmask(SIG_BLOCK, [CHLD], NULL, 8) = 0",
+                "7 rt_sigaction(SIGCHLD, {sa_handler=SIG_DFL, sa_mask=[], sa_flags=0},  <unfinished ...>",
+                "8 +++ exited with 0 +++",
+                "7 <... rt_sigaction resumed>NULL, 8) = 0",
+                "7 rt_sigprocmask(SIG_SETMASK, [], NULL, 8) = 0",
+                f"7 {CHILD % 8}",
+                END,
+            ],
+            [
+                "2 fork 3 = ok 3",
+                "2 sigaction CHLD catch 1000 - = ok 0",
+                "2 sigprocmask block CHLD = ok 0",
+                "2 sigaction CHLD default = ok 0",
+                "3 exit 0 = ended",
+                "2 sigprocmask set - = ok 0",
+                "2 deliver CHLD",
+                "2 exit 0 = ended",
+                "1 waitpid 3 nohang",
+                "1 waitpid 2 nohang",
+            ],
+        )
+
     def test_a_signal_that_was_lost_comes_once(self):
         self.check(
             [
@@ -923,6 +1092,60 @@ class Signals(Recorded):
                 "1 waitpid 3 nohang",
                 "1 waitpid 4 nohang",
                 "1 waitpid 2 nohang",
+            ],
+        )
+
+    def test_a_handler_of_a_signal_that_the_kernel_lacks_returns_for_itself(self):
+        made = self.check(
+            [
+                f"7 rt_sigaction(SIGUSR1, {HANDLER}",
+                f"7 rt_sigaction(SIGWINCH, {HANDLER}",
+                "7 --- SIGUSR1 {si_signo=SIGUSR1, si_code=SI_USER, si_pid=1, si_uid=0} ---",
+                "7 --- SIGWINCH {si_signo=SIGWINCH, si_code=SI_KERNEL} ---",
+                "7 rt_sigreturn({mask=[USR1]}) = 0",
+                "7 kill(7, SIGUSR1) = 0",
+                "7 rt_sigpending([USR1], 8) = 0",
+                "7 rt_sigreturn({mask=[]}) = 0",
+                "7 --- SIGUSR1 {si_signo=SIGUSR1, si_code=SI_USER, si_pid=7, si_uid=0} ---",
+                "7 rt_sigreturn({mask=[]}) = 0",
+                END,
+            ],
+            [
+                "2 sigaction USR1 catch 1000 - = ok 0",
+                "1 kill 2 USR1",
+                "2 deliver USR1 = ok 0",
+                "2 kill 2 USR1 = ok 0",
+                "2 sigpending = ok 1024",
+                "2 sigreturn",
+                "2 deliver USR1 = ok 0",
+                "2 sigreturn",
+                "2 exit 0 = ended",
+                "1 waitpid 2 nohang",
+            ],
+        )
+        kind = "return from a handler that the kernel has not"
+        self.assertEqual(self.left_out(made)[kind], (1, 6))
+
+    def test_a_signal_that_no_call_has_sent_has_the_sender_that_the_log_names(self):
+        self.check(
+            [
+                FORK,
+                "7 --- SIGCHLD {si_signo=SIGCHLD, si_code=CLD_STOPPED, si_pid=8, si_uid=0} ---",
+                "7 --- SIGPIPE {si_signo=SIGPIPE, si_code=SI_USER, si_pid=7, si_uid=0} ---",
+                "7 +++ killed by SIGPIPE +++",
+                "8 --- SIGHUP {si_signo=SIGHUP, si_code=SI_USER, si_pid=7, si_uid=0} ---",
+                "8 +++ killed by SIGHUP +++",
+            ],
+            [
+                "2 fork 3 = ok 3",
+                "3 kill 2 CHLD",
+                "2 deliver CHLD",
+                "2 kill 2 PIPE",
+                "2 deliver PIPE = ended",
+                "1 waitpid 2 nohang",
+                "1 kill 3 HUP",
+                "3 deliver HUP = ended",
+                "1 waitpid 3 nohang",
             ],
         )
 

@@ -74,12 +74,10 @@ class Refused(unittest.TestCase):
         environment = {**os.environ, "PYTHONPATH": str(PACKAGE)}
         words = [sys.executable, "-m", "txos", "run", "-o", self.output]
         command = ["sh", "-c", "echo ready; read line"]
+        words += ["--", *command]
+        nowhere = subprocess.DEVNULL
         with subprocess.Popen(
-            [*words, "--", *command],
-            stdin=-1,
-            stdout=-1,
-            stderr=subprocess.DEVNULL,
-            env=environment,
+            words, stdin=-1, stdout=-1, stderr=nowhere, env=environment
         ) as recorder:
             recorder.stdout.readline()
             recorder.send_signal(signal.SIGQUIT)

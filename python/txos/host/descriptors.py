@@ -119,6 +119,21 @@ def _receive(tree: Tree, process: Process, call: Call) -> None:
     tree.leave_out(call.name)
 
 
+def note_given(tree: Tree, process: Process, call: Call) -> None:
+    """A pipe is marked of which a descriptor is given to another process."""
+    owner, fds = process, []
+    if call.name in ("sendmsg", "sendmmsg"):
+        found = re.findall(r"SCM_RIGHTS, cmsg_data=\[([\d, ]+)\]", ",".join(call.args))
+        fds = [fd for it in found for fd in _numbers(it)]
+    elif call.name == "pidfd_getfd" and not call.error:
+        named = process.descriptors.get(call.number(0) or 0)
+        owner = tree.tasks.get(named.process or 0, process) if named else process
+        fds = _numbers(call.arg(1))
+    for given in (owner.descriptors.get(it) for it in fds):
+        if given and given.pipe:
+            given.pipe.is_given = True
+
+
 def _pipe(tree: Tree, process: Process, call: Call) -> None:
     if call.result != 0:
         leave_out_failed(tree, call)
@@ -288,7 +303,7 @@ _MOVES: Dict[str, Tuple[Optional[int], Optional[int]]] = {
 _SIZES = {"read": 2, "write": 2, "splice": 4, "tee": 2, "sendfile": 3}
 
 
-def moved(process: Process, call: Call) -> List[Tuple[str, Descriptor]]:
+def _moved(process: Process, call: Call) -> List[Tuple[str, Descriptor]]:
     """The sides of pipes that a call reads and writes, in this order."""
     found = []
     for verb, place in zip((READ, WRITE), _MOVES.get(call.name, (None, None))):
@@ -297,6 +312,11 @@ def moved(process: Process, call: Call) -> List[Tuple[str, Descriptor]]:
         if descriptor and descriptor.pipe:
             found.append((verb, descriptor))
     return found
+
+
+def moved(process: Process, call: Call) -> List[Tuple[str, Descriptor]]:
+    """The sides of pipes that a call reads and writes, of those whose bytes are all known."""
+    return [it for it in _moved(process, call) if it[1].pipe and not it[1].pipe.is_given]
 
 
 def size_asked(call: Call) -> Optional[int]:
@@ -322,7 +342,9 @@ def data_of(call: Call) -> Optional[bytes]:
 
 def _move(tree: Tree, process: Process, call: Call) -> None:
     sides = moved(process, call)
-    if not sides:
+    if len(sides) < len(_moved(process, call)):
+        tree.leave_out("transfer of a pipe that was given to a process by a socket or a pidfd")
+    elif not sides:
         if call.error == "EBADF" and call.name in (READ, WRITE):
             _fail(tree, process, call, call.name)
         else:
@@ -361,16 +383,6 @@ def is_cut_short(call: Call) -> bool:
     return is_write and 0 < (call.result or 0) < (size_asked(call) or 0)
 
 
-def _fill(tree: Tree, process: Process, number: int, pipe: Pipe, asked: int) -> int:
-    """A write that waits has filled its pipe, unless it is small; answers how much is left of it."""
-    size = PIPE_OF_HOST - pipe.held
-    if asked <= _ATOMIC or size <= 0:
-        return asked
-    tree.emit_transfer(process, number, Transfer(pipe, WRITE, size, is_answered=False))
-    pipe.held += size
-    return asked - size
-
-
 def _refuse(tree: Tree, process: Process, call: Call, verb: str, descriptor: Descriptor) -> None:
     """No byte goes through a pipe: the call fails, or waits for ever."""
     number, expected = descriptor.number, answer_of(call)
@@ -385,11 +397,23 @@ def _refuse(tree: Tree, process: Process, call: Call, verb: str, descriptor: Des
     if verb == WRITE and call.error != "EPIPE" and descriptor.pipe and number is not None:
         asked = size_asked(call) or 1
         if call.waits:
-            asked = _fill(tree, process, number, descriptor.pipe, asked)
+            asked = max(asked - _write_part(tree, process, call, descriptor), 1)
         tree.emit_transfer(process, number, Transfer(descriptor.pipe, verb, asked), expected)
     else:
         address = DATA if verb == READ else ZEROS
         tree.emit(process, f"{verb} {number} {address} 1", expected)
+
+
+def _write_part(tree: Tree, process: Process, call: Call, descriptor: Descriptor) -> int:
+    """A write that waits has filled its pipe, unless it is small; how much it has written."""
+    pipe, number, size = descriptor.pipe, descriptor.number, size_asked(call) or 1
+    assert pipe is not None and number is not None
+    if call.part is None:
+        call.part = min(size, PIPE_OF_HOST - pipe.held) if size > _ATOMIC else 0
+    if call.part > 0:
+        tree.emit_transfer(process, number, Transfer(pipe, WRITE, call.part, is_answered=False))
+        pipe.held += call.part
+    return call.part
 
 
 # Waits for one of several descriptors: which argument has those that are to be read.

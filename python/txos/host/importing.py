@@ -41,7 +41,10 @@ def make_recording(
     actions that are set to what they are. `advance` is called with 1 after each event. Raises
     `Fault` where the log lacks the fork of a process, or has too many processes at once.
     """
-    tree = Order(events).run(advance)
+    order = Order(events)
+    tree = order.run(advance)
+    if order.has_learned:
+        tree = Order(events).run(lambda count: None)
     gone: Set[int] = idle_drafts(tree) if is_short else set()
     drafts = [it for place, it in enumerate(tree.drafts) if place not in gone]
     counts, factor = _scale(drafts)

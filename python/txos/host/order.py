@@ -49,6 +49,11 @@ _EXITS = ("exit_group", "exit")
 _CLOSERS = ("close", "close_range", "dup2", "dup3", *PROGRAMS)
 
 
+def _found_nobody(call: Call) -> bool:
+    """Whether a wait is answered 0 that waits until it finds one: its process is killed."""
+    return call.name == "wait4" and call.result == 0 and "WNOHANG" not in call.arg(2)
+
+
 def known_signals(events: Sequence[Event]) -> FrozenSet[int]:
     """The signals that sets of a recording have: realtime ones where the log has any."""
     came = {it.name for it in events if isinstance(it, Signal)}
@@ -62,6 +67,8 @@ class Order:
     def __init__(self, events: Sequence[Event]) -> None:
         self._events = events
         self._flight: Dict[int, Call] = {}  # by tasks, what has started and is not done
+        self._cut_writes: Dict[Pipe, Call] = {}  # those that never end, and have written a part
+        self.has_learned = False  # of a part that is another one: only a new order has it right
         self._taken: Set[int] = set()  # the events that were taken before their turn
         self._of_task: Dict[int, Deque[int]] = defaultdict(deque)
         self._signals: Dict[Tuple[int, int], Deque[int]] = defaultdict(deque)  # of task and number
@@ -112,7 +119,8 @@ class Order:
             for place in reversed(places):
                 event = self._events[place]
                 if isinstance(event, Done) and not event.call.is_interrupted:
-                    break
+                    if not _found_nobody(event.call):
+                        break
                 if isinstance(event, Begun):
                     event.call.never_ends = event.call.name not in _EXITS
                     break
@@ -125,13 +133,13 @@ class Order:
                     event.call.broken_by = after.name
 
     def _find_children_of_cut_forks(self) -> None:
-        """A process that is killed while it forks may leave a child: the next without a fork."""
+        """A process that is killed while it forks may leave a child: one that has no fork."""
         begun = (it.call for it in self._events if isinstance(it, Begun))
         cut = [it for it in begun if it.never_ends and it.name in FORKS]
         root = event_task(self._events[0])
         for task, places in self._of_task.items() if cut else ():
             line = self._events[places[0]].line
-            makers = [it for it in cut if it.start < line and it.result is None]
+            makers = [it for it in cut if it.start < line and it.result in (None, task)]
             if makers and task != root and task not in self._forks:
                 makers[-1].result = task
                 self._forks[task].append(makers[-1])
@@ -173,10 +181,19 @@ class Order:
             elif not self.tree.tasks:
                 self._begin_root(event)
         if task not in self.tree.tasks:
-            raise Fault(
-                f"line {event.line}: process {task} begins, and no fork of it is here; {HOW}"
-            )
+            raise Fault(f"line {event.line}: {self._why_no_fork(event)}")
         return self.tree.tasks[task]
+
+    def _why_no_fork(self, event: Event) -> str:
+        """What is said of a process whose fork is not there."""
+        begun = (it.call for it in self._events if isinstance(it, Begun) and it.line < event.line)
+        inner = next((it for it in begun if "CLONE_NEWPID" in ",".join(it.args)), None)
+        if inner is None:
+            return f"process {event_task(event)} begins, and no fork of it is here; {HOW}"
+        return (
+            f"process {event_task(event)} begins in the PID namespace of line {inner.start}, where "
+            "it has another number, so its fork can't be told; record what runs inside of it"
+        )
 
     def _begin_root(self, event: Event) -> None:
         root = self.tree.begin(event_task(event), None, "")
@@ -204,6 +221,7 @@ class Order:
             signals.end_wait(self.tree, process)
         self.tree.at = (event.line, call.name)
         signals.begin_wait(self.tree, process, call)
+        descriptors.note_given(self.tree, process, call)
         self._flight[call.task] = call
         self._do_where_right(call)
         if call.waits and self._flight.get(call.task) is call:
@@ -232,6 +250,8 @@ class Order:
             self.tree.leave_out(f"signal SIG{event.name}, which the kernel lacks", event.line)
             if isinstance(self._next_event(event.task), End):
                 process.ends_at = event.line
+            if f"SIG{event.name}" in process.lacked:
+                process.frames.append(None)
             return
         if number not in process.pending:
             self._send(process, number)
@@ -239,12 +259,14 @@ class Order:
         if is_deadly(process, number):
             self._begin_to_end(process, event)
         else:
-            signals.deliver(self.tree, process, number)
+            sender = self.tree.tasks.get(event.sender or 0)
+            signals.deliver(self.tree, process, number, sender)
             self._do_what_is_right()
 
     def _begin_to_end(self, process: Process, event: Signal) -> None:
         """A deadly signal comes: the process has ended where the log says so, and not before."""
-        signals.send_from_outside(self.tree, process, signal_number(event.name) or 0)
+        sender, number = self.tree.tasks.get(event.sender or 0), signal_number(event.name)
+        signals.send_unless_pending(self.tree, process, number or 0, sender)
         process.ends_at = event.line
         if not isinstance(self._next_event(event.task), End):
             raise Fault(
@@ -308,6 +330,9 @@ class Order:
             self._finish_writes(process, fds)
         effect = _EFFECTS.get(call.name)
         if effect and process.is_running:
+            if call.never_ends:
+                pipes = (it.pipe for _, it in moved(process, call) if it.pipe)
+                self._cut_writes.update((it, call) for it in pipes)
             effect(self.tree, process, call)
         else:
             self.tree.leave_out(call.name)
@@ -390,10 +415,12 @@ class Order:
         elif call.result and not call.error:
             wanted = call.result
             self._move(pipe, WRITE, call, lambda: pipe.held >= wanted)
+            self._learn_part(pipe, max(wanted, pipe.held))
         elif call.error == "EAGAIN" or call.result == 0:
             self._move(pipe, READ, call, lambda: pipe.held == 0)
             if not call.error and size_asked(call) != 0:
                 self._close_side(pipe, WRITE)
+                self._learn_part(pipe, 0)
 
     def _move(
         self, pipe: Pipe, verb: str, but: Optional[Call], is_enough: Callable[[], bool]
@@ -409,6 +436,13 @@ class Order:
                 if verb == READ and pipe.held < call.result:
                     continue
                 self._do(call)
+
+    def _learn_part(self, pipe: Pipe, held: int) -> None:
+        """A read shows how much a pipe held, and so what a write that never ended has written."""
+        call = self._cut_writes.get(pipe)
+        if call and call.part is not None and pipe.held != held:
+            call.part += held - pipe.held
+            pipe.held, self.has_learned = held, True
 
     def _close_side(self, pipe: Pipe, side: str) -> None:
         """Has the last descriptors of a side close, where all of them are about to."""
@@ -480,14 +514,25 @@ class Order:
                     self._do(call)
                     return
 
+    def _set_action_before_post(self, number: int, target: Process) -> None:
+        """A signal that comes was not dropped, as an action drops it that ignores it."""
+        come = (self._first_not_taken(self._signals[it, number]) for it in target.tasks)
+        if all(it is None for it in come):
+            return
+        for call in self._in_flight(target):
+            if call.name == "rt_sigaction" and signal_number(call.arg(0)) == number:
+                self._complete(call)
+
     def _before_post(self, number: int, target: Process, sender: Process) -> None:
         """A signal is about to be sent to a process at which it is pending.
 
         Where both come to it, the first one has come before. Else the second one is lost.
         """
+        at = self.tree.at
+        self._set_action_before_post(number, target)
+        self.tree.at = at
         if number not in target.pending or number in target.mask:
             return
-        at = self.tree.at
         firsts = (self._first_not_taken(self._signals[it, number]) for it in target.tasks)
         first = min((it for it in firsts if it is not None), default=None)
         lasts = (self._last_from.get((it, number, sender.pid), -1) for it in target.tasks)

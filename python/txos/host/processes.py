@@ -7,7 +7,7 @@ from typing import Dict, List, Optional
 
 from ..recording import ENDED, WAITS
 from .descriptors import Effect, add_file, answer_of, leave_out_failed
-from .signals import CHLD, KILL, deliver, post, send_from_outside, set_action, unknown_number
+from .signals import CHLD, KILL, deliver, post, send_unless_pending, set_action, unknown_number
 from .strace import Call, split_args
 from .tree import Action, Process, Tree, signal_number, spell_signal
 
@@ -46,12 +46,14 @@ def _fork(tree: Tree, process: Process, call: Call) -> None:
         return
     if "CLONE_FILES" in words:
         tree.leave_out("fork that shares descriptors, which are copied here")
-    parent = process.parent if "CLONE_PARENT|" in words else process
-    child = tree.begin(call.result, parent, process.command)
+    if re.search(r"\bCLONE_PARENT\b", words):
+        tree.leave_out("fork of a child for its parent, which is its own child here")
+    child = tree.begin(call.result, process, process.command)
     child.group = process.group
     child.descriptors = {fd: it.copy() for fd, it in process.descriptors.items()}
     child.actions, child.mask = dict(process.actions), process.mask
     child.frames, child.own_mask = list(process.frames), process.own_mask
+    child.lacked = set(process.lacked)
     tree.emit(process, f"fork {child.number}", f"ok {child.number}")
     tree.name(child, tree.command_after_fork(child, call.start))
     if "CLONE_CLEAR_SIGHAND" in words:
@@ -74,6 +76,7 @@ def _execute(tree: Tree, process: Process, call: Call) -> None:
 
 def _forget_handlers(tree: Tree, process: Process) -> None:
     """What a process catches has its usual action again."""
+    process.lacked.clear()
     for number, action in sorted(process.actions.items()):
         if action.kind == "catch":
             set_action(tree, process, number, Action(), "ok 0")
@@ -91,7 +94,7 @@ def end_by_signal(tree: Tree, process: Process, name: str) -> None:
         tree.leave_out(f"end by SIG{name}, which the kernel lacks")
         _end(tree, process, f"exit {128 + unknown_number(name)}")
         return
-    send_from_outside(tree, process, number)
+    send_unless_pending(tree, process, number)
     if number in process.mask:
         tree.set_mask(process, process.mask - {number})
     if number != KILL and process.action(number).kind != "default":
@@ -203,11 +206,11 @@ def _wait(tree: Tree, process: Process, call: Call) -> None:
 
 def _take_child(tree: Tree, process: Process, pid: int, how: str) -> None:
     child = tree.tasks.get(pid)
-    if not child or not child.is_there:
+    if not child:
         tree.leave_out("wait for a child that was not recorded")
         return
     if child.parent is not process:
-        tree.leave_out("wait for a child of another process")
+        tree.leave_out("wait for a child that has another parent here")
         return
     tree.emit(process, f"waitpid {child.number} {how}", f"ok {child.number}")
     if not child.is_running:

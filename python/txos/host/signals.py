@@ -43,6 +43,8 @@ def _action(tree: Tree, process: Process, call: Call) -> None:
         tree.leave_out(_QUESTION)
     elif number is None:
         tree.leave_out(f"action of {call.arg(0)}, which the kernel lacks")
+        is_caught = handler[1] not in ("SIG_DFL", "SIG_IGN")
+        (process.lacked.add if is_caught else process.lacked.discard)(call.arg(0))
     else:
         kind = {"SIG_DFL": "default", "SIG_IGN": "ignore"}.get(handler[1], "catch")
         mask = set_of(",".join(re.findall(r"sa_mask=(~?\[[^\]]*\])", call.arg(1))))
@@ -61,7 +63,7 @@ def set_action(
     more = f" {_HANDLER} {tree.spell_set(made.mask)}" if made.kind == "catch" else ""
     tree.emit(process, f"sigaction {name} {made.kind}{more}", expected, idle)
     process.actions[number] = made
-    if made.kind == "ignore":
+    if made.kind == "ignore" or (made.kind == "default" and number == CHLD):
         process.pending.discard(number)
 
 
@@ -97,12 +99,13 @@ def _pending(tree: Tree, process: Process, call: Call) -> None:
 
 def _return(tree: Tree, process: Process, call: Call) -> None:
     """A handler returns. The host's mask is then the log's, and the kernel's that of its frame."""
-    if not process.frames:
-        tree.leave_out("return of a handler that the kernel has not")
+    mask = process.frames.pop() if process.frames else None
+    if mask is None:
+        tree.leave_out("return from a handler that the kernel has not")
         return
     tree.emit(process, "sigreturn")
     given = set_of(call.arg(0))
-    process.mask = process.frames.pop()
+    process.mask = mask
     if given is not None and call.task == process.pid:
         tree.set_mask(process, given)
 
@@ -164,8 +167,9 @@ def targets(tree: Tree, process: Process, call: Call) -> Optional[List[Process]]
         return [found] if found and found.is_there else None
     group = -target or process.group
     found = [it for it in tree.there() if it.group == group]
-    # A process that has sent itself a signal may do nothing more, so it is the last one.
-    return sorted(found, key=lambda it: it is process) or None
+    if signal_sent(call) == KILL:  # a process that has sent itself this one can do nothing more
+        found.sort(key=lambda it: it is process)
+    return found or None
 
 
 def signal_sent(call: Call) -> Optional[int]:
@@ -198,11 +202,18 @@ def post(target: Process, number: int) -> None:
         target.pending.add(number)
 
 
-def send_from_outside(tree: Tree, process: Process, number: int) -> None:
-    """Somebody who was not recorded sends a signal, unless it is pending already."""
-    if number not in process.pending:
-        tree.emit_outside(f"kill {process.number} {spell_signal(number)}")
-        post(process, number)
+def send_unless_pending(
+    tree: Tree, process: Process, number: int, sender: Optional[Process] = None
+) -> None:
+    """A signal that comes is sent by the process that the log names, or else from outside."""
+    if number in process.pending:
+        return
+    call = f"kill {process.number} {spell_signal(number)}"
+    if sender and sender.is_running and KILL not in sender.pending:
+        tree.emit(sender, call)
+    else:
+        tree.emit_outside(call)
+    post(process, number)
 
 
 def is_deadly(process: Process, number: int) -> bool:
@@ -210,10 +221,10 @@ def is_deadly(process: Process, number: int) -> bool:
     return number == KILL or (process.action(number).kind == "default" and number != CHLD)
 
 
-def deliver(tree: Tree, process: Process, number: int) -> None:
+def deliver(tree: Tree, process: Process, number: int, sender: Optional[Process] = None) -> None:
     """A signal that does not end its process is delivered."""
     action, name = process.action(number), spell_signal(number)
-    send_from_outside(tree, process, number)
+    send_unless_pending(tree, process, number, sender)
     outer = process.mask
     if number in outer:  # it is another thread that is delivered it
         tree.set_mask(process, outer - {number})
@@ -222,7 +233,7 @@ def deliver(tree: Tree, process: Process, number: int) -> None:
         tree.emit(process, f"deliver {name}")
         tree.set_mask(process, outer)
         return
-    if len(process.frames) == _FRAMES:
+    if sum(it is not None for it in process.frames) == _FRAMES:
         _give_frame_up(tree, process)
     tree.emit(process, f"deliver {name}", "ok 0" if number in SIGNALS.values() else None)
     process.frames.append(process.mask)
@@ -238,7 +249,9 @@ def _give_frame_up(tree: Tree, process: Process) -> None:
     """Of four handlers the last has not returned, but jumped: it gives its place to a new one."""
     mask = process.mask
     tree.emit(process, "sigreturn")
-    process.mask = process.frames.pop()
+    while process.frames[-1] is None:
+        process.frames.pop()
+    process.mask = process.frames.pop() or frozenset()
     tree.set_mask(process, mask)
 
 

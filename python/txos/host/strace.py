@@ -15,7 +15,8 @@ TRACED = (
     "pipe pipe2 dup dup2 dup3 fcntl ioctl close close_range read readv write writev preadv2 "
     "pwritev2 splice tee vmsplice sendfile open openat openat2 creat socket socketpair accept "
     "accept4 eventfd eventfd2 epoll_create epoll_create1 signalfd signalfd4 timerfd_create "
-    "inotify_init inotify_init1 memfd_create pidfd_open pidfd_getfd recvmsg recvmmsg userfaultfd "
+    "inotify_init inotify_init1 memfd_create pidfd_open pidfd_getfd sendmsg sendmmsg recvmsg "
+    "recvmmsg userfaultfd "
     "perf_event_open io_uring_setup open_by_handle_at fanotify_init unshare prctl "
     "rt_sigaction rt_sigprocmask rt_sigpending rt_sigreturn rt_sigsuspend rt_sigtimedwait "
     "ppoll pselect6 epoll_pwait epoll_pwait2 poll select epoll_wait pause nanosleep "
@@ -70,6 +71,7 @@ class Call:
     # From what comes after it: it waits until its process ends, or a signal comes next.
     never_ends: bool = False
     broken_by: str = ""
+    part: Optional[int] = None  # of a write that waits: the bytes that it has written before
 
     @property
     def waits(self) -> bool:

@@ -51,10 +51,14 @@ def spell_signal(number: int) -> str:
 
 @dataclass(eq=False)
 class Pipe:
-    """A pipe: its number in the kernel, and how many bytes of the host it holds."""
+    """A pipe: its number in the kernel, and how many bytes of the host it holds.
+
+    Where a descriptor of it was given to another process, what goes through it is not known.
+    """
 
     number: int
     held: int = 0
+    is_given: bool = False
 
 
 @dataclass
@@ -98,7 +102,9 @@ class Process:
     descriptors: Dict[int, Descriptor] = field(default_factory=dict)
     actions: Dict[int, Action] = field(default_factory=dict)
     mask: FrozenSet[int] = frozenset()
-    frames: List[FrozenSet[int]] = field(default_factory=list)  # the mask that each gives back
+    # The mask that each handler gives back, or None where the kernel lacks its signal.
+    frames: List[Optional[FrozenSet[int]]] = field(default_factory=list)
+    lacked: Set[str] = field(default_factory=set)  # what it catches and the kernel lacks
     pending: Set[int] = field(default_factory=set)
     own_mask: Optional[FrozenSet[int]] = None  # while a call waits with another one
     is_running: bool = True
