@@ -541,6 +541,25 @@ class Descriptors(Recorded):
         )
         self.assertEqual([it.line for it in made.steps[-8:-6]], [6, 5])
 
+    def test_a_pipe_that_is_written_by_a_descriptor_beyond_15_is_not_read(self):
+        pipes = [f"7 pipe([{it}, {it + 1}]) = 0" for it in range(3, 15, 2)]
+        made = record(
+            "7 close(0) = 0",
+            "7 close(1) = 0",
+            "7 close(2) = 0",
+            "7 pipe([0, 1]) = 0",
+            *pipes,
+            "7 dup(3) = 2",
+            "7 dup(4) = 15",
+            '7 write(15, "x", 1) = 1',
+            '7 read(3, "x", 1) = 1',
+            END,
+        )
+        self.assertNotIn("read", [it.words[0] for it in made.steps])
+        left_out = self.left_out(made)
+        self.assertEqual(left_out["write of a pipe, by a descriptor beyond 15"], (1, 14))
+        self.assertEqual(left_out["transfer of a pipe whose bytes are not all known"], (1, 15))
+
     def test_an_execve_closes_what_is_marked(self):
         self.check(
             [
@@ -621,7 +640,7 @@ class Descriptors(Recorded):
             )
             moved = [it.text for it in made.steps if it.words[0] in ("read", "write")]
             self.assertEqual(moved, ["2 write 4 0 1", "2 read 3 0 1"])
-            kind = "transfer of a pipe that was given to a process by a socket or a pidfd"
+            kind = "transfer of a pipe whose bytes are not all known"
             self.assertEqual(self.left_out(made)[kind], (2, 10))
 
     def test_short_leaves_files_out_that_are_closed_again(self):
@@ -942,6 +961,35 @@ class Processes(Recorded):
                 ],
             )
             self.assertEqual(made.names[-1].command, "cat")
+
+    def test_a_fork_of_a_thread_copies_what_is_open_where_it_starts(self):
+        made = self.check(
+            [
+                "7 clone3({flags=CLONE_VM|CLONE_FILES|CLONE_THREAD, stack=0x7f}, 88) = 8",
+                "8 vfork( <unfinished ...>",
+                "7 pipe2([3, 4], 0) = 0",
+                '9 openat(AT_FDCWD, "a", O_RDONLY) = 3',
+                "8 <... vfork resumed>) = 9",
+                "7 close(4) = 0",
+                '7 read(3, "", 1) = 0',
+                "9 +++ exited with 0 +++",
+                "8 exit(0) = ?",
+                "8 +++ exited with 0 +++",
+                END,
+            ],
+            [
+                "2 fork 3 = ok 3",
+                "2 pipe 0 0 1 = ok 0",
+                "3 dup 15 = ok 3",
+                "2 close 4 = ok 0",
+                "2 read 3 0 1 = ok 0",
+                "3 exit 0 = ended",
+                "2 exit 0 = ended",
+                "1 waitpid 3 nohang",
+                "1 waitpid 2 nohang",
+            ],
+        )
+        self.assertEqual(list(self.left_out(made)), ["thread, which is its process here"])
 
     def test_a_parent_that_ignores_the_end_of_its_child_is_rid_of_it(self):
         self.check(

@@ -131,7 +131,7 @@ def note_given(tree: Tree, process: Process, call: Call) -> None:
         fds = _numbers(call.arg(1))
     for given in (owner.descriptors.get(it) for it in fds):
         if given and given.pipe:
-            given.pipe.is_given = True
+            given.pipe.is_unknown = True
 
 
 def _pipe(tree: Tree, process: Process, call: Call) -> None:
@@ -316,7 +316,7 @@ def _moved(process: Process, call: Call) -> List[Tuple[str, Descriptor]]:
 
 def moved(process: Process, call: Call) -> List[Tuple[str, Descriptor]]:
     """The sides of pipes that a call reads and writes, of those whose bytes are all known."""
-    return [it for it in _moved(process, call) if it[1].pipe and not it[1].pipe.is_given]
+    return [it for it in _moved(process, call) if it[1].pipe and not it[1].pipe.is_unknown]
 
 
 def size_asked(call: Call) -> Optional[int]:
@@ -343,7 +343,7 @@ def data_of(call: Call) -> Optional[bytes]:
 def _move(tree: Tree, process: Process, call: Call) -> None:
     sides = moved(process, call)
     if len(sides) < len(_moved(process, call)):
-        tree.leave_out("transfer of a pipe that was given to a process by a socket or a pidfd")
+        tree.leave_out("transfer of a pipe whose bytes are not all known")
     elif not sides:
         if call.error == "EBADF" and call.name in (READ, WRITE):
             _fail(tree, process, call, call.name)
@@ -353,6 +353,8 @@ def _move(tree: Tree, process: Process, call: Call) -> None:
     for verb, descriptor in sides:
         if descriptor.number is None:
             tree.leave_out(f"{verb} of a pipe, by a descriptor beyond 15")
+            if descriptor.pipe:
+                descriptor.pipe.is_unknown = True
         elif call.result is not None and not call.error:
             _transfer(tree, process, call, verb, descriptor)
         else:

@@ -223,6 +223,9 @@ class Order:
         signals.begin_wait(self.tree, process, call)
         descriptors.note_given(self.tree, process, call)
         self._flight[call.task] = call
+        is_fork = call.name in FORKS and call.result and call.result > 0
+        if is_fork and len(process.tasks) > 1:  # what other threads open now, its child has not
+            self._do(call)
         self._do_where_right(call)
         if call.waits and self._flight.get(call.task) is call:
             note_wait(self.tree, process, call)

@@ -53,12 +53,13 @@ def spell_signal(number: int) -> str:
 class Pipe:
     """A pipe: its number in the kernel, and how many bytes of the host it holds.
 
-    Where a descriptor of it was given to another process, what goes through it is not known.
+    Where a descriptor of it was given to another process, or is one of the host's that the kernel
+    has no room for, what goes through it is not known any more.
     """
 
     number: int
     held: int = 0
-    is_given: bool = False
+    is_unknown: bool = False
 
 
 @dataclass
