@@ -887,6 +887,27 @@ class Processes(Recorded):
         left_out = {"call that strace could not read": (1, 4)}
         self.assertEqual(self.left_out(made), left_out)
 
+    def test_an_answer_that_a_kill_has_made_is_none(self):
+        made = self.check(
+            [
+                FORK,
+                "8 close(0 <unfinished ...>",
+                "7 kill(8, SIGKILL) = 0",
+                "8 <... close resumed>) = -1 (errno 18446744073709551554)",
+                "8 +++ killed by SIGKILL +++",
+                END,
+            ],
+            [
+                "2 fork 3 = ok 3",
+                "2 kill 3 KILL = ok 0",
+                "3 deliver KILL = ended",
+                "2 exit 0 = ended",
+                "1 waitpid 3 nohang",
+                "1 waitpid 2 nohang",
+            ],
+        )
+        self.assertEqual([(it.call, it.line) for it in made.waiting], [("close", 3)])
+
     def test_a_process_by_its_pidfd(self):
         made = self.check(
             [

@@ -166,10 +166,10 @@ def targets(tree: Tree, process: Process, call: Call) -> Optional[List[Process]]
         found = tree.tasks.get(target)
         return [found] if found and found.is_there else None
     group = -target or process.group
-    found = [it for it in tree.there() if it.group == group]
+    members = [it for it in tree.there() if it.group == group]
     if signal_sent(call) == KILL:  # a process that has sent itself this one can do nothing more
-        found.sort(key=lambda it: it is process)
-    return found or None
+        members.sort(key=lambda it: it is process)
+    return members or None
 
 
 def signal_sent(call: Call) -> Optional[int]:

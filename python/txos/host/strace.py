@@ -36,6 +36,8 @@ _CALL = re.compile(r"(\w+)\((.*)\) += (.+)")
 _RESUMED = re.compile(r"<\.\.\. (\w+|\?+) resumed>(.*)")
 _CUT = re.compile(r" <(unfinished|detached|pid changed to \d+) \.\.\.>$")
 _NEVER = re.compile(r"(.*?)\s*<unfinished \.\.\.>\) += \?")
+# An answer that is none: strace has read it while SIGKILL ended the process.
+_NO_ANSWER = re.compile(r"\)? += (?:\?|-1 \(errno \d{5,}\))$")
 _SIGNAL = re.compile(r"--- SIG(\w+) \{(.*)\} ---")
 _STOPPED = re.compile(r"--- stopped by SIG\w+ ---")
 _EXITED = re.compile(r"\+\+\+ exited with (\d+) \+\+\+")
@@ -309,7 +311,7 @@ class _Reader:
             self._begin(task, start, rest[: cut.start()], resumed is None)
             return
         never = _NEVER.fullmatch(rest)
-        if never or rest.endswith("= ?"):
+        if never or _NO_ANSWER.search(rest):
             self._begin(task, start, never[1] if never else rest, resumed is None, is_kept=False)
             return
         self._complete(number, task, start, rest, resumed is None)
@@ -320,7 +322,7 @@ class _Reader:
             name, _, args = head.partition("(")
             if not re.fullmatch(r"\w+|\?+", name):
                 raise Fault(f"line {start}: {_not_a_line(head, start)}; {HOW}")
-            args = re.sub(r"\) += \?$", "", args)
+            args = _NO_ANSWER.sub("", args)
             call = self.calls[task] = Call(task, name, start, split_args(args))
             self.events.append(Begun(start, call))
         if is_kept:
