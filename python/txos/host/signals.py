@@ -42,7 +42,8 @@ def _action(tree: Tree, process: Process, call: Call) -> None:
     elif not handler:
         tree.leave_out(_QUESTION)
     elif number is None:
-        tree.leave_out(f"action of {call.arg(0)}, which the kernel lacks")
+        name = "a realtime signal" if call.arg(0).startswith("SIGRT") else call.arg(0)
+        tree.leave_out(f"action of {name}, which the kernel lacks")
         is_caught = handler[1] not in ("SIG_DFL", "SIG_IGN")
         (process.lacked.add if is_caught else process.lacked.discard)(call.arg(0))
     else:
