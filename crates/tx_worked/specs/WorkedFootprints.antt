@@ -120,6 +120,22 @@ WrittenPipeAnswers =
     ∷ committed
     ∷ []
 
+-- a transaction has copied a descriptor to itself, which names the description alone: the pipe is free to be written
+abbrev pub same_descriptor : List Step
+same_descriptor =
+    calls 1 (Map (pos 0))
+    ∷ calls 1 (pipe 0 0 1)
+    ∷ calls 1 (fork 2)
+    ∷ calls 2 SysXbegin
+    ∷ calls 2 (Dup2 (pos 0) (pos 0))
+    ∷ calls 1 (Write (pos 1) (pos 0) (pos 1))
+    ∷ calls 1 (Dup (pos 0))
+    ∷ []
+
+abbrev pub SameDescriptorAnswers : Type 0
+SameDescriptorAnswers =
+    answers_of (boot_state 64 1) [] same_descriptor ≡ ok 0 ∷ ok 0 ∷ ok 2 ∷ ok 0 ∷ ok 0 ∷ ok 1 ∷ busy_with 2 ∷ []
+
 -- a transaction has read from the pipe, if only no byte: a write is refused, and a close of the write side
 abbrev pub read_pipe : List Step
 read_pipe =

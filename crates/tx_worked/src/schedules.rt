@@ -265,6 +265,7 @@ pub fn worked_footprints()
     ensures changed_description { footprints.ChangedDescriptionAnswers }
     ensures changed_writer { footprints.ChangedWriterAnswers }
     ensures written_pipe { footprints.WrittenPipeAnswers }
+    ensures same_descriptor { footprints.SameDescriptorAnswers }
     ensures read_pipe { footprints.ReadPipeAnswers }
     ensures chosen_numbers { footprints.ChosenNumbersAnswers }
     ensures asked_for { footprints.AskedForAnswers }
