@@ -27,7 +27,7 @@ command_words =
     ∷ (codes "debug" ∷ [])
     ∷ (codes "json" ∷ [])
     ∷ (codes "picture" ∷ [])
-    ∷ (codes "shell" ∷ codes "cut" ∷ codes "owns" ∷ codes "steps" ∷ codes "try" ∷ codes "why" ∷ codes "without" ∷ codes "when" ∷ codes "next" ∷ codes "quit" ∷ [])
+    ∷ (codes "shell" ∷ codes "cut" ∷ codes "owns" ∷ codes "steps" ∷ codes "try" ∷ codes "why" ∷ codes "without" ∷ codes "when" ∷ codes "next" ∷ codes "quit" ∷ codes "help" ∷ [])
     ∷ (codes "run" ∷ [])
     ∷ (codes "check" ∷ [])
     ∷ (codes "plain" ∷ [])
@@ -65,6 +65,27 @@ fault_words =
     ∷ (codes "F8" ∷ [])
     ∷ []
 
+-- signals: where a bare name is a word of a call or of the shell too, it is that word
+abbrev pub sent_words : List (List Text)
+sent_words =
+    (codes "SIGHUP" ∷ codes "HUP" ∷ codes "1" ∷ [])
+    ∷ (codes "SIGINT" ∷ codes "INT" ∷ codes "2" ∷ [])
+    ∷ (codes "SIGQUIT" ∷ codes "3" ∷ [])
+    ∷ (codes "SIGABRT" ∷ codes "ABRT" ∷ codes "6" ∷ [])
+    ∷ (codes "SIGKILL" ∷ codes "9" ∷ [])
+    ∷ (codes "SIGUSR1" ∷ codes "USR1" ∷ codes "10" ∷ [])
+    ∷ (codes "SIGUSR2" ∷ codes "USR2" ∷ codes "12" ∷ [])
+    ∷ (codes "SIGALRM" ∷ codes "ALRM" ∷ codes "14" ∷ [])
+    ∷ (codes "SIGTERM" ∷ codes "TERM" ∷ codes "15" ∷ [])
+    ∷ []
+
+abbrev pub notice_words : List (List Text)
+notice_words =
+    (codes "SIGPIPE" ∷ codes "13" ∷ [])
+    ∷ (codes "SIGCHLD" ∷ codes "CHLD" ∷ codes "17" ∷ [])
+    ∷ (codes "realtime" ∷ codes "32" ∷ codes "33" ∷ codes "34" ∷ codes "35" ∷ codes "36" ∷ codes "37" ∷ codes "38" ∷ codes "39" ∷ [])
+    ∷ []
+
 abbrev pub error_words : List (List Text)
 error_words =
     error_word (codes "EPERM") NotPermitted
@@ -90,8 +111,8 @@ abbrev pub reply_words : List (List Text)
 reply_words =
     (codes "ok" ∷ [])
     ∷ (codes "ended" ∷ [])
-    ∷ (codes "committed" ∷ [])
-    ∷ (codes "aborted" ∷ [])
+    ∷ (codes "committed" ∷ codes "commit" ∷ [])
+    ∷ (codes "aborted" ∷ codes "abort" ∷ [])
     ∷ (codes "out" ∷ [])
     ∷ (codes "no" ∷ [])
     ∷ []
@@ -165,7 +186,7 @@ step_words =
 
 abbrev pub debugger_words : List (List Text)
 debugger_words =
-    (codes "back" ∷ [])
+    (codes "back" ∷ codes "undo" ∷ [])
     ∷ (codes "forward" ∷ [])
     ∷ (codes "goto" ∷ [])
     ∷ (codes "state" ∷ [])
@@ -175,7 +196,7 @@ debugger_words =
 
 abbrev pub process_line_words : List (List Text)
 process_line_words =
-    (codes "proc" ∷ codes "process" ∷ [])
+    (codes "proc" ∷ codes "process" ∷ codes "pid" ∷ [])
     ∷ (codes "parent" ∷ [])
     ∷ (codes "killed" ∷ [])
     ∷ (codes "point" ∷ [])
@@ -216,7 +237,7 @@ text_words =
     ∷ (codes "number" ∷ [])
     ∷ (codes "hex" ∷ codes "bytes" ∷ codes "string" ∷ [])
     ∷ (codes "set" ∷ [])
-    ∷ (codes "signal" ∷ codes "signals" ∷ codes "SIGKILL" ∷ codes "SIGPIPE" ∷ codes "SIGCHLD" ∷ codes "realtime" ∷ [])
+    ∷ (codes "signal" ∷ codes "signals" ∷ [])
     ∷ []
 
 abbrev pub notion_words : List (List Text)
@@ -226,8 +247,10 @@ notion_words =
     ∷ (codes "starter" ∷ [])
     ∷ (codes "reserved" ∷ codes "footprint" ∷ [])
     ∷ (codes "privileged" ∷ [])
-    ∷ (codes "worker" ∷ [])
+    ∷ (codes "worker" ∷ codes "w1" ∷ [])
     ∷ (codes "turn" ∷ [])
+    ∷ (codes "zombie" ∷ codes "zombies" ∷ [])
+    ∷ (codes "eof" ∷ [])
     ∷ []
 
 unfoldable pub all_words : List (Text × List (List Text))
@@ -235,6 +258,8 @@ all_words =
     (codes "commands of txos", command_words)
     ∷ (codes "refusals of a step, as in: no N9", refusal_words)
     ∷ (codes "faults, as in: txos: F1 line 2", fault_words)
+    ∷ (codes "signals, by number too, as in: pending 10,17", sent_words)
+    ∷ (codes "signals that the kernel sends, and those that queue", notice_words)
     ∷ (codes "errors of a call, by number too, as in: ok -22", error_words)
     ∷ (codes "statuses of an abort, as in: aborted 201", status_words)
     ∷ (codes "replies to a step", reply_words)

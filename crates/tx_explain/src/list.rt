@@ -19,6 +19,10 @@ refusals of a step, as in: no N9
   N1 N2 N3 N4 N5 N6 N7 N8 N9 N10 N11 N12 N13 N14
 faults, as in: txos: F1 line 2
   F1 F2 F3 F4 F5 F6 F7 F8
+signals, by number too, as in: pending 10,17
+  SIGHUP SIGINT SIGQUIT SIGABRT SIGKILL SIGUSR1 SIGUSR2 SIGALRM SIGTERM
+signals that the kernel sends, and those that queue
+  SIGPIPE SIGCHLD realtime
 errors of a call, by number too, as in: ok -22
   EPERM ESRCH EBADF ECHILD EAGAIN EFAULT EINVAL EMFILE EPIPE 200
 statuses of an abort, as in: aborted 201
@@ -52,5 +56,5 @@ descriptions and transactions in a state
 words of texts
   txos comment schedule program label number hex set signal
 what the texts are about
-  transaction member starter reserved privileged worker turn
+  transaction member starter reserved privileged worker turn zombie eof
 ";

@@ -9,11 +9,13 @@ mod commands;
 mod debugger;
 mod errors;
 mod faults;
+mod notices;
 mod notions;
 mod other_lines;
 mod process_lines;
 mod refusals;
 mod replies;
+mod sent;
 mod signal_lines;
 mod statuses;
 mod steps;
@@ -23,7 +25,7 @@ use crate::topic::Group;
 
 /// All groups, in the order in which they are listed.
 #[tactic(auto, unfolding(crate::specs::Words::all_words))]
-pub fn groups() -> [Group; 20]
+pub fn groups() -> [Group; 22]
     ensures words { map words_of_group result ≡ all_words }
     ensures formed { IsTrue (list_all is_formed_group result) }
 {
@@ -39,6 +41,14 @@ pub fn groups() -> [Group; 20]
         Group {
             title: "faults, as in: txos: F1 line 2",
             topics: faults::topics(),
+        },
+        Group {
+            title: "signals, by number too, as in: pending 10,17",
+            topics: sent::topics(),
+        },
+        Group {
+            title: "signals that the kernel sends, and those that queue",
+            topics: notices::topics(),
         },
         Group {
             title: "errors of a call, by number too, as in: ok -22",

@@ -68,7 +68,7 @@ picture: draws what the steps of a schedule did, as a picture in SVG.
     Topic {
         word: "shell",
         also: &[
-            "cut", "owns", "steps", "try", "why", "without", "when", "next", "quit",
+            "cut", "owns", "steps", "try", "why", "without", "when", "next", "quit", "help",
         ],
         text: "\
 shell: answers steps and commands, each line before it reads the next.

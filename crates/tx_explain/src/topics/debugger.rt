@@ -17,7 +17,7 @@ pub fn topics() -> &'static [Topic]
 const TOPICS: [Topic; 6] = [
     Topic {
         word: "back",
-        also: &[],
+        also: &["undo"],
         text: "\
 back: takes the newest step back that is made.
   form     back

@@ -14,7 +14,7 @@ pub fn topics() -> &'static [Topic]
     &TOPICS
 }
 
-const TOPICS: [Topic; 7] = [
+const TOPICS: [Topic; 9] = [
     Topic {
         word: "transaction",
         also: &[],
@@ -60,7 +60,7 @@ privileged: a process whose effective user id is 0, as all are at the start.
     },
     Topic {
         word: "worker",
-        also: &[],
+        also: &["w1"],
         text: "\
 worker: a thread that takes turns for processes of a program: w1 in a report.
   Of N workers, worker W has the processes W, W + N, W + 2N and so on.
@@ -73,6 +73,24 @@ worker: a thread that takes turns for processes of a program: w1 in a report.
 turn: one step, or none, for one process that runs.
   A signal that can be delivered now is its step, else the call of its
   instruction. A step that is refused is tried again at the next turn.
+",
+    },
+    Topic {
+        word: "zombie",
+        also: &["zombies"],
+        text: "\
+zombie: a process that has ended, and that its parent has not waited for.
+  Its line in a state has exit or killed, and waitpid takes it away. The
+  children of a process that ends are those of process 1 from then on.
+",
+    },
+    Topic {
+        word: "eof",
+        also: &[],
+        text: "\
+eof: a read that answers 0, since its pipe is empty and has no writer.
+  A writer is left while any descriptor of any process names a description of
+  the write side. Then the read waits (N9), or is EAGAIN.
 ",
     },
 ];

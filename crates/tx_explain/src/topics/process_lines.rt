@@ -17,7 +17,7 @@ pub fn topics() -> &'static [Topic]
 const TOPICS: [Topic; 9] = [
     Topic {
         word: "proc",
-        also: &["process"],
+        also: &["process", "pid"],
         text: "\
 proc: the first line of a process.
   form     proc P parent Q run point X ret R

@@ -36,7 +36,7 @@ ended: ended the process.
     },
     Topic {
         word: "committed",
-        also: &[],
+        also: &["commit"],
         text: "\
 committed: committed the transaction; a send of signal S to process T failed
 with the error number E, for each T:S:E.
@@ -46,7 +46,7 @@ with the error number E, for each T:S:E.
     },
     Topic {
         word: "aborted",
-        also: &[],
+        also: &["abort"],
         text: "\
 aborted: aborted the transaction. STATUS is 201, 202 or 203.
   form     K aborted STATUS

@@ -102,7 +102,7 @@ set: signals: - for none, or known numbers, rising and joined by a comma.
     },
     Topic {
         word: "signal",
-        also: &["signals", "SIGKILL", "SIGPIPE", "SIGCHLD", "realtime"],
+        also: &["signals"],
         text: "\
 signal: a known number, or 0 in kill and sigqueue, which only asks.
   HUP 1, INT 2, QUIT 3, ABRT 6, KILL 9, USR1 10, USR2 12, PIPE 13, ALRM 14,
