@@ -77,8 +77,9 @@ class Program:
         return [Group(title, tuple(words.split())) for title, words in zip(lines[::2], lines[1::2])]
 
     def page(self, word):
-        """What it explains of a word."""
-        return self.said("explain", word)
+        """What it explains of a word, or nothing where the word leads to another one's page."""
+        page = self.said("explain", word)
+        return page if page.startswith(f"{word}: ") else ""
 
     def words_behind(self):
         """For each command the words that may stand behind it."""
