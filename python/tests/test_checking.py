@@ -2,6 +2,7 @@
 
 import io
 import os
+import subprocess
 import tempfile
 import unittest
 from contextlib import redirect_stderr, redirect_stdout
@@ -80,8 +81,7 @@ class Comparison(unittest.TestCase):
         self.assertEqual(compared("2 waitpid 9 nohang  # 4 wait4\n")[1], [])
 
     def test_what_sets_up_has_to_be_accepted(self):
-        told = "step 1: 9 map 0: it sets the kernel up, here no N1"
-        self.assertEqual(compared("9 map 0\n")[1], [told])
+        self.assertEqual(compared("9 map 0\n")[1], ["step 1: 9 map 0: here no N1"])
 
     def test_an_end_that_commits_is_an_end(self):
         steps = "2 fork 3  # = ok 3  # 4 clone\n3 sys_xbegin\n3 exit 0  # = ended  # 5 exit_group\n"
@@ -132,6 +132,15 @@ class Command(unittest.TestCase):
         status, _, told = ran("check", "-", standard_input=b"x")
         self.assertEqual(status, 1)
         self.assertTrue(told.startswith("txos-record: standard input: line 1: "), told)
+
+    def test_what_begins_as_no_recording_is_not_read_to_its_end(self):
+        with subprocess.Popen(["yes"], stdout=subprocess.PIPE) as endless:
+            with mock.patch("sys.stdin", mock.Mock(buffer=endless.stdout)):
+                with redirect_stderr(io.StringIO()) as told:
+                    status = txos.command.main(["check", "-"])
+            endless.kill()
+        self.assertEqual(status, 1)
+        self.assertIn("standard input: line 1: this is no recording", told.getvalue())
 
     def test_what_is_no_recording_is_told_with_its_line(self):
         for text, line in (

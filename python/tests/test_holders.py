@@ -7,11 +7,12 @@ import unittest
 from contextlib import redirect_stderr, redirect_stdout
 
 import txos.command
+from txos.forcing import forced_after
 from txos.holders import Report
 from txos.losses import Harm, lost_signals, zombies_after, zombies_until
 from txos.recording import read_recording
 from txos.replays import Replay
-from txos.waits import Holder, find_chain, find_circle, find_waits, holders_of, reason_of
+from txos.waits import Holder, find_chain, find_circle, holders_of, reason_of, waits_after
 
 HEAD = "txos 3 schedule 2\n# recorded: sh -c x\n# log: 99 lines\n# factor: 1\n"
 # The setup, then steps 5 to 13: cat has the pipe at 0, and sleep and sh hold its write end.
@@ -73,8 +74,8 @@ class Pipes(unittest.TestCase):
     def test_after_so_many_steps(self):
         held = "held by 2 sh (descriptor 3); write side held by 2 sh (descriptor 4)"
         self.assertEqual(reported(HANG, at=5)[1], [f"pipe 0, empty: read side {held}"])
-        self.assertEqual(reported(HANG, at=4)[1], ["No pipe is open."])
-        self.assertEqual(reported(HANG, at=0)[1], ["No pipe is open."])
+        self.assertEqual(reported(HANG, at=4)[1], ["No pipe is open after step 4."])
+        self.assertEqual(reported(HANG, at=0)[1], ["No pipe is open after step 0."])
 
     def test_a_side_that_nobody_holds(self):
         steps = "2 pipe 5 0 1\n2 close 0\n2 map 0\n"
@@ -94,50 +95,177 @@ class Pipes(unittest.TestCase):
             self.assertTrue(told.startswith(f"pipe 5, {size}: "), told)
 
 
-class Waits(unittest.TestCase):
-    """Calls that never ended."""
+class Moments(unittest.TestCase):
+    """The moment before the end was forced."""
 
-    def test_each_is_told_at_the_last_moment_at_which_it_waits(self):
+    def forced(self, steps):
+        with replayed(steps) as replay:
+            return forced_after(replay)
+
+    def test_just_before_the_first_signal(self):
+        self.assertEqual(self.forced(HANG + INTERRUPTED), 13)
+        told = "After 13 of 19 steps, before 1 kill 3 INT: sh -c x"
+        self.assertEqual(reported(HANG + INTERRUPTED)[0], [told])
+
+    def test_who_gets_an_alarm_and_kills_the_others(self):
+        alarm = "1 kill 2 ALRM  # 20 SIGALRM\n2 deliver ALRM  # = ok 0  # 20 SIGALRM\n"
+        caught = HANG.replace(
+            "2 pipe 0", "2 sigaction ALRM catch 1000 -  # = ok 0  # 9 x\n2 pipe 0"
+        )
+        kills = "2 kill 3 TERM  # = ok 0  # 21 kill\n3 deliver TERM  # = ended  # 22 SIGTERM\n"
+        waits = "2 waitpid 3 nohang  # = ok 3  # 23 wait4\n"
+        self.assertEqual(self.forced(caught + alarm + kills + waits), 14)
+
+    def test_what_goes_on_after_a_signal_is_no_end(self):
+        ended = "1 kill 3 TERM  # 20 SIGTERM\n3 deliver TERM  # = ended  # 20 SIGTERM\n"
+        self.assertEqual(self.forced(HANG + ended), 13)
+        fork = "2 fork 5  # = ok 5  # 21 clone\n"
+        self.assertIsNone(self.forced(HANG + ended + fork))
+        self.assertEqual(self.forced(HANG + ended + fork + ended.replace("3", "5")), 16)
+
+    def test_who_is_to_end_may_fork_for_its_end(self):
+        caught = HANG.replace("2 pipe 0", "2 sigaction INT catch 1000 -  # = ok 0  # 9 x\n2 pipe 0")
+        steps = (
+            "1 kill 2 INT  # 20 SIGINT\n2 deliver INT  # = ok 0  # 20 SIGINT\n"
+            "2 fork 5  # = ok 5  # 21 clone\n5 fork 6  # = ok 6  # 22 clone\n"
+            "2 exit 130  # = ended  # 23 exit_group\n"
+        )
+        self.assertEqual(self.forced(caught + steps), 14)
+        self.assertIsNone(self.forced(caught + steps.replace("1 kill 2 INT", "1 kill 2 USR1")))
+
+    def test_a_recording_that_ends_by_itself(self):
+        exits = "".join(f"{it} exit 0  # = ended  # 2{it} exit_group\n" for it in (3, 4, 2))
+        # A signal that a process sends to itself, or that nobody ends of, forces nothing.
+        for steps in ("", "2 kill 2 USR1\n", "1 kill 2 USR1\n", "2 kill 2 TERM\n"):
+            caught = "2 sigaction USR1 ignore\n" if "USR1" in steps else ""
+            self.assertIsNone(self.forced(HANG + caught + steps + exits), steps)
+        self.assertEqual(reported(HANG)[0], ["After 13 of 13 steps: sh -c x"])
+        self.assertIsNone(self.forced(HANG + INTERRUPTED.split("\n", 1)[0] + "\n"))
+
+
+class Waits(unittest.TestCase):
+    """Calls that wait."""
+
+    def test_each_that_waits_before_the_end_was_forced(self):
         told = [
             "step 12, line 17 of the log: 2 sh waits for 3 sleep to end",
-            "  it still waits after step 14, until step 15: 3 deliver INT",
+            "  it waits until 3 sleep was killed by INT (step 15)",
             "step 13, line 18 of the log: 4 cat waits to read from pipe 0, which is empty",
-            "  it still waits after step 16, until step 17: 2 deliver INT",
-            "  write side held by 2 sh (descriptor 4), and by whoever forks from them",
+            "  it waits until 2 sh was killed by INT (step 17)",
+            "  write side held by 2 sh (descriptor 4), 3 sleep (descriptor 1)",
+            "  2 sh waits for 3 sleep to end (step 12)",
         ]
         self.assertEqual(reported(HANG + INTERRUPTED)[2], told)
+
+    def test_one_that_ended_since_another_was_killed(self):
+        ended = HANG.replace("4 read 0 0 1  # = no N9  # 18 read\n", "")
+        steps = INTERRUPTED.replace("1 kill 4", "4 read 0 0 1  # = ok 0  # 21 read\n1 kill 4")
+        self.assertEqual(
+            reported(ended + steps)[2][2:4],
+            [
+                "step 17, line 21 of the log: 4 cat waits to read from pipe 0, which is empty",
+                "  it waits until 2 sh was killed by INT (step 16)",
+            ],
+        )
+
+    def test_a_call_that_comes_after_others_does_not_wait_yet(self):
+        steps = HANG.replace("4 read", "4 close 9  # = ok -9  # 17 close\n4 read")
+        self.assertEqual(len(reported(steps, at=12)[2]), 2)
+        self.assertEqual(len(reported(steps, at=13)[2]), 6)
+
+    def test_a_call_that_comes_after_a_signal_does_not_wait_yet(self):
+        caught = "4 sigaction INT catch 1000 -  # = ok 0  # 16 rt_sigaction\n"
+        signal = "1 kill 4 INT  # 17 SIGINT\n4 deliver INT  # = ok 0  # 17 SIGINT\n"
+        steps = HANG.replace("2 waitpid", caught + "2 waitpid")
+        steps = steps.replace("4 read", signal + "4 read")
+        self.assertEqual(len(reported(steps, at=13)[2]), 2)
+        children = signal.replace("INT", "CHLD")
+        self.assertEqual(len(reported(steps.replace(signal, children), at=13)[2]), 6)
 
     def test_to_the_end_of_the_recording(self):
         self.assertEqual(reported(HANG)[2][1], "  it waits to the end of the recording")
 
     def test_the_process_ends_before_anything_would_end_its_call(self):
         ended = "1 kill 4 TERM  # 20 SIGTERM\n4 deliver TERM  # = ended  # 20 SIGTERM\n"
-        told = "  it still waits after step 14, until step 15: 4 deliver TERM"
-        self.assertIn(told, reported(HANG + ended)[2])
+        for steps, step in (
+            (ended, 15),
+            # What closes early is a part of the end.
+            (ended.replace("4 deliver", "4 close 0  # = ok 0  # 20 SIGTERM\n4 deliver"), 16),
+        ):
+            told = f"  it waits until it was killed by TERM (step {step})"
+            self.assertIn(told, reported(HANG + steps)[2])
         # A process at which SIGKILL is pending does nothing any more.
-        killed = ended.replace("TERM", "KILL")
-        told = "  it still waits after step 13, until step 14: 1 kill 4 KILL"
-        self.assertIn(told, reported(HANG + killed)[2])
+        told = "  it waits until it was killed by KILL (step 15)"
+        self.assertIn(told, reported(HANG + ended.replace("TERM", "KILL"))[2])
+        exits = "4 close 0  # = ok 0  # 20 exit_group\n4 exit 7  # = ended  # 20 exit_group\n"
+        told = "  it waits until it ended by exit 7 (step 15)"
+        self.assertIn(told, reported(HANG + exits)[2])
 
     def test_the_process_goes_on(self):
-        steps = HANG + "4 deliver CHLD  # 20 SIGCHLD\n4 close 9  # = ok -9  # 21 close\n"
-        self.assertIn(
-            "  it still waits after step 14, until step 15: 4 close 9", reported(steps)[2]
-        )
+        steps = HANG + "4 close 9  # = ok -9  # 21 close\n"
+        self.assertIn("  it waits until step 14: 4 close 9", reported(steps)[2])
+        caught = HANG.replace("4 close 4", "4 sigaction INT catch 1000 -\n4 close 4")
+        signal = "4 sigreturn  # 20 rt_sigreturn\n4 close 9  # = ok -9  # 21 close\n"
+        signal = f"1 kill 4 INT  # 19 SIGINT\n4 deliver INT  # = ok 0  # 19 SIGINT\n{signal}"
+        self.assertIn("  it waits until INT came (step 16)", reported(caught + signal)[2])
+
+    def test_a_call_after_which_its_process_went_on_is_no_hang(self):
+        more = "2 write 4 0 1  # = ok 1  # 20 write\n4 read 0 0 1  # = ok 1  # 21 read\n"
+        for steps, count in ((HANG, 2), (HANG + more, 0)):
+            waits = [it for it in reported(steps)[2] if it.startswith("step")]
+            self.assertEqual(len(waits), count)
+        idle = "4 close 9  # = ok -9  # 20 close\n4 read 0 0 1  # = ok -11  # 20 read\n"
+        self.assertIn("step 13, line 18", "\n".join(reported(HANG + idle)[2]))
 
     def test_at_a_step_only_those_that_wait_then(self):
-        self.assertEqual(reported(HANG, at=11)[2], ["No call waits then."])
-        first = "step 12, line 17 of the log: 2 sh waits for 3 sleep to end"
-        self.assertEqual(reported(HANG, at=12)[2], [first])
+        self.assertEqual(reported(HANG, at=4)[2], ["No call waits after step 4."])
         told = [
-            first,
-            "step 13, line 18 of the log: 4 cat waits to read from pipe 0, which is empty",
-            "  write side held by 2 sh (descriptor 4), 3 sleep (descriptor 1), "
-            "and by whoever forks from them",
-            "  2 sh waits for 3 sleep to end (step 12)",
+            "step 12, line 17 of the log: 2 sh waits for 3 sleep to end",
+            "  it waits until 3 sleep was killed by INT (step 15)",
         ]
-        self.assertEqual(reported(HANG + INTERRUPTED, at=13)[2], told)
-        self.assertEqual(reported(HANG + INTERRUPTED, at=19)[2], ["No call waits then."])
+        self.assertEqual(reported(HANG + INTERRUPTED, at=14)[2][:2], told)
+        self.assertEqual(reported(HANG + INTERRUPTED, at=18)[2], ["No call waits after step 18."])
+        end = ["No call waits at the end of the recording."]
+        self.assertEqual(reported(HANG + INTERRUPTED, at=19)[2], end)
+
+    def test_a_call_that_the_kernel_lacks(self):
+        note = "# 3 waits in futex since line 9\n"
+        told = "line 9 of the log: 3 sleep waits in futex, which the kernel does not have"
+        ended = [told, "  it waits until it was killed by INT (step 15)"]
+        self.assertEqual(reported(HANG + note + INTERRUPTED)[2][-2:], ended)
+        self.assertEqual(
+            reported(HANG + note)[2][-2:], [told, "  it waits to the end of the recording"]
+        )
+        goes_on = HANG + note + "3 close 9  # = ok -9  # 20 close\n"
+        self.assertIn("  it waits until step 14: 3 close 9", reported(goes_on, at=13)[2])
+        self.assertNotIn(told, reported(goes_on)[2])
+        self.assertNotIn(told, reported(HANG + note, at=12)[2])
+
+    def test_a_number_that_is_used_again_waits_no_more(self):
+        killed = "1 kill 4 TERM\n4 deliver TERM\n2 waitpid 4 wait\n2 fork 4\n"
+        steps = HANG.replace("2 waitpid 3 wait  # = no N9  # 17 wait4\n", "")
+        with replayed(steps + killed) as replay:
+            self.assertEqual([it.process for it in waits_after(replay, 12)], [4, 2])
+            self.assertEqual(waits_after(replay, len(replay)), [])
+
+    def test_a_poll_of_two_pipes(self):
+        steps = (
+            "2 pipe 0 0 1\n2 pipe 1 2 3\n2 fork 3  # = ok 3  # 5 clone\n2 close 3\n3 close 1\n"
+            "2 read 0 0 1  # = no N9  # 6 poll\n2 read 2 0 1  # = no N9  # 6 poll\n"
+        )
+        told = [
+            "step 7, line 6 of the log: 2 waits in poll to read from pipe 0, which is empty",
+            "  it waits to the end of the recording",
+            "  write side held by 2 (descriptor 1)",
+            "  a circle: 2 waits for itself",
+            "step 8, line 6 of the log: 2 waits in poll to read from pipe 1, which is empty",
+            "  it waits to the end of the recording",
+            "  write side held by 3 (descriptor 3)",
+        ]
+        self.assertEqual(reported("2 map 0\n" + steps)[2], told)
+        # Before the call it would wait for both too; when it goes on, it waits for none.
+        for at, end, count in ((6, "", 7), (9, "2 close 9  # = ok -9  # 7 close\n", 1)):
+            self.assertEqual(len(reported("2 map 0\n" + steps + end, at=at)[2]), count, at)
 
     def test_a_full_pipe(self):
         steps = (
@@ -148,8 +276,7 @@ class Waits(unittest.TestCase):
         told = [
             "step 12, line 7 of the log: 2 waits to write to pipe 7, which has no room for it",
             "  it waits to the end of the recording",
-            "  read side held by 2 (descriptor 0), 3 (descriptor 0), "
-            "and by whoever forks from them",
+            "  read side held by 2 (descriptor 0), 3 (descriptor 0)",
             "  a circle: 2 waits for itself",
         ]
         self.assertEqual(reported(steps)[2], told)
@@ -170,8 +297,9 @@ class Waits(unittest.TestCase):
         told = ["step 1, line 5 of the log: 2 close 3: Linux waited, here ok -9"]
         self.assertEqual(reported(steps)[2], told)
 
-    def test_all_calls_ended(self):
-        self.assertEqual(reported("2 map 0\n")[2], ["Each call ended."])
+    def test_no_call_waits(self):
+        none = ["No call waits at the end of the recording."]
+        self.assertEqual(reported("2 map 0\n")[2], none)
 
 
 class Chains(unittest.TestCase):
@@ -193,22 +321,22 @@ class Chains(unittest.TestCase):
 
     def test_a_chain_ends_with_one_who_does_not_wait(self):
         with replayed(self.STEPS) as replay:
-            waits = find_waits(replay)
+            state, waits = replay.state(len(replay)), waits_after(replay, len(replay))
             self.assertEqual([it.process for it in waits], [4, 3, 2])
-            chain = find_chain(replay, waits, waits[2], len(replay))
+            chain = find_chain(state, waits, waits[2])
             self.assertEqual([it.process for it in chain], [3, 4])
-            self.assertEqual(find_chain(replay, waits, waits[0], len(replay)), [])
+            self.assertEqual(find_chain(state, waits, waits[0]), [])
             for wait in waits:
-                self.assertEqual(find_circle(replay, waits, wait, len(replay)), [])
+                self.assertEqual(find_circle(state, waits, wait), [])
 
     def test_the_shortest_circle(self):
         # Now 2 and 4 can write, and 5 can not.
         steps = self.STEPS.replace("2 close 1  # = ok 0  # 4 close\n", "")
         steps = steps.replace("4 close 1", "5 close 1")
         with replayed(steps) as replay:
-            waits = find_waits(replay)
-            self.assertEqual(find_circle(replay, waits, waits[0], len(replay)), [4, 4])
-            self.assertEqual(find_circle(replay, waits, waits[2], len(replay)), [2, 3, 4, 2])
+            state, waits = replay.state(len(replay)), waits_after(replay, len(replay))
+            self.assertEqual(find_circle(state, waits, waits[0]), [4, 4])
+            self.assertEqual(find_circle(state, waits, waits[2]), [2, 3, 4, 2])
 
     def test_reasons_and_holders(self):
         with replayed(self.STEPS) as replay:
@@ -229,12 +357,13 @@ class Zombies(unittest.TestCase):
 
     def test_while_the_parent_runs(self):
         told = [
-            "3 ended at step 3 (exit 3) and nobody has waited for it; its parent is 2",
-            "4 ended at step 4 (exit 4) and nobody has waited for it; its parent is 2",
+            f"step {number}, line {line} of the log: {number} ended (exit {number}) "
+            "and nobody has waited for it; its parent is 2"
+            for number, line in ((3, 12), (4, 13))
         ]
         self.assertEqual(reported(TWO_ENDS)[3], told)
         self.assertEqual(reported(TWO_ENDS, at=3)[3], told[:1])
-        self.assertEqual(reported(TWO_ENDS, at=2)[3], ["There is no zombie."])
+        self.assertEqual(reported(TWO_ENDS, at=2)[3], ["There is no zombie after step 2."])
 
     def test_who_was_waited_for_is_none(self):
         waits = "2 waitpid 3 wait  # = ok 3  # 15 wait4\n2 waitpid 4 wait  # = ok 4  # 16 wait4\n"
@@ -246,12 +375,13 @@ class Zombies(unittest.TestCase):
             "2 waitpid 3 wait  # = ok 3  # 15 wait4\n1 kill 2 TERM  # 16 SIGTERM\n"
             "2 deliver TERM  # = ended  # 16 SIGTERM\n1 waitpid 4 nohang  # 16 SIGTERM\n"
         )
-        told = [
-            "4 ended at step 4 (exit 4) and nobody waited for it; "
-            "its parent 2 ended at step 8 (killed by TERM)"
-        ]
-        self.assertEqual(reported(steps)[3], told)
-        self.assertEqual(reported(steps, at=8)[3], ["There is no zombie."])
+        place = "step 4, line 13 of the log: 4 ended (exit 4) and"
+        before = [f"{place} nobody has waited for it; its parent is 2"]
+        self.assertEqual(reported(steps)[3], before)
+        self.assertEqual(reported(steps, at=8)[3], ["There is no zombie after step 8."])
+        told = [f"{place} nobody waited for it; its parent 2 ended at step 8 (exit 9)"]
+        exits = steps.replace("1 kill 2 TERM", "2 close 9").replace("deliver TERM", "exit 9")
+        self.assertEqual(reported(exits)[3], told)
 
     def test_a_number_that_is_used_again(self):
         steps = TWO_ENDS + (
@@ -282,14 +412,15 @@ class Signals(unittest.TestCase):
         waits = "2 waitpid 3 wait  # = ok 3  # 15 wait4\n2 waitpid 4 wait  # = ok 4  # 16 wait4\n"
         told = reported(CATCHES + TWO_ENDS + waits)[4]
         self.assertEqual(len(told), 1)
-        self.assertIn("1 SIGCHLD to 2 was lost without harm, at step 5: ", told[0])
+        self.assertTrue(told[0].startswith("A second SIGCHLD to 2 (step 5) was merged with the "))
 
     def test_a_sigchld_that_is_ignored(self):
         third = "2 fork 5  # = ok 5  # 11 clone\n5 exit 5  # = ended  # 12 exit_group\n"
         steps = TWO_ENDS.replace("2 deliver", f"{third}2 deliver")
         told = reported(steps)[4]
         self.assertEqual(len(told), 1)
-        self.assertIn("2 SIGCHLD to 2 were lost without harm, the first at step 4: ", told[0])
+        what = "2 more SIGCHLD to 2 (the first at step 4) were merged with those before, "
+        self.assertEqual(told[0], f"{what}and would have made no difference.")
 
     def test_a_blocked_signal_is_one_that_matters(self):
         blocked = "2 sigprocmask block CHLD  # = ok 0  # 9 rt_sigprocmask\n"
@@ -361,9 +492,9 @@ class Command(unittest.TestCase):
         told = [
             "After 0 of 0 steps: sh -c x",
             "",
-            "No pipe is open.",
+            "No pipe is open at the end of the recording.",
             "",
-            "Each call ended.",
+            "No call waits at the end of the recording.",
             "",
             "No process ended without being waited for.",
             "",

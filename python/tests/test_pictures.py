@@ -5,6 +5,7 @@ import os
 import tempfile
 import unittest
 from contextlib import redirect_stderr, redirect_stdout
+from unittest import mock
 from xml.etree import ElementTree
 
 import txos.command
@@ -238,6 +239,19 @@ class Drawing(unittest.TestCase):
         picture = self.drawn([Row(it, text, it < 5) for it, text in enumerate(texts, 1)])
         self.assertEqual([it for it in picture.root.findall(f"{SVG}rect") if it.get("class")], [])
 
+    def test_the_legend_has_boxes_where_the_picture_has_one(self):
+        begins = ["2 getpid", "2 sys_xbegin"]
+        for texts, has_boxes in ((begins, True), (begins[:1], False)):
+            picture = self.drawn([Row(it, text) for it, text in enumerate(texts, 1)])
+            legend = picture.root.find(f"{SVG}g")
+            marks = {it.get("class") for it in legend} - {None}
+            self.assertLessEqual({"refused", "signal", "pipe", "accepted"}, marks)
+            for it in ("committed", "aborted", "open", "refusal"):
+                self.assertEqual(it in marks, has_boxes, it)
+            texts = [it.text for it in legend.findall(f"{SVG}text")]
+            self.assertEqual("committed" in texts, has_boxes)
+            self.assertIn("refused", texts)
+
     def test_what_a_transaction_holds_runs_down_to_its_end(self):
         texts = [
             "3 getpid",
@@ -321,8 +335,8 @@ class Choices(unittest.TestCase):
         idle = ["2 map 0", "2 pipe 31 62 63", "2 dup2 1 15", "2 dup 15", *files]
         self.assertEqual(left, [*idle, "4 sigaction INT default"])
         self.assertIn("Recorded: sh -c x Steps 1 to 44 of 44.", picture.foot)
-        kinds = "4 of the setup, 4 of files, 1 of actions of signals"
-        self.assertIn(f"Not shown: {kinds}.", picture.foot)
+        kinds = "4 steps of the setup, 4 steps of files, 1 action of signals"
+        self.assertIn(f"Left out: {kinds}.", picture.foot)
 
     def test_each_step_of_a_whole_part(self):
         with replayed(PIPELINE) as replay:
@@ -339,6 +353,24 @@ class Choices(unittest.TestCase):
         self.assertEqual(names, {1: "outside", 2: "sh", 3: "sh", 4: "tr", 5: "cat"})
         self.assertEqual(whole.names()[4][1], "sh -c 'echo a | cat', forked\ntr a-z A-Z")
         self.assertEqual(part.names()[4][0], "sh")
+
+    def test_a_child_that_is_named_some_steps_after_its_fork(self):
+        late = PIPELINE.replace("# 3 is sh -c 'echo a | cat', forked\n", "")
+        late = late.replace("3 dup2 4 1", "# 3 is seq 3\n3 dup2 4 1")
+        with replayed(late) as replay:
+            fork = number_of(replay, "2 fork 3")
+            part = Picture(draw_choice(replay, choose_part(replay, Part(1, fork, False))))
+        self.assertEqual(part.names()[3], ("seq", "seq 3"))
+
+    def test_no_state_is_looked_at_after_what_fits(self):
+        pairs = "2 write 4 0 1  # = ok 1  # 8 write\n2 read 3 0 1  # = ok 1  # 9 read\n"
+        drawn = []
+        for count in (150, 1500):
+            steps = f"{SETUP}2 pipe 0 0 1  # = ok 0  # 7 pipe2\n{pairs * count}"
+            with replayed(steps) as replay:
+                with mock.patch.object(replay, "state", wraps=replay.state) as state:
+                    drawn.append((choose(replay).shown, state.call_count))
+        self.assertEqual(*drawn)
 
     def test_each_part_is_as_in_the_whole(self):
         for steps in (PIPELINE, LOOP):
@@ -417,7 +449,7 @@ class Choices(unittest.TestCase):
         self.assertNotIn("2 dup 3", calls)
         self.assertIn("3 write 1 0 6", calls)
         self.assertIn("3 dup2 4 1", calls)
-        self.assertIn("ends of pipes", " ".join(choice.about))
+        self.assertIn("steps of pipe ends", " ".join(choice.about))
 
     def test_of_the_longest_the_first_steps_are_drawn(self):
         pairs = "2 write 4 0 1  # = ok 1  # 8 write\n2 read 3 0 1  # = ok 1  # 9 read\n" * 150
@@ -426,7 +458,8 @@ class Choices(unittest.TestCase):
             self.assert_drawn(replay, choice)
         self.assertEqual(len(choice.made), MOST_STEPS)
         self.assertEqual(choice.made[-1], choice.shown[-1])
-        self.assertIn(f"begins with --from {choice.shown[-1] + 1}.", " ".join(choice.about))
+        next_part = f"What follows is drawn by --from {choice.shown[-1] + 1} --to STEP."
+        self.assertIn(next_part, choice.about)
 
     def test_a_part_that_is_too_long_says_what_fits(self):
         pairs = "2 write 4 0 1  # = ok 1  # 8 write\n2 read 3 0 1  # = ok 1  # 9 read\n" * 150
@@ -480,7 +513,7 @@ class Command(unittest.TestCase):
     def test_the_picture_goes_to_standard_output_or_to_a_file(self):
         status, output, told = self.picture()
         self.assertEqual((status, Picture(output).root.tag), (0, f"{SVG}svg"))
-        self.assertTrue(told.startswith("txos-record: Steps 1 to 44 of 44. Not shown: "), told)
+        self.assertTrue(told.startswith("txos-record: Steps 1 to 44 of 44. Left out: "), told)
         file = os.path.join(self.folder, "drawn.svg")
         self.assertEqual(self.picture("-o", file), (0, "", told))
         with open(file, encoding="ascii") as it:

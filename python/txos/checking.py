@@ -10,6 +10,7 @@ from typing import List, Optional
 
 from .recording import ENDED, Recording, Step
 from .replays import is_refused, replay_file
+from .wording import counted
 
 _ABOUT = """Makes the steps of a recording, and prints each whose answer is not Linux's. A step that
 Linux has no answer for must only be accepted."""
@@ -26,12 +27,14 @@ class Differing:
 
     def __str__(self) -> str:
         place = f", line {self.step.line} of the log" if self.step.line else ""
-        linux = f"Linux {_with_name(self.step.expected)}" if self.step.expected else self._done()
-        here = _with_name(self.answer)
-        return f"step {self.number}{place}: {self.step.text}: {linux}, here {here}"
+        here = f"here {_with_name(self.answer)}"
+        return f"step {self.number}{place}: {self.step.text}: {self._linux()}{here}"
 
-    def _done(self) -> str:
-        return "Linux did it" if self.step.line else "it sets the kernel up"
+    def _linux(self) -> str:
+        """What Linux did, where the step says so."""
+        if self.step.expected:
+            return f"Linux {_with_name(self.step.expected)}, "
+        return "Linux did it, " if self.step.line else ""
 
 
 @dataclass(frozen=True)
@@ -43,10 +46,9 @@ class Comparison:
     differing: List[Differing]
 
     def __str__(self) -> str:
-        steps = "step" if self.same == 1 else "steps"
         differ = "differs" if len(self.differing) == 1 else "differ"
         return (
-            f"{self.same:,} {steps} as Linux, {self.uncompared:,} with nothing to compare, "
+            f"{counted(self.same, 'step')} as Linux, {self.uncompared:,} with nothing to compare, "
             f"{len(self.differing):,} {differ}"
         )
 

@@ -3,50 +3,63 @@
 from __future__ import annotations
 
 import argparse
+import re
 from typing import Dict, Iterator, List, Optional, Tuple
 
 from .faults import Fault
+from .forcing import forced_after
 from .kernel import State
-from .losses import Harm, Lost, Zombie, lost_signals, zombies_after, zombies_until
-from .recording import FILE_PIPE, READ, WAITS, WRITE
+from .losses import Harm, Lost, Zombie, how_it_ended, lost_signals, zombies_after, zombies_until
+from .recording import FILE_PIPE, READ, WAITS, WRITE, Waiting
 from .replays import Replay, replay_file
 from .waits import (
     OTHER_SIDE,
     Holder,
     Reason,
     Wait,
+    breaking_signal,
+    death_of,
     find_chain,
     find_circle,
-    find_waits,
     holders_of,
+    last_moment,
+    last_waits,
+    next_of,
     reason_of,
-    waiting_at,
+    waiting_elsewhere,
+    waits_after,
 )
 from .wording import counted
 
-_ABOUT = """Prints who holds each pipe open, which calls never ended and who could end them, who
-ended without being waited for, and which signals were lost. Without --at the pipes are those at the
-end of the recording, and each call that never ended is shown at the last moment at which it still
-waits."""
+_ABOUT = """Prints who holds each pipe open, which calls wait and who could end them, who ended
+without being waited for, and which signals were lost. Without --at this is so just before signals
+such as those of ^C and timeout forced the end; or at the end, where nothing forced it."""
+_POLLS = re.compile("p?poll|_?newselect|p?select6?|epoll_p?wait2?")
 
 
 class Report:
-    """What is to be printed of a recording after so many steps, or of all of it."""
+    """What is to be printed of a recording after so many steps, or of the moment that says most."""
 
     def __init__(self, replay: Replay, at: Optional[int]) -> None:
         self._replay = replay
-        self._at = at
-        self._count = len(replay) if at is None else at
-        self._waits = find_waits(replay)
-        self._dead = (zombies_until if at is None else zombies_after)(replay, self._count)
+        forced = forced_after(replay) if at is None else None
+        self._is_chosen = at is not None
+        self._is_forced = forced is not None
+        self._count = next(it for it in (at, forced, len(replay)) if it is not None)
+        self._waits = waits_after(replay, self._count)
+        self._dead = (zombies_after if self._is_chosen else zombies_until)(replay, self._count)
 
     def lines(self) -> Iterator[str]:
         """The lines, without their ends."""
-        recording = self._replay.recording
-        yield f"After {self._count:,} of {counted(len(self._replay), 'step')}: {recording.command}"
+        yield f"{self._moment()}: {self._replay.recording.command}"
         for part in (self._pipes(), self._calls(), self._zombies(), self._signals()):
             yield ""
             yield from part
+
+    def _moment(self) -> str:
+        moment = f"After {self._count:,} of {counted(len(self._replay), 'step')}"
+        before = f", before {self._replay.step(self._count + 1).text}" if self._is_forced else ""
+        return moment + before
 
     def _label(self, process: int, count: int) -> str:
         return self._replay.recording.label(process, count)
@@ -64,7 +77,7 @@ class Report:
         state = self._replay.state(self._count)
         numbers = [it for it in state.pipes if it != FILE_PIPE]
         if not numbers:
-            yield "No pipe is open."
+            yield f"No pipe is open {self._then()}."
         for number in numbers:
             sides = (self._side(state, number, side, self._count) for side in (READ, WRITE))
             yield f"pipe {number}, {self._size(state, number)}: {'; '.join(sides)}"
@@ -84,18 +97,35 @@ class Report:
     def _named(self, holders: List[Holder], count: int) -> str:
         return ", ".join(f"{self._label(it.process, count)} ({_descriptors(it)})" for it in holders)
 
-    # Calls that never ended.
+    def _then(self) -> str:
+        """The moment, in a sentence."""
+        if self._count == len(self._replay):
+            return "at the end of the recording"
+        return f"after step {self._count}"
+
+    # Calls that wait.
 
     def _calls(self) -> Iterator[str]:
-        shown = self._waits if self._at is None else waiting_at(self._waits, self._at).values()
-        otherwise = [] if self._at is not None else self._not_waiting()
-        if not shown and not otherwise:
-            yield "No call waits then." if self._at is not None else "Each call ended."
-        for wait in shown:
-            yield from self._call(wait)
+        elsewhere = waiting_elsewhere(self._replay, self._count)
+        others = [] if self._is_chosen else self._other_waits()
+        otherwise = [] if self._is_chosen else self._not_waiting()
+        if not (self._waits or elsewhere or otherwise):
+            yield f"No call waits {self._then()}."
+        for wait in self._waits:
+            yield from self._call(wait, self._waits, self._count)
+        for it in elsewhere:
+            yield from self._elsewhere(it)
+        for wait in others:
+            last = last_moment(self._replay, wait, wait.number)
+            yield from self._call(wait, waits_after(self._replay, last), last)
         for number in otherwise:
             text, answer = self._replay.step(number).text, self._replay.answer(number)
             yield f"{self._place(number)}: {text}: Linux waited, here {answer}"
+
+    def _other_waits(self) -> List[Wait]:
+        """The calls that never ended and did not wait at the moment of the report."""
+        shown = {it.number for it in self._waits}
+        return [it for it in last_waits(self._replay) if it.number not in shown]
 
     def _not_waiting(self) -> List[int]:
         """The steps that never ended in Linux, and do not wait here."""
@@ -105,13 +135,12 @@ class Report:
             if self._replay.step(number).expected == WAITS != self._replay.answer(number)
         ]
 
-    def _call(self, wait: Wait) -> Iterator[str]:
-        count = wait.last if self._at is None else self._at
+    def _call(self, wait: Wait, waits: List[Wait], count: int) -> Iterator[str]:
+        """A wait, of all those after so many steps."""
         reason = reason_of(self._replay.state(count), wait.step)
         yield f"{self._place(wait.number)}: {self._waiter(wait, reason, count)}"
-        if self._at is None:
-            yield f"  {self._until(wait)}"
-        yield from self._enders(wait, reason, count)
+        yield f"  it waits {self._until(wait, count)}"
+        yield from self._enders(wait, waits, count)
 
     def _waiter(self, wait: Wait, reason: Reason, count: int) -> str:
         label = self._label(wait.process, count)
@@ -119,22 +148,56 @@ class Report:
             return f"{label} waits for {self._label(reason.holders[0].process, count)} to end"
         why = "is empty" if reason.call == READ else "has no room for it"
         way = "from" if reason.call == READ else "to"
-        return f"{label} waits to {reason.call} {way} pipe {reason.pipe}, which {why}"
+        call = f" in {wait.step.host}" if _POLLS.fullmatch(wait.step.host) else ""
+        return f"{label} waits{call} to {reason.call} {way} pipe {reason.pipe}, which {why}"
 
-    def _until(self, wait: Wait) -> str:
-        if wait.last == len(self._replay):
-            return "it waits to the end of the recording"
-        return f"it still waits after step {wait.last}, until {self._step(wait.last + 1)}"
+    def _until(self, wait: Wait, count: int) -> str:
+        """Until when a process waits that does so after so many steps."""
+        last = last_moment(self._replay, wait, count)
+        return self._until_step(wait.process, last + 1 if last < len(self._replay) else None)
 
-    def _enders(self, wait: Wait, reason: Reason, count: int) -> Iterator[str]:
+    def _until_step(self, process: int, number: Optional[int]) -> str:
+        if number is None:
+            return "to the end of the recording"
+        return f"until {self._event(process, number)}"
+
+    def _event(self, process: int, number: int) -> str:
+        """What a step is to a process that waits until then."""
+        end = death_of(self._replay, number)
+        if end is not None:
+            ended = self._replay.step(end).process
+            who = "it" if ended == process else self._label(ended, number)
+            return f"{who} {self._ended(end)} (step {end})"
+        signal = breaking_signal(self._replay, process, number)
+        if signal is not None:
+            return f"{self._replay.step(signal).words[1]} came (step {signal})"
+        return self._step(number)
+
+    def _ended(self, number: int) -> str:
+        """How a process ended at a step."""
+        process = self._replay.step(number).process
+        how = how_it_ended(self._replay.state(number).procs[process])
+        return f"was {how}" if how.startswith("killed") else f"ended by {how}"
+
+    def _elsewhere(self, waiting: Waiting) -> Iterator[str]:
+        """A wait in a call that the kernel lacks."""
+        label = self._label(waiting.process, self._count)
+        place = f"line {waiting.line} of the log"
+        yield f"{place}: {label} waits in {waiting.call}, which the kernel does not have"
+        number = next_of(self._replay, waiting.process, self._count)
+        yield f"  it waits {self._until_step(waiting.process, number)}"
+
+    def _enders(self, wait: Wait, waits: List[Wait], count: int) -> Iterator[str]:
         """Who could end a wait, and for whom these wait themselves."""
+        state = self._replay.state(count)
+        reason = reason_of(state, wait.step)
         if reason.pipe is not None:
-            yield f"  {self._held(reason, count)}, and by whoever forks from them"
-        for link in find_chain(self._replay, self._waits, wait, count):
-            its = reason_of(self._replay.state(count), link.step)
+            yield f"  {self._held(reason, count)}"
+        for link in find_chain(state, waits, wait):
+            its = reason_of(state, link.step)
             held = f"; {self._held(its, count)}" if its.pipe is not None else ""
             yield f"  {self._waiter(link, its, count)} (step {link.number}){held}"
-        circle = find_circle(self._replay, self._waits, wait, count)
+        circle = find_circle(state, waits, wait)
         if len(circle) == 2:
             yield f"  a circle: {self._label(wait.process, count)} waits for itself"
         elif circle:
@@ -148,13 +211,14 @@ class Report:
 
     def _zombies(self) -> Iterator[str]:
         if not self._dead:
-            is_all = self._at is None
-            yield "No process ended without being waited for." if is_all else "There is no zombie."
+            is_all = not self._is_chosen and self._count == len(self._replay)
+            none = f"There is no zombie {self._then()}."
+            yield "No process ended without being waited for." if is_all else none
         for it in self._dead:
             yield self._zombie(it)
 
     def _zombie(self, it: Zombie) -> str:
-        who = f"{self._label(it.process, it.ended)} ended at step {it.ended} ({it.how})"
+        who = f"{self._place(it.ended)}: {self._label(it.process, it.ended)} ended ({it.how})"
         parent = self._label(it.parent, it.orphaned or self._count)
         if it.orphaned is None:
             return f"{who} and nobody has waited for it; its parent is {parent}"
@@ -164,19 +228,27 @@ class Report:
     def _signals(self) -> Iterator[str]:
         found = lost_signals(self._replay, self._count, self._dead)
         if not found:
-            yield "No signal was lost."
+            until = "" if self._count == len(self._replay) else f" until step {self._count}"
+            yield f"No signal was lost{until}."
         for it in found:
             if it.harm is Harm.SOME:
                 yield self._lost(it)
-        harmless = (it for it in found if it.harm is not Harm.SOME)
         groups: Dict[Tuple[str, int, Harm], List[Lost]] = {}
-        for it in harmless:
-            groups.setdefault((it.signal, it.target, it.harm), []).append(it)
-        for (signal, target, harm), lost in groups.items():
-            label = self._label(target, lost[0].number)
-            were, first = ("was", "") if len(lost) == 1 else ("were", "the first ")
-            what = f"{len(lost):,} {signal} to {label} {were} lost without harm"
-            yield f"{what}, {first}at step {lost[0].number}: {harm.value}"
+        for it in found:
+            if it.harm is not Harm.SOME:
+                groups.setdefault((it.signal, it.target, it.harm), []).append(it)
+        for lost in groups.values():
+            yield self._merged(lost)
+
+    def _merged(self, lost: List[Lost]) -> str:
+        """Signals whose loss did no harm."""
+        first = lost[0]
+        target = self._label(first.target, first.number)
+        if len(lost) == 1:
+            what = f"A second {first.signal} to {target} (step {first.number}) was merged"
+            return f"{what} with the first, {first.harm.value}."
+        what = f"{len(lost):,} more {first.signal} to {target} (the first at step {first.number})"
+        return f"{what} were merged with those before, {first.harm.value}."
 
     def _lost(self, it: Lost) -> str:
         sender = self._label(it.sender, it.number) + (f" ({it.how})" if it.how else "")

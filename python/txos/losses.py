@@ -8,7 +8,7 @@ from typing import Dict, Iterator, List, Optional, Sequence, Tuple
 
 from .host.tree import ERRORS, SIGNALS, signal_number, spell_signal
 from .kernel import Process, State
-from .recording import OUTSIDE
+from .recording import OUTSIDE, WRITE
 from .replays import Replay
 
 _CHLD, _PIPE = SIGNALS["CHLD"], SIGNALS["PIPE"]
@@ -35,8 +35,8 @@ class Harm(enum.Enum):
     """What the loss of a signal does."""
 
     SOME = "some"
-    NONE_WAITED = "all children that had ended were waited for all the same"
-    NONE_IDLE = "once more it would have done nothing"
+    NONE_WAITED = "and all children that had ended were waited for all the same"
+    NONE_IDLE = "and would have made no difference"
 
 
 @dataclass(frozen=True)
@@ -123,9 +123,9 @@ def _posts(replay: Replay, count: int) -> Iterator[Tuple[int, int, Process]]:
 
 def _may_post(replay: Replay, number: int) -> bool:
     """Whether a step sends a signal."""
-    call, answer = replay.step(number).words[0], replay.answer(number)
-    is_kill = call in ("kill", "sigqueue") and answer == "ok 0"
-    return is_kill or replay.is_end(number) or (call == "write" and answer == _BROKEN_PIPE)
+    is_write = replay.step(number).words[0] == WRITE
+    is_broken = is_write and replay.answer(number) == _BROKEN_PIPE
+    return is_broken or replay.is_end(number) or kill_of(replay, number) is not None
 
 
 def _post_of(replay: Replay, number: int, state: State) -> Tuple[int, int]:
@@ -133,8 +133,14 @@ def _post_of(replay: Replay, number: int, state: State) -> Tuple[int, int]:
     step = replay.step(number)
     if replay.is_end(number):
         return state.procs[step.process].parent, _CHLD
-    if step.words[0] == "write":
-        return step.process, _PIPE
+    return kill_of(replay, number) or (step.process, _PIPE)
+
+
+def kill_of(replay: Replay, number: int) -> Optional[Tuple[int, int]]:
+    """To whom a step sends a signal by a kill, and which; None where it does not."""
+    step = replay.step(number)
+    if step.words[0] not in ("kill", "sigqueue") or replay.answer(number) != "ok 0":
+        return None
     target, signal = step.words[1:3]
     return int(target), int(signal) if signal.isdecimal() else signal_number(signal) or 0
 

@@ -4,7 +4,7 @@ from __future__ import annotations
 
 import argparse
 import sys
-from typing import Dict
+from typing import Dict, List
 
 from .files import write_whole
 from .picture.choosing import Choice, choose, choose_part, part_of
@@ -30,12 +30,13 @@ def draw_choice(replay: Replay, choice: Choice) -> str:
 
 def _names(recording: Recording, count: int) -> Dict[int, Name]:
     """What each process is after so many steps, and what it was before."""
-    commands: Dict[int, Dict[str, None]] = {}
+    commands: Dict[int, List[str]] = {}
     for it in recording.names:
-        if it.index <= count:
-            commands.setdefault(it.process, {})[it.command] = None
+        # A child that shares memory until it executes a program is named some steps after its fork.
+        if it.index <= count or it.process not in commands:
+            commands.setdefault(it.process, []).append(it.command)
     names = {
-        process: Name(short_name(recording.name(process, count)), "\n".join(found))
+        process: Name(short_name(found[-1]), "\n".join(dict.fromkeys(found)))
         for process, found in commands.items()
     }
     names[OUTSIDE] = Name(recording.name(OUTSIDE), "all processes that were not recorded")

@@ -6,12 +6,12 @@ import contextlib
 import itertools
 import sys
 from types import TracebackType
-from typing import Callable, List, Optional, Sequence, Type, Union
+from typing import BinaryIO, Callable, List, Optional, Sequence, Type, Union
 
 from .faults import Fault
 from .kernel import BadLine, Kernel, Refused, Reply, State, Trial
 from .progress import Progress
-from .recording import ENDED, ROOT, BadRecording, Recording, Step, read_recording
+from .recording import ENDED, HEADER, ROOT, BadRecording, Recording, Step, read_recording
 
 _REFUSED = "no "
 _STANDARD_INPUT = "-"
@@ -116,11 +116,18 @@ def replay_file(name: str) -> Replay:
 
 
 def _read(name: str) -> str:
+    """A text, or its beginning where that shows that it is no recording, and may never end."""
     if name == _STANDARD_INPUT:
-        text = sys.stdin.buffer.read()
-    else:
-        with open(name, "rb") as file:
-            text = file.read()
+        return _read_all(sys.stdin.buffer)
+    with open(name, "rb") as file:
+        return _read_all(file)
+
+
+def _read_all(file: BinaryIO) -> str:
+    head = f"{HEADER}\n".encode()
+    text = file.read(len(head))
+    if text == head:
+        text += file.read()
     return text.decode("utf-8", "backslashreplace")
 
 

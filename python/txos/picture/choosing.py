@@ -2,15 +2,17 @@
 
 from __future__ import annotations
 
+import itertools
 from collections import Counter
 from dataclasses import dataclass
-from typing import List, Optional, Sequence, Tuple
+from typing import Collection, List, Optional, Sequence, Tuple
 
 from ..faults import Fault
 from ..replays import Replay
+from ..wording import counted
 from .drawing import MOST_STEPS
 from .reducing import steps_needed
-from .roles import Kind, Role, roles_of
+from .roles import Kind, Role, find_roles
 
 # What takes no part in what processes do with one another.
 IDLE = frozenset(
@@ -27,6 +29,7 @@ IDLE = frozenset(
 # Of a recording that is too long: what is drawn, and what besides where that needs it.
 MAIN = frozenset((Kind.PROCESSES, Kind.TRANSFERS, Kind.SIGNALS, Kind.OTHERS))
 NEEDED = frozenset((Kind.PIPES, Kind.ENDS))
+PARTAKING = frozenset(Kind) - IDLE
 
 
 @dataclass(frozen=True)
@@ -61,12 +64,9 @@ def part_of(replay: Replay, first: Optional[int], last: Optional[int], is_whole:
 
 def choose_part(replay: Replay, part: Part) -> Choice:
     """The choice that draws a part; raises `Fault` where that is too long."""
-    roles = roles_of(replay)
-    wanted = [
-        it
-        for it in range(part.first, part.last + 1)
-        if part.is_whole or roles[it - 1].kind not in IDLE
-    ]
+    kinds = frozenset(Kind) if part.is_whole else PARTAKING
+    roles = _roles_of(replay, part, kinds)
+    wanted = [it for it in range(part.first, len(roles) + 1) if roles[it - 1].kind in kinds]
     if not wanted:
         raise Fault(f"{_span(part)} have nothing to draw but with --whole")
     made, fits = _made_for(replay, roles, wanted, part.first)
@@ -77,9 +77,10 @@ def choose_part(replay: Replay, part: Part) -> Choice:
 
 def choose(replay: Replay) -> Choice:
     """The choice that draws as much of a recording as fits, and first what takes part."""
-    roles, whole = roles_of(replay), Part(1, len(replay), False)
-    numbers = range(1, len(replay) + 1)
-    partaking = [it for it in numbers if roles[it - 1].kind not in IDLE]
+    whole = Part(1, len(replay), False)
+    roles = _roles_of(replay, whole, MAIN)
+    numbers = range(1, len(roles) + 1)
+    partaking = [it for it in numbers if roles[it - 1].kind in PARTAKING]
     if len(replay) <= MOST_STEPS:
         return _choice(replay, roles, partaking, list(numbers), whole)
     if len(partaking) <= MOST_STEPS:
@@ -89,9 +90,24 @@ def choose(replay: Replay) -> Choice:
     return _choose_main(replay, roles)
 
 
+def _roles_of(replay: Replay, part: Part, kinds: Collection[Kind]) -> List[Role]:
+    """The roles of the steps up to the end of a part, or until more of some kinds than fit.
+
+    A role takes a look at a state, so those of a long recording take long.
+    """
+    roles: List[Role] = []
+    count = 0
+    for role in itertools.islice(find_roles(replay), part.last):
+        roles.append(role)
+        count += len(roles) >= part.first and role.kind in kinds
+        if count > MOST_STEPS:
+            break
+    return roles
+
+
 def _choose_main(replay: Replay, roles: Sequence[Role]) -> Choice:
     """The choice of what is drawn of a long recording, with what that needs; or the first of it."""
-    main = [it for it in range(1, len(replay) + 1) if roles[it - 1].kind in MAIN]
+    main = [it for it in range(1, len(roles) + 1) if roles[it - 1].kind in MAIN]
     made, fits = _made_for(replay, roles, main, 1, 0)  # what is shown besides has to be needed
     made = made[:MOST_STEPS]
     shown = [it for it in made if roles[it - 1].kind in MAIN | NEEDED]
@@ -134,10 +150,10 @@ def _choice(
     left_out = set(range(part.first, part.last + 1)) - set(shown)
     if left_out:
         kinds = Counter(roles[it - 1].kind for it in sorted(left_out))
-        parts = ", ".join(f"{count:,} of {kind.value}" for kind, count in kinds.most_common())
-        about.append(f"Not shown: {parts}.")
+        parts = ", ".join(counted(count, kind.value) for kind, count in kinds.most_common())
+        about.append(f"Left out: {parts}.")
     if part.last < len(replay):
-        about.append(f"What follows begins with --from {part.last + 1}.")
+        about.append(f"What follows is drawn by --from {part.last + 1} --to STEP.")
     earlier = sum(it < part.first for it in made)
     if earlier:
         about.append(f"{earlier:,} earlier steps make the state that these begin with.")

@@ -26,6 +26,8 @@ _NAME_LETTERS = 7  # that have room between two columns
 _FOOT_GAP, _FOOT_LINE, _FOOT_LETTER = 8, 18, 6.7
 _STYLE = ".name{font-size:10px;text-anchor:middle}\n.foot{font-size:11px;fill:#555}\n"
 _BOXES = ("committed", "aborted", "open")
+_OF_TRANSACTIONS = (*_BOXES, "refusal")
+_LEGEND_BOXES = 292  # the room that they have in the legend
 _NOT_IN_XML = re.compile("[^\t\n\r\x20-\ud7ff\ue000-\ufffd\U00010000-\U0010ffff]")
 
 
@@ -96,6 +98,8 @@ class _Picture:
             kind = it.get("class")
             if it.tag == f"{{{_SVG}}}g":
                 self._move_legend(it)
+                if not any(mark.get("class") in _OF_TRANSACTIONS for mark in self._root):
+                    _clear_legend(it)
             elif kind in _BOXES:
                 self._shorten_box(it)
             elif kind in ("lane", "held") and it.get("y1") != it.get("y2"):
@@ -218,6 +222,18 @@ class _Picture:
         _set(self._root, "width", width)
         _set(self._root, "height", height)
         self._root.set("viewBox", f"0 0 {_spelled(width)} {_spelled(height)}")
+
+
+def _clear_legend(legend: ElementTree.Element) -> None:
+    """Takes out of the legend what only transactions have; what is right of that moves there."""
+    kind = None
+    for it in list(legend):
+        kind = it.get("class", kind)  # a text has the kind of the mark before it
+        if kind in _OF_TRANSACTIONS:
+            legend.remove(it)
+        elif kind == "refused":
+            place = "cx" if "cx" in it.attrib else "x"
+            _set(it, place, _number(it, place) - _LEGEND_BOXES)
 
 
 def _number(element: ElementTree.Element, attribute: str) -> float:

@@ -4,7 +4,7 @@ from __future__ import annotations
 
 import enum
 from dataclasses import dataclass
-from typing import Dict, FrozenSet, List, Tuple
+from typing import Dict, FrozenSet, Iterator, Tuple
 
 from ..kernel import State
 from ..progress import Progress
@@ -13,22 +13,22 @@ from ..replays import Replay
 
 
 class Kind(enum.Enum):
-    """A kind of steps. The value names it where its steps are counted: 3 of files."""
+    """A kind of steps. The value names one of them, where they are counted: 3 steps of files."""
 
-    SETUP = "the setup"
-    FILES = "files"
-    MASKS = "masks"
-    ACTIONS = "actions of signals"
-    MEMORY = "memory"
-    FLAGS = "flags of pipes"
-    OUTSIDE_WAITS = "waits by outside"
-    RETURNS = "returns from signals"
-    ENDS = "ends of pipes"
-    PIPES = "new pipes"
-    TRANSFERS = "reads and writes"
-    PROCESSES = "forks, exits and waits"
-    SIGNALS = "signals"
-    OTHERS = "other calls"
+    SETUP = "step of the setup"
+    FILES = "step of files"
+    MASKS = "change of masks"
+    ACTIONS = "action of signals"
+    MEMORY = "step of memory"
+    FLAGS = "flag of pipes"
+    OUTSIDE_WAITS = "wait by process 1"
+    RETURNS = "return from signals"
+    ENDS = "step of pipe ends"
+    PIPES = "step of new pipes"
+    TRANSFERS = "step of reads and writes"
+    PROCESSES = "step of forks, exits and waits"
+    SIGNALS = "step of signals"
+    OTHERS = "step of other calls"
 
 
 _KINDS = {
@@ -53,18 +53,16 @@ class Role:
     pipes: FrozenSet[int] = frozenset()
 
 
-def roles_of(replay: Replay) -> List[Role]:
+def find_roles(replay: Replay) -> Iterator[Role]:
     """The role of each step, in order."""
-    roles = []
     made: Dict[int, int] = {}  # the step that made each pipe last
     with Progress(len(replay), "steps looked at") as progress:
         for number in range(1, len(replay) + 1):
             step = replay.step(number)
             if step.words[0] == "pipe" and replay.answer(number) == "ok 0":
                 made[int(step.words[1])] = number
-            roles.append(_role_of(replay, number, made))
+            yield _role_of(replay, number, made)
             progress.advance()
-    return roles
 
 
 def _role_of(replay: Replay, number: int, made: Dict[int, int]) -> Role:
