@@ -32,8 +32,8 @@ from .waits import (
 from .wording import counted
 
 _ABOUT = """Prints who holds each pipe open, which calls wait and who could end them, who ended
-without being waited for, and which signals were lost. Without --at this is so just before signals
-such as those of ^C and timeout forced the end; or at the end, where nothing forced it."""
+without being waited for, and which signals were lost. Without --at it shows the moment just before
+signals, such as those of ^C or of timeout, forced the end; where none did, it shows the end."""
 _POLLS = re.compile("p?poll|_?newselect|p?select6?|epoll_p?wait2?")
 
 
@@ -264,9 +264,7 @@ def add_command(commands: argparse._SubParsersAction) -> None:
         "holders", help="who holds a pipe open, and who waits for whom", description=_ABOUT
     )
     parser.add_argument("file", metavar="FILE", help="a recording, or - for standard input")
-    parser.add_argument(
-        "--at", metavar="STEP", type=int, help="what is so after STEP steps (default: all)"
-    )
+    parser.add_argument("--at", metavar="STEP", type=int, help="what is so after STEP steps")
     parser.set_defaults(run=_run)
 
 
