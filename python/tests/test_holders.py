@@ -149,9 +149,9 @@ class Waits(unittest.TestCase):
     def test_each_that_waits_before_the_end_was_forced(self):
         told = [
             "step 12, line 17 of the log: 2 sh waits for 3 sleep to end",
-            "  it waits until 3 sleep was killed by INT (step 15)",
+            "  it waited until 3 sleep was killed by INT (step 15)",
             "step 13, line 18 of the log: 4 cat waits to read from pipe 0, which is empty",
-            "  it waits until 2 sh was killed by INT (step 17)",
+            "  it waited until 2 sh was killed by INT (step 17)",
             "  write side held by 2 sh (descriptor 4), 3 sleep (descriptor 1)",
             "  2 sh waits for 3 sleep to end (step 12)",
         ]
@@ -164,7 +164,7 @@ class Waits(unittest.TestCase):
             reported(ended + steps)[2][2:4],
             [
                 "step 17, line 21 of the log: 4 cat waits to read from pipe 0, which is empty",
-                "  it waits until 2 sh was killed by INT (step 16)",
+                "  it waited until 2 sh was killed by INT (step 16)",
             ],
         )
 
@@ -183,7 +183,7 @@ class Waits(unittest.TestCase):
         self.assertEqual(len(reported(steps.replace(signal, children), at=13)[2]), 6)
 
     def test_to_the_end_of_the_recording(self):
-        self.assertEqual(reported(HANG)[2][1], "  it waits to the end of the recording")
+        self.assertEqual(reported(HANG)[2][1], "  it waited to the end of the recording")
 
     def test_the_process_ends_before_anything_would_end_its_call(self):
         ended = "1 kill 4 TERM  # 20 SIGTERM\n4 deliver TERM  # = ended  # 20 SIGTERM\n"
@@ -192,22 +192,22 @@ class Waits(unittest.TestCase):
             # What closes early is a part of the end.
             (ended.replace("4 deliver", "4 close 0  # = ok 0  # 20 SIGTERM\n4 deliver"), 16),
         ):
-            told = f"  it waits until it was killed by TERM (step {step})"
+            told = f"  it waited until it was killed by TERM (step {step})"
             self.assertIn(told, reported(HANG + steps)[2])
         # A process at which SIGKILL is pending does nothing any more.
-        told = "  it waits until it was killed by KILL (step 15)"
+        told = "  it waited until it was killed by KILL (step 15)"
         self.assertIn(told, reported(HANG + ended.replace("TERM", "KILL"))[2])
         exits = "4 close 0  # = ok 0  # 20 exit_group\n4 exit 7  # = ended  # 20 exit_group\n"
-        told = "  it waits until it ended by exit 7 (step 15)"
+        told = "  it waited until it ended by exit 7 (step 15)"
         self.assertIn(told, reported(HANG + exits)[2])
 
     def test_the_process_goes_on(self):
         steps = HANG + "4 close 9  # = ok -9  # 21 close\n"
-        self.assertIn("  it waits until step 14: 4 close 9", reported(steps)[2])
+        self.assertIn("  it waited until step 14: 4 close 9", reported(steps)[2])
         caught = HANG.replace("4 close 4", "4 sigaction INT catch 1000 -\n4 close 4")
         signal = "4 sigreturn  # 20 rt_sigreturn\n4 close 9  # = ok -9  # 21 close\n"
         signal = f"1 kill 4 INT  # 19 SIGINT\n4 deliver INT  # = ok 0  # 19 SIGINT\n{signal}"
-        self.assertIn("  it waits until INT came (step 16)", reported(caught + signal)[2])
+        self.assertIn("  it waited until INT came (step 16)", reported(caught + signal)[2])
 
     def test_a_call_after_which_its_process_went_on_is_no_hang(self):
         more = "2 write 4 0 1  # = ok 1  # 20 write\n4 read 0 0 1  # = ok 1  # 21 read\n"
@@ -221,7 +221,7 @@ class Waits(unittest.TestCase):
         self.assertEqual(reported(HANG, at=4)[2], ["No call waits after step 4."])
         told = [
             "step 12, line 17 of the log: 2 sh waits for 3 sleep to end",
-            "  it waits until 3 sleep was killed by INT (step 15)",
+            "  it waited until 3 sleep was killed by INT (step 15)",
         ]
         self.assertEqual(reported(HANG + INTERRUPTED, at=14)[2][:2], told)
         self.assertEqual(reported(HANG + INTERRUPTED, at=18)[2], ["No call waits after step 18."])
@@ -231,13 +231,13 @@ class Waits(unittest.TestCase):
     def test_a_call_that_the_kernel_lacks(self):
         note = "# 3 waits in futex since line 9\n"
         told = "line 9 of the log: 3 sleep waits in futex, which the kernel does not have"
-        ended = [told, "  it waits until it was killed by INT (step 15)"]
+        ended = [told, "  it waited until it was killed by INT (step 15)"]
         self.assertEqual(reported(HANG + note + INTERRUPTED)[2][-2:], ended)
         self.assertEqual(
-            reported(HANG + note)[2][-2:], [told, "  it waits to the end of the recording"]
+            reported(HANG + note)[2][-2:], [told, "  it waited to the end of the recording"]
         )
         goes_on = HANG + note + "3 close 9  # = ok -9  # 20 close\n"
-        self.assertIn("  it waits until step 14: 3 close 9", reported(goes_on, at=13)[2])
+        self.assertIn("  it waited until step 14: 3 close 9", reported(goes_on, at=13)[2])
         self.assertNotIn(told, reported(goes_on)[2])
         self.assertNotIn(told, reported(HANG + note, at=12)[2])
 
@@ -255,11 +255,11 @@ class Waits(unittest.TestCase):
         )
         told = [
             "step 7, line 6 of the log: 2 waits in poll to read from pipe 0, which is empty",
-            "  it waits to the end of the recording",
+            "  it waited to the end of the recording",
             "  write side held by 2 (descriptor 1)",
             "  a circle: 2 waits for itself",
             "step 8, line 6 of the log: 2 waits in poll to read from pipe 1, which is empty",
-            "  it waits to the end of the recording",
+            "  it waited to the end of the recording",
             "  write side held by 3 (descriptor 3)",
         ]
         self.assertEqual(reported("2 map 0\n" + steps)[2], told)
@@ -275,7 +275,7 @@ class Waits(unittest.TestCase):
         )
         told = [
             "step 12, line 7 of the log: 2 waits to write to pipe 7, which has no room for it",
-            "  it waits to the end of the recording",
+            "  it waited to the end of the recording",
             "  read side held by 2 (descriptor 0), 3 (descriptor 0)",
             "  a circle: 2 waits for itself",
         ]

@@ -139,7 +139,7 @@ class Report:
         """A wait, of all those after so many steps."""
         reason = reason_of(self._replay.state(count), wait.step)
         yield f"{self._place(wait.number)}: {self._waiter(wait, reason, count)}"
-        yield f"  it waits {self._until(wait, count)}"
+        yield f"  it waited {self._until(wait, count)}"
         yield from self._enders(wait, waits, count)
 
     def _waiter(self, wait: Wait, reason: Reason, count: int) -> str:
@@ -185,7 +185,7 @@ class Report:
         place = f"line {waiting.line} of the log"
         yield f"{place}: {label} waits in {waiting.call}, which the kernel does not have"
         number = next_of(self._replay, waiting.process, self._count)
-        yield f"  it waits {self._until_step(waiting.process, number)}"
+        yield f"  it waited {self._until_step(waiting.process, number)}"
 
     def _enders(self, wait: Wait, waits: List[Wait], count: int) -> Iterator[str]:
         """Who could end a wait, and for whom these wait themselves."""

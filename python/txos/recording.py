@@ -30,7 +30,7 @@ FILE_DESCRIPTOR = 15  # the descriptor by which each process keeps that end
 ABORT = "kernel"  # the call that a schedule spells `kernel P`: the kernel aborts P's transaction
 
 READ, WRITE = "read", "write"  # the sides of a pipe, and the calls on them
-WAITS, ENDED = "no N9", "ended"  # answers, as a report spells them
+WAITS, ENDED, TRY_AGAIN = "no N9", "ended", "ok -11"  # answers, as a report spells them
 
 HEADER = "txos 3 schedule 2"
 _LINE_LIMIT = 512

@@ -396,7 +396,7 @@ def _refuse(tree: Tree, process: Process, call: Call, verb: str, descriptor: Des
     if call.error == "EPIPE":
         tree.before_post(13, process, process)
         process.pending.add(13)
-    if verb == WRITE and call.error != "EPIPE" and descriptor.pipe and number is not None:
+    if verb == WRITE and descriptor.pipe and number is not None:
         asked = size_asked(call) or 1
         if call.waits:
             asked = max(asked - _write_part(tree, process, call, descriptor), 1)

@@ -15,6 +15,8 @@ from ..recording import (
     FILE_WRITE,
     READ,
     ROOT,
+    TRY_AGAIN,
+    WAITS,
     WRITE,
     LeftOut,
     Recording,
@@ -106,9 +108,10 @@ class _Flow:
         self._units[verb] += units
         return units
 
-    def waiting(self, size: int, factor: int) -> int:
-        """The units of a write for which there is no room."""
-        return min(max(-(-size // factor), _PIPE_SIZE - self.held + 1), _PIPE_SIZE)
+    def refused(self, size: int, factor: int, is_full: bool) -> int:
+        """The units of a write that writes nothing; where the pipe is full there is no room."""
+        least = _PIPE_SIZE - self.held + 1 if is_full else 1
+        return min(max(-(-size // factor), least), _PIPE_SIZE)
 
 
 def _count(drafts: Iterable[Draft], factor: int) -> Optional[Dict[int, int]]:
@@ -121,7 +124,8 @@ def _count(drafts: Iterable[Draft], factor: int) -> Optional[Dict[int, int]]:
             continue
         flow = flows[transfer.pipe]
         if draft.expected:
-            counts[place] = flow.waiting(transfer.size, factor)
+            is_full = draft.expected in (WAITS, TRY_AGAIN)
+            counts[place] = flow.refused(transfer.size, factor, is_full)
             continue
         counts[place] = flow.move(transfer.verb, transfer.size, factor)
         if max(flow.held, counts[place]) > _PIPE_SIZE:

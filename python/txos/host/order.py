@@ -126,11 +126,15 @@ class Order:
                     break
 
     def _mark_what_signals_break(self) -> None:
+        """A signal breaks a call off; where that goes on, it is the same call."""
         for places in self._of_task.values():
-            events = [self._events[it] for it in places]
-            for event, after in zip(events, events[1:]):
+            events, broken = [self._events[it] for it in places], None
+            for event, after in zip(events, [*events[1:], None]):
+                if isinstance(event, Begun) and event.call.name == "restart_syscall" and broken:
+                    event.call.name, event.call.args = broken.name, broken.args
                 if isinstance(event, Done) and isinstance(after, Signal):
                     event.call.broken_by = after.name
+                    broken = event.call
 
     def _find_children_of_cut_forks(self) -> None:
         """A process that is killed while it forks may leave a child: one that has no fork."""
