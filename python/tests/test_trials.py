@@ -7,6 +7,8 @@ import io
 import os
 import random
 import re
+import subprocess
+import sys
 import tempfile
 import unittest
 from contextlib import redirect_stderr, redirect_stdout
@@ -56,6 +58,9 @@ PIPELINE = """
 2 waitpid 4 wait = ok 4
 2 exit 0 = ended
 """
+
+
+DIFFERS = "After the abort the state differs from that before the sys_xbegin:"
 
 
 def recording(text):
@@ -189,6 +194,25 @@ class Outcomes(unittest.TestCase):
         self.assertEqual(found.outcome.ending.made.turn.recorded.text, "3 deliver TERM")
         self.assertEqual(found.outcome.differing, [])
 
+    def test_answers_that_differ_without_the_transaction_are_only_counted(self):
+        text = """
+            2 fork 3 = ok 3
+            # 3 is child
+            3 getpid = ok 8
+            {}
+            3 exit 0 = ended
+            """
+        said = "1 {}answer differs from Linux's without the transaction too."
+        lines = list(report(trial(text.format("3 getppid = ok 2"), 3)))
+        self.assertIn(said.format(""), lines)
+        self.assertFalse([it for it in lines if it.startswith(("Every ", "Answers "))])
+        lines = list(report(trial(text.format("3 kill 77 USR1 = ok -3"), 3)))
+        first = lines.index("Answers that differ from Linux's:")
+        self.assertEqual(
+            lines[first + 1 : first + 3],
+            ["  step 7 (3 kill 77 USR1, line 4): ok 0, on Linux ok -3", said.format("more ")],
+        )
+
     def test_a_member_of_which_nothing_more_was_recorded_keeps_it_open(self):
         found = trial(
             """
@@ -206,7 +230,7 @@ class Outcomes(unittest.TestCase):
         self.assertEqual(found.circles, [])
         lines = list(report(found))
         self.assertIn("  3 daemon does nothing more in the recording, and does not end.", lines)
-        self.assertIn("There is no circle of those who wait for ever.", lines)
+        self.assertIn("Nobody waits in a circle.", lines)
 
 
 class Signals(unittest.TestCase):
@@ -228,7 +252,7 @@ class Signals(unittest.TestCase):
         self.assertEqual([(it.target, it.signal) for it in found.outcome.held], [(2, 10)])
         self.assertEqual(waits(found), [("2 deliver USR1", "SIGNAL", "signal USR1", "3 exit 0")])
         self.assertEqual((found.outcome.left_out, found.outcome.differing), ([], []))
-        said = "  USR1 to 2 sh, of step 7 (3 kill 2 USR1, line 4): goes out at the commit"
+        said = "  USR1 to 2 sh, sent at step 7 (3 kill 2 USR1, line 4): goes out at the commit"
         self.assertIn(said, report(found))
 
     def test_a_signal_that_is_held_for_ever_makes_a_circle(self):
@@ -253,8 +277,11 @@ class Signals(unittest.TestCase):
         )
         circle = [("4 sleep", "signal TERM", "3 exit 0"), ("3 killer", "pipe 0", "4 deliver TERM")]
         self.assertEqual(circles(found), [circle])
-        said = "  4 sleep waits for 3 killer, whose transaction holds signal TERM, to end: step 14"
-        self.assertTrue(any(it.startswith(said) for it in report(found)))
+        said = (
+            "  4 sleep waits until 3 killer ends at step 14 (3 exit 0, line 12): "
+            "its transaction holds signal TERM"
+        )
+        self.assertIn(said, list(report(found)))
 
     def test_sends_that_fail_come_out_at_the_commit(self):
         found = trial(
@@ -269,7 +296,7 @@ class Signals(unittest.TestCase):
         )
         answers = [(it.turn.recorded.text, it.answer) for it in found.outcome.differing]
         self.assertEqual(answers, [("3 kill 77 USR1", "ok 0"), ("3 kill 2 0", "ok -200")])
-        said = "  USR1 to 77, of step 6 (3 kill 77 USR1, line 3): fails at the commit: ESRCH"
+        said = "  USR1 to 77, sent at step 6 (3 kill 77 USR1, line 3): fails at the commit: ESRCH"
         self.assertIn(said, report(found))
 
     def test_a_starter_that_ends_before_its_child_holds_its_sigchld(self):
@@ -400,8 +427,8 @@ class Signals(unittest.TestCase):
         self.assertNotIn("3 sys_xabort", made(found))
         self.assertEqual(found.outcome.ending.made.turn.recorded.text, "4 exit 0")
         lines = list(report(found))
-        self.assertIn("It does not come to its sys_xabort.", lines)
-        self.assertIn("All is answered as on Linux.", lines)
+        self.assertIn("It never gets to its sys_xabort.", lines)
+        self.assertIn("Every step that was made got Linux's answer.", lines)
         self.assertNotIn("Steps that are not made:", lines)
 
     def test_a_signal_that_has_come_ends_a_process_while_it_waits(self):
@@ -469,7 +496,7 @@ class Signals(unittest.TestCase):
         )
         said = "  2 sh at step 10 (2 deliver TERM, line 7): signal TERM has not come, and nobody "
         self.assertTrue(any(it.startswith(said) for it in report(found)))
-        self.assertIn("There is no circle of those who wait for ever.", list(report(found)))
+        self.assertIn("Nobody waits in a circle.", list(report(found)))
 
     def test_a_delivery_whose_signals_have_merged_is_left_out(self):
         found = trial(
@@ -701,7 +728,7 @@ class Asking(unittest.TestCase):
         self.assertIn("2 pipe 1 2 3", made(found))
         self.assertEqual(waits(found), [])
 
-    def test_process_1_takes_an_orphan_away_when_it_can(self):
+    def test_process_1_reaps_an_orphan_when_it_can(self):
         found = trial(
             """
             2 pipe 0 0 1 = ok 0
@@ -722,6 +749,50 @@ class Asking(unittest.TestCase):
         steps = ["3 exit 0", "4 exit 0", "5 exit 0", "1 waitpid 5 nohang"]
         self.assertEqual(made(found)[-4:], steps)
         self.assertNotIn("1 outside", {it.life.label for it in found.waits()})
+
+    def test_processes_that_have_not_ended_are_not_reaped(self):
+        text = """
+            2 pipe 0 0 1 = ok 0
+            2 fork 4 = ok 4
+            # 4 is other
+            2 fork 3 = ok 3
+            # 3 is daemon
+            3 close 3 = ok 0
+            2 exit 0 = ended
+            1 waitpid 2 nohang
+            4 exit 0 = ended
+            """
+        # Both ends wait for the pipe, which process 3 has for ever.
+        said = "  1 outside: step 10 (1 waitpid 2 nohang, line 8): "
+        named = "process 2 sh has not ended here, so it can't be reaped"
+        self.assertIn(said + named, list(report(trial(text, 3))))
+        said = "  1 outside: 2 steps, the first is step 10 (1 waitpid 2 nohang, line 8): "
+        both = "these processes have not ended here, so they can't be reaped"
+        self.assertIn(said + both, list(report(trial(text + "1 waitpid 4 nohang", 3))))
+
+    def test_a_process_whose_parent_has_not_ended_is_its_to_reap(self):
+        found = trial(
+            """
+            2 pipe 0 0 1 = ok 0
+            2 fork 4 = ok 4
+            # 4 is parent
+            4 fork 5 = ok 5
+            # 5 is orphan
+            5 close 3 = ok 0
+            5 close 4 = ok 0
+            2 fork 3 = ok 3
+            # 3 is daemon
+            3 close 3 = ok 0
+            4 exit 0 = ended
+            5 exit 0 = ended
+            1 waitpid 5 nohang
+            """,
+            3,
+        )
+        # The end of process 4 waits for the pipe, and process 5 no longer has it open.
+        said = "  1 outside: step 14 (1 waitpid 5 nohang, line 13): "
+        because = "only the parent may reap, since it has not ended here"
+        self.assertIn(said + because, list(report(found)))
 
     def test_who_sends_to_a_process_waits_until_it_is_there(self):
         found = trial(
@@ -765,7 +836,7 @@ class Asking(unittest.TestCase):
         )
         first, second = ("2 sh", "process 3 killer", "3 exit 0"), ("3 killer", "process 5 child")
         self.assertEqual(circles(found), [[first, (*second, "4 fork 5")]])
-        said = "  3 killer waits for 2 sh, since 4 parent is not there yet: step 8 (4 fork 5, "
+        said = "  3 killer waits until 2 sh goes on, so that 4 parent is forked and gets to step 8"
         self.assertIn(said, "\n".join(report(found)))
 
 
@@ -804,20 +875,20 @@ class Aborts(unittest.TestCase):
             lines,
         )
         # Process 2 has closed its copies; process 4 was there since, and has waited.
-        left = lines[lines.index("What differs after the abort from before its sys_xbegin:") + 1 :]
+        left = lines[lines.index(DIFFERS) + 1 :]
         self.assertEqual(
             left,
             [
-                "  2 sh has 0 descriptors that read pipe 0, before 1",
-                "  2 sh has 0 descriptors that write pipe 0, before 1",
-                "  process 4 cat is there",
-                "3 steps of others since then, which the abort leaves:",
+                "  2 sh has 0 descriptors that read pipe 0 (was 1)",
+                "  2 sh has 0 descriptors that write pipe 0 (was 1)",
+                "  process 4 cat is new",
+                "Others made 3 steps meanwhile, which the abort does not undo:",
                 "  step 7 (2 fork 4, line 4)",
                 "  step 8 (2 close 3, line 6)",
                 "  step 9 (2 close 4, line 7)",
             ],
         )
-        self.assertIn("  8 after the abort", lines)
+        self.assertIn("  8 steps after the abort", lines)
 
     def test_the_kernel_aborts_it_after_a_step(self):
         found = trial(ABORTED, 3, abort=15)
@@ -826,17 +897,17 @@ class Aborts(unittest.TestCase):
         lines = list(report(found))
         said = "It is aborted with the status 202: the kernel aborts it after step 15."
         self.assertIn(said, lines)
-        left = lines[lines.index("What differs after the abort from before its sys_xbegin:") + 1 :]
+        left = lines[lines.index(DIFFERS) + 1 :]
         # The close and process 5 are taken back. The byte that process 2 read, and the others, and
         # the signal that came from outside, stay.
         self.assertEqual(
             left,
             [
-                "  page 0 of 2 sh is not as it was",
+                "  page 0 of 2 sh has changed",
                 "  signal USR1 is pending at 3 child",
-                "  process 4 writer is there",
-                "  pipe 1 has 3 bytes, before 0",
-                "5 steps of others since then, which the abort leaves:",
+                "  process 4 writer is new",
+                "  pipe 1 has 3 bytes (was 0)",
+                "Others made 5 steps meanwhile, which the abort does not undo:",
                 "  step 8 (2 fork 4, line 5)",
                 '  step 9 (4 store 0 "abcd", line 7)',
                 "  step 10 (4 write 6 0 4, line 8)",
@@ -861,22 +932,43 @@ class Aborts(unittest.TestCase):
             abort=0,
         )
         lines = list(report(found))
-        left = lines[lines.index("What differs after the abort from before its sys_xbegin:") + 1 :]
+        left = lines[lines.index(DIFFERS) + 1 :]
         self.assertEqual(
             left[:-4],
             [
-                "  2 sh has 2 descriptors that read pipe 0, before 1",
-                "  2 sh has 1 descriptor that reads pipe 1, before 0",
-                "  2 sh has 1 descriptor that writes pipe 1, before 0",
-                "  pipe 0 has 1 byte, before 0",
-                "  pipe 1 is there",
+                "  2 sh has 2 descriptors that read pipe 0 (was 1)",
+                "  2 sh has 1 descriptor that reads pipe 1 (was 0)",
+                "  2 sh has 1 descriptor that writes pipe 1 (was 0)",
+                "  pipe 0 has 1 byte (was 0)",
+                "  pipe 1 is new",
+            ],
+        )
+
+    def listed(self, stores):
+        """What is listed of others, of which one forks and the other one stores so often."""
+        others = "\n".join(f'4 store {it} "a"' for it in range(stores))
+        text = f"2 fork 3 = ok 3\n2 fork 4 = ok 4\n# 4 is other\n{others}\n3 exit 0 = ended"
+        lines = list(report(trial(text, 3, abort=0)))
+        said = f"Others made {stores + 1} steps meanwhile, which the abort does not undo:"
+        return lines[lines.index(said) + 1 :]
+
+    def test_nine_steps_of_others_are_listed_one_by_one(self):
+        stores = [f'  step {7 + it} (4 store {it} "a", line {4 + it})' for it in range(8)]
+        self.assertEqual(self.listed(8), ["  step 6 (2 fork 4, line 2)", *stores])
+
+    def test_ten_steps_of_others_are_listed_by_their_processes(self):
+        self.assertEqual(
+            self.listed(9),
+            [
+                "  2 sh: step 6 (2 fork 4, line 2)",
+                '  4 other: 9 steps, the first is step 7 (4 store 0 "a", line 4)',
             ],
         )
 
     def test_a_step_before_its_begin_or_after_its_end_is_none_for_an_abort(self):
         for step, said in [
             (5, "step 5 is too early for an abort: process 3 tr begins after step 6"),
-            (19, "step 19 is too late for an abort: it commits at step 14"),
+            (19, "step 19 is too late for an abort: the transaction ends at step 14"),
             (20, "there is no step 20: the recording has 19"),
         ]:
             with self.assertRaisesRegex(Fault, re.escape(said)):
@@ -888,7 +980,7 @@ class Aborts(unittest.TestCase):
 
     def test_who_waits_for_ever_does_not_come_to_its_abort(self):
         found = trial(PIPELINE, 4, abort=0)
-        self.assertIn("It does not come to its sys_xabort.", list(report(found)))
+        self.assertIn("It never gets to its sys_xabort.", list(report(found)))
         self.assertEqual(len(found.circles), 1)
 
 
@@ -933,6 +1025,24 @@ class Written(unittest.TestCase):
     def test_an_abort_is_a_step(self):
         written = written_by(self, trial(ABORTED, 3, abort=15))
         self.assertEqual(written.steps[-1].text, "kernel 3")
+
+    def test_it_says_what_was_tried(self):
+        tried = "sh made.sh, with 3 {} as a transaction"
+        self.assertEqual(written_by(self, trial(PIPELINE, 3)).command, tried.format("tr"))
+        for abort in (0, 15):
+            written = written_by(self, trial(ABORTED, 3, abort=abort))
+            self.assertEqual(written.command, f"{tried.format('child')} that is aborted")
+        # Process 4 waits for ever, and so never aborts itself.
+        written = written_by(self, trial(PIPELINE, 4, abort=0))
+        self.assertEqual(written.command, "sh made.sh, with 4 cat as a transaction")
+
+    def test_it_says_what_was_tried_with_a_long_command(self):
+        made = recording(PIPELINE)
+        made.command = f"sh {'x' * 600}"
+        plan = make_plan(made)
+        (found,) = try_all(plan, [Question(choose(plan, "3"))], is_explained=True)
+        command = written_by(self, found).command
+        self.assertTrue(command.endswith("x..., with 3 tr as a transaction"), command)
 
 
 class Files(unittest.TestCase):
@@ -1103,7 +1213,7 @@ class Circles(unittest.TestCase):
     def test_who_only_waits_for_a_circle_is_not_in_it(self):
         self.assertEqual(self.circles((1, 2), (2, 3), (3, 2)), [[2, 3]])
 
-    def test_the_shortest_is_told_and_others_that_share_nobody(self):
+    def test_the_shortest_is_found_and_others_that_share_nobody(self):
         self.assertEqual(self.circles((1, 2), (2, 3), (3, 1), (2, 1)), [[1, 2]])
         self.assertEqual(
             self.circles((1, 2), (2, 3), (3, 1), (4, 5), (5, 4), (3, 4)), [[4, 5], [1, 2, 3]]
@@ -1142,16 +1252,18 @@ class Words(unittest.TestCase):
         self.assertEqual(self.chosen("3@7"), "3@7 tr")
         self.assertEqual(self.chosen("3@9"), "3@7 tr")
         self.assertEqual(self.chosen("3@11"), "3@11 cat")
-        with self.assertRaisesRegex(Fault, "3 means several processes, .*: 3@7 tr, 3@11 cat$"):
+        with self.assertRaisesRegex(Fault, "3 means several processes; .*: 3@7 tr, 3@11 cat$"):
             self.chosen("3")
 
     def test_a_word_of_several_or_of_none_lists_them(self):
         with self.assertRaisesRegex(Fault, "made.sh means several .*: 2 sh, 3@7 tr$"):
             self.chosen("made.sh")
         for word in ("9", "sed", "3@1", ""):
-            with self.assertRaisesRegex(Fault, f"^{word} is none .*: 2 sh, 3@7 tr, 4 grep, "):
+            with self.assertRaisesRegex(
+                Fault, f"^there is no process '{word}'; .* 2 sh, 3@7 tr, 4 grep, "
+            ):
                 self.chosen(word)
-        with self.assertRaisesRegex(Fault, "process 1 is all that were not recorded"):
+        with self.assertRaisesRegex(Fault, "process 1 is everybody who was not recorded"):
             self.chosen("1")
 
     def test_a_process_whose_number_was_used_again_is_tried_for_itself(self):
@@ -1190,24 +1302,23 @@ class Command(unittest.TestCase):
 The transaction is 4 cat and all that it forks. (Lines are those of the log.)
 It begins after step 7 (2 fork 4, line 4).
 It never ends.
-0 steps of files took no part.
 
 Who waits for ever:
   3 tr at step 14 (3 exit 0, line 12): the transaction has pipe 0 and \
-description 1 (writes pipe 0) since step 12 (4 close 4, line 10)
+description 1 (writes pipe 0), reserved since step 12 (4 close 4, line 10)
   4 cat at step 15 (4 read 3 0 1, line 13): pipe 0 has no byte; \
-it waits for 3 tr at step 14 (3 exit 0, line 12)
+4 cat waits for 3 tr at step 14 (3 exit 0, line 12)
   2 sh at step 17 (2 waitpid 3 wait, line 15): process 3 tr has not ended; \
-it waits for 3 tr at step 14 (3 exit 0, line 12)
+2 sh waits for 3 tr at step 14 (3 exit 0, line 12)
 
 A circle: 3 tr - pipe 0 - 4 cat - pipe 0 - 3 tr
-  3 tr waits for 4 cat, whose transaction has pipe 0, to end: step 16 (4 exit 0, line 14)
-  4 cat waits for 3 tr to close pipe 0: step 14 (3 exit 0, line 12)
+  3 tr waits until 4 cat ends at step 16 (4 exit 0, line 14): its transaction has reserved pipe 0
+  4 cat waits until 3 tr closes pipe 0 at step 14 (3 exit 0, line 12)
 
-All is answered as on Linux.
+Every step that was made got Linux's answer.
 
 Steps that are not made:
-  6 of those that wait for ever, from there on
+  6 steps at or after a wait for ever
 """,
                 "",
             ),
@@ -1219,10 +1330,13 @@ Steps that are not made:
             (
                 0,
                 """\
-process  steps  outcome             others waited      for ever
-2 sh     9      commits at step 19  -                  -
-3 tr     3      commits at step 14  1, 1 step at most  -
-4 cat    4      never ends          -                  3: 3 tr - pipe 0 - 4 cat - pipe 0 - 3 tr
+process  steps  outcome             others waited            for ever
+2 sh     9      commits at step 19  -                        -
+3 tr     3      commits at step 14  1 process, up to 1 step  -
+4 cat    4      never ends          -                        3 processes; \
+circle: 3 tr - pipe 0 - 4 cat - pipe 0 - 3 tr
+
+Waits are counted in the steps that others made meanwhile.
 """,
                 "",
             ),
@@ -1234,26 +1348,46 @@ process  steps  outcome             others waited      for ever
         self.assertEqual(status, 0)
         self.assertIn("It commits at step 14 (3 exit 0, line 12).\n", said)
         written = read_recording(out.read_text())
+        self.assertEqual(written.command, "sh made.sh, with 3 tr as a transaction")
         self.assertIn("3 sys_xbegin", [it.text for it in written.steps])
         self.assertEqual(sorted(os.listdir(self.folder)), ["made.txos", "out.txos"])
+
+    def test_a_trial_does_not_replace_the_recording_that_it_reads(self):
+        before = self.file.read_text()
+        link, twin = self.folder / "link.txos", self.folder / "twin.txos"
+        link.symlink_to(self.file)
+        os.link(self.file, twin)
+        for out in (self.file, link, twin):
+            with self.subTest(out=out.name):
+                said = f"txos-record: -o {out} is the recording that is read; name another file\n"
+                self.assertEqual(self.run_trial("tr", "-o", out), (1, "", said))
+        words = [sys.executable, "-m", "txos", "trial", "-", "tr", "-o", str(link)]
+        with self.file.open() as file:
+            ran = subprocess.run(words, stdin=file, capture_output=True, text=True, check=False)
+        said = f"txos-record: -o {link} is the recording that is read; name another file\n"
+        self.assertEqual((ran.returncode, ran.stdout, ran.stderr), (1, "", said))
+        self.assertEqual(self.file.read_text(), before)
 
     def test_a_recording_of_a_trial_is_not_tried(self):
         out = self.folder / "out.txos"
         self.run_trial("tr", "--abort", "13", "-o", out)
         self.file.write_text(out.read_text())
-        said = "txos-record: step 4 (3 sys_xbegin) is of a trial: name what was tried there\n"
+        said = (
+            "txos-record: this file is the output of a trial; "
+            "give the recording that it was made from\n"
+        )
         self.assertEqual(self.run_trial("tr"), (1, "", said))
 
-    def test_what_is_wrong_is_told_and_nothing_is_written(self):
+    def test_what_is_wrong_is_reported_and_nothing_is_written(self):
         for words, status, said in [
-            (["sed"], 1, "sed is none of the processes: 2 sh, 3 tr, 4 cat"),
+            (["sed"], 1, "there is no process 'sed'; the processes are 2 sh, 3 tr, 4 cat"),
             (["tr", "--abort", "99"], 1, "there is no step 99: the recording has 19"),
-            (["tr", "--abort", "x"], 2, "x is no number of a step"),
-            (["tr", "--abort", "0"], 2, "0 is no number of a step"),
+            (["tr", "--abort", "x"], 2, "x is not the number of a step"),
+            (["tr", "--abort", "0"], 2, "0 is not the number of a step"),
             ([], 2, "the following arguments are required: PROCESS"),
-            (["--all", "tr"], 2, "with --all there is no PROCESS"),
-            (["--all", "-o", "out.txos"], 2, "with --all there is no PROCESS"),
-            (["--all", "--abort"], 2, "with --all there is no PROCESS"),
+            (["--all", "tr"], 2, "--all takes no PROCESS"),
+            (["--all", "-o", "out.txos"], 2, "--all takes no PROCESS"),
+            (["--all", "--abort"], 2, "--all takes no PROCESS"),
             (["tr", "-o", self.folder / "no" / "out"], 1, "No such file or directory"),
         ]:
             with self.subTest(words):
@@ -1262,7 +1396,7 @@ process  steps  outcome             others waited      for ever
                 self.assertIn(said, err)
         self.assertEqual(os.listdir(self.folder), ["made.txos"])
 
-    def test_a_file_that_is_no_recording_is_told(self):
+    def test_a_file_that_is_no_recording_is_reported(self):
         self.file.write_text("txos 3 schedule 2\n2 getpid\n")
         status, out, err = self.run_trial("2")
         self.assertEqual((status, out), (1, ""))

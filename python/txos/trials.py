@@ -3,10 +3,11 @@
 from __future__ import annotations
 
 import argparse
+import os
 from typing import Any, Callable, List, Optional
 
 from .faults import Fault
-from .files import write_whole
+from .files import STANDARD, write_whole
 from .kernel import Kernel
 from .progress import Progress
 from .recording import ABORT, OUTSIDE, ROOT
@@ -20,11 +21,12 @@ from .trial.table import table
 from .trial.written import trial_recording
 
 _ABOUT = """Tries a process of a recording, and all that it forks, as a transaction: whether it
-commits, who waits for it, who waits for ever, and what is answered otherwise than on Linux. Each
-process makes its recorded steps in order. One that is refused, since the transaction is in the way
-or since it waits, is tried again after each step that is made. Files take no part."""
+commits, who waits for it, who waits for ever, and which answers differ from Linux's. Each process
+makes its recorded steps in order. One that is refused, since the transaction is in the way or since
+it waits, is tried again after each step that is made. Files take no part."""
 _USAGE = "%(prog)s [-h] FILE (PROCESS [--abort [STEP]] [-o OUT] | --all)"
 _WRONG_WORDS = 2  # the status where the words are not understood
+_STANDARD_INPUT = 0  # its file descriptor
 _ITSELF = 0  # in place of the step after which the kernel aborts a transaction
 
 
@@ -47,7 +49,9 @@ def add_command(commands: argparse._SubParsersAction) -> None:
     )
     parser.add_argument("file", metavar="FILE", help="a recording, or - for standard input")
     process = parser.add_argument(
-        "process", metavar="PROCESS", help="its number, its command, or a word of its name"
+        "process",
+        metavar="PROCESS",
+        help="its number, its program (such as tr), or a word of its command line",
     )
     parser.add_argument(
         "--abort",
@@ -68,18 +72,25 @@ def add_command(commands: argparse._SubParsersAction) -> None:
 
 def _step_number(word: str) -> int:
     if not word.isdecimal() or int(word) == 0:
-        raise argparse.ArgumentTypeError(f"{word} is no number of a step")
+        raise argparse.ArgumentTypeError(f"{word} is not the number of a step")
     return int(word)
 
 
 def read_plan(file: str) -> Plan:
-    """The plan of a recording; raises `Fault` where it is none, or is one of a trial."""
+    """The plan of a recording; raises `Fault` where it is none, or the output of a trial."""
     with replay_file(file) as replay:
         recording = replay.recording
-    for number, step in enumerate(recording.steps, 1):
-        if step.words[0] in ("sys_xbegin", ABORT):
-            raise Fault(f"step {number} ({step.text}) is of a trial: name what was tried there")
+    if any(it.words[0] in ("sys_xbegin", ABORT) for it in recording.steps):
+        raise Fault("this file is the output of a trial; give the recording that it was made from")
     return make_plan(recording)
+
+
+def see_other_file(output: str, file: str) -> None:
+    """Raises `Fault` where a trial is to be written to the file that its recording is in."""
+    if output == STANDARD or not os.path.isfile(output):
+        return
+    if os.path.samefile(output, _STANDARD_INPUT if file == STANDARD else file):
+        raise Fault(f"-o {output} is the recording that is read; name another file")
 
 
 def choose(plan: Plan, word: str) -> Life:
@@ -88,11 +99,11 @@ def choose(plan: Plan, word: str) -> Life:
     if len(found) == 1:
         return found[0]
     if word == str(OUTSIDE):
-        raise Fault(f"process {OUTSIDE} is all that were not recorded, and is not tried")
+        raise Fault(f"process {OUTSIDE} is everybody who was not recorded, and can't be tried")
     names = ", ".join(map(plan.spelled, found or plan.lives))
     if found:
-        raise Fault(f"{word} means several processes, name one by its number: {names}")
-    raise Fault(f"{word} is none of the processes: {names}")
+        raise Fault(f"{word} means several processes; name one by its number: {names}")
+    raise Fault(f"there is no process '{word}'; the processes are {names}")
 
 
 def ask(plan: Plan, starter: Life, abort: Optional[int]) -> Question:
@@ -140,8 +151,10 @@ def try_all(plan: Plan, questions: List[Question], is_explained: bool) -> List[F
 
 def _run(args: argparse.Namespace) -> int:
     if args.all and (args.process or args.abort is not None or args.output):
-        raise Fault("with --all there is no PROCESS, no --abort and no -o", _WRONG_WORDS)
+        raise Fault("--all takes no PROCESS, no --abort and no -o", _WRONG_WORDS)
     plan = read_plan(args.file)
+    if args.output:
+        see_other_file(args.output, args.file)
     if args.all:
         trials = try_all(plan, [Question(it) for it in plan.lives], is_explained=False)
         print("\n".join(table(trials)))

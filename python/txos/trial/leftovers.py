@@ -7,7 +7,7 @@ from typing import Callable, Dict, Iterator, List, Optional
 
 from ..host.tree import spell_signal
 from ..kernel import Action, Description, Process, State
-from ..reading import counted
+from ..wording import counted
 
 
 def differences(before: State, after: State, label: Callable[[int], str]) -> List[str]:
@@ -19,16 +19,16 @@ def differences(before: State, after: State, label: Callable[[int], str]) -> Lis
     for pid in sorted({*before.procs, *after.procs}):
         old, new = before.procs.get(pid), after.procs.get(pid)
         if old is None or new is None:
-            found.append(f"process {label(pid)} is {'gone' if old else 'there'}")
+            found.append(f"process {label(pid)} is {'gone' if old else 'new'}")
         elif old.running and not new.running:
             found.append(f"process {label(pid)} has ended {_how(new)}")
         else:
             found += _of_process(label(pid), old, new)
             found += _of_descriptors(label(pid), old, new, {**before.descs, **after.descs})
     for number in sorted({*before.descs} & {*after.descs}):
-        waits = not after.descs[number].nonblock
-        if waits == before.descs[number].nonblock:
-            found.append(f"description {number} {'waits' if waits else 'does not wait'}")
+        is_nonblocking = after.descs[number].nonblock
+        if is_nonblocking != before.descs[number].nonblock:
+            found.append(f"description {number} is {'non-' if is_nonblocking else ''}blocking now")
     for number in sorted({*before.pipes, *after.pipes}):
         found += _of_pipe(number, before.pipes.get(number), after.pipes.get(number))
     return found
@@ -46,10 +46,10 @@ def _of_process(label: str, old: Process, new: Process) -> Iterator[str]:
     if old.parent != new.parent:
         yield f"the parent of {label} is process {new.parent}"
     if (old.users, old.groups) != (new.users, new.groups):
-        yield f"{label} has other ids"
+        yield f"{label} has other user or group ids"
     for page in sorted({*old.pages, *new.pages}):
         if old.pages.get(page) != new.pages.get(page):
-            yield f"page {page} of {label} is not as it was"
+            yield f"page {page} of {label} has changed"
     yield from _of_signals(label, old, new)
 
 
@@ -61,18 +61,18 @@ def _of_signals(label: str, old: Process, new: Process) -> Iterator[str]:
         if old.actions.get(signal) != new.actions.get(signal):
             yield f"{label} {_does(new.actions.get(signal))} {spell_signal(signal)}"
     for signal in sorted({*old.pending} ^ {*new.pending}):
-        where = "is pending" if signal in new.pending else "is pending no more"
+        where = "is pending" if signal in new.pending else "is no longer pending"
         yield f"signal {spell_signal(signal)} {where} at {label}"
     if old.queued != new.queued:
-        yield f"{label} has {counted(len(new.queued), 'queued signal')}, before {len(old.queued)}"
+        yield f"{label} has {counted(len(new.queued), 'queued signal')} (was {len(old.queued)})"
     if len(old.frames) != len(new.frames):
-        yield f"{label} is in {counted(len(new.frames), 'handler')}, before in {len(old.frames)}"
+        yield f"{label} is in {counted(len(new.frames), 'handler')} (was in {len(old.frames)})"
 
 
 def _does(action: Optional[Action]) -> str:
     """What a process does with a signal."""
     if action is None:
-        return "does the usual at signal"
+        return "takes the default action at signal"
     return "ignores signal" if action.kind == "ignore" else "catches signal"
 
 
@@ -86,16 +86,16 @@ def _of_descriptors(
         if had[number] != has[number]:
             verb = side.side + ("s" if has[number] == 1 else "")
             yield (
-                f"{label} has {counted(has[number], 'descriptor')} that {verb} pipe {side.pipe}, "
-                f"before {had[number]}"
+                f"{label} has {counted(has[number], 'descriptor')} that {verb} pipe {side.pipe} "
+                f"(was {had[number]})"
             )
 
 
 def _of_pipe(number: int, old: Optional[bytes], new: Optional[bytes]) -> Iterator[str]:
     """How a pipe differs."""
     if old is None or new is None:
-        yield f"pipe {number} is {'gone' if new is None else 'there'}"
+        yield f"pipe {number} is {'gone' if new is None else 'new'}"
     elif len(old) != len(new):
-        yield f"pipe {number} has {counted(len(new), 'byte')}, before {len(old)}"
+        yield f"pipe {number} has {counted(len(new), 'byte')} (was {len(old)})"
     elif old != new:
         yield f"pipe {number} has other bytes"

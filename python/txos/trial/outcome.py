@@ -4,7 +4,7 @@ from __future__ import annotations
 
 import enum
 from dataclasses import dataclass, field
-from typing import Dict, List, Optional
+from typing import Dict, List, Optional, Set
 
 from ..kernel import Reply, State
 from ..recording import Step
@@ -30,8 +30,8 @@ class Because(enum.Enum):
     """Why a recorded step is not made."""
 
     NO_SIGNAL = "its signal does not come"
-    IGNORED = "a signal that does nothing is not pending"
-    FOUND_NOTHING = "it found nothing on Linux, and would find something here"
+    IGNORED = "its signal, which does nothing, is not pending here"
+    FOUND_NOTHING = "on Linux this call found nothing; here it would find something"
     ENDED = "its process ends before it"
     UNBORN = "its process is never forked"
     ABORTED = "its process is gone with the abort"
@@ -93,6 +93,7 @@ class Outcome:
     interrupts: List[Turn] = field(default_factory=list)
     held: List[Sent] = field(default_factory=list)
     members: List[Life] = field(default_factory=list)  # its starter first
+    ended: Set[Life] = field(default_factory=set)  # who has ended
     begun: Optional[int] = None  # how many steps were made before its sys_xbegin
     ending: Optional[Ending] = None
     before: Optional[State] = None  # the state before the sys_xbegin

@@ -16,7 +16,7 @@ from .lines import Need, Wait, Why
 from .lives import NO_READER, Life, Plan, Turn
 from .outcome import Outcome, Sent
 
-_MOST_STEPS = 40  # that are listed one by one
+_MOST_STEPS = 9  # that are listed one by one
 
 
 @dataclass
@@ -88,8 +88,8 @@ def _transaction(findings: Findings) -> Iterator[str]:
     if len(outcome.members) > 1:
         yield f"Its members: {', '.join(it.label for it in outcome.members)}."
     yield from _ending(findings)
-    files = counted(len(findings.plan.files), "step")
-    yield f"{files} of files took no part."
+    if findings.plan.files:
+        yield f"{counted(len(findings.plan.files), 'step')} of files took no part."
 
 
 def _ending(findings: Findings) -> Iterator[str]:
@@ -104,7 +104,7 @@ def _ending(findings: Findings) -> Iterator[str]:
         for life in findings.idle:
             yield f"  {life.label} does nothing more in the recording, and does not end."
     if question.aborts_itself and not (ending and ending.reply.status == 201):
-        yield "It does not come to its sys_xabort."
+        yield "It never gets to its sys_xabort."
 
 
 def _why_aborted(outcome: Outcome) -> str:
@@ -136,22 +136,22 @@ def _waiting(findings: Findings) -> Iterator[str]:
 
 
 def _needs(findings: Findings, needs: Sequence[Need]) -> str:
-    """What a step needs, and since when the transaction has it."""
+    """What a step needs, and since when the transaction has reserved it."""
     names: Dict[str, List[str]] = defaultdict(list)
     for it in needs:
-        since = f" since {findings.step_made(it.since)}" if it.since else ""
+        since = f", reserved since {findings.step_made(it.since)}" if it.since else ""
         names[since].append(it.name)
     return ", and ".join(f"{' and '.join(some)}{since}" for since, some in names.items())
 
 
 def _until(findings: Findings, wait: Wait) -> str:
-    """Until when a process waits, and while how many other steps were made."""
+    """Until when a process waits, and how many steps others have made by then."""
     outcome = findings.outcome
     assert wait.ended is not None
     ended = f"until {findings.step_made(wait.ended)}"
     if wait.why is Why.BUSY and outcome.ending and wait.ended == outcome.ending.at:
         ended = f"until it {'commits' if outcome.ending.is_commit else 'is aborted'}"
-    return f"{ended}: {counted(wait.steps, 'step')}"
+    return f"{ended}, {counted(wait.steps, 'step')} later"
 
 
 def _in_turn(findings: Findings) -> Iterator[str]:
@@ -164,8 +164,8 @@ def _in_turn(findings: Findings) -> Iterator[str]:
         yield "Who waited for others meanwhile:"
     for life, some in waits.items():
         first, more = some[0], len(some) - 1
-        again = f"; and {counted(more, 'time')} more" if more else ""
-        said = f"{_missing(first)}, {_until(findings, first)}{again}"
+        again = f"; and {counted(more, 'time')} after that" if more else ""
+        said = f"{_missing(first)}; {life.label} waits {_until(findings, first)}{again}"
         yield f"  {life.label} at {place(first.turn)}: {said}"
 
 
@@ -176,11 +176,11 @@ def _missing(wait: Wait) -> str:
     if wait.why is Why.NUMBER:
         return f"{wait.what} is in use"
     if wait.why is Why.PROCESS:
-        return f"{wait.what} is not there yet"
+        return f"{wait.what} has not been forked"
     if wait.turn.target:
         return f"{wait.what} has not ended"
     if wait.turn.step.expected == NO_READER:
-        return f"{wait.what} has a reader, and it writes on until none is left, as on Linux"
+        return f"{wait.what} has a reader still, and on Linux this write found none"
     return f"{wait.what} has {'no byte' if wait.turn.call == 'read' else 'too little room'}"
 
 
@@ -192,10 +192,11 @@ def _forever(findings: Findings) -> Iterator[str]:
     for it in findings.forever:
         wait = it.wait
         if wait.why is Why.BUSY:
-            said = f"the transaction has {_needs(findings, wait.needs)}"
+            has = "the transaction has " if wait.needs[0].since else ""
+            said = f"{has}{_needs(findings, wait.needs)}"
         else:
             said = f"{_missing(wait)}{_by_whom(it)}"
-        also = "; so too without the transaction" if wait.turn in plain else ""
+        also = "; the same without the transaction" if wait.turn in plain else ""
         yield f"  {wait.life.label} at {place(wait.turn)}: {said}{also}"
 
 
@@ -204,35 +205,42 @@ def _by_whom(forever: Forever) -> str:
     said = [f"{it.turn.life.label} at {place(it.turn)}" for it in forever.links]
     idle = [f"{it.label}, which does nothing more" for it in forever.idle]
     if said or idle:
-        return f"; it waits for {' or '.join([*said, *idle])}"
+        return f"; {forever.wait.life.label} waits for {' or '.join([*said, *idle])}"
     return ", and nobody sends it any more" if forever.wait.why is Why.SIGNAL else ""
 
 
 def _circles(findings: Findings) -> Iterator[str]:
     """Circles of those who wait for ever."""
     if findings.forever and not findings.circles:
-        yield "There is no circle of those who wait for ever."
+        yield "Nobody waits in a circle."
     for circle in findings.circles:
         yield f"A circle: {circle_in_short(circle)}"
         for it in circle:
-            yield f"  {it.wait.life.label} waits for {_to_do(it)}: {place(it.turn)}"
+            yield f"  {it.wait.life.label} waits until {_done(it)}"
 
 
-def _to_do(link: Link) -> str:
-    """What a process of a circle waits for: that the next one does something."""
-    wait, turn, whom = link.wait, link.turn, link.next.life.label
+def _done(link: Link) -> str:
+    """What has to be done first where a process of a circle waits: by the next one, and where."""
+    wait, turn, whom, where = link.wait, link.turn, link.next.life.label, place(link.turn)
     if turn.life is not link.next.life:
-        return f"{whom}, since {turn.life.label} is not there yet"
+        return f"{whom} goes on, so that {turn.life.label} is forked and gets to {where}"
     if wait.why is Why.BUSY:
-        return f"{whom}, whose transaction has {wait.what}, to end"
+        return f"{whom} ends at {where}: its transaction has reserved {wait.what}"
+    if wait.why is Why.SIGNAL and turn not in wait.turn.senders:
+        return f"{whom} ends at {where}: its transaction holds {wait.what}"
+    return f"{whom} {_verb(wait, turn)} at {where}"
+
+
+def _verb(wait: Wait, turn: Turn) -> str:
+    """What a turn does for which a process waits."""
     if wait.why is Why.SIGNAL:
-        if turn not in wait.turn.senders:
-            return f"{whom}, whose transaction holds {wait.what}, to end"
-        return f"{whom} to {'end' if turn.ends else f'send {wait.what}'}"
+        return "ends" if turn.ends else f"sends {wait.what}"
     if wait.why is Why.PROCESS:
-        return f"{whom} to fork {wait.what}"
-    verb = {"read": "read from", "write": "write to"}.get(turn.call, "close")
-    return f"{whom} to {'end' if wait.turn.target else f'{verb} {wait.what}'}"
+        return f"forks {wait.what}"
+    if wait.turn.target:
+        return "ends"
+    verbs = {"read": "reads from", "write": "writes to"}
+    return f"{verbs.get(turn.call, 'closes')} {wait.what}"
 
 
 # What came otherwise.
@@ -243,14 +251,19 @@ def _otherwise(findings: Findings) -> Iterator[str]:
     plain = {(it.turn, it.answer) for it in findings.plain.differing}
     made = [it for it in findings.outcome.differing if (it.turn, it.answer) not in plain]
     ends = [it for it in findings.outcome.made if it.turn.added and it.turn.ends]
-    yield "Answered otherwise than on Linux:" if made or ends else "All is answered as on Linux."
+    both = len(findings.outcome.differing) - len(made)
+    if made or ends:
+        yield "Answers that differ from Linux's:"
+    elif not both:
+        yield "Every step that was made got Linux's answer."
     for it in made:
         yield f"  {place(it.turn)}: {it.answer}, on Linux {it.turn.step.expected}"
     for it in ends:
         yield f"  {it.turn.life.label} is ended by signal KILL here, which came too late on Linux"
-    both = len(findings.outcome.differing) - len(made)
     if both:
-        yield f"  {counted(both, 'step')} more, as without the transaction"
+        more = "more " if made or ends else ""
+        differ = "answer differs" if both == 1 else "answers differ"
+        yield f"{both:,} {more}{differ} from Linux's without the transaction too."
 
 
 def _interrupts(findings: Findings) -> Iterator[str]:
@@ -286,7 +299,7 @@ def _signals(findings: Findings) -> Iterator[str]:
         if found:
             failed.remove(found)
             went = f"fails at the commit: {errno.errorcode.get(found.errno, found.errno)}"
-        yield f"  {spell_signal(it.signal)} to {target}, of {place(it.turn)}: {went}"
+        yield f"  {spell_signal(it.signal)} to {target}, sent at {place(it.turn)}: {went}"
 
 
 def _is_of(failed: Undelivered, sent: Sent) -> bool:
@@ -301,16 +314,15 @@ def _left_out(findings: Findings) -> Iterator[str]:
         groups[it.because.value, it.turn.life].append(it.turn)
     rest = _rest(findings)
     is_over = outcome.after and outcome.question.is_abort_wanted
-    reaps = [] if is_over else [it for it in rest if it.life.is_outside and it.call == "waitpid"]
-    for turn in reaps:
-        groups["who has not ended is not taken away", turn.life].append(turn)
+    reaps = [] if is_over else _reaps(findings, rest)
     if groups or rest:
         yield "Steps that are not made:"
     for (because, life), some in groups.items():
-        yield f"  {len(some):,} of {life.label}, first {place(some[0])}: {because}"
+        yield f"  {_in_short(life, some)}: {because}"
+    yield from _unreaped(outcome, reaps)
     if len(rest) > len(reaps):
-        where = "after the abort" if is_over else "of those that wait for ever, from there on"
-        yield f"  {len(rest) - len(reaps):,} {where}"
+        which = "after the abort" if is_over else "at or after a wait for ever"
+        yield f"  {counted(len(rest) - len(reaps), 'step')} {which}"
 
 
 def _rest(findings: Findings) -> List[Turn]:
@@ -320,6 +332,29 @@ def _rest(findings: Findings) -> List[Turn]:
     return [it for it in findings.plan.turns if it not in gone and it not in outcome.rests]
 
 
+def _reaps(findings: Findings, rest: Sequence[Turn]) -> List[Turn]:
+    """Of the steps that a trial did not come to, those that were to reap orphans."""
+    waiting = {it.wait.turn for it in findings.forever}
+    outside = (it for it in rest if it.life.is_outside and it not in waiting)
+    return [it for it in outside if it.call == "waitpid"]
+
+
+def _unreaped(outcome: Outcome, reaps: Sequence[Turn]) -> Iterator[str]:
+    """Why nobody outside reaps: a process has not ended, or it is no orphan."""
+    running = [it for it in reaps if it.target not in outcome.ended]
+    children = [it for it in reaps if it.target in outcome.ended]
+    if len(running) == 1 and running[0].target:
+        whom = running[0].target.label
+        because = f"process {whom} has not ended here, so it can't be reaped"
+    else:
+        because = "these processes have not ended here, so they can't be reaped"
+    if running:
+        yield f"  {_in_short(running[0].life, running)}: {because}"
+    if children:
+        because = "only the parent may reap, since it has not ended here"
+        yield f"  {_in_short(children[0].life, children)}: {because}"
+
+
 def _left(findings: Findings) -> Iterator[str]:
     """What an abort leaves."""
     outcome = findings.outcome
@@ -327,14 +362,15 @@ def _left(findings: Findings) -> Iterator[str]:
         return
     plan, last = findings.plan, outcome.ending.made.turn.index
     left = differences(outcome.before, outcome.after, lambda number: plan.label(number, last))
-    yield "What differs after the abort from before its sys_xbegin:" if left else (
-        "After the abort all is as before its sys_xbegin."
+    yield "After the abort the state differs from that before the sys_xbegin:" if left else (
+        "After the abort the state is as it was before the sys_xbegin."
     )
     yield from (f"  {it}" for it in left)
     since = outcome.made[outcome.begun : outcome.ending.at]
     others = [it.turn for it in since if it.turn.life not in outcome.members]
     if others:
-        yield f"{counted(len(others), 'step')} of others since then, which the abort leaves:"
+        steps = counted(len(others), "step")
+        yield f"Others made {steps} meanwhile, which the abort does not undo:"
         yield from _listed(others)
 
 
@@ -346,5 +382,11 @@ def _listed(turns: List[Turn]) -> Iterator[str]:
     of: Dict[Life, List[Turn]] = defaultdict(list)
     for it in turns:
         of[it.life].append(it)
-    for life, some in of.items():
-        yield f"  {life.label}: {len(some):,}, from {place(some[0])} to {place(some[-1])}"
+    yield from (f"  {_in_short(life, some)}" for life, some in of.items())
+
+
+def _in_short(life: Life, turns: Sequence[Turn]) -> str:
+    """Steps of a process by their number and the first one."""
+    if len(turns) == 1:
+        return f"{life.label}: {place(turns[0])}"
+    return f"{life.label}: {counted(len(turns), 'step')}, the first is {place(turns[0])}"

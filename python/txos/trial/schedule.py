@@ -50,7 +50,6 @@ class Schedule:
         self._advance = advance
         self._as_answered: Set[Turn] = set()  # to be made however they are answered
         self._renumbered: Dict[Turn, Step] = {}  # steps with other numbers of a pipe
-        self._ended: Set[Life] = set()
         self._is_over = False
 
     def run(self) -> Outcome:
@@ -67,7 +66,7 @@ class Schedule:
 
     def has_ended(self, life: Life) -> bool:
         """Whether a process has ended."""
-        return life in self._ended
+        return life in self.outcome.ended
 
     def is_held(self, turn: Turn) -> bool:
         """Whether the transaction holds the signal of a delivery."""
@@ -132,7 +131,7 @@ class Schedule:
             self.lives[turn.born.number] = turn.born
             self.agenda.put_life(turn.born)
         if turn.ends:
-            self._ended.add(turn.life)
+            self.outcome.ended.add(turn.life)
         self._add(turn, reply)
 
     def _add(self, turn: Turn, reply: Reply) -> None:
@@ -167,8 +166,9 @@ class Schedule:
         return turn.sends is not None and turn.target is self._question.starter
 
     def _is_orphan(self, life: Life) -> bool:
-        """Whether a process and its parent have ended, so that process 1 takes it away."""
-        return life in self._ended and (life.parent is None or life.parent in self._ended)
+        """Whether a process and its parent have ended, so that process 1 reaps it."""
+        ended = self.outcome.ended
+        return life in ended and (life.parent is None or life.parent in ended)
 
     def _wait(self, line: Line, why: Why, answer: str = "") -> None:
         if self.agenda.wait(line, why, answer) and self._is_explained and line.wait:
@@ -319,7 +319,7 @@ class Schedule:
             self.outcome.after = self.kernel.state()
             self._is_over = self._question.is_abort_wanted
             starter, *others = self.outcome.members
-            self._ended.discard(starter)
+            self.outcome.ended.discard(starter)
             for life in others if not self._is_over else ():
                 self.agenda.leave_out(list(self.agenda.line_of(life).turns), Because.ABORTED)
 
@@ -344,7 +344,9 @@ class Schedule:
             return True
         if ending:
             last = ending.made.turn.index + 1
-            raise Fault(f"step {after + 1} is too late for an abort: it commits at step {last}")
+            raise Fault(
+                f"step {after + 1} is too late for an abort: the transaction ends at step {last}"
+            )
         raise Fault(
             f"step {after + 1} is too early for an abort: process {begin.life.label} begins after "
             f"step {begin.index + 1}"

@@ -12,11 +12,13 @@ _HEAD = ("process", "steps", "outcome", "others waited", "for ever")
 
 
 def table(trials: Sequence[Findings]) -> Iterator[str]:
-    """The lines of a table with a row for each trial."""
+    """The lines of a table with a row for each trial, and of what it counts."""
     rows = [_HEAD, *(tuple(_cells(it)) for it in trials)]
     widths = [max(len(row[column]) for row in rows) for column in range(len(_HEAD))]
     for row in rows:
         yield "  ".join(cell.ljust(width) for cell, width in zip(row, widths)).rstrip()
+    yield ""
+    yield "Waits are counted in the steps that others made meanwhile."
 
 
 def _cells(trial: Findings) -> Iterator[str]:
@@ -43,7 +45,8 @@ def _waited(trial: Findings) -> str:
     if not waits:
         return "-"
     others = {it.life for it in waits}
-    return f"{len(others)}, {counted(max(it.steps for it in waits), 'step')} at most"
+    steps = counted(max(it.steps for it in waits), "step")
+    return f"{counted(len(others), 'process', 'es')}, up to {steps}"
 
 
 def _forever(trial: Findings) -> str:
@@ -52,5 +55,5 @@ def _forever(trial: Findings) -> str:
     waits = [it for it in trial.forever if it.wait.turn not in old]
     if not waits:
         return "-"
-    circles = "; ".join(circle_in_short(it) for it in trial.circles)
-    return f"{len(waits):,}" + (f": {circles}" if circles else "")
+    circles = (f"circle: {circle_in_short(it)}" for it in trial.circles)
+    return "; ".join([counted(len(waits), "process", "es"), *circles])

@@ -11,6 +11,8 @@ from .lines import Wait, Why
 from .lives import Plan, Turn
 from .outcome import Outcome
 
+_LONGEST_COMMAND = 400  # characters, so that what is tried is in the line too
+
 _Placed = Tuple[Turn, Step]
 
 
@@ -22,7 +24,8 @@ def trial_recording(plan: Plan, outcome: Outcome) -> Recording:
     """
     recorded = plan.recording
     placed = list(_placed(outcome))
-    made = replace(recorded, steps=[step for _, step in placed], names=[])
+    made = replace(recorded, command=_command(plan, outcome), names=[])
+    made.steps = [step for _, step in placed]
     for naming in recorded.names:
         index = _place_of(naming, placed)
         if index is not None:
@@ -30,6 +33,17 @@ def trial_recording(plan: Plan, outcome: Outcome) -> Recording:
     made.names.sort(key=lambda it: it.index)
     made.left_out = [*recorded.left_out, *_left_out(plan, outcome)]
     return made
+
+
+def _command(plan: Plan, outcome: Outcome) -> str:
+    """What was recorded, and what was tried with it."""
+    command, starter, ending = plan.recording.command, outcome.question.starter, outcome.ending
+    if len(command) > _LONGEST_COMMAND:
+        command = f"{command[:_LONGEST_COMMAND]}..."
+    if starter is None:
+        return command
+    aborted = " that is aborted" if ending and not ending.is_commit else ""
+    return f"{command}, with {starter.label} as a transaction{aborted}"
 
 
 def _placed(outcome: Outcome) -> Iterator[_Placed]:
