@@ -424,11 +424,11 @@ _POLLED = re.compile(r"\{fd=(\d+), events=[^}]*\bPOLL(?:RD(?:NORM|HUP)|IN)\b")
 
 
 def note_wait(tree: Tree, process: Process, call: Call) -> None:
-    """A call waits for ever, or until a signal comes, and it is neither a read, a write nor a wait.
+    """A call waits until its process is ended, and it is neither a read, a write nor a wait.
 
     Where it waits for bytes of pipes, these are reads that wait.
     """
-    if moved(process, call) or not (call.never_ends or call.broken_by != "CHLD"):
+    if moved(process, call) or not (call.never_ends or call.broken_by in _ENDINGS):
         return
     asked = call.arg(_POLLS.get(call.name, len(call.args)))
     fds = _POLLED.findall(asked) if "fd=" in asked else re.findall(r"\d+", asked)
@@ -441,6 +441,7 @@ def note_wait(tree: Tree, process: Process, call: Call) -> None:
         tree.waiting.append(Waiting(len(tree.drafts), process.number, call.name, call.start))
 
 
+_ENDINGS = ("HUP", "INT", "QUIT", "TERM")  # signals by which people end programs
 # Calls that end by themselves, or that a recording has in another way.
 _NO_WAITS = "wait4 waitid execve execveat fork vfork clone clone3 exit exit_group".split()
 _OPENERS = frozenset(

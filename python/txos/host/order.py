@@ -303,10 +303,10 @@ class Order:
             self.tree.tasks.pop(event.task)
             process.tasks.remove(event.task)
             return
-        if call and call.never_ends and process.is_running and not call.name.isidentifier():
-            self.tree.leave_out("call that strace could not read", call.start)
         if not process.is_running:
             return
+        if call and call.never_ends:
+            self._leave_out_open(process, call)
         self._finish_writes(process, list(process.descriptors))
         self.tree.at = (event.line, f"SIG{event.signal}" if event.signal else "exit_group")
         if event.signal:
@@ -314,6 +314,13 @@ class Order:
         else:
             end_by_exit(self.tree, process, event.status or 0)
         self._do_what_is_right()
+
+    def _leave_out_open(self, process: Process, call: Call) -> None:
+        """Counts a call that an end has cut off, and that is neither a step nor noted."""
+        if not call.name.isidentifier():
+            self.tree.leave_out("call that strace could not read", call.start)
+        elif moved(process, call) or call.name in WAITS_FOR_CHILDREN:
+            self.tree.leave_out("call still open when its process ended", call.start)
 
     def _finish_fork(self, task: int) -> None:
         """A task that ends while it forks has a child, where one was found."""
