@@ -6,13 +6,13 @@ import re
 from dataclasses import dataclass
 from typing import Dict, List, Optional, Tuple
 
-from .host.tree import SIGNALS
+from .host.tree import ENDINGS, SIGNALS
 from .losses import kill_of
 from .recording import READ, WRITE
 from .replays import Replay
 
 # By these whoever gets them is to end, so what it does from then on is for its end.
-_ENDING = frozenset(SIGNALS[it] for it in ("HUP", "INT", "QUIT", "TERM", "KILL"))
+_ENDING = frozenset(SIGNALS[it] for it in ENDINGS)
 _MORE_THAN_NONE = re.compile("ok [1-9]")
 
 

@@ -8,7 +8,7 @@ from typing import Callable, Dict, List, Optional, Tuple
 
 from ..recording import FILE_DESCRIPTOR, READ, WAITS, WRITE, Waiting
 from .strace import Call, bytes_of, split_args
-from .tree import ERRORS, Descriptor, Pipe, Process, Transfer, Tree
+from .tree import ENDINGS, ERRORS, Descriptor, Pipe, Process, Transfer, Tree
 
 Effect = Callable[[Tree, Process, Call], None]
 # Where the kernel's memory has the bytes that are read and stored, and where it has only zeros.
@@ -428,7 +428,7 @@ def note_wait(tree: Tree, process: Process, call: Call) -> None:
 
     Where it waits for bytes of pipes, these are reads that wait.
     """
-    if moved(process, call) or not (call.never_ends or call.broken_by in _ENDINGS):
+    if moved(process, call) or not (call.never_ends or call.broken_by in ENDINGS):
         return
     asked = call.arg(_POLLS.get(call.name, len(call.args)))
     fds = _POLLED.findall(asked) if "fd=" in asked else re.findall(r"\d+", asked)
@@ -441,7 +441,6 @@ def note_wait(tree: Tree, process: Process, call: Call) -> None:
         tree.waiting.append(Waiting(len(tree.drafts), process.number, call.name, call.start))
 
 
-_ENDINGS = ("HUP", "INT", "QUIT", "TERM")  # signals by which people end programs
 # Calls that end by themselves, or that a recording has in another way.
 _NO_WAITS = "wait4 waitid execve execveat fork vfork clone clone3 exit exit_group".split()
 _OPENERS = frozenset(
