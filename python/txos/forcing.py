@@ -6,13 +6,14 @@ import re
 from dataclasses import dataclass
 from typing import Dict, List, Optional, Tuple
 
-from .host.tree import ENDINGS, SIGNALS
+from .host.tree import ENDINGS, SIGNALS, spell_signal
 from .losses import kill_of
 from .recording import READ, WRITE
 from .replays import Replay
 
 # By these whoever gets them is to end, so what it does from then on is for its end.
 _ENDING = frozenset(SIGNALS[it] for it in ENDINGS)
+_FORCING = _ENDING | {SIGNALS["ALRM"]}  # an alarm is how timeout(1) begins
 _MORE_THAN_NONE = re.compile("ok [1-9]")
 
 
@@ -44,7 +45,10 @@ class _Kill:
         ended = self.target.ended
         if ended is None or ended < self.number:
             return False
-        return self.signal in _ENDING or replay.step(ended).words[0] == "deliver"
+        words = replay.step(ended).words
+        return self.signal in _ENDING or (
+            words[0] == "deliver" and words[1] in (str(self.signal), spell_signal(self.signal))
+        )
 
 
 def forced_after(replay: Replay) -> Optional[int]:
@@ -56,7 +60,7 @@ def forced_after(replay: Replay) -> Optional[int]:
     makers, kills = _look_at(replay)
     made = (it for it in makers if _is_progress(replay, it) and not makers[it].is_doomed(it))
     last = max(made, default=0)
-    later = [it for it in kills if it.number > last]
+    later = [it for it in kills if it.number > last and (it.signal in _FORCING or it.ends(replay))]
     return later[0].number - 1 if any(it.ends(replay) for it in later) else None
 
 

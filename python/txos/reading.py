@@ -38,8 +38,11 @@ def add_options(parser: argparse.ArgumentParser, where: str) -> None:
     )
 
 
-def read_recording_of(log: str, is_short: bool) -> Recording:
-    """The recording of a log, which is a path, or `-`; raises `Fault` where the log is at fault."""
+def read_recording_of(log: str, is_short: bool, is_own: bool = False) -> Recording:
+    """The recording of a log, which is a path, or `-`; raises `Fault` where the log is at fault.
+
+    Of a log that is not our own it is said where calls on signals seem not to be traced.
+    """
     if log == "-":
         lines = sys.stdin.buffer.read()
     else:
@@ -50,7 +53,7 @@ def read_recording_of(log: str, is_short: bool) -> Recording:
     split[-1:] = [split[-1][:-1]] if split[-1] != "\n" else []
     events = read_log(split)
     see_traced(events)
-    signal = unexplained_signal(events)
+    signal = None if is_own else unexplained_signal(events)
     if signal:
         _warn(f"SIG{signal.name} comes in line {signal.line}, and there is no call on signals")
     with Progress(len(events), "calls of the log") as progress:

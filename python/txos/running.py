@@ -111,7 +111,7 @@ def _record(log: str, args: argparse.Namespace) -> None:
     if not os.path.exists(log) or not os.path.getsize(log):
         raise Fault("strace recorded nothing: see what it says above")
     try:
-        made = read_recording_of(log, args.short)
+        made = read_recording_of(log, args.short, is_own=True)
     except Fault as fault:
         kept = args.log or f"{args.output}.log"
         shutil.copyfile(log, kept)
