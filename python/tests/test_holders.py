@@ -62,16 +62,6 @@ def reported(steps, at=None, head=HEAD):
     return [it.split("\n") for it in text.split("\n\n")]
 
 
-class Moments(unittest.TestCase):
-    """Of which moment the report is."""
-
-    def test_a_signal_that_ends_nobody_does_not_force_the_end(self):
-        caught = "2 sigaction USR1 catch 1000 -  # = ok 0  # 19 rt_sigaction\n"
-        own = "3 kill 2 USR1  # = ok 0  # 19 kill\n2 deliver USR1  # = ok 0  # 19 SIGUSR1\n"
-        head = reported(HANG + caught + own + INTERRUPTED)[0]
-        self.assertEqual(head, ["After 17 of 22 steps, before 1 kill 3 INT: sh -c x"])
-
-
 class Pipes(unittest.TestCase):
     """Who holds which side."""
 
@@ -107,6 +97,12 @@ class Pipes(unittest.TestCase):
 
 class Moments(unittest.TestCase):
     """The moment before the end was forced."""
+
+    def test_a_signal_that_ends_nobody_does_not_force_the_end(self):
+        caught = "2 sigaction USR1 catch 1000 -  # = ok 0  # 19 rt_sigaction\n"
+        own = "3 kill 2 USR1  # = ok 0  # 19 kill\n2 deliver USR1  # = ok 0  # 19 SIGUSR1\n"
+        head = reported(HANG + caught + own + INTERRUPTED)[0]
+        self.assertEqual(head, ["After 16 of 22 steps, before 1 kill 3 INT: sh -c x"])
 
     def forced(self, steps):
         with replayed(steps) as replay:

@@ -6,13 +6,12 @@ import enum
 from dataclasses import dataclass, replace
 from typing import Dict, Iterator, List, Optional, Sequence, Tuple
 
-from .host.tree import ERRORS, SIGNALS, signal_number, spell_signal
+from .host.tree import CHLD, ERRORS, PIPE, SIGNALS, signal_number, spell_signal
 from .kernel import Process, State
 from .recording import OUTSIDE, WRITE
 from .replays import Replay
 
-_CHLD, _PIPE = SIGNALS["CHLD"], SIGNALS["PIPE"]
-_BROKEN_PIPE = f"ok {-ERRORS['EPIPE']}"
+_BROKENPIPE = f"ok {-ERRORS['EPIPE']}"
 
 
 @dataclass(frozen=True)
@@ -124,7 +123,7 @@ def _posts(replay: Replay, count: int) -> Iterator[Tuple[int, int, Process]]:
 def _may_post(replay: Replay, number: int) -> bool:
     """Whether a step sends a signal."""
     is_write = replay.step(number).words[0] == WRITE
-    is_broken = is_write and replay.answer(number) == _BROKEN_PIPE
+    is_broken = is_write and replay.answer(number) == _BROKENPIPE
     return is_broken or replay.is_end(number) or kill_of(replay, number) is not None
 
 
@@ -132,8 +131,8 @@ def _post_of(replay: Replay, number: int, state: State) -> Tuple[int, int]:
     """To whom a step that posts sends a signal in the state before it, and which."""
     step = replay.step(number)
     if replay.is_end(number):
-        return state.procs[step.process].parent, _CHLD
-    return kill_of(replay, number) or (step.process, _PIPE)
+        return state.procs[step.process].parent, CHLD
+    return kill_of(replay, number) or (step.process, PIPE)
 
 
 def kill_of(replay: Replay, number: int) -> Optional[Tuple[int, int]]:
@@ -157,6 +156,6 @@ def _harm_of(number: int, signal: int, target: Process, zombies: Sequence[Zombie
     is_caught = signal in target.actions and target.actions[signal].kind == "catch"
     if not is_caught and signal not in target.mask:
         return Harm.NONE_IDLE
-    if signal != _CHLD or any(it.parent == target.pid and it.ended <= number for it in zombies):
+    if signal != CHLD or any(it.parent == target.pid and it.ended <= number for it in zombies):
         return Harm.SOME
     return Harm.NONE_WAITED

@@ -6,7 +6,7 @@ import re
 from dataclasses import dataclass
 from typing import Dict, FrozenSet, Iterator, List, Optional, Sequence, Tuple
 
-from .host.tree import SIGNALS
+from .host.tree import KILL
 from .kernel import State
 from .losses import kill_of
 from .progress import Progress
@@ -17,7 +17,6 @@ OTHER_SIDE = {READ: WRITE, WRITE: READ}
 _WAITPID = "waitpid"
 _OF_SIGNALS = ("deliver", "sigreturn")  # what a process makes while it is in a call
 _MORE_THAN_NONE = re.compile("ok [1-9]")
-_KILL = SIGNALS["KILL"]
 # The words of the host by which a process closes its descriptors as it ends.
 _DEATH = re.compile("exit|exit_group|signal|SIG.*")
 
@@ -235,7 +234,7 @@ def death_of(replay: Replay, number: int) -> Optional[int]:
     step = replay.step(number)
     process, signal = kill_of(replay, number) or (step.process, 0)
     is_part = step.words[0] == "close" and _DEATH.fullmatch(step.host)
-    if not (is_part or replay.is_end(number) or signal == _KILL):
+    if not (is_part or replay.is_end(number) or signal == KILL):
         return None
     numbers = range(number, len(replay) + 1)
     ends = (it for it in numbers if replay.is_end(it) and replay.step(it).process == process)

@@ -8,7 +8,7 @@ from typing import Callable, Dict, List, Optional, Tuple
 
 from ..recording import FILE_DESCRIPTOR, READ, WAITS, WRITE, Waiting
 from .strace import Call, bytes_of, split_args
-from .tree import ENDINGS, ERRORS, Descriptor, Pipe, Process, Transfer, Tree
+from .tree import ENDINGS, ERRORS, PIPE, Descriptor, Pipe, Process, Transfer, Tree
 
 Effect = Callable[[Tree, Process, Call], None]
 # Where the kernel's memory has the bytes that are read and stored, and where it has only zeros.
@@ -394,8 +394,8 @@ def _refuse(tree: Tree, process: Process, call: Call, verb: str, descriptor: Des
         leave_out_failed(tree, call)
         return
     if call.error == "EPIPE":
-        tree.before_post(13, process, process)
-        process.pending.add(13)
+        tree.before_post(PIPE, process, process)
+        process.pending.add(PIPE)
     if verb == WRITE and descriptor.pipe and number is not None:
         asked = size_asked(call) or 1
         if call.waits:

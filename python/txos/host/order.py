@@ -36,9 +36,9 @@ from .processes import (
     end_by_exit,
     end_by_signal,
 )
-from .signals import KILL, SENDERS, is_deadly, signal_sent, targets
+from .signals import SENDERS, is_deadly, signal_sent, targets
 from .strace import HOW, Begun, Call, Done, End, Event, Signal, Superseded, event_task
-from .tree import REALTIME, SIGNALS, Descriptor, Pipe, Process, Tree, signal_number
+from .tree import KILL, REALTIME, SIGNALS, Descriptor, Pipe, Process, Tree, signal_number
 
 _EFFECTS: Dict[str, Effect] = {
     **descriptors.EFFECTS,

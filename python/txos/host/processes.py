@@ -7,9 +7,9 @@ from typing import Dict, List, Optional
 
 from ..recording import ENDED, WAITS
 from .descriptors import Effect, add_file, answer_of, leave_out_failed
-from .signals import CHLD, KILL, deliver, post, send_unless_pending, set_action, unknown_number
+from .signals import deliver, post, send_unless_pending, set_action, unknown_number
 from .strace import Call, split_args
-from .tree import Action, Process, Tree, signal_number, spell_signal
+from .tree import CHLD, KILL, Action, Process, Tree, signal_number, spell_signal
 
 WAITS_FOR_CHILDREN = ("wait4", "waitid")
 FORKS = ("fork", "vfork", "clone", "clone3")

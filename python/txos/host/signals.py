@@ -11,9 +11,8 @@ from ..faults import Fault
 from ..recording import OUTSIDE
 from .descriptors import Effect, answer_of, leave_out_failed
 from .strace import Call
-from .tree import REALTIME, SIGNALS, Action, Process, Tree, signal_number, spell_signal
+from .tree import CHLD, KILL, REALTIME, SIGNALS, Action, Process, Tree, signal_number, spell_signal
 
-KILL, PIPE, CHLD = SIGNALS["KILL"], SIGNALS["PIPE"], SIGNALS["CHLD"]
 _HANDLER = 1000  # the point at which every handler is said to begin
 _FRAMES = 4  # caught signals that have not returned, at most
 _NOBODY = 999  # a number that no process has

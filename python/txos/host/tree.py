@@ -28,6 +28,7 @@ SIGNALS = {
     "HUP": 1, "INT": 2, "QUIT": 3, "ABRT": 6, "KILL": 9, "USR1": 10,
     "USR2": 12, "PIPE": 13, "ALRM": 14, "TERM": 15, "CHLD": 17,
 }  # fmt: skip
+KILL, PIPE, CHLD = SIGNALS["KILL"], SIGNALS["PIPE"], SIGNALS["CHLD"]
 ENDINGS = ("HUP", "INT", "QUIT", "TERM", "KILL")  # signals by which people end programs
 _NAMES = {number: name for name, number in SIGNALS.items()}
 REALTIME = {f"RT_{it}": 32 + it for it in range(1, 8)}

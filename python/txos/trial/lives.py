@@ -9,11 +9,10 @@ import enum
 from dataclasses import dataclass, field, replace
 from typing import Callable, Dict, List, Optional, Tuple
 
-from ..host.tree import SIGNALS, signal_number
+from ..host.tree import CHLD, KILL, PIPE, signal_number
 from ..recording import OUTSIDE, Naming, Recording, Step
 from .fileless import without_files
 
-KILL, PIPE, CHLD = SIGNALS["KILL"], SIGNALS["PIPE"], SIGNALS["CHLD"]
 # Answers of Linux: of an end; of a read where no writer is left, of a write where no reader is.
 AT_END, NO_READER = "ok 0", "ok -32"
 _FIRST_REALTIME = 32

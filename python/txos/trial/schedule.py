@@ -10,11 +10,12 @@ from __future__ import annotations
 from typing import Callable, Dict, List, Set
 
 from ..faults import Fault
+from ..host.tree import KILL
 from ..kernel import Kernel, Refused, Reply
 from ..recording import ABORT, ENDED, Step
 from .agenda import Agenda
 from .lines import Line, Wait, Why
-from .lives import KILL, Delivery, Life, Plan, Turn, added_end, added_turn
+from .lives import Delivery, Life, Plan, Turn, added_end, added_turn
 from .objects import Objects
 from .outcome import Because, Ending, Made, Outcome, Question, Sent
 from .rules import asks_again, found_nothing, with_free_numbers
