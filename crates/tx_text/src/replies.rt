@@ -1,6 +1,6 @@
 //! Prints replies.
-ghost use Rattle.std.specs.Prelude.{◌≡◌, ◌++◌, ◌∷◌, ◌<◌, ◌^◌, [], OnOk, string_bytes};
-ghost use Rattle.tx_text.specs.Replies.{missed_text, number_of, refusal_text, reply_text, undelivered_text};
+ghost use Rattle.std.specs.Prelude.{◌≡◌, ◌++◌, ◌∷◌, ◌<◌, ◌^◌, [], OnOk, option_map, string_bytes};
+ghost use Rattle.tx_text.specs.Replies.{error_name, missed_text, name_beside, named_reply_text, number_of, refusal_text, reply_text, undelivered_text};
 
 use std::alloc::AllocError;
 use tx_base::{Missed, Refusal, Reply};
@@ -94,5 +94,50 @@ fn number(refusal: Refusal) -> u64
         Refusal::NoTransaction => 12,
         Refusal::NoMemory => 13,
         Refusal::Deferred => 14,
+    }
+}
+
+/// Appends a reply as `put_reply` does, and beside the number of an error its name, as `ok -9 EBADF`.
+pub fn put_named_reply(text: &mut String, reply: &Reply) -> Result<(), AllocError>
+    ensures { OnOk result
+        (string_bytes text.new ≡ string_bytes text.old ++ named_reply_text reply.now) }
+{
+    put_reply(text, reply)?;
+    put_name_beside(text, reply)
+}
+
+/// Appends the name of the error that a reply is, after a space.
+fn put_name_beside(text: &mut String, reply: &Reply) -> Result<(), AllocError>
+    ensures { OnOk result
+        (string_bytes text.new ≡ string_bytes text.old ++ name_beside reply.now) }
+{
+    let Reply::Done(ret) = reply else {
+        return Ok(());
+    };
+    match error_name(*ret) {
+        Some(name) => {
+            put(text, " ")?;
+            put(text, name)
+        }
+        None => Ok(()),
+    }
+}
+
+/// The name of the error that a call returns by this number, as `EBADF` for -9. Nothing where the number
+/// is no error's.
+pub fn error_name(ret: i64) -> Option<&'static str>
+    ensures { option_map (λ name. name.now) result ≡ error_name ret }
+{
+    match ret {
+        -1 => Some("EPERM"),
+        -3 => Some("ESRCH"),
+        -9 => Some("EBADF"),
+        -10 => Some("ECHILD"),
+        -11 => Some("EAGAIN"),
+        -14 => Some("EFAULT"),
+        -22 => Some("EINVAL"),
+        -24 => Some("EMFILE"),
+        -32 => Some("EPIPE"),
+        _ => None,
     }
 }
