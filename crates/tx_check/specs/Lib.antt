@@ -7,6 +7,7 @@ pub mod Numbered
 pub mod OwnLines
 pub mod Reads
 pub mod Right
+pub mod Sessions
 pub mod Stands
 pub mod Told
 pub mod Wrong

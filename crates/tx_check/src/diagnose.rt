@@ -7,17 +7,18 @@ ghost use Rattle.tx_check.specs.Told.{IsColumn};
 ghost use Rattle.tx_check.specs.Wrong.{IsTwice, IsWrong, NamesNowhere};
 ghost use Rattle.tx_plain.specs.MeantLines.{left_of};
 
+pub mod alone;
 mod bytes;
-mod calls;
+pub mod calls;
 mod commands;
 mod fields;
-mod headers;
+pub mod headers;
 pub mod labels;
-mod numbers;
+pub mod numbers;
 mod program_lines;
-mod shapes;
+pub mod shapes;
 mod signals;
-mod steps;
+pub mod steps;
 
 use crate::diagnose::commands::command_trouble;
 use crate::diagnose::headers::header_trouble;
@@ -83,7 +84,7 @@ fn trouble_in<'a>(place: &Place, line: &'a [u8], is_ended: bool) -> Trouble<'a>
     ensures { IsColumn line.now result.column }
 {
     if let Part::Header(_kind) = place.part
-        && line.is_empty()
+        && (line.is_empty() || line[0] == b'#')
     {
         return Trouble::of_line(1, LineTrouble::NoHeader);
     }

@@ -78,6 +78,41 @@ pub static COMMANDS: [(&'static str, &'static str); 5] = [
     ("moved", "K"),
 ];
 
+/// The commands of a session, likewise.
+pub static SESSION: [(&'static str, &'static str); 18] = [
+    ("back", ""),
+    ("forward", ""),
+    ("goto", "K|end"),
+    ("state", ""),
+    ("moved", "K"),
+    ("steps", "[K] [L]"),
+    ("text", ""),
+    ("try", "STEP"),
+    ("without", "S"),
+    ("when", "PIECE"),
+    ("why", "[STEP]"),
+    ("owns", "[S]"),
+    ("next", "PIECE"),
+    ("cut", ""),
+    ("help", "[WORD]"),
+    ("quit", ""),
+    ("exit", ""),
+    ("?", ""),
+];
+
+/// The pieces of a state, likewise.
+pub static PIECES: [(&'static str, &'static str); 9] = [
+    ("proc", "P"),
+    ("page", "P N"),
+    ("fd", "P F"),
+    ("ids", "P"),
+    ("pending", "P"),
+    ("queue", "P"),
+    ("desc", "D"),
+    ("pipe", "Q"),
+    ("txn", "S"),
+];
+
 /// The form of that name.
 pub fn form_of(forms: &'static [(&'static str, &'static str)], name: &[u8]) -> Option<Form> {
     for (known, words) in forms {

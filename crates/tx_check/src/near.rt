@@ -1,5 +1,6 @@
 //! The name that is nearest to a mistyped one.
-use crate::forms::{CALLS, COMMANDS};
+use crate::forms::{CALLS, COMMANDS, Form, PIECES, SESSION};
+use crate::habits::{call_meant, command_meant, session_meant};
 use crate::trouble::Names;
 use std::alloc::Global;
 use strsim::osa_distance;
@@ -12,38 +13,86 @@ const EDITS: usize = 4;
 /// A name that is near to a word.
 #[derive(Clone, Copy)]
 pub enum NearName<'a> {
-    /// That of a call or a command.
-    Form(&'static [u8]),
+    /// That of a call, a command or a piece.
+    Form(Form),
+    /// That of a call, with which no line of a session begins.
+    Step(Form),
     /// That of the label which the line means.
     Label(OwnLine<'a>),
 }
 
-/// The name among those there are that is nearest to a word, where one is near.
+/// The name among those there are that is meant by a word: one that people know it by from elsewhere,
+/// or the one that is nearest to it, where one is near.
 pub fn near_name<'a>(
     alloc: Global,
     names: Names<'a>,
     word: &[u8],
 ) -> Result<Option<NearName<'a>>, NoMemory> {
+    if let Some(name) = known_elsewhere(names, word) {
+        return Ok(Some(name));
+    }
     match names {
-        Names::Calls => nearest_form(alloc, CALLS.as_slice(), word),
+        Names::Calls => nearest_name(alloc, CALLS.as_slice(), word),
         // A program has no `deliver`, which stands last.
-        Names::Instructions => nearest_form(alloc, &CALLS[..CALLS.len() - 1], word),
-        Names::Commands => nearest_form(alloc, COMMANDS.as_slice(), word),
+        Names::Instructions => nearest_name(alloc, &CALLS[..CALLS.len() - 1], word),
+        Names::Commands => nearest_name(alloc, COMMANDS.as_slice(), word),
+        Names::Pieces => nearest_name(alloc, PIECES.as_slice(), word),
+        Names::Session => nearest_in_session(alloc, word),
         Names::Labels(text) => nearest_label(alloc, text, word),
     }
 }
 
-/// The nearest of the names of some forms.
-fn nearest_form(
+/// The name here of what has this one elsewhere.
+fn known_elsewhere(names: Names<'_>, word: &[u8]) -> Option<NearName<'static>> {
+    match names {
+        Names::Calls | Names::Instructions => Some(NearName::Form(call_meant(word)?)),
+        Names::Commands => Some(NearName::Form(command_meant(word)?)),
+        Names::Session => match session_meant(word) {
+            Some(form) => Some(NearName::Form(form)),
+            None => Some(NearName::Step(call_meant(word)?)),
+        },
+        Names::Pieces | Names::Labels(_) => None,
+    }
+}
+
+/// The nearest of some names.
+fn nearest_name(
     alloc: Global,
     forms: &'static [(&'static str, &'static str)],
     word: &[u8],
 ) -> Result<Option<NearName<'static>>, NoMemory> {
+    match nearest_form(alloc, forms, EDITS + 1, word)? {
+        Some((form, _edits)) => Ok(Some(NearName::Form(form))),
+        None => Ok(None),
+    }
+}
+
+/// The nearest command of a session, or a call that is nearer.
+fn nearest_in_session(alloc: Global, word: &[u8]) -> Result<Option<NearName<'static>>, NoMemory> {
     let mut nearest = None;
     let mut edits = EDITS + 1;
-    for (name, _words) in forms {
+    if let Some((form, fewer)) = nearest_form(alloc, SESSION.as_slice(), edits, word)? {
+        nearest = Some(NearName::Form(form));
+        edits = fewer;
+    }
+    if let Some((form, _edits)) = nearest_form(alloc, CALLS.as_slice(), edits, word)? {
+        nearest = Some(NearName::Step(form));
+    }
+    Ok(nearest)
+}
+
+/// The nearest of the forms by their names that fewer than so many edits lead to, and how many do.
+fn nearest_form(
+    alloc: Global,
+    forms: &'static [(&'static str, &'static str)],
+    most: usize,
+    word: &[u8],
+) -> Result<Option<(Form, usize)>, NoMemory> {
+    let mut nearest = None;
+    let mut edits = most;
+    for (name, words) in forms {
         if let Some(fewer) = fewer_edits(alloc, edits, name.as_bytes(), word)? {
-            nearest = Some(NearName::Form(name.as_bytes()));
+            nearest = Some((Form { name, words }, fewer));
             edits = fewer;
         }
     }

@@ -2,6 +2,9 @@
 ghost use Rattle.std.specs.Prelude.{◌<◌, ◌≢◌, OnOk, IfOk, string_bytes};
 ghost use Rattle.tx_check.specs.Told.{IsInLine};
 
+use crate::forms::Form;
+use crate::habits::left_out;
+use crate::meanings::meaning_of;
 use crate::near::{NearName, near_name};
 use crate::trouble::{Names, What};
 use std::alloc::{AllocError, Global};
@@ -37,7 +40,9 @@ fn say_what(text: &mut String, what: &What<'_>) -> Result<(), AllocError>
         What::Word(word, trouble) => say_of_word(text, word, trouble.sentence()),
         What::Third(word, trouble) => say_of_word(text, word, trouble.sentence()),
         What::OddByte(byte) => say_odd_byte(text, *byte),
-        What::Takes { name, form, got } => say_takes(text, name, form, *got),
+        What::Takes { name, form, got } => say_takes(text, name, *form, *got),
+        What::LineAlone(word, line) => say_line_alone(text, word, line),
+        What::CallAlone(word, form) => say_call_alone(text, word, *form),
         What::OutOfRange { word, range } => say_wanted(
             text,
             word,
@@ -55,7 +60,12 @@ fn say_what(text: &mut String, what: &What<'_>) -> Result<(), AllocError>
         What::InHex(characters) => say_in_hex(text, characters),
         What::NoSignal(word) => {
             say(text, "there is no signal ")?;
-            say_word(text, word)
+            say_word(text, word)?;
+            say(
+                text,
+                ", only 1 HUP, 2 INT, 3 QUIT, 6 ABRT, 9 KILL, 10 USR1, 12 USR2, ",
+            )?;
+            say(text, "13 PIPE, 14 ALRM, 15 TERM, 17 CHLD and 32 to 39")
         }
         What::SecondLabel { name, line } => say_second_label(text, name, *line),
         What::NoSuch(_names, word) => say_word(text, word),
@@ -72,11 +82,18 @@ fn say_no_such(
     requires { IsInLine (string_bytes text.old) }
     ensures { OnOk result (IsInLine (string_bytes text.new)) }
 {
+    if let Some(reason) = left_out(names, word) {
+        say_word(text, word)?;
+        say(text, " is left out on purpose: ")?;
+        say_all(text, reason)?;
+        return Ok(());
+    }
     let near = near_name(alloc, names, word)?;
     say(text, no_such(names))?;
     say_word(text, word)?;
     match near {
-        Some(NearName::Form(name)) => say_near(text, name)?,
+        Some(NearName::Form(form)) => say_near(text, form.name.as_bytes())?,
+        Some(NearName::Step(form)) => say_near_step(text, form)?,
         Some(NearName::Label(line)) => say_near_label(text, line)?,
         None => {}
     }
@@ -101,7 +118,8 @@ fn no_such(names: Names<'_>) -> &'static str
 {
     match names {
         Names::Calls | Names::Instructions => "no such call: ",
-        Names::Commands => "no such command: ",
+        Names::Commands | Names::Session => "no such command: ",
+        Names::Pieces => "no such piece: ",
         Names::Labels(_text) => "no such label: ",
     }
 }
@@ -114,6 +132,70 @@ fn say_near(text: &mut String, name: &[u8]) -> Result<(), AllocError>
     say(text, "; did you mean ")?;
     say_word(text, name)?;
     say(text, "?")
+}
+
+/// Says that a step of that call may be meant.
+fn say_near_step(text: &mut String, form: Form) -> Result<(), AllocError>
+    requires { IsInLine (string_bytes text.old) }
+    ensures { OnOk result (IsInLine (string_bytes text.new)) }
+{
+    say(text, "; did you mean the step ")?;
+    say_step(text, form)?;
+    say(text, "?")
+}
+
+/// Says a step of that call.
+fn say_step(text: &mut String, form: Form) -> Result<(), AllocError>
+    requires { IsInLine (string_bytes text.old) }
+    ensures { OnOk result (IsInLine (string_bytes text.new)) }
+{
+    say(text, "2 ")?;
+    say_all(text, form.name)?;
+    if form.words.is_empty() {
+        return Ok(());
+    }
+    say(text, " ")?;
+    say_all(text, form.words)
+}
+
+/// Says that no process stands before a call.
+fn say_line_alone(text: &mut String, word: &[u8], line: &[u8]) -> Result<(), AllocError>
+    requires { IsInLine (string_bytes text.old) }
+    ensures { OnOk result (IsInLine (string_bytes text.new)) }
+{
+    say_word(text, word)?;
+    say(
+        text,
+        ": a step begins with the number of its process, as 2 ",
+    )?;
+    say_word(text, line)
+}
+
+/// Says that no process stands before a call of that form.
+fn say_call_alone(text: &mut String, word: &[u8], form: Form) -> Result<(), AllocError>
+    requires { IsInLine (string_bytes text.old) }
+    ensures { OnOk result (IsInLine (string_bytes text.new)) }
+{
+    say_word(text, word)?;
+    say(
+        text,
+        ": a step begins with the number of its process, as in ",
+    )?;
+    say_step(text, form)?;
+    say_meaning(text, form)
+}
+
+/// Says what the words of a form mean.
+fn say_meaning(text: &mut String, form: Form) -> Result<(), AllocError>
+    requires { IsInLine (string_bytes text.old) }
+    ensures { OnOk result (IsInLine (string_bytes text.new)) }
+{
+    let meaning = meaning_of(form);
+    if meaning.is_empty() {
+        return Ok(());
+    }
+    say(text, ": ")?;
+    say_all(text, meaning)
 }
 
 /// Says a word, and what is wrong with it.
@@ -141,21 +223,25 @@ fn say_odd_byte(text: &mut String, byte: u8) -> Result<(), AllocError>
         },
     )?;
     say_count(text, u64::from(byte))?;
-    say(text, ": words are of ASCII, and one space parts them")
+    say(
+        text,
+        ": words are of ASCII, and one space parts them, but in version 3",
+    )
 }
 
 /// Says what a name takes, and how many words it got.
-fn say_takes(text: &mut String, name: &[u8], form: &str, got: usize) -> Result<(), AllocError>
+fn say_takes(text: &mut String, name: &[u8], form: Form, got: usize) -> Result<(), AllocError>
     requires { IsInLine (string_bytes text.old) }
     ensures { OnOk result (IsInLine (string_bytes text.new)) }
 {
     say_word(text, name)?;
     say(text, " takes ")?;
-    if form.is_empty() {
+    if form.words.is_empty() {
         say(text, "no words")?;
     } else {
-        say_word(text, form.as_bytes())?;
+        say_all(text, form.words)?;
     }
+    say_meaning(text, form)?;
     say(text, "; got ")?;
     say_count(text, got as u64)?;
     say(text, if got == 1 { " word" } else { " words" })
@@ -181,7 +267,7 @@ fn say_in_hex(text: &mut String, characters: &[u8]) -> Result<(), AllocError>
 {
     say(text, "\"")?;
     say_word(text, characters)?;
-    say(text, "\": bytes are hex here")?;
+    say(text, "\": bytes are hex before version 3")?;
     if characters.is_empty() || characters.len() > HEX_CHARACTERS {
         return Ok(());
     }
@@ -211,6 +297,17 @@ fn say_word(text: &mut String, word: &[u8]) -> Result<(), AllocError>
     }
     if word.len() > WORD_BYTES {
         return say(text, "..");
+    }
+    Ok(())
+}
+
+/// Says all of some words, with `?` for each byte that is no character of ASCII.
+fn say_all(text: &mut String, words: &str) -> Result<(), AllocError>
+    requires { IsInLine (string_bytes text.old) }
+    ensures { OnOk result (IsInLine (string_bytes text.new)) }
+{
+    for byte in words.as_bytes() {
+        say_byte(text, shown(*byte))?;
     }
     Ok(())
 }

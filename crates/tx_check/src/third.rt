@@ -6,7 +6,7 @@ pub mod strings;
 
 use crate::places::Part;
 use crate::third::sets::set_what;
-use crate::trouble::{LineTrouble, Trouble, What, WordTrouble};
+use crate::trouble::{Trouble, What, WordTrouble};
 use crate::words::{count_words, word_at};
 use tx_plain::{Role, role_of};
 
@@ -18,7 +18,6 @@ pub fn third_what<'a>(part: Part, line: &'a [u8], trouble: Trouble<'a>) -> What<
     requires { IsColumn line.now trouble.column }
 {
     match trouble.what {
-        What::Line(LineTrouble::NoHeader) => What::Line(LineTrouble::NoThirdHeader),
         What::Word(_word, _wrong) => word_what(part, line, trouble),
         What::NoSignal(_word) => word_what(part, line, trouble),
         what => what,

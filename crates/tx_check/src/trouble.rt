@@ -2,6 +2,7 @@
 ghost use Rattle.std.specs.Prelude.{◌≡◌};
 ghost use Rattle.tx_check.specs.Told.{IsInLine};
 
+use crate::forms::Form;
 use crate::words::Word;
 use tx_plain::MeantLines;
 
@@ -27,9 +28,13 @@ pub enum What<'a> {
     /// A name with too few or too many words behind it: what it takes, and how many there are.
     Takes {
         name: &'a [u8],
-        form: &'static str,
+        form: Form,
         got: usize,
     },
+    /// The first word of a line that is a call, and no process stands before it.
+    LineAlone(&'a [u8], &'a [u8]),
+    /// The same of a line that only begins as that call does.
+    CallAlone(&'a [u8], Form),
     /// A number, or what could be one, that is out of its range.
     OutOfRange {
         word: &'a [u8],
@@ -62,6 +67,10 @@ pub enum Names<'a> {
     Instructions,
     /// Of commands.
     Commands,
+    /// Of the commands of a session.
+    Session,
+    /// Of the pieces of a state.
+    Pieces,
     /// Of the labels in the text of a program.
     Labels(MeantLines<'a>),
 }
@@ -81,12 +90,17 @@ pub enum LineTrouble {
     Empty,
     Space,
     NoHeader,
-    NoThirdHeader,
+    NoSessionHeader,
+    HeaderLate,
+    ProgramInSession,
+    NoStep,
+    NeitherStepNorCommand,
     NoCall,
     DeferIsLater,
     MovedIsLater,
     CommandTooSoon,
     DebugAgain,
+    DebugInSession,
     LabelInSchedule,
     StepInProgram,
     DebugInProgram,
@@ -112,6 +126,10 @@ pub enum WordTrouble {
     NoName,
     NoLabel,
     NoSlot,
+    LabelColon,
+    SessionCommand,
+    SignalFirst,
+    SingleQuotes,
 }
 
 /// What is wrong with a word that only a text of version 3 spells so.
@@ -160,12 +178,17 @@ impl LineTrouble {
             LineTrouble::TooManyInstructions => "there are 1,024 instructions already",
             LineTrouble::TooManyLabels => "there are 256 labels already",
             LineTrouble::NoEnd => "the last line has no end",
-            LineTrouble::CarriageReturn => "the line ends with CR",
+            LineTrouble::CarriageReturn =>
+                "the line ends with CR, which only version 3 takes: txos 3 in line 1",
             LineTrouble::ByteOrderMark => "the text begins with a byte-order mark",
-            LineTrouble::Comment => "there are no comments",
-            LineTrouble::Empty => "the line is empty",
-            LineTrouble::Space => "words are parted by one space, with none before or after them",
-            LineTrouble::NoHeader => "the first line is txos 2 schedule N or txos 2 program N",
+            LineTrouble::Comment =>
+                "comments are of version 3 alone: txos 3 in line 1, and # before them",
+            LineTrouble::Empty => "the line is empty, which only version 3 takes: txos 3 in line 1",
+            LineTrouble::Space =>
+                "words are parted by one space, with none before or after them, but in version 3",
+            LineTrouble::NoHeader => {
+                "a text begins with txos 3 schedule N or txos 3 program N, for N processes"
+            }
             LineTrouble::NoCall => "a call is wanted after the process",
             _ => self.misplaced(),
         }
@@ -176,20 +199,36 @@ impl LineTrouble {
         ensures { IsInLine result.now }
     {
         match self {
-            LineTrouble::DeferIsLater => "sys_xbegin defer is of version 2: txos 2 in line 1",
-            LineTrouble::MovedIsLater => "moved is of version 2: txos 2 in line 1",
-            LineTrouble::CommandTooSoon => "commands stand behind a line debug",
+            LineTrouble::DeferIsLater => {
+                "sys_xbegin defer is not of version 1: txos 3 in line 1"
+            }
+            LineTrouble::MovedIsLater => "moved is not of version 1: txos 3 in line 1",
+            LineTrouble::CommandTooSoon => "commands come after a line debug",
             LineTrouble::DebugAgain => "commands have begun: debug stands above",
-            LineTrouble::LabelInSchedule => "labels are of programs: txos 2 program N in line 1",
+            LineTrouble::LabelInSchedule => "labels are of programs: txos 3 program N in line 1",
             LineTrouble::StepInProgram => "this is a program: its lines name no process",
             LineTrouble::DebugInProgram => {
                 "this is a program: txos run --workers N --turns T, and no commands"
             }
-            LineTrouble::NoThirdHeader => {
-                "the first line with words is txos 3 schedule N or txos 3 program N"
-            }
             LineTrouble::StepAmongCommands =>
                 "commands have begun: steps stand before the line debug",
+            _ => self.of_session(),
+        }
+    }
+
+    /// The sentence that tells it, where it is about a session.
+    fn of_session(self) -> &'static str
+        ensures { IsInLine result.now }
+    {
+        match self {
+            LineTrouble::NoSessionHeader => {
+                "a session begins with txos 3 schedule N, for 1 to 256 processes"
+            }
+            LineTrouble::HeaderLate => "a header is only the first line of a session",
+            LineTrouble::ProgramInSession => "a session has steps, and no program: schedule",
+            LineTrouble::DebugInSession => "a session takes commands without a line debug",
+            LineTrouble::NoStep => "this is no step",
+            LineTrouble::NeitherStepNorCommand => "neither a step nor a command",
             _ => "this line is none of the grammar's",
         }
     }
@@ -201,13 +240,15 @@ impl WordTrouble {
         ensures { IsInLine result.now }
     {
         match self {
-            WordTrouble::NoVersion => "the version is 1 or 2",
+            WordTrouble::NoVersion => "the version is 1, 2 or 3",
             WordTrouble::NoTextKind => "schedule or program is wanted",
             WordTrouble::NoNumber => "a number is wanted, in decimal digits",
             WordTrouble::ZeroBefore => "a number begins with no 0, and 0 has no sign",
-            WordTrouble::SignalName => "signals are numbers here",
+            WordTrouble::SignalName => "signals are numbers before version 3: txos 3 in line 1",
             WordTrouble::NoProcess => "a step begins with the number of its process, or kernel",
-            WordTrouble::NoHexDigits => "bytes are two hex digits each, of 0 to 9 and a to f",
+            WordTrouble::NoHexDigits => {
+                "bytes are two hex digits each, of 0 to 9 and a to f; in version 3 also \"text\""
+            }
             WordTrouble::UpperCase => "hex digits are lower case",
             WordTrouble::OddDigits => "each byte has two hex digits",
             WordTrouble::TooManyBytes => "at most 64 bytes stand in a word",
@@ -216,6 +257,19 @@ impl WordTrouble {
             WordTrouble::NoName => "a name has 1 to 16 of a to z, 0 to 9 and _, a letter first",
             WordTrouble::NoLabel => "a label is wanted: @NAME",
             WordTrouble::NoSlot => "slots are $0 to $7",
+            _ => self.elsewhere(),
+        }
+    }
+
+    /// What is said behind a word as other programs have it.
+    fn elsewhere(self) -> &'static str
+        ensures { IsInLine result.now }
+    {
+        match self {
+            WordTrouble::LabelColon => "a label is a line label NAME",
+            WordTrouble::SessionCommand => "this is a command of txos shell, and of no text",
+            WordTrouble::SignalFirst => "the process comes first, then the signal: kill T V",
+            _ => "a string is in double quotes",
         }
     }
 }
@@ -230,7 +284,7 @@ impl ThirdTrouble {
             ThirdTrouble::NoEscape => "the escapes of a string are \\n, \\t, \\0, \\\" and \\\\",
             ThirdTrouble::StringSize => "a string has 1 to 64 bytes",
             ThirdTrouble::BehindString => "a space is wanted behind a string",
-            ThirdTrouble::NoStore => "a string stands for the bytes of a store alone",
+            ThirdTrouble::NoStore => "a string is only the bytes of a store: store A \"text\"",
             ThirdTrouble::NoSet => "a set is - for none, or signals joined by commas",
             ThirdTrouble::Twice => "a signal stands in the set twice",
         }

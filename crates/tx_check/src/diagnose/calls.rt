@@ -24,7 +24,7 @@ pub fn call_trouble<'a>(
     let behind = count_words(line).saturating_sub(place).saturating_sub(1);
     let words = words_of(form, line, place);
     if behind != count_of(words) {
-        return Some(takes(name, form.words, behind));
+        return Some(takes(name, form, behind));
     }
     if let Some(trouble) = arguments_trouble(kind, words, line, place) {
         return Some(trouble);
@@ -63,7 +63,7 @@ fn no_such_call<'a>(kind: TextKind, name: Word<'a>) -> Trouble<'a>
 }
 
 /// A name that takes those words, with so many behind it.
-pub fn takes<'a>(name: Word<'a>, form: &'static str, got: usize) -> Trouble<'a>
+pub fn takes<'a>(name: Word<'a>, form: Form, got: usize) -> Trouble<'a>
     ensures { result.column ≡ name.entry.column }
 {
     Trouble {

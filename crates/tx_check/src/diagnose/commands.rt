@@ -3,8 +3,8 @@ ghost use Rattle.std.specs.Prelude.{◌≡◌, IfSome};
 ghost use Rattle.tx_check.specs.Told.{IsColumn};
 
 use crate::diagnose::calls::{arguments_trouble, count_of, takes};
-use crate::forms::{COMMANDS, form_of};
-use crate::trouble::{LineTrouble, Names, Trouble, What};
+use crate::forms::{COMMANDS, SESSION, form_of};
+use crate::trouble::{LineTrouble, Names, Trouble, What, WordTrouble};
 use crate::words::{Word, count_words, word_at};
 use tx_lines::{TextKind, Version, read_pid};
 
@@ -18,7 +18,7 @@ pub fn command_trouble<'a>(version: Version, line: &'a [u8]) -> Option<Trouble<'
     };
     let behind = count_words(line) - 1;
     if behind != count_of(form.words) {
-        return Some(takes(name, form.words, behind));
+        return Some(takes(name, form, behind));
     }
     if let Some(trouble) = arguments_trouble(TextKind::Schedule, form.words, line, 0) {
         return Some(trouble);
@@ -40,6 +40,9 @@ fn no_command<'a>(name: Word<'a>) -> Trouble<'a>
     }
     if name.bytes == b"kernel".as_slice() || read_pid(name.bytes).is_some() {
         return Trouble::of_line(name.column, LineTrouble::StepAmongCommands);
+    }
+    if form_of(SESSION.as_slice(), name.bytes).is_some() {
+        return Trouble::of_word(name, WordTrouble::SessionCommand);
     }
     Trouble {
         column: name.column,

@@ -27,7 +27,7 @@ pub fn header_trouble<'a>(kind: TextKind, line: &'a [u8]) -> Option<Trouble<'a>>
 }
 
 /// What is wrong with the kind of the text, or with how many processes there are, up to so many.
-fn count_trouble<'a>(
+pub fn count_trouble<'a>(
     kind: TextKind,
     most: u16,
     text_kind: Word<'a>,

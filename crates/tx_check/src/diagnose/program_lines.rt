@@ -3,9 +3,16 @@ ghost use Rattle.std.specs.Prelude.{◌≡◌, IfSome};
 ghost use Rattle.tx_check.specs.Told.{IsColumn};
 
 use crate::diagnose::calls::{call_trouble, takes};
+use crate::forms::Form;
 use crate::trouble::{LineTrouble, Trouble, WordTrouble};
 use crate::words::{Word, count_words, word_at};
 use tx_lines::{TextKind, Version, read_name, read_pid};
+
+/// The form of a label.
+const LABEL: Form = Form {
+    name: "label",
+    words: "NAME",
+};
 
 /// What is wrong with the words of a line of a program after the first.
 pub fn program_line_trouble<'a>(version: Version, line: &'a [u8]) -> Option<Trouble<'a>>
@@ -21,6 +28,9 @@ pub fn program_line_trouble<'a>(version: Version, line: &'a [u8]) -> Option<Trou
     if first.bytes == b"kernel".as_slice() || read_pid(first.bytes).is_some() {
         return Some(Trouble::of_line(first.column, LineTrouble::StepInProgram));
     }
+    if count_words(line) == 1 && first.bytes.ends_with(b":") {
+        return Some(Trouble::of_word(first, WordTrouble::LabelColon));
+    }
     call_trouble(TextKind::Program, version, line, 0)
 }
 
@@ -31,7 +41,7 @@ fn label_trouble<'a>(first: Word<'a>, line: &'a [u8]) -> Option<Trouble<'a>>
 {
     let behind = count_words(line) - 1;
     if behind != 1 {
-        return Some(takes(first, "NAME", behind));
+        return Some(takes(first, LABEL, behind));
     }
     let name = word_at(line, 1)?;
     match read_name(name.bytes) {

@@ -2,12 +2,19 @@
 ghost use Rattle.std.specs.Prelude.{◌≡◌, IfSome};
 ghost use Rattle.tx_check.specs.Told.{IsColumn};
 
+use crate::diagnose::alone::call_alone;
 use crate::diagnose::calls::{arguments_trouble, call_trouble, takes};
 use crate::diagnose::numbers::no_number;
-use crate::forms::{COMMANDS, form_of};
+use crate::forms::{COMMANDS, Form, SESSION, form_of};
 use crate::trouble::{LineTrouble, Trouble, WordTrouble};
 use crate::words::{Word, count_words, word_at};
 use tx_lines::{TextKind, Version, read_pid};
+
+/// The form of a step of the kernel.
+const KERNEL: Form = Form {
+    name: "kernel",
+    words: "P",
+};
 
 /// What is wrong with the words of a line that is to be a step.
 pub fn step_trouble<'a>(version: Version, line: &'a [u8]) -> Option<Trouble<'a>>
@@ -18,7 +25,7 @@ pub fn step_trouble<'a>(version: Version, line: &'a [u8]) -> Option<Trouble<'a>>
         return kernel_trouble(first, line);
     }
     if read_pid(first.bytes).is_none() {
-        return Some(no_process(first));
+        return Some(no_process(first, version, line));
     }
     if count_words(line) == 1 {
         return Some(Trouble::of_line(line.len() + 1, LineTrouble::NoCall));
@@ -33,13 +40,13 @@ fn kernel_trouble<'a>(first: Word<'a>, line: &'a [u8]) -> Option<Trouble<'a>>
 {
     let behind = count_words(line) - 1;
     if behind != 1 {
-        return Some(takes(first, "P", behind));
+        return Some(takes(first, KERNEL, behind));
     }
     arguments_trouble(TextKind::Schedule, "P", line, 0)
 }
 
 /// What is wrong with a first word that is no process: what it would be elsewhere, or the number.
-fn no_process<'a>(first: Word<'a>) -> Trouble<'a>
+fn no_process<'a>(first: Word<'a>, version: Version, line: &'a [u8]) -> Trouble<'a>
     ensures { result.column ≡ first.entry.column }
 {
     if first.bytes == b"label".as_slice() {
@@ -47,6 +54,12 @@ fn no_process<'a>(first: Word<'a>) -> Trouble<'a>
     }
     if form_of(COMMANDS.as_slice(), first.bytes).is_some() {
         return Trouble::of_line(first.column, LineTrouble::CommandTooSoon);
+    }
+    if let Some(trouble) = call_alone(first, version, line) {
+        return trouble;
+    }
+    if form_of(SESSION.as_slice(), first.bytes).is_some() {
+        return Trouble::of_word(first, WordTrouble::SessionCommand);
     }
     match first.bytes {
         [b'-' | b'0'..=b'9', ..] => no_number(first, "0 to 65535"),

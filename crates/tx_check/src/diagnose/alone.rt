@@ -1,0 +1,44 @@
+//! What is wrong with a call that has no process before it.
+ghost use Rattle.std.specs.Prelude.{◌≡◌, IfSome};
+
+use crate::diagnose::calls::call_trouble;
+use crate::forms::{CALLS, Form, form_of};
+use crate::trouble::{Trouble, What};
+use crate::words::Word;
+use tx_lines::{TextKind, Version};
+
+/// What is wrong with a line whose first word is the name of a call, or begins with one. Nothing
+/// where it is another word.
+pub fn call_alone<'a>(first: Word<'a>, version: Version, line: &'a [u8]) -> Option<Trouble<'a>>
+    ensures { IfSome result (λ trouble. trouble.column ≡ first.entry.column) }
+{
+    let form = form_of(CALLS.as_slice(), name_in(first.bytes))?;
+    let what = if is_whole(form, version, line) {
+        What::LineAlone(first.bytes, line)
+    } else {
+        What::CallAlone(first.bytes, form)
+    };
+    Some(Trouble {
+        column: first.column,
+        what,
+    })
+}
+
+/// Whether a line is a whole call. The words behind a `kill` may be the signal and the process, as a
+/// shell has them.
+fn is_whole(form: Form, version: Version, line: &[u8]) -> bool {
+    if form.name == "kill" || form.name == "sigqueue" {
+        return false;
+    }
+    call_trouble(TextKind::Schedule, version, line, 0).is_none()
+}
+
+/// The letters, digits and `_` with which a word begins.
+fn name_in(word: &[u8]) -> &[u8] {
+    for at in 0..word.len() {
+        if !word[at].is_ascii_alphanumeric() && word[at] != b'_' {
+            return &word[..at];
+        }
+    }
+    word
+}

@@ -1,0 +1,202 @@
+//! Tells of a line of a session what is wrong with it.
+ghost use Rattle.std.specs.Prelude.{◌≡◌, ◌≤◌, [], IfOk, IfSome, OnOk, length, string_bytes};
+ghost use Rattle.tx_check.specs.Sessions.{IsSessionTold};
+ghost use Rattle.tx_check.specs.Told.{IsColumn, IsInLine};
+
+mod asks;
+mod heads;
+mod pieces;
+
+use crate::diagnose::alone::call_alone;
+use crate::diagnose::shapes::shape_trouble;
+use crate::diagnose::steps::step_trouble;
+use crate::kinds::front_word;
+use crate::own::own_trouble;
+use crate::places::Part;
+use crate::sentences::sentence;
+use crate::session::asks::ask_trouble;
+use crate::session::heads::head_trouble;
+use crate::trouble::{LineTrouble, Trouble, WordTrouble};
+use crate::words::{Word, word_at};
+use std::alloc::{AllocError, Global};
+use tx_base::NoMemory;
+use tx_lines::{LINE_BYTES, Version, put, put_count};
+use tx_plain::{Room, plain_line};
+
+/// What is wrong with a line of a session that is neither a step nor asks for anything: a line
+/// `column C: ` and a sentence. At that column is the word of which the sentence speaks. Columns
+/// count bytes from 1; the column after the last byte stands for the line's end.
+///
+/// `is_third` says that the line is of version 3, and `version` else of which it is. Any line is
+/// answered, also one that is a step or asks for something.
+///
+/// Memory is taken for what is told alone. The only error is that such a growth was refused.
+pub fn session_line(
+    alloc: Global,
+    is_third: bool,
+    version: Version,
+    line: &[u8],
+) -> Result<String, NoMemory>
+    ensures { IfOk result (λ told. IsSessionTold line.now (string_bytes told)) }
+{
+    let mut room = Room::new();
+    let trouble = session_trouble(is_third, version, line, &mut room);
+    let words = sentence(alloc, &trouble.what)?;
+    let mut told = String::new(alloc);
+    put_column(&mut told, line, trouble.column as u64, words.as_str())?;
+    Ok(told)
+}
+
+/// Puts a sentence at that column of a line into a text that is empty.
+fn put_column(told: &mut String, line: &[u8], column: u64, sentence: &str) -> Result<(), AllocError>
+    requires empty { string_bytes told.old ≡ [] }
+    requires column { IsColumn line.now column }
+    requires sentence { IsInLine sentence.now }
+    ensures { OnOk result (IsSessionTold line.now (string_bytes told.new)) }
+{
+    put(told, "column ")?;
+    put_count(told, column)?;
+    put(told, ": ")?;
+    put(told, sentence)?;
+    put(told, "\n")
+}
+
+/// What is wrong with a line of a session.
+fn session_trouble<'a>(
+    is_third: bool,
+    version: Version,
+    line: &'a [u8],
+    room: &'a mut Room,
+) -> Trouble<'a>
+    ensures { IsColumn line.now result.column }
+{
+    if line.len() > LINE_BYTES {
+        return Trouble::of_line(LINE_BYTES + 1, LineTrouble::TooLong);
+    }
+    if let Some(step) = asked_step(is_third, line) {
+        let trouble = alone_trouble(is_third, version, step, room);
+        return Trouble {
+            column: trouble.column + (line.len() - step.len()),
+            what: trouble.what,
+        };
+    }
+    let Some(meant) = meant_line(is_third, line, room) else {
+        return Trouble::of_line(1, LineTrouble::Empty);
+    };
+    let trouble = words_trouble(version, meant);
+    own_trouble(is_third, part_of(meant), meant, line, trouble)
+}
+
+/// What is wrong with a line that is to be a step alone.
+fn alone_trouble<'a>(
+    is_third: bool,
+    version: Version,
+    line: &'a [u8],
+    room: &'a mut Room,
+) -> Trouble<'a>
+    ensures { IsColumn line.now result.column }
+{
+    let Some(meant) = meant_line(is_third, line, room) else {
+        return Trouble::of_line(1, LineTrouble::Empty);
+    };
+    let trouble = step_words_trouble(version, meant);
+    own_trouble(is_third, Part::Step, meant, line, trouble)
+}
+
+/// What a line means. Nothing where it is of version 3 and has no word.
+fn meant_line<'a>(is_third: bool, line: &'a [u8], room: &'a mut Room) -> Option<&'a [u8]> {
+    if is_third {
+        return plain_line(room, line);
+    }
+    Some(line)
+}
+
+/// What follows the first word of a line.
+fn behind_word(is_third: bool, line: &[u8]) -> Option<(&[u8], &[u8])>
+    ensures { IfSome result (λ r. length r.1.now ≤ length line.now) }
+{
+    if is_third {
+        return tx_plain::split_word(line);
+    }
+    let word = front_word(line);
+    if word.len() == line.len() {
+        return None;
+    }
+    Some((word, &line[word.len() + 1..]))
+}
+
+/// The step about which a line asks by `try` or `why`. Nothing where no word follows that.
+fn asked_step(is_third: bool, line: &[u8]) -> Option<&[u8]>
+    ensures { IfSome result (λ step. length step.now ≤ length line.now) }
+{
+    let (word, step) = behind_word(is_third, line)?;
+    if word != b"try".as_slice() && word != b"why".as_slice() {
+        return None;
+    }
+    if step.is_empty() || (is_third && tx_plain::split_word(step).is_none()) {
+        return None;
+    }
+    Some(step)
+}
+
+/// What the words of a line are looked at as.
+fn part_of(line: &[u8]) -> Part {
+    match word_at(line, 0) {
+        Some(first) if begins_step(first) => Part::Step,
+        _ => Part::Command,
+    }
+}
+
+/// Whether a step may begin with that word.
+fn begins_step(first: Word<'_>) -> bool {
+    match first.bytes {
+        [b'0'..=b'9', ..] | [b'-', b'0'..=b'9', ..] => true,
+        word => word == b"kernel".as_slice(),
+    }
+}
+
+/// What is wrong with the words of a line.
+fn words_trouble<'a>(version: Version, line: &'a [u8]) -> Trouble<'a>
+    ensures { IsColumn line.now result.column }
+{
+    if let Some(trouble) = shape_trouble(line) {
+        return trouble;
+    }
+    let trouble = match word_at(line, 0) {
+        Some(first) if begins_step(first) => step_trouble(version, line),
+        Some(first) if first.bytes == b"txos".as_slice() => Some(head_trouble(line)),
+        _ => ask_trouble(version, line),
+    };
+    match trouble {
+        Some(trouble) => trouble,
+        None => Trouble::of_line(1, LineTrouble::NeitherStepNorCommand),
+    }
+}
+
+/// What is wrong with the words of a line that is to be a step.
+fn step_words_trouble<'a>(version: Version, line: &'a [u8]) -> Trouble<'a>
+    ensures { IsColumn line.now result.column }
+{
+    if let Some(trouble) = shape_trouble(line) {
+        return trouble;
+    }
+    let trouble = match word_at(line, 0) {
+        Some(first) if begins_step(first) => step_trouble(version, line),
+        Some(first) => Some(no_step(first, version, line)),
+        None => None,
+    };
+    match trouble {
+        Some(trouble) => trouble,
+        None => Trouble::of_line(1, LineTrouble::NoStep),
+    }
+}
+
+/// What is wrong with a first word that begins no step.
+fn no_step<'a>(first: Word<'a>, version: Version, line: &'a [u8]) -> Trouble<'a>
+    ensures { result.column ≡ first.entry.column }
+{
+    match call_alone(first, version, line) {
+        Some(trouble) => trouble,
+        None => Trouble::of_word(first, WordTrouble::NoProcess),
+    }
+}
