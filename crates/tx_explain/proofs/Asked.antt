@@ -29,11 +29,11 @@ appended : (xs ys : List Topic) → map words_of (xs ++ ys) ≡ map words_of xs 
 appended [] ys = refl
 appended (x ∷ xs) ys = ap (λ zs. words_of x ∷ zs) (appended xs ys)
 
-in_groups : (groups : List Group) → words_in (map words_of_group groups) ≡ map words_of (topics_in groups)
+pub in_groups : (groups : List Group) → words_in (map words_of_group groups) ≡ map words_of (topics_in groups)
 in_groups [] = refl
 in_groups (g ∷ gs) = ap (λ zs. map words_of g.topics.now ++ zs) (in_groups gs) ∙ sym (appended g.topics.now (topics_in gs))
 
-word_first : (found : Option Topic) → option_map name_among (option_map words_of found) ≡ option_map (λ (t : Topic). t.word.now) found
+pub word_first : (found : Option Topic) → option_map name_among (option_map words_of found) ≡ option_map (λ (t : Topic). t.word.now) found
 word_first None = refl
 word_first (Some t) = refl
 

@@ -1,5 +1,6 @@
 -- The words of calls, of refusals and of errors are among those that are explained.
-use Rattle.std.proofs.Common.{◌≡◌, ◌∙◌, true, Option, Some, is_some, ap, refl}
+use Rattle.std.proofs.Common.{◌≡◌, ◌∙◌, ◌∷◌, true, Option, Some, None, is_some, ap, subst, rules, refl, IsTrue, Bor}
+use Rattle.std.specs.Prelude.{IfSome}
 use Rattle.std.specs.Fmt.{decimal, digits}
 use Rattle.tx_base.specs.Errors.{error_number}
 use Rattle.tx_base.specs.declared.errors.Errno.{Errno}
@@ -9,8 +10,8 @@ use Rattle.tx_base.specs.declared.steps.Call.TheVariants as call
 use Rattle.tx_base.specs.declared.steps.Refusal.{Refusal}
 use Rattle.tx_base.specs.declared.steps.Refusal.TheVariants.{NoProcess, NotRunning, BadNumber, NumberTaken, Doomed, Parked, KillPending, Busy, Wait, NotDeliverable, FramesFull, NoTransaction, NoMemory, Deferred}
 use Rattle.tx_explain.specs.Words.{Text, all_words}
-use Rattle.tx_explain.specs.Calls.{call_word, refusal_word}
-use Rattle.tx_explain.specs.Topics.{asked}
+use Rattle.tx_explain.specs.Calls.{call_word, error_name, refusal_word}
+use Rattle.tx_explain.specs.Topics.{asked, is_page_of, opens}
 
 pub every_refusal : (why : Refusal) → asked (refusal_word why) ≡ Some (refusal_word why)
 unfolding digits all_words
@@ -66,7 +67,7 @@ every_call call.SysXbeginDefer = refl
 every_call call.SysXend = refl
 every_call call.SysXabort = refl
 
-pub every_error : (error : Errno) → is_some (asked (decimal (error_number error))) ≡ true
+pub every_error : (error : Errno) → asked (45 ∷ decimal (error_number error)) ≡ Some (error_name error)
 unfolding digits all_words
 every_error NotPermitted = refl
 every_error NoSuchProcess = refl
@@ -78,6 +79,32 @@ every_error InvalidArgument = refl
 every_error TooManyDescriptors = refl
 every_error BrokenPipe = refl
 
+pub every_number : (error : Errno) → is_some (asked (decimal (error_number error))) ≡ true
+unfolding digits all_words
+every_number NotPermitted = refl
+every_number NoSuchProcess = refl
+every_number BadDescriptor = refl
+every_number NoChild = refl
+every_number TryAgain = refl
+every_number BadAddress = refl
+every_number InvalidArgument = refl
+every_number TooManyDescriptors = refl
+every_number BrokenPipe = refl
+
 -- what answers exactly where something is asked for answers to a word that is known
 pub answers : {A : Type 0} (word known : Text) (told : Option A) → is_some told ≡ is_some (asked word) → word ≡ known → is_some (asked known) ≡ true → is_some told ≡ true
 answers word known told same is asks = same ∙ ap (λ w. is_some (asked w)) is ∙ asks
+
+some_same : (one other : Text) → Some one ≡ Some other → one ≡ other
+some_same one other is = cc
+
+page_of : (named : Option Text) (name : Text) (told : Option (Bor Text)) → is_some told ≡ is_some named → IfSome told (λ text. IfSome named (λ it. IsTrue (opens it text.now)))
+    → named ≡ Some name → is_page_of name told ≡ true
+page_of (Some it) name None same begins is = cc
+page_of (Some it) name (Some text) same begins is = subst (λ n. opens n text.now ≡ true) (some_same it name is) (search (rules, begins))
+page_of None name told same begins is = cc
+
+-- what begins with the word that is asked for is a page about a word that is known
+pub answers_page : (word known name : Text) (told : Option (Bor Text)) → is_some told ≡ is_some (asked word)
+    → IfSome told (λ text. IfSome (asked word) (λ it. IsTrue (opens it text.now))) → word ≡ known → asked known ≡ Some name → is_page_of name told ≡ true
+answers_page word known name told same begins is named = page_of (asked word) name told same begins (ap asked is ∙ named)

@@ -1,4 +1,5 @@
 mod Asked
-mod FarFromAll
 mod FoundAt
+mod FirstLines
 mod Known
+mod NearWord

@@ -1,5 +1,7 @@
 -- The word of each call, of each refusal and of each error.
 use Rattle.std.specs.Prelude.{codes}
+use Rattle.tx_base.specs.declared.errors.Errno.{Errno}
+use Rattle.tx_base.specs.declared.errors.Errno.TheVariants.{NotPermitted, NoSuchProcess, BadDescriptor, NoChild, TryAgain, BadAddress, InvalidArgument, TooManyDescriptors, BrokenPipe}
 use Rattle.tx_base.specs.declared.steps.Call.{Call}
 use Rattle.tx_base.specs.declared.steps.Call.TheVariants as call
 use Rattle.tx_base.specs.declared.steps.Refusal.{Refusal}
@@ -57,3 +59,14 @@ refusal_word FramesFull = codes "N11"
 refusal_word NoTransaction = codes "N12"
 refusal_word NoMemory = codes "N13"
 refusal_word Deferred = codes "N14"
+
+abbrev pub error_name : Errno → Text
+error_name NotPermitted = codes "EPERM"
+error_name NoSuchProcess = codes "ESRCH"
+error_name BadDescriptor = codes "EBADF"
+error_name NoChild = codes "ECHILD"
+error_name TryAgain = codes "EAGAIN"
+error_name BadAddress = codes "EFAULT"
+error_name InvalidArgument = codes "EINVAL"
+error_name TooManyDescriptors = codes "EMFILE"
+error_name BrokenPipe = codes "EPIPE"

@@ -1,13 +1,12 @@
--- How far a word is from another, and from all that are explained.
-use Rattle.std.specs.Prelude.{ℕ, ◌/◌, Bool, List, length, map, min, nat_eq, nat_lt}
+-- How far a word is from another, and which one is nearest to it.
+use Rattle.std.specs.Prelude.{ℕ, zero, suc, ◌+◌, ◌/◌, Bool, Option, None, find, length, map, min, nat_eq, nat_le, option_map}
 use Rattle.std.specs.Char.{to_ascii_lowercase}
-use Rattle.std.specs.List.{list_all}
+use Rattle.std.specs.Option.{option_or}
 use Rattle.std.specs.Str.{chars}
 use Rattle.strsim.specs.Edits.{levenshtein_row}
 use Rattle.tx_explain.specs.declared.topic.Topic.{Topic}
-use Rattle.tx_explain.specs.declared.topic.Group.{Group}
 use Rattle.tx_explain.specs.Words.{Text, all_words}
-use Rattle.tx_explain.specs.Topics.{name_among}
+use Rattle.tx_explain.specs.Topics.{name_among, words_in}
 
 -- how many edits lead from one word to the other, in small letters
 unfoldable pub edits : Text → Text → ℕ
@@ -19,16 +18,21 @@ edits one other =
 abbrev pub most_edits : ℕ → ℕ
 most_edits bytes = min (bytes / 2) 2
 
-abbrev pub is_far : ℕ → Text → Text → Bool
-is_far most word name = nat_lt most (edits name word)
+abbrev pub is_near : ℕ → Text → Text → Bool
+is_near most word name = nat_le (edits name word) most
 
-abbrev pub are_far : ℕ → Text → List Topic → Bool
-are_far most word topics = list_all (λ (topic : Topic). is_far most word topic.word.now) topics
+abbrev pub is_near_topic : ℕ → Text → Topic → Bool
+is_near_topic most word topic = is_near most word topic.word.now
 
-abbrev pub are_far_in : ℕ → Text → List Group → Bool
-are_far_in most word groups = list_all (λ (group : Group). are_far most word group.topics.now) groups
+-- the first word that is explained and so many edits away, or fewer
+abbrev pub near_word : ℕ → Text → Option Text
+near_word most word = option_map name_among (find (λ words. is_near most word (name_among words)) (words_in all_words))
 
--- each word that is explained is more edits away
-abbrev pub is_far_from_all : ℕ → Text → Bool
-is_far_from_all most word =
-    list_all (λ (group : Text × List (List Text)). list_all (λ words. is_far most word (name_among words)) group.1) all_words
+-- the first word of those that are the fewest edits away, and fewer than so many
+abbrev pub nearest_below : ℕ → Text → Option Text
+nearest_below zero word = None
+nearest_below (suc edits) word = option_or (nearest_below edits word) (near_word edits word)
+
+-- the first word of those that are the fewest edits away
+abbrev pub nearest_word : Text → Option Text
+nearest_word word = nearest_below (most_edits (length word) + 1) word

@@ -2,3 +2,4 @@ pub mod Words
 pub mod Calls
 pub mod Topics
 pub mod Edits
+pub mod FirstLines

@@ -1,5 +1,6 @@
 -- By which words a topic is asked for, and what its text is like.
-use Rattle.std.specs.Prelude.{ℕ, ◌+◌, ◌==◌, nat_le, nat_eq, Bool, ◌||◌, ◌&&◌, List, [], ◌∷◌, ◌++◌, map, Option, find, option_map, codes, if◌then◌else◌}
+use Rattle.std.specs.Prelude.{ℕ, ◌+◌, ◌==◌, nat_le, nat_eq, Bool, false, ◌||◌, ◌&&◌, List, [], ◌∷◌, ◌++◌, map, Option, None, Some, find, option_map, codes, if◌then◌else◌}
+use Rattle.std.specs.Borrow.{Bor}
 use Rattle.std.specs.Char.{to_ascii_lowercase}
 use Rattle.std.specs.List.{flat_map, list_all, list_any, starts_with}
 use Rattle.std.specs.Str.{bytes_eq}
@@ -58,6 +59,11 @@ is_page text = are_lines_from 0 text
 -- a text begins with its word
 abbrev pub opens : Text → Text → Bool
 opens word text = starts_with nat_eq text (word ++ codes ": ")
+
+-- an answer is a page about that word
+abbrev pub is_page_of : Text → Option (Bor Text) → Bool
+is_page_of word None = false
+is_page_of word (Some text) = opens word text.now
 
 -- a topic whose text is as it has to be
 abbrev pub is_formed : Topic → Bool

@@ -27,7 +27,7 @@ command_words =
     ∷ (codes "debug" ∷ [])
     ∷ (codes "json" ∷ [])
     ∷ (codes "picture" ∷ [])
-    ∷ (codes "shell" ∷ codes "cut" ∷ codes "owns" ∷ codes "steps" ∷ codes "try" ∷ codes "why" ∷ codes "without" ∷ codes "when" ∷ codes "next" ∷ codes "quit" ∷ codes "help" ∷ [])
+    ∷ (codes "shell" ∷ [])
     ∷ (codes "run" ∷ [])
     ∷ (codes "check" ∷ [])
     ∷ (codes "plain" ∷ [])
@@ -194,6 +194,21 @@ debugger_words =
     ∷ (codes "at" ∷ [])
     ∷ []
 
+abbrev pub shell_words : List (List Text)
+shell_words =
+    (codes "try" ∷ [])
+    ∷ (codes "why" ∷ [])
+    ∷ (codes "without" ∷ [])
+    ∷ (codes "owns" ∷ [])
+    ∷ (codes "when" ∷ [])
+    ∷ (codes "next" ∷ [])
+    ∷ (codes "steps" ∷ [])
+    ∷ (codes "text" ∷ [])
+    ∷ (codes "cut" ∷ [])
+    ∷ (codes "help" ∷ codes "?" ∷ [])
+    ∷ (codes "quit" ∷ [])
+    ∷ []
+
 abbrev pub process_line_words : List (List Text)
 process_line_words =
     (codes "proc" ∷ codes "process" ∷ codes "pid" ∷ [])
@@ -271,7 +286,8 @@ all_words =
     ∷ (codes "calls of scripts, and on the console", script_words)
     ∷ (codes "calls of transactions", transaction_words)
     ∷ (codes "other steps", step_words)
-    ∷ (codes "commands of the debugger, behind the line debug", debugger_words)
+    ∷ (codes "commands of the debugger, behind the line debug, and of the shell", debugger_words)
+    ∷ (codes "commands of the shell alone", shell_words)
     ∷ (codes "a process in a state", process_line_words)
     ∷ (codes "signals of a process in a state", signal_line_words)
     ∷ (codes "descriptions and transactions in a state", other_line_words)

@@ -45,8 +45,10 @@ calls of transactions
   sys_xbegin sys_xend sys_xabort
 other steps
   deliver kernel
-commands of the debugger, behind the line debug
+commands of the debugger, behind the line debug, and of the shell
   back forward goto state moved at
+commands of the shell alone
+  try why without owns when next steps text cut help quit
 a process in a state
   proc parent killed point ret ids slots page fd
 signals of a process in a state

@@ -1,6 +1,7 @@
 //! All topics, in groups.
 ghost use Rattle.std.specs.Prelude.{◌≡◌, map, IsTrue};
 ghost use Rattle.std.specs.List.{list_all};
+ghost use Rattle.tx_explain.specs.FirstLines.{all_first_lines, first_lines_of};
 ghost use Rattle.tx_explain.specs.Topics.{is_formed_group, words_of_group};
 ghost use Rattle.tx_explain.specs.Words.{all_words};
 
@@ -16,6 +17,7 @@ mod process_lines;
 mod refusals;
 mod replies;
 mod sent;
+mod shell;
 mod signal_lines;
 mod statuses;
 mod steps;
@@ -24,9 +26,10 @@ mod texts;
 use crate::topic::Group;
 
 /// All groups, in the order in which they are listed.
-#[tactic(auto, unfolding(crate::specs::Words::all_words))]
-pub fn groups() -> [Group; 22]
+#[tactic(auto, unfolding(crate::specs::Words::all_words, crate::specs::FirstLines::all_first_lines))]
+pub fn groups() -> [Group; 23]
     ensures words { map words_of_group result ≡ all_words }
+    ensures first { map first_lines_of result ≡ all_first_lines }
     ensures formed { IsTrue (list_all is_formed_group result) }
 {
     [
@@ -95,8 +98,12 @@ pub fn groups() -> [Group; 22]
             topics: steps::topics(),
         },
         Group {
-            title: "commands of the debugger, behind the line debug",
+            title: "commands of the debugger, behind the line debug, and of the shell",
             topics: debugger::topics(),
+        },
+        Group {
+            title: "commands of the shell alone",
+            topics: shell::topics(),
         },
         Group {
             title: "a process in a state",

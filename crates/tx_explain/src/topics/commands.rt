@@ -1,6 +1,7 @@
 //! Commands of the program.
 ghost use Rattle.std.specs.Prelude.{◌≡◌, map, IsTrue};
 ghost use Rattle.std.specs.List.{list_all};
+ghost use Rattle.tx_explain.specs.FirstLines.{first_line_of, command_lines};
 ghost use Rattle.tx_explain.specs.Topics.{is_formed, words_of};
 ghost use Rattle.tx_explain.specs.Words.{command_words};
 
@@ -9,6 +10,7 @@ use crate::topic::Topic;
 /// Commands of the program.
 pub fn topics() -> &'static [Topic]
     ensures words { map words_of result.now ≡ command_words }
+    ensures first { map first_line_of result.now ≡ command_lines }
     ensures formed { IsTrue (list_all is_formed result.now) }
 {
     &TOPICS
@@ -67,9 +69,7 @@ picture: draws what the steps of a schedule did, as a picture in SVG.
     },
     Topic {
         word: "shell",
-        also: &[
-            "cut", "owns", "steps", "try", "why", "without", "when", "next", "quit", "help",
-        ],
+        also: &[],
         text: "\
 shell: answers steps and commands, each line before it reads the next.
   form     txos shell, or txos shell --json for answers in JSON
@@ -77,6 +77,7 @@ shell: answers steps and commands, each line before it reads the next.
            has them; goto end, steps, steps K, steps K L, text, try STEP,
            without S, why, why STEP, owns, owns S, when PIECE, next PIECE, cut,
            help, help WORD, quit; and before all others a header, if any
+           Each command has a page: help when
   writes   the reply, the answer, or what is wrong with the line
   example  txos shell
 ",

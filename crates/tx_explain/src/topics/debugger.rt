@@ -1,6 +1,7 @@
 //! Commands of the debugger.
 ghost use Rattle.std.specs.Prelude.{◌≡◌, map, IsTrue};
 ghost use Rattle.std.specs.List.{list_all};
+ghost use Rattle.tx_explain.specs.FirstLines.{first_line_of, debugger_lines};
 ghost use Rattle.tx_explain.specs.Topics.{is_formed, words_of};
 ghost use Rattle.tx_explain.specs.Words.{debugger_words};
 
@@ -9,6 +10,7 @@ use crate::topic::Topic;
 /// Commands of the debugger.
 pub fn topics() -> &'static [Topic]
     ensures words { map words_of result.now ≡ debugger_words }
+    ensures first { map first_line_of result.now ≡ debugger_lines }
     ensures formed { IsTrue (list_all is_formed result.now) }
 {
     &TOPICS
@@ -22,6 +24,8 @@ const TOPICS: [Topic; 6] = [
 back: takes the newest step back that is made.
   form     back
   answers  at K, or no start where none is made
+  example  back
+           at 3
 ",
     },
     Topic {
@@ -31,6 +35,8 @@ back: takes the newest step back that is made.
 forward: makes the next step again.
   form     forward
   answers  at K, or no end where all are made
+  example  forward
+           at 4
 ",
     },
     Topic {
@@ -38,9 +44,11 @@ forward: makes the next step again.
         also: &[],
         text: "\
 goto: goes to position K, the place after the first K accepted steps.
-  form     goto K
+  form     goto K; in the shell also goto end, the place after all
   K        a number from 0
   answers  at K, or no place where there is no such position
+  example  goto 2
+           at 2
 ",
     },
     Topic {
@@ -50,6 +58,10 @@ goto: goes to position K, the place after the first K accepted steps.
 state: prints the state, and stays.
   form     state
   answers  the line state, and the text of the state
+  example  state
+           state
+           proc 1 parent 0 run point 0 ret 0
+           proc 2 parent 1 run point 0 ret 0
   At the end of a report it stands before the text of the last state.
 ",
     },
@@ -62,6 +74,8 @@ moved: asks whether a transaction may be thought of as done at once; it stays.
   K        a number from 0: the accepted step that commits the transaction
   answers  moved one LIST or moved many LIST of the transaction that step K
            commits, or no commit where it commits none
+  example  moved 8
+           moved one 1,2,7,3,4,5,6,8
   LIST has the numbers of all accepted steps, with the transaction's own
   directly before step K. one: it counts as one moment. many: its starter made
   a delivery, a sigpending or a sigaction in it, or was sent a signal by a step

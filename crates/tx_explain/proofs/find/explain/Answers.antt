@@ -1,9 +1,10 @@
-use Rattle.std.proofs.Common.{◌≡◌, ◌∙◌, List, None, ap, sym, subst, is_some, IfSome, IsTrue}
+use Rattle.std.proofs.Common.{◌≡◌, ◌∙◌, List, None, Some, ap, sym, subst, is_some, IfSome, IsTrue}
 use Rattle.std.specs.List.{find}
 use Rattle.tx_explain.specs.declared.topic.Group.{Group}
 use Rattle.tx_explain.specs.Topics.{asked, opens, spells, topics_in}
 use Rattle.tx_explain.proofs.Asked.{asked_at, found_formed}
-use Rattle.tx_explain.proofs.Known.{answers, every_call, every_error, every_refusal}
+use Rattle.tx_explain.proofs.FirstLines.{found_told}
+use Rattle.tx_explain.proofs.Known.{answers, answers_page, every_call, every_error, every_number, every_refusal}
 use Rattle.tx_explain.proofs.find.explain.Goals as goal
 
 known : (c : goal.After-from_residual) → is_some c.from_residual.result ≡ is_some (asked c.args.word.now)
@@ -14,14 +15,25 @@ known c =
 pub returns-in_err-topic-clause-known : goal.returns-in_err-topic-clause-known
 returns-in_err-topic-clause-known c = known c
 
+none_begins : (c : goal.After-from_residual) → IfSome c.from_residual.result (λ text. IfSome (asked c.args.word.now) (λ name. IsTrue (opens name text.now)))
+none_begins c = subst (λ it. IfSome it (λ text. IfSome (asked c.args.word.now) (λ name. IsTrue (opens name text.now)))) (sym c.from_residual.ensures) tt
+
 pub returns-in_err-topic-clause-calls : goal.returns-in_err-topic-clause-calls
-returns-in_err-topic-clause-calls c = λ call is. answers c.args.word.now _ _ (known c) is (ap is_some (every_call call))
+returns-in_err-topic-clause-calls c = λ call is. answers_page c.args.word.now _ _ _ (known c) (none_begins c) is (every_call call)
 
 pub returns-in_err-topic-clause-refusals : goal.returns-in_err-topic-clause-refusals
-returns-in_err-topic-clause-refusals c = λ why is. answers c.args.word.now _ _ (known c) is (ap is_some (every_refusal why))
+returns-in_err-topic-clause-refusals c = λ why is. answers_page c.args.word.now _ _ _ (known c) (none_begins c) is (every_refusal why)
 
 pub returns-in_err-topic-clause-errors : goal.returns-in_err-topic-clause-errors
-returns-in_err-topic-clause-errors c = λ error is. answers c.args.word.now _ _ (known c) is (every_error error)
+returns-in_err-topic-clause-errors c = λ error is. answers_page c.args.word.now _ _ _ (known c) (none_begins c) is (every_error error)
+
+pub returns-in_err-topic-clause-numbers : goal.returns-in_err-topic-clause-numbers
+returns-in_err-topic-clause-numbers c = λ error is. answers c.args.word.now _ _ (known c) is (every_number error)
+
+pub returns-clause-first : goal.returns-clause-first
+returns-clause-first c =
+    let found = c.in_ok-topic.ensures ∙ ap (λ (gs : List Group). find (spells c.args.word.now) (topics_in gs)) c.as_slice.ensures in
+    found_told (spells c.args.word.now) c.groups-groups.result c.in_ok-topic.topic.now c.groups-groups.ensures.first found
 
 pub returns-clause-known : goal.returns-clause-known
 returns-clause-known c =
@@ -39,3 +51,12 @@ pub returns-clause-lines : goal.returns-clause-lines
 returns-clause-lines c =
     let found = c.in_ok-topic.ensures ∙ ap (λ (gs : List Group). find (spells c.args.word.now) (topics_in gs)) c.as_slice.ensures in
     (found_formed c.args.word.now c.groups-groups.result _ c.groups-groups.ensures.formed found).1
+
+pub returns-clause-calls : goal.returns-clause-calls
+returns-clause-calls c = λ call is. answers_page c.args.word.now _ _ (Some c.in_ok-topic.topic.now.text) (returns-clause-known c) (returns-clause-opens c) is (every_call call)
+
+pub returns-clause-refusals : goal.returns-clause-refusals
+returns-clause-refusals c = λ why is. answers_page c.args.word.now _ _ (Some c.in_ok-topic.topic.now.text) (returns-clause-known c) (returns-clause-opens c) is (every_refusal why)
+
+pub returns-clause-errors : goal.returns-clause-errors
+returns-clause-errors c = λ error is. answers_page c.args.word.now _ _ (Some c.in_ok-topic.topic.now.text) (returns-clause-known c) (returns-clause-opens c) is (every_error error)

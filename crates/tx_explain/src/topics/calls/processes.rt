@@ -1,6 +1,7 @@
 //! Calls on processes.
 ghost use Rattle.std.specs.Prelude.{◌≡◌, map, IsTrue};
 ghost use Rattle.std.specs.List.{list_all};
+ghost use Rattle.tx_explain.specs.FirstLines.{first_line_of, process_lines};
 ghost use Rattle.tx_explain.specs.Topics.{is_formed, words_of};
 ghost use Rattle.tx_explain.specs.Words.{process_words};
 
@@ -9,6 +10,7 @@ use crate::topic::Topic;
 /// Calls on processes.
 pub fn topics() -> &'static [Topic]
     ensures words { map words_of result.now ≡ process_words }
+    ensures first { map first_line_of result.now ≡ process_lines }
     ensures formed { IsTrue (list_all is_formed result.now) }
 {
     &TOPICS
@@ -41,6 +43,7 @@ exit: ends the process with the status V modulo 256, from 0 to 255.
            part of a transaction
   example  2 exit 0
   In a state exit S stands behind a process that has ended with the status S.
+  Alone on a line of the shell exit ends the session, as quit does.
 ",
     },
     Topic {

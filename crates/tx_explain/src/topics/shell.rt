@@ -1,0 +1,157 @@
+//! Commands of the shell that the debugger has not.
+ghost use Rattle.std.specs.Prelude.{◌≡◌, map, IsTrue};
+ghost use Rattle.std.specs.List.{list_all};
+ghost use Rattle.tx_explain.specs.FirstLines.{first_line_of, shell_lines};
+ghost use Rattle.tx_explain.specs.Topics.{is_formed, words_of};
+ghost use Rattle.tx_explain.specs.Words.{shell_words};
+
+use crate::topic::Topic;
+
+/// Commands of the shell that the debugger has not.
+pub fn topics() -> &'static [Topic]
+    ensures words { map words_of result.now ≡ shell_words }
+    ensures first { map first_line_of result.now ≡ shell_lines }
+    ensures formed { IsTrue (list_all is_formed result.now) }
+{
+    &TOPICS
+}
+
+const TOPICS: [Topic; 11] = [
+    Topic {
+        word: "try",
+        also: &[],
+        text: "\
+try: says what a step would be answered here, and how the state would differ.
+  form     try STEP
+  answers  the reply, and each line of the state that would go, after -, or
+           come, after +. No step is made
+  example  try 2 getpid
+           ok 2
+           - proc 2 parent 1 run point 0 ret 0
+           + proc 2 parent 1 run point 1 ret 2
+  It answers where steps are ahead too.
+",
+    },
+    Topic {
+        word: "why",
+        also: &[],
+        text: "\
+why: says why a step would be refused here, or what it would be answered.
+  form     why STEP, or why for the step that was refused last
+  answers  the step, its refusal and what explain says of that; with N8 also
+           what is in its way, and since which step; with N9 what it waits for
+  example  why 2 getpid
+           2 getpid: it would be answered ok 2
+",
+    },
+    Topic {
+        word: "without",
+        also: &[],
+        text: "\
+without: says how the state would differ if a transaction were aborted here.
+  form     without S
+  S        the process that began the transaction
+  answers  each line of the state that would go, after -, or come, after +; or
+           no transaction where S began none that is live
+  example  without 2
+           - proc 2 parent 1 run point 1 ret 0
+           + proc 2 parent 1 run point 1 ret -202
+           - txn 2 open 2 ended -
+",
+    },
+    Topic {
+        word: "owns",
+        also: &[],
+        text: "\
+owns: says what the live transactions have reserved.
+  form     owns, or owns S for the one that process S began
+  answers  a line each: its starter, and the numbers of its processes, of its
+           descriptions and of its pipes; no transaction where there is none
+  example  owns
+           owns 2 proc 2,4 desc 0 pipe -
+",
+    },
+    Topic {
+        word: "when",
+        also: &[],
+        text: "\
+when: goes back to the step that changed a piece of the state last.
+  form     when PIECE
+  PIECE    proc P, page P N, fd P F, ids P, pending P, queue P, desc D, pipe Q,
+           or txn S
+  answers  at K: STEP, and each line of the piece that went, after -, or came,
+           after +; at 0: no change where no step changed it
+  example  when page 2 0
+           at 2: 2 map 0
+           + page 0 rw
+",
+    },
+    Topic {
+        word: "next",
+        also: &[],
+        text: "\
+next: goes on to the step that changes a piece of the state next.
+  form     next PIECE, with a piece as when has it
+  answers  at K: STEP, and each line of the piece that went, after -, or came,
+           after +; at K: no change, at the end, where no step changes it
+  example  next page 2 0
+           at 2: 2 map 0
+           + page 0 rw
+",
+    },
+    Topic {
+        word: "steps",
+        also: &[],
+        text: "\
+steps: lists the steps with their replies, and the position.
+  form     steps, steps K for those from step K on, or steps K L for K to L
+  answers  a line for each step, and at K behind the last one that is made
+  example  steps
+           1 w1 2 getpid : ok 2
+           at 1
+",
+    },
+    Topic {
+        word: "text",
+        also: &[],
+        text: "\
+text: prints the schedule of the steps up to the position.
+  form     text
+  answers  a text of which txos replay leaves the same state
+  example  text
+           txos 2 schedule 2
+           2 getpid
+",
+    },
+    Topic {
+        word: "cut",
+        also: &[],
+        text: "\
+cut: lets go of the steps after the position, so that others can be made.
+  form     cut
+  answers  at K
+  example  cut
+           at 3
+",
+    },
+    Topic {
+        word: "help",
+        also: &["?"],
+        text: "\
+help: lists the commands of the shell, or says what a word means.
+  form     help, or help WORD
+  answers  the commands; of a word what txos explain says
+  example  help F8
+           F8: a thread could not be started.
+",
+    },
+    Topic {
+        word: "quit",
+        also: &[],
+        text: "\
+quit: ends the shell's session, as the end of the input does.
+  form     quit, or exit alone on a line
+  answers  nothing
+",
+    },
+];
