@@ -107,6 +107,7 @@ class Answers(unittest.TestCase):
             [str(it) for it in replies[2:5] + replies[7:8] + replies[9:]],
             ["ok -14", "out 6869", "out -", "committed 9:10:3", "aborted 201", "ended"],
         )
+        self.assertEqual([it.error for it in replies], [None] * 2 + ["EFAULT"] + [None] * 8)
         made = self.kernel.steps()
         self.assertEqual([it.reply for it in made], wanted)
         self.assertEqual(made[1], Made(2, "2 store 0 6869", wanted[1]))
@@ -205,6 +206,7 @@ class Answers(unittest.TestCase):
         inside = ("proc 2 parent 1 run point 3 ret 0", "txn 2 open 2 ended -")
         trial = self.kernel.try_step("2 sys_xend")
         self.assertEqual((trial.reply, trial.refused), (Reply("committed"), None))
+        self.assertEqual(self.kernel.try_step("2 close 9").reply.error, "EBADF")
         self.assertEqual((trial.gone, trial.come), (inside, ("proc 2 parent 1 run point 4 ret 0",)))
         trial = self.kernel.try_step("1 waitpid 2 nohang")
         self.assertEqual((trial.reply, trial.gone, trial.come), (None, (), ()))

@@ -34,7 +34,7 @@ import shutil
 import subprocess
 import sys
 import tempfile
-from dataclasses import dataclass
+from dataclasses import dataclass, field
 from pathlib import Path
 from typing import IO, Any, Iterable, Iterator, Sequence
 
@@ -129,10 +129,10 @@ class Undelivered:
 class Reply:
     """What an accepted step was answered; `str` spells it as a report does: `ok 0`.
 
-    `kind` is "ok", with the answer `ret`, of which a POSIX error is the negative number; "ended";
-    "committed", with the sends that failed; "aborted", with the `status`, 201 to 203; or "out",
-    with the `bytes` that went to the console. `number` is that of the step, from 1, or None where
-    the step was only tried.
+    `kind` is "ok", with the answer `ret`, of which a POSIX error is the negative number and has
+    its name in `error`, such as "EBADF"; "ended"; "committed", with the sends that failed;
+    "aborted", with the `status`, 201 to 203; or "out", with the `bytes` that went to the console.
+    `number` is that of the step, from 1, or None where the step was only tried.
     """
 
     kind: str
@@ -141,6 +141,7 @@ class Reply:
     status: int | None = None
     bytes: _Bytes | None = None
     undelivered: tuple[Undelivered, ...] = ()
+    error: str | None = field(default=None, compare=False)  # `ret` says which
 
     def __str__(self) -> str:
         if self.kind == "ok":
@@ -396,8 +397,7 @@ class Kernel:
                 _demand_step(line)
             answers = self._exchange([_encode(it) for it in some])
             for line, answer in zip(some, answers):
-                if "error" in answer:
-                    raise _error_of(line, answer["error"])
+                _demand_answer(line, answer)
                 yield _read_refusal(line, answer) or _read_reply(answer)
 
     def back(self) -> bool:
@@ -496,8 +496,7 @@ class Kernel:
         A refusal is in it, and not raised; the other errors are.
         """
         [answer] = self._exchange([_encode(line)])
-        if "error" in answer:
-            raise _error_of(line, answer["error"])
+        _demand_answer(line, answer)
         return answer
 
     def _lines(self, line: str) -> list[str]:
@@ -583,6 +582,12 @@ def _demand_step(line: str) -> None:
         raise BadLine(line, "a step begins with the number of a process, or with kernel", 1)
 
 
+def _demand_answer(line: str, answer: dict[str, Any]) -> None:
+    """Raises what is wrong with a line; beside a reply, `error` is only the name of its number."""
+    if "error" in answer and "reply" not in answer:
+        raise _error_of(line, answer["error"])
+
+
 def _split(lines: Iterable[str]) -> Iterator[list[str]]:
     """Parts lines into lists, each as long as may be sent ahead."""
     part: list[str] = []
@@ -622,6 +627,7 @@ def _read_reply(answer: dict[str, Any]) -> Reply:
         status=answer.get("status"),
         bytes=bytes.fromhex(answer["bytes"]) if "bytes" in answer else None,
         undelivered=tuple(Undelivered(**it) for it in answer.get("undelivered", ())),
+        error=answer.get("error"),
     )
 
 
@@ -629,7 +635,7 @@ def _reply_of_text(text: str, number: int) -> Reply:
     """The reply that a text spells."""
     kind, *words = text.split()
     if kind == "ok":
-        return Reply(kind, number, ret=int(words[0]))
+        return Reply(kind, number, ret=int(words[0]), error=words[1] if words[1:] else None)
     if kind == "aborted":
         return Reply(kind, number, status=int(words[0]))
     if kind == "out":

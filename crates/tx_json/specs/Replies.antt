@@ -1,5 +1,5 @@
 -- A reply as members of an object.
-use Rattle.std.specs.Prelude.{ℕ, List, ◌++◌, codes}
+use Rattle.std.specs.Prelude.{ℕ, List, [], ◌++◌, Option, Some, None, codes}
 use Rattle.hex.specs.Hex.{encode_lower}
 use Rattle.json.specs.Token.{Token}
 use Rattle.tx_base.specs.Errors.{error_number}
@@ -10,6 +10,7 @@ use Rattle.tx_base.specs.declared.steps.Reply.{Reply}
 use Rattle.tx_base.specs.declared.steps.Reply.TheVariants.{Done, Ended, Committed, Aborted, Out, No}
 use Rattle.tx_json.specs.Each.{each_tokens}
 use Rattle.tx_json.specs.Members.{count_member, begin_object, end_object, list_member, number_member, word_member}
+use Rattle.tx_text.specs.Replies.{error_name}
 
 -- the word for a refusal
 abbrev pub refusal_word : Refusal → List ℕ
@@ -38,9 +39,14 @@ abbrev pub missed_tokens : Missed → List Token
 missed_tokens missed =
     begin_object ++ (count_member (codes "target") missed.target.0 ++ (count_member (codes "signo") missed.signo.0 ++ (count_member (codes "errno") (error_number missed.errno) ++ end_object)))
 
--- a reply
+-- the name of an error, where there is one
+abbrev pub error_members : Option (List ℕ) → List Token
+error_members None = []
+error_members (Some name) = word_member (codes "error") name
+
+-- a reply; a number that is an error's has its name beside it
 abbrev pub reply_members : Reply → List Token
-reply_members (Done ret) = word_member (codes "reply") (codes "ok") ++ number_member (codes "ret") ret
+reply_members (Done ret) = word_member (codes "reply") (codes "ok") ++ (number_member (codes "ret") ret ++ error_members (error_name ret))
 reply_members Ended = word_member (codes "reply") (codes "ended")
 reply_members (Committed undelivered) = word_member (codes "reply") (codes "committed") ++ list_member (codes "undelivered") (each_tokens missed_tokens undelivered.items)
 reply_members (Aborted status) = word_member (codes "reply") (codes "aborted") ++ count_member (codes "status") status

@@ -2,7 +2,8 @@
 ghost use Rattle.std.specs.Prelude.{◌≡◌, ◌++◌, OnOk, codes};
 ghost use Rattle.tx_json.specs.Members.{list_member};
 ghost use Rattle.tx_json.specs.Each.{each_tokens};
-ghost use Rattle.tx_json.specs.Replies.{missed_tokens, refusal_members, refusal_word, reply_members};
+ghost use Rattle.tx_json.specs.Replies.{error_members, missed_tokens, refusal_members, refusal_word, reply_members};
+ghost use Rattle.tx_text.specs.Replies.{error_name};
 
 use crate::line::LineWriter;
 use crate::members::{
@@ -10,6 +11,7 @@ use crate::members::{
 };
 use std::alloc::{AllocError, Global};
 use tx_base::{Missed, Refusal, Reply};
+use tx_text::error_name;
 
 /// Appends the members that say what a step was answered. The only error is that a growth of memory was
 /// refused: some of them may then stand behind what the writer had.
@@ -19,7 +21,8 @@ pub fn put_reply(alloc: Global, writer: &mut LineWriter, reply: &Reply) -> Resul
     match reply {
         Reply::Done(ret) => {
             put_word(writer, "reply", "ok")?;
-            put_number(writer, "ret", *ret)
+            put_number(writer, "ret", *ret)?;
+            put_error(writer, *ret)
         }
         Reply::Ended => put_word(writer, "reply", "ended"),
         Reply::Committed { undelivered } => {
@@ -35,6 +38,16 @@ pub fn put_reply(alloc: Global, writer: &mut LineWriter, reply: &Reply) -> Resul
             put_bytes(alloc, writer, "bytes", bytes.as_slice())
         }
         Reply::No(refusal) => put_refusal(writer, *refusal),
+    }
+}
+
+/// Appends the name of the error that a call returns by this number, where it is an error's.
+fn put_error(writer: &mut LineWriter, ret: i64) -> Result<(), AllocError>
+    ensures { OnOk result (writer.new ≡ writer.old ++ error_members (error_name ret)) }
+{
+    match error_name(ret) {
+        Some(name) => put_word(writer, "error", name),
+        None => Ok(()),
     }
 }
 

@@ -1,5 +1,5 @@
 -- What is written can be printed, and so is read as the tokens that it is.
-use Rattle.std.proofs.Common.{◌≡◌, ◌∙◌, ◌<◌, ◌^◌, ℕ, ℤ, suc, pos, negsuc, zero, List, [], ◌∷◌, ◌++◌, ap, arith, codes, refl}
+use Rattle.std.proofs.Common.{◌≡◌, ◌∙◌, ◌<◌, ◌^◌, ℕ, ℤ, suc, pos, negsuc, zero, List, [], ◌∷◌, ◌++◌, Option, Some, None, ap, arith, codes, refl}
 use Rattle.std.proofs.lemmas.List.Elements.{All-head, All-tail}
 use Rattle.std.specs.Fmt.{decimal, signed_decimal}
 use Rattle.std.specs.Int.{w64}
@@ -18,9 +18,10 @@ use Rattle.tx_base.specs.declared.steps.Reply.TheVariants.{Done, Ended, Committe
 use Rattle.tx_json.specs.Answers.{entry_answer, step_answer}
 use Rattle.tx_json.specs.Each.{each_tokens}
 use Rattle.tx_json.specs.Members.{begin_list, begin_object, count_member, end_list, end_object, list_member, number_member, word_member}
-use Rattle.tx_json.specs.Replies.{missed_tokens, refusal_members, reply_members}
+use Rattle.tx_json.specs.Replies.{error_members, missed_tokens, refusal_members, reply_members}
 use Rattle.tx_report_json.proofs.RepliesRead.{small_error}
 use Rattle.tx_report_json.specs.ReadBack.{IsTypedMissed, IsTypedRefusal, IsTypedReply}
+use Rattle.tx_text.specs.Replies.{error_name}
 
 pub both : (ts us : List Token) → ArePrintable ts → ArePrintable us → ArePrintable (ts ++ us)
 unfolding ArePrintable
@@ -71,11 +72,16 @@ undelivered_printable items typed =
     both (list_member (codes "undelivered") (each_tokens missed_tokens items)) (Token.end_object ∷ [])
     (list_printable (codes "undelivered") (each_tokens missed_tokens items) (each_printable missed_tokens IsTypedMissed missed_printable items typed)) (tt, tt)
 
+name_printable : (name : Option (List ℕ)) → ArePrintable (error_members name ++ end_object)
+unfolding ArePrintable end_object word_member
+name_printable None = (tt, tt)
+name_printable (Some name) = (tt, (tt, (tt, tt)))
+
 -- the members of a reply, up to the end of their object
 reply_printable : (reply : Reply) → IsTypedReply reply → ArePrintable (reply_members reply ++ end_object)
 unfolding ArePrintable count_member end_object number_member word_member
 reply_printable (No refusal) typed = refusal_printable refusal typed
-reply_printable (Done ret) typed = (tt, (tt, (tt, (signed_number ret typed, (tt, tt)))))
+reply_printable (Done ret) typed = (tt, (tt, (tt, (signed_number ret typed, name_printable (error_name ret)))))
 reply_printable Ended typed = (tt, (tt, (tt, tt)))
 reply_printable (Committed undelivered) typed = (tt, (tt, undelivered_printable undelivered.items typed))
 reply_printable (Aborted status) typed = (tt, (tt, (tt, (IsNumber-decimal status (omega (arith, typed)), (tt, tt)))))

@@ -16,12 +16,13 @@ use Rattle.tx_base.specs.declared.steps.Reply.TheVariants.{Done, Ended, Committe
 use Rattle.tx_json.specs.Answers.{step_answer}
 use Rattle.tx_json.specs.Each.{each_tokens}
 use Rattle.tx_json.specs.Members.{begin_object, count_member, end_object, list_member, number_member, word_member}
-use Rattle.tx_json.specs.Replies.{missed_tokens, refusal_members, reply_members}
+use Rattle.tx_json.specs.Replies.{error_members, missed_tokens, refusal_members, reply_members}
 use Rattle.tx_report_json.proofs.MembersRead.{list_read, IsItem}
-use Rattle.tx_report_json.proofs.NumbersRead.{bytes_read, count_read, number_read}
+use Rattle.tx_report_json.proofs.NumbersRead.{bytes_read, count_read, number_read, same_bytes}
 use Rattle.tx_report_json.specs.ReadBack.{told_of, IsTypedMissed, IsTypedRefusal, IsTypedReply}
-use Rattle.tx_report_json.specs.ReadReplies.{answer_in, errors, missed_at, missed_members, numbered_by, or_else, refusal_in, reply_in, step_members}
+use Rattle.tx_report_json.specs.ReadReplies.{answer_in, behind_error, errors, missed_at, missed_members, numbered_by, or_else, refusal_in, reply_in, step_members}
 use Rattle.tx_report_json.specs.Reading.{bytes_in, count_at, count_in, list_in, number_at, number_in, object_by, whole, word_in}
+use Rattle.tx_text.specs.Replies.{error_name}
 
 pub small_error : (errno : Errno) → error_number errno < 2 ^ 64
 small_error NotPermitted = omega arith
@@ -87,10 +88,16 @@ unfolding reply_in
 refused_reply refusal rest typed =
     ap (λ (found : Option (Reply × List Token)). or_else found (answer_in (refusal_members refusal ++ rest))) (refusal_read refusal rest typed)
 
+-- the name of an error, where there has to be one
+name_read : (name : Option (List ℕ)) (rest : List Token) → behind_error name (error_members name ++ rest) ≡ Some rest
+unfolding word_in word_member
+name_read None rest = refl
+name_read (Some name) rest = rw (same_bytes name) refl
+
 pub reply_read : (reply : Reply) (rest : List Token) → IsTypedReply reply → reply_in (reply_members reply ++ rest) ≡ Some (reply, rest)
 unfolding answer_in bytes_in count_at count_in count_member number_at number_in number_member refusal_in reply_in word_in word_member
 reply_read (No refusal) rest typed = refused_reply refusal rest typed
-reply_read (Done ret) rest typed = rw (number_read ret typed) refl
+reply_read (Done ret) rest typed = rw (number_read ret typed, name_read (error_name ret) rest) refl
 reply_read Ended rest typed = refl
 reply_read (Committed undelivered) rest typed = rw (undelivered_read undelivered.items rest typed) refl
 reply_read (Aborted status) rest typed = rw (count_read status (omega (arith, typed))) refl
@@ -104,7 +111,7 @@ refused refusal number typed = rw (refusal_read refusal (Token.end_object ∷ []
 pub step_read : (number : ℕ) (reply : Reply) → number < 2 ^ 64 → IsTypedReply reply → whole (object_by step_members (step_answer number reply)) ≡ Some (told_of number reply)
 unfolding answer_in begin_object bytes_in count_at count_in count_member end_object number_at number_in number_member object_by refusal_in step_members word_in word_member
 step_read number (No refusal) small typed = refused refusal number typed
-step_read number (Done ret) small typed = rw (count_read number small, number_read ret typed) refl
+step_read number (Done ret) small typed = rw (count_read number small, number_read ret typed, name_read (error_name ret) (Token.end_object ∷ [])) refl
 step_read number Ended small typed = rw (count_read number small) refl
 step_read number (Committed undelivered) small typed = rw (count_read number small, undelivered_read undelivered.items (Token.end_object ∷ []) typed) refl
 step_read number (Aborted status) small typed = rw (count_read number small, count_read status (omega (arith, typed))) refl

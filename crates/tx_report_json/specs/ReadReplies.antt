@@ -11,6 +11,7 @@ use Rattle.tx_base.specs.declared.steps.Refusal.TheVariants.{NoProcess, NotRunni
 use Rattle.tx_base.specs.declared.steps.Reply.{Reply}
 use Rattle.tx_base.specs.declared.steps.Reply.TheVariants.{Done, Ended, Committed, Aborted, Out, No}
 use Rattle.tx_report_json.specs.Reading.{◌>>=◌, bytes_in, count_in, list_in, number_in, object_by, whole, word_in, Read}
+use Rattle.tx_text.specs.Replies.{error_name}
 
 -- the one of some names that a word is
 abbrev pub named_by : {A : Type 0} → List (List ℕ × A) → List ℕ → Option A
@@ -48,12 +49,20 @@ missed_members tokens = do
 abbrev pub missed_at : Read Missed
 missed_at tokens = object_by missed_members tokens
 
--- the reply of that word
+-- what stands behind the name of an error, where there has to be one
+abbrev pub behind_error : Option (List ℕ) → List Token → Option (List Token)
+behind_error None tokens = Some tokens
+behind_error (Some name) tokens = do
+  word ← word_in (codes "error") tokens
+  if bytes_eq word.0 name then Some word.1 else None
+
+-- the reply of that word; a number that is an error's has its name beside it
 abbrev pub reply_by : List ℕ → Read Reply
 reply_by word tokens =
     if bytes_eq word (codes "ok") then (do
       ret ← number_in (codes "ret") tokens
-      Some (Done ret.0, ret.1))
+      rest ← behind_error (error_name ret.0) ret.1
+      Some (Done ret.0, rest))
     else if bytes_eq word (codes "ended") then Some (Ended, tokens)
     else if bytes_eq word (codes "committed") then (do
       undelivered ← list_in (codes "undelivered") missed_at tokens
