@@ -2,6 +2,7 @@ pub mod Answers
 pub mod Descriptors
 pub mod Each
 pub mod EachLaws
+pub mod Holders
 pub mod Line
 pub mod Lists
 pub mod Members

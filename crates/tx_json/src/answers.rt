@@ -55,7 +55,7 @@ pub fn lines_answer(alloc: Global, position: usize, text: &str) -> Result<String
 }
 
 /// Appends the lines of a text.
-fn put_lines(alloc: Global, writer: &mut LineWriter, text: &str) -> Result<(), AllocError>
+pub fn put_lines(alloc: Global, writer: &mut LineWriter, text: &str) -> Result<(), AllocError>
     ensures { OnOk result (writer.new ≡ writer.old ++ lines_member text.now) }
 {
     let lines = lines_in(alloc, text)?;

@@ -4,6 +4,7 @@
 
 mod answers;
 mod descriptors;
+mod holders;
 mod line;
 mod lists;
 mod members;
@@ -17,3 +18,4 @@ pub use answers::{
     empty_answer, entry_answer, error_answer, lines_answer, position_answer, state_answer,
     step_answer, trial_answer,
 };
+pub use holders::{Holder, why_answer};

@@ -1,5 +1,5 @@
 -- What JSON has in place of a text.
-use Rattle.std.proofs.Common.{◌≡◌, ◌≢◌, ◌<◌, ◌-◌, ◌∙◌, ℕ, zero, suc, List, Option, ap, arith, inl, inr, length, refl, reverse, subst, sym}
+use Rattle.std.proofs.Common.{◌≡◌, ◌≢◌, ◌<◌, ◌-◌, ◌∙◌, ℕ, zero, suc, List, Option, Some, None, ap, arith, codes, inl, inr, length, refl, reverse, subst, sym}
 use Rattle.std.proofs.lemmas.Bool.{cases_lt}
 use Rattle.std.proofs.lemmas.List.{length-reverse}
 use Rattle.std.proofs.lemmas.Option.{slice_get_within}
@@ -11,7 +11,9 @@ use Rattle.tx_journal.specs.Entries.{history_of}
 use Rattle.tx_journal.specs.Sessions.{made_of, position_of, start_of, IsBetween, SessionState}
 use Rattle.tx_journal.specs.Trials.{answer_there, shown_at as shown_here, shown_with, view_with}
 use Rattle.tx_json.specs.Answers.{lines_answer, position_answer, state_answer, trial_answer}
+use Rattle.tx_json.specs.Holders.{why_answer}
 use Rattle.tx_json.specs.Line.{IsLineOf}
+use Rattle.tx_json.specs.declared.holders.Holder.{Holder}
 use Rattle.tx_lines.specs.declared.read.command.Command.{Command}
 use Rattle.tx_lines.specs.declared.read.command.Command.TheVariants as commands
 use Rattle.tx_model.specs.Answer.{answer}
@@ -22,32 +24,35 @@ use Rattle.tx_shell.specs.Answers.{ask_tokens, tried_text, AnswersAsk, AnswersAs
 use Rattle.tx_shell.specs.Asks.{IsToldByLines}
 use Rattle.tx_shell.specs.Changes.{shown_at, TellsNext}
 use Rattle.tx_shell.specs.Differences.{views_differing}
+use Rattle.tx_shell.specs.Holders.{other_holders}
 use Rattle.tx_shell.specs.Origins.{start_in, Origin}
 use Rattle.tx_shell.specs.Places.{origin_of, place_of, Place}
+use Rattle.tx_shell.specs.Reasons.{TellsWhy}
 use Rattle.tx_shell.specs.Refused.{StopsShort}
 use Rattle.tx_shell.specs.declared.asks.Ask.{Ask}
 use Rattle.tx_shell.specs.declared.asks.Ask.TheVariants as asks
 use Rattle.tx_shell.specs.declared.versions.TextVersion.{TextVersion}
 
--- all but a state, a step that is tried and a cut
-pub told_by_lines : (ask : Ask) → ((command : Command) → ask ≢ asks.Walk command) → ((step : Step) → ask ≢ asks.Try step) → ask ≢ asks.Cut → IsToldByLines ask
-told_by_lines (asks.Walk command) walk try cut = absurd (walk command refl)
-told_by_lines asks.GotoEnd walk try cut = tt
-told_by_lines asks.Steps walk try cut = tt
-told_by_lines (asks.StepsFrom first) walk try cut = tt
-told_by_lines (asks.StepsBetween first last) walk try cut = tt
-told_by_lines asks.Text walk try cut = tt
-told_by_lines (asks.Try step) walk try cut = absurd (try step refl)
-told_by_lines (asks.When piece) walk try cut = tt
-told_by_lines (asks.Next piece) walk try cut = tt
-told_by_lines (asks.Without starter) walk try cut = tt
-told_by_lines (asks.Why step) walk try cut = tt
-told_by_lines asks.WhyRefused walk try cut = tt
-told_by_lines asks.Owns walk try cut = tt
-told_by_lines (asks.OwnsOf starter) walk try cut = tt
-told_by_lines asks.Cut walk try cut = absurd (cut refl)
-told_by_lines asks.Help walk try cut = tt
-told_by_lines (asks.HelpOn word) walk try cut = tt
+-- all but a state, a step that is tried, why one is refused and a cut
+pub told_by_lines : (ask : Ask) → ((command : Command) → ask ≢ asks.Walk command) → ((step : Step) → ask ≢ asks.Try step) → ((step : Step) → ask ≢ asks.Why step) →
+    ask ≢ asks.WhyRefused → ask ≢ asks.Cut → IsToldByLines ask
+told_by_lines (asks.Walk command) walk try why latest cut = absurd (walk command refl)
+told_by_lines asks.GotoEnd walk try why latest cut = tt
+told_by_lines asks.Steps walk try why latest cut = tt
+told_by_lines (asks.StepsFrom first) walk try why latest cut = tt
+told_by_lines (asks.StepsBetween first last) walk try why latest cut = tt
+told_by_lines asks.Text walk try why latest cut = tt
+told_by_lines (asks.Try step) walk try why latest cut = absurd (try step refl)
+told_by_lines (asks.When piece) walk try why latest cut = tt
+told_by_lines (asks.Next piece) walk try why latest cut = tt
+told_by_lines (asks.Without starter) walk try why latest cut = tt
+told_by_lines (asks.Why step) walk try why latest cut = absurd (why step refl)
+told_by_lines asks.WhyRefused walk try why latest cut = absurd (latest refl)
+told_by_lines asks.Owns walk try why latest cut = tt
+told_by_lines (asks.OwnsOf starter) walk try why latest cut = tt
+told_by_lines asks.Cut walk try why latest cut = absurd (cut refl)
+told_by_lines asks.Help walk try why latest cut = tt
+told_by_lines (asks.HelpOn word) walk try why latest cut = tt
 
 pub walk_by_lines : (command : Command) → command ≢ commands.State → IsToldByLines (asks.Walk command)
 walk_by_lines commands.Back other = tt
@@ -61,8 +66,8 @@ pub state_stays : (history : List Accepted) (at : ℕ) → at ≡ position_after
 state_stays history zero = refl
 state_stays history (suc at) = refl
 
-module _ (o : Origin) (p : Place) (told : List ℕ) where
-  pub lines_said : (ask : Ask) (at : ℕ) → IsToldByLines ask → ask_tokens o p ask told at ≡ lines_answer at told
+module _ (o : Origin) (p : Place) (refused : Option Step) (told : List ℕ) where
+  pub lines_said : (ask : Ask) (at : ℕ) → IsToldByLines ask → ask_tokens o p refused ask told at ≡ lines_answer at told
   lines_said (asks.Walk commands.Back) at by = refl
   lines_said (asks.Walk commands.Forward) at by = refl
   lines_said (asks.Walk (commands.Goto to)) at by = refl
@@ -77,8 +82,8 @@ module _ (o : Origin) (p : Place) (told : List ℕ) where
   lines_said (asks.When piece) at by = refl
   lines_said (asks.Next piece) at by = refl
   lines_said (asks.Without starter) at by = refl
-  lines_said (asks.Why step) at by = refl
-  lines_said asks.WhyRefused at by = refl
+  lines_said (asks.Why step) at by = absurd by
+  lines_said asks.WhyRefused at by = absurd by
   lines_said asks.Owns at by = refl
   lines_said (asks.OwnsOf starter) at by = refl
   lines_said asks.Cut at by = absurd by
@@ -120,8 +125,8 @@ module _ (o : Origin) (p q : Place) (text : List ℕ) where
   lines_stop refused (asks.When piece) by tells = record { history = tells.history; between = inr (omega arith, tells.back) }
   lines_stop refused (asks.Next piece) by tells = record { history = tells.history; between = next_between (shown_at (start_in o) p.history piece) tells }
   lines_stop refused (asks.Without starter) by answers = record { history = same_history answers.1; between = not_moved answers.1 }
-  lines_stop refused (asks.Why step) by answers = record { history = same_history answers.1; between = not_moved answers.1 }
-  lines_stop refused asks.WhyRefused by answers = record { history = same_history answers.1; between = not_moved answers.1 }
+  lines_stop refused (asks.Why step) by answers = absurd by
+  lines_stop refused asks.WhyRefused by answers = absurd by
   lines_stop refused asks.Owns by answers = record { history = same_history answers.1; between = not_moved answers.1 }
   lines_stop refused (asks.OwnsOf starter) by answers = record { history = same_history answers.1; between = not_moved answers.1 }
   lines_stop refused asks.Cut by answers = absurd by
@@ -134,7 +139,7 @@ pub lines_told : (o : Origin) (p q : Place) (refused : Option Step) (ask : Ask) 
 lines_told o p q refused ask at told text by answers there line = record {
   told = told;
   answers = answers;
-  says = subst (λ (tokens : List Token). IsLineOf tokens text) (ap (λ (n : ℕ). lines_answer n told) there ∙ sym (lines_said o p told ask q.at by)) line;
+  says = subst (λ (tokens : List Token). IsLineOf tokens text) (ap (λ (n : ℕ). lines_answer n told) there ∙ sym (lines_said o p refused told ask q.at by)) line;
 }
 
 module _ (version : TextVersion) (refused : Option Step) (k : SessionState) where
@@ -157,6 +162,35 @@ module _ (version : TextVersion) (refused : Option Step) (k : SessionState) wher
     says = subst (λ (tokens : List Token). IsLineOf tokens text)
         (λ i. trial_answer (here i) ((answered ∙ ap (λ (h : List Accepted). answer (view (start_of k) h) step) there) i)
         ((differ ∙ ap (λ (h : List Accepted). views_differing (view (start_of k) h) (view_with (start_of k) h step)) there) i)) line;
+  }
+
+  -- who could end the wait of the step, there
+  held_there : (step : Step) → other_holders (view (start_of k) (history_of (made_of k))) step ≡ other_holders (view (start_of k) (first_steps (position_of k) (history_of k.entries))) step
+  held_there step = ap (λ (h : List Accepted). other_holders (view (start_of k) h) step) there
+
+  pub why_told : (step : Step) (at : ℕ) (lines text : List ℕ) (held : Option (List Holder)) → at ≡ position_of k → TellsWhy (start_of k) (first_steps (position_of k) (history_of k.entries)) step lines →
+      held ≡ other_holders (view (start_of k) (history_of (made_of k))) step → IsLineOf (why_answer at lines held) text → AnswersAskJson (origin_of version k) (place_of k) refused (asks.Why step) text (place_of k)
+  why_told step at lines text held here why who line = record {
+    told = lines;
+    answers = (why, refl);
+    says = subst (λ (tokens : List Token). IsLineOf tokens text) (λ i. why_answer (here i) lines ((who ∙ held_there step) i)) line;
+  }
+
+  pub last_told : (step : Step) (at : ℕ) (lines text : List ℕ) (held : Option (List Holder)) → at ≡ position_of k → TellsWhy (start_of k) (first_steps (position_of k) (history_of k.entries)) step lines →
+      held ≡ other_holders (view (start_of k) (history_of (made_of k))) step → IsLineOf (why_answer at lines held) text →
+      AnswersAskJson (origin_of version k) (place_of k) (Some step) asks.WhyRefused text (place_of k)
+  last_told step at lines text held here why who line = record {
+    told = lines;
+    answers = (why, refl);
+    says = subst (λ (tokens : List Token). IsLineOf tokens text) (λ i. why_answer (here i) lines ((who ∙ held_there step) i)) line;
+  }
+
+  pub none_told : (at : ℕ) (lines text : List ℕ) → at ≡ position_of k → lines ≡ codes "nothing was refused\n" → IsLineOf (lines_answer at lines) text →
+      AnswersAskJson (origin_of version k) (place_of k) None asks.WhyRefused text (place_of k)
+  none_told at lines text here says line = record {
+    told = lines;
+    answers = (says, refl);
+    says = subst (λ (n : ℕ). IsLineOf (lines_answer n lines) text) here line;
   }
 
   pub cut_told : (new : SessionState) (at : ℕ) (text : List ℕ) → at ≡ position_of k → new.entries ≡ made_of k → position_of new ≡ position_of k → IsLineOf (position_answer at) text

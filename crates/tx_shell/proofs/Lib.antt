@@ -2,7 +2,9 @@ pub mod Begun
 pub mod Behind
 pub mod Chained
 pub mod Explained
+pub mod FirstWords
 pub mod Found
+pub mod Gathered
 pub mod Jsons
 pub mod LeftOver
 pub mod Listed

@@ -15,7 +15,7 @@ use Rattle.tx_shell.proofs.Listed.{history_to}
 use Rattle.tx_shell.specs.Answers.{tried_text, TellsWithout}
 use Rattle.tx_shell.specs.Differences.{views_differing}
 use Rattle.tx_shell.specs.Places.{place_of}
-use Rattle.tx_text.specs.Replies.{reply_text}
+use Rattle.tx_text.specs.Replies.{named_reply_text}
 
 pub on_ok : {T E : Type 0} (r : Result T E) (P Q : T → Type 0) → ((x : T) → P x → Q x) → IfOk r P → IfOk r Q
 on_ok (Ok x) P Q leads so = leads x so
@@ -40,11 +40,11 @@ module _ (k : SessionState) (s : ℕ) (text : List ℕ) (seen : view_of k.machin
 
 -- the reply, and how the states differ, put down one after another
 pub told_tried : (k : SessionState) (step : Step) (reply : Reply) (none one two three lines : List ℕ) → reply ≡ answer_there k step → lines ≡ views_differing (shown_at k) (shown_with k step) → none ≡ [] →
-    one ≡ none ++ reply_text reply → two ≡ one ++ 10 ∷ [] → three ≡ two ++ lines → three ≡ tried_text (start_of k) (first_steps (position_of k) (history_of k.entries)) step
+    one ≡ none ++ named_reply_text reply → two ≡ one ++ 10 ∷ [] → three ≡ two ++ lines → three ≡ tried_text (start_of k) (first_steps (position_of k) (history_of k.entries)) step
 told_tried k step reply none one two three lines answered differ blank first second third =
-    let replied : one ≡ reply_text (answer_there k step) = first ∙ (λ i. blank i ++ reply_text (answered i)) in
+    let replied : one ≡ named_reply_text (answer_there k step) = first ∙ (λ i. blank i ++ named_reply_text (answered i)) in
     third
     ∙ ap (λ (t : List ℕ). t ++ lines) (second ∙ ap (λ (t : List ℕ). t ++ 10 ∷ []) replied)
-    ∙ append_assoc (reply_text (answer_there k step)) (10 ∷ []) lines
-    ∙ ap (λ (t : List ℕ). reply_text (answer_there k step) ++ 10 ∷ t) differ
+    ∙ append_assoc (named_reply_text (answer_there k step)) (10 ∷ []) lines
+    ∙ ap (λ (t : List ℕ). named_reply_text (answer_there k step) ++ 10 ∷ t) differ
     ∙ ap (λ (h : List Accepted). tried_text (start_of k) h step) (history_to (position_of k) k.entries)

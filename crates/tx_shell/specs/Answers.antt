@@ -1,5 +1,5 @@
 -- What a line is answered, and where the session stands then.
-use Rattle.std.specs.Prelude.{◌≡◌, ◌⊎◌, ◌<◌, ℕ, ◌&&◌, List, [], ◌∷◌, ◌++◌, Option, Some, IsTrue, codes, false, if◌then◌else◌, length, nat_eq, true}
+use Rattle.std.specs.Prelude.{◌≡◌, ◌⊎◌, ◌<◌, ℕ, ◌&&◌, List, [], ◌∷◌, ◌++◌, Option, None, Some, IsTrue, codes, false, if◌then◌else◌, length, nat_eq, true}
 use Rattle.json.specs.Token.{Token}
 use Rattle.tx_base.specs.declared.steps.Accepted.{Accepted}
 use Rattle.tx_base.specs.declared.steps.Step.{Step}
@@ -7,7 +7,9 @@ use Rattle.tx_base.specs.declared.steps.Step.TheVariants.{KernelAbort}
 use Rattle.tx_explain.specs.Topics.{is_page}
 use Rattle.tx_journal.specs.Trials.{view_with}
 use Rattle.tx_json.specs.Answers.{lines_answer, position_answer, state_answer, trial_answer}
+use Rattle.tx_json.specs.Holders.{why_answer}
 use Rattle.tx_json.specs.Line.{IsLineOf}
+use Rattle.tx_json.specs.declared.holders.Holder.{Holder}
 use Rattle.tx_lines.specs.Lines.{FitsStep, IsOf, step_text}
 use Rattle.tx_lines.specs.Schedule.{IsNoStep}
 use Rattle.tx_lines.specs.declared.read.command.Command.{Command}
@@ -23,6 +25,7 @@ use Rattle.tx_shell.specs.Changes.{shown_at, TellsLast, TellsNext}
 use Rattle.tx_shell.specs.Differences.{views_differing}
 use Rattle.tx_shell.specs.Forms.{SaysAhead, SaysReply, TellsIn}
 use Rattle.tx_shell.specs.Helps.{HelpsOn}
+use Rattle.tx_shell.specs.Holders.{other_holders}
 use Rattle.tx_shell.specs.Journals.{schedule_so_far, steps_listed, steps_made}
 use Rattle.tx_shell.specs.Origins.{Origin, start_in}
 use Rattle.tx_shell.specs.Owners.{or_no_transaction, owner_line, owner_lines}
@@ -33,7 +36,7 @@ use Rattle.tx_shell.specs.declared.asks.Ask.{Ask}
 use Rattle.tx_shell.specs.declared.asks.Ask.TheVariants as asks
 use Rattle.tx_shell.specs.declared.forms.Form.{Form}
 use Rattle.tx_shell.specs.declared.forms.Form.TheVariants.{Text, Json}
-use Rattle.tx_text.specs.Replies.{reply_text}
+use Rattle.tx_text.specs.Replies.{named_reply_text}
 
 -- at the end a step is made: its reply is told, and it is recorded where it was accepted
 pub record MakesStep (form : Form) (start : State) (p : Place) (step : Step) (text : List ℕ) (q : Place) : Type 0 where
@@ -65,7 +68,7 @@ pub record PrintsSchedule (o : Origin) (p : Place) (text : List ℕ) (q : Place)
 
 -- the reply is told that a step would get after a history, and how the state after it would differ
 abbrev pub tried_text : State → List Accepted → Step → List ℕ
-tried_text start h step = reply_text (answer (view start h) step) ++ 10 ∷ views_differing (view start h) (view_with start h step)
+tried_text start h step = named_reply_text (answer (view start h) step) ++ 10 ∷ views_differing (view start h) (view_with start h step)
 
 -- it is told how the state would differ that an abort of the live transaction of process s by the kernel would leave at the position, or that there is none
 pub record TellsWithout (start : State) (p : Place) (s : ℕ) (text : List ℕ) : Type 0 where
@@ -115,19 +118,27 @@ pub record IsAskLine (o : Origin) (words : List ℕ) (ask : Ask) : Type 0 where
   pub fits : FitsAsk (grammar_of o.version) ask
   pub spelled : words ≡ ask_text ask
 
--- what JSON has of what is asked for: of a state the state, of a step that is tried its reply and the lines that differ, of a cut the position; of all else the lines of the text
-abbrev pub ask_tokens : Origin → Place → Ask → List ℕ → ℕ → List Token
-ask_tokens o p (asks.Walk commands.State) told at = state_answer at (view_at o p)
-ask_tokens o p (asks.Try step) told at =
+-- who could end the wait of the step that was refused last
+abbrev pub last_holders : View → Option Step → Option (List Holder)
+last_holders V None = None
+last_holders V (Some step) = other_holders V step
+
+-- what JSON has of what is asked for: of a state the state, of a step that is tried its reply and the lines that differ, of why a step is refused its lines
+-- and who could end its wait, of a cut the position; of all else the lines of the text
+abbrev pub ask_tokens : Origin → Place → Option Step → Ask → List ℕ → ℕ → List Token
+ask_tokens o p refused (asks.Walk commands.State) told at = state_answer at (view_at o p)
+ask_tokens o p refused (asks.Try step) told at =
     trial_answer at (answer (view_at o p) step) (views_differing (view_at o p) (view_with (start_in o) (first_steps p.at p.history) step))
-ask_tokens o p asks.Cut told at = position_answer at
-ask_tokens o p ask told at = lines_answer at told
+ask_tokens o p refused (asks.Why step) told at = why_answer at told (other_holders (view_at o p) step)
+ask_tokens o p refused asks.WhyRefused told at = why_answer at told (last_holders (view_at o p) refused)
+ask_tokens o p refused asks.Cut told at = position_answer at
+ask_tokens o p refused ask told at = lines_answer at told
 
 -- what is asked for is done, and answered by JSON in place of the text that is known
 pub record AnswersAskJson (o : Origin) (p : Place) (refused : Option Step) (ask : Ask) (text : List ℕ) (q : Place) : Type 0 where
   pub told : List ℕ
   pub answers : AnswersAsk o p refused ask told q
-  pub says : IsLineOf (ask_tokens o p ask told q.at) text
+  pub says : IsLineOf (ask_tokens o p refused ask told q.at) text
 
 -- in either form
 abbrev pub AnswersAskIn : Form → Origin → Place → Option Step → Ask → List ℕ → Place → Type 0

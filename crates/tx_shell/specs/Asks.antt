@@ -61,5 +61,7 @@ IsOfWords ask = ⊥
 abbrev pub IsToldByLines : Ask → Type 0
 IsToldByLines (asks.Walk commands.State) = ⊥
 IsToldByLines (asks.Try step) = ⊥
+IsToldByLines (asks.Why step) = ⊥
+IsToldByLines asks.WhyRefused = ⊥
 IsToldByLines asks.Cut = ⊥
 IsToldByLines ask = Unit {0}

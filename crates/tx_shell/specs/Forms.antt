@@ -8,7 +8,7 @@ use Rattle.tx_shell.specs.Told.{TellsOf}
 use Rattle.tx_shell.specs.declared.forms.Form.{Form}
 use Rattle.tx_shell.specs.declared.forms.Form.TheVariants.{Text, Json}
 use Rattle.tx_shell.specs.declared.versions.TextVersion.{TextVersion}
-use Rattle.tx_text.specs.Replies.{reply_text}
+use Rattle.tx_text.specs.Replies.{named_reply_text}
 
 -- the answer to a line without a word
 abbrev pub SaysNothing : Form → List ℕ → Type 0
@@ -20,9 +20,9 @@ abbrev pub SaysPosition : Form → ℕ → List ℕ → Type 0
 SaysPosition Text at text = text ≡ position_text at
 SaysPosition Json at text = IsLineOf (position_answer at) text
 
--- a reply, in JSON behind the number of the step where it was accepted
+-- a reply, in text with the name of an error, in JSON after the number of the step where it was accepted
 abbrev pub SaysReply : Form → ℕ → Reply → List ℕ → Type 0
-SaysReply Text number reply text = text ≡ reply_text reply ++ 10 ∷ []
+SaysReply Text number reply text = text ≡ named_reply_text reply ++ 10 ∷ []
 SaysReply Json number reply text = IsLineOf (step_answer number reply) text
 
 -- steps are ahead, and both ways out

@@ -1,5 +1,5 @@
 -- The steps of a session, as they are listed, and as the text that makes them again.
-use Rattle.std.specs.Prelude.{ℕ, ◌+◌, ◌&&◌, List, [], ◌∷◌, ◌++◌, codes, map, nat_eq, nat_le, reverse, take, if◌then◌else◌}
+use Rattle.std.specs.Prelude.{ℕ, ◌+◌, ◌&&◌, List, [], ◌∷◌, ◌++◌, codes, length, map, nat_eq, nat_le, reverse, take, if◌then◌else◌}
 use Rattle.std.specs.Fmt.{decimal}
 use Rattle.tx_base.specs.declared.steps.Accepted.{Accepted}
 use Rattle.tx_base.specs.declared.steps.Step.{Step}
@@ -9,11 +9,11 @@ use Rattle.tx_lines.specs.Schedule.{schedule_text}
 use Rattle.tx_script.specs.Debug.{position_text}
 use Rattle.tx_shell.specs.Origins.{header_in, Origin}
 use Rattle.tx_shell.specs.Places.{Place}
-use Rattle.tx_text.specs.Replies.{reply_text}
+use Rattle.tx_text.specs.Replies.{named_reply_text}
 
--- the line of a step, as the report of a run has it: its number, its worker, which is 1, the step, and its reply
+-- the line of a step, as the report of a run has it, with the name of an error: its number, its worker, which is 1, the step, and its reply
 abbrev pub step_line : ℕ → Accepted → List ℕ
-step_line number e = decimal number ++ (codes " w1 " ++ (step_text e.step ++ (codes " : " ++ (reply_text e.reply ++ 10 ∷ []))))
+step_line number e = decimal number ++ (codes " w1 " ++ (step_text e.step ++ (codes " : " ++ (named_reply_text e.reply ++ 10 ∷ []))))
 
 -- the line of the position, where that one is it
 abbrev pub mark_at : ℕ → ℕ → List ℕ
@@ -33,8 +33,21 @@ abbrev pub mark_before : ℕ → ℕ → List ℕ
 mark_before at first = if nat_le first 1 then mark_at at 0 else []
 
 -- the steps of those numbers, and the position where it is among them
+abbrev pub steps_between : Place → ℕ → ℕ → List ℕ
+steps_between p first last = mark_before p.at first ++ by_number (listed_between p.at first last) 1 (reverse p.history)
+
+-- that no line has those numbers, and how many steps there are
+abbrev pub no_steps_line : ℕ → List ℕ
+no_steps_line count = codes "no such steps: there are " ++ (decimal count ++ 10 ∷ [])
+
+-- some lines, or that there are none
+abbrev pub or_no_steps : ℕ → List ℕ → List ℕ
+or_no_steps count [] = no_steps_line count
+or_no_steps count (byte ∷ bytes) = byte ∷ bytes
+
+-- what is answered of the steps of those numbers
 abbrev pub steps_listed : Place → ℕ → ℕ → List ℕ
-steps_listed p first last = mark_before p.at first ++ by_number (listed_between p.at first last) 1 (reverse p.history)
+steps_listed p first last = or_no_steps (length p.history) (steps_between p first last)
 
 -- the steps of some entries
 abbrev pub steps_of : List Entry → List Step

@@ -5,6 +5,7 @@ pub mod Differences
 pub mod Events
 pub mod Forms
 pub mod Helps
+pub mod Holders
 pub mod Journals
 pub mod Kinds
 pub mod Meanings

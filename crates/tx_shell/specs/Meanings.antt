@@ -1,10 +1,11 @@
 -- What a line means.
-use Rattle.std.specs.Prelude.{ℕ, List, ◌∷◌, ◌++◌, Option, None, Some, codes, drop, nat_eq, if◌then◌else◌}
-use Rattle.std.specs.List.{starts_with}
+use Rattle.std.specs.Prelude.{ℕ, ◌+◌, ◌-◌, Bool, not, ◌&&◌, ◌||◌, List, [], ◌∷◌, ◌++◌, Option, None, Some, codes, drop, length, nat_lt, option_map, if◌then◌else◌}
+use Rattle.std.specs.Str.{bytes_eq}
 use Rattle.tx_lines.specs.Schedule.{first_line}
 use Rattle.tx_lines.specs.declared.read.header.TextKind.TheVariants.{Schedule}
 use Rattle.tx_plain.specs.Lines.{plain_line}
 use Rattle.tx_plain.specs.OwnLines.{without_return}
+use Rattle.tx_plain.specs.Words.{columns_in, words_in}
 use Rattle.tx_plain.specs.declared.stage.Stage.TheVariants.{Within}
 use Rattle.tx_shell.specs.declared.meanings.Words.{Words}
 use Rattle.tx_shell.specs.declared.meanings.Words.TheVariants.{Lent, Made}
@@ -16,22 +17,45 @@ abbrev pub with_step : List ℕ → Option (List ℕ) → List ℕ
 with_step word None = word
 with_step word (Some step) = word ++ 32 ∷ step
 
--- what a line means behind such a word: a step as a line of its own
-abbrev pub asked_step : List ℕ → List ℕ → List ℕ
-asked_step word line = with_step word (plain_line (Within Schedule) (without_return (drop 4 line)))
+-- the first of some things, or another where there is none
+abbrev pub first_or : {A : Type 0} → A → List A → A
+first_or other [] = other
+first_or other (x ∷ xs) = x
 
--- what a line of version 3 means among the steps of a text, and where it asks about a step
+-- the first word of a line
+abbrev pub first_word : List ℕ → List ℕ
+first_word line = first_or [] (words_in line)
+
+-- what is left of a line after its first word
+abbrev pub after_word : List ℕ → List ℕ
+after_word line = drop (first_or 1 (columns_in line) - 1 + length (first_word line)) line
+
+-- whether a word asks about the step after it
+abbrev pub asks_of_step : List ℕ → Bool
+asks_of_step word = bytes_eq word (codes "try") || bytes_eq word (codes "why")
+
+-- what a line means whose first word asks about a step: that is a line of its own
+abbrev pub asked_step : List ℕ → List ℕ
+asked_step line = with_step (first_word line) (plain_line (Within Schedule) (without_return (after_word line)))
+
+-- what a line of version 3 means among the steps of a text, and where it asks about a step; one of too many bytes means itself
 abbrev pub third_line : List ℕ → Option (List ℕ)
 third_line line =
-    if starts_with nat_eq line (codes "try ") then Some (asked_step (codes "try") line)
-    else if starts_with nat_eq line (codes "why ") then Some (asked_step (codes "why") line)
-    else plain_line (Within Schedule) (without_return line)
+    if not (nat_lt 512 (length line)) && asks_of_step (first_word line) then Some (asked_step line) else plain_line (Within Schedule) (without_return line)
 
--- what a line means among the steps of a text: itself, and in version 3 a line of version 2, or nothing where it has no word. A byte 10 would end it
+-- what a line of a version spells, before other words for the same are looked at. A byte 10 would end it
+abbrev pub spelled_line : TextVersion → List ℕ → Option (List ℕ)
+spelled_line One line = Some (first_line line)
+spelled_line Two line = Some (first_line line)
+spelled_line Three line = third_line (first_line line)
+
+-- `exit` is another word for quit, and `?` for help
+abbrev pub usual_words : List ℕ → List ℕ
+usual_words words = if bytes_eq words (codes "exit") then codes "quit" else if bytes_eq words (codes "?") then codes "help" else words
+
+-- what a line means among the steps of a text: itself, and in version 3 a line of version 2, or nothing where it has no word
 abbrev pub meant_line : TextVersion → List ℕ → Option (List ℕ)
-meant_line One line = Some (first_line line)
-meant_line Two line = Some (first_line line)
-meant_line Three line = third_line (first_line line)
+meant_line version line = option_map usual_words (spelled_line version line)
 
 -- the bytes that are meant
 abbrev pub bytes_of : Words → List ℕ

@@ -16,16 +16,17 @@ use Rattle.tx_lines.specs.Lines.{step_text}
 use Rattle.tx_model.specs.Answer.{answer}
 use Rattle.tx_model.specs.Events.{process_of}
 use Rattle.tx_model.specs.Footprints.{footprint}
-use Rattle.tx_model.specs.State.{State, has_object}
+use Rattle.tx_model.specs.State.{ReadSide, Side, State, WriteSide, has_object}
 use Rattle.tx_model.specs.View.{present, view}
 use Rattle.tx_reserve.specs.Objects.{is_small}
 use Rattle.tx_shell.specs.Helps.{HelpsOn}
+use Rattle.tx_shell.specs.Holders.{holders_line, side_holders}
 use Rattle.tx_shell.specs.Kinds.{limit_of, object_in, word_of}
 use Rattle.tx_shell.specs.Signals.{signal_lines}
 use Rattle.tx_shell.specs.declared.kinds.Kind.{Kind}
 use Rattle.tx_shell.specs.declared.kinds.Kind.TheVariants.{Processes, Descriptions, Pipes}
 use Rattle.tx_text.specs.Each.{upto}
-use Rattle.tx_text.specs.Replies.{reply_text}
+use Rattle.tx_text.specs.Replies.{named_reply_text}
 
 -- since which step
 abbrev pub touch_text : Numbered → List ℕ
@@ -58,16 +59,17 @@ no_byte = codes " has no byte\n"
 abbrev pub no_room : List ℕ
 no_room = codes " has too little room\n"
 
--- what a step waits for: a child's end, a byte in a pipe, or room for all its bytes; by the lines of the pipes that it names
-abbrev pub waited_by : (List ℕ → List ℕ) → Step → List ℕ
-waited_by pipes (steps.Call p (calls.Waitpid child nohang)) = child_text child
-waited_by pipes (steps.Call p (calls.Read fd address count)) = pipes no_byte
-waited_by pipes (steps.Call p (calls.Write fd address count)) = pipes no_room
-waited_by pipes other = []
+-- what a step waits for: a child's end, a byte in a pipe, or room for all its bytes; by the lines of the pipes that it names, and of who has their other
+-- side open
+abbrev pub waited_by : (List ℕ → List ℕ) → (Side → List ℕ) → Step → List ℕ
+waited_by pipes who (steps.Call p (calls.Waitpid child nohang)) = child_text child
+waited_by pipes who (steps.Call p (calls.Read fd address count)) = pipes no_byte ++ who WriteSide
+waited_by pipes who (steps.Call p (calls.Write fd address count)) = pipes no_room ++ who ReadSide
+waited_by pipes who other = []
 
 -- that a step would be answered so
-abbrev pub accepted_text : Reply → List ℕ
-accepted_text reply = codes ": it would be answered " ++ (reply_text reply ++ 10 ∷ [])
+abbrev pub answered_text : Reply → List ℕ
+answered_text reply = codes ": it would be answered " ++ (named_reply_text reply ++ 10 ∷ [])
 
 module _ (S : State) (h : List Accepted) where
   -- the line of an object that the transaction of s has
@@ -105,30 +107,40 @@ module _ (S : State) (h : List Accepted) (step : Step) where
   abbrev pub pipe_lines : List ℕ → List ℕ
   pipe_lines why = upto (pipe_line why) (limit_of Pipes)
 
+  -- the line of who has that side of such a pipe open
+  abbrev pub open_line : Side → List ℕ
+  open_line side = holders_line side (side_holders (view S h) step side)
+
   abbrev pub waited_text : List ℕ
-  waited_text = waited_by pipe_lines step
+  waited_text = waited_by pipe_lines open_line step
 
   -- the objects in the way of the step, and its signals that have two answers
   abbrev pub busy_lines : List ℕ
   busy_lines = object_lines ++ signal_lines S h step
 
-  -- what is told behind the reason: of a step in whose way a transaction is, these; of one that waits, for what
-  abbrev pub lines_behind : Refusal → List ℕ
-  lines_behind (Busy starter) = busy_lines
-  lines_behind Wait = waited_text
-  lines_behind why = []
+  -- the facts of a refusal: of a step in whose way a transaction is, these; of one that waits, for what
+  abbrev pub fact_lines : Refusal → List ℕ
+  fact_lines (Busy starter) = busy_lines
+  fact_lines Wait = waited_text
+  fact_lines why = []
 
-  -- of a step that is refused: the page that help has on that, and those lines
+  -- of a step that is refused: those lines, and the page that help has on the refusal
   pub record TellsRefusal (why : Refusal) (behind : List ℕ) : Type 0 where
     pub page : List ℕ
     pub helps : HelpsOn (refusal_word why) page
-    pub told : behind ≡ codes ": " ++ (page ++ lines_behind why)
+    pub told : behind ≡ fact_lines why ++ page
 
-  -- what is told behind a step that would get this reply
-  abbrev pub TellsReply : Reply → List ℕ → Type 0
-  TellsReply reply behind = MatchOption (refusal_in reply) (behind ≡ accepted_text reply) (λ why. TellsRefusal why behind)
+  -- what is told after a reply: nothing where the step is not refused
+  abbrev pub TellsReason : Reply → List ℕ → Type 0
+  TellsReason reply behind = MatchOption (refusal_in reply) (behind ≡ []) (λ why. TellsRefusal why behind)
 
-  -- the step, and behind it why it would be refused after the history, or what it would be answered
+  -- what is told of a step that would get this reply: the reply first, and then why
+  pub record TellsReply (reply : Reply) (behind : List ℕ) : Type 0 where
+    pub reason : List ℕ
+    pub told : behind ≡ answered_text reply ++ reason
+    pub why : TellsReason reply reason
+
+  -- the step, and after it what it would be answered after the history, and why it would be refused
   pub record TellsWhy (text : List ℕ) : Type 0 where
     pub behind : List ℕ
     pub told : text ≡ step_text step ++ behind

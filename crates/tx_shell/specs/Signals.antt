@@ -10,14 +10,19 @@ use Rattle.tx_shell.specs.declared.kinds.Kind.TheVariants.{Processes}
 use Rattle.tx_step.specs.TwoAnswers.{two_answers}
 use Rattle.tx_step.specs.declared.differing.TwoAnswers.{TwoAnswers}
 use Rattle.tx_text.specs.Each.{upto}
+use Rattle.tx_text.specs.Replies.{error_name, spaced_name}
 
 -- which signal, and to whom
 abbrev pub sent_text : ℕ → ℕ → List ℕ
 sent_text signo s = codes "signal " ++ (decimal signo ++ (codes " to " ++ decimal s))
 
+-- what is answered, with the name of an error
+abbrev pub named_text : ℤ → List ℕ
+named_text x = signed_decimal x ++ spaced_name (error_name x)
+
 -- how it would be answered now, and how after an abort
 abbrev pub answers_text : ℤ → ℤ → List ℕ
-answers_text x y = codes ": it would be answered " ++ (signed_decimal x ++ (codes " now, and " ++ signed_decimal y))
+answers_text x y = codes ": it would be answered " ++ (named_text x ++ (codes " now, and " ++ named_text y))
 
 -- of the transaction of s
 abbrev pub if_aborted : ℕ → List ℕ

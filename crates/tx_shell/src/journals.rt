@@ -1,5 +1,5 @@
 //! Prints the steps of a session: as a list, and as the schedule that makes them again.
-ghost use Rattle.std.specs.Prelude.{◌≡◌, ◌++◌, ◌∷◌, [], IfOk, OnOk, map, take, string_bytes};
+ghost use Rattle.std.specs.Prelude.{◌≡◌, ◌++◌, ◌∷◌, [], IfOk, OnOk, length, map, take, string_bytes};
 ghost use Rattle.tx_journal.specs.Entries.{accepted_of, history_of};
 ghost use Rattle.tx_journal.specs.Sessions.{made_of, position_of, start_of};
 ghost use Rattle.tx_lines.specs.Lines.{header_text, step_text};
@@ -7,7 +7,7 @@ ghost use Rattle.tx_lines.specs.Schedule.{steps_text};
 ghost use Rattle.tx_lines.specs.declared.read.header.TextKind.TheVariants.{Schedule};
 ghost use Rattle.tx_model.specs.Schedules.{history_of as history_after};
 ghost use Rattle.tx_script.specs.Debug.{first_steps, position_text};
-ghost use Rattle.tx_shell.specs.Journals.{by_number, listed_between, mark_at, mark_before};
+ghost use Rattle.tx_shell.specs.Journals.{by_number, listed_between, mark_at, mark_before, no_steps_line, or_no_steps};
 ghost use Rattle.tx_shell.specs.Journals.{schedule_so_far, step_line, steps_listed, steps_made, steps_of};
 ghost use Rattle.tx_shell.specs.Places.{origin_of, place_of};
 ghost use Rattle.tx_shell.specs.Versions.{grammar_of};
@@ -17,10 +17,10 @@ use std::alloc::{AllocError, Global};
 use tx_base::{NoMemory, Reply, Step};
 use tx_journal::{Entry, Session};
 use tx_lines::{Version, put, put_count, put_step};
-use tx_text::put_reply;
+use tx_text::put_named_reply;
 
 /// The steps of those numbers, a line each with its number, its worker and its reply, and the position
-/// where it is among them.
+/// where it is among them. Where that is none, how many steps there are.
 ///
 /// NoMemory where a growth is refused.
 pub fn list_steps(
@@ -36,6 +36,28 @@ pub fn list_steps(
     let mut text = String::new(alloc);
     put_mark_before(&mut text, position, first)?;
     put_entries(&mut text, session.entries(), position, first, last)?;
+    or_no_steps(alloc, session.entries(), text)
+}
+
+/// The lines, or how many entries there are where there is no line.
+fn or_no_steps(alloc: Global, entries: &[Entry], lines: String) -> Result<String, NoMemory>
+    ensures { IfOk result (λ text.
+        string_bytes text ≡ or_no_steps (length entries.now) (string_bytes lines)) }
+{
+    if lines.is_empty() {
+        return no_steps(alloc, entries.len() as u64);
+    }
+    Ok(lines)
+}
+
+/// The line that says that there are no such steps, and how many there are.
+fn no_steps(alloc: Global, count: u64) -> Result<String, NoMemory>
+    ensures { IfOk result (λ text. string_bytes text ≡ no_steps_line count) }
+{
+    let mut text = String::new(alloc);
+    put(&mut text, "no such steps: there are ")?;
+    put_count(&mut text, count)?;
+    put(&mut text, "\n")?;
     Ok(text)
 }
 
@@ -132,7 +154,7 @@ fn put_step_line(
     put(text, " w1 ")?;
     put_step(text, step)?;
     put(text, " : ")?;
-    put_reply(text, reply)?;
+    put_named_reply(text, reply)?;
     put(text, "\n")
 }
 

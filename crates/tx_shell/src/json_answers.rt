@@ -1,5 +1,7 @@
 //! Answers what is asked for as JSON.
-ghost use Rattle.std.specs.Prelude.{◌≡◌, IfOk, OnErr, Option, string_bytes};
+ghost use Rattle.std.specs.Prelude.{◌≡◌, IfOk, None, OnErr, Option, Some, option_map, string_bytes};
+ghost use Rattle.tx_json.specs.Holders.{why_answer};
+ghost use Rattle.tx_json.specs.Line.{IsLineOf};
 ghost use Rattle.tx_base.specs.declared.steps.Step.{Step as TheStep};
 ghost use Rattle.tx_journal.specs.Sessions.{SameBoot};
 ghost use Rattle.tx_lines.specs.declared.read.command.Command.TheVariants.{State};
@@ -12,12 +14,16 @@ ghost use Rattle.tx_shell.specs.declared.versions.TextVersion.{TextVersion as Th
 
 use crate::answers::answer_as_text;
 use crate::asks::Ask;
+use crate::holders::other_holders;
+use crate::reasons::{tell_refused, tell_why};
 use crate::trials::try_at;
 use crate::versions::TextVersion;
 use std::alloc::Global;
 use tx_base::{NoMemory, Step};
 use tx_journal::Session;
-use tx_json::{lines_answer, position_answer, state_answer, trial_answer};
+use tx_json::{
+    Holder, lines_answer, position_answer, state_answer, trial_answer, why_answer,
+};
 use tx_lines::Command;
 
 /// Does what is asked for, and answers it as JSON.
@@ -41,6 +47,8 @@ pub fn answer_as_json(
     match ask {
         Ask::Walk(command) => walk(alloc, version, session, refused, command),
         Ask::Try(step) => tell_trial(alloc, session, &step),
+        Ask::Why(step) => tell_reason(alloc, session, &step),
+        Ask::WhyRefused => tell_last_reason(alloc, session, refused),
         Ask::Cut => cut(alloc, session),
         ask => tell_lines(alloc, version, session, refused, ask),
     }
@@ -115,6 +123,74 @@ fn tell_trial(alloc: Global, session: &mut Session, step: &Step) -> Result<Strin
 {
     let (reply, lines) = try_at(alloc, session, step)?;
     trial_answer(alloc, session.position(), &reply, lines.as_str())
+}
+
+/// The position, why a step would be refused there, and who could end its wait.
+///
+/// NoMemory where a growth is refused.
+fn tell_reason(alloc: Global, session: &mut Session, step: &Step) -> Result<String, NoMemory>
+    ensures answer { (version : TheVersion) (refused : Option TheStep) → IfOk result (λ text.
+        AnswersAskJson (origin_of version session.old) (place_of session.old) refused
+        (asks.Why step.now) (string_bytes text) (place_of session.old)) }
+    ensures last { (version : TheVersion) → IfOk result (λ text.
+        AnswersAskJson (origin_of version session.old) (place_of session.old) (Some step.now)
+        asks.WhyRefused (string_bytes text) (place_of session.old)) }
+    ensures same { session.new ≡ session.old }
+{
+    let text = tell_why(alloc, session, step)?;
+    let holders = other_holders(alloc, session, step)?;
+    why_line(alloc, session.position(), text.as_str(), &holders)
+}
+
+/// A position, why a step would be refused there, and who could end its wait.
+///
+/// NoMemory where a growth is refused.
+fn why_line(
+    alloc: Global,
+    position: usize,
+    text: &str,
+    holders: &Option<Vec<Holder>>,
+) -> Result<String, NoMemory>
+    ensures { IfOk result (λ told. IsLineOf
+        (why_answer position text.now (option_map (λ held. held.items) holders.now))
+        (string_bytes told)) }
+{
+    match holders {
+        Some(holders) => why_answer(alloc, position, text, Some(holders.as_slice())),
+        None => why_answer(alloc, position, text, None),
+    }
+}
+
+/// The position, and why the step would be refused there that was refused last.
+///
+/// NoMemory where a growth is refused.
+fn tell_last_reason(
+    alloc: Global,
+    session: &mut Session,
+    refused: &Option<Step>,
+) -> Result<String, NoMemory>
+    ensures answer { (version : TheVersion) → IfOk result (λ text.
+        AnswersAskJson (origin_of version session.old) (place_of session.old) refused.now
+        asks.WhyRefused (string_bytes text) (place_of session.old)) }
+    ensures same { session.new ≡ session.old }
+{
+    match refused {
+        Some(step) => tell_reason(alloc, session, step),
+        None => tell_no_reason(alloc, session),
+    }
+}
+
+/// The position, and that no step was refused.
+///
+/// NoMemory where a growth is refused.
+fn tell_no_reason(alloc: Global, session: &mut Session) -> Result<String, NoMemory>
+    ensures answer { (version : TheVersion) → IfOk result (λ text.
+        AnswersAskJson (origin_of version session.old) (place_of session.old) None
+        asks.WhyRefused (string_bytes text) (place_of session.old)) }
+    ensures same { session.new ≡ session.old }
+{
+    let text = tell_refused(alloc, session, &None)?;
+    lines_answer(alloc, session.position(), text.as_str())
 }
 
 /// Lets go of the steps after the position, and answers it.

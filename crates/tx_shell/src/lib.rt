@@ -31,6 +31,7 @@ mod console;
 mod differences;
 mod forms;
 mod helps;
+mod holders;
 mod journals;
 mod json_answers;
 mod kinds;

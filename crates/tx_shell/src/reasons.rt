@@ -4,7 +4,7 @@ ghost use Rattle.tx_explain.specs.Calls.{refusal_word};
 ghost use Rattle.tx_journal.specs.Entries.{history_of};
 ghost use Rattle.tx_journal.specs.Sessions.{made_of, position_of, start_of};
 ghost use Rattle.tx_script.specs.Debug.{first_steps};
-ghost use Rattle.tx_shell.specs.Reasons.{accepted_text, busy_lines, lines_behind, refusal_in, TellsRefusal, TellsRefused, TellsReply, TellsWhy};
+ghost use Rattle.tx_shell.specs.Reasons.{answered_text, busy_lines, fact_lines, refusal_in, TellsReason, TellsRefusal, TellsRefused, TellsReply, TellsWhy};
 
 use crate::blockers::put_objects;
 use crate::helps::{meaning, text_as};
@@ -14,7 +14,7 @@ use std::alloc::{AllocError, Global};
 use tx_base::{NoMemory, Refusal, Reply, Step};
 use tx_journal::Session;
 use tx_lines::{put, put_step};
-use tx_text::put_reply;
+use tx_text::put_named_reply;
 
 /// Why a step would be refused at the position, or what it would be answered.
 ///
@@ -28,7 +28,7 @@ pub fn tell_why(alloc: Global, session: &mut Session, step: &Step) -> Result<Str
     let reply = session.reply_to(alloc, step)?;
     let mut text = String::new(alloc);
     put_step(&mut text, step)?;
-    put_behind(&mut text, session, step, &reply)?;
+    put_behind(alloc, &mut text, session, step, &reply)?;
     Ok(text)
 }
 
@@ -51,21 +51,39 @@ pub fn tell_refused(
     }
 }
 
-/// Appends what is told behind a step that would get this reply.
+/// Appends what is told of a step that would get this reply.
 fn put_behind(
+    alloc: Global,
     text: &mut String,
     session: &Session,
     step: &Step,
     reply: &Reply,
-) -> Result<(), AllocError>
+) -> Result<(), NoMemory>
     ensures { OnOk result ((behind : List ℕ)
         × (string_bytes text.new ≡ string_bytes text.old ++ behind)
         × TellsReply (start_of session.now) (history_of (made_of session.now)) step.now reply.now
         behind) }
 {
+    put_answered(text, reply)?;
+    put_reason(alloc, text, session, step, reply)
+}
+
+/// Appends why a step would get this reply, where it is refused.
+fn put_reason(
+    alloc: Global,
+    text: &mut String,
+    session: &Session,
+    step: &Step,
+    reply: &Reply,
+) -> Result<(), NoMemory>
+    ensures { OnOk result ((reason : List ℕ)
+        × (string_bytes text.new ≡ string_bytes text.old ++ reason)
+        × TellsReason (start_of session.now) (history_of (made_of session.now)) step.now reply.now
+        reason) }
+{
     match refusal_in(reply) {
-        Some(why) => put_refusal(text, session, step, why),
-        None => put_accepted(text, reply),
+        Some(why) => put_refusal(alloc, text, session, step, why),
+        None => Ok(()),
     }
 }
 
@@ -80,46 +98,48 @@ fn refusal_in(reply: &Reply) -> Option<Refusal>
 }
 
 /// Appends the reply that a step would get.
-fn put_accepted(text: &mut String, reply: &Reply) -> Result<(), AllocError>
+fn put_answered(text: &mut String, reply: &Reply) -> Result<(), AllocError>
     ensures { OnOk result
-        (string_bytes text.new ≡ string_bytes text.old ++ accepted_text reply.now) }
+        (string_bytes text.new ≡ string_bytes text.old ++ answered_text reply.now) }
 {
     put(text, ": it would be answered ")?;
-    put_reply(text, reply)?;
+    put_named_reply(text, reply)?;
     put(text, "\n")
 }
 
 /// Appends why a step would be refused.
 fn put_refusal(
+    alloc: Global,
     text: &mut String,
     session: &Session,
     step: &Step,
     why: Refusal,
-) -> Result<(), AllocError>
+) -> Result<(), NoMemory>
     ensures { OnOk result ((behind : List ℕ)
         × (string_bytes text.new ≡ string_bytes text.old ++ behind)
         × TellsRefusal (start_of session.now) (history_of (made_of session.now)) step.now why
         behind) }
 {
-    put(text, ": ")?;
+    put_facts(alloc, text, session, step, why)?;
     put(text, meaning(word(why)))?;
-    put_lines_behind(text, session, step, why)
+    Ok(())
 }
 
-/// Appends the lines behind the reason: of a step in whose way a transaction is, the objects and the
+/// Appends the facts of a refusal: of a step in whose way a transaction is, the objects and the
 /// signals that have two answers; of one that waits, what for.
-fn put_lines_behind(
+fn put_facts(
+    alloc: Global,
     text: &mut String,
     session: &Session,
     step: &Step,
     why: Refusal,
-) -> Result<(), AllocError>
+) -> Result<(), NoMemory>
     ensures { OnOk result (string_bytes text.new ≡ string_bytes text.old
-        ++ lines_behind (start_of session.now) (history_of (made_of session.now)) step.now why) }
+        ++ fact_lines (start_of session.now) (history_of (made_of session.now)) step.now why) }
 {
     match why {
-        Refusal::Busy { .. } => put_blockers(text, session, step),
-        Refusal::Wait => put_waited(text, session, step),
+        Refusal::Busy { .. } => Ok(put_blockers(text, session, step)?),
+        Refusal::Wait => put_waited(alloc, text, session, step),
         _ => Ok(()),
     }
 }

@@ -3,7 +3,7 @@ ghost use Rattle.std.specs.Prelude.{◌≡◌, ◌++◌, OnOk, string_bytes};
 ghost use Rattle.tx_journal.specs.Entries.{history_of};
 ghost use Rattle.tx_journal.specs.Sessions.{made_of, start_of};
 ghost use Rattle.tx_shell.specs.Places.{view_at};
-ghost use Rattle.tx_shell.specs.Signals.{answers_text, if_aborted, sent_text, signal_line, signal_lines, twice_line};
+ghost use Rattle.tx_shell.specs.Signals.{answers_text, if_aborted, named_text, sent_text, signal_line, signal_lines, twice_line};
 ghost use Rattle.tx_step.specs.TwoAnswers.{two_answers};
 
 use crate::kinds::Kind;
@@ -12,6 +12,7 @@ use tx_base::{Pid, Signo, Step};
 use tx_journal::Session;
 use tx_lines::{put, put_count, put_number};
 use tx_step::TwoAnswers;
+use tx_text::error_name;
 
 /// Appends a line for each starter of another's live transaction at which a signal of the step has two
 /// answers, by rising starters: the first such signal, how it would be answered now, and how after an
@@ -79,9 +80,24 @@ fn put_answers(text: &mut String, present: i64, after_abort: i64) -> Result<(), 
         (string_bytes text.new ≡ string_bytes text.old ++ answers_text present after_abort) }
 {
     put(text, ": it would be answered ")?;
-    put_number(text, present)?;
+    put_named(text, present)?;
     put(text, " now, and ")?;
-    put_number(text, after_abort)
+    put_named(text, after_abort)
+}
+
+/// Appends what is answered, with the name of an error.
+fn put_named(text: &mut String, answer: i64) -> Result<(), AllocError>
+    ensures { OnOk result
+        (string_bytes text.new ≡ string_bytes text.old ++ named_text answer) }
+{
+    put_number(text, answer)?;
+    match error_name(answer) {
+        Some(name) => {
+            put(text, " ")?;
+            put(text, name)
+        }
+        None => Ok(()),
+    }
 }
 
 /// Appends after an abort of which transaction.

@@ -3,14 +3,14 @@ ghost use Rattle.std.specs.Prelude.{◌≡◌, ◌+◌, ◌≤◌, ◌++◌, ◌
 ghost use Rattle.tx_journal.specs.Sessions.{start_of, IsAtEnd, SameBoot};
 ghost use Rattle.tx_shell.specs.Answers.{AnswersStep, MakesStep};
 ghost use Rattle.tx_shell.specs.Places.{place_of};
-ghost use Rattle.tx_text.specs.Replies.{reply_text};
+ghost use Rattle.tx_text.specs.Replies.{named_reply_text};
 
 use crate::forms::Form;
 use std::alloc::{AllocError, Global};
 use tx_base::{ABORTED_BY_CALL, NoMemory, Reply, Step};
 use tx_journal::Session;
 use tx_lines::put;
-use tx_text::put_reply;
+use tx_text::put_named_reply;
 
 /// The worker that makes the steps.
 const WORKER: u16 = 1;
@@ -81,7 +81,7 @@ fn make_step(
 /// Puts the line of a reply in place of what the text had. The only error is that a growth of memory was
 /// refused: the text may then have some of it.
 pub fn put_reply_line(text: &mut String, reply: &Reply) -> Result<(), AllocError>
-    ensures { OnOk result (string_bytes text.new ≡ reply_text reply.now ++ 10 ∷ []) }
+    ensures { OnOk result (string_bytes text.new ≡ named_reply_text reply.now ++ 10 ∷ []) }
 {
     text.clear();
     if let Reply::Done(ret) = reply {
@@ -94,7 +94,7 @@ pub fn put_reply_line(text: &mut String, reply: &Reply) -> Result<(), AllocError
             return put(text, "aborted 201\n"); // and most aborts
         }
     }
-    put_reply(text, reply)?;
+    put_named_reply(text, reply)?;
     put(text, "\n")
 }
 

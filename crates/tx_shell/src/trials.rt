@@ -15,7 +15,7 @@ use std::alloc::Global;
 use tx_base::{NoMemory, Pid, Reply, Step};
 use tx_journal::{Session, print_pieces};
 use tx_lines::put;
-use tx_text::put_reply;
+use tx_text::put_named_reply;
 
 /// The reply that a step would get at the position, and how the state after it would differ.
 ///
@@ -27,7 +27,7 @@ pub fn try_step(alloc: Global, session: &mut Session, step: &Step) -> Result<Str
 {
     let (reply, lines) = try_at(alloc, session, step)?;
     let mut text = String::new(alloc);
-    put_reply(&mut text, &reply)?;
+    put_named_reply(&mut text, &reply)?;
     put(&mut text, "\n")?;
     put(&mut text, lines.as_str())?;
     Ok(text)

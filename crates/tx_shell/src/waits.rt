@@ -7,13 +7,16 @@ ghost use Rattle.tx_model.specs.View.{present};
 ghost use Rattle.tx_reserve.specs.Footprints.{IsSetOf};
 ghost use Rattle.tx_shell.specs.Kinds.{limit_of};
 ghost use Rattle.tx_shell.specs.Places.{view_at};
-ghost use Rattle.tx_shell.specs.Reasons.{child_text, pipe_line, pipe_lines, waited_text};
+ghost use Rattle.tx_desc.specs.Descriptions.{end_for};
+ghost use Rattle.tx_shell.specs.Reasons.{child_text, open_line, pipe_line, pipe_lines, waited_text};
 ghost use Rattle.tx_shell.specs.declared.kinds.Kind.TheVariants.{Pipes};
 
 use crate::blockers::{names, put_name};
+use crate::holders::{put_holders, side_holders};
 use crate::kinds::Kind;
-use std::alloc::AllocError;
-use tx_base::{Call, Step};
+use std::alloc::{AllocError, Global};
+use tx_base::{Call, NoMemory, Step};
+use tx_desc::Side;
 use tx_journal::Session;
 use tx_lines::{put, put_number};
 use tx_reserve::Objects;
@@ -21,17 +24,47 @@ use tx_reserve::Objects;
 /// Appends the line of what a step waits for: a child's end, a byte in a pipe, or room in one for all
 /// its bytes. Nothing for a step that never waits.
 ///
-/// NoMemory where a growth is refused; a part of the line may then stand behind the text.
-pub fn put_waited(text: &mut String, session: &Session, step: &Step) -> Result<(), AllocError>
+/// Then who has the other side of the pipe open, and could end the wait.
+///
+/// NoMemory where a growth is refused; a part of the lines may then be at the end of the text.
+pub fn put_waited(
+    alloc: Global,
+    text: &mut String,
+    session: &Session,
+    step: &Step,
+) -> Result<(), NoMemory>
     ensures { OnOk result (string_bytes text.new ≡ string_bytes text.old
         ++ waited_text (start_of session.now) (history_of (made_of session.now)) step.now) }
 {
     match step {
-        Step::Call(_, Call::Waitpid(child, _)) => put_child(text, *child),
-        Step::Call(_, Call::Read(..)) => put_pipes(text, session, step, " has no byte\n"),
-        Step::Call(_, Call::Write(..)) => put_pipes(text, session, step, " has too little room\n"),
+        Step::Call(_, Call::Waitpid(child, _)) => Ok(put_child(text, *child)?),
+        Step::Call(_, Call::Read(..)) => {
+            put_pipes(text, session, step, " has no byte\n")?;
+            put_open(alloc, text, session, step, Side::Write)
+        }
+        Step::Call(_, Call::Write(..)) => {
+            put_pipes(text, session, step, " has too little room\n")?;
+            put_open(alloc, text, session, step, Side::Read)
+        }
         _ => Ok(()),
     }
+}
+
+/// Appends the line of who has that side of the pipe open that a step names.
+fn put_open(
+    alloc: Global,
+    text: &mut String,
+    session: &Session,
+    step: &Step,
+    side: Side,
+) -> Result<(), NoMemory>
+    ensures { OnOk result (string_bytes text.new ≡ string_bytes text.old
+        ++ open_line (start_of session.now) (history_of (made_of session.now)) step.now
+        (end_for side)) }
+{
+    let holders = side_holders(alloc, session, step, side)?;
+    put_holders(text, side, holders.as_slice())?;
+    Ok(())
 }
 
 /// Appends that a child's end is waited for.

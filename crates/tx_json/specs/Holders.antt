@@ -1,0 +1,20 @@
+-- Who has a side of a pipe open, as a member of an object.
+use Rattle.std.specs.Prelude.{ℕ, List, [], ◌++◌, Option, Some, None, codes}
+use Rattle.json.specs.Token.{Token}
+use Rattle.tx_json.specs.Answers.{lines_member}
+use Rattle.tx_json.specs.Each.{each_tokens}
+use Rattle.tx_json.specs.Members.{begin_object, count_member, end_object, list_member}
+use Rattle.tx_json.specs.declared.holders.Holder.{Holder}
+
+-- a descriptor of a process
+abbrev pub holder_tokens : Holder → List Token
+holder_tokens holder = begin_object ++ (count_member (codes "process") holder.process ++ (count_member (codes "descriptor") holder.descriptor ++ end_object))
+
+-- those that are open, where it is asked which are
+abbrev pub holders_members : Option (List Holder) → List Token
+holders_members None = []
+holders_members (Some holders) = list_member (codes "holders") (each_tokens holder_tokens holders)
+
+-- a position, the lines of a text, and those
+abbrev pub why_answer : ℕ → List ℕ → Option (List Holder) → List Token
+why_answer at text holders = begin_object ++ (count_member (codes "at") at ++ (lines_member text ++ (holders_members holders ++ end_object)))

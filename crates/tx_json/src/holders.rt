@@ -1,0 +1,77 @@
+//! Writes who has a side of a pipe open.
+ghost use Rattle.std.specs.Prelude.{◌≡◌, ◌++◌, IfOk, OnOk, option_map, codes, string_bytes};
+ghost use Rattle.tx_json.specs.Each.{each_tokens};
+ghost use Rattle.tx_json.specs.Holders.{holder_tokens, holders_members, why_answer};
+ghost use Rattle.tx_json.specs.Line.{IsLineOf};
+ghost use Rattle.tx_json.specs.Members.{list_member};
+
+use crate::answers::put_lines;
+use crate::line::LineWriter;
+use crate::members::{begin_list, begin_object, end_list, end_object, put_count};
+use std::alloc::{AllocError, Global};
+use tx_base::NoMemory;
+
+/// A descriptor of a process that is open for a side of a pipe.
+#[derive(Clone, Copy)]
+pub struct Holder {
+    /// 1 to 256.
+    pub process: u16,
+    /// 0 to 15.
+    pub descriptor: u8,
+}
+
+/// A position, the lines of a text, and where it is asked who has a side of a pipe open, who has, as
+/// `{"at":7,"lines":["..",".."],"holders":[{"process":3,"descriptor":1}]}`.
+///
+/// NoMemory where a growth is refused.
+pub fn why_answer(
+    alloc: Global,
+    position: usize,
+    text: &str,
+    holders: Option<&[Holder]>,
+) -> Result<String, NoMemory>
+    ensures { IfOk result (λ told. IsLineOf
+        (why_answer position text.now (option_map (λ held. held.now) holders.entry))
+        (string_bytes told)) }
+{
+    let mut writer = LineWriter::new(alloc);
+    begin_object(&mut writer)?;
+    put_count(&mut writer, "at", position as u64)?;
+    put_lines(alloc, &mut writer, text)?;
+    put_holders(&mut writer, holders)?;
+    end_object(&mut writer)?;
+    writer.into_text()
+}
+
+/// Appends who has a side of a pipe open, where it is asked.
+fn put_holders(writer: &mut LineWriter, holders: Option<&[Holder]>) -> Result<(), AllocError>
+    ensures { OnOk result (writer.new ≡ writer.old
+        ++ holders_members (option_map (λ held. held.now) holders.entry)) }
+{
+    match holders {
+        Some(holders) => put_list(writer, holders),
+        None => Ok(()),
+    }
+}
+
+/// Appends a list of descriptors of processes.
+fn put_list(writer: &mut LineWriter, holders: &[Holder]) -> Result<(), AllocError>
+    ensures { OnOk result (writer.new ≡ writer.old
+        ++ list_member (codes "holders") (each_tokens holder_tokens holders.now)) }
+{
+    begin_list(writer, "holders")?;
+    for i in 0..holders.len() {
+        put_holder(writer, holders[i])?;
+    }
+    end_list(writer)
+}
+
+/// Appends a descriptor of a process.
+fn put_holder(writer: &mut LineWriter, holder: Holder) -> Result<(), AllocError>
+    ensures { OnOk result (writer.new ≡ writer.old ++ holder_tokens holder) }
+{
+    begin_object(writer)?;
+    put_count(writer, "process", u64::from(holder.process))?;
+    put_count(writer, "descriptor", u64::from(holder.descriptor))?;
+    end_object(writer)
+}

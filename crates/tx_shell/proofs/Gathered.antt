@@ -1,0 +1,28 @@
+-- What there is of each number below a limit, one number more.
+use Rattle.std.proofs.Common.{◌≡◌, ℕ, zero, suc, ◌+◌, ◌<◌, List, [], ◌∷◌, ◌++◌, take, get_or, length, refl, ap, ◌∙◌, sym, arith, add-one, append_assoc}
+use Rattle.std.proofs.lemmas.List.{append-nil}
+use Rattle.tx_shell.specs.Holders.{each_below}
+use Rattle.tx_text.specs.Each.{each_text}
+
+pub below_none : {A : Type 0} → (some : ℕ → List A) (before : List A) → before ≡ before ++ each_below some 0
+unfolding each_below
+below_none some before = sym (append-nil before)
+
+pub below_more : {A : Type 0} → (some : ℕ → List A) (i : ℕ) (before now after : List A) → now ≡ before ++ each_below some i → after ≡ now ++ some i → after ≡ before ++ each_below some (i + 1)
+unfolding each_below
+below_more some i before now after so_far more =
+    let one : each_below some (i + 1) ≡ each_below some i ++ some i = rw add-one refl in
+    more ∙ ap (λ t. t ++ some i) so_far ∙ append_assoc before (each_below some i) (some i) ∙ ap (λ t. before ++ t) (sym one)
+
+-- the texts of items, one item more
+each_suc : {A : Type 0} (text : A → List ℕ) (items : List A) (i : ℕ) (d : A) → i < length items → each_text text (take (suc i) items) ≡ each_text text (take i items) ++ text (get_or items i d)
+each_suc text [] i d inside = absurd (omega arith)
+each_suc text (item ∷ items) zero d inside = append-nil (text item)
+each_suc text (item ∷ items) (suc i) d inside =
+    ap (λ (t : List ℕ). text item ++ t) (each_suc text items i d (omega arith)) ∙ sym (append_assoc (text item) (each_text text (take i items)) (text (get_or items i d)))
+
+pub each_more : {A : Type 0} (text : A → List ℕ) (items : List A) (i : ℕ) (d : A) (before now after : List ℕ) → i < length items →
+    now ≡ before ++ each_text text (take i items) → after ≡ now ++ text (get_or items i d) → after ≡ before ++ each_text text (take (i + 1) items)
+each_more text items i d before now after inside so_far more =
+    let one : each_text text (take (i + 1) items) ≡ each_text text (take i items) ++ text (get_or items i d) = rw add-one (each_suc text items i d inside) in
+    more ∙ ap (λ (t : List ℕ). t ++ text (get_or items i d)) so_far ∙ append_assoc before (each_text text (take i items)) (text (get_or items i d)) ∙ ap (λ (t : List ℕ). before ++ t) (sym one)

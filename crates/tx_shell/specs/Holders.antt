@@ -1,0 +1,88 @@
+-- Who has a side of a pipe open.
+use Rattle.std.specs.Prelude.{ℕ, zero, suc, ◌+◌, Bool, false, List, [], ◌∷◌, ◌++◌, Option, Some, None, codes, option_map, slice_index_or, if◌then◌else◌}
+use Rattle.std.specs.Fmt.{decimal}
+use Rattle.tx_base.specs.declared.limits.TheConstants.{DESCRIPTORS}
+use Rattle.tx_base.specs.declared.steps.Step.{Step}
+use Rattle.tx_base.specs.declared.steps.Step.TheVariants as steps
+use Rattle.tx_base.specs.declared.steps.Call.TheVariants as calls
+use Rattle.tx_json.specs.declared.holders.Holder.{Holder}
+use Rattle.tx_model.specs.Book.{is_read_side, is_write_side}
+use Rattle.tx_model.specs.Descriptors.{is_side}
+use Rattle.tx_model.specs.Footprints.{footprint}
+use Rattle.tx_model.specs.State.{Description, Process, Side, ReadSide, State, WriteSide, has_object, side_in}
+use Rattle.tx_model.specs.View.{View, present}
+use Rattle.tx_shell.specs.Kinds.{limit_of, object_in}
+use Rattle.tx_shell.specs.declared.kinds.Kind.TheVariants.{Pipes, Processes}
+use Rattle.tx_text.specs.Each.{each_text}
+
+-- the description that descriptor f of a process names
+abbrev pub named_by : ℕ → Option Process → Option ℕ
+named_by f None = None
+named_by f (Some q) = slice_index_or q.descriptors f None
+
+-- whether a description is that side of pipe k
+abbrev pub is_end : ℕ → Side → Option Description → Bool
+is_end k ReadSide d = is_side is_read_side (side_in k d)
+is_end k WriteSide d = is_side is_write_side (side_in k d)
+
+-- whether what a descriptor names is that side of pipe k
+abbrev pub names_end : State → ℕ → Side → Option ℕ → Bool
+names_end S k side None = false
+names_end S k side (Some d) = is_end k side (S.descs d)
+
+-- what there is of each number below a limit, in rising order
+unfoldable pub each_below : {A : Type 0} → (ℕ → List A) → ℕ → List A
+each_below some zero = []
+each_below some (suc limit) = each_below some limit ++ some limit
+
+-- descriptor f of process p, where it is open for that side of pipe k
+abbrev pub holder_at : State → ℕ → Side → ℕ → ℕ → List Holder
+holder_at S k side p f = if names_end S k side (named_by f (S.procs p)) then record { process = p; descriptor = f } ∷ [] else []
+
+-- all descriptors of a process, and of all processes, that are
+abbrev pub holders_in : State → ℕ → Side → ℕ → List Holder
+holders_in S k side p = each_below (holder_at S k side p) DESCRIPTORS
+
+abbrev pub holders : State → Side → ℕ → List Holder
+holders S side k = each_below (holders_in S k side) (limit_of Processes)
+
+-- the side for which a step that reads or writes waits: that of who could end its wait
+abbrev pub other_side : Step → Option Side
+other_side (steps.Call p (calls.Read fd address count)) = Some WriteSide
+other_side (steps.Call p (calls.Write fd address count)) = Some ReadSide
+other_side step = None
+
+module _ (V : View) (step : Step) where
+  -- the step names pipe k
+  abbrev pub names_pipe : ℕ → Bool
+  names_pipe k = has_object (object_in Pipes k) (footprint V.table step (present V))
+
+  -- who has that side of the pipe open that the step names
+  abbrev pub named_holders : Side → ℕ → List Holder
+  named_holders side k = if names_pipe k then holders (present V) side k else []
+
+  abbrev pub side_holders : Side → List Holder
+  side_holders side = each_below (named_holders side) (limit_of Pipes)
+
+  -- who could end a wait of the step, where it reads or writes
+  abbrev pub other_holders : Option (List Holder)
+  other_holders = option_map side_holders (other_side step)
+
+-- the word for a side
+abbrev pub side_word : Side → List ℕ
+side_word ReadSide = codes "read"
+side_word WriteSide = codes "write"
+
+-- a descriptor of a process
+abbrev pub holder_text : Holder → List ℕ
+holder_text holder = decimal holder.descriptor ++ (codes " of process " ++ decimal holder.process)
+
+-- and of another
+abbrev pub next_text : Holder → List ℕ
+next_text holder = codes ", " ++ holder_text holder
+
+-- the line of those that have a side open
+abbrev pub holders_line : Side → List Holder → List ℕ
+holders_line side [] = codes "nobody has its " ++ (side_word side ++ codes " side open\n")
+holders_line side (first ∷ others) =
+    codes "its " ++ (side_word side ++ (codes " side is open: descriptor " ++ (holder_text first ++ (each_text next_text others ++ 10 ∷ []))))
