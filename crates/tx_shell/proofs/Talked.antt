@@ -1,9 +1,10 @@
 -- A talk, exchange by exchange, and how it ends.
-use Rattle.std.proofs.Common.{◌≡◌, ◌≤◌, ℕ, List, [], ◌∷◌, ◌++◌, length, take, Option, Some, None, Ok, Err, inl, inr, refl, sym, ap, subst, ◌∙◌, append_assoc}
+use Rattle.std.proofs.Common.{◌≡◌, ◌≤◌, ℕ, ◌+◌, List, [], ◌∷◌, ◌++◌, length, take, Option, Some, None, Ok, Err, inl, inr, refl, sym, ap, subst, ◌∙◌, append_assoc}
 use Rattle.std.proofs.lemmas.List.{append-nil}
-use Rattle.tx_shell.specs.Events.{Continues, End, Event, Failure, IsTalk, Line, Talks, Text}
+use Rattle.tx_shell.specs.Events.{Continues, End, Event, Failure, IsTalk, Line, Talks, Text, lines_among}
 use Rattle.tx_shell.specs.Standings.{Answers, IsQuit, Standing, Stops}
 use Rattle.tx_shell.specs.declared.talks.TalkFault.TheVariants.{NoMemory, Reader, TooMany, Writer}
+use Rattle.tx_shell.specs.declared.talks.TheConstants.{LINES}
 
 -- what came and went after what came and went
 continues_more : (before log after : Option (List Event)) (a b : List Event) → Continues before a log → Continues log b after → Continues before (a ++ b) after
@@ -29,22 +30,32 @@ longer s (End ∷ events) t line text u talks answers = absurd talks
 longer s (Text told ∷ events) t line text u talks answers = absurd talks
 longer s (Failure ∷ events) t line text u talks answers = absurd talks
 
--- so far each line was answered
-pub record TalkedSoFar (s t : Standing) (before log : Option (List Event)) : Type 0 where
+-- one line more
+one_line_more : (events : List Event) (line text : List ℕ) → lines_among (events ++ Line line ∷ Text text ∷ []) ≡ lines_among events + 1
+one_line_more [] line text = refl
+one_line_more (Line one ∷ events) line text = ap (λ (n : ℕ). n + 1) (one_line_more events line text)
+one_line_more (End ∷ events) line text = one_line_more events line text
+one_line_more (Text told ∷ events) line text = one_line_more events line text
+one_line_more (Failure ∷ events) line text = one_line_more events line text
+
+-- so far each line was answered, of so many
+pub record TalkedSoFar (s t : Standing) (before log : Option (List Event)) (lines : ℕ) : Type 0 where
   pub events : List Event
   pub all : Continues before events log
   pub talks : Talks s events t
+  pub count : lines_among events ≡ lines
 
-pub no_talk : (s : Standing) (log : Option (List Event)) → TalkedSoFar s s log log
+pub no_talk : (s : Standing) (log : Option (List Event)) → TalkedSoFar s s log log 0
 unfolding Talks
-no_talk s log = record { events = []; all = continues_same log; talks = refl }
+no_talk s log = record { events = []; all = continues_same log; talks = refl; count = refl }
 
-module _ (s t : Standing) (before log : Option (List Event)) (so : TalkedSoFar s t before log) where
-  pub one_more : (asked told : Option (List Event)) (line text : List ℕ) (u : Standing) → Continues log (Line line ∷ []) asked → Continues asked (Text text ∷ []) told → Answers t line text u → TalkedSoFar s u before told
+module _ (s t : Standing) (before log : Option (List Event)) (lines : ℕ) (so : TalkedSoFar s t before log lines) where
+  pub one_more : (asked told : Option (List Event)) (line text : List ℕ) (u : Standing) → Continues log (Line line ∷ []) asked → Continues asked (Text text ∷ []) told → Answers t line text u → TalkedSoFar s u before told (lines + 1)
   one_more asked told line text u ask tell answers = record {
     events = so.events ++ Line line ∷ Text text ∷ [];
     all = continues_more before log told so.events (Line line ∷ Text text ∷ []) so.all (continues_more log asked told (Line line ∷ []) (Text text ∷ []) ask tell);
     talks = longer s so.events t line text u so.talks answers;
+    count = one_line_more so.events line text ∙ ap (λ (n : ℕ). n + 1) so.count;
   }
 
   -- there is no more
@@ -80,5 +91,5 @@ module _ (s t : Standing) (before log : Option (List Event)) (so : TalkedSoFar s
   }
 
   -- there were too many
-  pub too_many : IsTalk s t before log (Err TooMany)
-  too_many = record { answered = so.events; last = []; at = t; events = subst (λ (es : List Event). Continues before es log) (sym (append-nil so.events)) so.all; talks = so.talks; ends = (refl, refl) }
+  pub too_many : lines ≡ LINES → IsTalk s t before log (Err TooMany)
+  too_many most = record { answered = so.events; last = []; at = t; events = subst (λ (es : List Event). Continues before es log) (sym (append-nil so.events)) so.all; talks = so.talks; ends = (refl, refl, so.count ∙ most) }

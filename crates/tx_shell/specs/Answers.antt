@@ -149,7 +149,7 @@ AnswersAskIn Json o p refused ask text q = AnswersAskJson o p refused ask text q
 pub record AnswersNeither (form : Form) (o : Origin) (p : Place) (line words text : List ℕ) (q : Place) : Type 0 where
   pub no_step : IsNoStep (grammar_of o.version) words
   pub no_ask : IsNoAsk (grammar_of o.version) words
-  pub tells : TellsIn form o.version line words text
+  pub tells : TellsIn form line text
   pub stays : q ≡ p
 
 -- which step was refused last: a step that was to be made and led nowhere, or else the one before

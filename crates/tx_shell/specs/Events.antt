@@ -1,7 +1,8 @@
 -- What comes and goes at a terminal, and which of it is a talk.
-use Rattle.std.specs.Prelude.{◌≡◌, ◌⊎◌, ℕ, ◌≤◌, List, [], ◌∷◌, ◌++◌, length, take, Option, Some, None, Result, Ok, Err}
+use Rattle.std.specs.Prelude.{◌≡◌, ◌⊎◌, ℕ, ◌+◌, ◌≤◌, List, [], ◌∷◌, ◌++◌, length, take, Option, Some, None, Result, Ok, Err}
 use Rattle.tx_shell.specs.Standings.{Answers, IsQuit, Standing, Stops}
 use Rattle.tx_shell.specs.declared.talks.TalkFault.{TalkFault}
+use Rattle.tx_shell.specs.declared.talks.TheConstants.{LINES}
 use Rattle.tx_shell.specs.declared.talks.TalkFault.TheVariants as faults
 
 -- a line came, there is no more, a text went, or the terminal failed
@@ -31,14 +32,22 @@ pub record IsCutOff (s : Standing) (last : List Event) (t : Standing) : Type 0 w
   pub inside : count ≤ length text
   pub events : last ≡ Line line ∷ Text (take count text) ∷ Failure ∷ []
 
--- how a talk ends, by what comes of it: with the end of the lines, or one that asks for that; with a failure while a line is awaited, or while an
--- answer is shown; with a line for which memory was refused; or after the most lines
-abbrev pub EndsBy : Standing → List Event → Standing → Result (Unit {0}) TalkFault → Type 0
-EndsBy s events t (Ok _) = (t ≡ s) × ((events ≡ End ∷ []) ⊎ ((line : List ℕ) × (events ≡ Line line ∷ []) × IsQuit s line))
-EndsBy s events t (Err faults.Reader) = (t ≡ s) × (events ≡ Failure ∷ [])
-EndsBy s events t (Err faults.Writer) = IsCutOff s events t
-EndsBy s events t (Err faults.NoMemory) = (line : List ℕ) × (events ≡ Line line ∷ []) × Stops s line t
-EndsBy s events t (Err faults.TooMany) = (t ≡ s) × (events ≡ [])
+-- how many lines came
+abbrev pub lines_among : List Event → ℕ
+lines_among [] = 0
+lines_among (Line line ∷ events) = lines_among events + 1
+lines_among (End ∷ events) = lines_among events
+lines_among (Text text ∷ events) = lines_among events
+lines_among (Failure ∷ events) = lines_among events
+
+-- how a talk ends after so many lines, by what comes of it: with the end of the lines, or one that asks for that; with a failure while a line is awaited,
+-- or while an answer is shown; with a line for which memory was refused; or after the most lines
+abbrev pub EndsBy : Standing → ℕ → List Event → Standing → Result (Unit {0}) TalkFault → Type 0
+EndsBy s lines events t (Ok _) = (t ≡ s) × ((events ≡ End ∷ []) ⊎ ((line : List ℕ) × (events ≡ Line line ∷ []) × IsQuit s line))
+EndsBy s lines events t (Err faults.Reader) = (t ≡ s) × (events ≡ Failure ∷ [])
+EndsBy s lines events t (Err faults.Writer) = IsCutOff s events t
+EndsBy s lines events t (Err faults.NoMemory) = (line : List ℕ) × (events ≡ Line line ∷ []) × Stops s line t
+EndsBy s lines events t (Err faults.TooMany) = (t ≡ s) × (events ≡ []) × (lines ≡ LINES)
 
 -- a whole talk: lines and their answers, and its end
 pub record IsTalk (s t : Standing) (before after : Option (List Event)) (result : Result (Unit {0}) TalkFault) : Type 0 where
@@ -47,4 +56,4 @@ pub record IsTalk (s t : Standing) (before after : Option (List Event)) (result 
   pub at : Standing
   pub events : Continues before (answered ++ last) after
   pub talks : Talks s answered at
-  pub ends : EndsBy at last t result
+  pub ends : EndsBy at (lines_among answered) last t result

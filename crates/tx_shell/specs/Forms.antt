@@ -7,7 +7,6 @@ use Rattle.tx_script.specs.Debug.{position_text}
 use Rattle.tx_shell.specs.Told.{TellsOf}
 use Rattle.tx_shell.specs.declared.forms.Form.{Form}
 use Rattle.tx_shell.specs.declared.forms.Form.TheVariants.{Text, Json}
-use Rattle.tx_shell.specs.declared.versions.TextVersion.{TextVersion}
 use Rattle.tx_text.specs.Replies.{named_reply_text}
 
 -- the answer to a line without a word
@@ -31,6 +30,6 @@ SaysAhead Text text = text ≡ codes "no: steps are ahead; cut lets go of them, 
 SaysAhead Json text = IsLineOf (error_answer (codes "steps are ahead; cut lets go of them, forward makes them again")) text
 
 -- what is wrong with a line: in JSON what the text has behind its mark, without the line's end
-abbrev pub TellsIn : Form → TextVersion → List ℕ → List ℕ → List ℕ → Type 0
-TellsIn Text version line words text = TellsOf version line words text
-TellsIn Json version line words text = (sentence : List ℕ) × TellsOf version line words (codes "? " ++ (sentence ++ 10 ∷ [])) × IsLineOf (error_answer sentence) text
+abbrev pub TellsIn : Form → List ℕ → List ℕ → Type 0
+TellsIn Text line text = TellsOf line text
+TellsIn Json line text = (sentence : List ℕ) × TellsOf line (codes "? " ++ (sentence ++ 10 ∷ [])) × IsLineOf (error_answer sentence) text

@@ -61,7 +61,7 @@ pub fn answer_words(
         *text = answer_ask(alloc, form, version, session, refused, ask)?;
         return Ok(());
     }
-    *text = tell_in(alloc, form, version, line, words)?;
+    *text = tell_in(alloc, form, version, line)?;
     Ok(())
 }
 

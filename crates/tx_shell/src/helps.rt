@@ -31,7 +31,8 @@ PIECE is   proc P, page P N, fd P F, ids P, pending P, queue P, desc D, pipe Q,
            or txn S
 cut        lets go of the steps after the position
 help WORD  says what a word of a step, a reply or a state means, as help N8
-quit       ends, as the end of the input does
+?          prints this list, as help does
+quit       ends, as exit and the end of the input do
 ";
 
 /// What is said of a word that is not explained.

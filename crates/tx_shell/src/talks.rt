@@ -9,8 +9,8 @@ use thiserror::Error;
 use tx_base::NoMemory;
 use tx_plain::Room;
 
-/// How many lines a talk may have.
-const LINES: u64 = 1 << 32;
+/// How many lines a session may have.
+const LINES: u64 = 4_294_967_296;
 
 /// Why a talk ended before its lines did. It prints as the fault of a text does.
 #[derive(Clone, Copy, PartialEq, Eq, Debug, Error)]
@@ -45,7 +45,7 @@ pub fn talk<T: Terminal>(
     let mut line = Vec::new(alloc);
     let mut room = Room::new();
     let mut text = String::new(alloc);
-    for _number in 0..LINES {
+    for number in 0..LINES {
         match terminal.line(shell.position(), &mut line) {
             Got::Line => {}
             Got::End => return Ok(()),

@@ -1,6 +1,6 @@
 //! The versions of lines.
 ghost use Rattle.std.specs.Prelude.{◌≡◌};
-ghost use Rattle.tx_shell.specs.Versions.{grammar_of, head_of};
+ghost use Rattle.tx_shell.specs.Versions.{grammar_of};
 
 use tx_lines::Version;
 
@@ -20,17 +20,6 @@ impl TextVersion {
         match self {
             TextVersion::One => Version::One,
             TextVersion::Two | TextVersion::Three => Version::Two,
-        }
-    }
-
-    /// The first line of a text of that version, with its end.
-    pub(crate) fn head(self) -> &'static [u8]
-        ensures { result.now ≡ head_of self }
-    {
-        match self {
-            TextVersion::One => b"txos 1 schedule 1\n",
-            TextVersion::Two => b"txos 2 schedule 1\n",
-            TextVersion::Three => b"txos 3 schedule 1\n",
         }
     }
 }

@@ -10,8 +10,8 @@ use Rattle.tx_shell.proofs.tells.tell_in.Goals as goal
 
 pub returns-in-Json : goal.returns-in-Json
 returns-in-Json c =
-    let tells : TellsOf c.args.version c.args.line.now c.args.words.now (codes "? " ++ (c.sentence.result.now ++ 10 ∷ [])) =
-    subst (TellsOf c.args.version c.args.line.now c.args.words.now) (sym c.as_str.ensures.value ∙ c.sentence.ensures) c.in_ok-told.ensures.tells in
-    subst (λ (form : Form). IfOk c.error_answer.result (λ text. TellsIn form c.args.version c.args.line.now c.args.words.now (string_bytes text))) (sym c.in-Json.is)
-    (on_ok c.error_answer.result (λ text. IsLineOf (error_answer c.sentence.result.now) (string_bytes text)) (λ text. TellsIn Json c.args.version c.args.line.now c.args.words.now (string_bytes text))
+    let tells : TellsOf c.args.line.now (codes "? " ++ (c.sentence.result.now ++ 10 ∷ [])) =
+    subst (TellsOf c.args.line.now) (sym c.as_str.ensures.value ∙ c.sentence.ensures) c.in_ok-told.ensures.tells in
+    subst (λ (form : Form). IfOk c.error_answer.result (λ text. TellsIn form c.args.line.now (string_bytes text))) (sym c.in-Json.is)
+    (on_ok c.error_answer.result (λ text. IsLineOf (error_answer c.sentence.result.now) (string_bytes text)) (λ text. TellsIn Json c.args.line.now (string_bytes text))
     (λ text line. (c.sentence.result.now, tells, line)) c.error_answer.ensures)
