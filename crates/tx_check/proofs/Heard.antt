@@ -1,10 +1,11 @@
 -- A text that was read to its end, and what is told of it.
-use Rattle.std.proofs.Common.{◌≡◌, ◌++◌, ℕ, List, [], Option, Some, None, Bool, IfSome, Result, Ok, Err, refl, subst, sym}
+use Rattle.std.proofs.Common.{◌≡◌, ◌≤◌, ◌++◌, ℕ, List, [], length, Option, Some, None, Bool, IfSome, Result, Ok, Err, refl, subst, sym}
 use Rattle.std.specs.Result.{IsErrAnd}
 use Rattle.std.proofs.KnownBytes.{Consumes-all}
 use Rattle.std.specs.Io.KnownBytes.{Consumes, IsAtEnd}
 use Rattle.tx_check.specs.Command.{Checks, Hears}
-use Rattle.tx_check.specs.Told.{IsToldOf}
+use Rattle.tx_check.specs.Readers.{IsSaidFor}
+use Rattle.tx_check.specs.declared.readers.Reader.{Reader as TheReader}
 use Rattle.tx_lines.specs.Ends.{Counts}
 use Rattle.tx_lines.specs.Whole.{WritesWhole}
 use Rattle.tx_lines.specs.declared.faults.Fault.{Fault}
@@ -14,29 +15,30 @@ all_of : (left : Option (List ℕ)) (text : List ℕ) → IfSome left (λ bytes.
 all_of None text is = tt
 all_of (Some bytes) text is = sym is
 
-pub hears : (left left' : Option (List ℕ)) (text told : List ℕ) → Consumes left left' text → IsAtEnd left' → IsToldOf text told → Hears left told
-hears left left' text told consumes end is = record {
+pub hears : (reader : TheReader) (left left' : Option (List ℕ)) (text told : List ℕ) → Consumes left left' text → IsAtEnd left' → length text ≤ 1048576 → IsSaidFor reader text told → Hears reader left told
+hears reader left left' text told consumes end short is = record {
   text = text;
   whole = all_of left text (Consumes-all left left' text [] text consumes end refl);
-  told_of = is;
+  short = short;
+  said = is;
 }
 
 -- what came of the writing of what is told
-written_front : (left written written' : Option (List ℕ)) (reads reads' writes writes' : Counts) (told : List ℕ) (fault : Fault)
-    → Hears left told → WritesWhole written writes told (Err fault) written' writes' → Checks left reads written writes (Err fault) reads' written' writes'
-written_front left written written' reads reads' writes writes' told (NotALine line) heard none = absurd none
-written_front left written written' reads reads' writes writes' told (NoLabel line) heard none = absurd none
-written_front left written written' reads reads' writes writes' told (TooLong line) heard none = absurd none
-written_front left written written' reads reads' writes writes' told Reader heard none = absurd none
-written_front left written written' reads reads' writes writes' told NoMemory heard none = absurd none
-written_front left written written' reads reads' writes writes' told Writer heard wrote =
+written_front : (reader : TheReader) (left written written' : Option (List ℕ)) (reads reads' writes writes' : Counts) (told : List ℕ) (fault : Fault)
+    → Hears reader left told → WritesWhole written writes told (Err fault) written' writes' → Checks reader left reads written writes (Err fault) reads' written' writes'
+written_front reader left written written' reads reads' writes writes' told (NotALine line) heard none = absurd none
+written_front reader left written written' reads reads' writes writes' told (NoLabel line) heard none = absurd none
+written_front reader left written written' reads reads' writes writes' told (TooLong line) heard none = absurd none
+written_front reader left written written' reads reads' writes writes' told Reader heard none = absurd none
+written_front reader left written written' reads reads' writes writes' told NoMemory heard none = absurd none
+written_front reader left written written' reads reads' writes writes' told Writer heard wrote =
     (record { told = told; count = wrote.0.0; hears = heard; inside = wrote.0.1; bytes = wrote.0.2 }, wrote.1)
 
 -- and of its error, as it is handed up
-pub written_part : (left written written' : Option (List ℕ)) (reads reads' writes writes' : Counts) (told : List ℕ) (fault : Fault) (result : Result Bool Fault)
-    → IsErrAnd result (λ handed. handed ≡ fault) → Hears left told → WritesWhole written writes told (Err fault) written' writes'
-    → Checks left reads written writes result reads' written' writes'
-written_part left written written' reads reads' writes writes' told fault (Ok is_read) is heard wrote = absurd is
-written_part left written written' reads reads' writes writes' told fault (Err handed) is heard wrote =
-    subst (λ found. Checks left reads written writes (Err found) reads' written' writes') (sym is)
-    (written_front left written written' reads reads' writes writes' told fault heard wrote)
+pub written_part : (reader : TheReader) (left written written' : Option (List ℕ)) (reads reads' writes writes' : Counts) (told : List ℕ) (fault : Fault) (result : Result Bool Fault)
+    → IsErrAnd result (λ handed. handed ≡ fault) → Hears reader left told → WritesWhole written writes told (Err fault) written' writes'
+    → Checks reader left reads written writes result reads' written' writes'
+written_part reader left written written' reads reads' writes writes' told fault (Ok is_read) is heard wrote = absurd is
+written_part reader left written written' reads reads' writes writes' told fault (Err handed) is heard wrote =
+    subst (λ found. Checks reader left reads written writes (Err found) reads' written' writes') (sym is)
+    (written_front reader left written written' reads reads' writes writes' told fault heard wrote)

@@ -1,5 +1,6 @@
 pub mod Appended
 pub mod EndedLines
+pub mod FoundFaults
 pub mod FrontWord
 pub mod Growing
 pub mod Heard
@@ -25,6 +26,7 @@ pub mod SoFar
 pub mod SoFarMore
 pub mod Standing
 pub mod SteppedTexts
+pub mod ToldFor
 pub mod ToldOf
 pub mod WalkedTexts
 pub mod Wronged

@@ -1,15 +1,16 @@
 -- The own lines of a text, and what is told of them.
 use Rattle.std.proofs.Common.{◌≡◌, ◌∙◌, ◌<◌, ◌≤◌, ℕ, zero, suc, ◌+◌, ◌-◌, List, [], ◌∷◌, Option, Some, None, Result, Ok, Err, IfOk, length, ap, subst, sym, refl, arith, zero-add, Bool, true, false, if◌then◌else◌, slice_index_or}
 use Rattle.std.proofs.lemmas.Bool.{ne_eqb}
-use Rattle.tx_check.specs.Kinds.{kind_of}
 use Rattle.tx_check.specs.Numbered.{after_lines, behind, line_at}
 use Rattle.tx_check.specs.OwnLines.{GoesOn, IsFrom}
+use Rattle.tx_check.specs.Readers.{IsToldAs}
 use Rattle.tx_check.specs.Reads.{line_of, IsAtFault}
-use Rattle.tx_check.specs.Told.{IsToldOf, IsWrongOwn, Tells, TellsFrom}
+use Rattle.tx_check.specs.Told.{IsWrongOwn, Tells, TellsFrom}
 use Rattle.tx_check.specs.Wrong.{IsWrongLine}
+use Rattle.tx_check.specs.declared.kinds.Kind.{Kind}
 use Rattle.tx_check.specs.declared.own.TextFrom.{TextFrom}
 use Rattle.tx_check.proofs.Appended.{more_told}
-use Rattle.tx_check.proofs.ToldOf.{told_fault}
+use Rattle.tx_check.proofs.ToldOf.{are_one, told_fault}
 use Rattle.tx_lines.specs.Schedule.{first_line}
 use Rattle.tx_lines.specs.declared.faults.Fault.{Fault}
 use Rattle.tx_lines.specs.declared.faults.Fault.TheVariants.{NotALine, NoLabel, TooLong, Reader, Writer, NoMemory}
@@ -77,7 +78,7 @@ pub own_some : (text : List ℕ) (line : ℕ) → 1 ≤ line → 1 ≤ own_line 
 own_some text line some = own_by (is_third text) (own_lines text) line some
 
 -- the own line of a fault
-own_number : (lines : ℕ → ℕ) (fault : Fault) → 1 ≤ line_of fault → lines (line_of fault) ≡ line_of (fault_by lines fault)
+pub own_number : (lines : ℕ → ℕ) (fault : Fault) → 1 ≤ line_of fault → lines (line_of fault) ≡ line_of (fault_by lines fault)
 own_number lines (NotALine line) some = refl
 own_number lines (NoLabel line) some = refl
 own_number lines (TooLong line) some = refl
@@ -86,11 +87,11 @@ own_number lines Writer some = absurd (omega (arith, some))
 own_number lines NoMemory some = absurd (omega (arith, some))
 
 -- what is told of a text where one that it means is at fault
-pub fault_told : {A E : Type 0} (bytes : A → List ℕ) (result : Result A E) (text : List ℕ) (fault : Fault) (number : ℕ) → IsAtFault (kind_of (meant_of text)) (meant_of text) fault → 1 ≤ line_of fault → number ≡ own_line text (line_of fault)
-    → IfOk result (λ told. TellsFrom text number (bytes told)) → IfOk result (λ told. IsToldOf text (bytes told))
-fault_told bytes (Ok told) text fault number at_fault some own tells = told_fault text (bytes told) (record {
+pub fault_told : {A E : Type 0} (bytes : A → List ℕ) (result : Result A E) (kind : Kind) (text : List ℕ) (fault : Fault) (number : ℕ) → IsAtFault kind (meant_of text) fault → 1 ≤ line_of fault → number ≡ own_line text (line_of fault)
+    → IfOk result (λ told. TellsFrom text number (bytes told)) → IfOk result (λ told. IsToldAs kind text (bytes told))
+fault_told bytes (Ok told) kind text fault number at_fault some own tells = told_fault text (bytes told) (are_one kind text) (record {
   fault = fault_by (own_line text) fault;
   is_fault = record { meant = fault; is_fault = at_fault; own = refl };
   tells = subst (λ (n : ℕ). TellsFrom text n (bytes told)) (own ∙ own_number (own_line text) fault some) tells;
 })
-fault_told bytes (Err error) text fault number at_fault some own tells = tt
+fault_told bytes (Err error) kind text fault number at_fault some own tells = tt

@@ -1,34 +1,42 @@
--- What is told of a text that is read, and of one that is at fault.
+-- What is told of a text that is right, and of one that is at fault.
 use Rattle.std.proofs.Common.{◌≡◌, ◌∙◌, ℕ, List, [], ◌∷◌, length, ap, sym, subst, arith, length-append}
 use Rattle.tx_check.proofs.ReadOrFaulty.{none_has_two, none_is_both}
-use Rattle.tx_check.specs.Kinds.{kind_of}
-use Rattle.tx_check.specs.Reads.{line_of}
-use Rattle.tx_check.specs.Told.{told_text, IsMeantFault, IsMeantRead, IsToldOf, TellsFault, TellsFrom}
+use Rattle.tx_check.specs.Reads.{line_of, IsAtFault, IsRead}
+use Rattle.tx_check.specs.Told.{told_text, IsToldBy, TellsFault, TellsFrom}
+use Rattle.tx_check.specs.declared.kinds.Kind.{Kind}
 use Rattle.tx_lines.specs.Schedule.{lines_of}
 use Rattle.tx_lines.specs.declared.faults.Fault.{Fault}
-use Rattle.tx_plain.specs.Meant.{fault_by, meant_of, own_line}
+use Rattle.tx_plain.specs.Meant.{fault_by, meant_of, own_line, IsOwnFault}
 
-pub told_read : (text told : List ℕ) → IsMeantRead text → told ≡ [] → IsToldOf text told
-told_read text told read none = record {
-  silent = (λ _. read, λ _. none);
+-- no text is right and at fault, and none has two faults
+pub record AreOne (IsRight : Type 0) (IsFault : Fault → Type 0) : Type 0 where
+  pub never : (fault : Fault) → IsRight → IsFault fault → ⊥
+  pub one : (a b : Fault) → IsFault a → IsFault b → a ≡ b
+
+pub told_right : {IsRight : Type 0} {IsFault : Fault → Type 0} (text told : List ℕ) → AreOne IsRight IsFault → IsRight → told ≡ [] → IsToldBy IsRight IsFault text told
+told_right text told are right none = record {
+  silent = (λ _. right, λ _. none);
   at_fault = λ some. absurd (some none);
-  first = λ fault is. absurd (none_is_both (kind_of (meant_of text)) (meant_of text) is.meant read is.is_fault);
+  first = λ fault is. absurd (are.never fault right is);
 }
 
-something : (text : List ℕ) (line : ℕ) (told : List ℕ) → TellsFrom text line told → told ≡ [] → ⊥
+pub something : (text : List ℕ) (line : ℕ) (told : List ℕ) → TellsFrom text line told → told ≡ [] → ⊥
 something text line told tells none =
     omega (arith, ap length none, ap length tells.spelled, length-append (told_text tells.first) (10 ∷ lines_of told_text tells.others))
 
-one_fault : (text : List ℕ) (one other : Fault) → IsMeantFault text one → IsMeantFault text other → one ≡ other
-one_fault text one other first second =
-    first.own ∙ ap (fault_by (own_line text)) (none_has_two (kind_of (meant_of text)) (meant_of text) first.meant second.meant first.is_fault second.is_fault) ∙ sym second.own
-
-pub told_fault : (text told : List ℕ) → TellsFault text told → IsToldOf text told
-told_fault text told tells = record {
+pub told_fault : {IsRight : Type 0} {IsFault : Fault → Type 0} (text told : List ℕ) → AreOne IsRight IsFault → TellsFault IsFault text told → IsToldBy IsRight IsFault text told
+told_fault text told are tells = record {
   silent = (
     λ none. absurd (something text (line_of tells.fault) told tells.tells none),
-    λ read. absurd (none_is_both (kind_of (meant_of text)) (meant_of text) tells.is_fault.meant read tells.is_fault.is_fault),
+    λ right. absurd (are.never tells.fault right tells.is_fault),
   );
   at_fault = λ some. tells;
-  first = λ fault is. subst (λ (f : Fault). TellsFrom text (line_of f) told) (one_fault text tells.fault fault tells.is_fault is) tells.tells;
+  first = λ fault is. subst (λ (f : Fault). TellsFrom text (line_of f) told) (are.one tells.fault fault tells.is_fault is) tells.tells;
+}
+
+-- so it is with the readers of kinds
+pub are_one : (kind : Kind) (text : List ℕ) → AreOne (IsRead kind (meant_of text)) (IsOwnFault (IsAtFault kind) text)
+are_one kind text = record {
+  never = λ fault read is. none_is_both kind (meant_of text) is.meant read is.is_fault;
+  one = λ a b first second. first.own ∙ ap (fault_by (own_line text)) (none_has_two kind (meant_of text) first.meant second.meant first.is_fault second.is_fault) ∙ sym second.own;
 }

@@ -1,44 +1,46 @@
 -- How a text is read from one end, and what is told of it written to another.
 use Rattle.std.specs.Prelude.{◌≡◌, ◌==◌, ℕ, ◌+◌, ◌<◌, ◌≤◌, Bool, List, Option, length, take, ◌⊎◌, Result, Ok, Err, IfSome}
 use Rattle.std.specs.Io.KnownBytes.{Appends, Keeps}
-use Rattle.tx_check.specs.Told.{IsToldOf}
+use Rattle.tx_check.specs.Readers.{IsSaidFor}
+use Rattle.tx_check.specs.declared.readers.Reader.{Reader as TheReader}
 use Rattle.tx_lines.specs.Ends.{Counts}
 use Rattle.tx_lines.specs.Whole.{IsCalm}
 use Rattle.tx_lines.specs.declared.faults.Fault.{Fault}
 use Rattle.tx_lines.specs.declared.faults.Fault.TheVariants.{NotALine, NoLabel, TooLong, Reader, Writer, NoMemory}
 
--- a text was left to read, and that is told of it
-pub record Hears (left : Option (List ℕ)) (told : List ℕ) : Type 0 where
+-- a text of no more bytes than one may have was left to read, and that is told of it for a command
+pub record Hears (reader : TheReader) (left : Option (List ℕ)) (told : List ℕ) : Type 0 where
   pub text : List ℕ
   pub whole : IfSome left (λ bytes. bytes ≡ text)
-  pub told_of : IsToldOf text told
+  pub short : length text ≤ 1048576
+  pub said : IsSaidFor reader text told
 
 -- all that is told is written, and it is nothing exactly where that is answered
-pub record WritesTold (left written : Option (List ℕ)) (is_read : Bool) (written' : Option (List ℕ)) : Type 0 where
+pub record WritesTold (reader : TheReader) (left written : Option (List ℕ)) (is_read : Bool) (written' : Option (List ℕ)) : Type 0 where
   pub told : List ℕ
-  pub hears : Hears left told
+  pub hears : Hears reader left told
   pub answer : is_read ≡ (length told == 0)
   pub bytes : Appends written written' told
 
 -- so many bytes of what is told are written
-pub record WritesFront (left written written' : Option (List ℕ)) : Type 0 where
+pub record WritesFront (reader : TheReader) (left written written' : Option (List ℕ)) : Type 0 where
   pub told : List ℕ
   pub count : ℕ
-  pub hears : Hears left told
+  pub hears : Hears reader left told
   pub inside : count ≤ length told
   pub bytes : Appends written written' (take count told)
 
 -- a text is read, and what is told of it written, or a front of that, or nothing, as the fault says
-abbrev pub Checks : Option (List ℕ) → Counts → Option (List ℕ) → Counts → Result Bool Fault → Counts → Option (List ℕ) → Counts → Type 0
-Checks left reads written writes (Ok is_read) reads' written' writes' =
-    WritesTold left written is_read written' × IsCalm reads reads' × IsCalm writes writes'
-Checks left reads written writes (Err (TooLong line)) reads' written' writes' =
+abbrev pub Checks : TheReader → Option (List ℕ) → Counts → Option (List ℕ) → Counts → Result Bool Fault → Counts → Option (List ℕ) → Counts → Type 0
+Checks reader left reads written writes (Ok is_read) reads' written' writes' =
+    WritesTold reader left written is_read written' × IsCalm reads reads' × IsCalm writes writes'
+Checks reader left reads written writes (Err (TooLong line)) reads' written' writes' =
     (line ≡ 0) × IfSome left (λ bytes. 1048576 < length bytes) × Keeps written written'
-Checks left reads written writes (Err Reader) reads' written' writes' =
+Checks reader left reads written writes (Err Reader) reads' written' writes' =
     ((reads.failed < reads'.failed) ⊎ (reads'.again ≡ reads.again + 1001)) × Keeps written written'
-Checks left reads written writes (Err Writer) reads' written' writes' =
-    WritesFront left written written'
+Checks reader left reads written writes (Err Writer) reads' written' writes' =
+    WritesFront reader left written written'
     × ((writes.failed < writes'.failed) ⊎ ((writes.empty < writes'.empty) ⊎ (writes'.again ≡ writes.again + 1001)))
-Checks left reads written writes (Err NoMemory) reads' written' writes' = Keeps written written'
-Checks left reads written writes (Err (NotALine line)) reads' written' writes' = ⊥
-Checks left reads written writes (Err (NoLabel line)) reads' written' writes' = ⊥
+Checks reader left reads written writes (Err NoMemory) reads' written' writes' = Keeps written written'
+Checks reader left reads written writes (Err (NotALine line)) reads' written' writes' = ⊥
+Checks reader left reads written writes (Err (NoLabel line)) reads' written' writes' = ⊥

@@ -5,6 +5,7 @@ pub mod Labels
 pub mod Laws
 pub mod Numbered
 pub mod OwnLines
+pub mod Readers
 pub mod Reads
 pub mod Right
 pub mod Sessions

@@ -92,13 +92,17 @@ abbrev pub IsMeantFault : List ℕ → Fault → Type 0
 IsMeantFault text fault = IsOwnFault (IsAtFault (kind_of (meant_of text))) text fault
 
 -- a text is at fault, and the line of that is told first
-pub record TellsFault (text told : List ℕ) : Type 0 where
+pub record TellsFault (IsFault : Fault → Type 0) (text told : List ℕ) : Type 0 where
   pub fault : Fault
-  pub is_fault : IsMeantFault text fault
+  pub is_fault : IsFault fault
   pub tells : TellsFrom text (line_of fault) told
 
--- nothing is told exactly of a text that is read; any other is at fault, and of each fault that it has the line is told first
-pub record IsToldOf (text told : List ℕ) : Type 0 where
-  pub silent : (told ≡ []) ↔ IsMeantRead text
-  pub at_fault : told ≢ [] → TellsFault text told
-  pub first : (fault : Fault) → IsMeantFault text fault → TellsFrom text (line_of fault) told
+-- nothing is told exactly of a text that is right; any other is at fault, and of each fault that it has the line is told first
+pub record IsToldBy (IsRight : Type 0) (IsFault : Fault → Type 0) (text told : List ℕ) : Type 0 where
+  pub silent : (told ≡ []) ↔ IsRight
+  pub at_fault : told ≢ [] → TellsFault IsFault text told
+  pub first : (fault : Fault) → IsFault fault → TellsFrom text (line_of fault) told
+
+-- that is told of a text by the command of its kind
+abbrev pub IsToldOf : List ℕ → List ℕ → Type 0
+IsToldOf text told = IsToldBy (IsMeantRead text) (IsMeantFault text) text told

@@ -48,7 +48,7 @@ pub fn check_text(alloc: Global, text: &[u8]) -> Result<String, NoMemory>
 
 /// What is told of a text that means those lines, which are at fault: the line of the fault, and the
 /// lines behind it.
-fn tell_from(
+pub fn tell_from(
     alloc: Global,
     kind: Kind,
     text: &[u8],
@@ -108,7 +108,7 @@ fn trouble_at_fault<'a>(
 }
 
 /// The line of a fault of a text.
-fn line_of(fault: Fault) -> u64
+pub fn line_of(fault: Fault) -> u64
     ensures { result ≡ spec.line_of fault }
 {
     match fault {

@@ -1,5 +1,5 @@
 //! Which kind of text one is meant to be.
-ghost use Rattle.std.specs.Prelude.{◌≡◌, ◌≤◌, length};
+ghost use Rattle.std.specs.Prelude.{◌≡◌, ◌≤◌, IsTrue, length};
 ghost use Rattle.tx_check.specs.Kinds as spec;
 ghost use Rattle.tx_plain.specs.MeantLines.{left_of};
 
@@ -15,6 +15,20 @@ pub enum Kind {
     Walk,
     /// A program, for `run`.
     Program,
+}
+
+impl Kind {
+    /// Whether it is that kind.
+    pub(crate) fn is(self, other: Kind) -> bool
+        ensures { IsTrue result → self ≡ other }
+    {
+        match (self, other) {
+            (Kind::Schedule, Kind::Schedule) => true,
+            (Kind::Walk, Kind::Walk) => true,
+            (Kind::Program, Kind::Program) => true,
+            _ => false,
+        }
+    }
 }
 
 /// The kind of what a text means: a program where the first line begins with `txos`, a word and `program`,

@@ -18,6 +18,7 @@
 #![tactic(auto)]
 
 mod checks;
+mod checks_for;
 mod command;
 mod diagnose;
 mod faults;
@@ -31,6 +32,8 @@ mod meanings;
 mod near;
 mod own;
 mod places;
+mod reader_faults;
+mod readers;
 mod sentences;
 mod session;
 mod tell;
@@ -39,8 +42,10 @@ mod trouble;
 mod words;
 
 pub use checks::check_text;
-pub use command::check;
+pub use checks_for::check_text_for;
+pub use command::{check, check_for};
 pub use forms::CALLS;
 pub use kinds::{Kind, kind_of};
 pub use laws::a_text_is_read_or_has_one_fault;
+pub use readers::Reader;
 pub use session::session_line;

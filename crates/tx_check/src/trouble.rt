@@ -105,6 +105,11 @@ pub enum LineTrouble {
     StepInProgram,
     DebugInProgram,
     StepAmongCommands,
+    ProgramHere,
+    ScheduleHere,
+    CommandsHere,
+    NoCommands,
+    TooManyToDraw,
     NoneOfTheGrammar,
 }
 
@@ -229,6 +234,20 @@ impl LineTrouble {
             LineTrouble::DebugInSession => "a session takes commands without a line debug",
             LineTrouble::NoStep => "this is no step",
             LineTrouble::NeitherStepNorCommand => "neither a step nor a command",
+            _ => self.of_reader(),
+        }
+    }
+
+    /// The sentence that tells it, where it is about the command that is to read the text.
+    fn of_reader(self) -> &'static str
+        ensures { IsInLine result.now }
+    {
+        match self {
+            LineTrouble::ProgramHere => "this is a program, for txos run; a schedule is wanted",
+            LineTrouble::ScheduleHere => "this is a schedule, for txos replay; a program is wanted",
+            LineTrouble::CommandsHere => "commands begin here, which only txos debug and json read",
+            LineTrouble::NoCommands => "a line debug is wanted, and commands after it",
+            LineTrouble::TooManyToDraw => "a picture has at most 200 steps",
             _ => "this line is none of the grammar's",
         }
     }

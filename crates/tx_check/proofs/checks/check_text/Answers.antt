@@ -1,10 +1,11 @@
 use Rattle.std.proofs.Common.{List, ℕ, ap, refl, string_bytes, subst, ◌∙◌}
 use Rattle.tx_check.proofs.Numbered.{some_line}
 use Rattle.tx_check.proofs.OwnLines.{fault_told, own_some}
-use Rattle.tx_check.proofs.ToldOf.{told_read}
+use Rattle.tx_check.proofs.ToldOf.{are_one, told_right}
 use Rattle.tx_check.specs.Kinds.{kind_of}
 use Rattle.tx_check.specs.Reads.{line_of, IsAtFault, IsRead}
 use Rattle.tx_check.specs.declared.kinds.Kind.{Kind}
+use Rattle.tx_plain.specs.Meant.{meant_of}
 use Rattle.tx_plain.specs.MeantLines.{left_of}
 use Rattle.tx_check.proofs.checks.check_text.Goals as goal
 
@@ -21,11 +22,11 @@ returns-in-Some c =
     let some = some_line c.kind_of-kind.result read fault c.in-Some.ensures in
     let of_kind = subst (λ (kind : Kind). IsAtFault kind read fault) c.kind_of-kind.ensures c.in-Some.ensures in
     let at_fault = subst (λ (meant : List ℕ). IsAtFault (kind_of meant) meant fault) (ap left_of c.of-meant.ensures.text ∙ c.of.ensures.left) of_kind in
-    fault_told string_bytes c.tell_from.result text fault _ at_fault some refl c.tell_from.ensures
+    fault_told string_bytes c.tell_from.result (kind_of (meant_of text)) text fault _ at_fault some refl c.tell_from.ensures
 
 pub returns-in-None : goal.returns-in-None
 returns-in-None c =
     let text = c.args.text.now in
     let read = left_of c.of-meant.result.text in
     let of_kind = subst (λ (kind : Kind). IsRead kind read) c.kind_of-kind.ensures c.in-None.ensures in
-    told_read text (string_bytes c.new.result) (subst (λ (meant : List ℕ). IsRead (kind_of meant) meant) (ap left_of c.of-meant.ensures.text ∙ c.of.ensures.left) of_kind) c.new.ensures.bytes
+    told_right text (string_bytes c.new.result) (are_one (kind_of (meant_of text)) text) (subst (λ (meant : List ℕ). IsRead (kind_of meant) meant) (ap left_of c.of-meant.ensures.text ∙ c.of.ensures.left) of_kind) c.new.ensures.bytes

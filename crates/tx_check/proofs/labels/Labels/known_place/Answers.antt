@@ -1,4 +1,4 @@
-use Rattle.std.proofs.Common.{◌≡◌, ◌∙◌, ◌+◌, ◌-◌, ◌<◌, ◌≤◌, List, ap, arith, drop, length, map, subst, sym}
+use Rattle.std.proofs.Common.{◌∙◌, ◌+◌, ◌<◌, ◌≤◌, List, ap, arith, drop, length, map, subst, sym}
 use Rattle.std.proofs.lemmas.Bool.{both_ways}
 use Rattle.tx_check.proofs.KnownLabels.{first_named, next_known, no_known_left, SoughtTo}
 use Rattle.tx_check.specs.Labels.{label_at}

@@ -1,7 +1,7 @@
-use Rattle.std.proofs.Common.{◌≡◌, ◌∙◌, ◌+◌, ℕ, suc, List, ap, arith, map, sym, add-one}
+use Rattle.std.proofs.Common.{◌≡◌, ◌∙◌, ◌+◌, ℕ, suc, List, ap, arith, sym}
 use Rattle.tx_check.proofs.KnownLabels.{labels_more}
 use Rattle.tx_check.proofs.Numbered.{lines_more}
-use Rattle.tx_check.specs.Labels.{label_at, labels_in, with_label}
+use Rattle.tx_check.specs.Labels.{labels_in, with_label}
 use Rattle.tx_check.specs.Numbered.{after_lines, behind}
 use Rattle.tx_lines.specs.Schedule.{first_line}
 use Rattle.tx_plain.specs.MeantLines.{left_of, line_of}

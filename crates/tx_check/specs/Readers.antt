@@ -1,0 +1,81 @@
+-- The commands that read texts, and what is told of a text for one of them.
+use Rattle.std.specs.Prelude.{◌≡◌, ◌≢◌, ℕ, List, [], ◌∷◌, ◌++◌, codes, ◌⊎◌}
+use Rattle.tx_check.specs.Kinds.{kind_of}
+use Rattle.tx_check.specs.Numbered.{after_lines}
+use Rattle.tx_check.specs.Reads.{IsAtFault, IsRead}
+use Rattle.tx_check.specs.Told.{IsToldBy}
+use Rattle.tx_check.specs.declared.kinds.Kind.{Kind}
+use Rattle.tx_check.specs.declared.kinds.Kind.TheVariants.{Schedule, Walk, Program}
+use Rattle.tx_check.specs.declared.readers.Reader.{Reader}
+use Rattle.tx_check.specs.declared.readers.Reader.TheVariants.{Any, Replay, Debug, Run, Picture, Json}
+use Rattle.tx_lines.specs.declared.faults.Fault.{Fault}
+use Rattle.tx_lines.specs.declared.faults.Fault.TheVariants.{TooLong}
+use Rattle.tx_plain.specs.Meant.{meant_of, IsOwnFault}
+
+-- the kind that JSON is made of, by the kind that a text is meant to be: a program is none
+abbrev pub json_kind : Kind → Kind
+json_kind Schedule = Schedule
+json_kind Walk = Walk
+json_kind Program = Schedule
+
+-- the kind of text that a command reads
+abbrev pub kind_for : Reader → Kind → Kind
+kind_for Any kind = kind
+kind_for Replay kind = Schedule
+kind_for Debug kind = Walk
+kind_for Run kind = Program
+kind_for Picture kind = Schedule
+kind_for Json kind = json_kind kind
+
+-- as a text is meant to be
+abbrev pub kind_read : Reader → List ℕ → Kind
+kind_read reader text = kind_for reader (kind_of text)
+
+-- the text has no more lines than the command takes: a picture has 200 steps
+abbrev pub IsShortFor : Reader → List ℕ → Type 0
+IsShortFor Picture text = after_lines 201 text ≡ []
+IsShortFor _ text = Unit {0}
+
+-- the command reads the text
+pub record IsReadBy (reader : Reader) (text : List ℕ) : Type 0 where
+  pub read : IsRead (kind_read reader text) text
+  pub short : IsShortFor reader text
+
+-- it has more, and the first of them is too long
+abbrev pub IsLongFor : Reader → List ℕ → Fault → Type 0
+IsLongFor Picture text fault = IsRead Schedule text × (after_lines 201 text ≢ []) × (fault ≡ TooLong 202)
+IsLongFor _ text fault = ⊥
+
+-- the command finds the text at fault
+abbrev pub IsFaultBy : Reader → List ℕ → Fault → Type 0
+IsFaultBy reader text fault = IsAtFault (kind_read reader text) text fault ⊎ IsLongFor reader text fault
+
+-- what is told of a text for a command: nothing exactly where it reads the text; else first the line of the fault at which it finds the text
+abbrev pub IsToldFor : Reader → List ℕ → List ℕ → Type 0
+IsToldFor reader text told = IsToldBy (IsReadBy reader (meant_of text)) (IsOwnFault (IsFaultBy reader) text) text told
+
+-- the same, where only the kind of the text is asked for
+abbrev pub IsToldAs : Kind → List ℕ → List ℕ → Type 0
+IsToldAs kind text told = IsToldBy (IsRead kind (meant_of text)) (IsOwnFault (IsAtFault kind) text) text told
+
+-- as what a text was read
+abbrev pub heading : Kind → List ℕ
+heading Schedule = codes "read as a schedule, for txos replay:\n"
+heading Walk = codes "read as a schedule with commands, for txos debug:\n"
+heading Program = codes "read as a program, for txos run:\n"
+
+-- what is told of a text of that kind, behind what it was read as
+abbrev pub headed : Kind → List ℕ → List ℕ
+headed kind [] = []
+headed kind (byte ∷ bytes) = heading kind ++ (byte ∷ bytes)
+
+-- that is said where no command was named
+abbrev pub said_for : Reader → List ℕ → List ℕ → List ℕ
+said_for Any text told = headed (kind_of (meant_of text)) told
+said_for _ text told = told
+
+-- what is told of a text for a command, with that before
+pub record IsSaidFor (reader : Reader) (text said : List ℕ) : Type 0 where
+  pub told : List ℕ
+  pub told_for : IsToldFor reader text told
+  pub spelled : said ≡ said_for reader text told

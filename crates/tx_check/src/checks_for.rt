@@ -1,0 +1,209 @@
+//! Tells of a text what is wrong with it for one of the commands.
+ghost use Rattle.std.specs.Prelude.{◌≡◌, ◌≢◌, ◌≤◌, [], Some, IfOk, IfSome, IsTrue, IsFalse, ℕ, List, string_bytes};
+ghost use Rattle.tx_check.specs.Kinds as kinds_spec;
+ghost use Rattle.tx_check.specs.Numbered.{after_lines};
+ghost use Rattle.tx_check.specs.Readers.{IsLongFor, IsSaidFor, IsShortFor, IsToldAs, IsToldFor};
+ghost use Rattle.tx_lines.specs.declared.faults.Fault.TheVariants as faults;
+ghost use Rattle.tx_check.specs.Readers as spec;
+ghost use Rattle.tx_check.specs.Reads as reads;
+ghost use Rattle.tx_check.specs.Reads.{IsAtFault, IsRead};
+ghost use Rattle.tx_check.specs.Told.{TellsFrom};
+ghost use Rattle.tx_plain.specs.Meant.{meant_of, own_line};
+ghost use Rattle.tx_plain.specs.MeantLines.{left_of};
+
+use crate::checks::{check_text, line_of, tell_from};
+use crate::faults::first_fault;
+use crate::kinds::{Kind, kind_of};
+use crate::labels::Labels;
+use crate::own::{TextFrom, own_word};
+use crate::reader_faults::fault_in;
+use crate::readers::{Reader, heading, kind_trouble};
+use crate::tell::tell;
+use crate::trouble::{LineTrouble, Trouble};
+use std::alloc::{AllocError, Global};
+use tx_base::NoMemory;
+use tx_lines::{Fault, put};
+use tx_plain::{Meant, MeantLines};
+
+/// How many lines the text of a picture's schedule may have.
+const PICTURE_LINES: u64 = 201;
+
+/// What is told of a text of any version for that command: nothing exactly where the command reads the
+/// text. Else first of the line at which it finds the text at fault, as `check_text` tells it. Where
+/// no command is named, what the text was read as stands first.
+///
+/// Memory is taken for what is told and for what the command would read. The only error is that such
+/// a growth was refused.
+pub fn check_text_for(alloc: Global, reader: Reader, text: &[u8]) -> Result<String, NoMemory>
+    ensures { IfOk result (λ said. IsSaidFor reader text.now (string_bytes said)) }
+{
+    let told = told_for(alloc, reader, text)?;
+    match reader {
+        Reader::Any => Ok(headed(alloc, kind_of(MeantLines::of(text)), told)?),
+        _ => Ok(told),
+    }
+}
+
+/// Puts what a text was read as before what is told of it.
+fn headed(alloc: Global, kind: Kind, told: String) -> Result<String, AllocError>
+    ensures { IfOk result (λ said. string_bytes said ≡ spec.headed kind (string_bytes told)) }
+{
+    if told.is_empty() {
+        return Ok(told);
+    }
+    let mut said = String::new(alloc);
+    put(&mut said, heading(kind))?;
+    put(&mut said, told.as_str())?;
+    Ok(said)
+}
+
+/// What is told of a text for that command.
+fn told_for(alloc: Global, reader: Reader, text: &[u8]) -> Result<String, NoMemory>
+    ensures { IfOk result (λ told. IsToldFor reader text.now (string_bytes told)) }
+{
+    let meant = kind_of(MeantLines::of(text));
+    let told = told_as(alloc, reader.kind(meant), meant, text)?;
+    if is_nothing(told.as_str()) {
+        return told_of_kind(alloc, reader, text);
+    }
+    Ok(told)
+}
+
+/// Whether nothing is told.
+fn is_nothing(told: &str) -> bool
+    ensures nothing { IsTrue result → told.now ≡ [] }
+    ensures something { IsFalse result → told.now ≢ [] }
+{
+    match told.as_bytes() {
+        [] => true,
+        [_first, ..] => false,
+    }
+}
+
+/// What is told of a text for that command, which reads texts of the kind that the text is of.
+fn told_of_kind(alloc: Global, reader: Reader, text: &[u8]) -> Result<String, NoMemory>
+    requires { IsRead (spec.kind_read reader (meant_of text.now)) (meant_of text.now) }
+    ensures { IfOk result (λ told. IsToldFor reader text.now (string_bytes told)) }
+{
+    if is_long_for(reader, text) {
+        return tell_long(alloc, reader, text);
+    }
+    Ok(String::new(alloc))
+}
+
+/// What is told of a text that is to be of a kind, and is meant to be of that other one.
+fn told_as(alloc: Global, kind: Kind, meant: Kind, text: &[u8]) -> Result<String, NoMemory>
+    requires { meant ≡ kinds_spec.kind_of (meant_of text.now) }
+    ensures { IfOk result (λ told. IsToldAs kind text.now (string_bytes told)) }
+{
+    if kind.is(meant) {
+        check_text(alloc, text)
+    } else {
+        told_as_other(alloc, kind, text)
+    }
+}
+
+/// What is told of a text that is to be of a kind, by the reader of that kind.
+fn told_as_other(alloc: Global, kind: Kind, text: &[u8]) -> Result<String, NoMemory>
+    ensures { IfOk result (λ told. IsToldAs kind text.now (string_bytes told)) }
+{
+    let meant = Meant::by(alloc, text)?;
+    match fault_in(alloc, kind, meant.as_bytes())? {
+        Some(fault) => {
+            let number = meant.own_line(line_of(fault));
+            tell_fault(alloc, kind, text, fault, number)
+        }
+        None => Ok(String::new(alloc)),
+    }
+}
+
+/// What is told of a text that is at fault for the reader of that kind. The line of the fault has that
+/// number in the text itself.
+fn tell_fault(
+    alloc: Global,
+    kind: Kind,
+    text: &[u8],
+    fault: Fault,
+    number: u64,
+) -> Result<String, NoMemory>
+    requires fault { IsAtFault kind (meant_of text.now) fault }
+    requires number { number ≡ own_line text.now (reads.line_of fault) }
+    ensures { IfOk result (λ told. IsToldAs kind text.now (string_bytes told)) }
+{
+    let meant = Labels::of(MeantLines::of(text));
+    let own = kind_of(meant.text);
+    match same_line(first_fault(own, &meant), fault) {
+        Some(other) => tell_from(alloc, own, text, &meant, other),
+        None => {
+            let (trouble, place) = kind_trouble(kind, own);
+            tell_alone(alloc, text, number, trouble, place)
+        }
+    }
+}
+
+/// A fault, where it is at the line of that other one.
+fn same_line(found: Option<Fault>, other: Fault) -> Option<Fault>
+    ensures { IfSome result (λ fault. (found ≡ Some fault)
+        × (reads.line_of fault ≡ reads.line_of other)) }
+{
+    let fault = found?;
+    if line_of(fault) == line_of(other) {
+        return Some(fault);
+    }
+    None
+}
+
+/// Whether a text that is of the kind which the command reads has more lines than it takes.
+fn is_long_for(reader: Reader, text: &[u8]) -> bool
+    ensures long { IsTrue result → IsRead (spec.kind_read reader (meant_of text.now)) (meant_of text.now)
+        → IsLongFor reader (meant_of text.now) (faults.TooLong 202) }
+    ensures short { IsFalse result → IsShortFor reader (meant_of text.now) }
+{
+    match reader {
+        Reader::Picture => !is_none_behind(MeantLines::of(text), PICTURE_LINES),
+        _ => false,
+    }
+}
+
+/// What is told of a text with more lines than the command takes.
+fn tell_long(alloc: Global, reader: Reader, text: &[u8]) -> Result<String, NoMemory>
+    requires { IsLongFor reader (meant_of text.now) (faults.TooLong 202) }
+    ensures { IfOk result (λ told. IsToldFor reader text.now (string_bytes told)) }
+{
+    let number = Meant::by(alloc, text)?.own_line(PICTURE_LINES + 1);
+    tell_alone(alloc, text, number, LineTrouble::TooManyToDraw, 0)
+}
+
+/// Whether no line is behind so many.
+fn is_none_behind(lines: MeantLines<'_>, count: u64) -> bool
+    ensures none { IsTrue result → after_lines count (left_of lines.entry) ≡ [] }
+    ensures some { IsFalse result → after_lines count (left_of lines.entry) ≢ [] }
+{
+    let mut left = lines;
+    for _before in 0..count {
+        let (_line, behind) = left.cut();
+        left = behind;
+    }
+    left.split().is_none()
+}
+
+/// Tells of a line alone what is wrong with the text there, at the word in that place of it.
+fn tell_alone(
+    alloc: Global,
+    text: &[u8],
+    number: u64,
+    trouble: LineTrouble,
+    place: usize,
+) -> Result<String, NoMemory>
+    requires { 1 ≤ number }
+    ensures { IfOk result (λ told. TellsFrom text.now number (string_bytes told)) }
+{
+    let line = TextFrom::first(text).moved_to(number).line();
+    let column = match own_word(line.bytes, place) {
+        Some(word) => word.column,
+        None => 1,
+    };
+    let mut told = String::new(alloc);
+    tell(alloc, &mut told, line, Trouble::of_line(column, trouble))?;
+    Ok(told)
+}
