@@ -29,7 +29,7 @@ static MEANINGS: [(&'static str, &'static str, &'static str); 50] = [
         "a pipe's number, and those of its two descriptions",
     ),
     ("dup", "F", "a descriptor"),
-    ("dup2", "F G", "a descriptor, and the one it is made"),
+    ("dup2", "F G", "a descriptor, and its new number"),
     ("close", "F", "a descriptor"),
     ("set_nonblock", "F on|off", "a descriptor, and on or off"),
     (
@@ -52,7 +52,7 @@ static MEANINGS: [(&'static str, &'static str, &'static str); 50] = [
     (
         "sigprocmask",
         "block|unblock|set SET",
-        "signals joined by commas, or - for none",
+        "what to do, and signals joined by commas, or - for none",
     ),
     ("console_write", "A V", "an address, and how many bytes"),
     (

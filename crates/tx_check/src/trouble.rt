@@ -87,6 +87,7 @@ pub enum LineTrouble {
     CarriageReturn,
     ByteOrderMark,
     Comment,
+    OtherComment,
     Empty,
     Space,
     NoHeader,
@@ -185,9 +186,10 @@ impl LineTrouble {
             LineTrouble::NoEnd => "the last line has no end",
             LineTrouble::CarriageReturn =>
                 "the line ends with CR, which only version 3 takes: txos 3 in line 1",
-            LineTrouble::ByteOrderMark => "the text begins with a byte-order mark",
+            LineTrouble::ByteOrderMark => "the text begins with a byte-order mark, which must go",
             LineTrouble::Comment =>
                 "comments are of version 3 alone: txos 3 in line 1, and # before them",
+            LineTrouble::OtherComment => "comments begin with #, in version 3",
             LineTrouble::Empty => "the line is empty, which only version 3 takes: txos 3 in line 1",
             LineTrouble::Space =>
                 "words are parted by one space, with none before or after them, but in version 3",
@@ -266,7 +268,7 @@ impl WordTrouble {
             WordTrouble::SignalName => "signals are numbers before version 3: txos 3 in line 1",
             WordTrouble::NoProcess => "a step begins with the number of its process, or kernel",
             WordTrouble::NoHexDigits => {
-                "bytes are two hex digits each, of 0 to 9 and a to f; in version 3 also \"text\""
+                "bytes are two hex digits each; in version 3 also a string: \"text\""
             }
             WordTrouble::UpperCase => "hex digits are lower case",
             WordTrouble::OddDigits => "each byte has two hex digits",
@@ -287,8 +289,8 @@ impl WordTrouble {
         match self {
             WordTrouble::LabelColon => "a label is a line label NAME",
             WordTrouble::SessionCommand => "this is a command of txos shell, and of no text",
-            WordTrouble::SignalFirst => "the process comes first, then the signal: kill T V",
-            _ => "a string is in double quotes",
+            WordTrouble::SignalFirst => "the process comes first, then the signal",
+            _ => "a string is in double quotes, in version 3: \"text\"",
         }
     }
 }
@@ -300,7 +302,8 @@ impl ThirdTrouble {
     {
         match self {
             ThirdTrouble::OpenString => "a string ends with \" in its line",
-            ThirdTrouble::NoEscape => "the escapes of a string are \\n, \\t, \\0, \\\" and \\\\",
+            ThirdTrouble::NoEscape =>
+                "the escapes of a string are \\n, \\t, \\0, \\\" and \\\\; hex digits are any bytes",
             ThirdTrouble::StringSize => "a string has 1 to 64 bytes",
             ThirdTrouble::BehindString => "a space is wanted behind a string",
             ThirdTrouble::NoStore => "a string is only the bytes of a store: store A \"text\"",

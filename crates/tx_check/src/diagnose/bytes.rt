@@ -22,6 +22,9 @@ pub fn bytes_trouble<'a>(word: Word<'a>) -> Option<Trouble<'a>>
             what: What::InHex(characters),
         });
     }
+    if word.bytes.starts_with(b"'") {
+        return Some(Trouble::of_word(word, WordTrouble::SingleQuotes));
+    }
     Some(Trouble::of_word(word, digits_trouble(word.bytes)))
 }
 

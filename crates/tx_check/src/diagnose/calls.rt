@@ -3,8 +3,9 @@ ghost use Rattle.std.specs.Prelude.{◌≡◌, IfSome};
 ghost use Rattle.tx_check.specs.Told.{IsColumn};
 
 use crate::diagnose::fields::field_trouble;
+use crate::diagnose::numbers::is_signal_name;
 use crate::forms::{CALLS, Form, field_of, form_of};
-use crate::trouble::{LineTrouble, Names, Trouble, What};
+use crate::trouble::{LineTrouble, Names, Trouble, What, WordTrouble};
 use crate::words::{Word, count_words, word_at};
 use tx_lines::{TextKind, Version};
 
@@ -26,6 +27,9 @@ pub fn call_trouble<'a>(
     if behind != count_of(words) {
         return Some(takes(name, form, behind));
     }
+    if let Some(trouble) = signal_first(form, line, place) {
+        return Some(trouble);
+    }
     if let Some(trouble) = arguments_trouble(kind, words, line, place) {
         return Some(trouble);
     }
@@ -35,6 +39,21 @@ pub fn call_trouble<'a>(
         }
         _ => None,
     }
+}
+
+/// What is wrong with a call that sends a signal, where the signal is first, as a shell has it.
+fn signal_first<'a>(form: Form, line: &'a [u8], place: usize) -> Option<Trouble<'a>>
+    ensures { IfSome result (λ trouble. IsColumn line.now trouble.column) }
+{
+    if form.name != "kill" && form.name != "sigqueue" {
+        return None;
+    }
+    let first = word_at(line, place.saturating_add(1))?;
+    let name = first.bytes.strip_prefix(b"-").unwrap_or(first.bytes);
+    if is_signal_name(name) {
+        return Some(Trouble::of_word(first, WordTrouble::SignalFirst));
+    }
+    None
 }
 
 /// The form of the call of that name in a text of that kind. A program has no deliveries, and

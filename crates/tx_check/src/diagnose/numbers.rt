@@ -4,6 +4,7 @@ ghost use Rattle.std.specs.Prelude.{◌≡◌, IfSome};
 use crate::trouble::{Trouble, What, WordTrouble};
 use crate::words::Word;
 use tx_lines::{number, read_byte, read_pid, read_position};
+use tx_plain::signal;
 
 /// What is wrong where a number that a text can hold is wanted.
 pub fn number_trouble<'a>(word: Word<'a>) -> Option<Trouble<'a>>
@@ -61,7 +62,7 @@ pub fn point_trouble<'a>(word: Word<'a>) -> Option<Trouble<'a>>
 pub fn no_number<'a>(word: Word<'a>, range: &'static str) -> Trouble<'a>
     ensures { result.column ≡ word.entry.column }
 {
-    if word.bytes.starts_with(b"SIG") {
+    if word.bytes.starts_with(b"SIG") || is_signal_name(word.bytes) {
         return Trouble::of_word(word, WordTrouble::SignalName);
     }
     let digits = word
@@ -81,4 +82,9 @@ pub fn no_number<'a>(word: Word<'a>, range: &'static str) -> Trouble<'a>
             range,
         },
     }
+}
+
+/// Whether a word is the name of a signal.
+pub fn is_signal_name(word: &[u8]) -> bool {
+    read_byte(word).is_none() && signal(word).is_some()
 }

@@ -24,6 +24,9 @@ pub fn shape_trouble(line: &[u8]) -> Option<Trouble<'static>>
     if line[0] == b'#' {
         return Some(Trouble::of_line(1, LineTrouble::Comment));
     }
+    if line.starts_with(b"//") || line.starts_with(b"/*") || line.starts_with(b";") {
+        return Some(Trouble::of_line(1, LineTrouble::OtherComment));
+    }
     if let Some(trouble) = odd_byte(line) {
         return Some(trouble);
     }
