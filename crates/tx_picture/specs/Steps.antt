@@ -1,9 +1,9 @@
 -- How the steps of a schedule are shown: each by a mark in its process's column and in its own row, in order.
-use Rattle.std.specs.Prelude.{ℕ, ◌+◌, List, [], ◌∷◌, ◌++◌, Option, Some, None, codes}
+use Rattle.std.specs.Prelude.{ℕ, ℤ, pos, negsuc, ◌+◌, List, [], ◌∷◌, ◌++◌, Option, Some, None, codes}
 use Rattle.std.specs.Fmt.{decimal}
 use Rattle.tx_base.specs.declared.names.Pid.{Pid}
 use Rattle.tx_base.specs.declared.steps.Reply.{Reply}
-use Rattle.tx_base.specs.declared.steps.Reply.TheVariants.{No}
+use Rattle.tx_base.specs.declared.steps.Reply.TheVariants.{Done, No}
 use Rattle.tx_lines.specs.Lines.{step_text}
 use Rattle.tx_model.specs.Events.{process_of}
 use Rattle.tx_picture.specs.Held.{signal_text}
@@ -15,10 +15,16 @@ use Rattle.tx_picture.specs.declared.rows.Row.{Row}
 use Rattle.tx_picture.specs.declared.spans.Span.{Span}
 use Rattle.tx_picture.specs.declared.ties.Tie.{Tie}
 use Rattle.tx_picture.specs.declared.ties.Tie.TheVariants.{Holder, Child, Signal}
-use Rattle.tx_text.specs.Replies.{reply_text}
+use Rattle.tx_text.specs.Replies.{named_reply_text}
+
+-- the mark of a call's answer: an error is a number below zero
+abbrev pub answer_class : ℤ → List ℕ
+answer_class (pos n) = codes "accepted"
+answer_class (negsuc n) = codes "failed"
 
 abbrev pub mark_class : Reply → List ℕ
 mark_class (No why) = codes "refused"
+mark_class (Done ret) = answer_class ret
 mark_class reply = codes "accepted"
 
 abbrev pub mark_text : ℕ → ℕ → Reply → List ℕ
@@ -39,9 +45,9 @@ tie_text columns strips last number row (Some (Signal target)) =
 abbrev pub tied_text : List Pid → List Span → ℕ → ℕ → Row → List ℕ
 tied_text columns strips last number row = tie_text columns strips last number row (tie_of row.step row.reply)
 
--- what a step is, and what it was answered
+-- what a step is, and what it was answered, with the name of an error
 abbrev pub words_of : Row → List ℕ
-words_of row = step_text row.step ++ (codes " : " ++ reply_text row.reply)
+words_of row = step_text row.step ++ (codes " : " ++ named_reply_text row.reply)
 
 -- its number, and its text
 abbrev pub label_text : ℕ → ℕ → Row → List ℕ

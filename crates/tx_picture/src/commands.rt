@@ -32,8 +32,8 @@ pub fn picture<S: Source, W: Sink>(alloc: Global, source: &mut S, sink: &mut W) 
 }
 
 /// The picture of the schedule that a text spells, or means, as `picture` writes it. The text may be of
-/// any version. The text of a picture is well formed: each element that is opened is closed, and each
-/// text is escaped.
+/// any version. The text of a picture is a well-formed document of XML: one element holds all, each
+/// that is opened is closed, none has an attribute twice, and each text is escaped.
 ///
 /// A fault where the text can't be read or has too many steps, or a growth of memory is refused, as
 /// `picture` tells it.

@@ -15,7 +15,7 @@ use crate::ties::{Tie, tie_of};
 use std::alloc::{AllocError, Global};
 use tx_base::{Pid, Reply};
 use tx_lines::{put, put_count, put_step};
-use tx_text::put_reply;
+use tx_text::put_named_reply;
 
 /// Appends the steps. There may be 200.
 pub(crate) fn put_rows(
@@ -100,6 +100,7 @@ fn put_mark(text: &mut String, x: u64, y: u64, reply: &Reply) -> Result<(), Allo
 {
     let class = match reply {
         Reply::No(_) => "refused",
+        Reply::Done(ret) if *ret < 0 => "failed",
         _ => "accepted",
     };
     put_shape(text, Shape::Ellipse, class, Numbers(x, y, 5, 5))
@@ -139,13 +140,13 @@ pub(crate) fn put_numeral(
     put_words(text, class, x, y, numeral.as_bytes())
 }
 
-/// The text of a step: what it is, and what it was answered.
+/// The text of a step: what it is, and what it was answered, with the name of an error.
 pub(crate) fn words_of(alloc: Global, row: &Row) -> Result<String, AllocError>
     ensures { IfOk result (λ words. string_bytes words ≡ words_of row.now) }
 {
     let mut words = String::new(alloc);
     put_step(&mut words, &row.step)?;
     put(&mut words, " : ")?;
-    put_reply(&mut words, &row.reply)?;
+    put_named_reply(&mut words, &row.reply)?;
     Ok(words)
 }

@@ -1,8 +1,9 @@
 //! The looks of a picture, and its legend. Two colours that a colour-blind reader tells apart, two
-//! hatchings, and dashes and heads of arrows, so that it reads in grey too.
+//! hatchings, marks that are full, empty or half full, and dashes and heads of arrows, so that it reads
+//! in grey too.
 
-/// What stands in every picture before all else: the styles of the classes, the two hatchings, the heads
-/// of arrows, the white page, and the heading of the columns.
+/// What stands in every picture before all else: the styles of the classes, the fills, the heads of
+/// arrows, the white page, and the heading of the columns.
 pub(crate) const STYLE: &str = "
 <style>
 text{font:13px monospace;fill:#000}
@@ -19,6 +20,7 @@ line{stroke:#000;stroke-width:2}
 .pipe{stroke-width:1.5;stroke-dasharray:8 3 2 3;marker-end:url(#taken)}
 .accepted{fill:#000}
 .refused{fill:#fff;stroke:#000;stroke-width:2}
+.failed{fill:url(#failed);stroke:#000;stroke-width:2}
 .committed{fill:url(#committed);stroke:#0072b2;stroke-width:2}
 .aborted{fill:url(#aborted);stroke:#d55e00;stroke-width:2;stroke-dasharray:6 3}
 .open{fill:#eee;stroke:#555;stroke-width:2;stroke-dasharray:2 3}
@@ -28,6 +30,9 @@ line{stroke:#000;stroke-width:2}
 </pattern>
 <pattern id=\"aborted\" width=\"8\" height=\"8\" patternUnits=\"userSpaceOnUse\"><rect width=\"8\" height=\"8\" fill=\"#fdf0e3\"/>
 <path d=\"M-2,6 L2,10 M0,0 L8,8 M6,-2 L10,2 M-2,2 L2,-2 M0,8 L8,0 M6,10 L10,6\" stroke=\"#e69f00\"/>
+</pattern>
+<pattern id=\"failed\" width=\"1\" height=\"1\"><rect width=\"10\" height=\"10\" fill=\"#fff\"/>
+<rect width=\"5\" height=\"10\"/>
 </pattern>
 <marker id=\"head\" viewBox=\"0 0 10 10\" refX=\"9\" refY=\"5\" markerWidth=\"7\" markerHeight=\"7\" orient=\"auto\"><path d=\"M0,0 L10,5 L0,10 z\"/>
 </marker>
@@ -55,4 +60,6 @@ pub(crate) const LEGEND: &str = "
 <text x=\"160\" y=\"41\">pipe</text>
 <line class=\"refusal\" x1=\"224\" y1=\"36\" x2=\"248\" y2=\"36\"/>
 <text x=\"256\" y=\"41\">in the way</text>
+<ellipse class=\"failed\" cx=\"352\" cy=\"36\" rx=\"5\" ry=\"5\"/>
+<text x=\"364\" y=\"41\">error</text>
 ";
