@@ -39,7 +39,7 @@ def rows_part(command):
 
 def command_part(program, command):
     """What the manual says of a command of the program."""
-    more = [f".RS\n{block(it)}\n.RE" for it in program.page(command.name).split("\n", 1)[1:] if it]
+    more = [f".RS\n{block(it)}\n.RE" for it in program.page_of_command(command.name).split("\n", 1)[1:] if it]
     return "\n".join([row(command.name, f"{command.about}."), *rows_part(command), *more])
 
 

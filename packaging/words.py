@@ -52,6 +52,11 @@ class Program:
         ran = subprocess.run([self.path, *words], stdin=subprocess.DEVNULL, capture_output=True, text=True, check=False)
         return ran.stdout or ran.stderr
 
+    def answered(self, *words):
+        """What it answers to these words on standard output, and nothing where it does not."""
+        ran = subprocess.run([self.path, *words], stdin=subprocess.DEVNULL, capture_output=True, text=True, check=False)
+        return ran.stdout if ran.returncode == 0 else ""
+
     def version(self):
         """Its version, such as 1.0.0, and the line of the kits in whose logic it is proved."""
         first, kits = self.said("version").splitlines()
@@ -77,9 +82,14 @@ class Program:
         return [Group(title, tuple(words.split())) for title, words in zip(lines[::2], lines[1::2])]
 
     def page(self, word):
-        """What it explains of a word, or nothing where the word leads to another one's page."""
-        page = self.said("explain", word)
+        """What it explains of a word, or nothing where the word has no page of its own."""
+        page = self.answered("explain", word)
         return page if page.startswith(f"{word}: ") else ""
+
+    def page_of_command(self, name):
+        """What it explains of a command, or nothing: the shell's `help` is another one."""
+        commands = next(it for it in self.groups() if it.title == "commands of txos")
+        return self.page(name) if name in commands.words else ""
 
     def words_behind(self):
         """For each command the words that may stand behind it."""

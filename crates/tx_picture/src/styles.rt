@@ -21,6 +21,7 @@ line{stroke:#000;stroke-width:2}
 .accepted{fill:#000}
 .refused{fill:#fff;stroke:#000;stroke-width:2}
 .failed{fill:url(#failed);stroke:#000;stroke-width:2}
+.blank{stop-color:#fff}
 .committed{fill:url(#committed);stroke:#0072b2;stroke-width:2}
 .aborted{fill:url(#aborted);stroke:#d55e00;stroke-width:2;stroke-dasharray:6 3}
 .open{fill:#eee;stroke:#555;stroke-width:2;stroke-dasharray:2 3}
@@ -31,9 +32,9 @@ line{stroke:#000;stroke-width:2}
 <pattern id=\"aborted\" width=\"8\" height=\"8\" patternUnits=\"userSpaceOnUse\"><rect width=\"8\" height=\"8\" fill=\"#fdf0e3\"/>
 <path d=\"M-2,6 L2,10 M0,0 L8,8 M6,-2 L10,2 M-2,2 L2,-2 M0,8 L8,0 M6,10 L10,6\" stroke=\"#e69f00\"/>
 </pattern>
-<pattern id=\"failed\" width=\"1\" height=\"1\"><rect width=\"10\" height=\"10\" fill=\"#fff\"/>
-<rect width=\"5\" height=\"10\"/>
-</pattern>
+<linearGradient id=\"failed\"><stop offset=\"0.5\"/>
+<stop class=\"blank\" offset=\"0.5\"/>
+</linearGradient>
 <marker id=\"head\" viewBox=\"0 0 10 10\" refX=\"9\" refY=\"5\" markerWidth=\"7\" markerHeight=\"7\" orient=\"auto\"><path d=\"M0,0 L10,5 L0,10 z\"/>
 </marker>
 <marker id=\"taken\" viewBox=\"0 0 10 10\" refX=\"14\" refY=\"5\" markerWidth=\"8\" markerHeight=\"8\" orient=\"auto\"><path d=\"M1,1 L9,5 L1,9 z\" fill=\"#fff\" stroke=\"#000\"/>

@@ -30,7 +30,7 @@ use tx_report_json::write_json;
 use tx_script::{debug, replay};
 use tx_shell::{Console, Form, Shell, TalkFault, talk};
 use tx_workers::run_program;
-use words::{Asked, Crew, VERSION_LINES, number_asked, read_words};
+use words::{Asked, Crew, JSON_USAGE, VERSION_LINES, number_asked, read_words};
 
 /// The status of a fault.
 const FAULTY: u8 = 1;
@@ -174,7 +174,7 @@ fn half_run(rt: &impl Eprint) -> ExitCode
     ensures { exit_status result ≡ UNREAD }
 {
     let _ = eprintln!(rt; "error: json takes --workers and --turns together, or neither\n");
-    let _ = eprintln!(rt; "Usage: txos json [OPTIONS]\n");
+    let _ = eprintln!(rt; "Usage: {JSON_USAGE}\n");
     let _ = eprintln!(rt; "For more information, try '--help'.");
     ExitCode::from(UNREAD)
 }

@@ -20,6 +20,9 @@ const VERSION: &str = "1.0.0";
 /// proved.
 pub const VERSION_LINES: &str = "txos 1.0.0\nrattle-kit-13b and 13f, logic dac8208d650f15bf\n";
 
+/// How `json` is called.
+pub const JSON_USAGE: &str = "txos json [OPTIONS] < FILE";
+
 /// What the program is asked to do.
 #[derive(Clone, Copy)]
 pub enum Asked<'a> {
@@ -222,60 +225,72 @@ fn top_command<'a>(alloc: Global) -> Command<'a>
         .version(VERSION)
 }
 
-/// What help says of a command: a line of what it does, and an example.
+/// What help says of a command: a line of what it does, how it is called, with a text as a file where it
+/// reads one, and an example.
 #[derive(Clone, Copy)]
 struct Told {
     about: &'static str,
+    usage: &'static str,
     example: &'static str,
 }
 
 const REPLAY: Told = Told {
     about: "Reads a schedule from standard input, and writes its replies and the last state",
+    usage: "txos replay < FILE",
     example: "Example: txos replay < examples/first.txos",
 };
 
 const DEBUG: Told = Told {
     about: "Reads a schedule and commands from standard input, and walks back and forward",
+    usage: "txos debug < FILE",
     example: "Example: txos debug < examples/commit_and_abort.walk",
 };
 
 const JSON: Told = Told {
     about: "Reads a schedule, maybe with commands, or runs a program, and answers in JSON",
+    usage: JSON_USAGE,
     example: "Example: txos json < examples/first.txos",
 };
 
 const PICTURE: Told = Told {
     about: "Reads a schedule from standard input, and writes a picture of it in SVG",
+    usage: "txos picture < FILE",
     example: "Example: txos picture < examples/first.txos > first.svg",
 };
 
 const SHELL: Told = Told {
     about: "Reads steps and commands, and answers each line before it reads the next",
+    usage: "txos shell [OPTIONS]",
     example: "Example: txos shell",
 };
 
 const RUN: Told = Told {
     about: "Reads a program from standard input, runs it by workers, and writes what they did",
+    usage: "txos run --workers <workers> --turns <turns> < FILE",
     example: "Example: txos run --workers 1 --turns 24 < examples/fall_back.program",
 };
 
 const CHECK: Told = Told {
     about: "Reads a text from standard input, and says of each line at fault what is wrong",
+    usage: "txos check < FILE",
     example: "Example: txos check < examples/first.txos",
 };
 
 const PLAIN: Told = Told {
     about: "Reads a text of version 3 from standard input, and writes the one that it means",
+    usage: "txos plain < FILE",
     example: "Example: txos plain < examples/install.txos",
 };
 
 const EXPLAIN: Told = Told {
     about: "Says what a word or a number of a text, a report or a fault means",
+    usage: "txos explain [word]",
     example: "Example: txos explain N8",
 };
 
 const PRINT_VERSION: Told = Told {
     about: "Writes the version of the program",
+    usage: "txos version",
     example: "Example: txos version",
 };
 
@@ -294,6 +309,7 @@ fn told_command<'a>(alloc: Global, name: &'a str, told: Told) -> Command<'a>
 {
     Command::new(alloc, name)
         .about(told.about)
+        .override_usage(told.usage)
         .after_help(told.example)
 }
 
