@@ -15,10 +15,11 @@ abbrev pub MeansProgramOf : List ℕ → Result Program Fault → Type 0
 MeansProgramOf text (Ok program) = (lines : List Line) × IsProgramOf lines program × (meant_of text ≡ program_text program.header lines)
 MeansProgramOf text (Err fault) = FaultsBy (IsOwnFault IsProgramFault text) fault
 
--- what was left to read means that program
+-- what was left to read means that program, and is no longer than a text may be
 pub record MeansProgram (left : Option (List ℕ)) (program : Program) : Type 0 where
   pub lines : List Line
   pub good : IsProgramOf lines program
+  pub short : IfSome left (λ bytes. length bytes ≤ 1048576)
   pub text : IfSome left (λ bytes. meant_of bytes ≡ program_text program.header lines)
 
 -- the program that the text means which was left to read; or the text is at fault; or the source failed, or was interrupted once too often

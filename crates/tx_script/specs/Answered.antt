@@ -8,10 +8,10 @@ use Rattle.tx_lines.specs.declared.faults.Fault.{Fault}
 use Rattle.tx_plain.specs.Meant.{meant_of, IsOwnFault}
 use Rattle.tx_lines.specs.declared.faults.Fault.TheVariants.{NotALine, NoLabel, TooLong, Reader, Writer, NoMemory}
 
--- what was left to read spells that, or means it by another text
+-- what was left to read spells that, or means it by another text, and is no longer than a text may be
 pub record Spells {A : Type 0} (G : Grammar A) (left : Option (List ℕ)) (spelled : A) : Type 0 where
   pub good : G.IsGood spelled
-  pub text : IfSome left (λ bytes. meant_of bytes ≡ G.text spelled)
+  pub text : IfSome left (λ bytes. (length bytes ≤ 1048576) × (meant_of bytes ≡ G.text spelled))
 
 -- so many bytes of its answer are written
 pub record WritesFront {A : Type 0} (G : Grammar A) (written : Option (List ℕ)) (spelled : A) (count : ℕ) (written' : Option (List ℕ)) : Type 0 where

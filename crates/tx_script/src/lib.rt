@@ -9,7 +9,8 @@
 //! spells, where it is at fault and what answers it is a `Grammar` of specs: `schedules` and `walks`
 //! are two, and one definition (`Answers`) says of both what is read and written. `replay` changes a
 //! kernel through `boot` and `step_into` alone, and takes no step back: each inverse is put in the
-//! place of the one before. `debug` does so through the calls of a session.
+//! place of the one before. `debug` does so through the calls of a session. The ends, the faults and
+//! the programs of texts are given on from tx_lines and tx_plain.
 #![tactic(auto)]
 
 mod debugs;
@@ -22,4 +23,6 @@ pub use debugs::{debug, debug_text};
 pub use machines::boot;
 pub use replays::{replay, replay_text};
 pub use reports::report;
+pub use tx_lines::{Fault, Flow, OverRead, OverWrite, Program, Sink, Source};
+pub use tx_plain::read_program;
 pub use walks::put_answer;

@@ -1,8 +1,9 @@
 //! A whole run of workers.
-ghost use Rattle.std.specs.Prelude.{◌≡◌, ◌+◌, ◌≤◌, IfOk, Some};
+ghost use Rattle.std.specs.Prelude.{◌≡◌, ◌+◌, ◌<◌, ◌≤◌, Err, IfOk, Some};
 ghost use Rattle.tx_journal.specs.Sessions.{IsAtEnd};
 ghost use Rattle.tx_workers.specs.Runs.{IsWorked};
 ghost use Rattle.tx_workers.specs.Teams.{IsTeam};
+ghost use Rattle.tx_workers.specs.declared.faults.WorkFault.TheVariants.{Spawn};
 
 use crate::desk::{Desk, Work};
 use crate::faults::WorkFault;
@@ -36,8 +37,9 @@ pub fn run_workers<R: Threads + Wait + Sync, G: Gate + Sync>(
     gate: &G,
 ) -> Result<Worked, WorkFault>
     requires { IsAtEnd session }
-    ensures { IfOk result (λ worked.
+    ensures worked { IfOk result (λ worked.
         IsWorked program.now session workers turns worked.session worked.workers.items) }
+    ensures thread { result ≡ Err Spawn → 0 < workers }
 {
     let post = Post {
         number: workers,
@@ -63,8 +65,9 @@ fn run_named<J: Work + Send + Sync, R: Threads + Wait + Sync, G: Gate + Sync>(
     requires program { J.program ≡ Some program.now }
     requires given { J.given ≡ Some session }
     requires at_end { IsAtEnd session }
-    ensures { IfOk result (λ worked.
+    ensures worked { IfOk result (λ worked.
         IsWorked program.now session post.number post.turns worked.session worked.workers.items) }
+    ensures thread { result ≡ Err Spawn → 0 < post.number }
 {
     let start = session.len();
     let processes = session.processes();
@@ -93,8 +96,9 @@ fn run_scoped<J: Work + Send + Sync, R: Threads + Wait + Sync, G: Gate + Sync>(
     requires parts { share.parts ≡ post.number + 1 }
     requires none { share.amount ≡ 0 }
     requires high { post.number ≤ floor.now.total }
-    ensures { IfOk result (λ team.
+    ensures team { IfOk result (λ team.
         IsTeam post.number post.turns team.workers.items team.share.parts team.share.amount) }
+    ensures thread { result ≡ Err Spawn → 0 < post.number }
 {
     thread::scope(
         thread::scope_env(),
@@ -104,9 +108,10 @@ fn run_scoped<J: Work + Send + Sync, R: Threads + Wait + Sync, G: Gate + Sync>(
             requires parts { share.parts ≡ post.number + 1 }
             requires none { share.amount ≡ 0 }
             requires high { post.number ≤ floor.now.total }
-            ensures { IfOk result (λ team.
+            ensures team { IfOk result (λ team.
                 IsTeam post.number post.turns team.workers.items team.share.parts
                 team.share.amount) }
+            ensures thread { result ≡ Err Spawn → 0 < post.number }
         { run_down(scope, floor, post, share) },
     )
 }

@@ -1,7 +1,7 @@
 //! Workers in threads of their own, at one session under one lock.
 ghost use Rattle.std.specs.Prelude.{◌≡◌, ◌+◌, ◌-◌, ◌<◌, ◌≤◌, [], Err, IfErr, IfOk, IsErr, IsOk, Some, vec_len};
 ghost use Rattle.tx_workers.specs.Teams.{noted, IsTeam, IsWorkOf};
-ghost use Rattle.tx_workers.specs.declared.faults.WorkFault.TheVariants.{NoMemory};
+ghost use Rattle.tx_workers.specs.declared.faults.WorkFault.TheVariants.{NoMemory, Spawn};
 
 use crate::desk::Work;
 use crate::faults::WorkFault;
@@ -38,8 +38,9 @@ where
     requires parts { share.parts ≡ post.number + 1 }
     requires none { share.amount ≡ 0 }
     requires high { post.number ≤ floor.now.total }
-    ensures { IfOk result (λ team.
+    ensures team { IfOk result (λ team.
         IsTeam post.number post.turns team.workers.items team.share.parts team.share.amount) }
+    ensures thread { result ≡ Err Spawn → 0 < post.number }
 {
     let mut share = share;
     if post.number == 0 {

@@ -1,8 +1,9 @@
 //! What a run of workers gives back.
-ghost use Rattle.std.specs.Prelude.{◌≡◌, ◌+◌, IfOk, Some, length};
+ghost use Rattle.std.specs.Prelude.{◌≡◌, ◌+◌, IfErr, IfOk, Some, length};
 ghost use Rattle.tx_journal.specs.Sessions.{SessionState};
 ghost use Rattle.tx_workers.specs.Runs.{IsWorked};
 ghost use Rattle.tx_workers.specs.Teams.{IsTeam};
+ghost use Rattle.tx_workers.specs.declared.faults.WorkFault.TheVariants.{Strayed};
 
 use crate::compare::are_noted;
 use crate::desk::{Desk, Work};
@@ -40,6 +41,7 @@ pub fn checked<J: Work>(
         IfOk result (λ worked.
         IsWorked program.now given post.number post.turns worked.session worked.workers.items) }
     ensures workers { IfOk result (λ worked. worked.workers.items ≡ team.workers.items) }
+    ensures fault { IfErr result (λ fault. fault ≡ Strayed) }
 {
     let Team { workers, share } = team;
     let mut all = share;
