@@ -35,7 +35,7 @@ enum txos_status {
     TXOS_TOO_SMALL = 3
 };
 
-/* In which form a talk is answered. */
+/* In which form a session is answered. */
 enum txos_form {
     /* In lines that a person reads, as by `txos shell`. */
     TXOS_TEXT = 0,
@@ -46,14 +46,14 @@ enum txos_form {
 /* The replies to the steps of a schedule, and the state that the last one leaves: `txos replay`. */
 int txos_replay(const char *text, size_t length, char *answer, size_t room, size_t *size);
 
-/* What the commands behind a schedule answer: `txos debug`. */
+/* What the commands after a schedule answer: `txos debug`. */
 int txos_debug(const char *text, size_t length, char *answer, size_t room, size_t *size);
 
 /* What is wrong with a text of any kind: `txos check`. Where nothing is, the answer is TXOS_OK, and
  * has no byte. */
 int txos_check(const char *text, size_t length, char *answer, size_t room, size_t *size);
 
-/* The answers to the lines of a talk, one behind another, up to its end or a line `quit`: `txos
+/* The answers to the lines of a session, one after another, up to its end or a line `quit`: `txos
  * shell`. Any number but 0 is the form TXOS_JSON. The answer is never TXOS_FAULT: a line that can't
  * be read is answered by what is wrong with it. */
 int txos_shell(const char *text, size_t length, int form, char *answer, size_t room, size_t *size);
