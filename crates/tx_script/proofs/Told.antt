@@ -1,11 +1,10 @@
 -- The answer to a text that was read.
-use Rattle.std.proofs.Common.{◌≡◌, ℕ, List, Result, Ok, Err, IfOk, IfErr, String, string_bytes, ap, sym, subst}
+use Rattle.std.proofs.Common.{◌≡◌, ℕ, List, Result, Ok, Err, IfOk, IfErr, String, string_bytes, sym, subst}
 use Rattle.tx_script.specs.Grammars.{Grammar, AnswersText}
 use Rattle.tx_lines.specs.Schedule.{FaultsBy}
 use Rattle.tx_lines.specs.declared.faults.Fault.{Fault}
-use Rattle.tx_lines.specs.declared.faults.Fault.TheVariants.{NotALine, NoLabel, TooLong, Reader, Writer, NoMemory}
-use Rattle.tx_plain.specs.Meant.{bytes_of, fault_by, line_of, meant_of, IsMeantBy, IsOwnFault}
-use Rattle.tx_plain.specs.declared.meant.Meant.{Meant}
+use Rattle.tx_lines.specs.declared.faults.Fault.TheVariants.{NoMemory}
+use Rattle.tx_plain.specs.Meant.{meant_of, IsOwnFault}
 
 -- where the only fault is want of memory
 pub answers_text : {A B : Type 0} (G : Grammar A) (text : List ℕ) (spelled : A) (result : Result (String B) Fault) → G.IsGood spelled → meant_of text ≡ G.text spelled
