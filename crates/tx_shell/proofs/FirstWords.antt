@@ -16,5 +16,5 @@ left_after line word rest words columns split at place =
     let column : first_or 1 (columns_in line) ≡ 1 + (length line - length rest - length word) = ap (first_or 1) at in
     let long : length line ≡ length place.0 + (length word + length rest) = ap length place.1 ∙ length-append place.0 (word ++ rest) ∙ ap (λ (n : ℕ). length place.0 + n) (length-append word rest) in
     let count : first_or 1 (columns_in line) - 1 + length (first_word line) ≡ length (place.0 ++ word) =
-        (λ j. column j - 1 + length (first j)) ∙ omega (arith, long) ∙ sym (length-append place.0 word) in
+    (λ j. column j - 1 + length (first j)) ∙ omega (arith, long) ∙ sym (length-append place.0 word) in
     (λ j. drop (first_or 1 (columns_in line) - 1 + length (first_word line)) (place.1 j)) ∙ after_gap place.0 word rest (first_or 1 (columns_in line) - 1 + length (first_word line)) count

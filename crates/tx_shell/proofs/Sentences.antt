@@ -12,7 +12,9 @@ pub has_sentence : (line text : List ℕ) → TellsOf line text → HasSentence 
 has_sentence line text tells =
     let told = tells.wrong in
     let inner = end_last (decimal told.column) (codes ": ") told.sentence in
-    let whole = codes "column " ++ (decimal told.column ++ (codes ": " ++ told.sentence)) in
-    (whole, tells.says
-        ∙ ap (λ (t : List ℕ). codes "? " ++ t)
-            (told.spelled ∙ ap (λ (t : List ℕ). codes "column " ++ t) inner ∙ sym (append_assoc (codes "column ") (decimal told.column ++ (codes ": " ++ told.sentence)) (10 ∷ []))))
+    let whole = codes "column " ++ (decimal told.column ++ (codes ": " ++ told.sentence)) in (
+      whole,
+      tells.says
+          ∙ ap (λ (t : List ℕ). codes "? " ++ t)
+          (told.spelled ∙ ap (λ (t : List ℕ). codes "column " ++ t) inner ∙ sym (append_assoc (codes "column ") (decimal told.column ++ (codes ": " ++ told.sentence)) (10 ∷ []))),
+    )

@@ -21,9 +21,7 @@ use crate::versions::TextVersion;
 use std::alloc::Global;
 use tx_base::{NoMemory, Step};
 use tx_journal::Session;
-use tx_json::{
-    Holder, lines_answer, position_answer, state_answer, trial_answer, why_answer,
-};
+use tx_json::{Holder, lines_answer, position_answer, state_answer, trial_answer, why_answer};
 use tx_lines::Command;
 
 /// Does what is asked for, and answers it as JSON.
