@@ -24,7 +24,7 @@ use Rattle.tx_shell.specs.Answers.{ask_tokens, tried_text, AnswersAsk, AnswersAs
 use Rattle.tx_shell.specs.Asks.{IsToldByLines}
 use Rattle.tx_shell.specs.Changes.{shown_at, TellsNext}
 use Rattle.tx_shell.specs.Differences.{views_differing}
-use Rattle.tx_shell.specs.Holders.{other_holders}
+use Rattle.tx_shell.specs.Holders.{awaited_holders}
 use Rattle.tx_shell.specs.Origins.{start_in, Origin}
 use Rattle.tx_shell.specs.Places.{origin_of, place_of, Place}
 use Rattle.tx_shell.specs.Reasons.{TellsWhy}
@@ -165,11 +165,11 @@ module _ (version : TextVersion) (refused : Option Step) (k : SessionState) wher
   }
 
   -- who could end the wait of the step, there
-  held_there : (step : Step) → other_holders (view (start_of k) (history_of (made_of k))) step ≡ other_holders (view (start_of k) (first_steps (position_of k) (history_of k.entries))) step
-  held_there step = ap (λ (h : List Accepted). other_holders (view (start_of k) h) step) there
+  held_there : (step : Step) → awaited_holders (view (start_of k) (history_of (made_of k))) step ≡ awaited_holders (view (start_of k) (first_steps (position_of k) (history_of k.entries))) step
+  held_there step = ap (λ (h : List Accepted). awaited_holders (view (start_of k) h) step) there
 
   pub why_told : (step : Step) (at : ℕ) (lines text : List ℕ) (held : Option (List Holder)) → at ≡ position_of k → TellsWhy (start_of k) (first_steps (position_of k) (history_of k.entries)) step lines →
-      held ≡ other_holders (view (start_of k) (history_of (made_of k))) step → IsLineOf (why_answer at lines held) text → AnswersAskJson (origin_of version k) (place_of k) refused (asks.Why step) text (place_of k)
+      held ≡ awaited_holders (view (start_of k) (history_of (made_of k))) step → IsLineOf (why_answer at lines held) text → AnswersAskJson (origin_of version k) (place_of k) refused (asks.Why step) text (place_of k)
   why_told step at lines text held here why who line = record {
     told = lines;
     answers = (why, refl);
@@ -177,7 +177,7 @@ module _ (version : TextVersion) (refused : Option Step) (k : SessionState) wher
   }
 
   pub last_told : (step : Step) (at : ℕ) (lines text : List ℕ) (held : Option (List Holder)) → at ≡ position_of k → TellsWhy (start_of k) (first_steps (position_of k) (history_of k.entries)) step lines →
-      held ≡ other_holders (view (start_of k) (history_of (made_of k))) step → IsLineOf (why_answer at lines held) text →
+      held ≡ awaited_holders (view (start_of k) (history_of (made_of k))) step → IsLineOf (why_answer at lines held) text →
       AnswersAskJson (origin_of version k) (place_of k) (Some step) asks.WhyRefused text (place_of k)
   last_told step at lines text held here why who line = record {
     told = lines;

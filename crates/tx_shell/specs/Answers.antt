@@ -25,7 +25,7 @@ use Rattle.tx_shell.specs.Changes.{shown_at, TellsLast, TellsNext}
 use Rattle.tx_shell.specs.Differences.{views_differing}
 use Rattle.tx_shell.specs.Forms.{SaysAhead, SaysReply, TellsIn}
 use Rattle.tx_shell.specs.Helps.{HelpsOn}
-use Rattle.tx_shell.specs.Holders.{other_holders}
+use Rattle.tx_shell.specs.Holders.{awaited_holders}
 use Rattle.tx_shell.specs.Journals.{schedule_so_far, steps_listed, steps_made}
 use Rattle.tx_shell.specs.Origins.{Origin, start_in}
 use Rattle.tx_shell.specs.Owners.{or_no_transaction, owner_line, owner_lines}
@@ -121,7 +121,7 @@ pub record IsAskLine (o : Origin) (words : List ℕ) (ask : Ask) : Type 0 where
 -- who could end the wait of the step that was refused last
 abbrev pub last_holders : View → Option Step → Option (List Holder)
 last_holders V None = None
-last_holders V (Some step) = other_holders V step
+last_holders V (Some step) = awaited_holders V step
 
 -- what JSON has of what is asked for: of a state the state, of a step that is tried its reply and the lines that differ, of why a step is refused its lines
 -- and who could end its wait, of a cut the position; of all else the lines of the text
@@ -129,7 +129,7 @@ abbrev pub ask_tokens : Origin → Place → Option Step → Ask → List ℕ �
 ask_tokens o p refused (asks.Walk commands.State) told at = state_answer at (view_at o p)
 ask_tokens o p refused (asks.Try step) told at =
     trial_answer at (answer (view_at o p) step) (views_differing (view_at o p) (view_with (start_in o) (first_steps p.at p.history) step))
-ask_tokens o p refused (asks.Why step) told at = why_answer at told (other_holders (view_at o p) step)
+ask_tokens o p refused (asks.Why step) told at = why_answer at told (awaited_holders (view_at o p) step)
 ask_tokens o p refused asks.WhyRefused told at = why_answer at told (last_holders (view_at o p) refused)
 ask_tokens o p refused asks.Cut told at = position_answer at
 ask_tokens o p refused ask told at = lines_answer at told

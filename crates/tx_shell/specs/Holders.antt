@@ -2,10 +2,14 @@
 use Rattle.std.specs.Prelude.{ℕ, zero, suc, ◌+◌, Bool, false, List, [], ◌∷◌, ◌++◌, Option, Some, None, codes, option_map, slice_index_or, if◌then◌else◌}
 use Rattle.std.specs.Fmt.{decimal}
 use Rattle.tx_base.specs.declared.limits.TheConstants.{DESCRIPTORS}
+use Rattle.tx_base.specs.declared.steps.Refusal.TheVariants.{Wait}
+use Rattle.tx_base.specs.declared.steps.Reply.{Reply}
+use Rattle.tx_base.specs.declared.steps.Reply.TheVariants.{No}
 use Rattle.tx_base.specs.declared.steps.Step.{Step}
 use Rattle.tx_base.specs.declared.steps.Step.TheVariants as steps
 use Rattle.tx_base.specs.declared.steps.Call.TheVariants as calls
 use Rattle.tx_json.specs.declared.holders.Holder.{Holder}
+use Rattle.tx_model.specs.Answer.{answer}
 use Rattle.tx_model.specs.Book.{is_read_side, is_write_side}
 use Rattle.tx_model.specs.Descriptors.{is_side}
 use Rattle.tx_model.specs.Footprints.{footprint}
@@ -64,9 +68,17 @@ module _ (V : View) (step : Step) where
   abbrev pub side_holders : Side → List Holder
   side_holders side = each_below (named_holders side) (limit_of Pipes)
 
-  -- who could end a wait of the step, where it reads or writes
+  -- who has the other side of its pipe open, where it reads or writes
   abbrev pub other_holders : Option (List Holder)
   other_holders = option_map side_holders (other_side step)
+
+  -- who could end its wait, where it is answered that it waits
+  abbrev pub awaited_by : Reply → Option (List Holder)
+  awaited_by (No Wait) = other_holders
+  awaited_by reply = None
+
+  abbrev pub awaited_holders : Option (List Holder)
+  awaited_holders = awaited_by (answer V step)
 
 -- the word for a side
 abbrev pub side_word : Side → List ℕ

@@ -8,7 +8,7 @@ ghost use Rattle.tx_journal.specs.Sessions.{start_of};
 ghost use Rattle.tx_model.specs.State.{Sending};
 ghost use Rattle.tx_model.specs.View.{present};
 ghost use Rattle.tx_proc.specs.Parts.{process_in};
-ghost use Rattle.tx_shell.specs.Holders.{holder_at, holder_text, holders, holders_in, holders_line, is_end, named_by};
+ghost use Rattle.tx_shell.specs.Holders.{awaited_by, holder_at, holder_text, holders, holders_in, holders_line, is_end, named_by};
 ghost use Rattle.tx_shell.specs.Holders.{named_holders, names_end, next_text, other_holders, other_side, side_holders, side_word};
 ghost use Rattle.tx_shell.specs.Kinds.{limit_of};
 ghost use Rattle.tx_shell.specs.Places.{view_at};
@@ -18,7 +18,7 @@ ghost use Rattle.tx_text.specs.Each.{each_text};
 use crate::blockers::names;
 use crate::kinds::Kind;
 use std::alloc::{AllocError, Global};
-use tx_base::{Call, DESCRIPTORS, DescNo, NoMemory, Pid, Step};
+use tx_base::{Call, DESCRIPTORS, DescNo, NoMemory, Pid, Refusal, Reply, Step};
 use tx_change::Parts;
 use tx_desc::{Opened, Side};
 use tx_journal::Session;
@@ -26,11 +26,31 @@ use tx_json::Holder;
 use tx_lines::{put, put_count};
 use tx_proc::Proc;
 
-/// Each descriptor that is open for the other side of the pipe that a step reads or writes, by rising
-/// processes and descriptors: those that could end its wait. Nothing where the step does neither.
+/// Each descriptor by which the wait of a step could end that would get this reply: those that are open
+/// for the other side of the pipe that it reads or writes, by rising processes and descriptors. Nothing
+/// where it does not wait so.
 ///
 /// NoMemory where a growth is refused.
-pub fn other_holders(
+pub fn awaited_holders(
+    alloc: Global,
+    session: &Session,
+    step: &Step,
+    reply: &Reply,
+) -> Result<Option<Vec<Holder>>, NoMemory>
+    ensures { IfOk result (λ found. option_map (λ held. held.items) found
+        ≡ awaited_by (view_at session.now) step.now reply.now) }
+{
+    match reply {
+        Reply::No(Refusal::Wait) => other_holders(alloc, session, step),
+        _ => Ok(None),
+    }
+}
+
+/// Each descriptor that is open for the other side of the pipe that a step reads or writes. Nothing where
+/// it does neither.
+///
+/// NoMemory where a growth is refused.
+fn other_holders(
     alloc: Global,
     session: &Session,
     step: &Step,

@@ -14,8 +14,8 @@ ghost use Rattle.tx_shell.specs.declared.versions.TextVersion.{TextVersion as Th
 
 use crate::answers::answer_as_text;
 use crate::asks::Ask;
-use crate::holders::other_holders;
-use crate::reasons::{tell_refused, tell_why};
+use crate::holders::awaited_holders;
+use crate::reasons::{tell_refused, why_text};
 use crate::trials::try_at;
 use crate::versions::TextVersion;
 use std::alloc::Global;
@@ -135,8 +135,9 @@ fn tell_reason(alloc: Global, session: &mut Session, step: &Step) -> Result<Stri
         asks.WhyRefused (string_bytes text) (place_of session.old)) }
     ensures same { session.new ≡ session.old }
 {
-    let text = tell_why(alloc, session, step)?;
-    let holders = other_holders(alloc, session, step)?;
+    let reply = session.reply_to(alloc, step)?;
+    let text = why_text(alloc, session, step, &reply)?;
+    let holders = awaited_holders(alloc, session, step, &reply)?;
     why_line(alloc, session.position(), text.as_str(), &holders)
 }
 

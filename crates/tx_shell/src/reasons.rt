@@ -3,6 +3,7 @@ ghost use Rattle.std.specs.Prelude.{◌≡◌, ◌++◌, ℕ, IfOk, List, OnOk, 
 ghost use Rattle.tx_explain.specs.Calls.{refusal_word};
 ghost use Rattle.tx_journal.specs.Entries.{history_of};
 ghost use Rattle.tx_journal.specs.Sessions.{made_of, position_of, start_of};
+ghost use Rattle.tx_lines.specs.Lines.{step_text};
 ghost use Rattle.tx_script.specs.Debug.{first_steps};
 ghost use Rattle.tx_shell.specs.Reasons.{answered_text, busy_lines, fact_lines, refusal_in, TellsReason, TellsRefusal, TellsRefused, TellsReply, TellsWhy};
 
@@ -26,9 +27,26 @@ pub fn tell_why(alloc: Global, session: &mut Session, step: &Step) -> Result<Str
     ensures same { session.new ≡ session.old }
 {
     let reply = session.reply_to(alloc, step)?;
+    why_text(alloc, session, step, &reply)
+}
+
+/// Why a step would get this reply.
+///
+/// NoMemory where a growth is refused.
+pub fn why_text(
+    alloc: Global,
+    session: &Session,
+    step: &Step,
+    reply: &Reply,
+) -> Result<String, NoMemory>
+    ensures { IfOk result (λ text. (behind : List ℕ)
+        × (string_bytes text ≡ step_text step.now ++ behind)
+        × TellsReply (start_of session.now) (history_of (made_of session.now)) step.now reply.now
+        behind) }
+{
     let mut text = String::new(alloc);
     put_step(&mut text, step)?;
-    put_behind(alloc, &mut text, session, step, &reply)?;
+    put_behind(alloc, &mut text, session, step, reply)?;
     Ok(text)
 }
 
