@@ -1,10 +1,12 @@
 -- What is appended part by part.
-use Rattle.std.proofs.Common.{◌≡◌, ◌<◌, ℕ, zero, suc, ap, sym, arith, subst, List, [], ◌∷◌, ◌++◌, ◌∙◌, refl, append_assoc, codes, Result, Ok, Err, OnOk}
+use Rattle.std.proofs.Common.{◌≡◌, ◌<◌, ℕ, zero, suc, ap, sym, arith, subst, List, [], ◌∷◌, ◌++◌, length, ◌∙◌, refl, append_assoc, codes, Result, Ok, Err, OnOk}
 use Rattle.std.specs.Fmt.{decimal}
 use Rattle.std.specs.Prelude.{All}
 use Rattle.std.proofs.lemmas.List.Elements.{All-append}
 use Rattle.tx_lines.specs.Schedule.{lines_of}
 use Rattle.tx_check.specs.Numbered.{line_at}
+use Rattle.tx_check.specs.Speaking.{line_sentence, SpeaksAt}
+use Rattle.tx_check.specs.declared.trouble.LineTrouble.TheVariants.{TooLong}
 use Rattle.tx_check.specs.Told.{last_line, told_text, AreRising, IsColumn, IsInLine, IsTold, IsToldIn, IsWrongOwn, Tells, TellsOn, TellsUpTo, Told}
 
 parts_append : (old a b c d e s n : List ℕ) → ((((((old ++ a) ++ b) ++ c) ++ d) ++ e) ++ s) ++ n ≡ old ++ ((a ++ (b ++ (c ++ (d ++ (e ++ s))))) ++ n)
@@ -15,15 +17,15 @@ parts_appended : (old a b c d e s n t1 t2 t3 t4 t5 t6 new : List ℕ) → t1 ≡
 parts_appended old a b c d e s n t1 t2 t3 t4 t5 t6 new e1 e2 e3 e4 e5 e6 e7 = rw (e7, e6, e5, e4, e3, e2, e1) (parts_append old a b c d e s n)
 
 -- a line of what is told, part by part
-pub told_appended : {A E : Type 0} (result : Result A E) (number column : ℕ) (bytes old sentence t1 t2 t3 t4 t5 t6 new : List ℕ) → IsColumn bytes column → IsInLine sentence → t1 ≡ old ++ codes "line " → t2 ≡ t1 ++ decimal number
+pub told_appended : {A E : Type 0} (result : Result A E) (number column : ℕ) (bytes old sentence t1 t2 t3 t4 t5 t6 new : List ℕ) → IsColumn bytes column → IsInLine sentence → SpeaksAt bytes column sentence → (512 < length bytes → sentence ≡ line_sentence TooLong) → t1 ≡ old ++ codes "line " → t2 ≡ t1 ++ decimal number
     → t3 ≡ t2 ++ codes ", column " → t4 ≡ t3 ++ decimal column → t5 ≡ t4 ++ codes ": " → t6 ≡ t5 ++ sentence → OnOk result (new ≡ t6 ++ codes "\n") → OnOk result (Tells number bytes old new)
-told_appended (Ok value) number column bytes old sentence t1 t2 t3 t4 t5 t6 new some in_line e1 e2 e3 e4 e5 e6 e7 = record {
+told_appended (Ok value) number column bytes old sentence t1 t2 t3 t4 t5 t6 new some in_line speaks long e1 e2 e3 e4 e5 e6 e7 = record {
   told = record { line = number; column = column; sentence = sentence };
   at = refl;
-  good = record { column = some; in_line = in_line };
+  good = record { column = some; in_line = in_line; speaks = speaks; long = long };
   more = parts_appended old (codes "line ") (decimal number) (codes ", column ") (decimal column) (codes ": ") sentence (codes "\n") t1 t2 t3 t4 t5 t6 new e1 e2 e3 e4 e5 e6 e7;
 }
-told_appended (Err error) number column bytes old sentence t1 t2 t3 t4 t5 t6 new some in_line e1 e2 e3 e4 e5 e6 e7 = tt
+told_appended (Err error) number column bytes old sentence t1 t2 t3 t4 t5 t6 new some in_line speaks long e1 e2 e3 e4 e5 e6 e7 = tt
 
 all_one : (P : Told → Type 0) (x : Told) → P x → All P (x ∷ [])
 all_one P x holds zero d below = holds

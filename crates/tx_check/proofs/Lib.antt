@@ -20,10 +20,13 @@ pub mod ProgramTexts
 pub mod ReadOrFaulty
 pub mod ReadTexts
 pub mod SameHeaders
+pub mod SessionTold
 pub mod ShortLines
 pub mod ShortWords
 pub mod SoFar
 pub mod SoFarMore
+pub mod SaidWords
+pub mod Spoken
 pub mod Standing
 pub mod SteppedTexts
 pub mod ToldFor

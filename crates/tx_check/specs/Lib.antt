@@ -9,6 +9,7 @@ pub mod Readers
 pub mod Reads
 pub mod Right
 pub mod Sessions
+pub mod Speaking
 pub mod Stands
 pub mod Told
 pub mod Wrong

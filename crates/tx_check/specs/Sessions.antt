@@ -1,12 +1,14 @@
 -- What is told of a line of a session.
 use Rattle.std.specs.Prelude.{◌≡◌, ℕ, List, [], ◌∷◌, ◌++◌, codes}
 use Rattle.std.specs.Fmt.{decimal}
+use Rattle.tx_check.specs.Speaking.{SpeaksAt}
 use Rattle.tx_check.specs.Told.{IsColumn, IsInLine}
 
--- a column of the line is told, and a sentence
+-- a column of the line is told, and a sentence that speaks of the word there
 pub record IsSessionTold (line text : List ℕ) : Type 0 where
   pub column : ℕ
   pub sentence : List ℕ
   pub inside : IsColumn line column
   pub in_line : IsInLine sentence
+  pub speaks : SpeaksAt line column sentence
   pub spelled : text ≡ codes "column " ++ (decimal column ++ (codes ": " ++ (sentence ++ 10 ∷ [])))

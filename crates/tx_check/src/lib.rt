@@ -31,6 +31,7 @@ mod laws;
 mod meanings;
 mod near;
 mod own;
+mod placed;
 mod places;
 mod reader_faults;
 mod readers;

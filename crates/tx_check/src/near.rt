@@ -38,7 +38,9 @@ pub fn near_name<'a>(
         Names::Commands => nearest_name(alloc, COMMANDS.as_slice(), word),
         Names::Pieces => nearest_name(alloc, PIECES.as_slice(), word),
         Names::Session => nearest_in_session(alloc, word),
-        Names::Labels(text) => nearest_label(alloc, text, word),
+        Names::Labels(text) => {
+            nearest_label(alloc, text, word.strip_prefix(b"@").unwrap_or(word))
+        }
     }
 }
 

@@ -91,12 +91,25 @@ fn own_column(line: &[u8], own: &[u8], column: usize) -> usize
     if line == own {
         return column;
     }
-    let place = count_words(&line[..column - 1]) - 1;
-    match own_word(own, place) {
+    let front = &line[..column - 1];
+    match own_word(own, count_words(front) - 1) {
         Some(word) if column > line.len() => word.column + word.bytes.len(),
-        Some(word) => word.column,
+        Some(word) => word.column + last_word(front).min(word.bytes.len()),
         None => 1,
     }
+}
+
+/// How many bytes the last word of a line has.
+fn last_word(line: &[u8]) -> usize {
+    let mut length: usize = 0;
+    for byte in line {
+        length = if *byte == b' ' {
+            0
+        } else {
+            length.saturating_add(1)
+        };
+    }
+    length
 }
 
 /// The word at that place of a line that a person wrote. Places count from 0.

@@ -1,5 +1,6 @@
 //! Tells of a line of a session what is wrong with it.
 ghost use Rattle.std.specs.Prelude.{◌≡◌, ◌≤◌, [], IfOk, IfSome, OnOk, length, string_bytes};
+ghost use Rattle.tx_check.specs.Speaking.{SpeaksAt};
 ghost use Rattle.tx_check.specs.Sessions.{IsSessionTold};
 ghost use Rattle.tx_check.specs.Told.{IsColumn, IsInLine};
 
@@ -12,6 +13,7 @@ use crate::diagnose::shapes::shape_trouble;
 use crate::diagnose::steps::step_trouble;
 use crate::kinds::front_word;
 use crate::own::own_trouble;
+use crate::placed::placed;
 use crate::places::Part;
 use crate::sentences::sentence;
 use crate::session::asks::ask_trouble;
@@ -41,6 +43,7 @@ pub fn session_line(
 {
     let mut room = Room::new();
     let trouble = session_trouble(is_third, version, line, &mut room);
+    let trouble = placed(line, trouble);
     let words = sentence(alloc, &trouble.what)?;
     let mut told = String::new(alloc);
     put_column(&mut told, line, trouble.column as u64, words.as_str())?;
@@ -52,6 +55,7 @@ fn put_column(told: &mut String, line: &[u8], column: u64, sentence: &str) -> Re
     requires empty { string_bytes told.old ≡ [] }
     requires column { IsColumn line.now column }
     requires sentence { IsInLine sentence.now }
+    requires speaks { SpeaksAt line.now column sentence.now }
     ensures { OnOk result (IsSessionTold line.now (string_bytes told.new)) }
 {
     put(told, "column ")?;

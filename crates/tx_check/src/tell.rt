@@ -1,7 +1,10 @@
 //! Puts what is told of lines behind one another.
-ghost use Rattle.std.specs.Prelude.{◌≡◌, ◌≤◌, ◌++◌, ◌∷◌, [], OnOk, string_bytes};
-ghost use Rattle.tx_check.specs.Told.{told_text, IsColumn, IsInLine, Tells};
+ghost use Rattle.std.specs.Prelude.{◌≡◌, ◌<◌, OnOk, length, string_bytes};
+ghost use Rattle.tx_check.specs.Speaking.{line_sentence, SpeaksAt};
+ghost use Rattle.tx_check.specs.Told.{IsColumn, IsInLine, Tells};
+ghost use Rattle.tx_check.specs.declared.trouble.LineTrouble.TheVariants as troubles;
 
+use crate::placed::placed;
 use crate::places::TextLine;
 use crate::sentences::sentence;
 use crate::trouble::Trouble;
@@ -21,6 +24,7 @@ pub fn tell(
     ensures { OnOk result (Tells line.entry.number line.entry.bytes.now (string_bytes told.old)
         (string_bytes told.new)) }
 {
+    let trouble = placed(line.bytes, trouble);
     let words = sentence(alloc, &trouble.what)?;
     put_told(told, line, trouble.column as u64, words.as_str())?;
     Ok(())
@@ -35,6 +39,8 @@ fn put_told(
 ) -> Result<(), AllocError>
     requires column { IsColumn line.bytes.now column }
     requires sentence { IsInLine sentence.now }
+    requires speaks { SpeaksAt line.bytes.now column sentence.now }
+    requires long { 512 < length line.bytes.now → sentence.now ≡ line_sentence troubles.TooLong }
     ensures { OnOk result (Tells line.entry.number line.entry.bytes.now (string_bytes told.old)
         (string_bytes told.new)) }
 {

@@ -19,7 +19,7 @@ pub fn third_what<'a>(part: Part, line: &'a [u8], trouble: Trouble<'a>) -> What<
 {
     match trouble.what {
         What::Word(_word, _wrong) => word_what(part, line, trouble),
-        What::NoSignal(_word) => word_what(part, line, trouble),
+        What::NoSignal(_) | What::NoSignalIn { .. } => word_what(part, line, trouble),
         what => what,
     }
 }

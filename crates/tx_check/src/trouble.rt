@@ -1,8 +1,12 @@
 //! What is wrong with a line, and in which column.
-ghost use Rattle.std.specs.Prelude.{◌≡◌};
+ghost use Rattle.std.specs.Prelude.{◌≡◌, true, option_map};
+ghost use Rattle.tx_check.specs.Speaking.{is_front, word_of};
+ghost use Rattle.tx_check.specs.Speaking as spec;
 ghost use Rattle.tx_check.specs.Told.{IsInLine};
+ghost use Rattle.tx_check.specs.declared.trouble.What.TheVariants as whats;
 
 use crate::forms::Form;
+use crate::habits::left_out;
 use crate::words::Word;
 use tx_plain::MeantLines;
 
@@ -47,10 +51,15 @@ pub enum What<'a> {
         word: &'a [u8],
         choices: &'static [u8],
     },
-    /// Characters where their bytes are wanted in hex.
+    /// A word of characters where their bytes are wanted in hex.
     InHex(&'a [u8]),
-    /// A number in a set that is no signal's.
+    /// A word that is no signal's name or number.
     NoSignal(&'a [u8]),
+    /// A set with a member that is none.
+    NoSignalIn {
+        set: &'a [u8],
+        member: &'a [u8],
+    },
     /// A label whose name stands in an earlier line.
     SecondLabel {
         name: &'a [u8],
@@ -150,10 +159,56 @@ pub enum ThirdTrouble {
     Twice,
 }
 
+impl<'a> What<'a> {
+    /// The word of which the sentence speaks.
+    pub fn word(&self) -> Option<&'a [u8]>
+        ensures { option_map (λ word. word.now) result ≡ word_of self.now }
+    {
+        match self {
+            What::Word(word, _) | What::Third(word, _) | What::NoSuch(_, word) => Some(word),
+            What::Takes { name, .. } | What::SecondLabel { name, .. } => Some(name),
+            What::LineAlone(word, _) | What::CallAlone(word, _) => Some(word),
+            What::OutOfRange { word, .. } | What::NoneOf { word, .. } => Some(word),
+            What::InHex(word) | What::NoSignal(word) => Some(word),
+            What::NoSignalIn { set, .. } => Some(set),
+            What::Line(_) | What::OddByte(_) => None,
+        }
+    }
+
+    /// What is said before the word.
+    pub fn front(&self) -> &'static str
+        ensures front { is_front result.now ≡ true }
+        ensures in_line { IsInLine result.now }
+    {
+        match self {
+            What::NoSuch(names, word) if left_out(*names, word).is_none() => names.front(),
+            What::NoSignal(_) => "there is no signal ",
+            What::SecondLabel { .. } => "label ",
+            _ => "",
+        }
+    }
+}
+
+impl Names<'_> {
+    /// What is said before a name that is none of those.
+    fn front(&self) -> &'static str
+        ensures front { is_front result.now ≡ true }
+        ensures in_line { IsInLine result.now }
+    {
+        match self {
+            Names::Calls | Names::Instructions => "no such call: ",
+            Names::Commands | Names::Session => "no such command: ",
+            Names::Pieces => "no such piece: ",
+            Names::Labels(_text) => "no such label: ",
+        }
+    }
+}
+
 impl Trouble<'_> {
     /// That trouble with a line as a whole.
     pub fn of_line(column: usize, trouble: LineTrouble) -> Trouble<'static>
-        ensures { result.column ≡ column }
+        ensures column { result.column ≡ column }
+        ensures line { result.what ≡ whats.Line trouble }
     {
         Trouble {
             column,
@@ -175,7 +230,8 @@ impl Trouble<'_> {
 impl LineTrouble {
     /// The sentence that tells it.
     pub fn sentence(self) -> &'static str
-        ensures { IsInLine result.now }
+        ensures is { result.now ≡ spec.line_sentence self }
+        ensures in_line { IsInLine result.now }
     {
         match self {
             LineTrouble::TooLong => "the line has more than 512 bytes",
@@ -203,7 +259,8 @@ impl LineTrouble {
 
     /// The sentence that tells it, where it is about what stands in another place or text.
     fn misplaced(self) -> &'static str
-        ensures { IsInLine result.now }
+        ensures is { result.now ≡ spec.misplaced_sentence self }
+        ensures in_line { IsInLine result.now }
     {
         match self {
             LineTrouble::DeferIsLater => {
@@ -225,7 +282,8 @@ impl LineTrouble {
 
     /// The sentence that tells it, where it is about a session.
     fn of_session(self) -> &'static str
-        ensures { IsInLine result.now }
+        ensures is { result.now ≡ spec.session_sentence self }
+        ensures in_line { IsInLine result.now }
     {
         match self {
             LineTrouble::NoSessionHeader => {
@@ -242,7 +300,8 @@ impl LineTrouble {
 
     /// The sentence that tells it, where it is about the command that is to read the text.
     fn of_reader(self) -> &'static str
-        ensures { IsInLine result.now }
+        ensures is { result.now ≡ spec.reader_sentence self }
+        ensures in_line { IsInLine result.now }
     {
         match self {
             LineTrouble::ProgramHere => "this is a program, for txos run; a schedule is wanted",

@@ -16,22 +16,16 @@ pub fn bytes_trouble<'a>(word: Word<'a>) -> Option<Trouble<'a>>
     if read_bytes(word.bytes, &mut ArrayVec::new()) {
         return None;
     }
-    if let Some(characters) = quoted(word.bytes) {
+    if word.bytes.starts_with(b"\"") {
         return Some(Trouble {
             column: word.column,
-            what: What::InHex(characters),
+            what: What::InHex(word.bytes),
         });
     }
     if word.bytes.starts_with(b"'") {
         return Some(Trouble::of_word(word, WordTrouble::SingleQuotes));
     }
     Some(Trouble::of_word(word, digits_trouble(word.bytes)))
-}
-
-/// The characters of a word that begins with a quotation mark, and may end with one.
-fn quoted(word: &[u8]) -> Option<&[u8]> {
-    let behind = word.strip_prefix(b"\"".as_slice())?;
-    Some(behind.strip_suffix(b"\"".as_slice()).unwrap_or(behind))
 }
 
 /// What is wrong with the digits of a word that is no bytes.

@@ -52,7 +52,7 @@ pub fn link_trouble<'a>(
             if text.place_of(name).is_none() {
                 return Some(Trouble {
                     column: word.column,
-                    what: What::NoSuch(Names::Labels(lines), name),
+                    what: What::NoSuch(Names::Labels(lines), word.bytes),
                 });
             }
         }

@@ -44,11 +44,11 @@ fn in_members(word: &[u8]) -> What<'_> {
 /// The signal that a word in a set names, or what is wrong with it.
 fn member<'a>(set: &'a [u8], word: &'a [u8]) -> Result<u8, What<'a>> {
     if word.starts_with(b"SIG") {
-        return Err(What::Word(word, WordTrouble::SignalName));
+        return Err(What::Word(set, WordTrouble::SignalName));
     }
     match read_byte(word) {
         Some(signo) if is_known(Signo(signo)) => Ok(signo),
-        Some(_signo) => Err(What::NoSignal(word)),
+        Some(_signo) => Err(What::NoSignalIn { set, member: word }),
         None => Err(What::Word(set, WordTrouble::NoSet)),
     }
 }

@@ -30,5 +30,5 @@ fn member_what<'a>(set: &'a [u8], member: &'a [u8]) -> Option<What<'a>> {
     if signal(member).is_some() {
         return None;
     }
-    Some(What::NoSignal(member))
+    Some(What::NoSignalIn { set, member })
 }

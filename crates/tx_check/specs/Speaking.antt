@@ -1,0 +1,147 @@
+-- What is said of a line, and of a word of it.
+use Rattle.std.specs.Prelude.{◌≡◌, ◌<◌, ℕ, ◌+◌, Bool, true, ◌||◌, List, [], ◌∷◌, ◌++◌, length, map, take, nat_eq, nat_lt, codes, Option, Some, None, if◌then◌else◌}
+use Rattle.std.specs.Char.{is_ascii_graphic}
+use Rattle.std.specs.Fmt.{decimal}
+use Rattle.std.specs.Str.{bytes_eq}
+use Rattle.tx_check.specs.declared.trouble.LineTrouble.{LineTrouble}
+use Rattle.tx_check.specs.declared.trouble.LineTrouble.TheVariants.{TooLong, TooManySteps, TooManyCommands, TooManyInstructions, TooManyLabels, NoEnd, CarriageReturn, ByteOrderMark, Comment, OtherComment, Empty, Space, NoHeader, NoCall, DeferIsLater, MovedIsLater, CommandTooSoon, DebugAgain, LabelInSchedule, StepInProgram, DebugInProgram, StepAmongCommands, NoSessionHeader, HeaderLate, ProgramInSession, DebugInSession, NoStep, NeitherStepNorCommand, ProgramHere, ScheduleHere, CommandsHere, NoCommands, TooManyToDraw}
+use Rattle.tx_check.specs.declared.trouble.What.{What}
+use Rattle.tx_check.specs.declared.trouble.What.TheVariants as whats
+
+-- the sentences about lines: about the command that is to read the text, about sessions, about what stands in a wrong place, and all of them
+abbrev pub reader_sentence : LineTrouble → List ℕ
+reader_sentence ProgramHere = codes "this is a program, for txos run; a schedule is wanted"
+reader_sentence ScheduleHere = codes "this is a schedule, for txos replay; a program is wanted"
+reader_sentence CommandsHere = codes "commands begin here, which only txos debug and json read"
+reader_sentence NoCommands = codes "a line debug is wanted, and commands after it"
+reader_sentence TooManyToDraw = codes "a picture has at most 200 steps"
+reader_sentence trouble = codes "this line is none of the grammar's"
+
+abbrev pub session_sentence : LineTrouble → List ℕ
+session_sentence NoSessionHeader = codes "a session begins with txos 3 schedule N, for 1 to 256 processes"
+session_sentence HeaderLate = codes "a header is only the first line of a session"
+session_sentence ProgramInSession = codes "a session has steps, and no program: schedule"
+session_sentence DebugInSession = codes "a session takes commands without a line debug"
+session_sentence NoStep = codes "this is no step"
+session_sentence NeitherStepNorCommand = codes "neither a step nor a command"
+session_sentence trouble = reader_sentence trouble
+
+abbrev pub misplaced_sentence : LineTrouble → List ℕ
+misplaced_sentence DeferIsLater = codes "sys_xbegin defer is not of version 1: txos 3 in line 1"
+misplaced_sentence MovedIsLater = codes "moved is not of version 1: txos 3 in line 1"
+misplaced_sentence CommandTooSoon = codes "commands come after a line debug"
+misplaced_sentence DebugAgain = codes "commands have begun: debug stands above"
+misplaced_sentence LabelInSchedule = codes "labels are of programs: txos 3 program N in line 1"
+misplaced_sentence StepInProgram = codes "this is a program: its lines name no process"
+misplaced_sentence DebugInProgram = codes "this is a program: txos run --workers N --turns T, and no commands"
+misplaced_sentence StepAmongCommands = codes "commands have begun: steps stand before the line debug"
+misplaced_sentence trouble = session_sentence trouble
+
+abbrev pub line_sentence : LineTrouble → List ℕ
+line_sentence TooLong = codes "the line has more than 512 bytes"
+line_sentence TooManySteps = codes "there are 4,096 steps already"
+line_sentence TooManyCommands = codes "there are 4,096 commands already"
+line_sentence TooManyInstructions = codes "there are 1,024 instructions already"
+line_sentence TooManyLabels = codes "there are 256 labels already"
+line_sentence NoEnd = codes "the last line has no end"
+line_sentence CarriageReturn = codes "the line ends with CR, which only version 3 takes: txos 3 in line 1"
+line_sentence ByteOrderMark = codes "the text begins with a byte-order mark, which must go"
+line_sentence Comment = codes "comments are of version 3 alone: txos 3 in line 1, and # before them"
+line_sentence OtherComment = codes "comments begin with #, in version 3"
+line_sentence Empty = codes "the line is empty, which only version 3 takes: txos 3 in line 1"
+line_sentence Space = codes "words are parted by one space, with none before or after them, but in version 3"
+line_sentence NoHeader = codes "a text begins with txos 3 schedule N or txos 3 program N, for N processes"
+line_sentence NoCall = codes "a call is wanted after the process"
+line_sentence trouble = misplaced_sentence trouble
+
+-- whether a word of a line ends before these bytes: at the line's end, or before a tab, a line's return, a space, or a comment
+abbrev pub ends_word : List ℕ → Bool
+ends_word [] = true
+ends_word (byte ∷ bytes) = nat_eq byte 9 || nat_eq byte 13 || nat_eq byte 32 || nat_eq byte 35
+
+-- the word is at that column of the line; columns count from 1
+pub record IsWordAt (line : List ℕ) (column : ℕ) (word : List ℕ) : Type 0 where
+  pub front : List ℕ
+  pub rest : List ℕ
+  pub parts : line ≡ front ++ (word ++ rest)
+  pub at : column ≡ length front + 1
+  pub ends : ends_word rest ≡ true
+
+-- the byte is at that column
+pub record IsByteAt (line : List ℕ) (column byte : ℕ) : Type 0 where
+  pub front : List ℕ
+  pub rest : List ℕ
+  pub parts : line ≡ front ++ (byte ∷ rest)
+  pub at : column ≡ length front + 1
+
+-- what is said of a byte, and of a word: its first bytes
+abbrev pub shown : ℕ → ℕ
+shown byte = if nat_eq byte 32 || is_ascii_graphic byte then byte else 63
+
+abbrev pub said_word : List ℕ → List ℕ
+said_word word = if nat_lt 48 (length word) then map shown (take 48 word) ++ codes ".." else map shown word
+
+-- what may be said before a word
+abbrev pub is_front : List ℕ → Bool
+is_front front =
+    bytes_eq front [] || bytes_eq front (codes "no such call: ") || bytes_eq front (codes "no such command: ") || bytes_eq front (codes "no such piece: ")
+    || bytes_eq front (codes "no such label: ") || bytes_eq front (codes "there is no signal ") || bytes_eq front (codes "label ")
+
+-- whether the said word ends before these bytes
+abbrev pub is_after : List ℕ → Bool
+is_after [] = true
+is_after (byte ∷ bytes) = nat_eq byte 32 || nat_eq byte 44 || nat_eq byte 58 || nat_eq byte 59
+
+-- the sentence speaks of that word
+pub record SpeaksOf (word sentence : List ℕ) : Type 0 where
+  pub front : List ℕ
+  pub after : List ℕ
+  pub spelled : sentence ≡ front ++ (said_word word ++ after)
+  pub known : is_front front ≡ true
+  pub ends : is_after after ≡ true
+
+-- of that byte
+pub record SpeaksOfByte (byte : ℕ) (sentence : List ℕ) : Type 0 where
+  pub after : List ℕ
+  pub spelled : sentence ≡ codes "byte " ++ (decimal byte ++ after)
+  pub ends : is_after after ≡ true
+
+-- the word of which is spoken
+abbrev pub word_of : What → Option (List ℕ)
+word_of (whats.Line trouble) = None
+word_of (whats.Word word trouble) = Some word.now
+word_of (whats.OddByte byte) = None
+word_of (whats.NoSuch names word) = Some word.now
+word_of (whats.Takes name form got) = Some name.now
+word_of (whats.LineAlone word line) = Some word.now
+word_of (whats.CallAlone word form) = Some word.now
+word_of (whats.OutOfRange word range) = Some word.now
+word_of (whats.Third word trouble) = Some word.now
+word_of (whats.NoneOf word choices) = Some word.now
+word_of (whats.InHex word) = Some word.now
+word_of (whats.NoSignal word) = Some word.now
+word_of (whats.NoSignalIn set member) = Some set.now
+word_of (whats.SecondLabel name line) = Some name.now
+
+-- what a sentence says that is about no word
+abbrev pub SaysOfLine : What → List ℕ → Type 0
+SaysOfLine (whats.Line trouble) sentence = sentence ≡ line_sentence trouble
+SaysOfLine (whats.OddByte byte) sentence = SpeaksOfByte byte sentence
+SaysOfLine what sentence = Unit {0}
+
+-- a line of more than 512 bytes is too long, and no other
+abbrev pub IsTrueOf : LineTrouble → List ℕ → Type 0
+IsTrueOf TooLong line = 512 < length line
+IsTrueOf trouble line = Unit {0}
+
+-- the sentence is about the line as a whole, and true of it; or it speaks of the byte or the word at that column
+pub data SpeaksAt (line : List ℕ) (column : ℕ) (sentence : List ℕ) : Type 0 where
+  OfLine : (trouble : LineTrouble) → IsTrueOf trouble line → sentence ≡ line_sentence trouble → SpeaksAt line column sentence
+  OfByte : (byte : ℕ) → IsByteAt line column byte → SpeaksOfByte byte sentence → SpeaksAt line column sentence
+  OfWord : (word : List ℕ) → IsWordAt line column word → SpeaksOf word sentence → SpeaksAt line column sentence
+
+-- what is told at that column of a line is so, where it is about no word
+abbrev pub IsPlacedInLine : List ℕ → ℕ → What → Type 0
+IsPlacedInLine line column (whats.Line trouble) = IsTrueOf trouble line
+IsPlacedInLine line column (whats.OddByte byte) = IsByteAt line column byte
+IsPlacedInLine line column what = Unit {0}
