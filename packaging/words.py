@@ -68,6 +68,10 @@ class Program:
         usage = re.search(r"^Usage: (.*)", help_text, re.MULTILINE)
         return Command(name, help_text.splitlines()[0], usage[1], rows_of(help_text, "Arguments", "Options"))
 
+    def told_of(self, name, argument):
+        """What the help of a command says of an argument."""
+        return dict(self.command(name).rows).get(argument, "")
+
     def commands(self):
         """All its commands, in the order in which its help lists them."""
         return [self.command(name) for name, _ in rows_of(self.said("help"), "Commands")]
@@ -96,5 +100,6 @@ class Program:
         commands = self.commands()
         words = {it.name: long_options(it.rows) for it in commands}
         words["help"] += [it.name for it in commands]
+        words["check"] += [it.name for it in commands if re.search(rf"\b{it.name}\b", self.told_of("check", "[command]"))]
         words["explain"] += [word for it in self.groups() for word in it.words]
         return words

@@ -30,7 +30,7 @@ help_words() {
     esac
 }
 
-# The words after `replay`, `debug`, `picture`, `check`, `plain` or `version`, or behind those of
+# The words after `replay`, `debug`, `picture`, `plain` or `version`, or behind those of
 # `shell`: there are none.
 lone_words() {
     local command=$1
@@ -46,6 +46,24 @@ lone_words() {
 shell_words() {
     [ "${1-}" != --json ] || shift
     lone_words shell "$@"
+}
+
+# The words after `check`: the command that is to read the text, or none.
+check_words() {
+    local word
+    for word in "$@"; do
+        case $word in
+            -h | --help) tell check ;;
+            --) break ;;
+            -?*) refuse check "'$word' is not understood after check" ;;
+        esac
+    done
+    [ "${1-}" != -- ] || shift
+    case ${1-replay} in
+        replay | debug | run | picture | json) ;;
+        *) refuse check "'$1' is none of replay, debug, run, picture and json" ;;
+    esac
+    [ $# -le 1 ] || [ "$#:$2" = 2:-- ] || refuse check "'$2' is not understood after check"
 }
 
 # The words after `explain`: one, or none. A number may have `-` before it.
@@ -102,8 +120,9 @@ answer_words() {
     case $1 in
         -h | --help) tell txos ;;
         help) help_words "${@:2}" ;;
-        replay | debug | picture | check | plain | version) lone_words "$@" ;;
+        replay | debug | picture | plain | version) lone_words "$@" ;;
         shell) shell_words "${@:2}" ;;
+        check) check_words "${@:2}" ;;
         explain) explain_words "${@:2}" ;;
         -V | --version) tell own_version ;;
         run | json) numbers_words "$@" ;;

@@ -1,16 +1,18 @@
 -- The words of the program's command line.
 use Rattle.std.specs.Char.{is_ascii_digit}
 use Rattle.std.specs.Str.{bytes_eq}
-use Rattle.std.specs.Prelude.{◌≡◌, ◌≢◌, ◌==◌, ◌&&◌, ◌++◌, if◌then◌else◌, Bool, false, None, ℕ, List, [], ◌∷◌, Option, Some, codes, fold, is_some, option_and_then, option_map, pos, true}
+use Rattle.std.specs.Prelude.{◌≡◌, ◌≢◌, ◌==◌, ◌&&◌, ◌++◌, if◌then◌else◌, Bool, false, None, ℕ, List, [], ◌∷◌, Option, Some, codes, fold, is_some, not, option_and_then, option_map, pos, true}
 use Rattle.clap.specs.Simple.{Shape, new_rule, new_shape, on_top}
 use Rattle.clap.specs.Walk.{Rule}
 use Rattle.clap.specs.Words.{App, Row, Text, new_app, one_of, subcommand_of, with_subcommand}
 use Rattle.clap.specs.declared.builder.action.ArgAction.TheVariants.{SetTrue}
 use Rattle.clap.specs.declared.builder.value_parser.ValueParser.TheVariants.{Signed}
+use Rattle.tx_check.specs.declared.readers.Reader.{Reader}
+use Rattle.tx_check.specs.declared.readers.Reader.TheVariants as readers
 use Rattle.tx_shell.specs.declared.forms.Form.{Form}
 use Rattle.tx_shell.specs.declared.forms.Form.TheVariants as forms
 use Rattle.txos.specs.declared.words.Asked.{Asked}
-use Rattle.txos.specs.declared.words.Asked.TheVariants.{Check, Debug, Explain, HalfRun, Json, JsonRun, Picture, Plain, Replay, Run, Shell, Version}
+use Rattle.txos.specs.declared.words.Asked.TheVariants.{Check, Debug, Explain, HalfRun, Json, JsonRun, NoReader, Picture, Plain, Replay, Run, Shell, Version}
 
 -- an option whose value is a number from 1 to that one, and one that is required
 abbrev pub number_option : Text → ℕ → Rule
@@ -45,6 +47,10 @@ json_line = record (new_shape (codes "json")) { rules = number_option (codes "wo
 abbrev pub run_line : Shape
 run_line = record (new_shape (codes "run")) { rules = required_option (codes "workers") 16 ∷ required_option (codes "turns") 10000 ∷ [] }
 
+-- the command that checks a text, with the name of the command that is to read it, which may be missing
+abbrev pub check_line : Shape
+check_line = record (new_shape (codes "check")) { rules = new_rule (codes "command") ∷ [] }
+
 -- the command that explains a word, which may be missing
 abbrev pub explain_line : Shape
 explain_line = record (new_shape (codes "explain")) { rules = new_rule (codes "word") ∷ [] }
@@ -59,7 +65,7 @@ run_commands = shell_line ∷ run_line ∷ []
 
 -- and those about texts and words
 abbrev pub text_commands : List Shape
-text_commands = text_line (codes "check") ∷ text_line (codes "plain") ∷ explain_line ∷ text_line (codes "version") ∷ []
+text_commands = check_line ∷ text_line (codes "plain") ∷ explain_line ∷ text_line (codes "version") ∷ []
 
 abbrev pub commands : List Shape
 commands = schedule_commands ++ run_commands ++ text_commands
@@ -82,7 +88,8 @@ name_of HalfRun = codes "json"
 name_of Picture = codes "picture"
 name_of (Shell form) = codes "shell"
 name_of (Run crew) = codes "run"
-name_of Check = codes "check"
+name_of (Check reader) = codes "check"
+name_of (NoReader word) = codes "check"
 name_of Plain = codes "plain"
 name_of (Explain word) = codes "explain"
 name_of Version = codes "version"
@@ -102,18 +109,39 @@ gives_workers entered = is_some (text_in (codes "workers") entered)
 abbrev pub gives_turns : Option (Text × List Row) → Bool
 gives_turns entered = is_some (text_in (codes "turns") entered)
 
+-- the command that a word names, by which a text can be checked
+abbrev pub reader_named : Text → Option Reader
+reader_named word =
+    if bytes_eq word (codes "replay") then Some readers.Replay
+    else if bytes_eq word (codes "debug") then Some readers.Debug
+    else if bytes_eq word (codes "run") then Some readers.Run
+    else if bytes_eq word (codes "picture") then Some readers.Picture
+    else if bytes_eq word (codes "json") then Some readers.Json
+    else None
+
+-- the command of the text's kind
+abbrev pub is_any : Reader → Bool
+is_any readers.Any = true
+is_any reader = false
+
+-- whether the words give a command by which a text is to be checked
+abbrev pub gives_reader : Option (Text × List Row) → Bool
+gives_reader entered = is_some (text_in (codes "command") entered)
+
 -- JSON is asked for only where the flag has a text other than `false`, and text only where that is not `true`
 abbrev pub IsFormOf : Option Text → Form → Type 0
 IsFormOf said forms.Text = said ≢ Some (codes "true")
 IsFormOf said forms.Json = (said ≢ None) × (said ≢ Some (codes "false"))
 
 -- the form is the one that the flag of the words says; and the JSON of a run is asked for where both of its numbers are given, and that of a schedule
--- where neither is
+-- where neither is; and a text is checked as that of its kind is read where no command is given
 abbrev pub IsAskedIn : Option (Text × List Row) → Asked → Type 0
 IsAskedIn entered (Shell form) = IsFormOf (text_in (codes "json") entered) form
 IsAskedIn entered Json = (gives_workers entered ≡ false) × (gives_turns entered ≡ false)
 IsAskedIn entered (JsonRun crew) = (gives_workers entered ≡ true) × (gives_turns entered ≡ true)
 IsAskedIn entered HalfRun = gives_workers entered ≢ gives_turns entered
+IsAskedIn entered (Check reader) = gives_reader entered ≡ not (is_any reader)
+IsAskedIn entered (NoReader word) = gives_reader entered ≡ true
 IsAskedIn entered asked = Unit {0}
 
 -- `-` and then a digit, and maybe more

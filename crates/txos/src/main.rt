@@ -1,7 +1,7 @@
 //! The program: reads its words, and then a text.
 //!
 //! The program. `main` is thin: it reads the words with `clap`, calls `replay`, `debug`, `write_json`,
-//! `picture`, `talk`, `run_program`, `check` or `write_plain` over the standard streams, or writes what a
+//! `picture`, `talk`, `run_program`, `check_for` or `write_plain` over the standard streams, or writes what a
 //! word means or what a run did as JSON (`runs.rt`), and answers a status.
 #![tactic(auto)]
 
@@ -21,7 +21,7 @@ use std::process::ExitCode;
 use std::sync::Wait;
 use std::thread::Threads;
 use std::{env, io};
-use tx_check::check;
+use tx_check::check_for;
 use tx_explain::{explain, listing, nearest};
 use tx_lines::{Fault, OverRead, OverWrite, Sink, Source, write_whole};
 use tx_picture::picture;
@@ -30,7 +30,7 @@ use tx_report_json::write_json;
 use tx_script::{debug, replay};
 use tx_shell::{Console, Form, Shell, TalkFault, talk};
 use tx_workers::run_program;
-use words::{Asked, Crew, JSON_USAGE, VERSION_LINES, number_asked, read_words};
+use words::{Asked, CHECK_USAGE, Crew, JSON_USAGE, VERSION_LINES, number_asked, read_words};
 
 /// The status of a fault.
 const FAULTY: u8 = 1;
@@ -107,7 +107,8 @@ where
             status_of(rt, run_program(rt, alloc, source, sink, workers, turns))
         }
         Asked::Picture => status_of(rt, picture(alloc, source, sink)),
-        Asked::Check => status_of_check(rt, check(alloc, source, sink)),
+        Asked::Check(reader) => status_of_check(rt, check_for(alloc, reader, source, sink)),
+        Asked::NoReader(word) => no_reader(rt, word),
         Asked::Plain => status_of(rt, write_plain(alloc, source, sink)),
         Asked::Explain(word) => tell(rt, alloc, word, sink),
         Asked::Version => status_of(rt, write_whole(sink, VERSION_LINES.as_bytes())),
@@ -175,6 +176,17 @@ fn half_run(rt: &impl Eprint) -> ExitCode
 {
     let _ = eprintln!(rt; "error: json takes --workers and --turns together, or neither\n");
     let _ = eprintln!(rt; "Usage: {JSON_USAGE}\n");
+    let _ = eprintln!(rt; "For more information, try '--help'.");
+    ExitCode::from(UNREAD)
+}
+
+/// Says that a word names no command by which a text can be checked, in the form of what clap says.
+fn no_reader(rt: &impl Eprint, word: &str) -> ExitCode
+    ensures { exit_status result ≡ UNREAD }
+{
+    let _ = eprintln!(rt; "error: invalid value '{word}' for '[command]'");
+    let _ = eprintln!(rt; "  [possible values: replay, debug, run, picture, json]\n");
+    let _ = eprintln!(rt; "Usage: {CHECK_USAGE}\n");
     let _ = eprintln!(rt; "For more information, try '--help'.");
     ExitCode::from(UNREAD)
 }

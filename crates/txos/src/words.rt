@@ -1,16 +1,17 @@
 //! The words that the program is given.
-ghost use Rattle.std.specs.Prelude.{◌≡◌, IfOk, Some, codes, false, fold, map, option_map, string_bytes};
+ghost use Rattle.std.specs.Prelude.{◌≡◌, IfOk, IfSome, Some, codes, false, fold, map, option_map, string_bytes};
 ghost use Rattle.clap.specs.Words.{FailsBy, app_of, fault_of, subcommand_name_of, subcommand_of, with_subcommand};
 ghost use Rattle.clap.specs.Simple.{subcommand_rows_of};
 ghost use Rattle.clap.specs.Walk.{rule_of};
 ghost use Rattle.clap.specs.declared.builder.command.Command.TheViews.{out-Command};
-ghost use Rattle.txos.specs.CommandLine.{asked_number, begins_negative, command_line, explain_line, json_line};
-ghost use Rattle.txos.specs.CommandLine.{IsAskedIn, IsFormOf, name_of, named, number_behind, number_option, run_line};
+ghost use Rattle.txos.specs.CommandLine.{asked_number, begins_negative, check_line, command_line, explain_line, is_any, json_line};
+ghost use Rattle.txos.specs.CommandLine.{IsAskedIn, IsFormOf, name_of, named, number_behind, number_option, reader_named, run_line};
 ghost use Rattle.txos.specs.CommandLine.{run_commands, schedule_commands, shell_line, text_commands, text_in, text_line, top_line};
 
 use clap::error::Error;
 use clap::{Arg, ArgAction, ArgMatches, Command, value_parser};
 use std::alloc::{AllocError, Global};
+use tx_check::Reader;
 use tx_shell::Form;
 
 /// The version of the program.
@@ -19,6 +20,9 @@ const VERSION: &str = "1.0.0";
 /// What tells the version: the line that clap writes, and the kits in whose logic the program is
 /// proved.
 pub const VERSION_LINES: &str = "txos 1.0.0\nrattle-kit-13b and 13f, logic dac8208d650f15bf\n";
+
+/// How `check` is called.
+pub const CHECK_USAGE: &str = "txos check [command] < FILE";
 
 /// How `json` is called.
 pub const JSON_USAGE: &str = "txos json [OPTIONS] < FILE";
@@ -42,8 +46,11 @@ pub enum Asked<'a> {
     Shell(Form),
     /// To read a program, run it by workers, and write what they did.
     Run(Crew),
-    /// To read a text, and write what is wrong with each of its lines that is at fault.
-    Check,
+    /// To read a text, and write what is wrong with each of its lines that is at fault, as a command reads
+    /// it.
+    Check(Reader),
+    /// To say that a word names no command by which a text can be checked.
+    NoReader(&'a str),
     /// To read a text as people write it, and write the text that it means.
     Plain,
     /// To write what a word means, or the list of all words.
@@ -78,7 +85,7 @@ pub fn read_words<'a>(alloc: Global, words: &'a [String]) -> Result<Asked<'a>, E
         Some("picture") => Ok(Asked::Picture),
         Some("shell") => Ok(Asked::Shell(form_of(&matches))),
         Some("run") => Ok(Asked::Run(crew_of(&matches, "run")?)),
-        Some("check") => Ok(Asked::Check),
+        Some("check") => Ok(check_of(&matches)),
         Some("plain") => Ok(Asked::Plain),
         Some("explain") => Ok(Asked::Explain(word_of(&matches))),
         Some("version") => Ok(Asked::Version),
@@ -154,6 +161,39 @@ fn json_of<'a>(matches: &ArgMatches<'_>) -> Result<Asked<'a>, AllocError>
     }
 }
 
+/// What the words of `check` ask for.
+fn check_of<'a>(matches: &ArgMatches<'a>) -> Asked<'a>
+    requires { subcommand_name_of matches.now ≡ Some (codes "check") }
+    ensures name { name_of result ≡ codes "check" }
+    ensures asked { IsAskedIn (subcommand_rows_of matches.now) result }
+{
+    let Some(check) = matches.subcommand_matches("check") else {
+        unreachable!()
+    };
+    match check.get_str("command") {
+        None => Asked::Check(Reader::Any),
+        Some(word) => match reader_named(word) {
+            Some(reader) => Asked::Check(reader),
+            None => Asked::NoReader(word),
+        },
+    }
+}
+
+/// The command of that name, by which a text can be checked.
+fn reader_named(word: &str) -> Option<Reader>
+    ensures named { result ≡ reader_named word.now }
+    ensures one { IfSome result (λ reader. is_any reader ≡ false) }
+{
+    match word {
+        "replay" => Some(Reader::Replay),
+        "debug" => Some(Reader::Debug),
+        "run" => Some(Reader::Run),
+        "picture" => Some(Reader::Picture),
+        "json" => Some(Reader::Json),
+        _ => None,
+    }
+}
+
 /// The two numbers that the words of a command give. Clap gives no matches of it whose numbers are none.
 fn crew_of(matches: &ArgMatches<'_>, command: &str) -> Result<Crew, AllocError> {
     let given = matches.subcommand_matches(command).ok_or(AllocError)?;
@@ -208,7 +248,7 @@ fn add_texts<'a>(alloc: Global, line: Command<'a>) -> Result<Command<'a>, AllocE
         ≡ fold with_subcommand (app_of line.entry) text_commands) }
 {
     let command = line
-        .subcommand(text_command(alloc, "check", CHECK)?)?
+        .subcommand(check_command(alloc)?)?
         .subcommand(text_command(alloc, "plain", PLAIN)?)?
         .subcommand(explain_command(alloc)?)?
         .subcommand(text_command(alloc, "version", PRINT_VERSION)?)?;
@@ -272,7 +312,7 @@ const RUN: Told = Told {
 
 const CHECK: Told = Told {
     about: "Reads a text from standard input, and says of each line at fault what is wrong",
-    usage: "txos check < FILE",
+    usage: CHECK_USAGE,
     example: "Example: txos check < examples/first.txos",
 };
 
@@ -338,6 +378,17 @@ fn json_command<'a>(alloc: Global) -> Result<Command<'a>, AllocError>
     );
     let command = told_command(alloc, "json", JSON).arg(workers)?;
     command.arg(turns)
+}
+
+/// The command that checks a text, with the command that is to read it, which may be missing.
+fn check_command<'a>(alloc: Global) -> Result<Command<'a>, AllocError>
+    ensures shape { IfOk result (λ command. (app_of command).top ≡ check_line) }
+    ensures local { IfOk result (λ command. (out-Command command).has_globals ≡ false) }
+{
+    let reader = Arg::new(alloc, "command").help(
+        "That is to read it: replay, debug, run, picture or json; none: that of its kind",
+    );
+    told_command(alloc, "check", CHECK).arg(reader)
 }
 
 /// The command that runs a program, with its two numbers, both required.

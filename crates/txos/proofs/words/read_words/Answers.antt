@@ -49,7 +49,7 @@ pub returns-in-Some-check-clause-asked : goal.returns-in-Some-check-clause-asked
 returns-in-Some-check-clause-asked c =
     let name : c.in-Some-check.field-0.now ≡ codes "check" = search rules in
     parse_names _ _ _ c.in_ok-command.ensures c.in_ok-matches.ensures.matches ∙ sym c.subcommand_name.ensures
-    ∙ ap (option_map (λ (s : Bor (List ℕ)). s.now)) c.in-Some-check.is ∙ ap (λ (t : List ℕ). Some t) name
+    ∙ ap (option_map (λ (s : Bor (List ℕ)). s.now)) c.in-Some-check.is ∙ ap (λ (t : List ℕ). Some t) (name ∙ sym c.check_of.ensures.name)
 
 pub returns-in-Some-explain-clause-asked : goal.returns-in-Some-explain-clause-asked
 returns-in-Some-explain-clause-asked c =
@@ -108,6 +108,11 @@ pub returns-in-Some-shell-clause-form : goal.returns-in-Some-shell-clause-form
 returns-in-Some-shell-clause-form c =
     subst (λ (rows : Option (Text × List Row)). IsFormOf (text_in (codes "json") rows) c.form_of.result)
     (sym (parse_rows _ _ _ c.in_ok-command.ensures c.in_ok-matches.ensures.matches)) c.form_of.ensures
+
+pub returns-in-Some-check-clause-form : goal.returns-in-Some-check-clause-form
+returns-in-Some-check-clause-form c =
+    subst (λ (rows : Option (Text × List Row)). IsAskedIn rows c.check_of.result)
+    (sym (parse_rows _ _ _ c.in_ok-command.ensures c.in_ok-matches.ensures.matches)) c.check_of.ensures.asked
 
 pub unreachable-requires : goal.unreachable-requires
 unreachable-requires c =
