@@ -10,6 +10,7 @@ pub mod LabelsFound
 pub mod LineParts
 pub mod Linked
 pub mod NamedLabels
+pub mod NearNames
 pub mod NextLines
 pub mod FirstLines
 pub mod KnownLabels

@@ -3,6 +3,7 @@ pub mod Command
 pub mod Kinds
 pub mod Labels
 pub mod Laws
+pub mod Near
 pub mod Numbered
 pub mod OwnLines
 pub mod Readers

@@ -1,4 +1,8 @@
 //! The name that is nearest to a mistyped one.
+ghost use Rattle.std.specs.Prelude.{◌≡◌, ◌<◌, ◌≤◌, ◌++◌, ◌∷◌, [], ℕ, List, map, IfNone, IfOk, IfSome};
+ghost use Rattle.tx_check.specs.Near as spec;
+ghost use Rattle.tx_check.specs.Near.{FindsNear, IsNear};
+
 use crate::forms::{CALLS, COMMANDS, Form, PIECES, SESSION};
 use crate::habits::{call_meant, command_meant, session_meant};
 use crate::trouble::Names;
@@ -83,22 +87,49 @@ fn nearest_in_session(alloc: Global, word: &[u8]) -> Result<Option<NearName<'sta
     Ok(nearest)
 }
 
-/// The nearest of the forms by their names that fewer than so many edits lead to, and how many do.
+/// The nearest of the forms by their names to which fewer than so many edits lead, and how many do:
+/// the first where several are as near.
 fn nearest_form(
     alloc: Global,
     forms: &'static [(&'static str, &'static str)],
     most: usize,
     word: &[u8],
-) -> Result<Option<(Form, usize)>, NoMemory> {
+) -> Result<Option<(Form, usize)>, NoMemory>
+    ensures { IfOk result (FindsNear word.now (map (λ form. form.0.now) forms.now) most) }
+{
     let mut nearest = None;
-    let mut edits = most;
-    for (name, words) in forms {
-        if let Some(fewer) = fewer_edits(alloc, edits, name.as_bytes(), word)? {
-            nearest = Some((Form { name, words }, fewer));
-            edits = fewer;
-        }
+    for at in 0..forms.len() {
+        let (name, words) = forms[at];
+        nearest = nearer(alloc, nearest, Form { name, words }, most, word)?;
     }
     Ok(nearest)
+}
+
+/// The nearest form of those that were looked at, or that one more where fewer edits lead to its name.
+fn nearer(
+    alloc: Global,
+    nearest: Option<(Form, usize)>,
+    form: Form,
+    most: usize,
+    word: &[u8],
+) -> Result<Option<(Form, usize)>, NoMemory>
+    ensures { IfOk result (λ next. (names : List (List ℕ)) → FindsNear word.now names most nearest →
+        FindsNear word.now (names ++ form.name.now ∷ []) most next) }
+{
+    match fewer_edits(alloc, bound(most, nearest), form.name.as_bytes(), word)? {
+        Some(fewer) => Ok(Some((form, fewer))),
+        None => Ok(nearest),
+    }
+}
+
+/// How many edits are too many, where that form was found.
+fn bound(most: usize, nearest: Option<(Form, usize)>) -> usize
+    ensures { result ≡ spec.bound most nearest }
+{
+    match nearest {
+        Some((_form, edits)) => edits,
+        None => most,
+    }
 }
 
 /// The nearest of the names of the labels in a text.
@@ -144,15 +175,20 @@ fn fewer_edits(
     edits: usize,
     name: &[u8],
     word: &[u8],
-) -> Result<Option<usize>, NoMemory> {
-    if name.len().abs_diff(word.len()) >= edits {
+) -> Result<Option<usize>, NoMemory>
+    ensures near { IfOk result (λ found. IfSome found (IsNear word.now name.now)) }
+    ensures fewer { IfOk result (λ found. IfSome found (λ fewer. fewer < edits)) }
+    ensures far { IfOk result (λ found. IfNone found
+        ((other : ℕ) → IsNear word.now name.now other → edits ≤ other)) }
+{
+    if name.len().abs_diff(word.len()) > EDITS {
         return Ok(None);
     }
     let (Ok(name_text), Ok(word_text)) = (str::from_utf8(name), str::from_utf8(word)) else {
         return Ok(None);
     };
     let fewer = osa_distance(alloc, name_text, word_text)?;
-    if fewer >= edits || fewer > name.len() / 3 {
+    if fewer >= edits || fewer > EDITS || fewer > name.len() / 3 {
         return Ok(None);
     }
     Ok(Some(fewer))
