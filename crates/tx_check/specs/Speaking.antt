@@ -30,11 +30,11 @@ abbrev pub misplaced_sentence : LineTrouble → List ℕ
 misplaced_sentence DeferIsLater = codes "sys_xbegin defer is not of version 1: txos 3 in line 1"
 misplaced_sentence MovedIsLater = codes "moved is not of version 1: txos 3 in line 1"
 misplaced_sentence CommandTooSoon = codes "commands come after a line debug"
-misplaced_sentence DebugAgain = codes "commands have begun: debug stands above"
+misplaced_sentence DebugAgain = codes "commands have begun: debug is above"
 misplaced_sentence LabelInSchedule = codes "labels are of programs: txos 3 program N in line 1"
 misplaced_sentence StepInProgram = codes "this is a program: its lines name no process"
 misplaced_sentence DebugInProgram = codes "this is a program: txos run --workers N --turns T, and no commands"
-misplaced_sentence StepAmongCommands = codes "commands have begun: steps stand before the line debug"
+misplaced_sentence StepAmongCommands = codes "commands have begun: steps come before the line debug"
 misplaced_sentence trouble = session_sentence trouble
 
 abbrev pub line_sentence : LineTrouble → List ℕ

@@ -12,6 +12,12 @@
 //! trouble is told. One table has the form of each call's arguments (`forms.rt`), and `near.rt`
 //! finds the name that is nearest to a mistyped one.
 //!
+//! A text can be checked for one command, too (`readers.rt`, `checks_for.rt`): where it is of another kind,
+//! the reader of the command's kind says where it is at fault. And a line of a session can be, where it
+//! is neither a step nor asks for anything (`session.rt`). What is told of a line is looked at once more
+//! (`placed.rt`): the word of which a sentence speaks is at the column that is told. Names from elsewhere
+//! lead to those here (`habits.rt`), and `meanings.rt` says what the letters of a form mean.
+//!
 //! A text of version 3 means one of version 2 (tx_plain), and the lines of that one are read. What is
 //! wrong with a line is told of the line that means it (`own.rt`): by its number, at the column of
 //! the same word, and in the words of version 3 (`third.rt`).

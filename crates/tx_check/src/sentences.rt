@@ -332,7 +332,7 @@ fn say_second_label(text: &mut String, line: u64) -> Result<(), AllocError>
     requires { IsInLine (string_bytes text.old) }
     ensures { OnOk result (IsInLine (string_bytes text.new)) }
 {
-    say(text, " stands in line ")?;
+    say(text, " is in line ")?;
     say_count(text, line)?;
     say(text, " already")
 }

@@ -268,14 +268,14 @@ impl LineTrouble {
             }
             LineTrouble::MovedIsLater => "moved is not of version 1: txos 3 in line 1",
             LineTrouble::CommandTooSoon => "commands come after a line debug",
-            LineTrouble::DebugAgain => "commands have begun: debug stands above",
+            LineTrouble::DebugAgain => "commands have begun: debug is above",
             LineTrouble::LabelInSchedule => "labels are of programs: txos 3 program N in line 1",
             LineTrouble::StepInProgram => "this is a program: its lines name no process",
             LineTrouble::DebugInProgram => {
                 "this is a program: txos run --workers N --turns T, and no commands"
             }
             LineTrouble::StepAmongCommands =>
-                "commands have begun: steps stand before the line debug",
+                "commands have begun: steps come before the line debug",
             _ => self.of_session(),
         }
     }
@@ -331,7 +331,7 @@ impl WordTrouble {
             }
             WordTrouble::UpperCase => "hex digits are lower case",
             WordTrouble::OddDigits => "each byte has two hex digits",
-            WordTrouble::TooManyBytes => "at most 64 bytes stand in a word",
+            WordTrouble::TooManyBytes => "a word has at most 64 bytes",
             WordTrouble::NoSet => "a set is - for none, or signal numbers joined by commas",
             WordTrouble::NotRising => "numbers of a set must rise",
             WordTrouble::NoName => "a name has 1 to 16 of a to z, 0 to 9 and _, a letter first",
@@ -364,10 +364,10 @@ impl ThirdTrouble {
             ThirdTrouble::NoEscape =>
                 "the escapes of a string are \\n, \\t, \\0, \\\" and \\\\; hex digits are any bytes",
             ThirdTrouble::StringSize => "a string has 1 to 64 bytes",
-            ThirdTrouble::BehindString => "a space is wanted behind a string",
+            ThirdTrouble::BehindString => "a space is wanted after a string",
             ThirdTrouble::NoStore => "a string is only the bytes of a store: store A \"text\"",
             ThirdTrouble::NoSet => "a set is - for none, or signals joined by commas",
-            ThirdTrouble::Twice => "a signal stands in the set twice",
+            ThirdTrouble::Twice => "a signal is in the set twice",
         }
     }
 }
