@@ -1,26 +1,21 @@
 //! The library for C: a text in, and its answer out, into the caller's buffer.
 //!
-//! Each function that C calls is thin: it makes the answer, as the program's command of that name
-//! does (`texts.rt`, `talks.rt`), and hands it out (`answers.rt`). Its status is 0 where the text
-//! could be read, 1 where it could not, which the answer tells, 2 where memory was refused, and 3
-//! where the buffer is too small; the last two leave the buffer as it was. `include/txos.h` declares
-//! the functions, and says what a caller owes. A slice crosses as a pointer and a length, and the
-//! allocator as nothing. Nothing is kept from one call to the next, so calls on several threads
-//! don't meet.
+//! Each function that C calls makes the answer, as the program's command of that name does, and hands
+//! it out (tx_answers). Its status is 0 where the text could be read, 1 where it could not, which the
+//! answer tells, 2 where memory was refused, and 3 where the buffer is too small; the last two leave the
+//! buffer as it was. `include/txos.h` declares the functions, and says what a caller owes. A slice
+//! crosses as a pointer and a length, and the allocator as nothing. Nothing is kept from one call to the
+//! next, so calls on several threads don't meet.
 #![tactic(auto)]
 
 ghost use Rattle.std.specs.Prelude.{◌≡◌};
+ghost use Rattle.tx_answers.specs.Handed.{Gives};
+ghost use Rattle.tx_answers.specs.Talks.{form_of, IsTalked};
+ghost use Rattle.tx_answers.specs.Texts.{IsAnswered, IsChecked};
 ghost use Rattle.tx_script.specs.Grammars.{schedules, walks};
-ghost use Rattle.txos_c.specs.Handed.{Gives};
-ghost use Rattle.txos_c.specs.Talks.{form_of, IsTalked};
-ghost use Rattle.txos_c.specs.Texts.{IsAnswered, IsChecked};
-
-mod answers;
-mod faults;
-mod talks;
-mod texts;
 
 use std::alloc::Global;
+use tx_answers::{checked, replayed, talked, walked};
 
 /// The report of a schedule, as `txos replay` writes it.
 #[unsafe(no_mangle)]
@@ -32,7 +27,7 @@ pub extern "C" fn txos_replay(
 ) -> i32
     ensures { Gives (IsAnswered schedules text.now) answer.old result answer.new size.new }
 {
-    texts::replayed(alloc, text).hand_out(answer, size)
+    replayed(alloc, text).hand_out(answer, size)
 }
 
 /// What the commands behind a schedule answer, as `txos debug` writes it.
@@ -40,7 +35,7 @@ pub extern "C" fn txos_replay(
 pub extern "C" fn txos_debug(alloc: Global, text: &[u8], answer: &mut [u8], size: &mut usize) -> i32
     ensures { Gives (IsAnswered walks text.now) answer.old result answer.new size.new }
 {
-    texts::walked(alloc, text).hand_out(answer, size)
+    walked(alloc, text).hand_out(answer, size)
 }
 
 /// What is wrong with a text of any kind, as `txos check` writes it.
@@ -48,7 +43,7 @@ pub extern "C" fn txos_debug(alloc: Global, text: &[u8], answer: &mut [u8], size
 pub extern "C" fn txos_check(alloc: Global, text: &[u8], answer: &mut [u8], size: &mut usize) -> i32
     ensures { Gives (IsChecked text.now) answer.old result answer.new size.new }
 {
-    texts::checked(alloc, text).hand_out(answer, size)
+    checked(alloc, text).hand_out(answer, size)
 }
 
 /// The answers to the lines of a talk, as `txos shell` writes them. The form is 0 for text; any
@@ -63,5 +58,5 @@ pub extern "C" fn txos_shell(
 ) -> i32
     ensures { Gives (IsTalked (form_of form) text.now) answer.old result answer.new size.new }
 {
-    talks::talked(alloc, talks::form_of(form), text).hand_out(answer, size)
+    talked(alloc, tx_answers::form_of(form), text).hand_out(answer, size)
 }

@@ -1,9 +1,9 @@
 use Rattle.std.proofs.Common.{◌≡◌, ◌++◌, ◌<◌, ℕ, List, ap, length, string_bytes, subst, sym, ◌∙◌}
 use Rattle.tx_shell.specs.Standings.{standing_of}
-use Rattle.txos_c.proofs.EmptyTexts.{bytes_by, empty_by, filled_by}
-use Rattle.txos_c.proofs.ShorterLines.{behind_shorter}
-use Rattle.txos_c.proofs.TalkedSoFar.{at_end, at_quit, at_start, one_more}
-use Rattle.txos_c.proofs.talks.talk_over.Goals as goal
+use Rattle.tx_answers.proofs.EmptyTexts.{bytes_by, empty_by, filled_by}
+use Rattle.tx_answers.proofs.ShorterLines.{behind_shorter}
+use Rattle.tx_answers.proofs.TalkedSoFar.{at_end, at_quit, at_start, one_more}
+use Rattle.tx_answers.proofs.talks.talk_over.Goals as goal
 
 pub loop-left-init : goal.loop-left-init
 loop-left-init c =

@@ -3,8 +3,8 @@ use Rattle.std.specs.Prelude.{◌≡◌, ◌≢◌, ℕ, List, ◌++◌, codes, 
 use Rattle.std.specs.Fmt.{decimal}
 use Rattle.tx_lines.specs.declared.faults.Fault.{Fault}
 use Rattle.tx_lines.specs.declared.faults.Fault.TheVariants as faults
-use Rattle.txos_c.specs.declared.answers.Answer.{Answer}
-use Rattle.txos_c.specs.declared.answers.Answer.TheVariants.{NoMemory, Read, Unread}
+use Rattle.tx_answers.specs.declared.answers.Answer.{Answer}
+use Rattle.tx_answers.specs.declared.answers.Answer.TheVariants.{NoMemory, Read, Unread}
 
 -- the words of a fault, as the program prints them
 abbrev pub fault_text : Fault → List ℕ

@@ -1,6 +1,6 @@
 //! What a call answers, and how that is handed out.
 ghost use Rattle.std.specs.Prelude.{◌≡◌};
-ghost use Rattle.txos_c.specs.Handed.{bytes_of, status_of, HandsOut};
+ghost use Rattle.tx_answers.specs.Handed.{bytes_of, status_of, HandsOut};
 
 /// The status of an answer to a text that could be read.
 const READ: i32 = 0;

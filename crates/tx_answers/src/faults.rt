@@ -1,7 +1,7 @@
 //! How a fault is told.
 ghost use Rattle.std.specs.Prelude.{◌≡◌, ◌++◌, IfOk, OnOk, string_bytes};
 ghost use Rattle.std.specs.Fmt.{decimal};
-ghost use Rattle.txos_c.specs.Faults.{fault_text, TellsFault};
+ghost use Rattle.tx_answers.specs.Faults.{fault_text, TellsFault};
 
 use crate::answers::Answer;
 use std::alloc::{AllocError, Global};

@@ -6,8 +6,8 @@ use Rattle.tx_shell.specs.Events.{End, Event, Failure, IsTalk, Line, Text}
 use Rattle.tx_shell.specs.Standings.{first_standing, Standing}
 use Rattle.tx_shell.specs.declared.forms.Form.{Form}
 use Rattle.tx_shell.specs.declared.forms.Form.TheVariants as forms
-use Rattle.txos_c.specs.declared.answers.Answer.{Answer}
-use Rattle.txos_c.specs.declared.answers.Answer.TheVariants.{NoMemory, Read, Unread}
+use Rattle.tx_answers.specs.declared.answers.Answer.{Answer}
+use Rattle.tx_answers.specs.declared.answers.Answer.TheVariants.{NoMemory, Read, Unread}
 
 -- the form that a number names
 abbrev pub form_of : ℤ → Form

@@ -1,6 +1,6 @@
 use Rattle.std.proofs.Common.{ℕ, ap, take, ◌∙◌}
 use Rattle.std.proofs.lemmas.List.{take_min}
-use Rattle.txos_c.proofs.talks.cut.Goals as goal
+use Rattle.tx_answers.proofs.talks.cut.Goals as goal
 
 pub returns-clause-line : goal.returns-clause-line
 returns-clause-line c =

@@ -1,7 +1,7 @@
 use Rattle.std.proofs.Common.{length, string_bytes}
 use Rattle.tx_shell.specs.Standings.{standing_of}
-use Rattle.txos_c.proofs.TalkedSoFar.{TalkedSoFar}
-use Rattle.txos_c.proofs.talks.talk_over.Given as goal
+use Rattle.tx_answers.proofs.TalkedSoFar.{TalkedSoFar}
+use Rattle.tx_answers.proofs.talks.talk_over.Given as goal
 
 abbrev pub invariant-loop-left : goal.invariant-loop-left
 invariant-loop-left l = TalkedSoFar l.fn.form l.fn.text (standing_of l.shell) l.left (string_bytes l.told)

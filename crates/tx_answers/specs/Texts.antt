@@ -6,9 +6,9 @@ use Rattle.tx_lines.specs.declared.faults.Fault.{Fault}
 use Rattle.tx_lines.specs.declared.faults.Fault.TheVariants.{TooLong}
 use Rattle.tx_plain.specs.Meant.{IsOwnFault}
 use Rattle.tx_script.specs.Grammars.{AnswersText, Grammar}
-use Rattle.txos_c.specs.Faults.{TellsFault}
-use Rattle.txos_c.specs.declared.answers.Answer.{Answer}
-use Rattle.txos_c.specs.declared.answers.Answer.TheVariants.{NoMemory, Read, Unread}
+use Rattle.tx_answers.specs.Faults.{TellsFault}
+use Rattle.tx_answers.specs.declared.answers.Answer.{Answer}
+use Rattle.tx_answers.specs.declared.answers.Answer.TheVariants.{NoMemory, Read, Unread}
 
 -- a text is longer than a command reads
 abbrev pub IsTooLong : List ℕ → Type 0

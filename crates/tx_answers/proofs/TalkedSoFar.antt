@@ -5,7 +5,7 @@ use Rattle.tx_plain.specs.MeantLines.{behind}
 use Rattle.tx_shell.specs.Events.{End, Event, Line, Talks, Text}
 use Rattle.tx_shell.specs.Standings.{first_standing, Answers, IsQuit, Standing}
 use Rattle.tx_shell.specs.declared.forms.Form.{Form}
-use Rattle.txos_c.specs.Talks.{front_line, shown_in, ComeFrom, IsTalkOf}
+use Rattle.tx_answers.specs.Talks.{front_line, shown_in, ComeFrom, IsTalkOf}
 
 -- some lines of a text are answered; whatever comes and goes from here on, behind what came and went, is of a talk over the whole text
 pub record TalkedSoFar (form : Form) (text : List ℕ) (s : Standing) (left told : List ℕ) : Type 0 where

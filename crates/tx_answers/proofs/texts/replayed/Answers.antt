@@ -1,6 +1,6 @@
 use Rattle.tx_script.specs.Grammars.{schedules}
-use Rattle.txos_c.proofs.TooLong.{too_long}
-use Rattle.txos_c.proofs.texts.replayed.Goals as goal
+use Rattle.tx_answers.proofs.TooLong.{too_long}
+use Rattle.tx_answers.proofs.texts.replayed.Goals as goal
 
 pub returns-then-text-gt-TEXT_BYTES : goal.returns-then-text-gt-TEXT_BYTES
 returns-then-text-gt-TEXT_BYTES c = too_long schedules c.args.text.now c.unread.result c.if-text-gt-TEXT_BYTES.true c.unread.ensures

@@ -1,7 +1,7 @@
 -- What a call answers, and how that is handed out.
 use Rattle.std.specs.Prelude.{◌≡◌, ℕ, ◌<◌, ◌≤◌, ℤ, pos, List, [], ◌++◌, drop, length, string_bytes}
-use Rattle.txos_c.specs.declared.answers.Answer.{Answer}
-use Rattle.txos_c.specs.declared.answers.Answer.TheVariants.{NoMemory, Read, Unread}
+use Rattle.tx_answers.specs.declared.answers.Answer.{Answer}
+use Rattle.tx_answers.specs.declared.answers.Answer.TheVariants.{NoMemory, Read, Unread}
 
 -- the status of an answer that is handed out
 abbrev pub status_of : Answer → ℤ

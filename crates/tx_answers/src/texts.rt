@@ -1,7 +1,7 @@
 //! What whole texts are answered.
 ghost use Rattle.std.specs.Prelude.{◌≡◌};
 ghost use Rattle.tx_script.specs.Grammars.{schedules, walks};
-ghost use Rattle.txos_c.specs.Texts.{IsAnswered, IsChecked};
+ghost use Rattle.tx_answers.specs.Texts.{IsAnswered, IsChecked};
 
 use crate::answers::Answer;
 use crate::faults::unread;
