@@ -1,3 +1,4 @@
+#![tactic(auto)]
 //! What is told of a text that can't be read, for people: a line of the answer for each line at
 //! fault, with its number, the column of the word at fault, and what was expected there.
 //!
@@ -21,7 +22,6 @@
 //! A text of version 3 means one of version 2 (tx_plain), and the lines of that one are read. What is
 //! wrong with a line is told of the line that means it (`own.rt`): by its number, at the column of
 //! the same word, and in the words of version 3 (`third.rt`).
-#![tactic(auto)]
 
 mod checks;
 mod checks_for;
