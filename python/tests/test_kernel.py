@@ -225,11 +225,12 @@ class Answers(unittest.TestCase):
         self.assertEqual(self.kernel.owns(), owned)
         self.assertEqual(self.kernel.why("2 getpid"), "2 getpid: it would be answered ok 2")
         lines = self.kernel.why("4 pipe 0 3 4").splitlines()
-        self.assertTrue(lines[0].startswith("4 pipe 0 3 4: N4: "))
+        self.assertEqual(lines[0], "4 pipe 0 3 4: it would be answered no N4")
+        self.assertTrue(lines[1].startswith("N4: "))
         lines = self.kernel.why("1 waitpid 2 nohang").splitlines()
-        self.assertTrue(lines[0].startswith("1 waitpid 2 nohang: N8: "))
+        self.assertEqual(lines[0], "1 waitpid 2 nohang: it would be answered no N8 2")
         owner = "proc 2: the transaction of 2 has it since step 2: 2 sys_xbegin"
-        self.assertEqual(lines[-1], owner)
+        self.assertEqual(lines[1], owner)
         self.assertEqual(self.kernel.why(), "nothing was refused")
         with self.assertRaises(Refused):
             self.kernel.step("1 waitpid 2 nohang")

@@ -475,7 +475,7 @@ class Signals(unittest.TestCase):
         (wait,) = found.waits()
         self.assertEqual((wait.why, wait.turn.recorded.text), (Why.BUSY, "4 kill 3 USR1"))
         # Process 4 may signal process 3 as user 5, and were it user 0 again, it may not.
-        said = "signal 10 to 3: it would be answered 0 now, and -1 if the transaction of 3 were"
+        said = "signal 10 to 3: it would be answered 0 now, and -1 EPERM if the transaction of 3"
         self.assertTrue(wait.what.startswith(said), wait.what)
         self.assertEqual(made(found)[-2:], ["3 exit 0", "4 kill 3 USR1"])
 
