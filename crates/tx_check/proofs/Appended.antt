@@ -1,13 +1,14 @@
 -- What is appended part by part.
-use Rattle.std.proofs.Common.{◌≡◌, ◌<◌, ℕ, zero, suc, ap, sym, arith, subst, List, [], ◌∷◌, ◌++◌, length, ◌∙◌, refl, append_assoc, codes, Result, Ok, Err, OnOk}
+use Rattle.std.proofs.Common.{◌≡◌, ◌<◌, ◌⊎◌, ℕ, zero, suc, inl, inr, ap, sym, arith, subst, List, [], ◌∷◌, ◌++◌, length, ◌∙◌, refl, append_assoc, codes, Result, Ok, Err, OnOk}
 use Rattle.std.specs.Fmt.{decimal}
 use Rattle.std.specs.Prelude.{All}
 use Rattle.std.proofs.lemmas.List.Elements.{All-append}
 use Rattle.tx_lines.specs.Schedule.{lines_of}
+use Rattle.tx_plain.specs.Meant.{own_line}
 use Rattle.tx_check.specs.Numbered.{line_at}
 use Rattle.tx_check.specs.Speaking.{line_sentence, SpeaksAt}
 use Rattle.tx_check.specs.declared.trouble.LineTrouble.TheVariants.{TooLong}
-use Rattle.tx_check.specs.Told.{last_line, told_text, AreRising, IsColumn, IsInLine, IsTold, IsToldIn, IsWrongOwn, Tells, TellsOn, TellsUpTo, Told}
+use Rattle.tx_check.specs.Told.{last_line, told_text, AreRising, IsAmong, IsColumn, IsInLine, IsTold, IsToldIn, IsWrongOwn, Tells, TellsFrom, TellsUpTo, Told}
 
 parts_append : (old a b c d e s n : List ℕ) → ((((((old ++ a) ++ b) ++ c) ++ d) ++ e) ++ s) ++ n ≡ old ++ ((a ++ (b ++ (c ++ (d ++ (e ++ s))))) ++ n)
 parts_append old a b c d e s n = simp append_assoc refl
@@ -47,9 +48,58 @@ last_more before (first ∷ xs) x = last_more first.line xs x
 told_in : (text bytes : List ℕ) (line : ℕ) (told : Told) → told.line ≡ line → bytes ≡ line_at line text → IsTold bytes told → IsToldIn text told
 told_in text bytes line told at same good = subst (λ (n : ℕ). IsTold (line_at n text) told) (sym at) (subst (λ (b : List ℕ). IsTold b told) same good)
 
+-- lines that are told of
+among_more : (line : ℕ) (xs : List Told) (x : Told) → IsAmong line xs → IsAmong line (xs ++ x ∷ [])
+among_more line [] x is = absurd is
+among_more line (first ∷ xs) x (inl is) = inl is
+among_more line (first ∷ xs) x (inr is) = inr (among_more line xs x is)
+
+among_last : (line : ℕ) (xs : List Told) (x : Told) → x.line ≡ line → IsAmong line (xs ++ x ∷ [])
+among_last line [] x is = inl is
+among_last line (first ∷ xs) x is = inr (among_last line xs x is)
+
+last_among : (first : Told) (others : List Told) → IsAmong (last_line first.line others) (first ∷ others)
+last_among first [] = inl refl
+last_among first (next ∷ others) = inr (last_among next others)
+
+-- where fewer lines are wanted
+pub fewer : (IsWanted IsLess : ℕ → Type 0) (text : List ℕ) (line : ℕ) (told : List ℕ) → ((meant : ℕ) → IsLess meant → IsWanted meant) → TellsFrom IsWanted text line told → TellsFrom IsLess text line told
+fewer IsWanted IsLess text line told less tells = record {
+  first = tells.first;
+  others = tells.others;
+  at = tells.at;
+  rising = tells.rising;
+  good = tells.good;
+  wrong = tells.wrong;
+  none_left_out = λ meant wanted. tells.none_left_out meant (less meant wanted);
+  spelled = tells.spelled;
+}
+
+-- the last line that is told may be wanted too
+pub last_known : (IsWanted IsMore : ℕ → Type 0) (text : List ℕ) (line last : ℕ) (told : List ℕ) → ((meant : ℕ) → IsMore meant → IsWanted meant ⊎ (own_line text meant ≡ last)) → TellsUpTo IsWanted text line last told → TellsUpTo IsMore text line last told
+last_known IsWanted IsMore text line last told more up_to =
+    let from = up_to.from in
+    let there : last_line from.first.line from.others ≡ last = ap (λ (n : ℕ). last_line n from.others) from.at ∙ up_to.up_to in
+    record {
+      from = record {
+        first = from.first;
+        others = from.others;
+        at = from.at;
+        rising = from.rising;
+        good = from.good;
+        wrong = from.wrong;
+        none_left_out = λ meant wanted. elim (more meant wanted) [
+          | inl before ↦ from.none_left_out meant before
+          | inr here ↦ subst (λ (n : ℕ). IsAmong n (from.first ∷ from.others)) (there ∙ sym here) (last_among from.first from.others)
+        ];
+        spelled = from.spelled;
+      };
+      up_to = up_to.up_to;
+    }
+
 -- the first line that is told of
-pub first_told : (text bytes : List ℕ) (line : ℕ) (old new : List ℕ) → bytes ≡ line_at line text → old ≡ [] → Tells line bytes old new → TellsUpTo text line line new
-first_told text bytes line old new same none tells = record {
+pub first_told : (IsWanted : ℕ → Type 0) (text bytes : List ℕ) (line : ℕ) (old new : List ℕ) → ((meant : ℕ) → IsWanted meant → ⊥) → bytes ≡ line_at line text → old ≡ [] → Tells line bytes old new → TellsUpTo IsWanted text line line new
+first_told IsWanted text bytes line old new no_other same none tells = record {
   from = record {
     first = tells.told;
     others = [];
@@ -57,14 +107,16 @@ first_told text bytes line old new same none tells = record {
     rising = tt;
     good = all_one (IsToldIn text) tells.told (told_in text bytes line tells.told tells.at same tells.good);
     wrong = λ k d below. absurd (omega (arith, below));
+    none_left_out = λ meant wanted. absurd (no_other meant wanted);
     spelled = tells.more ∙ ap (λ (t : List ℕ). t ++ (told_text tells.told ++ 10 ∷ [])) none;
   };
-  up_to = omega arith;
+  up_to = refl;
 }
 
 -- one more
-pub more_told : (text bytes : List ℕ) (number : ℕ) (old new : List ℕ) → bytes ≡ line_at number text → IsWrongOwn text number → Tells number bytes old new → TellsOn text number old new
-more_told text bytes number old new same wrong tells line last below up_to =
+pub more_told : (IsWanted IsMore : ℕ → Type 0) (text bytes : List ℕ) (line last number : ℕ) (old new : List ℕ) → ((meant : ℕ) → IsMore meant → IsWanted meant ⊎ (own_line text meant ≡ number)) → bytes ≡ line_at number text → IsWrongOwn text number
+    → Tells number bytes old new → last < number → TellsUpTo IsWanted text line last old → TellsUpTo IsMore text line number new
+more_told IsWanted IsMore text bytes line last number old new more same wrong tells below up_to =
     let from = up_to.from in
     let after : last_line line from.others < tells.told.line = omega (arith, below, up_to.up_to, tells.at) in
     let good = told_in text bytes number tells.told tells.at same tells.good in
@@ -77,7 +129,11 @@ more_told text bytes number old new same wrong tells line last below up_to =
         good = All-append (IsToldIn text) (from.first ∷ from.others) (tells.told ∷ []) from.good (all_one (IsToldIn text) tells.told good);
         wrong = All-append (λ (other : Told). IsWrongOwn text other.line) from.others (tells.told ∷ []) from.wrong
             (all_one (λ (other : Told). IsWrongOwn text other.line) tells.told (subst (IsWrongOwn text) (sym tells.at) wrong));
+        none_left_out = λ meant wanted. elim (more meant wanted) [
+          | inl before ↦ among_more (own_line text meant) (from.first ∷ from.others) tells.told (from.none_left_out meant before)
+          | inr here ↦ among_last (own_line text meant) (from.first ∷ from.others) tells.told (tells.at ∙ sym here)
+        ];
         spelled = tells.more ∙ ap (λ (t : List ℕ). t ++ (told_text tells.told ++ 10 ∷ [])) from.spelled ∙ sym (lines_append (from.first ∷ from.others) tells.told);
       };
-      up_to = omega (arith, last_more line from.others tells.told, tells.at);
+      up_to = last_more line from.others tells.told ∙ tells.at;
     }

@@ -7,9 +7,11 @@ pub mod Heard
 pub mod InLine
 pub mod Labelled
 pub mod LabelsFound
+pub mod LeftOut
 pub mod LineParts
 pub mod Linked
 pub mod NamedLabels
+pub mod NamedWords
 pub mod NearNames
 pub mod NextLines
 pub mod FirstLines
@@ -30,6 +32,7 @@ pub mod SaidWords
 pub mod Spoken
 pub mod Standing
 pub mod SteppedTexts
+pub mod ToldBehind
 pub mod ToldFor
 pub mod ToldOf
 pub mod WalkedTexts

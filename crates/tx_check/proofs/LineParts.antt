@@ -33,7 +33,7 @@ label_of line name test begins is =
       λ same. is ∙ decides.1 (whole ∙ ap (drop 6) same),
     )
 
-none_behind : (count : ℕ) → after_lines count [] ≡ []
+pub none_behind : (count : ℕ) → after_lines count [] ≡ []
 none_behind zero = refl
 none_behind (suc count) = ap behind (none_behind count)
 

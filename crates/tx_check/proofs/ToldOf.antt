@@ -13,25 +13,25 @@ pub record AreOne (IsRight : Type 0) (IsFault : Fault → Type 0) : Type 0 where
   pub never : (fault : Fault) → IsRight → IsFault fault → ⊥
   pub one : (a b : Fault) → IsFault a → IsFault b → a ≡ b
 
-pub told_right : {IsRight : Type 0} {IsFault : Fault → Type 0} (text told : List ℕ) → AreOne IsRight IsFault → IsRight → told ≡ [] → IsToldBy IsRight IsFault text told
+pub told_right : {IsRight : Type 0} {IsFault : Fault → Type 0} {IsWanted : ℕ → Type 0} (text told : List ℕ) → AreOne IsRight IsFault → IsRight → told ≡ [] → IsToldBy IsRight IsFault IsWanted text told
 told_right text told are right none = record {
   silent = (λ _. right, λ _. none);
   at_fault = λ some. absurd (some none);
   first = λ fault is. absurd (are.never fault right is);
 }
 
-pub something : (text : List ℕ) (line : ℕ) (told : List ℕ) → TellsFrom text line told → told ≡ [] → ⊥
-something text line told tells none =
+pub something : (IsWanted : ℕ → Type 0) (text : List ℕ) (line : ℕ) (told : List ℕ) → TellsFrom IsWanted text line told → told ≡ [] → ⊥
+something IsWanted text line told tells none =
     omega (arith, ap length none, ap length tells.spelled, length-append (told_text tells.first) (10 ∷ lines_of told_text tells.others))
 
-pub told_fault : {IsRight : Type 0} {IsFault : Fault → Type 0} (text told : List ℕ) → AreOne IsRight IsFault → TellsFault IsFault text told → IsToldBy IsRight IsFault text told
-told_fault text told are tells = record {
+pub told_fault : {IsRight : Type 0} {IsFault : Fault → Type 0} (IsWanted : ℕ → Type 0) (text told : List ℕ) → AreOne IsRight IsFault → TellsFault IsFault IsWanted text told → IsToldBy IsRight IsFault IsWanted text told
+told_fault IsWanted text told are tells = record {
   silent = (
-    λ none. absurd (something text (line_of tells.fault) told tells.tells none),
+    λ none. absurd (something IsWanted text (line_of tells.fault) told tells.tells none),
     λ right. absurd (are.never tells.fault right tells.is_fault),
   );
   at_fault = λ some. tells;
-  first = λ fault is. subst (λ (f : Fault). TellsFrom text (line_of f) told) (are.one tells.fault fault tells.is_fault is) tells.tells;
+  first = λ fault is. subst (λ (f : Fault). TellsFrom IsWanted text (line_of f) told) (are.one tells.fault fault tells.is_fault is) tells.tells;
 }
 
 -- so it is with the readers of kinds

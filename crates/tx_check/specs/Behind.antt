@@ -1,20 +1,23 @@
 -- What stands behind the header of a text: the lines of its kind, or a line at fault.
-use Rattle.std.specs.Prelude.{◌≡◌, ◌≢◌, ℕ, ◌<◌, ◌≤◌, true, false, List, ◌++◌, Option, Some, None, length, map, ◌⊎◌}
+use Rattle.std.specs.Prelude.{◌≡◌, ◌≢◌, ℕ, ◌-◌, ◌<◌, ◌≤◌, true, false, List, [], ◌++◌, Option, Some, None, length, map, ◌⊎◌}
 use Rattle.tx_base.specs.declared.steps.Step.{Step}
-use Rattle.tx_check.specs.Numbered.{line_at}
+use Rattle.tx_check.specs.Kinds.{head_of, kind_of}
+use Rattle.tx_check.specs.Numbered.{after_lines, line_at}
+use Rattle.tx_check.specs.Reads.{IsAtFault}
 use Rattle.tx_check.specs.Right.{IsNoneThere, IsRight, IsTooMany}
-use Rattle.tx_check.specs.Wrong.{IsTwice}
+use Rattle.tx_check.specs.Stands.{IsVersionOf}
+use Rattle.tx_check.specs.Wrong.{IsTwice, IsWrongThere}
 use Rattle.tx_check.specs.declared.kinds.Kind.{Kind}
 use Rattle.tx_check.specs.declared.kinds.Kind.TheVariants as kinds
 use Rattle.tx_check.specs.declared.places.Part.TheVariants as parts
 use Rattle.tx_check.specs.declared.places.Place.{Place}
 use Rattle.tx_check.specs.declared.places.TextLine.{TextLine}
 use Rattle.tx_lines.specs.Lines.{step_text}
-use Rattle.tx_lines.specs.Programs.{instructions_of, label_front, label_in, labels_of, line_text, linked, AreLines, FaultsAmongLines}
+use Rattle.tx_lines.specs.Programs.{instructions_of, label_front, label_in, labels_of, line_text, linked, AreLines, FaultsAmongLines, IsLineOf}
 use Rattle.tx_lines.specs.Schedule.{lines_of, steps_text, AreSteps, FaultsAmong, FaultsAtStep}
 use Rattle.tx_lines.specs.Walks.{before_commands, command_text, AreCommands, FaultsAfterHeader}
 use Rattle.tx_lines.specs.declared.faults.Fault.{Fault}
-use Rattle.tx_lines.specs.declared.faults.Fault.TheVariants.{NotALine, TooLong}
+use Rattle.tx_lines.specs.declared.faults.Fault.TheVariants.{NotALine, NoLabel, TooLong}
 use Rattle.tx_lines.specs.declared.instructions.Instruction.{Instruction}
 use Rattle.tx_lines.specs.declared.instructions.Line.{Line}
 use Rattle.tx_lines.specs.declared.instructions.Line.TheVariants as line
@@ -87,3 +90,30 @@ IsNowhere text (Some name) = (number : ℕ) → line_at number text ≢ label_fr
 abbrev pub IsNamedNowhere : List ℕ → Line → Type 0
 IsNamedNowhere text (line.Label name) = ⊥
 IsNamedNowhere text (line.Instruction instruction) = IsNowhere text (label_in instruction.spellings.items)
+
+-- the line names no label that is nowhere, where it spells one of that version
+abbrev pub IsLinkedLine : Version → List ℕ → List ℕ → Type 0
+IsLinkedLine version text line = (one : Line) → IsLineOf version one → line ≡ line_text one → IsNamedNowhere text one → ⊥
+
+-- the line of that number is there, and is one of the text's version that names a label which is nowhere
+pub record IsUnlinked (text : List ℕ) (number : ℕ) : Type 0 where
+  pub there : after_lines (number - 1) text ≢ []
+  pub version : Version
+  pub of_text : IsVersionOf (head_of (kind_of text)) text version
+  pub one : Line
+  pub good : IsLineOf version one
+  pub spelled : line_at number text ≡ line_text one
+  pub nowhere : IsNamedNowhere text one
+
+-- behind the line of that fault of the text the line of that number is at fault too: where the fault is a label that is nowhere, by its label; else in its place
+abbrev pub IsWrongBehind : Fault → List ℕ → ℕ → Type 0
+IsWrongBehind (NotALine line) text number = (line < number) × IsWrongThere text number
+IsWrongBehind (TooLong line) text number = (line < number) × IsWrongThere text number
+IsWrongBehind (NoLabel line) text number = (line < number) × IsUnlinked text number
+IsWrongBehind _ text number = ⊥
+
+-- the text is at fault, and so is the line of that number, behind the line of the fault
+pub record IsWrongToo (text : List ℕ) (number : ℕ) : Type 0 where
+  pub fault : Fault
+  pub is_fault : IsAtFault (kind_of text) text fault
+  pub too : IsWrongBehind fault text number

@@ -13,4 +13,5 @@ pub mod Sessions
 pub mod Speaking
 pub mod Stands
 pub mod Told
+pub mod WordParts
 pub mod Wrong

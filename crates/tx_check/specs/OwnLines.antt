@@ -1,9 +1,12 @@
 -- How far a text is told of, by its own lines, and which line of what it means is told.
-use Rattle.std.specs.Prelude.{◌≡◌, ◌≢◌, ℕ, ◌-◌, ◌≤◌, List, []}
+use Rattle.std.specs.Prelude.{◌≡◌, ◌≢◌, ℕ, ◌-◌, ◌^◌, ◌<◌, ◌≤◌, List, [], ◌⊎◌}
+use Rattle.tx_check.specs.Behind.{IsUnlinked}
 use Rattle.tx_check.specs.Numbered.{after_lines, line_at}
 use Rattle.tx_check.specs.Told.{TellsUpTo}
-use Rattle.tx_check.specs.Wrong.{has_end}
+use Rattle.tx_check.specs.Wrong.{has_end, IsWrongThere}
 use Rattle.tx_check.specs.declared.own.TextFrom.{TextFrom}
+use Rattle.tx_check.specs.declared.places.Part.{Part}
+use Rattle.tx_check.specs.declared.places.Part.TheVariants as parts
 use Rattle.tx_check.specs.declared.places.TextLine.{TextLine}
 use Rattle.tx_plain.specs.Meant.{meant_of, own_line}
 use Rattle.tx_plain.specs.MeantLines.{left_of}
@@ -14,10 +17,25 @@ pub record IsFrom (text : List ℕ) (from : TextFrom) : Type 0 where
   pub some : 1 ≤ from.number
   pub left : from.left.now ≡ after_lines (from.number - 1) text
 
--- of a text that was told of up to there, and that means those lines, one of which comes from that own one, so much more is told
-abbrev pub GoesOn : MeantLines → ℕ → ℕ → TextFrom → TextFrom → List ℕ → List ℕ → Type 0
-GoesOn meant line own from next old new =
-    (text : List ℕ) → left_of meant ≡ meant_of text → own ≡ own_line text line → IsFrom text from → IsFrom text next × ((first : ℕ) → TellsUpTo text first from.number old → TellsUpTo text first next.number new)
+-- behind so many lines of a text the line of that number is at fault: by its label, where labels alone are looked at from there on; else in its place
+abbrev pub IsWrongAfter : Part → ℕ → List ℕ → ℕ → Type 0
+IsWrongAfter part passed text number =
+    (passed < number) × (number < 2 ^ 64) × (((part ≡ parts.Link) × IsUnlinked text number) ⊎ ((part ≢ parts.Link) × IsWrongThere text number))
+
+-- a text is told of up to its own line `last`, and of the lines that it means, behind so many and up to line `count`, none that is at fault is left out
+abbrev pub TellsBehind : Part → ℕ → ℕ → List ℕ → ℕ → ℕ → List ℕ → Type 0
+TellsBehind part passed count text first last told = TellsUpTo (λ number. (number ≤ count) × IsWrongAfter part passed (meant_of text) number) text first last told
+
+-- a text that was told of up to one own line is told of up to the next, so that no line up to that one is left out that was to be told
+pub record GoesOnIn (part : Part) (text : List ℕ) (line : ℕ) (from next : TextFrom) (old new : List ℕ) : Type 0 where
+  pub is : IsFrom text next
+  pub up_to : next.number ≤ own_line text line
+  pub on : (passed first : ℕ) → TellsBehind part passed (line - 1) text first from.number old → TellsBehind part passed line text first next.number new
+
+-- so it is with each text that means those lines, of which that one comes from that own one, and that was told of up to there
+abbrev pub GoesOn : Part → MeantLines → ℕ → ℕ → TextFrom → TextFrom → List ℕ → List ℕ → Type 0
+GoesOn part meant line own from next old new =
+    (text : List ℕ) → left_of meant ≡ meant_of text → own ≡ own_line text line → from.number ≤ own → IsFrom text from → GoesOnIn part text line from next old new
 
 -- it is the line of its number, which is there, behind the first
 pub record IsLineAt (text : List ℕ) (line : TextLine) : Type 0 where

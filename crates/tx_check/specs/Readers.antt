@@ -1,8 +1,9 @@
 -- The commands that read texts, and what is told of a text for one of them.
 use Rattle.std.specs.Prelude.{◌≡◌, ◌≢◌, ℕ, List, [], ◌∷◌, ◌++◌, codes, ◌⊎◌}
+use Rattle.tx_check.specs.Behind.{IsWrongToo}
 use Rattle.tx_check.specs.Kinds.{kind_of}
 use Rattle.tx_check.specs.Numbered.{after_lines}
-use Rattle.tx_check.specs.Reads.{IsAtFault, IsRead}
+use Rattle.tx_check.specs.Reads.{line_of, IsAtFault, IsRead}
 use Rattle.tx_check.specs.Told.{IsToldBy}
 use Rattle.tx_check.specs.declared.kinds.Kind.{Kind}
 use Rattle.tx_check.specs.declared.kinds.Kind.TheVariants.{Schedule, Walk, Program}
@@ -50,13 +51,22 @@ IsLongFor _ text fault = ⊥
 abbrev pub IsFaultBy : Reader → List ℕ → Fault → Type 0
 IsFaultBy reader text fault = IsAtFault (kind_read reader text) text fault ⊎ IsLongFor reader text fault
 
--- what is told of a text for a command: nothing exactly where it reads the text; else first the line of the fault at which it finds the text
+-- the text is at fault for a kind at a line where it is at fault for its own kind too, and so is the line of that number, behind that one
+pub record IsWrongFor (kind : Kind) (text : List ℕ) (number : ℕ) : Type 0 where
+  pub fault : Fault
+  pub is_fault : IsAtFault kind text fault
+  pub own : IsWrongToo text number
+  pub same : line_of own.fault ≡ line_of fault
+
+-- what is told of a text for a command: nothing exactly where it reads the text; else first the line of the fault at which it finds the text, and each line at fault behind that
+-- one where the text's own kind has its fault there too: where it has not, no other line is promised
 abbrev pub IsToldFor : Reader → List ℕ → List ℕ → Type 0
-IsToldFor reader text told = IsToldBy (IsReadBy reader (meant_of text)) (IsOwnFault (IsFaultBy reader) text) text told
+IsToldFor reader text told =
+    IsToldBy (IsReadBy reader (meant_of text)) (IsOwnFault (IsFaultBy reader) text) (IsWrongFor (kind_read reader (meant_of text)) (meant_of text)) text told
 
 -- the same, where only the kind of the text is asked for
 abbrev pub IsToldAs : Kind → List ℕ → List ℕ → Type 0
-IsToldAs kind text told = IsToldBy (IsRead kind (meant_of text)) (IsOwnFault (IsAtFault kind) text) text told
+IsToldAs kind text told = IsToldBy (IsRead kind (meant_of text)) (IsOwnFault (IsAtFault kind) text) (IsWrongFor kind (meant_of text)) text told
 
 -- as what a text was read
 abbrev pub heading : Kind → List ℕ

@@ -1,5 +1,5 @@
 -- What is to stand in a line of a text, by the kind of the text and the lines before it.
-use Rattle.std.specs.Prelude.{◌≡◌, ℕ, zero, suc, ◌+◌, ◌-◌, ◌^◌, min, Bool, List, ◌⊎◌, take, if◌then◌else◌}
+use Rattle.std.specs.Prelude.{◌≡◌, ℕ, zero, suc, ◌+◌, ◌-◌, ◌^◌, ◌<◌, min, Bool, List, ◌⊎◌, take, if◌then◌else◌}
 use Rattle.std.specs.Str.{bytes_eq}
 use Rattle.tx_check.specs.Kinds.{head_of, kind_of}
 use Rattle.tx_check.specs.Numbered.{after_lines}
@@ -39,6 +39,13 @@ stand_after (AmongLines instructions labels) line = if begins_label line then Am
 abbrev pub stand_behind : Kind → List ℕ → ℕ → Stand
 stand_behind kind text zero = AtHeader (head_of kind)
 stand_behind kind text (suc count) = stand_after (stand_behind kind text count) (first_line (after_lines count text))
+
+-- a line that was one too many stands before that
+abbrev pub IsPastAll : Stand → Type 0
+IsPastAll (AtHeader kind) = ⊥
+IsPastAll (AmongSteps steps) = 4096 < steps
+IsPastAll (AmongCommands commands) = 4096 < commands
+IsPastAll (AmongLines instructions labels) = (1024 < instructions) ⊎ (256 < labels)
 
 -- the version of a text of that kind: its header's, or the second where it has none
 abbrev pub IsVersionOf : TextKind → List ℕ → Version → Type 0

@@ -1,7 +1,8 @@
 -- What is told of a text: a line for each line at fault.
-use Rattle.std.specs.Prelude.{◌≡◌, ◌≢◌, ◌↔◌, ℕ, ◌<◌, ◌≤◌, Bool, true, not, List, [], ◌∷◌, ◌++◌, length, nat_eq, codes, All, ◌+◌}
+use Rattle.std.specs.Prelude.{◌≡◌, ◌≢◌, ◌↔◌, ℕ, ◌<◌, ◌≤◌, Bool, true, not, List, [], ◌∷◌, ◌++◌, length, nat_eq, codes, All, ◌+◌, ◌⊎◌}
 use Rattle.std.specs.Fmt.{decimal}
 use Rattle.std.specs.List.{list_all}
+use Rattle.tx_check.specs.Behind.{IsWrongToo}
 use Rattle.tx_check.specs.Kinds.{kind_of}
 use Rattle.tx_check.specs.Numbered.{line_at}
 use Rattle.tx_check.specs.Reads.{line_of, IsAtFault, IsRead}
@@ -68,24 +69,26 @@ pub record IsWrongOwn (text : List ℕ) (line : ℕ) : Type 0 where
   pub own : own_line text meant ≡ line
   pub wrong : IsWrongLine (meant_of text) meant
 
--- what is told of some lines of a text, that line first; each later one is at fault too
-pub record TellsFrom (text : List ℕ) (line : ℕ) (told : List ℕ) : Type 0 where
+-- that line is among those that are told of
+abbrev pub IsAmong : ℕ → List Told → Type 0
+IsAmong line [] = ⊥
+IsAmong line (told ∷ others) = (told.line ≡ line) ⊎ IsAmong line others
+
+-- what is told of some lines of a text, that line first; each later one is at fault too, and none of which this is wanted is left out: where a line that is meant is wanted, its own line is among them
+pub record TellsFrom (IsWanted : ℕ → Type 0) (text : List ℕ) (line : ℕ) (told : List ℕ) : Type 0 where
   pub first : Told
   pub others : List Told
   pub at : first.line ≡ line
   pub rising : AreRising line others
   pub good : All (IsToldIn text) (first ∷ others)
   pub wrong : All (λ other. IsWrongOwn text other.line) others
+  pub none_left_out : (meant : ℕ) → IsWanted meant → IsAmong (own_line text meant) (first ∷ others)
   pub spelled : told ≡ lines_of told_text (first ∷ others)
 
--- what is told of some lines up to that one
-pub record TellsUpTo (text : List ℕ) (line last : ℕ) (told : List ℕ) : Type 0 where
-  pub from : TellsFrom text line told
-  pub up_to : last_line line from.others ≤ last
-
--- what is told of lines before that one goes on to it
-abbrev pub TellsOn : List ℕ → ℕ → List ℕ → List ℕ → Type 0
-TellsOn text number old new = (line last : ℕ) → last < number → TellsUpTo text line last old → TellsUpTo text line number new
+-- what is told of some lines up to that one, which is told
+pub record TellsUpTo (IsWanted : ℕ → Type 0) (text : List ℕ) (line last : ℕ) (told : List ℕ) : Type 0 where
+  pub from : TellsFrom IsWanted text line told
+  pub up_to : last_line line from.others ≡ last
 
 -- a text is read: it means one of its kind
 abbrev pub IsMeantRead : List ℕ → Type 0
@@ -96,17 +99,17 @@ abbrev pub IsMeantFault : List ℕ → Fault → Type 0
 IsMeantFault text fault = IsOwnFault (IsAtFault (kind_of (meant_of text))) text fault
 
 -- a text is at fault, and the line of that is told first
-pub record TellsFault (IsFault : Fault → Type 0) (text told : List ℕ) : Type 0 where
+pub record TellsFault (IsFault : Fault → Type 0) (IsWanted : ℕ → Type 0) (text told : List ℕ) : Type 0 where
   pub fault : Fault
   pub is_fault : IsFault fault
-  pub tells : TellsFrom text (line_of fault) told
+  pub tells : TellsFrom IsWanted text (line_of fault) told
 
--- nothing is told exactly of a text that is right; any other is at fault, and of each fault that it has the line is told first
-pub record IsToldBy (IsRight : Type 0) (IsFault : Fault → Type 0) (text told : List ℕ) : Type 0 where
+-- nothing is told exactly of a text that is right; any other is at fault, and of each fault that it has the line is told first, and each wanted line behind it
+pub record IsToldBy (IsRight : Type 0) (IsFault : Fault → Type 0) (IsWanted : ℕ → Type 0) (text told : List ℕ) : Type 0 where
   pub silent : (told ≡ []) ↔ IsRight
-  pub at_fault : told ≢ [] → TellsFault IsFault text told
-  pub first : (fault : Fault) → IsFault fault → TellsFrom text (line_of fault) told
+  pub at_fault : told ≢ [] → TellsFault IsFault IsWanted text told
+  pub first : (fault : Fault) → IsFault fault → TellsFrom IsWanted text (line_of fault) told
 
--- that is told of a text by the command of its kind
+-- that is told of a text by the command of its kind, and each line at fault is
 abbrev pub IsToldOf : List ℕ → List ℕ → Type 0
-IsToldOf text told = IsToldBy (IsMeantRead text) (IsMeantFault text) text told
+IsToldOf text told = IsToldBy (IsMeantRead text) (IsMeantFault text) (IsWrongToo (meant_of text)) text told

@@ -1,13 +1,14 @@
 //! Tells of a text what is wrong with it.
 ghost use Rattle.std.specs.Prelude.{◌≡◌, ◌≢◌, ◌+◌, ◌-◌, ◌≤◌, ℕ, List, IfOk, OnOk, string_bytes};
+ghost use Rattle.tx_check.specs.Behind.{IsWrongBehind};
 ghost use Rattle.tx_check.specs.Kinds.{kind_of};
 ghost use Rattle.tx_check.specs.Labels.{AreKnown};
 ghost use Rattle.tx_check.specs.Numbered.{after_lines};
-ghost use Rattle.tx_check.specs.OwnLines.{GoesOn, IsFrom, IsLineAt};
+ghost use Rattle.tx_check.specs.OwnLines.{GoesOn, IsFrom, IsLineAt, IsWrongAfter, TellsBehind};
 ghost use Rattle.tx_check.specs.Reads as spec;
 ghost use Rattle.tx_check.specs.Reads.{Finds, IsAtFault};
 ghost use Rattle.tx_check.specs.Stands.{StandsAt};
-ghost use Rattle.tx_check.specs.Told.{IsColumn, IsToldOf, TellsFrom, TellsUpTo};
+ghost use Rattle.tx_check.specs.Told.{IsColumn, IsToldOf, TellsFrom};
 ghost use Rattle.tx_check.specs.declared.kinds.Kind.TheVariants as kinds;
 ghost use Rattle.tx_check.specs.declared.places.Part.TheVariants as parts;
 ghost use Rattle.tx_lines.specs.declared.faults.Fault.TheVariants as faults;
@@ -31,8 +32,10 @@ use tx_plain::{MeantLines, Room};
 /// (`kind_of`), and so is read by the command of that kind. Else a line for each line at fault,
 /// `line L, column C: ` and a sentence that says what was expected there. The first one tells of the
 /// line at which the command finds the text at fault, and each later one of a line that is at fault
-/// in its place, whatever stands before it. Lines count from 1 and columns in bytes from
-/// 1, both in the text as it is given; the column after a line's last byte stands for its end.
+/// in its place, whatever stands before it. None of those is left out, up to the first line that is
+/// one too many; where all lines are right but for labels that are nowhere, none that names one.
+/// Lines count from 1 and columns in bytes from 1, both in the text as it is given; the column after
+/// a line's last byte stands for its end.
 ///
 /// Memory is taken for what is told alone. The only error is that such a growth was refused.
 pub fn check_text(alloc: Global, text: &[u8]) -> Result<String, NoMemory>
@@ -61,8 +64,8 @@ pub fn tell_from(
     requires kind { kind ≡ kind_of (left_of meant.now.text) }
     requires fault { IsAtFault kind (left_of meant.now.text) fault }
     requires own { 1 ≤ own_line text.now (spec.line_of fault) }
-    ensures { IfOk result (λ told.
-        TellsFrom text.now (own_line text.now (spec.line_of fault)) (string_bytes told)) }
+    ensures { IfOk result (λ told. TellsFrom (IsWrongBehind fault (meant_of text.now)) text.now
+        (own_line text.now (spec.line_of fault)) (string_bytes told)) }
 {
     let (place, lines) = place_of(kind, meant.text, fault);
     let (line, behind) = lines.cut();
@@ -127,6 +130,8 @@ fn place_of(kind: Kind, text: MeantLines<'_>, fault: Fault) -> (Place, MeantLine
     ensures left { left_of result.1 ≡ after_lines (spec.line_of fault - 1) (left_of text.entry) }
     ensures numbered { (own : List ℕ) → OwnsFrom own 1 text.entry →
         OwnsFrom own (spec.line_of fault) result.1 }
+    ensures label { (line : ℕ) → fault ≡ faults.NoLabel line → result.0.part ≡ parts.Link }
+    ensures other { ((line : ℕ) → fault ≢ faults.NoLabel line) → result.0.part ≢ parts.Link }
 {
     let mut place = Place::first(kind, text);
     let mut room = Room::new();
@@ -173,8 +178,11 @@ fn tell_behind(
     ensures { OnOk result
         ((text : List ℕ) (first : ℕ) → left_of meant.now.text ≡ meant_of text →
         OwnsFrom text (passed + 1) lines.entry → IsFrom text own.entry →
-        TellsUpTo text first own.entry.number (string_bytes told.old) →
-        TellsFrom text first (string_bytes told.new)) }
+        own.entry.number ≤ own_line text passed →
+        TellsBehind place.part passed passed text first own.entry.number
+        (string_bytes told.old) →
+        TellsFrom (IsWrongAfter place.part passed (meant_of text)) text first
+        (string_bytes told.new)) }
 {
     let mut place = place;
     let mut reached = own;
@@ -214,7 +222,7 @@ fn tell_line<'a>(
     requires place { StandsAt (left_of meant.now.text) line.number place.now }
     requires line { IsLineAt (left_of meant.now.text) line }
     ensures { IfOk result (λ next.
-        GoesOn meant.now.text line.entry.number number own.entry next
+        GoesOn place.now.part meant.now.text line.entry.number number own.entry next
         (string_bytes told.old) (string_bytes told.new)) }
 {
     let Some(trouble) = trouble_of(meant.text, meant, place, line) else {

@@ -1,8 +1,9 @@
 //! Tells of a text what is wrong with it for one of the commands.
-ghost use Rattle.std.specs.Prelude.{◌≡◌, ◌≢◌, ◌≤◌, [], Some, IfOk, IfSome, IsTrue, IsFalse, ℕ, List, string_bytes};
+ghost use Rattle.std.specs.Prelude.{◌≡◌, ◌≢◌, ◌≤◌, [], Some, IfNone, IfOk, IfSome, IsTrue, IsFalse, ℕ, List, string_bytes};
 ghost use Rattle.tx_check.specs.Kinds as kinds_spec;
 ghost use Rattle.tx_check.specs.Numbered.{after_lines};
 ghost use Rattle.tx_check.specs.Readers.{IsLongFor, IsSaidFor, IsShortFor, IsToldAs, IsToldFor};
+ghost use Rattle.tx_lines.specs.declared.faults.Fault.{Fault};
 ghost use Rattle.tx_lines.specs.declared.faults.Fault.TheVariants as faults;
 ghost use Rattle.tx_check.specs.Readers as spec;
 ghost use Rattle.tx_check.specs.Reads as reads;
@@ -29,8 +30,9 @@ use tx_plain::{Meant, MeantLines};
 const PICTURE_LINES: u64 = 201;
 
 /// What is told of a text of any version for that command: nothing exactly where the command reads the
-/// text. Else first of the line at which it finds the text at fault, as `check_text` tells it. Where
-/// no command is named, what the text was read as stands first.
+/// text. Else first of the line at which it finds the text at fault, as `check_text` tells it, and of
+/// each line at fault behind it where the command of the text's own kind finds it at fault there too.
+/// Where no command is named, what the text was read as stands first.
 ///
 /// Memory is taken for what is told and for what the command would read. The only error is that such
 /// a growth was refused.
@@ -143,8 +145,10 @@ fn tell_fault(
 
 /// A fault, where it is at the line of that other one.
 fn same_line(found: Option<Fault>, other: Fault) -> Option<Fault>
-    ensures { IfSome result (λ fault. (found ≡ Some fault)
+    ensures same { IfSome result (λ fault. (found ≡ Some fault)
         × (reads.line_of fault ≡ reads.line_of other)) }
+    ensures another { IfNone result ((fault : Fault) → found ≡ Some fault →
+        reads.line_of fault ≢ reads.line_of other) }
 {
     let fault = found?;
     if line_of(fault) == line_of(other) {
@@ -196,7 +200,7 @@ fn tell_alone(
     place: usize,
 ) -> Result<String, NoMemory>
     requires { 1 ≤ number }
-    ensures { IfOk result (λ told. TellsFrom text.now number (string_bytes told)) }
+    ensures { IfOk result (λ told. TellsFrom (λ line. ⊥) text.now number (string_bytes told)) }
 {
     let line = TextFrom::first(text).moved_to(number).line();
     let column = match own_word(line.bytes, place) {

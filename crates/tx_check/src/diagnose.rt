@@ -1,10 +1,12 @@
 //! What is wrong with a line, by what is to stand in its place.
 ghost use Rattle.std.specs.Prelude.{◌≡◌, ◌≤◌, ◌⊎◌, IfNone, IfSome, IsFalse, IsTrue, false, length};
+ghost use Rattle.tx_check.specs.Behind.{IsLinkedLine};
 ghost use Rattle.tx_check.specs.Labels.{AreKnown};
-ghost use Rattle.tx_check.specs.Right.{IsNoneThere, IsRight};
+ghost use Rattle.tx_check.specs.Right.{IsNoneThere, IsRight, IsTooMany};
 ghost use Rattle.tx_check.specs.Stands.{IsPlaceOf, Stand};
 ghost use Rattle.tx_check.specs.Told.{IsColumn};
 ghost use Rattle.tx_check.specs.Wrong.{IsTwice, IsWrong, NamesNowhere};
+ghost use Rattle.tx_check.specs.declared.places.Part.TheVariants as parts;
 ghost use Rattle.tx_plain.specs.MeantLines.{left_of};
 
 pub mod alone;
@@ -45,6 +47,12 @@ pub fn trouble_of<'a>(
         (IsRight place.now.part place.now.version line.entry.bytes.now) }
     ensures short { IfNone result (length line.entry.bytes.now ≤ 512) }
     ensures ended { IfNone result (IsTrue line.entry.is_ended) }
+    ensures room { IfNone result (IsTooMany place.now.part place.now.count place.now.labels
+        line.entry.bytes.now → ⊥) }
+    ensures once { IfNone result (place.now.part ≡ parts.ProgramLine →
+        IsTwice (left_of text.now.text) line.entry.number line.entry.bytes.now → ⊥) }
+    ensures linked { IfNone result (place.now.part ≡ parts.Link →
+        IsLinkedLine place.now.version (left_of text.now.text) line.entry.bytes.now) }
     ensures wrong { IfSome result (λ trouble. (stand : Stand) → IsPlaceOf stand place.now →
         IsWrong place.now.version (left_of text.now.text) line.entry.number stand
         line.entry.bytes.now line.entry.is_ended) }
@@ -132,6 +140,12 @@ fn trouble_between<'a>(
     ensures wrong { IfSome result (λ trouble.
         IsTwice (left_of text.now.text) number line.now
         ⊎ NamesNowhere (left_of text.now.text) line.now) }
+    ensures program { IfSome result (λ trouble.
+        (place.now.part ≡ parts.ProgramLine) ⊎ (place.now.part ≡ parts.Link)) }
+    ensures once { IfNone result (place.now.part ≡ parts.ProgramLine →
+        IsTwice (left_of text.now.text) number line.now → ⊥) }
+    ensures linked { IfNone result (place.now.part ≡ parts.Link →
+        IsLinkedLine place.now.version (left_of text.now.text) line.now) }
 {
     match place.part {
         Part::ProgramLine => second_label(text, number, line),

@@ -1,9 +1,9 @@
 //! What is to stand in a line, by the kind of its text and the lines before it.
-ghost use Rattle.std.specs.Prelude.{◌≡◌, ◌+◌, ◌↔◌, ℕ, List, IfNone, IfSome, IsTrue, is_some};
+ghost use Rattle.std.specs.Prelude.{◌≡◌, ◌≢◌, ◌+◌, ◌↔◌, ℕ, List, IfNone, IfSome, IsTrue, is_some};
 ghost use Rattle.tx_check.specs.Kinds.{head_of};
 ghost use Rattle.tx_check.specs.Numbered as spec;
 ghost use Rattle.tx_check.specs.Right.{IsTooMany};
-ghost use Rattle.tx_check.specs.Stands.{begins_label, counted, stand_after, AmongLines, AmongSteps, AtHeader, IsPlaceOf, IsVersionOf, Stand};
+ghost use Rattle.tx_check.specs.Stands.{begins_label, counted, stand_after, AmongLines, AmongSteps, AtHeader, IsPastAll, IsPlaceOf, IsVersionOf, Stand};
 ghost use Rattle.tx_check.specs.declared.places.Part.TheVariants as parts;
 ghost use Rattle.tx_lines.specs.Programs.{BeginsLabel};
 ghost use Rattle.tx_lines.specs.Schedule.{after_line, first_line};
@@ -106,6 +106,7 @@ impl Place {
     pub fn after(self, line: &[u8]) -> Place
         ensures version { result.version ≡ self.version }
         ensures link { result.part ≡ parts.Link → self.part ≡ parts.Link }
+        ensures linked { self.part ≡ parts.Link → result.part ≡ parts.Link }
         ensures stands { (stand : Stand) → IsPlaceOf stand self →
             IsPlaceOf (stand_after stand line.now) result }
     {
@@ -167,10 +168,16 @@ impl Place {
         }
     }
 
-    /// Whether a line that was one too many stands before it.
-    pub fn is_past_all(&self) -> bool {
+    /// Whether a line that was one too many stands before it: none does where all lines are right but
+    /// for their labels.
+    pub fn is_past_all(&self) -> bool
+        ensures past { IsTrue result → (stand : Stand) → IsPlaceOf stand self.now →
+            IsPastAll stand }
+        ensures link { IsTrue result → self.now.part ≢ parts.Link }
+    {
         match self.part {
             Part::ProgramLine => self.count > INSTRUCTIONS || self.labels > LABELS,
+            Part::Link => false,
             _ => self.count > LINES,
         }
     }

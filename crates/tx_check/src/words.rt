@@ -1,6 +1,7 @@
 //! Cuts a line into words. Nothing else here knows what parts them.
-ghost use Rattle.std.specs.Prelude.{◌≡◌, ◌+◌, ◌<◌, ◌≤◌, IfSome, length};
+ghost use Rattle.std.specs.Prelude.{◌≡◌, ◌+◌, ◌<◌, ◌≤◌, IfNone, IfSome, None, Some, drop, length};
 ghost use Rattle.tx_check.specs.Told.{IsColumn};
+ghost use Rattle.tx_check.specs.WordParts.{after_space, words_left, IsWordBehind};
 ghost use Rattle.tx_check.specs.Wrong.{IsWordOf};
 
 use crate::kinds::front_word;
@@ -18,6 +19,8 @@ pub fn word_at(line: &[u8], place: usize) -> Option<Word<'_>>
     ensures within { IfSome result (λ word.
         word.column + length word.bytes.now ≤ length line.now + 1) }
     ensures word { IfSome result (λ word. IsWordOf word.bytes.now line.now) }
+    ensures at { IfSome result (λ word. IsWordBehind place line.now word.bytes.now) }
+    ensures none { IfNone result (words_left place line.now ≡ None) }
 {
     let mut start = 0;
     for _earlier in 0..place {
@@ -38,6 +41,9 @@ fn end_of_word(line: &[u8], start: usize) -> usize
     requires { start ≤ length line.now }
     ensures after { start ≤ result }
     ensures within { result ≤ length line.now }
+    ensures space { result < length line.now →
+        after_space (drop start line.now) ≡ Some (drop (result + 1) line.now) }
+    ensures last { result ≡ length line.now → after_space (drop start line.now) ≡ None }
 {
     for at in start..line.len() {
         if line[at] == b' ' {
@@ -51,6 +57,7 @@ fn end_of_word(line: &[u8], start: usize) -> usize
 pub fn count_words(line: &[u8]) -> usize
     ensures some { 1 ≤ result }
     ensures few { result ≤ length line.now + 1 }
+    ensures all { words_left result line.now ≡ None }
 {
     let mut count = 1;
     for byte in line {

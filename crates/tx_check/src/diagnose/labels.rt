@@ -1,8 +1,10 @@
 //! The labels in the text of a program: which stand twice, and which nowhere.
 ghost use Rattle.std.specs.Prelude.{◌≡◌, IfNone, IfSome};
+ghost use Rattle.tx_check.specs.Behind.{IsLinkedLine};
 ghost use Rattle.tx_check.specs.Labels.{AreKnown};
 ghost use Rattle.tx_check.specs.Told.{IsColumn};
 ghost use Rattle.tx_check.specs.Wrong.{IsTwice, NamesNowhere};
+ghost use Rattle.tx_lines.specs.declared.read.header.Version.{Version};
 ghost use Rattle.tx_plain.specs.MeantLines.{left_of};
 
 use crate::labels::{LABEL_FRONT, Labels};
@@ -45,6 +47,8 @@ pub fn link_trouble<'a>(
     requires { AreKnown text.now }
     ensures column { IfSome result (λ trouble. IsColumn line.now trouble.column) }
     ensures nowhere { IfSome result (λ trouble. NamesNowhere (left_of text.now.text) line.now) }
+    ensures linked { IfNone result ((version : Version) →
+        IsLinkedLine version (left_of text.now.text) line.now) }
 {
     for place in 0..count_words(line) {
         let word = word_at(line, place)?;

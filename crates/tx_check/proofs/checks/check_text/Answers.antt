@@ -1,11 +1,12 @@
 use Rattle.std.proofs.Common.{List, ℕ, ap, refl, string_bytes, subst, ◌∙◌}
 use Rattle.tx_check.proofs.Numbered.{some_line}
-use Rattle.tx_check.proofs.OwnLines.{fault_told, own_some}
+use Rattle.tx_check.proofs.OwnLines.{fault_told, own_some, told_fewer, wrong_too}
 use Rattle.tx_check.proofs.ToldOf.{are_one, told_right}
+use Rattle.tx_check.specs.Behind.{IsWrongBehind, IsWrongToo}
 use Rattle.tx_check.specs.Kinds.{kind_of}
 use Rattle.tx_check.specs.Reads.{line_of, IsAtFault, IsRead}
 use Rattle.tx_check.specs.declared.kinds.Kind.{Kind}
-use Rattle.tx_plain.specs.Meant.{meant_of}
+use Rattle.tx_plain.specs.Meant.{meant_of, own_line}
 use Rattle.tx_plain.specs.MeantLines.{left_of}
 use Rattle.tx_check.proofs.checks.check_text.Goals as goal
 
@@ -22,7 +23,9 @@ returns-in-Some c =
     let some = some_line c.kind_of-kind.result read fault c.in-Some.ensures in
     let of_kind = subst (λ (kind : Kind). IsAtFault kind read fault) c.kind_of-kind.ensures c.in-Some.ensures in
     let at_fault = subst (λ (meant : List ℕ). IsAtFault (kind_of meant) meant fault) (ap left_of c.of-meant.ensures.text ∙ c.of.ensures.left) of_kind in
-    fault_told string_bytes c.tell_from.result (kind_of (meant_of text)) text fault _ at_fault some refl c.tell_from.ensures
+    let meant = meant_of text in
+    let told = told_fewer string_bytes c.tell_from.result (IsWrongBehind fault meant) (IsWrongToo meant) text (own_line text (line_of fault)) (λ n wrong. wrong_too meant fault n at_fault wrong) c.tell_from.ensures in
+    fault_told string_bytes c.tell_from.result (IsWrongToo meant) (kind_of meant) text fault (own_line text (line_of fault)) at_fault some refl told
 
 pub returns-in-None : goal.returns-in-None
 returns-in-None c =

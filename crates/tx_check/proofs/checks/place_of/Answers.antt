@@ -1,9 +1,10 @@
-use Rattle.std.proofs.Common.{◌≡◌, ◌+◌, ◌-◌, ◌∙◌, ℕ, ap, arith, refl, subst}
+use Rattle.std.proofs.Common.{◌≡◌, ◌+◌, ◌-◌, ◌∙◌, ℕ, ap, arith, refl, subst, sym}
 use Rattle.tx_check.specs.Numbered.{after_lines, behind}
 use Rattle.tx_check.specs.Reads.{line_of}
 use Rattle.tx_check.specs.Stands.{StandsAt}
 use Rattle.tx_check.proofs.Numbered.{lines_more, some_line}
 use Rattle.tx_check.proofs.Standing.{stands_at_fault, stands_later}
+use Rattle.tx_check.specs.declared.places.Place.{Place}
 use Rattle.tx_lines.specs.Schedule.{first_line}
 use Rattle.tx_plain.specs.MeantLines.{left_of, OwnsFrom}
 use Rattle.tx_check.proofs.checks.place_of.Goals as goal
@@ -18,6 +19,7 @@ loop-before-preserved c =
       at = next.behind ∙ ap behind is.at ∙ lines_more before text;
       place = stands_later text before (before + 1) (before + 1 + 1) c.meaning.result.now c.loop-before.place c.after-place.result refl (omega arith)
           (c.meaning.ensures ∙ next.bytes ∙ ap first_line is.at) is.place c.after-place.ensures.version c.after-place.ensures.stands;
+      unlinked = λ link. is.unlinked (c.after-place.ensures.link link);
       numbered = λ own owns. (c.cut.ensures.own own (before + 1) (is.numbered own owns)).behind;
     }
 
@@ -44,3 +46,6 @@ returns-clause-numbered c = λ own owns.
     let some = some_line c.args.kind (left_of c.args.text) c.args.fault c.requires.fault in
     let last : before + 1 ≡ line_of c.args.fault = omega (arith, some, c.line_of-before-end.ensures, c.loop-before-test.false, c.loop-before.auto._before-end) in
     subst (λ (n : ℕ). OwnsFrom own n c.loop-before.left) last (c.loop-before.invariant.numbered own owns)
+
+pub returns-clause-other : goal.returns-clause-other
+returns-clause-other c = λ other link. c.loop-before.invariant.unlinked (sym (ap (λ (place : Place). place.part) (c.place_by.ensures.other other)) ∙ link)

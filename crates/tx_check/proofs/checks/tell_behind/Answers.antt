@@ -1,10 +1,23 @@
-use Rattle.std.proofs.Common.{◌+◌, ◌∙◌, ap, arith, refl}
-use Rattle.tx_check.specs.Numbered.{behind}
+use Rattle.std.proofs.Common.{◌+◌, ◌-◌, ◌∙◌, List, ℕ, ap, arith, refl, string_bytes, subst, sym}
+use Rattle.tx_check.specs.Kinds.{kind_of}
+use Rattle.tx_check.specs.Numbered.{after_lines, behind}
+use Rattle.tx_check.specs.Stands.{stand_behind, IsPastAll}
 use Rattle.tx_check.proofs.Numbered.{lines_more}
+use Rattle.tx_check.proofs.OwnLines.{own_rises}
 use Rattle.tx_check.proofs.Standing.{line_there, stands_later}
+use Rattle.tx_check.proofs.ToldBehind.{none_left, none_more, none_past, told_to}
 use Rattle.tx_lines.specs.Schedule.{first_line}
 use Rattle.tx_plain.specs.MeantLines.{left_of}
 use Rattle.tx_check.proofs.checks.tell_behind.Goals as goal
+
+pub loop-before-init : goal.loop-before-init
+loop-before-init c = record {
+  goes = λ text is_meant owns is low. (owns, record { is = is; low = low; on = λ first up_to. up_to });
+  at = c.requires.lines;
+  place = c.requires.place;
+  alike = record { there = λ link. link; back = λ link. link };
+  some = c.requires.some;
+}
 
 pub tell_line-requires-clause-line : goal.tell_line-requires-clause-line
 tell_line-requires-clause-line c =
@@ -13,10 +26,21 @@ tell_line-requires-clause-line c =
     c.loop-before.invariant.some refl (c.meaning.ensures ∙ next.line.bytes) next.line.ended
 
 pub returns-in_default : goal.returns-in_default
-returns-in_default c = λ text first is_meant owns is up_to. ((c.loop-before.invariant.goes text is_meant owns is).2 first up_to).from
+returns-in_default c = λ text first is_meant owns is low up_to.
+    let so = c.loop-before.invariant in
+    let before = c.loop-before.before in
+    let none = ap (after_lines before) (sym is_meant) ∙ sym so.at ∙ c.in_default.ensures.none in
+    none_left c.args.place.part c.args.passed before text first c.loop-before.reached.number (string_bytes c.loop-before.told) none ((so.goes text is_meant owns is low).1.on first up_to)
 
 pub returns-then-is_past_all : goal.returns-then-is_past_all
-returns-then-is_past_all c = λ text first is_meant owns is up_to. ((c.loop-before.invariant.goes text is_meant owns is).2 first up_to).from
+returns-then-is_past_all c = λ text first is_meant owns is low up_to.
+    let so = c.loop-before.invariant in
+    let before = c.loop-before.before in
+    let meant = left_of c.args.meant.now.text in
+    let past = c.if-is_past_all.ensures.past refl (stand_behind (kind_of meant) meant (before + 1 - 1)) so.place.stands in
+    let there = subst (λ (bytes : List ℕ). IsPastAll (stand_behind (kind_of bytes) bytes (before + 1 - 1))) is_meant past in
+    none_past c.args.place.part c.loop-before.place.part c.args.passed before text first c.loop-before.reached.number (string_bytes c.loop-before.told) so.alike (c.if-is_past_all.ensures.link refl) there
+    ((so.goes text is_meant owns is low).1.on first up_to)
 
 pub loop-before-preserved : goal.loop-before-preserved
 loop-before-preserved c =
@@ -24,17 +48,24 @@ loop-before-preserved c =
     let before = c.loop-before.before in
     let so = c.loop-before.invariant in
     let next = c.in-Some.ensures in
+    let kept = c.after-place.ensures in
     record {
-      goes = λ text is_meant owns is.
-          let told = so.goes text is_meant owns is in
+      goes = λ text is_meant owns is low.
+          let told = so.goes text is_meant owns is low in
           let own = next.own text (before + 1) told.0 in
-          let on = c.in_ok-reached.ensures text is_meant (own.own (omega arith)) told.1 in
-          (own.behind, on.0, λ first up_to. on.1 first (told.2 first up_to));
+          let up = own_rises text before (before + 1) so.some (omega arith) in
+          let on = told_to c.args.place.part c.loop-before.place.part c.args.passed text c.args.own (string_bytes c.args.told.now) before c.in-Some.line.number c.loop-before.reached c.in_ok-reached.reached
+          (string_bytes c.loop-before.told) _ c.args.meant.now.text so.alike is_meant (own.own (omega arith)) up c.in_ok-reached.ensures told.1 in
+          (own.behind, on);
       at = next.line.behind ∙ ap behind so.at ∙ lines_more before meant;
       place = stands_later meant before (before + 1) (before + 1 + 1) c.meaning.result.now c.loop-before.place c.after-place.result refl (omega arith)
-          (c.meaning.ensures ∙ next.line.bytes ∙ ap first_line so.at) so.place c.after-place.ensures.version c.after-place.ensures.stands;
+          (c.meaning.ensures ∙ next.line.bytes ∙ ap first_line so.at) so.place kept.version kept.stands;
+      alike = record { there = λ link. kept.linked (so.alike.there link); back = λ link. so.alike.back (kept.link link) };
       some = omega (arith, so.some);
     }
 
 pub returns : goal.returns
-returns c = λ text first is_meant owns is up_to. ((c.loop-before.invariant.goes text is_meant owns is).2 first up_to).from
+returns c = λ text first is_meant owns is low up_to.
+    let so = c.loop-before.invariant in
+    none_more c.args.place.part c.args.passed c.loop-before.before text first c.loop-before.reached.number (string_bytes c.loop-before.told) (omega (arith, c.loop-before-test.false))
+    ((so.goes text is_meant owns is low).1.on first up_to)

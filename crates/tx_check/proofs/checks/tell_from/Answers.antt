@@ -1,13 +1,16 @@
-use Rattle.std.proofs.Common.{◌≡◌, ◌+◌, ◌-◌, ◌<◌, ◌≤◌, ◌^◌, ◌∙◌, ℕ, ap, arith, refl, string_bytes, subst, sym}
+use Rattle.std.proofs.Common.{◌≡◌, ◌+◌, ◌-◌, ◌<◌, ◌≤◌, ◌^◌, ◌∙◌, ℕ, List, ap, arith, refl, string_bytes, subst, sym}
+use Rattle.tx_check.specs.Behind.{IsWrongBehind}
 use Rattle.tx_check.specs.Numbered.{after_lines, behind, line_at}
-use Rattle.tx_check.specs.Reads.{line_of}
-use Rattle.tx_check.specs.Told.{TellsFrom, TellsUpTo}
-use Rattle.tx_check.proofs.Appended.{first_told}
+use Rattle.tx_check.specs.OwnLines.{IsWrongAfter, TellsBehind}
+use Rattle.tx_check.specs.Reads.{line_of, IsAtFault}
+use Rattle.tx_check.specs.Told.{TellsFrom}
+use Rattle.tx_check.proofs.Appended.{fewer, first_told}
+use Rattle.tx_check.proofs.LeftOut.{wrong_after}
 use Rattle.tx_check.proofs.Numbered.{lines_more, some_line}
 use Rattle.tx_check.proofs.OwnLines.{moved}
 use Rattle.tx_check.proofs.Standing.{stands_later}
 use Rattle.tx_lines.specs.Schedule.{first_line}
-use Rattle.tx_plain.specs.Meant.{own_line}
+use Rattle.tx_plain.specs.Meant.{meant_of, own_line}
 use Rattle.tx_plain.specs.MeantLines.{left_of, OwnsFrom}
 use Rattle.tx_check.proofs.checks.tell_from.Goals as goal
 
@@ -57,8 +60,19 @@ returns c =
     }) some (there.ensures.left ∙ rw there.ensures.number refl) in
     let same : line.result.bytes.now ≡ line_at line.result.number text =
     line.ensures.bytes ∙ ap first_line is.left ∙ ap (λ (n : ℕ). line_at n text) (sym line.ensures.number) in
-    let told = first_told text line.result.bytes.now line.result.number (string_bytes c.new-told.result) (string_bytes c.tell.new.told) same c.new-told.ensures.bytes c.in_ok-tell.ensures in
-    let up_to = subst (λ (n : ℕ). TellsUpTo text n n (string_bytes c.tell.new.told)) line.ensures.number told in
+    let part = c.after-place.result.part in
+    let passed = c.line_of-number.result in
+    let meant = meant_of text in
+    let told = first_told (λ n. (n ≤ passed) × IsWrongAfter part passed meant n) text line.result.bytes.now line.result.number (string_bytes c.new-told.result) (string_bytes c.tell.new.told)
+    (λ n wanted. omega (arith, wanted.0, wanted.1.0)) same c.new-told.ensures.bytes c.in_ok-tell.ensures in
+    let up_to = subst (λ (n : ℕ). TellsBehind part passed passed text n n (string_bytes c.tell.new.told)) line.ensures.number told in
     let later = subst (λ (n : ℕ). OwnsFrom text (n + 1) c.cut.result.1) (sym c.line_of-number.ensures) owns.behind in
-    subst (λ (n : ℕ). TellsFrom text n (string_bytes c.tell_behind.new.told)) at
-    (c.in_ok-tell_behind.ensures text there.result.number c.requires.meant later is up_to)
+    let low : there.result.number ≤ own_line text passed = omega (arith, at, ap (own_line text) c.line_of-number.ensures) in
+    let all = c.in_ok-tell_behind.ensures text there.result.number c.requires.meant later is low up_to in
+    let at_fault = subst (λ (bytes : List ℕ). IsAtFault c.args.kind bytes c.args.fault) c.requires.meant c.requires.fault in
+    let kept = c.after-place.ensures in
+    let placed = c.place_of.ensures in
+    subst (λ (n : ℕ). TellsFrom (IsWrongBehind c.args.fault meant) text n (string_bytes c.tell_behind.new.told)) at
+    (fewer (IsWrongAfter part passed meant) (IsWrongBehind c.args.fault meant) text there.result.number (string_bytes c.tell_behind.new.told)
+    (λ n wrong. wrong_after c.args.kind meant c.args.fault part passed n c.line_of-number.ensures at_fault
+    (λ number label. kept.linked (placed.label number label)) (λ other link. placed.other other (kept.link link)) wrong) all)

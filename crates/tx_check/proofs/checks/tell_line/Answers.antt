@@ -1,8 +1,26 @@
 use Rattle.std.proofs.Common.{◌∙◌, arith, refl, string_bytes}
-use Rattle.tx_check.proofs.OwnLines.{goes_on}
+use Rattle.tx_check.proofs.LeftOut.{told_after, IsQuietAt}
+use Rattle.tx_check.proofs.OwnLines.{goes_on, is_quiet, is_told}
 use Rattle.tx_check.proofs.Standing.{wrong_line}
 use Rattle.tx_plain.specs.MeantLines.{left_of}
 use Rattle.tx_check.proofs.checks.tell_line.Goals as goal
+
+pub returns-in_default : goal.returns-in_default
+returns-in_default c =
+    let meant = c.args.meant.now.text in
+    let place = c.args.place.now in
+    let at = c.args.line in
+    let none = c.in_default.ensures in
+    let quiet : IsQuietAt (left_of meant) place at = record {
+      may = record { short = none.short; room = none.room; ended = none.ended; right = none.right; once = none.once };
+      linked = none.linked;
+    } in
+    is_quiet place.part meant at.number c.args.number c.args.own (string_bytes c.args.told.now)
+    (λ passed wrong. told_after place.part passed (left_of meant) place at refl c.requires.place c.requires.line quiet wrong)
+
+pub returns-then-number-own : goal.returns-then-number-own
+returns-then-number-own c =
+    is_told c.args.place.now.part c.args.meant.now.text c.args.line.number c.args.number c.args.own (string_bytes c.args.told.now) (omega (arith, c.if-number-own.true))
 
 pub returns : goal.returns
 returns c =
@@ -13,5 +31,5 @@ returns c =
     let line = c.line-own_line in
     let later = c.if-number-own.false in
     let wrong = wrong_line (left_of meant) place at c.requires.place c.requires.line c.in-Some.ensures.wrong in
-    goes_on meant at.number c.args.number c.args.own next.result line.result.number line.result.bytes.now (string_bytes c.args.told.now) (string_bytes c.tell.new.told) (omega (arith, later, next.ensures.number))
+    goes_on place.part meant at.number c.args.number c.args.own next.result line.result.number line.result.bytes.now (string_bytes c.args.told.now) (string_bytes c.tell.new.told) (omega (arith, later, next.ensures.number))
     (next.ensures.left ∙ rw next.ensures.number refl) line.ensures.number line.ensures.bytes next.ensures.number wrong c.in_ok-tell.ensures

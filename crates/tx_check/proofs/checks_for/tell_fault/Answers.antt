@@ -1,14 +1,20 @@
-use Rattle.std.proofs.Common.{ap, arith, string_bytes}
+use Rattle.std.proofs.Common.{◌∙◌, List, ℕ, ap, arith, string_bytes, subst}
 use Rattle.tx_check.proofs.Numbered.{some_line}
-use Rattle.tx_check.proofs.OwnLines.{fault_told, own_some}
-use Rattle.tx_check.specs.Reads.{line_of}
+use Rattle.tx_check.proofs.OwnLines.{fault_told, own_some, told_fewer, wrong_too}
+use Rattle.tx_check.proofs.ToldFor.{not_there}
+use Rattle.tx_check.specs.Behind.{IsWrongBehind}
+use Rattle.tx_check.specs.Kinds.{kind_of}
+use Rattle.tx_check.specs.Readers.{IsWrongFor}
+use Rattle.tx_check.specs.Reads.{line_of, Finds}
+use Rattle.tx_check.specs.declared.kinds.Kind.{Kind}
 use Rattle.tx_plain.specs.Meant.{meant_of, own_line}
+use Rattle.tx_plain.specs.MeantLines.{left_of}
 use Rattle.tx_check.proofs.checks_for.tell_fault.Goals as goal
 
 pub tell_from-requires-clause-own : goal.tell_from-requires-clause-own
 tell_from-requires-clause-own c =
     let some = some_line c.args.kind (meant_of c.args.text.now) c.args.fault c.requires.fault in
-    own_some c.args.text.now (line_of c.in-Some.other) (omega (arith, some, c.in-Some.ensures.1))
+    own_some c.args.text.now (line_of c.in-Some.other) (omega (arith, some, c.in-Some.ensures.same.1))
 
 pub tell_alone-requires : goal.tell_alone-requires
 tell_alone-requires c =
@@ -18,11 +24,25 @@ tell_alone-requires c =
 pub returns-in-Some : goal.returns-in-Some
 returns-in-Some c =
     let text = c.args.text.now in
-    let some = some_line c.args.kind (meant_of text) c.args.fault c.requires.fault in
-    fault_told string_bytes c.tell_from.result c.args.kind text c.args.fault _ c.requires.fault some (ap (own_line text) c.in-Some.ensures.1) c.tell_from.ensures
+    let meant = meant_of text in
+    let kind = c.args.kind in
+    let other = c.in-Some.other in
+    let read = left_of c.of-meant.result.text in
+    let some = some_line kind meant c.args.fault c.requires.fault in
+    let of_kind = subst (λ (k : Kind). Finds k read c.first_fault.result) c.kind_of-own.ensures c.first_fault.ensures in
+    let found = subst (λ (bytes : List ℕ). Finds (kind_of bytes) bytes c.first_fault.result) (ap left_of c.of-meant.ensures.text ∙ c.of.ensures.left) of_kind in
+    let at = subst (Finds (kind_of meant) meant) c.in-Some.ensures.same.0 found in
+    let told = told_fewer string_bytes c.tell_from.result (IsWrongBehind other meant) (IsWrongFor kind meant) text (own_line text (line_of other)) (λ n wrong. wrong_too meant other n at wrong.own) c.tell_from.ensures in
+    fault_told string_bytes c.tell_from.result (IsWrongFor kind meant) kind text c.args.fault (own_line text (line_of other)) c.requires.fault some (ap (own_line text) c.in-Some.ensures.same.1) told
 
 pub returns-in-None : goal.returns-in-None
 returns-in-None c =
     let text = c.args.text.now in
-    let some = some_line c.args.kind (meant_of text) c.args.fault c.requires.fault in
-    fault_told string_bytes c.tell_alone.result c.args.kind text c.args.fault c.args.number c.requires.fault some c.requires.number c.tell_alone.ensures
+    let meant = meant_of text in
+    let kind = c.args.kind in
+    let read = left_of c.of-meant.result.text in
+    let some = some_line kind meant c.args.fault c.requires.fault in
+    let of_kind = subst (λ (k : Kind). Finds k read c.first_fault.result) c.kind_of-own.ensures c.first_fault.ensures in
+    let found = subst (λ (bytes : List ℕ). Finds (kind_of bytes) bytes c.first_fault.result) (ap left_of c.of-meant.ensures.text ∙ c.of.ensures.left) of_kind in
+    let told = told_fewer string_bytes c.tell_alone.result (λ line. ⊥) (IsWrongFor kind meant) text c.args.number (λ n wrong. not_there kind meant c.first_fault.result c.args.fault found c.requires.fault c.in-None.ensures.another n wrong) c.tell_alone.ensures in
+    fault_told string_bytes c.tell_alone.result (IsWrongFor kind meant) kind text c.args.fault c.args.number c.requires.fault some c.requires.number told
