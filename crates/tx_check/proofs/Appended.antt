@@ -63,7 +63,8 @@ last_among first [] = inl refl
 last_among first (next ∷ others) = inr (last_among next others)
 
 -- where fewer lines are wanted
-pub fewer : (IsWanted IsLess : ℕ → Type 0) (text : List ℕ) (line : ℕ) (told : List ℕ) → ((meant : ℕ) → IsLess meant → IsWanted meant) → TellsFrom IsWanted text line told → TellsFrom IsLess text line told
+pub fewer : (IsWanted IsLess : ℕ → Type 0) (text : List ℕ) (line : ℕ) (told : List ℕ) → ((meant : ℕ) → IsLess meant → IsWanted meant) → TellsFrom IsWanted text line told
+    → TellsFrom IsLess text line told
 fewer IsWanted IsLess text line told less tells = record {
   first = tells.first;
   others = tells.others;
@@ -76,7 +77,8 @@ fewer IsWanted IsLess text line told less tells = record {
 }
 
 -- the last line that is told may be wanted too
-pub last_known : (IsWanted IsMore : ℕ → Type 0) (text : List ℕ) (line last : ℕ) (told : List ℕ) → ((meant : ℕ) → IsMore meant → IsWanted meant ⊎ (own_line text meant ≡ last)) → TellsUpTo IsWanted text line last told → TellsUpTo IsMore text line last told
+pub last_known : (IsWanted IsMore : ℕ → Type 0) (text : List ℕ) (line last : ℕ) (told : List ℕ) → ((meant : ℕ) → IsMore meant → IsWanted meant ⊎ (own_line text meant ≡ last))
+    → TellsUpTo IsWanted text line last told → TellsUpTo IsMore text line last told
 last_known IsWanted IsMore text line last told more up_to =
     let from = up_to.from in
     let there : last_line from.first.line from.others ≡ last = ap (λ (n : ℕ). last_line n from.others) from.at ∙ up_to.up_to in
@@ -98,7 +100,8 @@ last_known IsWanted IsMore text line last told more up_to =
     }
 
 -- the first line that is told of
-pub first_told : (IsWanted : ℕ → Type 0) (text bytes : List ℕ) (line : ℕ) (old new : List ℕ) → ((meant : ℕ) → IsWanted meant → ⊥) → bytes ≡ line_at line text → old ≡ [] → Tells line bytes old new → TellsUpTo IsWanted text line line new
+pub first_told : (IsWanted : ℕ → Type 0) (text bytes : List ℕ) (line : ℕ) (old new : List ℕ) → ((meant : ℕ) → IsWanted meant → ⊥) → bytes ≡ line_at line text → old ≡ []
+    → Tells line bytes old new → TellsUpTo IsWanted text line line new
 first_told IsWanted text bytes line old new no_other same none tells = record {
   from = record {
     first = tells.told;
@@ -114,7 +117,8 @@ first_told IsWanted text bytes line old new no_other same none tells = record {
 }
 
 -- one more
-pub more_told : (IsWanted IsMore : ℕ → Type 0) (text bytes : List ℕ) (line last number : ℕ) (old new : List ℕ) → ((meant : ℕ) → IsMore meant → IsWanted meant ⊎ (own_line text meant ≡ number)) → bytes ≡ line_at number text → IsWrongOwn text number
+pub more_told : (IsWanted IsMore : ℕ → Type 0) (text bytes : List ℕ) (line last number : ℕ) (old new : List ℕ)
+    → ((meant : ℕ) → IsMore meant → IsWanted meant ⊎ (own_line text meant ≡ number)) → bytes ≡ line_at number text → IsWrongOwn text number
     → Tells number bytes old new → last < number → TellsUpTo IsWanted text line last old → TellsUpTo IsMore text line number new
 more_told IsWanted IsMore text bytes line last number old new more same wrong tells below up_to =
     let from = up_to.from in

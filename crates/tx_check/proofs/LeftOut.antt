@@ -75,7 +75,8 @@ none_right version (AmongLines instructions labels) place line (inl is) other ri
     let here = subst (λ (part : Part). IsRight part version line) is.0 right in none here.one here.fits here.spelled
 none_right version (AmongLines instructions labels) place line (inr is) other right none = absurd (other is)
 
-not_wrong : (text : List ℕ) (stand : Stand) (place : Place) (line : TextLine) → IsPlaceOf stand place → place.part ≢ parts.Link → MayStand text place line → IsWrongIn place.version text line.number stand line.bytes.now line.is_ended → ⊥
+not_wrong : (text : List ℕ) (stand : Stand) (place : Place) (line : TextLine) → IsPlaceOf stand place → place.part ≢ parts.Link → MayStand text place line
+    → IsWrongIn place.version text line.number stand line.bytes.now line.is_ended → ⊥
 not_wrong text stand place line is other may (TooLong long) = omega (arith, may.short, long)
 not_wrong text stand place line is other may (NoEnd none) = let bad : true ≡ false = sym may.ended ∙ none in absurd (cc)
 not_wrong text stand place line is other may (TooMany many) = may.room (many_there stand place line.bytes.now is other many)
@@ -102,7 +103,8 @@ not_left_out text place line stands at quiet (inr is) =
     (subst (λ (ended : Bool). IsWrongIn wrong.version text line.number stand line.bytes.now ended) (sym at.ended)
     (subst (λ (bytes : List ℕ). IsWrongIn wrong.version text line.number stand bytes (has_end line.number text)) (sym at.bytes) wrong.wrong)))
 
-pub told_after : (part : Part) (passed : ℕ) (text : List ℕ) (place : Place) (line : TextLine) → part ≡ place.part → StandsAt text line.number place → IsLineAt text line → IsQuietAt text place line → IsWrongAfter part passed text line.number → ⊥
+pub told_after : (part : Part) (passed : ℕ) (text : List ℕ) (place : Place) (line : TextLine) → part ≡ place.part → StandsAt text line.number place → IsLineAt text line
+    → IsQuietAt text place line → IsWrongAfter part passed text line.number → ⊥
 told_after part passed text place line same stands at quiet wrong =
     let here = subst (λ (p : Part). IsWrongAfter p passed text line.number) same wrong in not_left_out text place line stands at quiet here.2
 
@@ -183,7 +185,8 @@ none_later text before number none there later =
     there (ap (λ (n : ℕ). after_lines n text) (sym whole) ∙ sym (lines_after (number - 1 - before) before text) ∙ ap (after_lines (number - 1 - before)) none ∙ none_behind (number - 1 - before))
 
 -- a text whose labels alone are at fault has few lines
-few_lines : (text : List ℕ) (header : Header) (rest : List ℕ) (line number : ℕ) → SpellsHeader texts.Program text header rest → FaultsAtLabel header.version rest line → after_lines (number - 1) text ≢ [] → number ≤ 1281
+few_lines : (text : List ℕ) (header : Header) (rest : List ℕ) (line number : ℕ) → SpellsHeader texts.Program text header rest → FaultsAtLabel header.version rest line
+    → after_lines (number - 1) text ≢ [] → number ≤ 1281
 few_lines text header rest line number spells fault there =
     elim (cases_lt (length fault.lines + 1) number) [
       | inr few ↦ omega (arith, few, counts 0 fault.lines, fault.good.few_instructions, fault.good.few_labels)
@@ -209,7 +212,8 @@ few_unlinked kinds.Program text line number (inl header) there = absurd header
 few_unlinked kinds.Program text line number (inr found) there = few_lines text found.0 found.1 line number found.2 found.3 there
 
 -- what is at fault behind a fault is so behind its line
-pub wrong_after : (kind : Kind) (text : List ℕ) (fault : Fault) (part : Part) (passed number : ℕ) → passed ≡ line_of fault → IsAtFault kind text fault → ((line : ℕ) → fault ≡ faults.NoLabel line → part ≡ parts.Link)
+pub wrong_after : (kind : Kind) (text : List ℕ) (fault : Fault) (part : Part) (passed number : ℕ) → passed ≡ line_of fault → IsAtFault kind text fault
+    → ((line : ℕ) → fault ≡ faults.NoLabel line → part ≡ parts.Link)
     → (((line : ℕ) → fault ≢ faults.NoLabel line) → part ≢ parts.Link) → IsWrongBehind fault text number → IsWrongAfter part passed text number
 wrong_after kind text (faults.NotALine line) part passed number at is label other wrong =
     (omega (arith, at, wrong.0), omega (arith, few_wrong text number wrong.1), inr (other (λ l e. absurd (cc)), wrong.1))

@@ -134,7 +134,8 @@ marked_first name [] plain = ap (λ (t : List ℕ). 64 ∷ t) (up_to_end name pl
 marked_first name (next ∷ words) plain = ap (λ (t : List ℕ). 64 ∷ t) (up_to_next name (joined next words) plain)
 
 -- the label that some arguments name is one of their words
-word_of_label : (word : List ℕ) (spellings : List Spelling) (arguments : List Argument) (name : Name) → list_all is_plain word ≡ true → AreSpelled spellings arguments → AllFit arguments → list_all has_plain arguments ≡ true
+word_of_label : (word : List ℕ) (spellings : List Spelling) (arguments : List Argument) (name : Name) → list_all is_plain word ≡ true → AreSpelled spellings arguments
+    → AllFit arguments → list_all has_plain arguments ≡ true
     → label_in spellings ≡ Some name → (count : ℕ) × IsWordBehind count (joined word (spelled_words spellings arguments)) (64 ∷ name.bytes.items)
 word_of_label word [] [] name plain are fit holds is = absurd (cc)
 word_of_label word [] (argument ∷ arguments) name plain are fit holds is = absurd are

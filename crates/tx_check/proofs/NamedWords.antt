@@ -32,7 +32,8 @@ words_spaces : (count : ℕ) (line left : List ℕ) → words_left count line �
 words_spaces zero line left e = let same : line ≡ left = cc in omega (arith, ap spaces same)
 words_spaces (suc count) line left e = by (words_left count line) refl e (λ one is. words_spaces count line one is)
   where
-    by : (found : Option (List ℕ)) → words_left count line ≡ found → after_space_of found ≡ Some left → ((one : List ℕ) → words_left count line ≡ Some one → spaces line ≡ count + spaces one) → spaces line ≡ suc count + spaces left
+    by : (found : Option (List ℕ)) → words_left count line ≡ found → after_space_of found ≡ Some left
+        → ((one : List ℕ) → words_left count line ≡ Some one → spaces line ≡ count + spaces one) → spaces line ≡ suc count + spaces left
     by None is e before = absurd (cc)
     by (Some one) is e before = omega (arith, before one is, one_space one left e)
 
@@ -76,7 +77,8 @@ some_same left right e = cc
 same_word : (count : ℕ) (line one other : List ℕ) → IsWordBehind count line one → IsWordBehind count line other → one ≡ other
 same_word count line one other first second = first.same ∙ ap front_word (some_same first.left second.left (sym first.is ∙ second.is)) ∙ sym second.same
 
-pub known_more : (text line word : List ℕ) (count : ℕ) → AreKnownBefore text line count → IsWordBehind count line word → ((name : List ℕ) → word ≡ 64 ∷ name → IsNoLabel text name → ⊥) → AreKnownBefore text line (count + 1)
+pub known_more : (text line word : List ℕ) (count : ℕ) → AreKnownBefore text line count → IsWordBehind count line word
+    → ((name : List ℕ) → word ≡ 64 ∷ name → IsNoLabel text name → ⊥) → AreKnownBefore text line (count + 1)
 known_more text line word count known is there = record {
   all = λ earlier name below named nowhere.
       elim (cases_lt earlier count) [
@@ -87,7 +89,8 @@ known_more text line word count known is there = record {
       ];
 }
 
-named : (version : Version) (text : List ℕ) (count : ℕ) (instruction : Instruction) (label : Option Name) → AreKnownBefore text (line_text (line.Instruction instruction)) count → words_left count (line_text (line.Instruction instruction)) ≡ None
+named : (version : Version) (text : List ℕ) (count : ℕ) (instruction : Instruction) (label : Option Name) → AreKnownBefore text (line_text (line.Instruction instruction)) count
+    → words_left count (line_text (line.Instruction instruction)) ≡ None
     → IsLineOf version (line.Instruction instruction) → label_in instruction.spellings.items ≡ label → IsNowhere text label → ⊥
 named version text count instruction None known none good is nowhere = nowhere
 named version text count instruction (Some name) known none good is nowhere =

@@ -48,7 +48,8 @@ wanted_on line number P wanted =
     elim (cases_lt number line) [ inl before ↦ inl (omega (arith, before), wanted.1) | inr here ↦ inr (omega (arith, here, wanted.0)) ]
 
 -- what is told of a later line
-pub goes_on : (part : Part) (meant : MeantLines) (line own : ℕ) (from next : TextFrom) (number : ℕ) (bytes old new : List ℕ) → from.number < next.number → next.left.now ≡ after_lines (next.number - from.number) from.left.now → number ≡ next.number
+pub goes_on : (part : Part) (meant : MeantLines) (line own : ℕ) (from next : TextFrom) (number : ℕ) (bytes old new : List ℕ) → from.number < next.number
+    → next.left.now ≡ after_lines (next.number - from.number) from.left.now → number ≡ next.number
     → bytes ≡ first_line next.left.now → next.number ≡ own → IsWrongLine (left_of meant) line → Tells number bytes old new → GoesOn part meant line own from next old new
 goes_on part meant line own from next number bytes old new after left at same here wrong tells = λ text is_meant is_own before is.
     let there = moved text from next is (omega (arith, after)) left in
@@ -84,7 +85,8 @@ is_told part meant line own from told already = λ text is_meant is_own before i
 }
 
 -- where nothing is to be told of it
-pub is_quiet : (part : Part) (meant : MeantLines) (line own : ℕ) (from : TextFrom) (told : List ℕ) → ((passed : ℕ) → IsWrongAfter part passed (left_of meant) line → ⊥) → GoesOn part meant line own from from told told
+pub is_quiet : (part : Part) (meant : MeantLines) (line own : ℕ) (from : TextFrom) (told : List ℕ) → ((passed : ℕ) → IsWrongAfter part passed (left_of meant) line → ⊥)
+    → GoesOn part meant line own from from told told
 is_quiet part meant line own from told quiet = λ text is_meant is_own before is. record {
   is = is;
   up_to = omega (arith, before, is_own);
@@ -98,7 +100,8 @@ is_quiet part meant line own from told quiet = λ text is_meant is_own before is
 }
 
 -- the numbers of the lines that mean one rise
-numbered_low : (number : ℕ) (found : Option (List ℕ)) (numbers : List ℕ) (after : ℕ) → ((k : ℕ) → number + 1 ≤ slice_index_or numbers k after) → (k : ℕ) → number ≤ slice_index_or (numbered number found numbers) k after
+numbered_low : (number : ℕ) (found : Option (List ℕ)) (numbers : List ℕ) (after : ℕ) → ((k : ℕ) → number + 1 ≤ slice_index_or numbers k after) → (k : ℕ)
+    → number ≤ slice_index_or (numbered number found numbers) k after
 numbered_low number None numbers after all k = omega (arith, all k)
 numbered_low number (Some line) numbers after all zero = omega arith
 numbered_low number (Some line) numbers after all (suc k) = omega (arith, all k)
@@ -109,7 +112,8 @@ numbers_low stage number (line ∷ lines) after few k =
     numbered_low number (plain_line stage line) (numbers_from (stage_after stage (words_in line)) (number + 1) lines) after
     (numbers_low (stage_after stage (words_in line)) (number + 1) lines after (omega (arith, few))) k
 
-numbered_rise : (number : ℕ) (found : Option (List ℕ)) (numbers : List ℕ) (after : ℕ) → ((k : ℕ) → number + 1 ≤ slice_index_or numbers k after) → ((k j : ℕ) → k ≤ j → slice_index_or numbers k after ≤ slice_index_or numbers j after)
+numbered_rise : (number : ℕ) (found : Option (List ℕ)) (numbers : List ℕ) (after : ℕ) → ((k : ℕ) → number + 1 ≤ slice_index_or numbers k after)
+    → ((k j : ℕ) → k ≤ j → slice_index_or numbers k after ≤ slice_index_or numbers j after)
     → (k j : ℕ) → k ≤ j → slice_index_or (numbered number found numbers) k after ≤ slice_index_or (numbered number found numbers) j after
 numbered_rise number None numbers after low rise k j up = rise k j up
 numbered_rise number (Some line) numbers after low rise zero j up = numbered_low number (Some line) numbers after low j
@@ -170,7 +174,8 @@ told_fewer bytes (Ok told) IsWanted IsLess text number less tells = fewer IsWant
 told_fewer bytes (Err error) IsWanted IsLess text number less tells = tt
 
 -- what is told of a text where one that it means is at fault
-pub fault_told : {A E : Type 0} (bytes : A → List ℕ) (result : Result A E) (IsWanted : ℕ → Type 0) (kind : Kind) (text : List ℕ) (fault : Fault) (number : ℕ) → IsAtFault kind (meant_of text) fault → 1 ≤ line_of fault → number ≡ own_line text (line_of fault)
+pub fault_told : {A E : Type 0} (bytes : A → List ℕ) (result : Result A E) (IsWanted : ℕ → Type 0) (kind : Kind) (text : List ℕ) (fault : Fault) (number : ℕ)
+    → IsAtFault kind (meant_of text) fault → 1 ≤ line_of fault → number ≡ own_line text (line_of fault)
     → IfOk result (λ told. TellsFrom IsWanted text number (bytes told)) → IfOk result (λ told. IsToldBy (IsRead kind (meant_of text)) (IsOwnFault (IsAtFault kind) text) IsWanted text (bytes told))
 fault_told bytes (Ok told) IsWanted kind text fault number at_fault some own tells = told_fault IsWanted text (bytes told) (are_one kind text) (record {
   fault = fault_by (own_line text) fault;
@@ -180,5 +185,5 @@ fault_told bytes (Ok told) IsWanted kind text fault number at_fault some own tel
 fault_told bytes (Err error) IsWanted kind text fault number at_fault some own tells = tt
 
 -- behind the one fault of a text
-pub wrong_too : (text : List ℕ) (fault : Fault) (number : ℕ) → IsAtFault (kind_of text) text fault → IsWrongToo text number → IsWrongBehind fault text number
-wrong_too text fault number is wrong = subst (λ (f : Fault). IsWrongBehind f text number) (none_has_two (kind_of text) text wrong.fault fault wrong.is_fault is) wrong.too
+pub wrong_too : (text : List ℕ) (fault : Fault) → IsAtFault (kind_of text) text fault → (number : ℕ) → IsWrongToo text number → IsWrongBehind fault text number
+wrong_too text fault is number wrong = subst (λ (f : Fault). IsWrongBehind f text number) (none_has_two (kind_of text) text wrong.fault fault wrong.is_fault is) wrong.too

@@ -27,7 +27,8 @@ wrong_alike : (one other : Part) (passed : ℕ) (text : List ℕ) (number : ℕ)
 wrong_alike one other passed text number are wrong =
     (wrong.0, wrong.1, elim wrong.2 [ inl is ↦ inl (are.there is.0, is.1) | inr is ↦ inr (λ link. is.0 (are.back link), is.1) ])
 
-told_alike : (one other : Part) (passed count : ℕ) (text : List ℕ) (first last : ℕ) (told : List ℕ) → AreAlike one other → TellsBehind one passed count text first last told → TellsBehind other passed count text first last told
+told_alike : (one other : Part) (passed count : ℕ) (text : List ℕ) (first last : ℕ) (told : List ℕ) → AreAlike one other → TellsBehind one passed count text first last told
+    → TellsBehind other passed count text first last told
 told_alike one other passed count text first last told are up_to =
     last_known (λ n. (n ≤ count) × IsWrongAfter one passed (meant_of text) n) (λ n. (n ≤ count) × IsWrongAfter other passed (meant_of text) n) text first last told
     (λ n wanted. inl (wanted.0, wrong_alike other one passed (meant_of text) n (turned one other are) wanted.1)) up_to
@@ -39,7 +40,8 @@ pub record IsToldTo (part : Part) (passed : ℕ) (text : List ℕ) (own : TextFr
   pub on : (first : ℕ) → TellsBehind part passed passed text first own.number old → TellsBehind part passed before text first reached.number told
 
 -- one line later
-pub told_to : (part here : Part) (passed : ℕ) (text : List ℕ) (own : TextFrom) (old : List ℕ) (before number : ℕ) (reached next : TextFrom) (told new : List ℕ) (meant : MeantLines) → AreAlike part here → left_of meant ≡ meant_of text
+pub told_to : (part here : Part) (passed : ℕ) (text : List ℕ) (own : TextFrom) (old : List ℕ) (before number : ℕ) (reached next : TextFrom) (told new : List ℕ) (meant : MeantLines)
+    → AreAlike part here → left_of meant ≡ meant_of text
     → number ≡ own_line text (before + 1) → own_line text before ≤ own_line text (before + 1) → GoesOn here meant (before + 1) number reached next told new
     → IsToldTo part passed text own old before reached told → IsToldTo part passed text own old (before + 1) next new
 told_to part here passed text own old before number reached next told new meant are is_meant is_own up goes so =
@@ -55,21 +57,24 @@ told_to part here passed text own old before number reached next told new meant 
     }
 
 -- where no line behind is to be told of
-told_all : (part : Part) (passed before : ℕ) (text : List ℕ) (first last : ℕ) (told : List ℕ) → ((number : ℕ) → IsWrongAfter part passed (meant_of text) number → before < number → ⊥) → TellsBehind part passed before text first last told
+told_all : (part : Part) (passed before : ℕ) (text : List ℕ) (first last : ℕ) (told : List ℕ)
+    → ((number : ℕ) → IsWrongAfter part passed (meant_of text) number → before < number → ⊥) → TellsBehind part passed before text first last told
     → TellsFrom (IsWrongAfter part passed (meant_of text)) text first told
 told_all part passed before text first last told none up_to =
     fewer (λ n. (n ≤ before) × IsWrongAfter part passed (meant_of text) n) (IsWrongAfter part passed (meant_of text)) text first told
     (λ n wrong. elim (cases_lt before n) [ inl later ↦ absurd (none n wrong later) | inr here ↦ (here, wrong) ]) up_to.from
 
 -- so it is where none is left
-pub none_left : (part : Part) (passed before : ℕ) (text : List ℕ) (first last : ℕ) (told : List ℕ) → after_lines before (meant_of text) ≡ [] → TellsBehind part passed before text first last told → TellsFrom (IsWrongAfter part passed (meant_of text)) text first told
+pub none_left : (part : Part) (passed before : ℕ) (text : List ℕ) (first last : ℕ) (told : List ℕ) → after_lines before (meant_of text) ≡ []
+    → TellsBehind part passed before text first last told → TellsFrom (IsWrongAfter part passed (meant_of text)) text first told
 none_left part passed before text first last told none up_to = told_all part passed before text first last told (λ n wrong later. elim wrong.2 [
   | inl is ↦ none_later (meant_of text) before n none is.1.there later
   | inr is ↦ none_later (meant_of text) before n none is.1.there later
 ]) up_to
 
 -- behind a line that was one too many
-pub none_past : (part here : Part) (passed before : ℕ) (text : List ℕ) (first last : ℕ) (told : List ℕ) → AreAlike part here → (here ≡ parts.Link → ⊥) → IsPastAll (stand_behind (kind_of (meant_of text)) (meant_of text) (before + 1 - 1))
+pub none_past : (part here : Part) (passed before : ℕ) (text : List ℕ) (first last : ℕ) (told : List ℕ) → AreAlike part here → (here ≡ parts.Link → ⊥)
+    → IsPastAll (stand_behind (kind_of (meant_of text)) (meant_of text) (before + 1 - 1))
     → TellsBehind part passed before text first last told → TellsFrom (IsWrongAfter part passed (meant_of text)) text first told
 none_past part here passed before text first last told are other past up_to =
     let back : before + 1 - 1 ≡ before = omega arith in
@@ -80,6 +85,7 @@ none_past part here passed before text first last told are other past up_to =
     ]) up_to
 
 -- and behind as many lines as there may be
-pub none_more : (part : Part) (passed before : ℕ) (text : List ℕ) (first last : ℕ) (told : List ℕ) → 2 ^ 64 ≤ before + 1 → TellsBehind part passed before text first last told → TellsFrom (IsWrongAfter part passed (meant_of text)) text first told
+pub none_more : (part : Part) (passed before : ℕ) (text : List ℕ) (first last : ℕ) (told : List ℕ) → 2 ^ 64 ≤ before + 1 → TellsBehind part passed before text first last told
+    → TellsFrom (IsWrongAfter part passed (meant_of text)) text first told
 none_more part passed before text first last told all up_to =
     told_all part passed before text first last told (λ n wrong later. let small = wrong.1 in omega (arith, small, later, all)) up_to

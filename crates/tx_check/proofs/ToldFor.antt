@@ -3,7 +3,8 @@ use Rattle.std.proofs.Common.{◌≡◌, ◌≢◌, ◌∙◌, inl, inr, ℕ, Li
 use Rattle.tx_check.proofs.Appended.{fewer}
 use Rattle.tx_check.proofs.ReadOrFaulty.{none_has_two, none_is_both}
 use Rattle.tx_check.proofs.ToldOf.{told_fault, told_right, AreOne}
-use Rattle.tx_check.specs.Behind.{IsWrongToo}
+use Rattle.tx_check.proofs.OwnLines.{wrong_too}
+use Rattle.tx_check.specs.Behind.{IsWrongBehind, IsWrongToo}
 use Rattle.tx_check.specs.Kinds.{kind_of}
 use Rattle.tx_check.specs.Readers.{kind_read, IsFaultBy, IsLongFor, IsReadBy, IsShortFor, IsToldAs, IsToldFor, IsWrongFor}
 use Rattle.tx_check.specs.Reads.{line_of, Finds, IsAtFault, IsRead}
@@ -101,7 +102,8 @@ pub none_told : (reader : TheReader) (text told : List ℕ) → IsRead (kind_rea
 none_told reader text told read short none = told_right text told (are_one_for reader text) (record { read = read; short = short }) none
 
 -- what is told of a text for its own kind
-by_fewer : {IsRight : Type 0} {IsFault : Fault → Type 0} (IsWanted IsLess : ℕ → Type 0) (text told : List ℕ) → ((meant : ℕ) → IsLess meant → IsWanted meant) → IsToldBy IsRight IsFault IsWanted text told → IsToldBy IsRight IsFault IsLess text told
+by_fewer : {IsRight : Type 0} {IsFault : Fault → Type 0} (IsWanted IsLess : ℕ → Type 0) (text told : List ℕ) → ((meant : ℕ) → IsLess meant → IsWanted meant)
+    → IsToldBy IsRight IsFault IsWanted text told → IsToldBy IsRight IsFault IsLess text told
 by_fewer IsWanted IsLess text told less is = record {
   silent = is.silent;
   at_fault = λ some. let tells = is.at_fault some in record {
@@ -112,12 +114,18 @@ by_fewer IsWanted IsLess text told less is = record {
   first = λ fault found. fewer IsWanted IsLess text (line_of fault) told less (is.first fault found);
 }
 
-pub of_kind : {A E : Type 0} (bytes : A → List ℕ) (result : Result A E) (text : List ℕ) → IfOk result (λ told. IsToldOf text (bytes told)) → IfOk result (λ told. IsToldAs (kind_of (meant_of text)) text (bytes told))
+pub of_kind : {A E : Type 0} (bytes : A → List ℕ) (result : Result A E) (text : List ℕ) → IfOk result (λ told. IsToldOf text (bytes told))
+    → IfOk result (λ told. IsToldAs (kind_of (meant_of text)) text (bytes told))
 of_kind bytes (Ok told) text is = by_fewer (IsWrongToo (meant_of text)) (IsWrongFor (kind_of (meant_of text)) (meant_of text)) text (bytes told) (λ line wrong. wrong.own) is
 of_kind bytes (Err error) text is = tt
 
--- where a text is at fault for its own kind at another line, or is right
-pub not_there : (kind : Kind) (text : List ℕ) (found : Option Fault) (fault : Fault) → Finds (kind_of text) text found → IsAtFault kind text fault → ((other : Fault) → found ≡ Some other → line_of other ≢ line_of fault)
+-- where a text is at fault for its own kind at the same line
+pub wrong_there : (kind : Kind) (text : List ℕ) (fault : Fault) → IsAtFault (kind_of text) text fault → (number : ℕ) → IsWrongFor kind text number → IsWrongBehind fault text number
+wrong_there kind text fault is number wrong = wrong_too text fault is number wrong.own
+
+-- where it is at another line, or is right
+pub not_there : (kind : Kind) (text : List ℕ) (found : Option Fault) (fault : Fault) → Finds (kind_of text) text found → IsAtFault kind text fault
+    → ((other : Fault) → found ≡ Some other → line_of other ≢ line_of fault)
     → (number : ℕ) → IsWrongFor kind text number → ⊥
 not_there kind text None fault read at another number wrong = none_is_both (kind_of text) text wrong.own.fault read wrong.own.is_fault
 not_there kind text (Some other) fault found at another number wrong = another other refl

@@ -13,7 +13,8 @@ pub record AreOne (IsRight : Type 0) (IsFault : Fault → Type 0) : Type 0 where
   pub never : (fault : Fault) → IsRight → IsFault fault → ⊥
   pub one : (a b : Fault) → IsFault a → IsFault b → a ≡ b
 
-pub told_right : {IsRight : Type 0} {IsFault : Fault → Type 0} {IsWanted : ℕ → Type 0} (text told : List ℕ) → AreOne IsRight IsFault → IsRight → told ≡ [] → IsToldBy IsRight IsFault IsWanted text told
+pub told_right : {IsRight : Type 0} {IsFault : Fault → Type 0} {IsWanted : ℕ → Type 0} (text told : List ℕ) → AreOne IsRight IsFault → IsRight → told ≡ []
+    → IsToldBy IsRight IsFault IsWanted text told
 told_right text told are right none = record {
   silent = (λ _. right, λ _. none);
   at_fault = λ some. absurd (some none);
@@ -24,7 +25,8 @@ pub something : (IsWanted : ℕ → Type 0) (text : List ℕ) (line : ℕ) (told
 something IsWanted text line told tells none =
     omega (arith, ap length none, ap length tells.spelled, length-append (told_text tells.first) (10 ∷ lines_of told_text tells.others))
 
-pub told_fault : {IsRight : Type 0} {IsFault : Fault → Type 0} (IsWanted : ℕ → Type 0) (text told : List ℕ) → AreOne IsRight IsFault → TellsFault IsFault IsWanted text told → IsToldBy IsRight IsFault IsWanted text told
+pub told_fault : {IsRight : Type 0} {IsFault : Fault → Type 0} (IsWanted : ℕ → Type 0) (text told : List ℕ) → AreOne IsRight IsFault → TellsFault IsFault IsWanted text told
+    → IsToldBy IsRight IsFault IsWanted text told
 told_fault IsWanted text told are tells = record {
   silent = (
     λ none. absurd (something IsWanted text (line_of tells.fault) told tells.tells none),

@@ -48,7 +48,8 @@ second text number (AmongSteps steps) place line is of twice = absurd (apart pla
 second text number (AmongCommands commands) place line is of twice = absurd (apart place.part parts.Command is.0 (λ e. absurd (cc)) (λ e. absurd (cc)) of)
 second text number (AmongLines instructions labels) place line is of twice = twice
 
-pub between : (version : Version) (text : List ℕ) (number : ℕ) (stand : Stand) (place : Place) (line : List ℕ) (is_ended : Bool) → IsPlaceOf stand place → IsOfProgram place.part → IsTwice text number line ⊎ NamesNowhere text line
+pub between : (version : Version) (text : List ℕ) (number : ℕ) (stand : Stand) (place : Place) (line : List ℕ) (is_ended : Bool) → IsPlaceOf stand place → IsOfProgram place.part
+    → IsTwice text number line ⊎ NamesNowhere text line
     → IsWrong version text number stand line is_ended
 between version text number stand place line is_ended is of (inl twice) = inl (Second (second text number stand place line is of twice))
 between version text number stand place line is_ended is of (inr nowhere) = inr nowhere

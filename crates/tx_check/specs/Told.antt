@@ -74,7 +74,8 @@ abbrev pub IsAmong : ℕ → List Told → Type 0
 IsAmong line [] = ⊥
 IsAmong line (told ∷ others) = (told.line ≡ line) ⊎ IsAmong line others
 
--- what is told of some lines of a text, that line first; each later one is at fault too, and none of which this is wanted is left out: where a line that is meant is wanted, its own line is among them
+-- what is told of some lines of a text, that line first; each later one is at fault too; and none is left out that is wanted: of each meant line
+-- that is, the own line is among them
 pub record TellsFrom (IsWanted : ℕ → Type 0) (text : List ℕ) (line : ℕ) (told : List ℕ) : Type 0 where
   pub first : Told
   pub others : List Told
@@ -104,12 +105,12 @@ pub record TellsFault (IsFault : Fault → Type 0) (IsWanted : ℕ → Type 0) (
   pub is_fault : IsFault fault
   pub tells : TellsFrom IsWanted text (line_of fault) told
 
--- nothing is told exactly of a text that is right; any other is at fault, and of each fault that it has the line is told first, and each wanted line behind it
+-- nothing is told exactly of a text that is right; any other is at fault, and of each fault that it has the line is told first; no wanted line is left out
 pub record IsToldBy (IsRight : Type 0) (IsFault : Fault → Type 0) (IsWanted : ℕ → Type 0) (text told : List ℕ) : Type 0 where
   pub silent : (told ≡ []) ↔ IsRight
   pub at_fault : told ≢ [] → TellsFault IsFault IsWanted text told
   pub first : (fault : Fault) → IsFault fault → TellsFrom IsWanted text (line_of fault) told
 
--- that is told of a text by the command of its kind, and each line at fault is
+-- that is told of a text by the command of its kind, and no line that is at fault too is left out
 abbrev pub IsToldOf : List ℕ → List ℕ → Type 0
 IsToldOf text told = IsToldBy (IsMeantRead text) (IsMeantFault text) (IsWrongToo (meant_of text)) text told

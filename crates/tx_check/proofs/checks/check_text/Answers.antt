@@ -24,8 +24,10 @@ returns-in-Some c =
     let of_kind = subst (λ (kind : Kind). IsAtFault kind read fault) c.kind_of-kind.ensures c.in-Some.ensures in
     let at_fault = subst (λ (meant : List ℕ). IsAtFault (kind_of meant) meant fault) (ap left_of c.of-meant.ensures.text ∙ c.of.ensures.left) of_kind in
     let meant = meant_of text in
-    let told = told_fewer string_bytes c.tell_from.result (IsWrongBehind fault meant) (IsWrongToo meant) text (own_line text (line_of fault)) (λ n wrong. wrong_too meant fault n at_fault wrong) c.tell_from.ensures in
-    fault_told string_bytes c.tell_from.result (IsWrongToo meant) (kind_of meant) text fault (own_line text (line_of fault)) at_fault some refl told
+    let own = own_line text (line_of fault) in
+    let less = wrong_too meant fault at_fault in
+    let told = told_fewer string_bytes c.tell_from.result (IsWrongBehind fault meant) (IsWrongToo meant) text own less c.tell_from.ensures in
+    fault_told string_bytes c.tell_from.result (IsWrongToo meant) (kind_of meant) text fault own at_fault some refl told
 
 pub returns-in-None : goal.returns-in-None
 returns-in-None c =

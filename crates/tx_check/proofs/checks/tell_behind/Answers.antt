@@ -39,7 +39,8 @@ returns-then-is_past_all c = λ text first is_meant owns is low up_to.
     let meant = left_of c.args.meant.now.text in
     let past = c.if-is_past_all.ensures.past refl (stand_behind (kind_of meant) meant (before + 1 - 1)) so.place.stands in
     let there = subst (λ (bytes : List ℕ). IsPastAll (stand_behind (kind_of bytes) bytes (before + 1 - 1))) is_meant past in
-    none_past c.args.place.part c.loop-before.place.part c.args.passed before text first c.loop-before.reached.number (string_bytes c.loop-before.told) so.alike (c.if-is_past_all.ensures.link refl) there
+    let told = string_bytes c.loop-before.told in
+    none_past c.args.place.part c.loop-before.place.part c.args.passed before text first c.loop-before.reached.number told so.alike (c.if-is_past_all.ensures.link refl) there
     ((so.goes text is_meant owns is low).1.on first up_to)
 
 pub loop-before-preserved : goal.loop-before-preserved
@@ -54,7 +55,9 @@ loop-before-preserved c =
           let told = so.goes text is_meant owns is low in
           let own = next.own text (before + 1) told.0 in
           let up = own_rises text before (before + 1) so.some (omega arith) in
-          let on = told_to c.args.place.part c.loop-before.place.part c.args.passed text c.args.own (string_bytes c.args.told.now) before c.in-Some.line.number c.loop-before.reached c.in_ok-reached.reached
+          let old = string_bytes c.args.told.now in
+          let here = c.loop-before.place.part in
+          let on = told_to c.args.place.part here c.args.passed text c.args.own old before c.in-Some.line.number c.loop-before.reached c.in_ok-reached.reached
           (string_bytes c.loop-before.told) _ c.args.meant.now.text so.alike is_meant (own.own (omega arith)) up c.in_ok-reached.ensures told.1 in
           (own.behind, on);
       at = next.line.behind ∙ ap behind so.at ∙ lines_more before meant;

@@ -31,5 +31,7 @@ returns c =
     let line = c.line-own_line in
     let later = c.if-number-own.false in
     let wrong = wrong_line (left_of meant) place at c.requires.place c.requires.line c.in-Some.ensures.wrong in
-    goes_on place.part meant at.number c.args.number c.args.own next.result line.result.number line.result.bytes.now (string_bytes c.args.told.now) (string_bytes c.tell.new.told) (omega (arith, later, next.ensures.number))
+    let old = string_bytes c.args.told.now in
+    let new = string_bytes c.tell.new.told in
+    goes_on place.part meant at.number c.args.number c.args.own next.result line.result.number line.result.bytes.now old new (omega (arith, later, next.ensures.number))
     (next.ensures.left ∙ rw next.ensures.number refl) line.ensures.number line.ensures.bytes next.ensures.number wrong c.in_ok-tell.ensures

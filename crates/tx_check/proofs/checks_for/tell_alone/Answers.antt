@@ -19,5 +19,6 @@ returns c =
     }) some (there.ensures.left ∙ rw there.ensures.number refl) in
     let same : line.result.bytes.now ≡ line_at line.result.number text =
     line.ensures.bytes ∙ ap first_line is.left ∙ ap (λ (n : ℕ). line_at n text) (sym line.ensures.number) in
-    let told = first_told (λ n. ⊥) text line.result.bytes.now line.result.number (string_bytes c.new-told.result) (string_bytes c.tell.new.told) (λ n wanted. wanted) same c.new-told.ensures.bytes c.in_ok-tell.ensures in
-    subst (λ (n : ℕ). TellsFrom (λ line. ⊥) text n (string_bytes c.tell.new.told)) (line.ensures.number ∙ there.ensures.number) told.from
+    let new = string_bytes c.tell.new.told in
+    let told = first_told (λ n. ⊥) text line.result.bytes.now line.result.number (string_bytes c.new-told.result) new (λ n wanted. wanted) same c.new-told.ensures.bytes c.in_ok-tell.ensures in
+    subst (λ (n : ℕ). TellsFrom (λ line. ⊥) text n new) (line.ensures.number ∙ there.ensures.number) told.from

@@ -1,7 +1,7 @@
 use Rattle.std.proofs.Common.{◌∙◌, List, ℕ, ap, arith, string_bytes, subst}
 use Rattle.tx_check.proofs.Numbered.{some_line}
-use Rattle.tx_check.proofs.OwnLines.{fault_told, own_some, told_fewer, wrong_too}
-use Rattle.tx_check.proofs.ToldFor.{not_there}
+use Rattle.tx_check.proofs.OwnLines.{fault_told, own_some, told_fewer}
+use Rattle.tx_check.proofs.ToldFor.{not_there, wrong_there}
 use Rattle.tx_check.specs.Behind.{IsWrongBehind}
 use Rattle.tx_check.specs.Kinds.{kind_of}
 use Rattle.tx_check.specs.Readers.{IsWrongFor}
@@ -32,8 +32,10 @@ returns-in-Some c =
     let of_kind = subst (λ (k : Kind). Finds k read c.first_fault.result) c.kind_of-own.ensures c.first_fault.ensures in
     let found = subst (λ (bytes : List ℕ). Finds (kind_of bytes) bytes c.first_fault.result) (ap left_of c.of-meant.ensures.text ∙ c.of.ensures.left) of_kind in
     let at = subst (Finds (kind_of meant) meant) c.in-Some.ensures.same.0 found in
-    let told = told_fewer string_bytes c.tell_from.result (IsWrongBehind other meant) (IsWrongFor kind meant) text (own_line text (line_of other)) (λ n wrong. wrong_too meant other n at wrong.own) c.tell_from.ensures in
-    fault_told string_bytes c.tell_from.result (IsWrongFor kind meant) kind text c.args.fault (own_line text (line_of other)) c.requires.fault some (ap (own_line text) c.in-Some.ensures.same.1) told
+    let own = own_line text (line_of other) in
+    let less = wrong_there kind meant other at in
+    let told = told_fewer string_bytes c.tell_from.result (IsWrongBehind other meant) (IsWrongFor kind meant) text own less c.tell_from.ensures in
+    fault_told string_bytes c.tell_from.result (IsWrongFor kind meant) kind text c.args.fault own c.requires.fault some (ap (own_line text) c.in-Some.ensures.same.1) told
 
 pub returns-in-None : goal.returns-in-None
 returns-in-None c =
@@ -44,5 +46,6 @@ returns-in-None c =
     let some = some_line kind meant c.args.fault c.requires.fault in
     let of_kind = subst (λ (k : Kind). Finds k read c.first_fault.result) c.kind_of-own.ensures c.first_fault.ensures in
     let found = subst (λ (bytes : List ℕ). Finds (kind_of bytes) bytes c.first_fault.result) (ap left_of c.of-meant.ensures.text ∙ c.of.ensures.left) of_kind in
-    let told = told_fewer string_bytes c.tell_alone.result (λ line. ⊥) (IsWrongFor kind meant) text c.args.number (λ n wrong. not_there kind meant c.first_fault.result c.args.fault found c.requires.fault c.in-None.ensures.another n wrong) c.tell_alone.ensures in
+    let less = not_there kind meant c.first_fault.result c.args.fault found c.requires.fault c.in-None.ensures.another in
+    let told = told_fewer string_bytes c.tell_alone.result (λ line. ⊥) (IsWrongFor kind meant) text c.args.number less c.tell_alone.ensures in
     fault_told string_bytes c.tell_alone.result (IsWrongFor kind meant) kind text c.args.fault c.args.number c.requires.fault some c.requires.number told
