@@ -1,11 +1,11 @@
 -- What is said of a word, byte by byte.
-use Rattle.std.proofs.Common.{◌≡◌, ◌∙◌, ◌<◌, ◌+◌, ℕ, List, [], ◌∷◌, ◌++◌, length, take, drop, map, ap, subst, refl, codes, Bool, true, false, ◌||◌, nat_eq, nat_lt, if◌then◌else◌, sym, add-one, append_assoc, slice_index_or}
+use Rattle.std.proofs.Common.{◌≡◌, ◌∙◌, ◌<◌, ◌≤◌, ◌+◌, ℕ, List, [], ◌∷◌, ◌++◌, length, take, drop, map, ap, subst, refl, codes, Bool, true, false, ◌||◌, nat_eq, nat_lt, if◌then◌else◌, sym, add-one, append_assoc, arith, slice_index_or}
 use Rattle.std.proofs.Math.Seq.{take-suc}
 use Rattle.std.proofs.lemmas.List.{map-append, take-append-drop}
 use Rattle.std.proofs.lemmas.Bool.{both_ways, ne_eqb}
 use Rattle.std.specs.Char.{is_ascii_graphic}
 use Rattle.tx_check.proofs.InLine.{in_line_more}
-use Rattle.tx_check.specs.Speaking.{said_word, shown}
+use Rattle.tx_check.specs.Speaking.{said_word, shown, IsByteAt}
 use Rattle.tx_check.specs.Told.{is_no_end, IsInLine}
 
 -- one byte more
@@ -39,3 +39,8 @@ word_in_line word = by_length (nat_lt 48 (length word)) (map shown (take 48 word
 -- a line is its front and what follows
 pub parts_of : (line front left : List ℕ) (count : ℕ) → front ≡ take count line → left ≡ drop count line → line ≡ front ++ left
 parts_of line front left count is rest = rw (is, rest) (sym (take-append-drop count line))
+
+-- a line that has a byte begins with it
+pub first_byte : (line : List ℕ) → 1 ≤ length line → IsByteAt line 1 (slice_index_or line 0 0)
+first_byte [] some = absurd (omega (arith, some))
+first_byte (byte ∷ bytes) some = record { front = []; rest = bytes; parts = refl; at = refl }

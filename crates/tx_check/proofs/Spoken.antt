@@ -8,7 +8,7 @@ use Rattle.tx_check.specs.declared.trouble.LineTrouble.TheVariants as troubles
 pub speaks : (what : What) (line : List ℕ) (column : ℕ) (sentence : List ℕ) → IsPlacedInLine line column what → IfSome (word_of what) (λ word. IsWordAt line column word) → SaysOfLine what sentence
     → IfSome (word_of what) (λ word. SpeaksOf word sentence) → SpeaksAt line column sentence
 speaks (whats.Line trouble) line column sentence placed at says of = OfLine trouble placed says
-speaks (whats.OddByte byte) line column sentence placed at says of = OfByte byte placed says
+speaks (whats.OddByte byte) line column sentence placed at says of = OfByte byte placed.0 placed.1 says
 speaks (whats.Word word trouble) line column sentence placed at says of = OfWord word.now at of
 speaks (whats.NoSuch names word) line column sentence placed at says of = OfWord word.now at of
 speaks (whats.Takes name form got) line column sentence placed at says of = OfWord name.now at of

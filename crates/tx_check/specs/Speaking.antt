@@ -1,12 +1,13 @@
 -- What is said of a line, and of a word of it.
-use Rattle.std.specs.Prelude.{◌≡◌, ◌<◌, ℕ, ◌+◌, Bool, true, ◌||◌, List, [], ◌∷◌, ◌++◌, length, map, take, nat_eq, nat_lt, codes, Option, Some, None, if◌then◌else◌}
-use Rattle.std.specs.Char.{is_ascii_graphic}
+use Rattle.std.specs.Prelude.{◌≡◌, ◌⊎◌, ◌<◌, ℕ, ◌+◌, Bool, true, not, ◌||◌, List, [], ◌∷◌, ◌++◌, length, map, take, nat_eq, nat_lt, codes, Option, Some, None, IfSome, if◌then◌else◌}
+use Rattle.std.specs.Char.{is_ascii_digit, is_ascii_graphic}
 use Rattle.std.specs.Fmt.{decimal}
 use Rattle.std.specs.Str.{bytes_eq}
 use Rattle.tx_check.specs.declared.trouble.LineTrouble.{LineTrouble}
-use Rattle.tx_check.specs.declared.trouble.LineTrouble.TheVariants.{TooLong, TooManySteps, TooManyCommands, TooManyInstructions, TooManyLabels, NoEnd, CarriageReturn, ByteOrderMark, Comment, OtherComment, Empty, Space, NoHeader, NoCall, DeferIsLater, MovedIsLater, CommandTooSoon, DebugAgain, LabelInSchedule, StepInProgram, DebugInProgram, StepAmongCommands, NoSessionHeader, HeaderLate, ProgramInSession, DebugInSession, NoStep, NeitherStepNorCommand, ProgramHere, ScheduleHere, CommandsHere, NoCommands, TooManyToDraw}
+use Rattle.tx_check.specs.declared.trouble.LineTrouble.TheVariants.{TooLong, TooManySteps, TooManyCommands, TooManyInstructions, TooManyLabels, NoEnd, CarriageReturn, ByteOrderMark, Comment, OtherComment, Empty, Space, NoHeader, NoCall, DeferIsLater, MovedIsLater, CommandTooSoon, DebugAgain, LabelInSchedule, StepInProgram, DebugInProgram, StepAmongCommands, NoSessionHeader, HeaderLate, ProgramInSession, DebugInSession, NoStep, NeitherStepNorCommand, ProgramHere, ScheduleHere, CommandsHere, NoCommands, TooManyToDraw, NoneOfTheGrammar}
 use Rattle.tx_check.specs.declared.trouble.What.{What}
 use Rattle.tx_check.specs.declared.trouble.What.TheVariants as whats
+use Rattle.tx_plain.specs.Words.{words_in}
 
 -- the sentences about lines: about the command that is to read the text, about sessions, about what stands in a wrong place, and all of them
 abbrev pub reader_sentence : LineTrouble → List ℕ
@@ -129,19 +130,94 @@ SaysOfLine (whats.Line trouble) sentence = sentence ≡ line_sentence trouble
 SaysOfLine (whats.OddByte byte) sentence = SpeaksOfByte byte sentence
 SaysOfLine what sentence = Unit {0}
 
--- a line of more than 512 bytes is too long, and no other
-abbrev pub IsTrueOf : LineTrouble → List ℕ → Type 0
-IsTrueOf TooLong line = 512 < length line
-IsTrueOf trouble line = Unit {0}
+-- these bytes are at that column
+pub record IsAt (line : List ℕ) (column : ℕ) (bytes : List ℕ) : Type 0 where
+  pub front : List ℕ
+  pub rest : List ℕ
+  pub parts : line ≡ front ++ (bytes ++ rest)
+  pub at : column ≡ length front + 1
+
+-- a space is at that column that parts no two words: it is first, or last, or before another one
+pub record IsOddSpace (line : List ℕ) (column : ℕ) : Type 0 where
+  pub front : List ℕ
+  pub rest : List ℕ
+  pub parts : line ≡ front ++ (32 ∷ rest)
+  pub at : column ≡ length front + 1
+  pub odd : (front ≡ []) ⊎ ((rest ≡ []) ⊎ ((others : List ℕ) × (rest ≡ 32 ∷ others)))
+
+-- no word is at that column, or behind it; a line may end with one byte 13
+pub record IsBehindWords (line : List ℕ) (column : ℕ) : Type 0 where
+  pub front : List ℕ
+  pub rest : List ℕ
+  pub end : List ℕ
+  pub parts : line ≡ front ++ (rest ++ end)
+  pub at : column ≡ length front + 1
+  pub none : words_in rest ≡ []
+  pub ends : (end ≡ []) ⊎ (end ≡ 13 ∷ [])
+
+-- a byte that stands in no line of the first two versions
+abbrev pub is_odd : ℕ → Bool
+is_odd byte = not (nat_eq byte 32 || is_ascii_graphic byte)
+
+-- a digit is at that column
+pub record IsDigitAt (line : List ℕ) (column : ℕ) : Type 0 where
+  pub byte : ℕ
+  pub there : IsByteAt line column byte
+  pub digit : is_ascii_digit byte ≡ true
+
+-- a command is at that column, and what a step begins with
+abbrev pub IsCommandAt : List ℕ → ℕ → Type 0
+IsCommandAt line column =
+    IsWordAt line column (codes "back")
+    ⊎ (IsWordAt line column (codes "forward") ⊎ (IsWordAt line column (codes "goto") ⊎ (IsWordAt line column (codes "state") ⊎ IsWordAt line column (codes "moved"))))
+
+abbrev pub IsStepAt : List ℕ → ℕ → Type 0
+IsStepAt line column = IsWordAt line column (codes "kernel") ⊎ IsDigitAt line column
+
+-- the word at the column of a trouble with a line, where it is always the same
+abbrev pub word_for : LineTrouble → Option (List ℕ)
+word_for NoSessionHeader = Some (codes "txos")
+word_for HeaderLate = Some (codes "txos")
+word_for ProgramInSession = Some (codes "program")
+word_for ProgramHere = Some (codes "program")
+word_for ScheduleHere = Some (codes "schedule")
+word_for DebugAgain = Some (codes "debug")
+word_for DebugInProgram = Some (codes "debug")
+word_for DebugInSession = Some (codes "debug")
+word_for CommandsHere = Some (codes "debug")
+word_for LabelInSchedule = Some (codes "label")
+word_for MovedIsLater = Some (codes "moved")
+word_for DeferIsLater = Some (codes "sys_xbegin")
+word_for trouble = None
+
+-- what is said of a line at that column is true of it; what holds of any line, and so says nothing of this one, is never said
+abbrev pub IsTrueOf : LineTrouble → List ℕ → ℕ → Type 0
+IsTrueOf TooLong line column = 512 < length line
+IsTrueOf NoEnd line column = column ≡ length line + 1
+IsTrueOf CarriageReturn line column = IsByteAt line column 13 × (column ≡ length line)
+IsTrueOf ByteOrderMark line column = IsAt line column (239 ∷ 187 ∷ 191 ∷ [])
+IsTrueOf Comment line column = IsByteAt line column 35
+IsTrueOf OtherComment line column = IsAt line column (codes "//") ⊎ (IsAt line column (codes "/*") ⊎ IsAt line column (codes ";"))
+IsTrueOf Empty line column = line ≡ []
+IsTrueOf NoCommands line column = line ≡ []
+IsTrueOf Space line column = IsOddSpace line column
+IsTrueOf NoCall line column = IsBehindWords line column
+IsTrueOf CommandTooSoon line column = IsCommandAt line column
+IsTrueOf StepInProgram line column = IsStepAt line column
+IsTrueOf StepAmongCommands line column = IsStepAt line column
+IsTrueOf NoStep line column = ⊥
+IsTrueOf NeitherStepNorCommand line column = ⊥
+IsTrueOf NoneOfTheGrammar line column = ⊥
+IsTrueOf trouble line column = IfSome (word_for trouble) (λ word. IsWordAt line column word)
 
 -- the sentence is about the line as a whole, and true of it; or it speaks of the byte or the word at that column
 pub data SpeaksAt (line : List ℕ) (column : ℕ) (sentence : List ℕ) : Type 0 where
-  OfLine : (trouble : LineTrouble) → IsTrueOf trouble line → sentence ≡ line_sentence trouble → SpeaksAt line column sentence
-  OfByte : (byte : ℕ) → IsByteAt line column byte → SpeaksOfByte byte sentence → SpeaksAt line column sentence
+  OfLine : (trouble : LineTrouble) → IsTrueOf trouble line column → sentence ≡ line_sentence trouble → SpeaksAt line column sentence
+  OfByte : (byte : ℕ) → IsByteAt line column byte → is_odd byte ≡ true → SpeaksOfByte byte sentence → SpeaksAt line column sentence
   OfWord : (word : List ℕ) → IsWordAt line column word → SpeaksOf word sentence → SpeaksAt line column sentence
 
 -- what is told at that column of a line is so, where it is about no word
 abbrev pub IsPlacedInLine : List ℕ → ℕ → What → Type 0
-IsPlacedInLine line column (whats.Line trouble) = IsTrueOf trouble line
-IsPlacedInLine line column (whats.OddByte byte) = IsByteAt line column byte
+IsPlacedInLine line column (whats.Line trouble) = IsTrueOf trouble line column
+IsPlacedInLine line column (whats.OddByte byte) = IsByteAt line column byte × (is_odd byte ≡ true)
 IsPlacedInLine line column what = Unit {0}

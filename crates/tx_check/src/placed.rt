@@ -1,16 +1,22 @@
 //! Whether what is told of a line is so there.
-ghost use Rattle.std.specs.Prelude.{◌≡◌, ◌≢◌, ◌<◌, ◌++◌, ℕ, List, IfSome, IsTrue, MatchOption, length};
-ghost use Rattle.tx_check.specs.Speaking.{ends_word, word_of, IsByteAt, IsPlacedInLine, IsWordAt};
+ghost use Rattle.std.specs.Prelude.{◌≡◌, ◌≢◌, ◌<◌, ◌⊎◌, ◌++◌, ◌∷◌, [], ℕ, List, IfSome, IsTrue, MatchOption, length, option_map, true};
+ghost use Rattle.tx_check.specs.Speaking.{ends_word, is_odd, word_of, IsAt, IsBehindWords, IsByteAt, IsCommandAt, IsDigitAt, IsOddSpace, IsPlacedInLine, IsStepAt, IsTrueOf, IsWordAt};
+ghost use Rattle.tx_check.specs.Speaking as spec;
 ghost use Rattle.tx_check.specs.Told.{IsColumn};
 ghost use Rattle.tx_check.specs.declared.trouble.LineTrouble.TheVariants as troubles;
 ghost use Rattle.tx_check.specs.declared.trouble.What.TheVariants as whats;
 
-use crate::trouble::{LineTrouble, Trouble, What};
+use crate::own::own_word;
+use crate::trouble::{LineTrouble, Trouble, What, WordTrouble};
 use tx_lines::LINE_BYTES;
+use tx_plain::split_word;
 
-/// What is told of a line where that trouble was found: the trouble, where what it speaks of is in
+/// What some editors put before a text.
+const BYTE_ORDER_MARK: [u8; 3] = [0xef, 0xbb, 0xbf];
+
+/// What is told of a line where that trouble was found: the trouble, where what it says is so in
 /// its column. Of a line that is too long nothing else is told.
-pub fn placed<'a>(line: &[u8], trouble: Trouble<'a>) -> Trouble<'a>
+pub fn placed<'a>(line: &'a [u8], trouble: Trouble<'a>) -> Trouble<'a>
     requires { IsColumn line.now trouble.column }
     ensures column { IsColumn line.now result.column }
     ensures line { IsPlacedInLine line.now result.column result.what }
@@ -23,7 +29,100 @@ pub fn placed<'a>(line: &[u8], trouble: Trouble<'a>) -> Trouble<'a>
     if is_in_line(line, &trouble) && is_word_there(line, &trouble) {
         return trouble;
     }
-    Trouble::of_line(1, LineTrouble::NoneOfTheGrammar)
+    match odd_byte_at(line, trouble.column) {
+        Some(byte) => Trouble {
+            column: trouble.column,
+            what: What::OddByte(byte),
+        },
+        None => of_first_word(line),
+    }
+}
+
+/// The byte in that column, where no line of the first two versions has one and it is neither a tab
+/// nor at the line's end.
+fn odd_byte_at(line: &[u8], column: usize) -> Option<u8>
+    requires { IsColumn line.now column }
+    ensures { IfSome result (λ byte. IsByteAt line.now column byte × (is_odd byte ≡ true)) }
+{
+    let (_front, left) = line.split_at(column - 1);
+    match left {
+        [byte, _next, ..] => odd_byte(*byte),
+        _ => None,
+    }
+}
+
+/// That byte, where no line of the first two versions has it, and it is no tab.
+fn odd_byte(byte: u8) -> Option<u8>
+    ensures byte { IfSome result (λ odd. odd ≡ byte) }
+    ensures odd { IfSome result (λ odd. is_odd byte ≡ true) }
+{
+    if is_odd(byte) && byte != b'\t' {
+        return Some(byte);
+    }
+    None
+}
+
+/// What is told of any line: that it may not stand where it does, of its first word; or what stands
+/// there where it has none.
+fn of_first_word(line: &[u8]) -> Trouble<'_>
+    ensures column { IsColumn line.now result.column }
+    ensures line { IsPlacedInLine line.now result.column result.what }
+    ensures word { IfSome (word_of result.what) (λ word. IsWordAt line.now result.column word) }
+{
+    if let Some(first) = own_word(line, 0) {
+        return none_here(line, first.column);
+    }
+    match line {
+        [] => Trouble::of_line(1, LineTrouble::Empty),
+        [byte, ..] => of_first_byte(line, *byte),
+    }
+}
+
+/// What is told of any line that begins with that byte: what the byte is, or that the line may not
+/// stand where it does, where that can be a word's.
+fn of_first_byte(line: &[u8], byte: u8) -> Trouble<'_>
+    requires { IsByteAt line.now 1 byte }
+    ensures column { IsColumn line.now result.column }
+    ensures line { IsPlacedInLine line.now result.column result.what }
+    ensures word { IfSome (word_of result.what) (λ word. IsWordAt line.now result.column word) }
+{
+    match byte {
+        b' ' => Trouble::of_line(1, LineTrouble::Space),
+        b'#' => Trouble::of_line(1, LineTrouble::Comment),
+        _ if is_odd(byte) => Trouble {
+            column: 1,
+            what: What::OddByte(byte),
+        },
+        _ => none_here(line, 1),
+    }
+}
+
+/// That a line may not stand where it does, told of the word in that column.
+fn none_here(line: &[u8], column: usize) -> Trouble<'_>
+    requires { IsColumn line.now column }
+    ensures column { result.column ≡ column }
+    ensures line { IsPlacedInLine line.now column result.what }
+    ensures word { IfSome (word_of result.what) (λ word. IsWordAt line.now column word) }
+{
+    Trouble {
+        column,
+        what: What::Word(word_from(line, column), WordTrouble::NoneHere),
+    }
+}
+
+/// The word in that column of a line: what is there up to the end of a word.
+fn word_from(line: &[u8], column: usize) -> &[u8]
+    requires { IsColumn line.now column }
+    ensures { IsWordAt line.now column result.now }
+{
+    let (_front, left) = line.split_at(column - 1);
+    for at in 0..left.len() {
+        let (word, rest) = left.split_at(at);
+        if ends_word(rest) {
+            return word;
+        }
+    }
+    left
 }
 
 /// Whether what is told of a line is so, where it is about no word.
@@ -32,10 +131,150 @@ fn is_in_line(line: &[u8], trouble: &Trouble<'_>) -> bool
     ensures { IsTrue result → IsPlacedInLine line.now trouble.now.column trouble.now.what }
 {
     match trouble.what {
-        What::Line(LineTrouble::TooLong) => false,
-        What::OddByte(byte) => is_byte_at(line, trouble.column, byte),
+        What::Line(wrong) => is_true_of(line, trouble.column, wrong),
+        What::OddByte(byte) => is_odd(byte) && is_byte_at(line, trouble.column, byte),
         _ => true,
     }
+}
+
+/// Whether that is true of a line, in that column.
+fn is_true_of(line: &[u8], column: usize, trouble: LineTrouble) -> bool
+    requires { IsColumn line.now column }
+    ensures { IsTrue result → IsTrueOf trouble line.now column }
+{
+    match trouble {
+        LineTrouble::TooLong => line.len() > LINE_BYTES,
+        LineTrouble::NoEnd => column == line.len() + 1,
+        LineTrouble::CarriageReturn => column == line.len() && is_byte_at(line, column, b'\r'),
+        LineTrouble::ByteOrderMark => is_at(line, column, BYTE_ORDER_MARK.as_slice()),
+        LineTrouble::Comment => is_byte_at(line, column, b'#'),
+        LineTrouble::OtherComment => is_comment_at(line, column),
+        LineTrouble::Empty | LineTrouble::NoCommands => line.is_empty(),
+        LineTrouble::Space => is_odd_space(line, column),
+        LineTrouble::NoCall => is_behind_words(line, column),
+        LineTrouble::CommandTooSoon => is_command_at(line, column),
+        LineTrouble::StepInProgram | LineTrouble::StepAmongCommands => is_step_at(line, column),
+        LineTrouble::NoStep => false,
+        LineTrouble::NeitherStepNorCommand | LineTrouble::NoneOfTheGrammar => false,
+        _ => is_named_at(line, column, trouble),
+    }
+}
+
+/// Whether the word is in that column which always is where that is told.
+fn is_named_at(line: &[u8], column: usize, trouble: LineTrouble) -> bool
+    requires { IsColumn line.now column }
+    ensures { IsTrue result → IfSome (spec.word_for trouble) (λ word.
+        IsWordAt line.now column word) }
+{
+    match word_for(trouble) {
+        Some(word) => is_word_at(line, column, word),
+        None => true,
+    }
+}
+
+/// The word in the column of a trouble with a line, where it is always the same.
+fn word_for(trouble: LineTrouble) -> Option<&'static [u8]>
+    ensures { option_map (λ word. word.now) result ≡ spec.word_for trouble }
+{
+    match trouble {
+        LineTrouble::NoSessionHeader | LineTrouble::HeaderLate => Some(b"txos"),
+        LineTrouble::ProgramInSession | LineTrouble::ProgramHere => Some(b"program"),
+        LineTrouble::ScheduleHere => Some(b"schedule"),
+        LineTrouble::DebugAgain | LineTrouble::DebugInProgram => Some(b"debug"),
+        LineTrouble::DebugInSession | LineTrouble::CommandsHere => Some(b"debug"),
+        LineTrouble::LabelInSchedule => Some(b"label"),
+        LineTrouble::MovedIsLater => Some(b"moved"),
+        LineTrouble::DeferIsLater => Some(b"sys_xbegin"),
+        _ => None,
+    }
+}
+
+/// Whether a comment of another language is in that column of a line.
+fn is_comment_at(line: &[u8], column: usize) -> bool
+    requires { IsColumn line.now column }
+    ensures { IsTrue result → IsTrueOf troubles.OtherComment line.now column }
+{
+    is_at(line, column, b"//") || is_at(line, column, b"/*") || is_at(line, column, b";")
+}
+
+/// Whether a space is in that column of a line that parts no two words.
+fn is_odd_space(line: &[u8], column: usize) -> bool
+    requires { IsColumn line.now column }
+    ensures { IsTrue result → IsOddSpace line.now column }
+{
+    let (front, left) = line.split_at(column - 1);
+    match left {
+        [b' '] => true,
+        [b' ', b' ', ..] => true,
+        [b' ', ..] => front.is_empty(),
+        _ => false,
+    }
+}
+
+/// Whether no word is in that column of a line, or behind it.
+fn is_behind_words(line: &[u8], column: usize) -> bool
+    requires { IsColumn line.now column }
+    ensures { IsTrue result → IsBehindWords line.now column }
+{
+    let (_front, left) = line.split_at(column - 1);
+    split_word(before_return(left)).is_none()
+}
+
+/// A line without the byte 13 at its end, where it has one.
+fn before_return(line: &[u8]) -> &[u8]
+    ensures { (line.now ≡ result.now) ⊎ (line.now ≡ result.now ++ 13 ∷ []) }
+{
+    match before_end(b"\r", line) {
+        Some(front) => front,
+        None => line,
+    }
+}
+
+/// What stands before that end of a line. Nothing where the line does not end so.
+fn before_end<'a>(end: &[u8], line: &'a [u8]) -> Option<&'a [u8]>
+    ensures { MatchOption result ((front : List ℕ) → line.now ≢ front ++ end.now) (λ front.
+        line.now ≡ front.now ++ end.now) }
+{
+    line.strip_suffix(end)
+}
+
+/// Whether a command is in that column of a line.
+fn is_command_at(line: &[u8], column: usize) -> bool
+    requires { IsColumn line.now column }
+    ensures { IsTrue result → IsCommandAt line.now column }
+{
+    is_word_at(line, column, b"back")
+        || is_word_at(line, column, b"forward")
+        || is_word_at(line, column, b"goto")
+        || is_word_at(line, column, b"state")
+        || is_word_at(line, column, b"moved")
+}
+
+/// Whether what a step begins with is in that column of a line.
+fn is_step_at(line: &[u8], column: usize) -> bool
+    requires { IsColumn line.now column }
+    ensures { IsTrue result → IsStepAt line.now column }
+{
+    is_word_at(line, column, b"kernel") || is_digit_at(line, column)
+}
+
+/// Whether a digit is in that column of a line.
+fn is_digit_at(line: &[u8], column: usize) -> bool
+    requires { IsColumn line.now column }
+    ensures { IsTrue result → IsDigitAt line.now column }
+{
+    let (_front, left) = line.split_at(column - 1);
+    match left {
+        [byte, ..] => byte.is_ascii_digit(),
+        [] => false,
+    }
+}
+
+/// Whether a byte stands in no line of the first two versions.
+fn is_odd(byte: u8) -> bool
+    ensures { result ≡ is_odd byte }
+{
+    !(byte == b' ' || byte.is_ascii_graphic())
 }
 
 /// Whether the word of which is told is in the column.
@@ -47,6 +286,18 @@ fn is_word_there(line: &[u8], trouble: &Trouble<'_>) -> bool
     match trouble.what.word() {
         Some(word) => is_word_at(line, trouble.column, word),
         None => true,
+    }
+}
+
+/// Whether those bytes are in that column of a line.
+fn is_at(line: &[u8], column: usize, bytes: &[u8]) -> bool
+    requires { IsColumn line.now column }
+    ensures { IsTrue result → IsAt line.now column bytes.now }
+{
+    let (_front, left) = line.split_at(column - 1);
+    match behind(bytes, left) {
+        Some(_rest) => true,
+        None => false,
     }
 }
 

@@ -145,6 +145,7 @@ pub enum WordTrouble {
     SessionCommand,
     SignalFirst,
     SingleQuotes,
+    NoneHere,
 }
 
 /// What is wrong with a word that only a text of version 3 spells so.
@@ -349,6 +350,7 @@ impl WordTrouble {
             WordTrouble::LabelColon => "a label is a line label NAME",
             WordTrouble::SessionCommand => "this is a command of txos shell, and of no text",
             WordTrouble::SignalFirst => "the process comes first, then the signal",
+            WordTrouble::NoneHere => "this line is none that may stand here",
             _ => "a string is in double quotes, in version 3: \"text\"",
         }
     }
