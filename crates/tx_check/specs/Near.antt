@@ -1,8 +1,17 @@
 -- Which of some names is nearest to a word.
-use Rattle.std.specs.Prelude.{◌≡◌, ℕ, ◌+◌, ◌<◌, ◌≤◌, ◌/◌, List, [], ◌∷◌, ◌++◌, length, Option, Some, None}
+use Rattle.std.specs.Prelude.{◌≡◌, ◌⊎◌, ℕ, ◌+◌, ◌<◌, ◌≤◌, ◌/◌, List, [], ◌∷◌, ◌++◌, length, map, take, drop, nat_eq, codes, Option, Some, None, option_map, if◌then◌else◌}
 use Rattle.std.specs.Str.{chars, IsUtf8}
 use Rattle.strsim.specs.Edits.{osa_table}
+use Rattle.tx_check.specs.Labels.{labels_in}
+use Rattle.tx_check.specs.Numbered.{after_lines}
+use Rattle.tx_check.specs.Stands.{begins_label}
 use Rattle.tx_check.specs.declared.forms.Form.{Form}
+use Rattle.tx_check.specs.declared.near.NearName.{NearName}
+use Rattle.tx_check.specs.declared.near.NearName.TheVariants as nears
+use Rattle.tx_check.specs.declared.trouble.Names.{Names}
+use Rattle.tx_check.specs.declared.trouble.Names.TheVariants as names
+use Rattle.tx_plain.specs.MeantLines.{left_of, line_of}
+use Rattle.tx_plain.specs.declared.meant_lines.OwnLine.{OwnLine}
 
 -- how many edits lead from one text to the other, of which an exchange of neighbours is one
 abbrev pub distance : List ℕ → List ℕ → ℕ
@@ -32,11 +41,88 @@ pub record IsNearest (word : List ℕ) (names : List (List ℕ)) (name : List �
   pub least : AreFar word edits after
 
 -- the nearest of the names to which fewer than so many edits lead; none, where there is none
-abbrev pub FindsNear : List ℕ → List (List ℕ) → ℕ → Option (Form × ℕ) → Type 0
+abbrev pub FindsNear : List ℕ → List (List ℕ) → ℕ → Option (List ℕ × ℕ) → Type 0
 FindsNear word names most None = AreFar word most names
-FindsNear word names most (Some found) = IsNearest word names found.0.name.now found.1 × (found.1 < most)
+FindsNear word names most (Some found) = IsNearest word names found.0 found.1 × (found.1 < most)
+
+-- the same, where nothing is said of how many edits lead there
+abbrev pub FindsName : List ℕ → List (List ℕ) → ℕ → Option (List ℕ) → Type 0
+FindsName word names most None = AreFar word most names
+FindsName word names most (Some name) = (edits : ℕ) × IsNearest word names name edits × (edits < most)
 
 -- how many edits are too many, where that was found
-abbrev pub bound : ℕ → Option (Form × ℕ) → ℕ
+abbrev pub bound : {A : Type 0} → ℕ → Option (A × ℕ) → ℕ
 bound most None = most
 bound most (Some found) = found.1
+
+-- the name of a form, and of the label that a line means
+abbrev pub near_form : Form × ℕ → List ℕ × ℕ
+near_form found = (found.0.name.now, found.1)
+
+abbrev pub label_name : List ℕ → List ℕ
+label_name line = drop 6 line
+
+abbrev pub near_label : OwnLine × ℕ → List ℕ × ℕ
+near_label found = (label_name (line_of found.0), found.1)
+
+-- names, and that of a line behind them where it is a label
+abbrev pub with_name : List ℕ → List (List ℕ) → List (List ℕ)
+with_name line names = if begins_label line then names ++ label_name line ∷ [] else names
+
+-- the names of the labels among the first lines of a text
+abbrev pub label_names : ℕ → List ℕ → List (List ℕ)
+label_names count text = map (λ label. label_name label.1) (labels_in count 1 text)
+
+-- the nearest name is found among all labels of a text
+pub record FindsLabel (word text : List ℕ) (name : Option (List ℕ)) : Type 0 where
+  pub count : ℕ
+  pub all : after_lines count text ≡ []
+  pub found : FindsName word (label_names count text) 5 name
+
+-- the names of the calls of a schedule, of the commands of a text and of a session, and of the pieces of a state
+abbrev pub call_names : List (List ℕ)
+call_names =
+    codes "map" ∷ codes "unmap" ∷ codes "protect" ∷ codes "store" ∷ codes "load" ∷ codes "fork" ∷ codes "exit" ∷ codes "waitpid" ∷ codes "getpid" ∷ codes "getppid"
+    ∷ codes "setuid" ∷ codes "seteuid" ∷ codes "setgid" ∷ codes "setegid" ∷ codes "pipe" ∷ codes "dup" ∷ codes "dup2" ∷ codes "close" ∷ codes "set_nonblock"
+    ∷ codes "read" ∷ codes "write" ∷ codes "kill" ∷ codes "sigqueue" ∷ codes "sigaction" ∷ codes "sigprocmask" ∷ codes "sigpending" ∷ codes "sigreturn"
+    ∷ codes "console_write" ∷ codes "jump" ∷ codes "keep" ∷ codes "sys_xbegin" ∷ codes "sys_xend" ∷ codes "sys_xabort" ∷ codes "deliver" ∷ []
+
+abbrev pub command_names : List (List ℕ)
+command_names = codes "back" ∷ codes "forward" ∷ codes "goto" ∷ codes "state" ∷ codes "moved" ∷ []
+
+abbrev pub session_names : List (List ℕ)
+session_names =
+    codes "back" ∷ codes "forward" ∷ codes "goto" ∷ codes "state" ∷ codes "moved" ∷ codes "steps" ∷ codes "text" ∷ codes "try" ∷ codes "without"
+    ∷ codes "when" ∷ codes "why" ∷ codes "owns" ∷ codes "next" ∷ codes "cut" ∷ codes "help" ∷ codes "quit" ∷ codes "exit" ∷ codes "?" ∷ []
+
+abbrev pub piece_names : List (List ℕ)
+piece_names =
+    codes "proc" ∷ codes "page" ∷ codes "fd" ∷ codes "ids" ∷ codes "pending" ∷ codes "queue" ∷ codes "desc" ∷ codes "pipe" ∷ codes "txn" ∷ []
+
+-- the name that was found
+abbrev pub name_of : NearName → List ℕ
+name_of (nears.Form form) = form.name.now
+name_of (nears.Step form) = form.name.now
+name_of (nears.Label line) = label_name (line_of line)
+
+-- the name of a label without the `@` before it
+abbrev pub bare_name : List ℕ → List ℕ
+bare_name [] = []
+bare_name (byte ∷ bytes) = if nat_eq byte 64 then bytes else byte ∷ bytes
+
+-- a name is found at once that has another one elsewhere
+abbrev pub IsKnown : Option NearName → Type 0
+IsKnown None = ⊥
+IsKnown (Some (nears.Form form)) = Unit {0}
+IsKnown (Some (nears.Step form)) = Unit {0}
+IsKnown (Some (nears.Label line)) = ⊥
+
+-- the name that is found is one that is known from elsewhere, or the nearest of those that there are: a program has no `deliver`, and a line of a
+-- session is a command, or begins with a call where that is nearer
+abbrev pub IsFoundIn : Names → List ℕ → Option NearName → Type 0
+IsFoundIn names.Calls word found = IsKnown found ⊎ FindsName word call_names 5 (option_map name_of found)
+IsFoundIn names.Instructions word found = IsKnown found ⊎ FindsName word (take 33 call_names) 5 (option_map name_of found)
+IsFoundIn names.Commands word found = IsKnown found ⊎ FindsName word command_names 5 (option_map name_of found)
+IsFoundIn names.Session word found = IsKnown found ⊎ FindsName word (session_names ++ call_names) 5 (option_map name_of found)
+IsFoundIn names.Pieces word found = FindsName word piece_names 5 (option_map name_of found)
+IsFoundIn (names.Labels text) word found = FindsLabel (bare_name word) (left_of text) (option_map name_of found)

@@ -1,10 +1,15 @@
 //! The name that is nearest to a mistyped one.
-ghost use Rattle.std.specs.Prelude.{◌≡◌, ◌<◌, ◌≤◌, ◌++◌, ◌∷◌, [], ℕ, List, map, IfNone, IfOk, IfSome};
+ghost use Rattle.std.specs.Prelude.{◌≡◌, ◌<◌, ◌≤◌, ◌++◌, ◌∷◌, [], ℕ, List, None, Some, map, option_map, IfNone, IfOk, IfSome};
 ghost use Rattle.tx_check.specs.Near as spec;
-ghost use Rattle.tx_check.specs.Near.{FindsNear, IsNear};
+ghost use Rattle.tx_check.specs.Near.{call_names, name_of, near_form, near_label, session_names, with_name, FindsLabel, FindsName, FindsNear, IsFoundIn, IsKnown, IsNear};
+ghost use Rattle.tx_check.specs.declared.trouble.Names.TheVariants as lists;
+ghost use Rattle.tx_lines.specs.Programs.{BeginsLabel};
+ghost use Rattle.tx_plain.specs.MeantLines.{left_of, line_of};
+ghost use Rattle.tx_plain.specs.declared.meant_lines.MeantLines.{MeantLines};
 
 use crate::forms::{CALLS, COMMANDS, Form, PIECES, SESSION};
 use crate::habits::{call_meant, command_meant, session_meant};
+use crate::labels::LABEL_FRONT;
 use crate::trouble::Names;
 use std::alloc::Global;
 use strsim::osa_distance;
@@ -31,7 +36,9 @@ pub fn near_name<'a>(
     alloc: Global,
     names: Names<'a>,
     word: &[u8],
-) -> Result<Option<NearName<'a>>, NoMemory> {
+) -> Result<Option<NearName<'a>>, NoMemory>
+    ensures { IfOk result (IsFoundIn names.entry word.now) }
+{
     if let Some(name) = known_elsewhere(names, word) {
         return Ok(Some(name));
     }
@@ -42,14 +49,26 @@ pub fn near_name<'a>(
         Names::Commands => nearest_name(alloc, COMMANDS.as_slice(), word),
         Names::Pieces => nearest_name(alloc, PIECES.as_slice(), word),
         Names::Session => nearest_in_session(alloc, word),
-        Names::Labels(text) => {
-            nearest_label(alloc, text, word.strip_prefix(b"@").unwrap_or(word))
-        }
+        Names::Labels(text) => nearest_label(alloc, text, bare_name(word)),
+    }
+}
+
+/// The name of a label without the `@` before it.
+fn bare_name(word: &[u8]) -> &[u8]
+    ensures { result.now ≡ spec.bare_name word.now }
+{
+    match word {
+        [b'@', name @ ..] => name,
+        _ => word,
     }
 }
 
 /// The name here of what has this one elsewhere.
-fn known_elsewhere(names: Names<'_>, word: &[u8]) -> Option<NearName<'static>> {
+fn known_elsewhere(names: Names<'_>, word: &[u8]) -> Option<NearName<'static>>
+    ensures known { IfSome result (λ name. IsKnown (Some name)) }
+    ensures pieces { names.entry ≡ lists.Pieces → result ≡ None }
+    ensures labels { (text : MeantLines) → names.entry ≡ lists.Labels text → result ≡ None }
+{
     match names {
         Names::Calls | Names::Instructions => Some(NearName::Form(call_meant(word)?)),
         Names::Commands => Some(NearName::Form(command_meant(word)?)),
@@ -66,7 +85,10 @@ fn nearest_name(
     alloc: Global,
     forms: &'static [(&'static str, &'static str)],
     word: &[u8],
-) -> Result<Option<NearName<'static>>, NoMemory> {
+) -> Result<Option<NearName<'static>>, NoMemory>
+    ensures { IfOk result (λ found. FindsName word.now (map (λ form. form.0.now) forms.now) 5
+        (option_map name_of found)) }
+{
     match nearest_form(alloc, forms, EDITS + 1, word)? {
         Some((form, _edits)) => Ok(Some(NearName::Form(form))),
         None => Ok(None),
@@ -74,17 +96,31 @@ fn nearest_name(
 }
 
 /// The nearest command of a session, or a call that is nearer.
-fn nearest_in_session(alloc: Global, word: &[u8]) -> Result<Option<NearName<'static>>, NoMemory> {
-    let mut nearest = None;
-    let mut edits = EDITS + 1;
-    if let Some((form, fewer)) = nearest_form(alloc, SESSION.as_slice(), edits, word)? {
-        nearest = Some(NearName::Form(form));
-        edits = fewer;
+fn nearest_in_session(alloc: Global, word: &[u8]) -> Result<Option<NearName<'static>>, NoMemory>
+    ensures { IfOk result (λ found. FindsName word.now (session_names ++ call_names) 5
+        (option_map name_of found)) }
+{
+    let command = nearest_form(alloc, SESSION.as_slice(), EDITS + 1, word)?;
+    let call = nearest_form(alloc, CALLS.as_slice(), bound(EDITS + 1, command), word)?;
+    Ok(name_in_session(command, call))
+}
+
+/// That command of a session, or that call, which is nearer.
+fn name_in_session(
+    command: Option<(Form, usize)>,
+    call: Option<(Form, usize)>,
+) -> Option<NearName<'static>>
+    ensures { (word : List ℕ) (names others : List (List ℕ)) (most : ℕ) →
+        FindsNear word names most (option_map near_form command) →
+        FindsNear word others (spec.bound most (option_map near_form command))
+        (option_map near_form call) →
+        FindsName word (names ++ others) most (option_map name_of result) }
+{
+    match (command, call) {
+        (_, Some((form, _edits))) => Some(NearName::Step(form)),
+        (Some((form, _edits)), None) => Some(NearName::Form(form)),
+        (None, None) => None,
     }
-    if let Some((form, _edits)) = nearest_form(alloc, CALLS.as_slice(), edits, word)? {
-        nearest = Some(NearName::Step(form));
-    }
-    Ok(nearest)
 }
 
 /// The nearest of the forms by their names to which fewer than so many edits lead, and how many do:
@@ -95,7 +131,8 @@ fn nearest_form(
     most: usize,
     word: &[u8],
 ) -> Result<Option<(Form, usize)>, NoMemory>
-    ensures { IfOk result (FindsNear word.now (map (λ form. form.0.now) forms.now) most) }
+    ensures { IfOk result (λ found. FindsNear word.now (map (λ form. form.0.now) forms.now) most
+        (option_map near_form found)) }
 {
     let mut nearest = None;
     for at in 0..forms.len() {
@@ -113,8 +150,9 @@ fn nearer(
     most: usize,
     word: &[u8],
 ) -> Result<Option<(Form, usize)>, NoMemory>
-    ensures { IfOk result (λ next. (names : List (List ℕ)) → FindsNear word.now names most nearest →
-        FindsNear word.now (names ++ form.name.now ∷ []) most next) }
+    ensures { IfOk result (λ next. (names : List (List ℕ)) →
+        FindsNear word.now names most (option_map near_form nearest) →
+        FindsNear word.now (names ++ form.name.now ∷ []) most (option_map near_form next)) }
 {
     match fewer_edits(alloc, bound(most, nearest), form.name.as_bytes(), word)? {
         Some(fewer) => Ok(Some((form, fewer))),
@@ -124,7 +162,7 @@ fn nearer(
 
 /// How many edits are too many, where that form was found.
 fn bound(most: usize, nearest: Option<(Form, usize)>) -> usize
-    ensures { result ≡ spec.bound most nearest }
+    ensures { result ≡ spec.bound most (option_map near_form nearest) }
 {
     match nearest {
         Some((_form, edits)) => edits,
@@ -132,41 +170,68 @@ fn bound(most: usize, nearest: Option<(Form, usize)>) -> usize
     }
 }
 
-/// The nearest of the names of the labels in a text.
+/// The nearest of the names of the labels in a text: the first where several are as near.
 fn nearest_label<'a>(
     alloc: Global,
     text: MeantLines<'a>,
     word: &[u8],
-) -> Result<Option<NearName<'a>>, NoMemory> {
+) -> Result<Option<NearName<'a>>, NoMemory>
+    ensures { IfOk result (λ found.
+        FindsLabel word.now (left_of text.entry) (option_map name_of found)) }
+{
     let mut nearest = None;
-    let mut edits = EDITS + 1;
     let mut left = text;
     while let Some((line, rest)) = left.split() {
-        if let Some(fewer) = fewer_to_label(alloc, edits, line, word)? {
-            nearest = Some(NearName::Label(line));
-            edits = fewer;
-        }
+        nearest = nearer_label(alloc, nearest, line, EDITS + 1, word)?;
         left = rest;
     }
-    Ok(nearest)
-}
-
-/// How many edits lead to the name of the label that a line means, where they are fewer than those,
-/// and few for the name.
-fn fewer_to_label(
-    alloc: Global,
-    edits: usize,
-    line: OwnLine<'_>,
-    word: &[u8],
-) -> Result<Option<usize>, NoMemory> {
-    let mut room = Room::new();
-    let Some(label) = line.label(&mut room) else {
-        return Ok(None);
-    };
-    match label.strip_prefix(b"label ".as_slice()) {
-        Some(name) => fewer_edits(alloc, edits, name, word),
+    match nearest {
+        Some((line, _edits)) => Ok(Some(NearName::Label(line))),
         None => Ok(None),
     }
+}
+
+/// The nearest label of those that were looked at, or the one that a line means where fewer edits lead
+/// to its name.
+fn nearer_label<'a>(
+    alloc: Global,
+    nearest: Option<(OwnLine<'a>, usize)>,
+    line: OwnLine<'a>,
+    most: usize,
+    word: &[u8],
+) -> Result<Option<(OwnLine<'a>, usize)>, NoMemory>
+    ensures { IfOk result (λ next. (names : List (List ℕ)) →
+        FindsNear word.now names most (option_map near_label nearest.entry) →
+        FindsNear word.now (with_name (line_of line.entry) names) most (option_map near_label next)) }
+{
+    let mut room = Room::new();
+    let Some(name) = label_name(line, &mut room) else {
+        return Ok(nearest);
+    };
+    match fewer_edits(alloc, label_bound(most, nearest), name, word)? {
+        Some(fewer) => Ok(Some((line, fewer))),
+        None => Ok(nearest),
+    }
+}
+
+/// How many edits are too many, where that label was found.
+fn label_bound(most: usize, nearest: Option<(OwnLine<'_>, usize)>) -> usize
+    ensures { result ≡ spec.bound most (option_map near_label nearest.entry) }
+{
+    match nearest {
+        Some((_line, edits)) => edits,
+        None => most,
+    }
+}
+
+/// The name of the label that a line means. Nothing where it means none.
+fn label_name<'a>(line: OwnLine<'a>, room: &'a mut Room) -> Option<&'a [u8]>
+    ensures label { IfSome result (λ name. BeginsLabel (line_of line.entry)) }
+    ensures name { IfSome result (λ name. name.now ≡ spec.label_name (line_of line.entry)) }
+    ensures none { IfNone result (BeginsLabel (line_of line.entry) → ⊥) }
+{
+    let label = line.label(room)?;
+    Some(label.split_at(LABEL_FRONT).1)
 }
 
 /// How many edits lead to a name, where they are fewer than those, and few for the name.
