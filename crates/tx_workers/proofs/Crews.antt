@@ -4,7 +4,7 @@ use Rattle.tx_ready.specs.Hands.{both, HoldsEach}
 use Rattle.tx_ready.specs.declared.rule.Hand.{Hand}
 use Rattle.tx_workers.specs.Services.{IsCrewOf, IsService}
 use Rattle.tx_workers.specs.Teams.{IsCrew, IsTeam, IsWorkOf, noted}
-use Rattle.tx_workers.specs.declared.workers.Worker.{Worker}
+use Rattle.tx_workers.specs.declared.worker.Worker.{Worker}
 
 crew_more : (from turns : ℕ) (ws : List Worker) (w : Worker) → IsCrew from turns ws → w.number ≡ from + length ws → vec_len w.notes ≤ turns → IsCrew from turns (ws ++ w ∷ [])
 crew_more from turns [] w crew is few = (omega (arith, is), few, tt)

@@ -3,7 +3,7 @@ use Rattle.std.specs.Prelude.{◌≡◌, ℕ, List, ◌++◌, map}
 use Rattle.tx_journal.specs.Entries.{accepted_of}
 use Rattle.tx_journal.specs.Sessions.{SessionState, IsAtEnd, SameBoot}
 use Rattle.tx_journal.specs.declared.entry.Entry.{Entry}
-use Rattle.tx_workers.specs.declared.workers.Worker.{Worker}
+use Rattle.tx_workers.specs.declared.worker.Worker.{Worker}
 
 -- the same worker, with the same notes
 pub record SameWorker (new old : Worker) : Type 0 where

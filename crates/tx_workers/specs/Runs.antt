@@ -5,7 +5,7 @@ use Rattle.tx_journal.specs.declared.entry.Entry.{Entry}
 use Rattle.tx_lines.specs.declared.programs.Program.{Program}
 use Rattle.tx_workers.specs.Histories.{EachNamed}
 use Rattle.tx_workers.specs.Teams.{noted, notes_of, IsCrew}
-use Rattle.tx_workers.specs.declared.workers.Worker.{Worker}
+use Rattle.tx_workers.specs.declared.worker.Worker.{Worker}
 
 -- the session is what was handed in and entries that the program names, each on the view of those before it: as many as the workers noted.
 -- There are as many workers as were asked for, numbered from 1, each with no more than one step a turn; and each noted just the added entries of

@@ -5,7 +5,7 @@ use Rattle.tx_ready.specs.Stations.{LeavesEach}
 use Rattle.tx_ready.specs.declared.rule.Hand.{Hand}
 use Rattle.tx_ready.specs.declared.tally.Tally.{Tally}
 use Rattle.tx_workers.specs.Teams.{noted, IsTeam, IsWorkOf}
-use Rattle.tx_workers.specs.declared.workers.Worker.{Worker}
+use Rattle.tx_workers.specs.declared.worker.Worker.{Worker}
 
 -- how many numbers a worker takes at most, in all of its turns
 abbrev pub most_taken : ℕ

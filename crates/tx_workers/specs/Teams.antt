@@ -3,7 +3,7 @@ use Rattle.std.specs.Prelude.{◌≡◌, ℕ, ◌+◌, ◌≤◌, Bool, true, fa
 use Rattle.tx_base.specs.declared.steps.Accepted.{Accepted}
 use Rattle.tx_journal.specs.Entries.{accepted_of}
 use Rattle.tx_journal.specs.declared.entry.Entry.{Entry}
-use Rattle.tx_workers.specs.declared.workers.Worker.{Worker}
+use Rattle.tx_workers.specs.declared.worker.Worker.{Worker}
 
 -- the note of an entry before others, if it is the worker's
 abbrev pub noted_if : Bool → Entry → List Accepted → List Accepted

@@ -14,7 +14,7 @@ use Rattle.tx_workers.specs.declared.faults.WorkFault.{WorkFault}
 use Rattle.tx_workers.specs.declared.faults.WorkFault.TheVariants.{Spawn}
 use Rattle.tx_workers.specs.declared.whole.RunFault.{RunFault}
 use Rattle.tx_workers.specs.declared.whole.RunFault.TheVariants.{Text, Work}
-use Rattle.tx_workers.specs.declared.workers.Worker.{Worker}
+use Rattle.tx_workers.specs.declared.worker.Worker.{Worker}
 
 -- a session before its first step, booted as the header says
 pub record IsBooted (header : Header) (session : SessionState) : Type 0 where

@@ -4,7 +4,7 @@ ghost use Rattle.tx_journal.specs.Entries.{accepted_of};
 ghost use Rattle.tx_workers.specs.Teams.{notes_of};
 
 use crate::same::{same_reply, same_step};
-use crate::workers::Worker;
+use crate::worker::Worker;
 use tx_base::Accepted;
 use tx_journal::Entry;
 

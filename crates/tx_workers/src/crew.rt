@@ -6,11 +6,11 @@ ghost use Rattle.tx_workers.specs.Services.{most_taken, IsCrewOf, IsService};
 
 use crate::desk::Work;
 use crate::faults::WorkFault;
+use crate::floor::{Floor, Post};
 use crate::gate::Gate;
 use crate::service::{Served, Service};
 use crate::team::{Team, joined};
-use crate::work::{Floor, Post};
-use crate::workers::Worker;
+use crate::worker::Worker;
 use std::sync::Wait;
 use std::sync::ledger::Share;
 use std::thread::{Scope, Threads};

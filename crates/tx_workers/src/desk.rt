@@ -5,7 +5,7 @@ ghost use Rattle.tx_workers.specs.Desks.{IsDesk};
 ghost use Rattle.tx_workers.specs.declared.turns.Took.TheVariants.{Idle};
 
 use crate::turns::{Took, turn, turn_of};
-use crate::workers::Worker;
+use crate::worker::Worker;
 use std::alloc::Global;
 use std::marker::{Brand, Model};
 use std::sync::ledger::{Book, Ledger, Share};

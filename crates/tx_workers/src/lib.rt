@@ -18,11 +18,11 @@
 //! two members of the trait `Work` that contracts alone see; each run picks them for the name that
 //! its lock has. So neither is copied, and nothing of them is compared later.
 //!
-//! `run_workers` (`run.rt`, `team.rt`, `work.rt`) starts workers by recursion: a call for n workers
+//! `run_workers` (`run.rt`, `team.rt`, `floor.rt`) starts workers by recursion: a call for n workers
 //! splits off a part of its share, starts one worker with it, calls itself for n - 1, and joins.
 //! What a worker gives back, its share and its notes, is promised by its `Post`. With all parts
 //! again the book is audited, so that as many entries were added as the shares count. `checked`
-//! compares each worker's notes with the entries of its number (`compare.rt`, `same.rt`).
+//! compares each worker's notes with the entries of its number (`results.rt`, `compare.rt`, `same.rt`).
 //! `run_queue` (`ready.rt`, `crew.rt`, `service.rt`) does the same with a station beside the share.
 //! `run_from` (`whole.rt`) reads a program and runs it by `run_workers`, and `run_program` writes such
 //! a run (`text.rt`). A `Gate` is told of each turn before the lock is taken and after it is let go; by
@@ -32,11 +32,13 @@ mod compare;
 mod crew;
 mod desk;
 mod faults;
+mod floor;
 mod gate;
 mod named;
 mod next;
 mod offers;
 mod ready;
+mod results;
 mod run;
 mod same;
 mod service;
@@ -44,17 +46,15 @@ mod team;
 mod text;
 mod turns;
 mod whole;
-mod work;
-mod worked;
-mod workers;
+mod worker;
 
 pub use faults::WorkFault;
 pub use gate::{Gate, NoGate};
 pub use ready::run_queue;
+pub use results::Worked;
 pub use run::run_workers;
 pub use text::write_run;
 pub use turns::{Took, turn, turn_of};
 pub use tx_ready::Tally;
 pub use whole::{RunFault, run_from, run_program};
-pub use worked::Worked;
-pub use workers::Worker;
+pub use worker::Worker;

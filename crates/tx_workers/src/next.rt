@@ -5,7 +5,7 @@ ghost use Rattle.tx_workers.specs.Names.{process_number};
 ghost use Rattle.tx_workers.specs.Turns.{belongs_to, is_next_of, next_process};
 
 use crate::named::running;
-use crate::workers::Worker;
+use crate::worker::Worker;
 use tx_base::Pid;
 use tx_core::Machine;
 

@@ -7,10 +7,10 @@ ghost use Rattle.tx_workers.specs.declared.faults.WorkFault.TheVariants.{Spawn};
 
 use crate::desk::{Desk, Work};
 use crate::faults::WorkFault;
+use crate::floor::{Floor, Post};
 use crate::gate::Gate;
+use crate::results::{Worked, checked};
 use crate::team::{Team, run_down};
-use crate::work::{Floor, Post};
-use crate::worked::{Worked, checked};
 use std::alloc::Global;
 use std::marker::Brand;
 use std::sync::ledger::{Blank, Share};

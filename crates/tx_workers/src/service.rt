@@ -5,10 +5,10 @@ ghost use Rattle.tx_ready.specs.Stations.{IsStationOf};
 ghost use Rattle.tx_workers.specs.Services.{IsService};
 
 use crate::desk::Work;
+use crate::floor::{Done, Floor, Post};
 use crate::gate::Gate;
 use crate::turns::Took;
-use crate::work::{Done, Floor, Post};
-use crate::workers::Worker;
+use crate::worker::Worker;
 use std::sync::Wait;
 use std::sync::ledger::Share;
 use std::thread::Promise;

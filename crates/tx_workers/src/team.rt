@@ -5,9 +5,9 @@ ghost use Rattle.tx_workers.specs.declared.faults.WorkFault.TheVariants.{NoMemor
 
 use crate::desk::Work;
 use crate::faults::WorkFault;
+use crate::floor::{Done, Floor, Post};
 use crate::gate::Gate;
-use crate::work::{Done, Floor, Post};
-use crate::workers::Worker;
+use crate::worker::Worker;
 use std::sync::Wait;
 use std::sync::ledger::Share;
 use std::thread::{Scope, Threads};

@@ -11,7 +11,7 @@ ghost use Rattle.tx_workers.specs.Turns.{abort_of, adds_by, adds_by_next, entry_
 
 use crate::named::{named, running};
 use crate::next::next_process;
-use crate::workers::Worker;
+use crate::worker::Worker;
 use std::alloc::Global;
 use tx_base::{Accepted, NoMemory, Pid, Refusal, Reply, Step};
 use tx_journal::Session;

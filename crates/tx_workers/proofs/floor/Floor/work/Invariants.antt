@@ -1,5 +1,5 @@
 use Rattle.std.proofs.Common.{◌≡◌, ◌≤◌, vec_len}
-use Rattle.tx_workers.proofs.work.Floor.work.Given as goal
+use Rattle.tx_workers.proofs.floor.Floor.work.Given as goal
 
 abbrev pub invariant-loop-before : goal.invariant-loop-before
 invariant-loop-before g l =

@@ -2,7 +2,7 @@ use Rattle.std.proofs.Common.{rules, ◌≡◌, ◌∙◌, Some, length, arith, 
 use Rattle.std.proofs.Math.Seq.{drop-append_seam}
 use Rattle.tx_journal.specs.Sessions.{start_of}
 use Rattle.tx_workers.proofs.Grown.{each_named}
-use Rattle.tx_workers.proofs.worked.checked.Goals as goal
+use Rattle.tx_workers.proofs.results.checked.Goals as goal
 
 pub split_at-requires : goal.split_at-requires
 split_at-requires g c =

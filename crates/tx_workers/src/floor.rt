@@ -4,7 +4,7 @@ ghost use Rattle.tx_workers.specs.Teams.{IsWorkOf};
 
 use crate::desk::{Desk, Work};
 use crate::gate::Gate;
-use crate::workers::Worker;
+use crate::worker::Worker;
 use std::alloc::Global;
 use std::sync::ledger::Share;
 use std::sync::{Mutex, Wait};

@@ -8,9 +8,9 @@ ghost use Rattle.tx_workers.specs.declared.faults.WorkFault.TheVariants.{Strayed
 use crate::compare::are_noted;
 use crate::desk::{Desk, Work};
 use crate::faults::WorkFault;
+use crate::floor::Post;
 use crate::team::Team;
-use crate::work::Post;
-use crate::workers::Worker;
+use crate::worker::Worker;
 use std::sync::Mutex;
 use tx_journal::Session;
 use tx_lines::Program;

@@ -1,7 +1,7 @@
 use Rattle.std.proofs.Common.{◌≡◌, ◌*◌, ◌≤◌, length, vec_len}
 use Rattle.tx_ready.specs.Hands.{GivesBack}
 use Rattle.tx_ready.specs.Stations.{IsStationOf}
-use Rattle.tx_workers.proofs.work.Floor.serve.Given as goal
+use Rattle.tx_workers.proofs.floor.Floor.serve.Given as goal
 
 abbrev pub invariant-loop-before : goal.invariant-loop-before
 invariant-loop-before g l =
