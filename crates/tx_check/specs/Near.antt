@@ -1,11 +1,12 @@
 -- Which of some names is nearest to a word.
-use Rattle.std.specs.Prelude.{◌≡◌, ◌⊎◌, ℕ, ◌+◌, ◌<◌, ◌≤◌, ◌/◌, List, [], ◌∷◌, ◌++◌, length, map, take, drop, nat_eq, codes, Option, Some, None, option_map, if◌then◌else◌}
+use Rattle.std.specs.Prelude.{◌≡◌, ◌⊎◌, ℕ, ◌+◌, ◌<◌, ◌≤◌, ◌/◌, List, [], ◌∷◌, ◌++◌, length, map, take, drop, nat_eq, Option, Some, None, option_map, if◌then◌else◌}
 use Rattle.std.specs.Str.{chars, IsUtf8}
 use Rattle.strsim.specs.Edits.{osa_table}
 use Rattle.tx_check.specs.Labels.{labels_in}
 use Rattle.tx_check.specs.Numbered.{after_lines}
 use Rattle.tx_check.specs.Stands.{begins_label}
 use Rattle.tx_check.specs.declared.forms.Form.{Form}
+use Rattle.tx_check.specs.declared.forms.TheConstants.{CALLS, COMMANDS, PIECES, SESSION}
 use Rattle.tx_check.specs.declared.near.NearName.{NearName}
 use Rattle.tx_check.specs.declared.near.NearName.TheVariants as nears
 use Rattle.tx_check.specs.declared.trouble.Names.{Names}
@@ -81,23 +82,16 @@ pub record FindsLabel (word text : List ℕ) (name : Option (List ℕ)) : Type 0
 
 -- the names of the calls of a schedule, of the commands of a text and of a session, and of the pieces of a state
 abbrev pub call_names : List (List ℕ)
-call_names =
-    codes "map" ∷ codes "unmap" ∷ codes "protect" ∷ codes "store" ∷ codes "load" ∷ codes "fork" ∷ codes "exit" ∷ codes "waitpid" ∷ codes "getpid" ∷ codes "getppid"
-    ∷ codes "setuid" ∷ codes "seteuid" ∷ codes "setgid" ∷ codes "setegid" ∷ codes "pipe" ∷ codes "dup" ∷ codes "dup2" ∷ codes "close" ∷ codes "set_nonblock"
-    ∷ codes "read" ∷ codes "write" ∷ codes "kill" ∷ codes "sigqueue" ∷ codes "sigaction" ∷ codes "sigprocmask" ∷ codes "sigpending" ∷ codes "sigreturn"
-    ∷ codes "console_write" ∷ codes "jump" ∷ codes "keep" ∷ codes "sys_xbegin" ∷ codes "sys_xend" ∷ codes "sys_xabort" ∷ codes "deliver" ∷ []
+call_names = map (λ form. form.0.now) CALLS
 
 abbrev pub command_names : List (List ℕ)
-command_names = codes "back" ∷ codes "forward" ∷ codes "goto" ∷ codes "state" ∷ codes "moved" ∷ []
+command_names = map (λ form. form.0.now) COMMANDS
 
 abbrev pub session_names : List (List ℕ)
-session_names =
-    codes "back" ∷ codes "forward" ∷ codes "goto" ∷ codes "state" ∷ codes "moved" ∷ codes "steps" ∷ codes "text" ∷ codes "try" ∷ codes "without"
-    ∷ codes "when" ∷ codes "why" ∷ codes "owns" ∷ codes "next" ∷ codes "cut" ∷ codes "help" ∷ codes "quit" ∷ codes "exit" ∷ codes "?" ∷ []
+session_names = map (λ form. form.0.now) SESSION
 
 abbrev pub piece_names : List (List ℕ)
-piece_names =
-    codes "proc" ∷ codes "page" ∷ codes "fd" ∷ codes "ids" ∷ codes "pending" ∷ codes "queue" ∷ codes "desc" ∷ codes "pipe" ∷ codes "txn" ∷ []
+piece_names = map (λ form. form.0.now) PIECES
 
 -- the name that was found
 abbrev pub name_of : NearName → List ℕ
