@@ -1,7 +1,8 @@
 //! What the lines of a talk are answered, where all of them are there.
 ghost use Rattle.std.specs.Prelude.{◌≡◌, IfOk, string_bytes};
 ghost use Rattle.tx_plain.specs.MeantLines.{behind};
-ghost use Rattle.tx_answers.specs.Talks.{form_of, front_line, IsTalked, IsTalkOf};
+ghost use Rattle.tx_shell.specs.Cuts.{front_line};
+ghost use Rattle.tx_answers.specs.Talks.{form_of, IsTalked, IsTalkOf};
 
 use crate::answers::Answer;
 use std::alloc::Global;

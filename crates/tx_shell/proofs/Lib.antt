@@ -1,6 +1,8 @@
 pub mod Begun
 pub mod Behind
 pub mod Chained
+pub mod Consoles
+pub mod CutLines
 pub mod Explained
 pub mod FirstWords
 pub mod Found

@@ -1,21 +1,62 @@
 -- A talk, exchange by exchange, and how it ends.
 use Rattle.std.proofs.Common.{◌≡◌, ◌≤◌, ℕ, ◌+◌, List, [], ◌∷◌, ◌++◌, length, take, Option, Some, None, Ok, Err, inl, inr, refl, sym, ap, subst, ◌∙◌, append_assoc}
 use Rattle.std.proofs.lemmas.List.{append-nil}
-use Rattle.tx_shell.specs.Events.{Continues, End, Event, Failure, IsTalk, Line, Talks, Text, lines_among}
+use Rattle.tx_plain.specs.MeantLines.{behind}
+use Rattle.tx_shell.specs.Events.{ComeFrom, Comes, Continues, End, Event, Failure, GoTo, Goes, IsTalk, Line, Logs, Talks, Text, Traffic, lines_among}
 use Rattle.tx_shell.specs.Standings.{Answers, IsQuit, Standing, Stops}
 use Rattle.tx_shell.specs.declared.talks.TalkFault.TheVariants.{NoMemory, Reader, TooMany, Writer}
 use Rattle.tx_shell.specs.declared.talks.TheConstants.{LINES}
 
 -- what came and went after what came and went
-continues_more : (before log after : Option (List Event)) (a b : List Event) → Continues before a log → Continues log b after → Continues before (a ++ b) after
-continues_more None log after a b all more = subst (λ (l : Option (List Event)). Continues l b after) all more
-continues_more (Some events) log after a b all more =
-    let known : after ≡ Some ((events ++ a) ++ b) = subst (λ (l : Option (List Event)). Continues l b after) all more in
+logs_more : (before log after : Option (List Event)) (a b : List Event) → Logs before a log → Logs log b after → Logs before (a ++ b) after
+logs_more None log after a b all more = subst (λ (l : Option (List Event)). Logs l b after) all more
+logs_more (Some events) log after a b all more =
+    let known : after ≡ Some ((events ++ a) ++ b) = subst (λ (l : Option (List Event)). Logs l b after) all more in
     known ∙ ap (λ (es : List Event). Some es) (append_assoc events a b)
 
-continues_same : (log : Option (List Event)) → Continues log [] log
-continues_same None = refl
-continues_same (Some events) = ap Some (sym (append-nil events))
+come_more : (a b : List Event) (bytes : List ℕ) (mid after : Option (List ℕ)) → ComeFrom bytes a mid → Comes mid b after → ComeFrom bytes (a ++ b) after
+come_more [] b bytes mid after all more = subst (λ (c : Option (List ℕ)). Comes c b after) all more
+come_more (Line line ∷ a) b bytes mid after all more = (all.0, all.1, come_more a b (behind bytes) mid after all.2 more)
+come_more (End ∷ a) b bytes mid after all more = (all.0, come_more a b bytes mid after all.1 more)
+come_more (Text text ∷ a) b bytes mid after all more = come_more a b bytes mid after all more
+come_more (Failure ∷ a) b bytes mid after all more = tt
+
+comes_more : (before mid after : Option (List ℕ)) (a b : List Event) → Comes before a mid → Comes mid b after → Comes before (a ++ b) after
+comes_more None mid after a b all more = tt
+comes_more (Some bytes) mid after a b all more = come_more a b bytes mid after all more
+
+go_more : (a b : List Event) (bytes : List ℕ) (mid after : Option (List ℕ)) → GoTo bytes a mid → Goes mid b after → GoTo bytes (a ++ b) after
+go_more [] b bytes mid after all more = subst (λ (c : Option (List ℕ)). Goes c b after) all more
+go_more (Line line ∷ a) b bytes mid after all more = go_more a b bytes mid after all more
+go_more (End ∷ a) b bytes mid after all more = go_more a b bytes mid after all more
+go_more (Text text ∷ a) b bytes mid after all more = go_more a b (bytes ++ text) mid after all more
+go_more (Failure ∷ a) b bytes mid after all more = tt
+
+goes_more : (before mid after : Option (List ℕ)) (a b : List Event) → Goes before a mid → Goes mid b after → Goes before (a ++ b) after
+goes_more None mid after a b all more = tt
+goes_more (Some bytes) mid after a b all more = go_more a b bytes mid after all more
+
+continues_more : (before log after : Traffic) (a b : List Event) → Continues before a log → Continues log b after → Continues before (a ++ b) after
+continues_more before log after a b all more = record {
+  logged = logs_more before.log log.log after.log a b all.logged more.logged;
+  came = comes_more before.coming log.coming after.coming a b all.came more.came;
+  went = goes_more before.shown log.shown after.shown a b all.went more.went;
+}
+
+logs_same : (log : Option (List Event)) → Logs log [] log
+logs_same None = refl
+logs_same (Some events) = ap Some (sym (append-nil events))
+
+comes_same : (coming : Option (List ℕ)) → Comes coming [] coming
+comes_same None = tt
+comes_same (Some bytes) = refl
+
+goes_same : (shown : Option (List ℕ)) → Goes shown [] shown
+goes_same None = tt
+goes_same (Some bytes) = refl
+
+continues_same : (log : Traffic) → Continues log [] log
+continues_same log = record { logged = logs_same log.log; came = comes_same log.coming; went = goes_same log.shown }
 
 -- a talk with one exchange more at its end
 longer : (s : Standing) (events : List Event) (t : Standing) (line text : List ℕ) (u : Standing) → Talks s events t → Answers t line text u → Talks s (events ++ Line line ∷ Text text ∷ []) u
@@ -39,18 +80,18 @@ one_line_more (Text told ∷ events) line text = one_line_more events line text
 one_line_more (Failure ∷ events) line text = one_line_more events line text
 
 -- so far each line was answered, of so many
-pub record TalkedSoFar (s t : Standing) (before log : Option (List Event)) (lines : ℕ) : Type 0 where
+pub record TalkedSoFar (s t : Standing) (before log : Traffic) (lines : ℕ) : Type 0 where
   pub events : List Event
   pub all : Continues before events log
   pub talks : Talks s events t
   pub count : lines_among events ≡ lines
 
-pub no_talk : (s : Standing) (log : Option (List Event)) → TalkedSoFar s s log log 0
+pub no_talk : (s : Standing) (log : Traffic) → TalkedSoFar s s log log 0
 unfolding Talks
 no_talk s log = record { events = []; all = continues_same log; talks = refl; count = refl }
 
-module _ (s t : Standing) (before log : Option (List Event)) (lines : ℕ) (so : TalkedSoFar s t before log lines) where
-  pub one_more : (asked told : Option (List Event)) (line text : List ℕ) (u : Standing) → Continues log (Line line ∷ []) asked → Continues asked (Text text ∷ []) told → Answers t line text u → TalkedSoFar s u before told (lines + 1)
+module _ (s t : Standing) (before log : Traffic) (lines : ℕ) (so : TalkedSoFar s t before log lines) where
+  pub one_more : (asked told : Traffic) (line text : List ℕ) (u : Standing) → Continues log (Line line ∷ []) asked → Continues asked (Text text ∷ []) told → Answers t line text u → TalkedSoFar s u before told (lines + 1)
   one_more asked told line text u ask tell answers = record {
     events = so.events ++ Line line ∷ Text text ∷ [];
     all = continues_more before log told so.events (Line line ∷ Text text ∷ []) so.all (continues_more log asked told (Line line ∷ []) (Text text ∷ []) ask tell);
@@ -59,26 +100,26 @@ module _ (s t : Standing) (before log : Option (List Event)) (lines : ℕ) (so :
   }
 
   -- there is no more
-  pub at_end : (after : Option (List Event)) (x : Unit {0}) → Continues log (End ∷ []) after → IsTalk s t before after (Ok x)
+  pub at_end : (after : Traffic) (x : Unit {0}) → Continues log (End ∷ []) after → IsTalk s t before after (Ok x)
   at_end after x end = record { answered = so.events; last = End ∷ []; at = t; events = continues_more before log after so.events (End ∷ []) so.all end; talks = so.talks; ends = (refl, inl refl) }
 
   -- no line came
-  pub no_line : (after : Option (List Event)) → Continues log (Failure ∷ []) after → IsTalk s t before after (Err Reader)
+  pub no_line : (after : Traffic) → Continues log (Failure ∷ []) after → IsTalk s t before after (Err Reader)
   no_line after failure =
       record { answered = so.events; last = Failure ∷ []; at = t; events = continues_more before log after so.events (Failure ∷ []) so.all failure; talks = so.talks; ends = (refl, refl) }
 
   -- the line asks for the end
-  pub at_quit : (after : Option (List Event)) (x : Unit {0}) (line : List ℕ) (u : Standing) → Continues log (Line line ∷ []) after → IsQuit t line → u ≡ t → IsTalk s u before after (Ok x)
+  pub at_quit : (after : Traffic) (x : Unit {0}) (line : List ℕ) (u : Standing) → Continues log (Line line ∷ []) after → IsQuit t line → u ≡ t → IsTalk s u before after (Ok x)
   at_quit after x line u asked quit same =
       record { answered = so.events; last = Line line ∷ []; at = t; events = continues_more before log after so.events (Line line ∷ []) so.all asked; talks = so.talks; ends = (same, inr (line, refl, quit)) }
 
   -- memory was refused
-  pub no_memory : (after : Option (List Event)) (line : List ℕ) (u : Standing) → Continues log (Line line ∷ []) after → Stops t line u → IsTalk s u before after (Err NoMemory)
+  pub no_memory : (after : Traffic) (line : List ℕ) (u : Standing) → Continues log (Line line ∷ []) after → Stops t line u → IsTalk s u before after (Err NoMemory)
   no_memory after line u asked stops =
       record { answered = so.events; last = Line line ∷ []; at = t; events = continues_more before log after so.events (Line line ∷ []) so.all asked; talks = so.talks; ends = (line, refl, stops) }
 
   -- the answer was not shown whole
-  pub cut_off : (asked after : Option (List Event)) (line text : List ℕ) (count : ℕ) (u : Standing) → Continues log (Line line ∷ []) asked → count ≤ length text → Continues asked (Text (take count text) ∷ Failure ∷ []) after →
+  pub cut_off : (asked after : Traffic) (line text : List ℕ) (count : ℕ) (u : Standing) → Continues log (Line line ∷ []) asked → count ≤ length text → Continues asked (Text (take count text) ∷ Failure ∷ []) after →
       Answers t line text u → IsTalk s u before after (Err Writer)
   cut_off asked after line text count u ask inside tell answers = record {
     answered = so.events;

@@ -1,5 +1,7 @@
 -- What comes and goes at a terminal, and which of it is a talk.
-use Rattle.std.specs.Prelude.{◌≡◌, ◌⊎◌, ℕ, ◌+◌, ◌≤◌, List, [], ◌∷◌, ◌++◌, length, take, Option, Some, None, Result, Ok, Err}
+use Rattle.std.specs.Prelude.{◌≡◌, ◌≢◌, ◌⊎◌, ℕ, ◌+◌, ◌≤◌, Bool, List, [], ◌∷◌, ◌++◌, length, take, Option, Some, None, Result, Ok, Err, if◌then◌else◌}
+use Rattle.tx_plain.specs.MeantLines.{behind}
+use Rattle.tx_shell.specs.Cuts.{front_line}
 use Rattle.tx_shell.specs.Standings.{Answers, IsQuit, Standing, Stops}
 use Rattle.tx_shell.specs.declared.talks.TalkFault.{TalkFault}
 use Rattle.tx_shell.specs.declared.talks.TheConstants.{LINES}
@@ -12,10 +14,54 @@ pub data Event : Type 0 where
   Text : List ℕ → Event
   Failure : Event
 
+-- all that came and went at a terminal, the bytes that are still to come, and those that were shown; each where it is known
+pub record Traffic : Type 0 where
+  pub log : Option (List Event)
+  pub coming : Option (List ℕ)
+  pub shown : Option (List ℕ)
+
 -- what came and went, where it is known, is followed by these
-abbrev pub Continues : Option (List Event) → List Event → Option (List Event) → Type 0
-Continues None events log = log ≡ None
-Continues (Some before) events log = log ≡ Some (before ++ events)
+abbrev pub Logs : Option (List Event) → List Event → Option (List Event) → Type 0
+Logs None events log = log ≡ None
+Logs (Some before) events log = log ≡ Some (before ++ events)
+
+-- the lines that came are those of the bytes to come, the first one first, and the end came where there are no more; behind a failure nothing is known
+abbrev pub ComeFrom : List ℕ → List Event → Option (List ℕ) → Type 0
+ComeFrom bytes [] coming = coming ≡ Some bytes
+ComeFrom bytes (Line line ∷ events) coming = (bytes ≢ []) × (line ≡ front_line bytes) × ComeFrom (behind bytes) events coming
+ComeFrom bytes (End ∷ events) coming = (bytes ≡ []) × ComeFrom bytes events coming
+ComeFrom bytes (Text text ∷ events) coming = ComeFrom bytes events coming
+ComeFrom bytes (Failure ∷ events) coming = Unit {0}
+
+abbrev pub Comes : Option (List ℕ) → List Event → Option (List ℕ) → Type 0
+Comes None events coming = Unit {0}
+Comes (Some bytes) events coming = ComeFrom bytes events coming
+
+-- the texts that went are behind what was shown, one behind the other
+abbrev pub GoTo : List ℕ → List Event → Option (List ℕ) → Type 0
+GoTo bytes [] shown = shown ≡ Some bytes
+GoTo bytes (Line line ∷ events) shown = GoTo bytes events shown
+GoTo bytes (End ∷ events) shown = GoTo bytes events shown
+GoTo bytes (Text text ∷ events) shown = GoTo (bytes ++ text) events shown
+GoTo bytes (Failure ∷ events) shown = Unit {0}
+
+abbrev pub Goes : Option (List ℕ) → List Event → Option (List ℕ) → Type 0
+Goes None events shown = Unit {0}
+Goes (Some bytes) events shown = GoTo bytes events shown
+
+-- the traffic is followed by these
+pub record Continues (before : Traffic) (events : List Event) (after : Traffic) : Type 0 where
+  pub logged : Logs before.log events after.log
+  pub came : Comes before.coming events after.coming
+  pub went : Goes before.shown events after.shown
+
+-- what is shown where nobody is asked for a line: all that is written
+abbrev pub unprompted : Bool → Option (List ℕ) → Option (List ℕ)
+unprompted prompts written = if prompts then None else written
+
+-- the traffic between a reader that has these bytes left and a writer that holds those
+abbrev pub traffic_between : Option (List ℕ) → Option (List ℕ) → Bool → Traffic
+traffic_between left written prompts = record { log = None; coming = left; shown = unprompted prompts written }
 
 -- each line has its answer directly behind it, and leads from one standing to another
 unfoldable pub Talks : Standing → List Event → Standing → Type 0
@@ -50,7 +96,7 @@ EndsBy s lines events t (Err faults.NoMemory) = (line : List ℕ) × (events ≡
 EndsBy s lines events t (Err faults.TooMany) = (t ≡ s) × (events ≡ []) × (lines ≡ LINES)
 
 -- a whole talk: lines and their answers, and its end
-pub record IsTalk (s t : Standing) (before after : Option (List Event)) (result : Result (Unit {0}) TalkFault) : Type 0 where
+pub record IsTalk (s t : Standing) (before after : Traffic) (result : Result (Unit {0}) TalkFault) : Type 0 where
   pub answered : List Event
   pub last : List Event
   pub at : Standing

@@ -1,6 +1,7 @@
 pub mod Answers
 pub mod Asks
 pub mod Changes
+pub mod Cuts
 pub mod Differences
 pub mod Events
 pub mod Forms

@@ -5,9 +5,11 @@ ghost use Rattle.tx_change.specs.States.{state_of};
 ghost use Rattle.tx_desc.specs.Descriptions.{described, end_for};
 ghost use Rattle.tx_desc.specs.Places.{number_in};
 ghost use Rattle.tx_journal.specs.Sessions.{start_of};
+ghost use Rattle.tx_model.specs.Footprints.{footprint};
 ghost use Rattle.tx_model.specs.State.{Sending};
 ghost use Rattle.tx_model.specs.View.{present};
 ghost use Rattle.tx_proc.specs.Parts.{process_in};
+ghost use Rattle.tx_reserve.specs.Footprints.{IsSetOf};
 ghost use Rattle.tx_shell.specs.Holders.{awaited_by, holder_at, holder_text, holders, holders_in, holders_line, is_end, named_by};
 ghost use Rattle.tx_shell.specs.Holders.{named_holders, names_end, next_text, other_holders, other_side, side_holders, side_word};
 ghost use Rattle.tx_shell.specs.Kinds.{limit_of};
@@ -25,6 +27,7 @@ use tx_journal::Session;
 use tx_json::Holder;
 use tx_lines::{put, put_count};
 use tx_proc::Proc;
+use tx_reserve::Objects;
 
 /// Each descriptor by which the wait of a step could end that would get this reply: those that are open
 /// for the other side of the pipe that it reads or writes, by rising processes and descriptors. Nothing
@@ -86,8 +89,9 @@ pub fn side_holders(
         found.items ≡ side_holders (view_at session.now) step.now (end_for side)) }
 {
     let mut found = Vec::new(alloc);
+    let names = names(session, step);
     for number in 0..Kind::Pipes.limit() {
-        add_named(&mut found, session, step, side, number)?;
+        add_named(&mut found, session, step, &names, side, number)?;
     }
     Ok(found)
 }
@@ -97,14 +101,17 @@ fn add_named(
     found: &mut Vec<Holder>,
     session: &Session,
     step: &Step,
+    names: &Objects,
     side: Side,
     number: u16,
 ) -> Result<(), AllocError>
-    requires { number < limit_of Pipes }
+    requires number { number < limit_of Pipes }
+    requires names { IsSetOf names.now (footprint (view_at session.now).table step.now
+        (present (view_at session.now))) }
     ensures { OnOk result (found.new.items ≡ found.old.items
         ++ named_holders (view_at session.now) step.now (end_for side) number) }
 {
-    if !names(session, step).has(Kind::Pipes.object(number)) {
+    if !names.has(Kind::Pipes.object(number)) {
         return Ok(());
     }
     add_holders(found, session, side, number)

@@ -3,8 +3,10 @@
 //! next one is read.
 //!
 //! `talk` reads the lines of a `Terminal`, a trait with one log of all that comes and goes, so that
-//! its contract says the order; a `Shell` is what a talk goes on: a session, in which form it is
-//! answered, of which version its lines are, and which step was refused last. `Shell::answer`
+//! its contract says the order, and with the bytes that are to come and that were shown. A `Console` is
+//! one over a reader and a writer; it takes a line from the reader, and of a long one no more than its
+//! front (`taking.rt`). A `Shell` is what a talk goes on: a session, in which form it is answered, of
+//! which version its lines are, and which step was refused last. `Shell::answer`
 //! answers one line, in a text that the talk uses again. A line that spells a step means itself,
 //! and is read at once (tx_lines). What any other line of version 3 means is found as in a text
 //! (`meanings.rt`, over tx_plain), so it has comments, strings and names as there; then it is read
@@ -15,10 +17,11 @@
 //! (`differences.rt`); `changes.rt` finds the step that changed a piece of the state (`pieces.rt`)
 //! last, or changes it next; `owners.rt` tells what live transactions have reserved, by the kinds
 //! of objects that there are (`kinds.rt`); `reasons.rt` why a step would be refused, with the
-//! objects in its way (`blockers.rt`), the signals that have two answers (`signals.rt`) or what it
-//! waits for (`waits.rt`); `helps.rt` what a word means, by tx_explain; and what is neither is told
-//! of as a check tells of it (`tells.rt`, over tx_check). A talk has a form (`forms.rt`): in JSON the answers are the same, each as one line
-//! (`json_answers.rt`, over tx_json).
+//! objects in its way (`blockers.rt`), the signals that have two answers (`signals.rt`), or what it
+//! waits for (`waits.rt`) and who could end that wait (`holders.rt`); `helps.rt` what a word means, by
+//! tx_explain; and what is neither is told of as a check tells of it (`tells.rt`, over tx_check). A talk
+//! has a form (`forms.rt`): in JSON the answers are the same, each as one line (`json_answers.rt`, over
+//! tx_json).
 //!
 //! A refused growth leaves no step half done: a step whose answer could not be put down is taken
 //! back and let go, so the history after an error is the one before the line.

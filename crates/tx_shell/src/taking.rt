@@ -1,5 +1,7 @@
 //! Takes a line from a reader, and of a long one no more than its front.
-ghost use Rattle.std.specs.Prelude.{◌≤◌, length};
+ghost use Rattle.std.specs.Prelude.{◌≡◌, ◌≤◌, ◌++◌, IfOk, IfSome, OnOk, length, take};
+ghost use Rattle.tx_shell.specs.Cuts.{TakesLine, TakesPart};
+ghost use Rattle.tx_shell.specs.declared.taking.Next.TheVariants.{Open};
 
 use std::alloc::AllocError;
 use std::io::{BufRead, Error, ErrorKind, Result};
@@ -27,7 +29,9 @@ enum Next {
 /// then.
 pub fn take_line_from<R: BufRead>(reader: &mut R, line: &mut Vec<u8>) -> Result<bool>
     requires { length line.old.items ≤ 514 }
-    ensures { length line.new.items ≤ 514 }
+    ensures most { length line.new.items ≤ 514 }
+    ensures takes { IfOk result (λ is_ended. IfSome (R.remaining reader.old) (λ left.
+        TakesLine is_ended left (R.remaining reader.new) line.old.items line.new.items)) }
 {
     for _turn in 0..u64::MAX {
         match take_part(reader, line)? {
@@ -43,36 +47,46 @@ pub fn take_line_from<R: BufRead>(reader: &mut R, line: &mut Vec<u8>) -> Result<
 /// room for.
 fn take_part<R: BufRead>(reader: &mut R, line: &mut Vec<u8>) -> Result<Next>
     requires { length line.old.items ≤ 514 }
-    ensures { length line.new.items ≤ 514 }
+    ensures most { length line.new.items ≤ 514 }
+    ensures takes { IfOk result (λ next. IfSome (R.remaining reader.old) (λ left.
+        TakesPart next left (R.remaining reader.new) line.old.items line.new.items)) }
 {
     let bytes = match reader.fill_buf() {
         Ok(bytes) => bytes,
-        Err(error) => return interrupted(error),
+        Err(error) => {
+            return if is_interrupted(&error) {
+                Ok(Next::Open)
+            } else {
+                Err(error)
+            };
+        }
     };
     if bytes.is_empty() {
         return Ok(Next::Nothing);
     }
     let (part, rest) = take_line(bytes);
     append_front(line, part)?;
-    let is_ended = rest.is_some();
-    let count = part.len() + usize::from(is_ended);
+    let count = part.len();
+    if rest.is_some() {
+        reader.consume(count + 1);
+        return Ok(Next::Ended);
+    }
     reader.consume(count);
-    Ok(if is_ended { Next::Ended } else { Next::Open })
+    Ok(Next::Open)
 }
 
-/// An interruption takes nothing, and any other failure is an error.
-fn interrupted(error: Error) -> Result<Next> {
-    if error.kind() == ErrorKind::Interrupted {
-        return Ok(Next::Open);
-    }
-    Err(error)
+/// Whether a reader failed by an interruption, which takes nothing.
+fn is_interrupted(error: &Error) -> bool {
+    error.kind() == ErrorKind::Interrupted
 }
 
 /// Appends as much of a part as there is room for.
 fn append_front(line: &mut Vec<u8>, part: &[u8]) -> std::result::Result<(), AllocError>
     requires { length line.old.items ≤ 514 }
-    ensures { length line.new.items ≤ 514 }
+    ensures most { length line.new.items ≤ 514 }
+    ensures front { OnOk result (line.new.items ≡ take 514 (line.old.items ++ part.now)) }
 {
     let room = LINE_MOST - line.len();
-    line.extend_from_slice(&part[..part.len().min(room)])
+    line.extend_from_slice(&part[..part.len().min(room)])?;
+    Ok(())
 }

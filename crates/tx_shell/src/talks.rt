@@ -39,8 +39,8 @@ pub fn talk<T: Terminal>(
     shell: &mut Shell,
     terminal: &mut T,
 ) -> Result<(), TalkFault>
-    ensures { IsTalk (standing_of shell.old) (standing_of shell.new) (T.log terminal.old)
-        (T.log terminal.new) result }
+    ensures { IsTalk (standing_of shell.old) (standing_of shell.new) (T.traffic terminal.old)
+        (T.traffic terminal.new) result }
 {
     let mut line = Vec::new(alloc);
     let mut room = Room::new();
