@@ -5,8 +5,8 @@ use Rattle.tx_journal.specs.Entries.{history_of}
 use Rattle.tx_journal.specs.Sessions.{SameBoot, SessionState}
 use Rattle.tx_shell.specs.Places.{origin_of, place_of}
 use Rattle.tx_shell.specs.Standings.{at_start, going_on, Standing}
-use Rattle.tx_shell.specs.declared.forms.Form.{Form}
-use Rattle.tx_shell.specs.declared.versions.TextVersion.{TextVersion}
+use Rattle.tx_shell.specs.declared.answers.forms.Form.{Form}
+use Rattle.tx_shell.specs.declared.lines.versions.TextVersion.{TextVersion}
 
 -- where a shell of these parts stands
 abbrev pub stands : Form → TextVersion → Bool → Option Step → SessionState → Standing

@@ -1,5 +1,5 @@
 -- What came and went where the input of a terminal over a reader and a writer has ended.
-use Rattle.std.proofs.Common.{◌≡◌, ℕ, false, List, [], ◌∷◌, ◌++◌, Option, Some, None, IfSome, is_some, length, refl, take, sym, ap, ◌∙◌, arith}
+use Rattle.std.proofs.Common.{◌≡◌, ℕ, false, List, [], ◌∷◌, Option, Some, None, IfSome, is_some, length, refl, take, sym, ap, ◌∙◌, arith}
 use Rattle.tx_shell.proofs.CutLines.{open_whole}
 use Rattle.tx_shell.specs.Cuts.{TakesLine}
 use Rattle.tx_plain.specs.MeantLines.{behind_by}

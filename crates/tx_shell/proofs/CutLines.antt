@@ -1,13 +1,13 @@
 -- A line is cut off the bytes that a reader has left, part by part.
-use Rattle.std.proofs.Common.{◌≡◌, ℕ, zero, suc, ◌+◌, ◌≤◌, Bool, true, false, List, [], ◌∷◌, ◌++◌, Option, Some, None, IfSome, is_some, length, take, refl, sym, ap, subst, ◌∙◌, arith, inl, inr, append_assoc, append-nil, take_all, length-take, length-append, eqb-true, ◌==◌, min, ◌-◌, option_map, Result, Ok, Err, OnOk, is_ok, if◌then◌else◌}
+use Rattle.std.proofs.Common.{◌≡◌, ℕ, zero, suc, ◌+◌, ◌≤◌, true, false, List, [], ◌∷◌, ◌++◌, Option, Some, None, IfSome, is_some, length, take, refl, sym, ap, ◌∙◌, arith, inl, inr, append_assoc, append-nil, take_all, length-take, length-append, eqb-true, ◌==◌, min, ◌-◌, option_map}
 use Rattle.std.proofs.lemmas.Bool.Decides.{eqb_tells}
 use Rattle.std.proofs.lemmas.List.{take_min}
 use Rattle.std.proofs.Math.Seq.{take-append-add}
 use Rattle.std.proofs.KnownBytes.{Keeps-refl}
 use Rattle.std.specs.Io.KnownBytes.{Consumes, Keeps}
-use Rattle.tx_shell.specs.Cuts.{IsPart, TakesLine, TakesPart}
+use Rattle.tx_shell.specs.Cuts.{TakesLine, TakesPart}
 use Rattle.tx_plain.specs.MeantLines.{behind, behind_by}
-use Rattle.tx_shell.specs.declared.taking.Next.TheVariants.{Ended, Nothing, Open}
+use Rattle.tx_shell.specs.declared.talks.taking.Next.TheVariants.{Ended, Nothing, Open}
 use Rattle.tx_lines.specs.Schedule.{after_line, first_line}
 
 -- the first line of a text and its end stand at its front, and end a line whatever follows
@@ -64,8 +64,8 @@ module _ (left left' : Option (List ℕ)) (line line' : List ℕ) where
       by (Some bytes) None consumes = absurd consumes
       by (Some bytes) (Some more) consumes =
           let all : bytes ≡ first_line shown ++ 10 ∷ more =
-              consumes ∙ ap (λ (n : ℕ). take n shown ++ more) (long ∙ ap (λ (t : List ℕ). length t + 1) is)
-              ∙ ap (λ (t : List ℕ). t ++ more) (ended_front shown rest after) ∙ append_assoc (first_line shown) (10 ∷ []) more in
+          consumes ∙ ap (λ (n : ℕ). take n shown ++ more) (long ∙ ap (λ (t : List ℕ). length t + 1) is)
+          ∙ ap (λ (t : List ℕ). t ++ more) (ended_front shown rest after) ∙ append_assoc (first_line shown) (10 ∷ []) more in
           record { part = part; rest = more; is = (ap first_line all ∙ first_again shown more ∙ sym is, ap after_line all ∙ after_again shown more); goes = refl; kept = kept }
 
   -- it is not

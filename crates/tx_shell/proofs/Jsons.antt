@@ -29,9 +29,9 @@ use Rattle.tx_shell.specs.Origins.{start_in, Origin}
 use Rattle.tx_shell.specs.Places.{origin_of, place_of, Place}
 use Rattle.tx_shell.specs.Reasons.{TellsWhy}
 use Rattle.tx_shell.specs.Refused.{StopsShort}
-use Rattle.tx_shell.specs.declared.asks.Ask.{Ask}
-use Rattle.tx_shell.specs.declared.asks.Ask.TheVariants as asks
-use Rattle.tx_shell.specs.declared.versions.TextVersion.{TextVersion}
+use Rattle.tx_shell.specs.declared.lines.asks.Ask.{Ask}
+use Rattle.tx_shell.specs.declared.lines.asks.Ask.TheVariants as asks
+use Rattle.tx_shell.specs.declared.lines.versions.TextVersion.{TextVersion}
 
 -- all but a state, a step that is tried, why one is refused and a cut
 pub told_by_lines : (ask : Ask) → ((command : Command) → ask ≢ asks.Walk command) → ((step : Step) → ask ≢ asks.Try step) → ((step : Step) → ask ≢ asks.Why step) →

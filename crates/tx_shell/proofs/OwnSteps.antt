@@ -21,8 +21,8 @@ use Rattle.tx_plain.specs.declared.reading.Reading.TheVariants.{InWord}
 use Rattle.tx_plain.specs.declared.stage.Stage.TheVariants.{Within}
 use Rattle.tx_shell.specs.Meanings.{asks_of_step, first_word, meant_line, spelled_line, third_line, usual_words}
 use Rattle.tx_shell.specs.Standings.{quit_line}
-use Rattle.tx_shell.specs.declared.versions.TextVersion.{TextVersion}
-use Rattle.tx_shell.specs.declared.versions.TextVersion.TheVariants.{One, Two, Three}
+use Rattle.tx_shell.specs.declared.lines.versions.TextVersion.{TextVersion}
+use Rattle.tx_shell.specs.declared.lines.versions.TextVersion.TheVariants.{One, Two, Three}
 
 -- a line begins with a digit, or with the `k` of the kernel
 record BeginsAsStep (line : List ℕ) : Type 0 where

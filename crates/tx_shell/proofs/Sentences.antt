@@ -1,7 +1,6 @@
 -- What is told of a line has a sentence, and then the line's end.
 use Rattle.std.proofs.Common.{◌≡◌, ◌∙◌, ℕ, List, [], ◌∷◌, ◌++◌, ap, append_assoc, codes, sym}
 use Rattle.std.specs.Fmt.{decimal}
-use Rattle.tx_check.specs.Sessions.{IsSessionTold}
 use Rattle.tx_shell.specs.Told.{HasSentence, TellsOf}
 
 -- the end goes to the end

@@ -21,11 +21,11 @@ use Rattle.tx_shell.specs.Places.{Place}
 use Rattle.tx_shell.specs.Spelled.{AllFit, IsSpelled, SpellsSchedule, StaysSpelled}
 use Rattle.tx_shell.specs.Standings.{Answers, AnswersMeant, first_standing, Opens, Standing}
 use Rattle.tx_shell.specs.Versions.{grammar_of}
-use Rattle.tx_shell.specs.declared.asks.Ask.{Ask}
-use Rattle.tx_shell.specs.declared.asks.Ask.TheVariants as asks
-use Rattle.tx_shell.specs.declared.forms.Form.{Form}
-use Rattle.tx_shell.specs.declared.forms.Form.TheVariants as forms
-use Rattle.tx_shell.specs.declared.versions.TextVersion.{TextVersion}
+use Rattle.tx_shell.specs.declared.lines.asks.Ask.{Ask}
+use Rattle.tx_shell.specs.declared.lines.asks.Ask.TheVariants as asks
+use Rattle.tx_shell.specs.declared.answers.forms.Form.{Form}
+use Rattle.tx_shell.specs.declared.answers.forms.Form.TheVariants as forms
+use Rattle.tx_shell.specs.declared.lines.versions.TextVersion.{TextVersion}
 
 -- what holds of each of a list holds of each of the list turned round
 all_reversed : {X : Type 0} (P : X → Type 0) (xs : List X) → All P xs → All P (reverse xs)

@@ -32,10 +32,10 @@ use Rattle.tx_shell.specs.Owners.{or_no_transaction, owner_line, owner_lines}
 use Rattle.tx_shell.specs.Places.{Place}
 use Rattle.tx_shell.specs.Reasons.{TellsRefused, TellsWhy}
 use Rattle.tx_shell.specs.Versions.{grammar_of}
-use Rattle.tx_shell.specs.declared.asks.Ask.{Ask}
-use Rattle.tx_shell.specs.declared.asks.Ask.TheVariants as asks
-use Rattle.tx_shell.specs.declared.forms.Form.{Form}
-use Rattle.tx_shell.specs.declared.forms.Form.TheVariants.{Text, Json}
+use Rattle.tx_shell.specs.declared.lines.asks.Ask.{Ask}
+use Rattle.tx_shell.specs.declared.lines.asks.Ask.TheVariants as asks
+use Rattle.tx_shell.specs.declared.answers.forms.Form.{Form}
+use Rattle.tx_shell.specs.declared.answers.forms.Form.TheVariants.{Text, Json}
 use Rattle.tx_text.specs.Replies.{named_reply_text}
 
 -- at the end a step is made: its reply is told, and it is recorded where it was accepted

@@ -6,8 +6,8 @@ use Rattle.tx_lines.specs.Walks.{command_text, FitsCommand}
 use Rattle.tx_lines.specs.declared.read.command.Command.TheVariants as commands
 use Rattle.tx_lines.specs.declared.read.header.Version.{Version}
 use Rattle.tx_shell.specs.Pieces.{piece_name, FitsPiece}
-use Rattle.tx_shell.specs.declared.asks.Ask.{Ask}
-use Rattle.tx_shell.specs.declared.asks.Ask.TheVariants as asks
+use Rattle.tx_shell.specs.declared.lines.asks.Ask.{Ask}
+use Rattle.tx_shell.specs.declared.lines.asks.Ask.TheVariants as asks
 
 -- the spelling, without the line's end
 abbrev pub ask_text : Ask → List ℕ

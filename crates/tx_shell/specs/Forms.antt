@@ -5,8 +5,8 @@ use Rattle.tx_json.specs.Answers.{empty_answer, error_answer, position_answer, s
 use Rattle.tx_json.specs.Line.{IsLineOf}
 use Rattle.tx_script.specs.Debug.{position_text}
 use Rattle.tx_shell.specs.Told.{TellsOf}
-use Rattle.tx_shell.specs.declared.forms.Form.{Form}
-use Rattle.tx_shell.specs.declared.forms.Form.TheVariants.{Text, Json}
+use Rattle.tx_shell.specs.declared.answers.forms.Form.{Form}
+use Rattle.tx_shell.specs.declared.answers.forms.Form.TheVariants.{Text, Json}
 use Rattle.tx_text.specs.Replies.{named_reply_text}
 
 -- the answer to a line without a word

@@ -1,5 +1,5 @@
 -- Who has a side of a pipe open.
-use Rattle.std.specs.Prelude.{ℕ, zero, suc, ◌+◌, Bool, false, List, [], ◌∷◌, ◌++◌, Option, Some, None, codes, option_map, slice_index_or, if◌then◌else◌}
+use Rattle.std.specs.Prelude.{ℕ, zero, suc, Bool, false, List, [], ◌∷◌, ◌++◌, Option, Some, None, codes, option_map, slice_index_or, if◌then◌else◌}
 use Rattle.std.specs.Fmt.{decimal}
 use Rattle.tx_base.specs.declared.limits.TheConstants.{DESCRIPTORS}
 use Rattle.tx_base.specs.declared.steps.Refusal.TheVariants.{Wait}
@@ -16,7 +16,7 @@ use Rattle.tx_model.specs.Footprints.{footprint}
 use Rattle.tx_model.specs.State.{Description, Process, Side, ReadSide, State, WriteSide, has_object, side_in}
 use Rattle.tx_model.specs.View.{View, present}
 use Rattle.tx_shell.specs.Kinds.{limit_of, object_in}
-use Rattle.tx_shell.specs.declared.kinds.Kind.TheVariants.{Pipes, Processes}
+use Rattle.tx_shell.specs.declared.questions.kinds.Kind.TheVariants.{Pipes, Processes}
 use Rattle.tx_text.specs.Each.{each_text}
 
 -- the description that descriptor f of a process names

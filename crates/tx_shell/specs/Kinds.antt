@@ -1,8 +1,8 @@
 -- The kinds of objects, as states spell them.
 use Rattle.std.specs.Prelude.{ℕ, List, codes}
 use Rattle.tx_model.specs.State.{Object, Proc, Desc, Pipe}
-use Rattle.tx_shell.specs.declared.kinds.Kind.{Kind}
-use Rattle.tx_shell.specs.declared.kinds.Kind.TheVariants.{Processes, Descriptions, Pipes}
+use Rattle.tx_shell.specs.declared.questions.kinds.Kind.{Kind}
+use Rattle.tx_shell.specs.declared.questions.kinds.Kind.TheVariants.{Processes, Descriptions, Pipes}
 
 -- the object of a kind and a number
 abbrev pub object_in : Kind → ℕ → Object

@@ -7,10 +7,10 @@ use Rattle.tx_plain.specs.Lines.{plain_line}
 use Rattle.tx_plain.specs.OwnLines.{without_return}
 use Rattle.tx_plain.specs.Words.{columns_in, words_in}
 use Rattle.tx_plain.specs.declared.stage.Stage.TheVariants.{Within}
-use Rattle.tx_shell.specs.declared.meanings.Words.{Words}
-use Rattle.tx_shell.specs.declared.meanings.Words.TheVariants.{Lent, Made}
-use Rattle.tx_shell.specs.declared.versions.TextVersion.{TextVersion}
-use Rattle.tx_shell.specs.declared.versions.TextVersion.TheVariants.{One, Two, Three}
+use Rattle.tx_shell.specs.declared.lines.meanings.Words.{Words}
+use Rattle.tx_shell.specs.declared.lines.meanings.Words.TheVariants.{Lent, Made}
+use Rattle.tx_shell.specs.declared.lines.versions.TextVersion.{TextVersion}
+use Rattle.tx_shell.specs.declared.lines.versions.TextVersion.TheVariants.{One, Two, Three}
 
 -- a word, and the step behind it where there is one
 abbrev pub with_step : List ℕ → Option (List ℕ) → List ℕ

@@ -11,9 +11,9 @@ use Rattle.tx_model.specs.State.{State, boot_state}
 use Rattle.tx_plain.specs.Meant.{meant_of}
 use Rattle.tx_plain.specs.Plain.{is_third}
 use Rattle.tx_shell.specs.Versions.{grammar_of}
-use Rattle.tx_shell.specs.declared.openings.Opening.{Opening}
-use Rattle.tx_shell.specs.declared.versions.TextVersion.{TextVersion}
-use Rattle.tx_shell.specs.declared.versions.TextVersion.TheVariants.{One, Two, Three}
+use Rattle.tx_shell.specs.declared.lines.openings.Opening.{Opening}
+use Rattle.tx_shell.specs.declared.lines.versions.TextVersion.{TextVersion}
+use Rattle.tx_shell.specs.declared.lines.versions.TextVersion.TheVariants.{One, Two, Three}
 
 -- of which version the lines are, how many processes there may be, and how many there were at the start
 pub record Origin : Type 0 where

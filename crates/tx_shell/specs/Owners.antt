@@ -5,8 +5,8 @@ use Rattle.tx_lines.specs.Lists.{list_text}
 use Rattle.tx_model.specs.Membership.{is_live}
 use Rattle.tx_model.specs.View.{View}
 use Rattle.tx_shell.specs.Kinds.{limit_of, object_in, word_of}
-use Rattle.tx_shell.specs.declared.kinds.Kind.{Kind}
-use Rattle.tx_shell.specs.declared.kinds.Kind.TheVariants.{Processes, Descriptions, Pipes}
+use Rattle.tx_shell.specs.declared.questions.kinds.Kind.{Kind}
+use Rattle.tx_shell.specs.declared.questions.kinds.Kind.TheVariants.{Processes, Descriptions, Pipes}
 use Rattle.tx_text.specs.Each.{upto}
 
 -- the numbers below a limit that are listed, in rising order

@@ -5,7 +5,7 @@ use Rattle.tx_journal.specs.Entries.{history_of}
 use Rattle.tx_journal.specs.Sessions.{made_of, position_of, start_of, SessionState}
 use Rattle.tx_model.specs.View.{View, view}
 use Rattle.tx_shell.specs.Origins.{Origin}
-use Rattle.tx_shell.specs.declared.versions.TextVersion.{TextVersion}
+use Rattle.tx_shell.specs.declared.lines.versions.TextVersion.{TextVersion}
 
 -- the history of all accepted steps, the newest first, and how many of them are made
 pub record Place : Type 0 where

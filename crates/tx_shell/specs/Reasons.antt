@@ -23,8 +23,8 @@ use Rattle.tx_shell.specs.Helps.{HelpsOn}
 use Rattle.tx_shell.specs.Holders.{holders_line, side_holders}
 use Rattle.tx_shell.specs.Kinds.{limit_of, object_in, word_of}
 use Rattle.tx_shell.specs.Signals.{signal_lines}
-use Rattle.tx_shell.specs.declared.kinds.Kind.{Kind}
-use Rattle.tx_shell.specs.declared.kinds.Kind.TheVariants.{Processes, Descriptions, Pipes}
+use Rattle.tx_shell.specs.declared.questions.kinds.Kind.{Kind}
+use Rattle.tx_shell.specs.declared.questions.kinds.Kind.TheVariants.{Processes, Descriptions, Pipes}
 use Rattle.tx_text.specs.Each.{upto}
 use Rattle.tx_text.specs.Replies.{named_reply_text}
 

@@ -6,8 +6,8 @@ use Rattle.tx_script.specs.Debug.{position_after}
 use Rattle.tx_shell.specs.Answers.{IsAskLine}
 use Rattle.tx_shell.specs.Origins.{Origin}
 use Rattle.tx_shell.specs.Places.{Place}
-use Rattle.tx_shell.specs.declared.asks.Ask.{Ask}
-use Rattle.tx_shell.specs.declared.asks.Ask.TheVariants as asks
+use Rattle.tx_shell.specs.declared.lines.asks.Ask.{Ask}
+use Rattle.tx_shell.specs.declared.lines.asks.Ask.TheVariants as asks
 
 -- the position to which what is asked for leads at the furthest
 abbrev pub position_asked : Place → Ask → ℕ

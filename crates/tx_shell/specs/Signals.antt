@@ -6,7 +6,7 @@ use Rattle.tx_base.specs.declared.steps.Step.{Step}
 use Rattle.tx_model.specs.State.{State}
 use Rattle.tx_model.specs.View.{view}
 use Rattle.tx_shell.specs.Kinds.{limit_of}
-use Rattle.tx_shell.specs.declared.kinds.Kind.TheVariants.{Processes}
+use Rattle.tx_shell.specs.declared.questions.kinds.Kind.TheVariants.{Processes}
 use Rattle.tx_step.specs.TwoAnswers.{two_answers}
 use Rattle.tx_step.specs.declared.differing.TwoAnswers.{TwoAnswers}
 use Rattle.tx_text.specs.Each.{upto}

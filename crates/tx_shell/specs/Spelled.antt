@@ -8,7 +8,7 @@ use Rattle.tx_shell.specs.Journals.{steps_made}
 use Rattle.tx_shell.specs.Origins.{header_in}
 use Rattle.tx_shell.specs.Standings.{Standing}
 use Rattle.tx_shell.specs.Versions.{grammar_of}
-use Rattle.tx_shell.specs.declared.versions.TextVersion.{TextVersion}
+use Rattle.tx_shell.specs.declared.lines.versions.TextVersion.{TextVersion}
 
 -- a text of that version can hold each step of a history
 abbrev pub AllFit : TextVersion → List Accepted → Type 0

@@ -7,9 +7,9 @@ use Rattle.tx_shell.specs.Meanings.{meant_line}
 use Rattle.tx_shell.specs.Origins.{Origin, SaysNoOrigin, SaysOrigin}
 use Rattle.tx_shell.specs.Places.{origin_of, Place, place_of}
 use Rattle.tx_shell.specs.Refused.{StopsShortOf}
-use Rattle.tx_shell.specs.declared.forms.Form.{Form}
+use Rattle.tx_shell.specs.declared.answers.forms.Form.{Form}
 use Rattle.tx_shell.specs.declared.shell.Shell.{Shell}
-use Rattle.tx_shell.specs.declared.versions.TextVersion.TheVariants.{Three}
+use Rattle.tx_shell.specs.declared.lines.versions.TextVersion.TheVariants.{Three}
 
 -- in which form it is answered, how it began, whether a header may still come, where its session stands, and which of its steps was refused last
 pub record Standing : Type 0 where

@@ -2,6 +2,12 @@
 ghost use Rattle.std.specs.Prelude.{◌≡◌, IfOk};
 ghost use Rattle.tx_shell.specs.Origins.{text_of};
 
+pub mod asks;
+pub mod meanings;
+pub mod openings;
+pub mod pieces;
+pub mod versions;
+
 use std::alloc::{AllocError, Global};
 
 /// The text of a line alone.

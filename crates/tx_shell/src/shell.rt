@@ -9,11 +9,11 @@ ghost use Rattle.tx_shell.specs.Standings.{begun_by, first_standing, quit_line, 
 ghost use Rattle.tx_shell.specs.Standings.{IsNoHeader, IsQuit, Stops, StopsMeant};
 ghost use Rattle.tx_shell.specs.Versions.{grammar_of};
 
+use crate::answers::forms::Form;
 use crate::answers::{answer_step_line, answer_words};
-use crate::forms::Form;
-use crate::meanings::meant_line;
-use crate::openings::{Opening, read_opening};
-use crate::versions::TextVersion;
+use crate::lines::meanings::meant_line;
+use crate::lines::openings::{Opening, read_opening};
+use crate::lines::versions::TextVersion;
 use std::alloc::Global;
 use tx_base::{Call, NoMemory, Pid, Reply, Step};
 use tx_journal::Session;

@@ -2,8 +2,12 @@
 ghost use Rattle.tx_shell.specs.Events.{IsTalk};
 ghost use Rattle.tx_shell.specs.Standings.{standing_of};
 
+pub mod console;
+pub mod taking;
+pub mod terminal;
+
 use crate::shell::Shell;
-use crate::terminal::{Got, Terminal};
+use crate::talks::terminal::{Got, Terminal};
 use std::alloc::Global;
 use thiserror::Error;
 use tx_base::NoMemory;

@@ -1,5 +1,0 @@
-use Rattle.std.proofs.Common.{refl}
-use Rattle.tx_shell.proofs.helps.help_page.Goals as goal
-
-pub returns : goal.returns
-returns c = refl

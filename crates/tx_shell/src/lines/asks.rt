@@ -1,0 +1,227 @@
+//! What a talk is asked for by lines that are no steps.
+ghost use Rattle.std.specs.Prelude.{◌≡◌, ◌≢◌, ◌<◌, ◌^◌, ◌++◌, ◌∷◌, ℕ, List, MatchOption, IfSome, None, codes};
+ghost use Rattle.std.specs.Fmt.{decimal};
+ghost use Rattle.tx_lines.specs.Schedule.{IsNoStep};
+ghost use Rattle.tx_lines.specs.declared.read.header.Version.{Version as TheVersion};
+ghost use Rattle.tx_shell.specs.Asks.{ask_text, FitsAsk, IsNoAsk, IsOfWords};
+ghost use Rattle.tx_shell.specs.Pieces.{IsNoPiece};
+ghost use Rattle.tx_shell.specs.declared.lines.asks.Ask.{Ask};
+
+use crate::lines::pieces::read_piece;
+use tx_base::{Pid, Step};
+use tx_journal::Piece;
+use tx_lines::{Command, Version, read_command, read_pid, read_position, read_step, split_word};
+
+/// What a talk is asked for by a line that is no step.
+#[derive(Drop)]
+pub enum Ask<'a> {
+    /// A command of the debugger.
+    Walk(Command),
+    /// To go to the position after all steps.
+    GotoEnd,
+    /// To list all steps, and the position among them.
+    Steps,
+    /// To list the steps from that number on.
+    StepsFrom(u64),
+    /// To list the steps from one number to another.
+    StepsBetween(u64, u64),
+    /// To print the text of the schedule that makes the steps up to the position.
+    Text,
+    /// To tell what a step would be answered, and how the state would differ after it.
+    Try(Step),
+    /// To go back to the step that changed this piece last.
+    When(Piece),
+    /// To go on to the step that changes it next.
+    Next(Piece),
+    /// To tell how the state would differ that an abort of the transaction of this starter would leave.
+    Without(u16),
+    /// To tell why a step would be refused.
+    Why(Step),
+    /// To tell why the step would be that was refused last.
+    WhyRefused,
+    /// To tell what each live transaction has reserved.
+    Owns,
+    /// To tell what the live transaction of this starter has reserved.
+    OwnsOf(u16),
+    /// To let go of the steps after the position.
+    Cut,
+    /// To say what can be asked for.
+    Help,
+    /// To say what a word means.
+    HelpOn(&'a [u8]),
+}
+
+/// What a line asks for, in that version. Nothing where it is another line.
+pub fn read_ask(version: Version, line: &[u8]) -> Option<Ask<'_>>
+    ensures found { IfSome result (λ ask. line.now ≡ ask_text ask) }
+    ensures fits { IfSome result (FitsAsk version) }
+    ensures none { result ≡ None → IsNoAsk version line.now }
+{
+    if let Some(command) = read_command(version, line) {
+        return Some(Ask::Walk(command));
+    }
+    if let Some(ask) = read_words(line) {
+        return Some(ask);
+    }
+    if let Some(numbers) = behind(b"steps ", line) {
+        return read_steps(numbers);
+    }
+    if let Some(words) = behind(b"try ", line) {
+        return read_try(version, words);
+    }
+    if let Some(words) = behind(b"when ", line) {
+        return read_when(words);
+    }
+    if let Some(words) = behind(b"next ", line) {
+        return read_next(words);
+    }
+    if let Some(words) = behind(b"why ", line) {
+        return read_why(version, words);
+    }
+    if let Some(word) = behind(b"without ", line) {
+        return read_without(word);
+    }
+    if let Some(word) = behind(b"owns ", line) {
+        return read_owns(word);
+    }
+    match behind(b"help ", line) {
+        Some(word) => Some(Ask::HelpOn(word)),
+        None => None,
+    }
+}
+
+/// What follows that front of a line. Nothing where the line does not begin so.
+pub fn behind<'a>(front: &[u8], line: &'a [u8]) -> Option<&'a [u8]>
+    ensures { MatchOption result ((rest : List ℕ) → line.now ≢ front.now ++ rest) (λ rest.
+        line.now ≡ front.now ++ rest.now) }
+{
+    line.strip_prefix(front)
+}
+
+/// What a line of a word or two asks for, without a number.
+fn read_words(line: &[u8]) -> Option<Ask<'static>>
+    ensures found { IfSome result (λ ask. line.now ≡ ask_text ask) }
+    ensures fits { (version : TheVersion) → IfSome result (FitsAsk version) }
+    ensures none { result ≡ None → (ask : Ask) → IsOfWords ask → line.now ≢ ask_text ask }
+{
+    if line == b"steps".as_slice() {
+        return Some(Ask::Steps);
+    }
+    if line == b"text".as_slice() {
+        return Some(Ask::Text);
+    }
+    if line == b"goto end".as_slice() {
+        return Some(Ask::GotoEnd);
+    }
+    if line == b"why".as_slice() {
+        return Some(Ask::WhyRefused);
+    }
+    if line == b"owns".as_slice() {
+        return Some(Ask::Owns);
+    }
+    if line == b"cut".as_slice() {
+        return Some(Ask::Cut);
+    }
+    if line == b"help".as_slice() {
+        return Some(Ask::Help);
+    }
+    None
+}
+
+/// Which steps are to be listed, by one number or two.
+fn read_steps(numbers: &[u8]) -> Option<Ask<'static>>
+    ensures found { IfSome result (λ ask. codes "steps " ++ numbers.now ≡ ask_text ask) }
+    ensures fits { (version : TheVersion) → IfSome result (FitsAsk version) }
+    ensures one { result ≡ None → (first : ℕ) → first < 2 ^ 63 → numbers.now ≢ decimal first }
+    ensures two { result ≡ None → (first last : ℕ) → first < 2 ^ 63 → last < 2 ^ 63 →
+        numbers.now ≢ decimal first ++ 32 ∷ decimal last }
+{
+    if let Some(first) = read_position(numbers) {
+        return Some(Ask::StepsFrom(first));
+    }
+    match two_numbers(numbers) {
+        Some((first, last)) => Some(Ask::StepsBetween(first, last)),
+        None => None,
+    }
+}
+
+/// The step that is to be tried.
+fn read_try(version: Version, words: &[u8]) -> Option<Ask<'static>>
+    ensures found { IfSome result (λ ask. codes "try " ++ words.now ≡ ask_text ask) }
+    ensures fits { IfSome result (FitsAsk version) }
+    ensures none { result ≡ None → IsNoStep version words.now }
+{
+    match read_step(version, words) {
+        Some(step) => Some(Ask::Try(step)),
+        None => None,
+    }
+}
+
+/// The piece whose last change is asked for.
+fn read_when(words: &[u8]) -> Option<Ask<'static>>
+    ensures found { IfSome result (λ ask. codes "when " ++ words.now ≡ ask_text ask) }
+    ensures fits { (version : TheVersion) → IfSome result (FitsAsk version) }
+    ensures none { result ≡ None → IsNoPiece words.now }
+{
+    match read_piece(words) {
+        Some(piece) => Some(Ask::When(piece)),
+        None => None,
+    }
+}
+
+/// The piece whose next change is asked for.
+fn read_next(words: &[u8]) -> Option<Ask<'static>>
+    ensures found { IfSome result (λ ask. codes "next " ++ words.now ≡ ask_text ask) }
+    ensures fits { (version : TheVersion) → IfSome result (FitsAsk version) }
+    ensures none { result ≡ None → IsNoPiece words.now }
+{
+    match read_piece(words) {
+        Some(piece) => Some(Ask::Next(piece)),
+        None => None,
+    }
+}
+
+/// The step of which it is to be told why it would be refused.
+fn read_why(version: Version, words: &[u8]) -> Option<Ask<'static>>
+    ensures found { IfSome result (λ ask. codes "why " ++ words.now ≡ ask_text ask) }
+    ensures fits { IfSome result (FitsAsk version) }
+    ensures none { result ≡ None → IsNoStep version words.now }
+{
+    match read_step(version, words) {
+        Some(step) => Some(Ask::Why(step)),
+        None => None,
+    }
+}
+
+/// The transaction of whose starter the state is to be printed without.
+fn read_without(word: &[u8]) -> Option<Ask<'static>>
+    ensures found { IfSome result (λ ask. codes "without " ++ word.now ≡ ask_text ask) }
+    ensures fits { (version : TheVersion) → IfSome result (FitsAsk version) }
+    ensures none { result ≡ None → (starter : ℕ) → starter < 2 ^ 16 → word.now ≢ decimal starter }
+{
+    let Pid(starter) = read_pid(word)?;
+    Some(Ask::Without(starter))
+}
+
+/// The transaction of whose starter it is to be told what it has reserved.
+fn read_owns(word: &[u8]) -> Option<Ask<'static>>
+    ensures found { IfSome result (λ ask. codes "owns " ++ word.now ≡ ask_text ask) }
+    ensures fits { (version : TheVersion) → IfSome result (FitsAsk version) }
+    ensures none { result ≡ None → (starter : ℕ) → starter < 2 ^ 16 → word.now ≢ decimal starter }
+{
+    let Pid(starter) = read_pid(word)?;
+    Some(Ask::OwnsOf(starter))
+}
+
+/// The two numbers that a text spells with a space between them. Nothing where it is another text.
+fn two_numbers(numbers: &[u8]) -> Option<(u64, u64)>
+    ensures found { IfSome result (λ r. numbers.now ≡ decimal r.0 ++ 32 ∷ decimal r.1) }
+    ensures fits { IfSome result (λ r. (r.0 < 2 ^ 63) × (r.1 < 2 ^ 63)) }
+    ensures none { result ≡ None → (first last : ℕ) → first < 2 ^ 63 → last < 2 ^ 63 →
+        numbers.now ≢ decimal first ++ 32 ∷ decimal last }
+{
+    let (first, last) = split_word(numbers)?;
+    let first = read_position(first)?;
+    let last = read_position(last)?;
+    Some((first, last))
+}

@@ -1,0 +1,104 @@
+//! Reads which piece of a state is meant.
+ghost use Rattle.std.specs.Fmt.{decimal};
+ghost use Rattle.std.specs.Prelude.{◌≡◌, ◌≢◌, ◌<◌, ◌^◌, ◌++◌, ℕ, IfSome, None, Some};
+ghost use Rattle.tx_base.specs.declared.names.Pid.{Pid as ThePid};
+ghost use Rattle.tx_shell.specs.Pieces.{piece_name, two_text, FitsPiece, IsNoPiece, IsOfProcess};
+ghost use Rattle.tx_journal.specs.declared.pieces.Piece.{Piece as ThePiece};
+
+use crate::lines::asks::behind;
+use tx_base::{DescNo, Pid, PipeNo};
+use tx_journal::Piece;
+use tx_lines::{read_byte, read_pid, split_word};
+
+/// The piece that some words name. Nothing where they name none.
+pub fn read_piece(words: &[u8]) -> Option<Piece>
+    ensures found { IfSome result (λ piece. words.now ≡ piece_name piece) }
+    ensures fits { IfSome result FitsPiece }
+    ensures none { result ≡ None → IsNoPiece words.now }
+{
+    if let Some(piece) = read_of_process(words) {
+        return Some(piece);
+    }
+    if let Some(starter) = pid_behind(b"txn ", words) {
+        return Some(Piece::Txn(starter));
+    }
+    if let Some(number) = byte_behind(b"desc ", words) {
+        return Some(Piece::Desc(DescNo(number)));
+    }
+    match byte_behind(b"pipe ", words) {
+        Some(number) => Some(Piece::Pipe(PipeNo(number))),
+        None => None,
+    }
+}
+
+/// The process that some words name, or what it has.
+fn read_of_process(words: &[u8]) -> Option<Piece>
+    ensures found { IfSome result (λ piece. words.now ≡ piece_name piece) }
+    ensures fits { IfSome result FitsPiece }
+    ensures none { result ≡ None → (piece : ThePiece) →
+        IsOfProcess piece → FitsPiece piece → words.now ≢ piece_name piece }
+{
+    if let Some(pid) = pid_behind(b"proc ", words) {
+        return Some(Piece::Proc(pid));
+    }
+    if let Some((pid, number)) = pid_byte_behind(b"page ", words) {
+        return Some(Piece::Page(pid, number));
+    }
+    if let Some((pid, fd)) = pid_byte_behind(b"fd ", words) {
+        return Some(Piece::Fd(pid, fd));
+    }
+    if let Some(pid) = pid_behind(b"pending ", words) {
+        return Some(Piece::Pending(pid));
+    }
+    if let Some(pid) = pid_behind(b"queue ", words) {
+        return Some(Piece::Queue(pid));
+    }
+    match pid_behind(b"ids ", words) {
+        Some(pid) => Some(Piece::Ids(pid)),
+        None => None,
+    }
+}
+
+/// The process number behind that front. Nothing where something else is there.
+fn pid_behind(front: &[u8], words: &[u8]) -> Option<Pid>
+    ensures found { IfSome result (λ pid. words.now ≡ front.now ++ decimal pid.0) }
+    ensures fits { IfSome result (λ pid. pid.0 < 2 ^ 16) }
+    ensures only { (pid : ThePid) → pid.0 < 2 ^ 16 → words.now ≡ front.now ++ decimal pid.0 →
+        result ≡ Some pid }
+{
+    read_pid(behind(front, words)?)
+}
+
+/// The number below 256 behind that front. Nothing where something else is there.
+fn byte_behind(front: &[u8], words: &[u8]) -> Option<u8>
+    ensures found { IfSome result (λ byte. words.now ≡ front.now ++ decimal byte) }
+    ensures fits { IfSome result (λ byte. byte < 2 ^ 8) }
+    ensures only { (byte : ℕ) → byte < 2 ^ 8 → words.now ≡ front.now ++ decimal byte →
+        result ≡ Some byte }
+{
+    read_byte(behind(front, words)?)
+}
+
+/// The process number and the number below 256 behind that front. Nothing where something else is there.
+fn pid_byte_behind(front: &[u8], words: &[u8]) -> Option<(Pid, u8)>
+    ensures found { IfSome result (λ r. words.now ≡ front.now ++ two_text r.0.0 r.1) }
+    ensures fits { IfSome result (λ r. (r.0.0 < 2 ^ 16) × (r.1 < 2 ^ 8)) }
+    ensures only { (pid : ThePid) (byte : ℕ) → pid.0 < 2 ^ 16 → byte < 2 ^ 8 →
+        words.now ≡ front.now ++ two_text pid.0 byte → result ≡ Some (pid, byte) }
+{
+    read_pid_byte(behind(front, words)?)
+}
+
+/// The process number and the number below 256 that a text spells with a space between them. Nothing
+/// where it is another text.
+fn read_pid_byte(words: &[u8]) -> Option<(Pid, u8)>
+    ensures found { IfSome result (λ r. words.now ≡ two_text r.0.0 r.1) }
+    ensures fits { IfSome result (λ r. (r.0.0 < 2 ^ 16) × (r.1 < 2 ^ 8)) }
+    ensures only { (pid : ThePid) (byte : ℕ) → pid.0 < 2 ^ 16 → byte < 2 ^ 8 →
+        words.now ≡ two_text pid.0 byte → result ≡ Some (pid, byte) }
+{
+    let (first, last) = split_word(words)?;
+    let pid = read_pid(first)?;
+    let byte = read_byte(last)?;
+    Some((pid, byte))
+}

@@ -1,0 +1,211 @@
+//! Finds the step that changed a piece of the state last, or changes it next.
+ghost use Rattle.std.specs.Prelude.{◌≡◌, ◌≤◌, ◌<◌, ◌+◌, ◌++◌, IfOk, MatchOption, OnErr, OnOk, length, string_bytes};
+ghost use Rattle.tx_journal.specs.Entries.{history_of};
+ghost use Rattle.tx_journal.specs.Sessions.{position_of, IsBetween, SameJournal};
+ghost use Rattle.tx_shell.specs.Changes.{change_line, no_change_text, AllShow, MeetsBack, MeetsNext, ShowsOthers};
+ghost use Rattle.tx_shell.specs.Changes.{TellsLast, TellsNext, TellsStep};
+ghost use Rattle.tx_shell.specs.Places.{place_of};
+ghost use Rattle.tx_shell.specs.Shown.{shown_in};
+
+use crate::answers::reserving::reserve_walk;
+use crate::questions::differences::put_differing;
+use std::alloc::{AllocError, Global};
+use tx_base::{NoMemory, Step};
+use tx_journal::{Piece, Session, put_piece};
+use tx_lines::{Command, put, put_count, put_step};
+
+/// Goes back to the position behind the step that changed a piece last, and tells it; or to the start,
+/// where none did. It pays for the steps between.
+///
+/// NoMemory where a growth is refused: the position is then the old one, or lies before it.
+pub fn tell_last(alloc: Global, session: &mut Session, piece: Piece) -> Result<String, NoMemory>
+    ensures answer { IfOk result (λ text.
+        TellsLast (shown_in session.old piece) (place_of session.old) (string_bytes text)
+        (place_of session.new)) }
+    ensures stopped { OnErr result
+        (IsBetween (position_of session.old) (position_of session.new) 0) }
+    ensures journal { SameJournal session.new session.old }
+{
+    let after = lines_there(alloc, session, piece)?;
+    match go_back(alloc, session, piece, after.as_str())? {
+        Some(before) => {
+            make_next(alloc, session)?;
+            change_lines(alloc, session, before.as_str(), after.as_str())
+        }
+        None => no_change_line(alloc, 0),
+    }
+}
+
+/// Goes on to the position behind the step that changes a piece next, and tells it; or to the end, where
+/// none does. It pays for the steps between.
+///
+/// NoMemory where a growth is refused: the position is then the old one, or lies behind it.
+pub fn tell_next(alloc: Global, session: &mut Session, piece: Piece) -> Result<String, NoMemory>
+    ensures answer { IfOk result (λ text.
+        TellsNext (shown_in session.old piece) (place_of session.old) (string_bytes text)
+        (place_of session.new)) }
+    ensures stopped { OnErr result
+        (IsBetween (position_of session.old) (position_of session.new)
+        (length (history_of session.old.entries))) }
+    ensures journal { SameJournal session.new session.old }
+{
+    let before = lines_there(alloc, session, piece)?;
+    match go_on(alloc, session, piece, before.as_str())? {
+        Some(after) => change_lines(alloc, session, before.as_str(), after.as_str()),
+        None => no_change_line(alloc, session.position()),
+    }
+}
+
+/// Takes steps back as long as a piece has these lines. Answers the others that it has then; nothing at
+/// the start.
+fn go_back(
+    alloc: Global,
+    session: &mut Session,
+    piece: Piece,
+    lines: &str,
+) -> Result<Option<String>, NoMemory>
+    requires { lines.now ≡ shown_in session.old piece (position_of session.old) }
+    ensures found { IfOk result (λ found. MatchOption found
+        ((position_of session.new ≡ 0)
+        × AllShow (shown_in session.old piece) lines.now 0 (position_of session.old))
+        (λ before. MeetsBack (shown_in session.old piece) lines.now (string_bytes before)
+        (position_of session.new) (position_of session.old))) }
+    ensures back { position_of session.new ≤ position_of session.old }
+    ensures journal { SameJournal session.new session.old }
+{
+    while session.position() > 0 {
+        take_back(session);
+        if let Some(before) = others_there(alloc, session, piece, lines)? {
+            return Ok(Some(before));
+        }
+    }
+    Ok(None)
+}
+
+/// Makes steps again as long as a piece has these lines. Answers the others that it has then; nothing at
+/// the end.
+fn go_on(
+    alloc: Global,
+    session: &mut Session,
+    piece: Piece,
+    lines: &str,
+) -> Result<Option<String>, NoMemory>
+    requires { lines.now ≡ shown_in session.old piece (position_of session.old) }
+    ensures found { IfOk result (λ found. MatchOption found
+        ((position_of session.new ≡ length session.old.entries)
+        × AllShow (shown_in session.old piece) lines.now (position_of session.old)
+        (position_of session.new))
+        (λ after. MeetsNext (shown_in session.old piece) lines.now (string_bytes after)
+        (position_of session.old) (position_of session.new))) }
+    ensures on { position_of session.old ≤ position_of session.new }
+    ensures inside { position_of session.new ≤ length session.old.entries }
+    ensures journal { SameJournal session.new session.old }
+{
+    while session.position() < session.len() {
+        make_next(alloc, session)?;
+        if let Some(after) = others_there(alloc, session, piece, lines)? {
+            return Ok(Some(after));
+        }
+    }
+    Ok(None)
+}
+
+/// Takes the step before the position back, and keeps what makes it again, where there is room.
+fn take_back(session: &mut Session)
+    requires { 0 < position_of session.old }
+    ensures moved { position_of session.new + 1 ≡ position_of session.old }
+    ensures journal { SameJournal session.new session.old }
+{
+    reserve_walk(session, Command::Back);
+    let _taken = session.back();
+}
+
+/// Makes the step after the position again.
+///
+/// NoMemory where a growth is refused, or there is none; nothing has changed then.
+fn make_next(alloc: Global, session: &mut Session) -> Result<(), NoMemory>
+    ensures moved { OnOk result (position_of session.new ≡ position_of session.old + 1) }
+    ensures refused { OnErr result (session.new ≡ session.old) }
+    ensures journal { SameJournal session.new session.old }
+{
+    match session.forward(alloc) {
+        Ok(()) => Ok(()),
+        Err(_refused) => Err(NoMemory),
+    }
+}
+
+/// The lines of a piece at the position, where they are others than these.
+///
+/// NoMemory where a growth is refused.
+fn others_there(
+    alloc: Global,
+    session: &Session,
+    piece: Piece,
+    lines: &str,
+) -> Result<Option<String>, NoMemory>
+    ensures { IfOk result (λ found. MatchOption found
+        (shown_in session.now piece (position_of session.now) ≡ lines.now)
+        (λ others. ShowsOthers (shown_in session.now piece) lines.now (string_bytes others)
+        (position_of session.now))) }
+{
+    let others = lines_there(alloc, session, piece)?;
+    if others.as_str() == lines {
+        Ok(None)
+    } else {
+        Ok(Some(others))
+    }
+}
+
+/// The lines of a piece at the position.
+fn lines_there(alloc: Global, session: &Session, piece: Piece) -> Result<String, NoMemory>
+    ensures { IfOk result (λ text.
+        string_bytes text ≡ shown_in session.now piece (position_of session.now)) }
+{
+    let mut text = String::new(alloc);
+    put_piece(&mut text, session.machine(), piece)?;
+    Ok(text)
+}
+
+/// The lines that tell the step directly before the position, which changed a piece so.
+fn change_lines(
+    alloc: Global,
+    session: &Session,
+    before: &str,
+    after: &str,
+) -> Result<String, NoMemory>
+    requires { 1 ≤ position_of session.now }
+    ensures { IfOk result (λ text. TellsStep (history_of session.now.entries)
+        (position_of session.now) before.now after.now (string_bytes text)) }
+{
+    let position = session.position();
+    let Some(entry) = session.entry(position) else {
+        unreachable!()
+    };
+    let mut text = String::new(alloc);
+    put_change(&mut text, position as u64, &entry.step)?;
+    put_differing(&mut text, before, after)?;
+    Ok(text)
+}
+
+/// Appends the line of a step that changed a piece.
+fn put_change(text: &mut String, number: u64, step: &Step) -> Result<(), AllocError>
+    ensures { OnOk result (string_bytes text.new
+        ≡ string_bytes text.old ++ change_line number step.now) }
+{
+    put(text, "at ")?;
+    put_count(text, number)?;
+    put(text, ": ")?;
+    put_step(text, step)?;
+    put(text, "\n")
+}
+
+/// The line of a position where no step is told.
+fn no_change_line(alloc: Global, position: usize) -> Result<String, NoMemory>
+    ensures { IfOk result (λ text. string_bytes text ≡ no_change_text position) }
+{
+    let mut text = String::new(alloc);
+    put(&mut text, "at ")?;
+    put_count(&mut text, position as u64)?;
+    put(&mut text, ": no change\n")?;
+    Ok(text)
+}

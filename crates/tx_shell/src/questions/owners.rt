@@ -1,0 +1,125 @@
+//! Tells what live transactions have reserved.
+ghost use Rattle.std.specs.Prelude.{◌≡◌, ◌++◌, IfOk, OnOk, string_bytes};
+ghost use Rattle.tx_journal.specs.Entries.{history_of};
+ghost use Rattle.tx_journal.specs.Sessions.{position_of, start_of};
+ghost use Rattle.tx_lines.specs.Lists.{list_text};
+ghost use Rattle.tx_live.specs.Content.{view_of};
+ghost use Rattle.tx_model.specs.Membership.{is_live};
+ghost use Rattle.tx_model.specs.View.{view};
+ghost use Rattle.tx_script.specs.Debug.{first_steps};
+ghost use Rattle.tx_shell.specs.Kinds.{limit_of};
+ghost use Rattle.tx_shell.specs.Owners.{listed_below, or_no_transaction, owned_text, owner_line, owner_lines};
+ghost use Rattle.tx_shell.specs.Owners.{owns_one};
+
+use crate::answers::helps::text_as;
+use crate::questions::kinds::Kind;
+use std::alloc::{AllocError, Global};
+use tx_base::{NoMemory, Pid};
+use tx_core::Machine;
+use tx_journal::Session;
+use tx_lines::{dash, put, put_count, put_member};
+
+/// What each live transaction has reserved at the position, a line a transaction, by rising starters.
+///
+/// NoMemory where a growth is refused.
+pub fn list_owners(alloc: Global, session: &Session) -> Result<String, NoMemory>
+    ensures { IfOk result (λ text. string_bytes text
+        ≡ or_no_transaction (owner_lines (view (start_of session.now)
+        (first_steps (position_of session.now) (history_of session.now.entries))))) }
+{
+    let mut text = String::new(alloc);
+    put_owners(&mut text, session.machine())?;
+    or_no_transaction(alloc, text)
+}
+
+/// What the live transaction that a process began has reserved at the position.
+///
+/// NoMemory where a growth is refused.
+pub fn list_owner(alloc: Global, session: &Session, starter: u16) -> Result<String, NoMemory>
+    ensures { IfOk result (λ text. string_bytes text
+        ≡ or_no_transaction (owner_line (view (start_of session.now)
+        (first_steps (position_of session.now) (history_of session.now.entries))) starter)) }
+{
+    let mut text = String::new(alloc);
+    put_owner(&mut text, session.machine(), Pid(starter))?;
+    or_no_transaction(alloc, text)
+}
+
+/// The lines, or that no transaction is live where there is none.
+fn or_no_transaction(alloc: Global, lines: String) -> Result<String, NoMemory>
+    ensures { IfOk result (λ text. string_bytes text ≡ or_no_transaction (string_bytes lines)) }
+{
+    if lines.is_empty() {
+        return text_as(alloc, "no transaction\n");
+    }
+    Ok(lines)
+}
+
+/// Appends the line of each live transaction, by rising starters.
+fn put_owners(text: &mut String, machine: &Machine) -> Result<(), AllocError>
+    ensures { OnOk result
+        (string_bytes text.new ≡ string_bytes text.old ++ owner_lines (view_of machine.now)) }
+{
+    for done in 0..machine.processes() {
+        put_owner(text, machine, Pid(done + 1))?;
+    }
+    Ok(())
+}
+
+/// Appends the line of the live transaction that a process began: nothing where there is none.
+fn put_owner(text: &mut String, machine: &Machine, starter: Pid) -> Result<(), AllocError>
+    ensures { OnOk result (string_bytes text.new
+        ≡ string_bytes text.old ++ owner_line (view_of machine.now) starter.0) }
+{
+    if !is_live(machine, starter) {
+        return Ok(());
+    }
+    put(text, "owns ")?;
+    put_count(text, u64::from(starter.0))?;
+    put_owned(text, machine, starter, Kind::Processes)?;
+    put_owned(text, machine, starter, Kind::Descriptions)?;
+    put_owned(text, machine, starter, Kind::Pipes)?;
+    put(text, "\n")
+}
+
+/// Whether a process has begun a transaction that is live.
+pub fn is_live(machine: &Machine, starter: Pid) -> bool
+    ensures { result ≡ is_live (view_of machine.now).table starter.0 }
+{
+    machine.txn_of(starter) == Some(starter)
+}
+
+/// Appends the numbers of a kind that the transaction of a starter has reserved, behind the word for the
+/// kind.
+fn put_owned(
+    text: &mut String,
+    machine: &Machine,
+    starter: Pid,
+    kind: Kind,
+) -> Result<(), AllocError>
+    ensures { OnOk result (string_bytes text.new
+        ≡ string_bytes text.old ++ owned_text (view_of machine.now) starter.0 kind) }
+{
+    put(text, " ")?;
+    put(text, kind.word())?;
+    put_numbers(text, machine, starter, kind)
+}
+
+/// Appends the numbers of a kind that the transaction of a starter has reserved, in rising order.
+fn put_numbers(
+    text: &mut String,
+    machine: &Machine,
+    starter: Pid,
+    kind: Kind,
+) -> Result<(), AllocError>
+    ensures { OnOk result (string_bytes text.new ≡ string_bytes text.old
+        ++ list_text (listed_below (owns_one (view_of machine.now) starter.0 kind)
+        (limit_of kind))) }
+{
+    let mut some = false;
+    for number in 0..kind.limit() {
+        let listed = machine.has_reserved(starter, kind.object(number));
+        some = put_member(text, some, listed, number)?;
+    }
+    put(text, dash(some))
+}

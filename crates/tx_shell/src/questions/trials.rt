@@ -1,0 +1,72 @@
+//! Answers what would be, and leaves all as it is.
+ghost use Rattle.std.specs.Prelude.{◌≡◌, IfOk, string_bytes};
+ghost use Rattle.tx_journal.specs.Entries.{history_of};
+ghost use Rattle.tx_journal.specs.Sessions.{position_of, start_of};
+ghost use Rattle.tx_journal.specs.Trials.{answer_there, shown_at, shown_with};
+ghost use Rattle.tx_script.specs.Debug.{first_steps};
+ghost use Rattle.tx_shell.specs.Answers.{tried_text, TellsWithout};
+ghost use Rattle.tx_shell.specs.Differences.{views_differing};
+ghost use Rattle.tx_shell.specs.Places.{place_of};
+
+use crate::answers::helps::text_as;
+use crate::questions::differences::put_all_differing;
+use crate::questions::owners::is_live;
+use std::alloc::Global;
+use tx_base::{NoMemory, Pid, Reply, Step};
+use tx_journal::{Session, print_pieces};
+use tx_lines::put;
+use tx_text::put_named_reply;
+
+/// The reply that a step would get at the position, and how the state after it would differ.
+///
+/// NoMemory where a growth is refused.
+pub fn try_step(alloc: Global, session: &mut Session, step: &Step) -> Result<String, NoMemory>
+    ensures answer { IfOk result (λ text. string_bytes text ≡ tried_text (start_of session.old)
+        (first_steps (position_of session.old) (history_of session.old.entries)) step.now) }
+    ensures same { session.new ≡ session.old }
+{
+    let (reply, lines) = try_at(alloc, session, step)?;
+    let mut text = String::new(alloc);
+    put_named_reply(&mut text, &reply)?;
+    put(&mut text, "\n")?;
+    put(&mut text, lines.as_str())?;
+    Ok(text)
+}
+
+/// How the state would differ that an abort of the live transaction of a starter would leave, or that
+/// there is none.
+///
+/// NoMemory where a growth is refused.
+pub fn without(alloc: Global, session: &mut Session, starter: u16) -> Result<String, NoMemory>
+    ensures answer { IfOk result (λ text.
+        TellsWithout (start_of session.old) (place_of session.old) starter (string_bytes text)) }
+    ensures same { session.new ≡ session.old }
+{
+    if !is_live(session.machine(), Pid(starter)) {
+        return text_as(alloc, "no transaction\n");
+    }
+    let (_reply, lines) = try_at(alloc, session, &Step::KernelAbort(Pid(starter)))?;
+    Ok(lines)
+}
+
+/// The reply that a step would get at the position, and how the state after it would differ. It prints
+/// the pieces of the state alone that the step may change.
+///
+/// NoMemory where a growth is refused.
+pub fn try_at(
+    alloc: Global,
+    session: &mut Session,
+    step: &Step,
+) -> Result<(Reply, String), NoMemory>
+    ensures reply { IfOk result (λ r. r.0 ≡ answer_there session.old step.now) }
+    ensures lines { IfOk result (λ r. string_bytes r.1
+        ≡ views_differing (shown_at session.old) (shown_with session.old step.now)) }
+    ensures same { session.new ≡ session.old }
+{
+    let pieces = session.pieces_reached(alloc, step)?;
+    let before = print_pieces(alloc, session.machine(), pieces.as_slice())?;
+    let (reply, after) = session.trial(alloc, step, pieces.as_slice())?;
+    let mut lines = String::new(alloc);
+    put_all_differing(&mut lines, before.as_slice(), after.as_slice())?;
+    Ok((reply, lines))
+}

@@ -1,0 +1,112 @@
+//! Tells what a step waits for.
+ghost use Rattle.std.specs.Prelude.{◌≡◌, ◌++◌, ◌<◌, OnOk, string_bytes};
+ghost use Rattle.tx_journal.specs.Entries.{history_of};
+ghost use Rattle.tx_journal.specs.Sessions.{made_of, start_of};
+ghost use Rattle.tx_model.specs.Footprints.{footprint};
+ghost use Rattle.tx_model.specs.View.{present};
+ghost use Rattle.tx_reserve.specs.Footprints.{IsSetOf};
+ghost use Rattle.tx_shell.specs.Kinds.{limit_of};
+ghost use Rattle.tx_shell.specs.Places.{view_at};
+ghost use Rattle.tx_desc.specs.Descriptions.{end_for};
+ghost use Rattle.tx_shell.specs.Reasons.{child_text, open_line, pipe_line, pipe_lines, waited_text};
+ghost use Rattle.tx_shell.specs.declared.questions.kinds.Kind.TheVariants.{Pipes};
+
+use crate::questions::blockers::{names, put_name};
+use crate::questions::holders::{put_holders, side_holders};
+use crate::questions::kinds::Kind;
+use std::alloc::{AllocError, Global};
+use tx_base::{Call, NoMemory, Step};
+use tx_desc::Side;
+use tx_journal::Session;
+use tx_lines::{put, put_number};
+use tx_reserve::Objects;
+
+/// Appends the line of what a step waits for: a child's end, a byte in a pipe, or room in one for all
+/// its bytes. Nothing for a step that never waits.
+///
+/// Then who has the other side of the pipe open, and could end the wait.
+///
+/// NoMemory where a growth is refused; a part of the lines may then be at the end of the text.
+pub fn put_waited(
+    alloc: Global,
+    text: &mut String,
+    session: &Session,
+    step: &Step,
+) -> Result<(), NoMemory>
+    ensures { OnOk result (string_bytes text.new ≡ string_bytes text.old
+        ++ waited_text (start_of session.now) (history_of (made_of session.now)) step.now) }
+{
+    match step {
+        Step::Call(_, Call::Waitpid(child, _)) => Ok(put_child(text, *child)?),
+        Step::Call(_, Call::Read(..)) => {
+            put_pipes(text, session, step, " has no byte\n")?;
+            put_open(alloc, text, session, step, Side::Write)
+        }
+        Step::Call(_, Call::Write(..)) => {
+            put_pipes(text, session, step, " has too little room\n")?;
+            put_open(alloc, text, session, step, Side::Read)
+        }
+        _ => Ok(()),
+    }
+}
+
+/// Appends the line of who has that side of the pipe open that a step names.
+fn put_open(
+    alloc: Global,
+    text: &mut String,
+    session: &Session,
+    step: &Step,
+    side: Side,
+) -> Result<(), NoMemory>
+    ensures { OnOk result (string_bytes text.new ≡ string_bytes text.old
+        ++ open_line (start_of session.now) (history_of (made_of session.now)) step.now
+        (end_for side)) }
+{
+    let holders = side_holders(alloc, session, step, side)?;
+    put_holders(text, side, holders.as_slice())?;
+    Ok(())
+}
+
+/// Appends that a child's end is waited for.
+fn put_child(text: &mut String, child: i64) -> Result<(), AllocError>
+    ensures { OnOk result (string_bytes text.new ≡ string_bytes text.old ++ child_text child) }
+{
+    put(text, "proc ")?;
+    put_number(text, child)?;
+    put(text, " has not ended\n")
+}
+
+/// Appends a line for each pipe that a step names, and why it waits for that.
+fn put_pipes(text: &mut String, session: &Session, step: &Step, why: &str) -> Result<(), AllocError>
+    ensures { OnOk result (string_bytes text.new ≡ string_bytes text.old
+        ++ pipe_lines (start_of session.now) (history_of (made_of session.now)) step.now why.now) }
+{
+    let names = names(session, step);
+    for number in 0..Kind::Pipes.limit() {
+        put_pipe(text, session, step, &names, number, why)?;
+    }
+    Ok(())
+}
+
+/// Appends the line of the pipe of a number, where the step names it.
+fn put_pipe(
+    text: &mut String,
+    session: &Session,
+    step: &Step,
+    names: &Objects,
+    number: u16,
+    why: &str,
+) -> Result<(), AllocError>
+    requires number { number < limit_of Pipes }
+    requires names { IsSetOf names.now (footprint (view_at session.now).table step.now
+        (present (view_at session.now))) }
+    ensures { OnOk result (string_bytes text.new ≡ string_bytes text.old
+        ++ pipe_line (start_of session.now) (history_of (made_of session.now)) step.now why.now
+        number) }
+{
+    if !names.has(Kind::Pipes.object(number)) {
+        return Ok(());
+    }
+    put_name(text, Kind::Pipes, number)?;
+    put(text, why)
+}
