@@ -9,18 +9,18 @@ ghost use Rattle.tx_shell.specs.Journals.{steps_listed};
 ghost use Rattle.tx_shell.specs.Places.{origin_of, place_of};
 ghost use Rattle.tx_shell.specs.Refused.{StopsShort, StopsShortOf};
 
+pub mod as_json;
 pub mod forms;
 pub mod helps;
 pub mod journals;
-pub mod as_json;
 pub mod reserving;
 pub mod steps;
 pub mod tells;
 
+use crate::answers::as_json::answer_as_json;
 use crate::answers::forms::Form;
 use crate::answers::helps::{help, help_on, text_as};
 use crate::answers::journals::{list_steps, position_line, print_schedule};
-use crate::answers::as_json::answer_as_json;
 use crate::answers::reserving::reserve_walk;
 use crate::answers::steps::answer_step;
 use crate::answers::tells::tell_in;
