@@ -6,9 +6,10 @@ use Rattle.std.proofs.lemmas.List.Elements.{All-append}
 use Rattle.tx_lines.specs.Schedule.{lines_of}
 use Rattle.tx_plain.specs.Meant.{own_line}
 use Rattle.tx_check.specs.Numbered.{line_at}
-use Rattle.tx_check.specs.Speaking.{line_sentence, SpeaksAt}
+use Rattle.tx_check.specs.Speaking.{line_sentence, FaultKind, IsOfKind, SpeaksAt}
 use Rattle.tx_check.specs.declared.trouble.LineTrouble.TheVariants.{TooLong}
 use Rattle.tx_check.specs.Told.{last_line, told_text, AreRising, IsAmong, IsColumn, IsInLine, IsTold, IsToldIn, IsWrongOwn, Tells, TellsFrom, TellsUpTo, Told}
+use Rattle.tx_check.specs.ToldKinds.{TellsOfKind}
 
 parts_append : (old a b c d e s n : List ℕ) → ((((((old ++ a) ++ b) ++ c) ++ d) ++ e) ++ s) ++ n ≡ old ++ ((a ++ (b ++ (c ++ (d ++ (e ++ s))))) ++ n)
 parts_append old a b c d e s n = simp append_assoc refl
@@ -27,6 +28,16 @@ told_appended (Ok value) number column bytes old sentence t1 t2 t3 t4 t5 t6 new 
   more = parts_appended old (codes "line ") (decimal number) (codes ", column ") (decimal column) (codes ": ") sentence (codes "\n") t1 t2 t3 t4 t5 t6 new e1 e2 e3 e4 e5 e6 e7;
 }
 told_appended (Err error) number column bytes old sentence t1 t2 t3 t4 t5 t6 new some in_line speaks long e1 e2 e3 e4 e5 e6 e7 = tt
+
+-- and it is of the kind of its sentence
+pub kind_appended : {A E : Type 0} (result : Result A E) (number column : ℕ) (bytes old sentence t1 t2 t3 t4 t5 t6 new : List ℕ) → IsColumn bytes column → IsInLine sentence → SpeaksAt bytes column sentence → (512 < length bytes → sentence ≡ line_sentence TooLong) → t1 ≡ old ++ codes "line " → t2 ≡ t1 ++ decimal number
+    → t3 ≡ t2 ++ codes ", column " → t4 ≡ t3 ++ decimal column → t5 ≡ t4 ++ codes ": " → t6 ≡ t5 ++ sentence → OnOk result (new ≡ t6 ++ codes "\n") → OnOk result ((kind : FaultKind) → IsOfKind kind sentence → TellsOfKind kind number bytes old new)
+unfolding told_appended
+kind_appended {A = A} {E = E} (Ok value) number column bytes old sentence t1 t2 t3 t4 t5 t6 new some in_line speaks long e1 e2 e3 e4 e5 e6 e7 = λ kind is. record {
+  tells = told_appended {A = A} {E = E} (Ok value) number column bytes old sentence t1 t2 t3 t4 t5 t6 new some in_line speaks long e1 e2 e3 e4 e5 e6 e7;
+  of_kind = is;
+}
+kind_appended (Err error) number column bytes old sentence t1 t2 t3 t4 t5 t6 new some in_line speaks long e1 e2 e3 e4 e5 e6 e7 = tt
 
 all_one : (P : Told → Type 0) (x : Told) → P x → All P (x ∷ [])
 all_one P x holds zero d below = holds

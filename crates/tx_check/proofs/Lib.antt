@@ -1,5 +1,6 @@
 pub mod Appended
 pub mod EndedLines
+pub mod FaultKinds
 pub mod FoundFaults
 pub mod FrontWord
 pub mod Growing

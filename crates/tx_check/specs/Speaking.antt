@@ -1,10 +1,16 @@
 -- What is said of a line, and of a word of it.
-use Rattle.std.specs.Prelude.{◌≡◌, ◌⊎◌, ◌<◌, ℕ, ◌+◌, Bool, true, not, ◌||◌, List, [], ◌∷◌, ◌++◌, length, map, take, nat_eq, nat_lt, codes, Option, Some, None, IfSome, if◌then◌else◌}
+use Rattle.std.specs.Prelude.{◌≡◌, ◌≢◌, ◌⊎◌, ◌<◌, ◌≤◌, ℕ, ◌+◌, Bool, true, false, not, ◌||◌, List, [], ◌∷◌, ◌++◌, length, map, take, nat_eq, nat_lt, codes, Option, Some, None, IfSome, if◌then◌else◌}
 use Rattle.std.specs.Char.{is_ascii_digit, is_ascii_graphic}
 use Rattle.std.specs.Fmt.{decimal}
 use Rattle.std.specs.Str.{bytes_eq}
+use Rattle.tx_check.specs.Right.{IsNoneThere, IsRight, IsTooMany}
+use Rattle.tx_check.specs.Wrong.{IsTwice}
+use Rattle.tx_check.specs.declared.places.Part.TheVariants as parts
+use Rattle.tx_check.specs.declared.places.Place.{Place}
 use Rattle.tx_check.specs.declared.trouble.LineTrouble.{LineTrouble}
 use Rattle.tx_check.specs.declared.trouble.LineTrouble.TheVariants.{TooLong, TooManySteps, TooManyCommands, TooManyInstructions, TooManyLabels, NoEnd, CarriageReturn, ByteOrderMark, Comment, OtherComment, Empty, Space, NoHeader, NoCall, DeferIsLater, MovedIsLater, CommandTooSoon, DebugAgain, LabelInSchedule, StepInProgram, DebugInProgram, StepAmongCommands, NoSessionHeader, HeaderLate, ProgramInSession, DebugInSession, NoStep, NeitherStepNorCommand, ProgramHere, ScheduleHere, CommandsHere, NoCommands, TooManyToDraw, NoneOfTheGrammar}
+use Rattle.tx_check.specs.declared.trouble.Names.{Names}
+use Rattle.tx_check.specs.declared.trouble.Names.TheVariants as names
 use Rattle.tx_check.specs.declared.trouble.What.{What}
 use Rattle.tx_check.specs.declared.trouble.What.TheVariants as whats
 use Rattle.tx_plain.specs.Words.{words_in}
@@ -221,3 +227,72 @@ abbrev pub IsPlacedInLine : List ℕ → ℕ → What → Type 0
 IsPlacedInLine line column (whats.Line trouble) = IsTrueOf trouble line column
 IsPlacedInLine line column (whats.OddByte byte) = IsByteAt line column byte × (is_odd byte ≡ true)
 IsPlacedInLine line column what = Unit {0}
+
+-- the kinds of faults: a line is none of the grammar's, or has no end; it names a label that is nowhere; it is too long, or one too many
+pub data FaultKind : Type 0 where
+  OfGrammar : FaultKind
+  OfLabel : FaultKind
+  OfLength : FaultKind
+
+-- of what kind a trouble is
+abbrev pub kind_of_line : LineTrouble → FaultKind
+kind_of_line TooLong = OfLength
+kind_of_line TooManySteps = OfLength
+kind_of_line TooManyCommands = OfLength
+kind_of_line TooManyInstructions = OfLength
+kind_of_line TooManyLabels = OfLength
+kind_of_line TooManyToDraw = OfLength
+kind_of_line trouble = OfGrammar
+
+abbrev pub kind_of_names : Names → FaultKind
+kind_of_names (names.Labels text) = OfLabel
+kind_of_names names = OfGrammar
+
+abbrev pub kind_of_what : What → FaultKind
+kind_of_what (whats.Line trouble) = kind_of_line trouble
+kind_of_what (whats.NoSuch names word) = kind_of_names names
+kind_of_what what = OfGrammar
+
+-- what stands before a label that is nowhere, and before no other word
+abbrev pub no_label : List ℕ
+no_label = codes "no such label: "
+
+-- the sentence speaks of that word behind that front
+pub record SpeaksBehind (front word sentence : List ℕ) : Type 0 where
+  pub after : List ℕ
+  pub spelled : sentence ≡ front ++ (said_word word ++ after)
+  pub ends : is_after after ≡ true
+
+-- the sentence speaks of a word behind another front
+pub record SpeaksOfOther (sentence : List ℕ) : Type 0 where
+  pub front : List ℕ
+  pub word : List ℕ
+  pub known : is_front front ≡ true
+  pub other : front ≢ no_label
+  pub speaks : SpeaksBehind front word sentence
+
+-- the sentence is that of a trouble of that kind with a line
+pub record SaysOfKind (kind : FaultKind) (sentence : List ℕ) : Type 0 where
+  pub trouble : LineTrouble
+  pub of : kind_of_line trouble ≡ kind
+  pub says : sentence ≡ line_sentence trouble
+
+-- the sentence is of that kind: of a label begins `no such label: `; of a length has a sentence of its own; of the grammar is any other
+abbrev pub IsOfKind : FaultKind → List ℕ → Type 0
+IsOfKind OfGrammar sentence = SaysOfKind OfGrammar sentence ⊎ (((byte : ℕ) × SpeaksOfByte byte sentence) ⊎ SpeaksOfOther sentence)
+IsOfKind OfLabel sentence = (word : List ℕ) × SpeaksBehind no_label word sentence
+IsOfKind OfLength sentence = SaysOfKind OfLength sentence
+
+-- what is told of a line has that kind there: too long, or one too many; of a label, where a line is right that is to name one; else none of the
+-- grammar's, a label that stands twice, or without an end
+abbrev pub IsKindAt : Place → List ℕ → ℕ → List ℕ → Bool → FaultKind → Type 0
+IsKindAt place text number line is_ended OfLength = (512 < length line) ⊎ IsTooMany place.part place.count place.labels line
+IsKindAt place text number line is_ended OfLabel = (place.part ≡ parts.Link) × IsRight place.part place.version line
+IsKindAt place text number line is_ended OfGrammar =
+    (length line ≤ 512) × (IsTooMany place.part place.count place.labels line → ⊥)
+    × (IsNoneThere place.part place.version line ⊎ (((place.part ≡ parts.ProgramLine) × IsTwice text number line) ⊎ (is_ended ≡ false)))
+
+-- what was found of the line that is meant can be told of its own one: that is too long where the other is
+pub record IsFitting (line : List ℕ) (what : What) : Type 0 where
+  pub long : 512 < length line → kind_of_what what ≡ OfLength
+  pub short : what ≡ whats.Line TooLong → 512 < length line

@@ -1,12 +1,15 @@
 //! What is wrong with a line, by what is to stand in its place.
-ghost use Rattle.std.specs.Prelude.{◌≡◌, ◌≤◌, ◌⊎◌, IfNone, IfSome, IsFalse, IsTrue, false, length};
+ghost use Rattle.std.specs.Prelude.{◌≡◌, ◌≤◌, ◌⊎◌, ◌<◌, IfNone, IfSome, IsFalse, IsTrue, false, length};
 ghost use Rattle.tx_check.specs.Behind.{IsLinkedLine};
 ghost use Rattle.tx_check.specs.Labels.{AreKnown};
 ghost use Rattle.tx_check.specs.Right.{IsNoneThere, IsRight, IsTooMany};
 ghost use Rattle.tx_check.specs.Stands.{IsPlaceOf, Stand};
+ghost use Rattle.tx_check.specs.Speaking.{kind_of_what, IsKindAt, OfGrammar, OfLabel};
 ghost use Rattle.tx_check.specs.Told.{IsColumn};
 ghost use Rattle.tx_check.specs.Wrong.{IsTwice, IsWrong, NamesNowhere};
 ghost use Rattle.tx_check.specs.declared.places.Part.TheVariants as parts;
+ghost use Rattle.tx_check.specs.declared.trouble.LineTrouble.TheVariants as troubles;
+ghost use Rattle.tx_check.specs.declared.trouble.What.TheVariants as whats;
 ghost use Rattle.tx_plain.specs.MeantLines.{left_of};
 
 pub mod alone;
@@ -56,6 +59,10 @@ pub fn trouble_of<'a>(
     ensures wrong { IfSome result (λ trouble. (stand : Stand) → IsPlaceOf stand place.now →
         IsWrong place.now.version (left_of text.now.text) line.entry.number stand
         line.entry.bytes.now line.entry.is_ended) }
+    ensures kind { IfSome result (λ trouble. IsKindAt place.now (left_of text.now.text)
+        line.entry.number line.entry.bytes.now line.entry.is_ended (kind_of_what trouble.what)) }
+    ensures long { IfSome result (λ trouble. trouble.what ≡ whats.Line troubles.TooLong →
+        512 < length line.entry.bytes.now) }
 {
     if line.bytes.len() > LINE_BYTES {
         return Some(Trouble::of_line(LINE_BYTES + 1, LineTrouble::TooLong));
@@ -89,7 +96,8 @@ pub fn is_right(place: &Place, line: &[u8]) -> bool
 /// What is wrong with a line that is not right: with its bytes, its words or its end, or else with
 /// the whole of it.
 fn trouble_in<'a>(place: &Place, line: &'a [u8], is_ended: bool) -> Trouble<'a>
-    ensures { IsColumn line.now result.column }
+    ensures column { IsColumn line.now result.column }
+    ensures kind { kind_of_what result.what ≡ OfGrammar }
 {
     if let Part::Header(_kind) = place.part
         && (line.is_empty() || line[0] == b'#')
@@ -113,6 +121,7 @@ fn no_end(line: &[u8], is_ended: bool) -> Option<Trouble<'static>>
     ensures column { IfSome result (λ trouble. IsColumn line.now trouble.column) }
     ensures ended { IfNone result (IsTrue is_ended) }
     ensures unended { IfSome result (λ trouble. is_ended ≡ false) }
+    ensures kind { IfSome result (λ trouble. kind_of_what trouble.what ≡ OfGrammar) }
 {
     if is_ended {
         return None;
@@ -122,7 +131,8 @@ fn no_end(line: &[u8], is_ended: bool) -> Option<Trouble<'static>>
 
 /// What is told of a line at fault where nothing else is found that is wrong with it.
 pub fn unknown() -> Trouble<'static>
-    ensures { result.column ≡ 1 }
+    ensures column { result.column ≡ 1 }
+    ensures kind { kind_of_what result.what ≡ OfGrammar }
 {
     Trouble::of_line(1, LineTrouble::NoneOfTheGrammar)
 }
@@ -146,6 +156,10 @@ fn trouble_between<'a>(
         IsTwice (left_of text.now.text) number line.now → ⊥) }
     ensures linked { IfNone result (place.now.part ≡ parts.Link →
         IsLinkedLine place.now.version (left_of text.now.text) line.now) }
+    ensures kind { IfSome result (λ trouble.
+        ((place.now.part ≡ parts.Link) × (kind_of_what trouble.what ≡ OfLabel))
+        ⊎ ((place.now.part ≡ parts.ProgramLine) × IsTwice (left_of text.now.text) number line.now
+        × (kind_of_what trouble.what ≡ OfGrammar))) }
 {
     match place.part {
         Part::ProgramLine => second_label(text, number, line),
@@ -156,7 +170,8 @@ fn trouble_between<'a>(
 
 /// What is wrong with the words of a line.
 fn trouble_in_words<'a>(place: &Place, line: &'a [u8]) -> Option<Trouble<'a>>
-    ensures { IfSome result (λ trouble. IsColumn line.now trouble.column) }
+    ensures column { IfSome result (λ trouble. IsColumn line.now trouble.column) }
+    ensures kind { IfSome result (λ trouble. kind_of_what trouble.what ≡ OfGrammar) }
 {
     match place.part {
         Part::Header(kind) => header_trouble(kind, line),

@@ -1,5 +1,8 @@
 //! Names that people know from elsewhere: which of the names here is meant, and which calls are left
 //! out on purpose.
+ghost use Rattle.std.specs.Prelude.{◌≡◌, IfSome};
+ghost use Rattle.tx_check.specs.Speaking.{kind_of_names, OfGrammar};
+
 use crate::forms::{CALLS, COMMANDS, Form, SESSION, form_of, is_among};
 use crate::trouble::Names;
 
@@ -104,7 +107,9 @@ static MEANT_COMMANDS: [(&'static str, &'static str); 10] = [
 ];
 
 /// Why the call of that name is left out, and what there is for it.
-pub fn left_out(names: Names<'_>, word: &[u8]) -> Option<&'static str> {
+pub fn left_out(names: Names<'_>, word: &[u8]) -> Option<&'static str>
+    ensures { IfSome result (λ reason. kind_of_names names.entry ≡ OfGrammar) }
+{
     match names {
         Names::Calls | Names::Instructions | Names::Session => reason_of(word),
         _ => None,

@@ -1,6 +1,7 @@
 //! The lines of a text itself, where what is wrong with the lines that they mean is told.
 ghost use Rattle.std.specs.Prelude.{◌≡◌, ◌+◌, ◌-◌, ◌≤◌, IfSome, length};
 ghost use Rattle.tx_check.specs.Numbered.{after_lines};
+ghost use Rattle.tx_check.specs.Speaking.{kind_of_what};
 ghost use Rattle.tx_check.specs.Told.{IsColumn};
 ghost use Rattle.tx_lines.specs.Schedule.{first_line};
 
@@ -64,7 +65,8 @@ pub fn own_trouble<'a>(
     trouble: Trouble<'a>,
 ) -> Trouble<'a>
     requires { IsColumn line.now trouble.column }
-    ensures { IsColumn own.now result.column }
+    ensures column { IsColumn own.now result.column }
+    ensures kind { kind_of_what result.what ≡ kind_of_what trouble.entry.what }
 {
     let column = own_column(line, own, trouble.column);
     if !is_third {

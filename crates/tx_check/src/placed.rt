@@ -1,15 +1,15 @@
 //! Whether what is told of a line is so there.
-ghost use Rattle.std.specs.Prelude.{◌≡◌, ◌≢◌, ◌<◌, ◌⊎◌, ◌++◌, ◌∷◌, [], ℕ, List, IfSome, IsTrue, MatchOption, length, option_map, true};
-ghost use Rattle.tx_check.specs.Speaking.{ends_word, is_odd, word_of, IsAt, IsBehindWords, IsByteAt, IsCommandAt, IsDigitAt, IsOddSpace, IsPlacedInLine, IsStepAt, IsTrueOf, IsWordAt};
+ghost use Rattle.std.specs.Prelude.{◌≡◌, ◌≢◌, ◌<◌, ◌⊎◌, ◌++◌, ◌∷◌, [], ℕ, List, IfSome, IsFalse, IsTrue, MatchOption, None, length, option_map, true};
+ghost use Rattle.tx_check.specs.Speaking.{ends_word, is_odd, kind_of_what, word_of, IsAt, IsBehindWords, IsByteAt, IsCommandAt, IsDigitAt, IsFitting, IsOddSpace, IsPlacedInLine, IsStepAt, IsTrueOf, IsWordAt, OfGrammar, OfLabel, OfLength};
 ghost use Rattle.tx_check.specs.Speaking as spec;
 ghost use Rattle.tx_check.specs.Told.{IsColumn};
 ghost use Rattle.tx_check.specs.declared.trouble.LineTrouble.TheVariants as troubles;
 ghost use Rattle.tx_check.specs.declared.trouble.What.TheVariants as whats;
 
 use crate::own::own_word;
-use crate::trouble::{LineTrouble, Trouble, What, WordTrouble};
+use crate::trouble::{LineTrouble, Names, Trouble, What, WordTrouble};
 use tx_lines::LINE_BYTES;
-use tx_plain::split_word;
+use tx_plain::{MeantLines, split_word};
 
 /// What some editors put before a text.
 const BYTE_ORDER_MARK: [u8; 3] = [0xef, 0xbb, 0xbf];
@@ -22,16 +22,77 @@ pub fn placed<'a>(line: &'a [u8], trouble: Trouble<'a>) -> Trouble<'a>
     ensures line { IsPlacedInLine line.now result.column result.what }
     ensures word { IfSome (word_of result.what) (λ word. IsWordAt line.now result.column word) }
     ensures long { 512 < length line.now → result.what ≡ whats.Line troubles.TooLong }
+    ensures kind { IsFitting line.now trouble.entry.what →
+        kind_of_what result.what ≡ kind_of_what trouble.entry.what }
 {
     if line.len() > LINE_BYTES {
         return Trouble::of_line(LINE_BYTES + 1, LineTrouble::TooLong);
     }
+    if is_one_too_many(&trouble.what) {
+        return trouble;
+    }
     if is_in_line(line, &trouble) && is_word_there(line, &trouble) {
         return trouble;
     }
-    match odd_byte_at(line, trouble.column) {
+    match trouble.what.label() {
+        Some((text, word)) => no_label(line, text, word),
+        None => of_bytes(line, trouble.column),
+    }
+}
+
+/// Whether it is that a line is one too many, which is so wherever it is told.
+fn is_one_too_many(what: &What<'_>) -> bool
+    ensures line { IsTrue result → (line : List ℕ) (column : ℕ) →
+        IsPlacedInLine line column what.now }
+    ensures word { IsTrue result → word_of what.now ≡ None }
+    ensures other { IsFalse result → kind_of_what what.now ≡ OfLength →
+        what.now ≡ whats.Line troubles.TooLong }
+{
+    match what {
+        What::Line(LineTrouble::TooManySteps) => true,
+        What::Line(LineTrouble::TooManyCommands) => true,
+        What::Line(LineTrouble::TooManyInstructions) => true,
+        What::Line(LineTrouble::TooManyLabels) => true,
+        What::Line(LineTrouble::TooManyToDraw) => true,
+        _ => false,
+    }
+}
+
+/// That there is no such label, told of the first place in a line where the word stands; of the line's
+/// end where it stands nowhere.
+fn no_label<'a>(line: &'a [u8], text: MeantLines<'a>, word: &'a [u8]) -> Trouble<'a>
+    ensures column { IsColumn line.now result.column }
+    ensures line { IsPlacedInLine line.now result.column result.what }
+    ensures word { IfSome (word_of result.what) (λ word. IsWordAt line.now result.column word) }
+    ensures kind { kind_of_what result.what ≡ OfLabel }
+{
+    for at in 0..line.len() {
+        if is_word_at(line, at + 1, word) {
+            return Trouble {
+                column: at + 1,
+                what: What::NoSuch(Names::Labels(text), word),
+            };
+        }
+    }
+    let column = line.len() + 1;
+    Trouble {
+        column,
+        what: What::NoSuch(Names::Labels(text), word_from(line, column)),
+    }
+}
+
+/// What is told of any line that is none of the grammar's: the byte in that column, where that stands in
+/// no line of the first two versions, or else the first word.
+fn of_bytes(line: &[u8], column: usize) -> Trouble<'_>
+    requires { IsColumn line.now column }
+    ensures column { IsColumn line.now result.column }
+    ensures line { IsPlacedInLine line.now result.column result.what }
+    ensures word { IfSome (word_of result.what) (λ word. IsWordAt line.now result.column word) }
+    ensures kind { kind_of_what result.what ≡ OfGrammar }
+{
+    match odd_byte_at(line, column) {
         Some(byte) => Trouble {
-            column: trouble.column,
+            column,
             what: What::OddByte(byte),
         },
         None => of_first_word(line),
@@ -68,6 +129,7 @@ fn of_first_word(line: &[u8]) -> Trouble<'_>
     ensures column { IsColumn line.now result.column }
     ensures line { IsPlacedInLine line.now result.column result.what }
     ensures word { IfSome (word_of result.what) (λ word. IsWordAt line.now result.column word) }
+    ensures kind { kind_of_what result.what ≡ OfGrammar }
 {
     if let Some(first) = own_word(line, 0) {
         return none_here(line, first.column);
@@ -85,6 +147,7 @@ fn of_first_byte(line: &[u8], byte: u8) -> Trouble<'_>
     ensures column { IsColumn line.now result.column }
     ensures line { IsPlacedInLine line.now result.column result.what }
     ensures word { IfSome (word_of result.what) (λ word. IsWordAt line.now result.column word) }
+    ensures kind { kind_of_what result.what ≡ OfGrammar }
 {
     match byte {
         b' ' => Trouble::of_line(1, LineTrouble::Space),
@@ -103,6 +166,7 @@ fn none_here(line: &[u8], column: usize) -> Trouble<'_>
     ensures column { result.column ≡ column }
     ensures line { IsPlacedInLine line.now column result.what }
     ensures word { IfSome (word_of result.what) (λ word. IsWordAt line.now column word) }
+    ensures kind { kind_of_what result.what ≡ OfGrammar }
 {
     Trouble {
         column,

@@ -3,8 +3,10 @@ ghost use Rattle.std.specs.Prelude.{◌≡◌, ◌≢◌, ◌+◌, ◌↔◌, �
 ghost use Rattle.tx_check.specs.Kinds.{head_of};
 ghost use Rattle.tx_check.specs.Numbered as spec;
 ghost use Rattle.tx_check.specs.Right.{IsTooMany};
+ghost use Rattle.tx_check.specs.Speaking.{kind_of_line, OfLength};
 ghost use Rattle.tx_check.specs.Stands.{begins_label, counted, stand_after, AmongLines, AmongSteps, AtHeader, IsPastAll, IsPlaceOf, IsVersionOf, Stand};
 ghost use Rattle.tx_check.specs.declared.places.Part.TheVariants as parts;
+ghost use Rattle.tx_check.specs.declared.trouble.LineTrouble.TheVariants as troubles;
 ghost use Rattle.tx_lines.specs.Programs.{BeginsLabel};
 ghost use Rattle.tx_lines.specs.Schedule.{after_line, first_line};
 ghost use Rattle.tx_lines.specs.Walks.{debug_line};
@@ -188,6 +190,8 @@ impl Place {
             IsTooMany self.now.part self.now.count self.now.labels line.now) }
         ensures room { IfNone result
             (IsTooMany self.now.part self.now.count self.now.labels line.now → ⊥) }
+        ensures kind { IfSome result (λ trouble. kind_of_line trouble ≡ OfLength) }
+        ensures other { IfSome result (λ trouble. trouble ≢ troubles.TooLong) }
     {
         let trouble = match self.part {
             Part::Step if self.count >= LINES && !is_debug(line) => { LineTrouble::TooManySteps }

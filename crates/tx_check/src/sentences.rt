@@ -1,7 +1,7 @@
 //! The words in which a trouble is told. Each sentence stands in one line.
 ghost use Rattle.std.specs.Prelude.{◌≡◌, ◌<◌, ◌≢◌, ◌++◌, ◌∷◌, [], true, map, OnOk, IfOk, IfSome, string_bytes};
 ghost use Rattle.tx_check.specs.Speaking as spec;
-ghost use Rattle.tx_check.specs.Speaking.{is_after, is_front, said_word, shown, word_of, SaysOfLine, SpeaksOf, SpeaksOfByte};
+ghost use Rattle.tx_check.specs.Speaking.{is_after, is_front, kind_of_what, said_word, shown, word_of, IsOfKind, SaysOfLine, SpeaksBehind, SpeaksOf, SpeaksOfByte};
 ghost use Rattle.tx_check.specs.Told.{IsInLine};
 
 use crate::forms::Form;
@@ -26,6 +26,8 @@ pub fn sentence(alloc: Global, what: &What<'_>) -> Result<String, NoMemory>
     ensures line { IfOk result (λ sentence. SaysOfLine what.now (string_bytes sentence)) }
     ensures word { IfOk result (λ sentence. IfSome (word_of what.now) (λ word.
         SpeaksOf word (string_bytes sentence))) }
+    ensures kind { IfOk result (λ sentence.
+        IsOfKind (kind_of_what what.now) (string_bytes sentence)) }
 {
     match what {
         What::Line(trouble) => line_sentence(alloc, *trouble),
@@ -72,6 +74,8 @@ fn word_sentence(alloc: Global, what: &What<'_>) -> Result<String, NoMemory>
     ensures in_line { IfOk result (λ sentence. IsInLine (string_bytes sentence)) }
     ensures says { IfOk result (λ sentence. IfSome (word_of what.now) (λ word.
         SpeaksOf word (string_bytes sentence))) }
+    ensures kind { IfOk result (λ sentence. IfSome (word_of what.now) (λ word.
+        IsOfKind (kind_of_what what.now) (string_bytes sentence))) }
 {
     let Some(word) = what.word() else {
         return Ok(String::new(alloc));
@@ -91,6 +95,8 @@ fn joined(alloc: Global, front: &str, word: &[u8], tail: &str) -> Result<String,
     requires tail { IsInLine tail.now }
     ensures in_line { IfOk result (λ sentence. IsInLine (string_bytes sentence)) }
     ensures says { IfOk result (λ sentence. SpeaksOf word.now (string_bytes sentence)) }
+    ensures behind { IfOk result (λ sentence.
+        SpeaksBehind front.now word.now (string_bytes sentence)) }
 {
     let mut text = String::new(alloc);
     put(&mut text, front)?;

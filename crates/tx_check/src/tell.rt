@@ -1,6 +1,7 @@
 //! Puts what is told of lines behind one another.
 ghost use Rattle.std.specs.Prelude.{◌≡◌, ◌<◌, OnOk, length, string_bytes};
-ghost use Rattle.tx_check.specs.Speaking.{line_sentence, SpeaksAt};
+ghost use Rattle.tx_check.specs.Speaking.{kind_of_what, line_sentence, FaultKind, IsFitting, IsOfKind, SpeaksAt};
+ghost use Rattle.tx_check.specs.ToldKinds.{TellsOfKind};
 ghost use Rattle.tx_check.specs.Told.{IsColumn, IsInLine, Tells};
 ghost use Rattle.tx_check.specs.declared.trouble.LineTrouble.TheVariants as troubles;
 
@@ -21,8 +22,11 @@ pub fn tell(
     trouble: Trouble<'_>,
 ) -> Result<(), NoMemory>
     requires { IsColumn line.bytes.now trouble.column }
-    ensures { OnOk result (Tells line.entry.number line.entry.bytes.now (string_bytes told.old)
-        (string_bytes told.new)) }
+    ensures tells { OnOk result (Tells line.entry.number line.entry.bytes.now
+        (string_bytes told.old) (string_bytes told.new)) }
+    ensures kind { OnOk result (IsFitting line.entry.bytes.now trouble.entry.what →
+        TellsOfKind (kind_of_what trouble.entry.what) line.entry.number line.entry.bytes.now
+        (string_bytes told.old) (string_bytes told.new)) }
 {
     let trouble = placed(line.bytes, trouble);
     let words = sentence(alloc, &trouble.what)?;
@@ -41,7 +45,10 @@ fn put_told(
     requires sentence { IsInLine sentence.now }
     requires speaks { SpeaksAt line.bytes.now column sentence.now }
     requires long { 512 < length line.bytes.now → sentence.now ≡ line_sentence troubles.TooLong }
-    ensures { OnOk result (Tells line.entry.number line.entry.bytes.now (string_bytes told.old)
+    ensures tells { OnOk result (Tells line.entry.number line.entry.bytes.now
+        (string_bytes told.old) (string_bytes told.new)) }
+    ensures kind { OnOk result ((kind : FaultKind) → IsOfKind kind sentence.now →
+        TellsOfKind kind line.entry.number line.entry.bytes.now (string_bytes told.old)
         (string_bytes told.new)) }
 {
     put(told, "line ")?;

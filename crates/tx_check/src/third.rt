@@ -1,4 +1,6 @@
 //! What is wrong with a line of version 2, as it is told of the line of version 3 that means it.
+ghost use Rattle.std.specs.Prelude.{◌≡◌};
+ghost use Rattle.tx_check.specs.Speaking.{kind_of_what, OfGrammar};
 ghost use Rattle.tx_check.specs.Told.{IsColumn};
 
 mod sets;
@@ -16,6 +18,7 @@ const DIGITS: usize = 128;
 /// What is wrong at a column of a line, as it is told of the line of version 3 that means it.
 pub fn third_what<'a>(part: Part, line: &'a [u8], trouble: Trouble<'a>) -> What<'a>
     requires { IsColumn line.now trouble.column }
+    ensures { kind_of_what result ≡ kind_of_what trouble.entry.what }
 {
     match trouble.what {
         What::Word(_word, _wrong) => word_what(part, line, trouble),
@@ -26,7 +29,9 @@ pub fn third_what<'a>(part: Part, line: &'a [u8], trouble: Trouble<'a>) -> What<
 
 /// What is wrong with a word, by what it is to be.
 fn word_what<'a>(part: Part, line: &'a [u8], trouble: Trouble<'a>) -> What<'a>
-    requires { IsColumn line.now trouble.column }
+    requires column { IsColumn line.now trouble.column }
+    requires kind { kind_of_what trouble.what ≡ OfGrammar }
+    ensures { kind_of_what result ≡ OfGrammar }
 {
     let place = count_words(&line[..trouble.column - 1]) - 1;
     match role_at(part, line, place) {
@@ -56,7 +61,10 @@ fn role_at(part: Part, line: &[u8], place: usize) -> Role {
 }
 
 /// What is wrong with a word that is to be a signal.
-fn signal_what(what: What<'_>) -> What<'_> {
+fn signal_what(what: What<'_>) -> What<'_>
+    requires { kind_of_what what ≡ OfGrammar }
+    ensures { kind_of_what result ≡ OfGrammar }
+{
     match what {
         What::Word(word, WordTrouble::SignalName) => What::NoSignal(word),
         What::Word(word, WordTrouble::NoNumber) => What::NoSignal(word),
@@ -65,7 +73,10 @@ fn signal_what(what: What<'_>) -> What<'_> {
 }
 
 /// What is wrong with another word.
-fn other_what(what: What<'_>) -> What<'_> {
+fn other_what(what: What<'_>) -> What<'_>
+    requires { kind_of_what what ≡ OfGrammar }
+    ensures { kind_of_what result ≡ OfGrammar }
+{
     let What::Word(word, wrong) = what else {
         return what;
     };

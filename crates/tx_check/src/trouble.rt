@@ -1,6 +1,6 @@
 //! What is wrong with a line, and in which column.
-ghost use Rattle.std.specs.Prelude.{◌≡◌, true, option_map};
-ghost use Rattle.tx_check.specs.Speaking.{is_front, word_of};
+ghost use Rattle.std.specs.Prelude.{◌≡◌, ◌≢◌, true, option_map, IfNone, IfSome, IsTrue};
+ghost use Rattle.tx_check.specs.Speaking.{is_front, kind_of_line, kind_of_names, kind_of_what, no_label, word_of, OfGrammar, OfLabel};
 ghost use Rattle.tx_check.specs.Speaking as spec;
 ghost use Rattle.tx_check.specs.Told.{IsInLine};
 ghost use Rattle.tx_check.specs.declared.trouble.What.TheVariants as whats;
@@ -176,13 +176,37 @@ impl<'a> What<'a> {
         }
     }
 
+    /// Whether it is neither of a length nor of a label.
+    pub fn is_of_grammar(&self) -> bool
+        ensures { IsTrue result → kind_of_what self.now ≡ OfGrammar }
+    {
+        match self {
+            What::Line(trouble) => trouble.is_of_grammar(),
+            What::NoSuch(Names::Labels(_), _) => false,
+            _ => true,
+        }
+    }
+
+    /// The label that is nowhere, and the lines among which it was sought.
+    pub fn label(&self) -> Option<(MeantLines<'a>, &'a [u8])>
+        ensures label { IfSome result (λ label. kind_of_what self.now ≡ OfLabel) }
+        ensures none { IfNone result (kind_of_what self.now ≢ OfLabel) }
+    {
+        match self {
+            What::NoSuch(Names::Labels(text), word) => Some((*text, word)),
+            _ => None,
+        }
+    }
+
     /// What is said before the word.
     pub fn front(&self) -> &'static str
         ensures front { is_front result.now ≡ true }
         ensures in_line { IsInLine result.now }
+        ensures label { kind_of_what self.now ≡ OfLabel → result.now ≡ no_label }
+        ensures other { kind_of_what self.now ≡ OfGrammar → result.now ≢ no_label }
     {
         match self {
-            What::NoSuch(names, word) if left_out(*names, word).is_none() => names.front(),
+            What::NoSuch(names, word) => names.front_of(word),
             What::NoSignal(_) => "there is no signal ",
             What::SecondLabel { .. } => "label ",
             _ => "",
@@ -191,10 +215,25 @@ impl<'a> What<'a> {
 }
 
 impl Names<'_> {
+    /// What is said before that name, which is none of those: nothing of one that is left out.
+    fn front_of(&self, word: &[u8]) -> &'static str
+        ensures front { is_front result.now ≡ true }
+        ensures in_line { IsInLine result.now }
+        ensures label { kind_of_names self.now ≡ OfLabel → result.now ≡ no_label }
+        ensures other { kind_of_names self.now ≡ OfGrammar → result.now ≢ no_label }
+    {
+        match left_out(*self, word) {
+            Some(_reason) => "",
+            None => self.front(),
+        }
+    }
+
     /// What is said before a name that is none of those.
     fn front(&self) -> &'static str
         ensures front { is_front result.now ≡ true }
         ensures in_line { IsInLine result.now }
+        ensures label { kind_of_names self.now ≡ OfLabel → result.now ≡ no_label }
+        ensures other { kind_of_names self.now ≡ OfGrammar → result.now ≢ no_label }
     {
         match self {
             Names::Calls | Names::Instructions => "no such call: ",
@@ -219,7 +258,8 @@ impl Trouble<'_> {
 
     /// That trouble with a word.
     pub fn of_word<'a>(word: Word<'a>, trouble: WordTrouble) -> Trouble<'a>
-        ensures { result.column ≡ word.entry.column }
+        ensures column { result.column ≡ word.entry.column }
+        ensures kind { kind_of_what result.what ≡ OfGrammar }
     {
         Trouble {
             column: word.column,
@@ -229,6 +269,18 @@ impl Trouble<'_> {
 }
 
 impl LineTrouble {
+    /// Whether it is not that there is too much.
+    fn is_of_grammar(self) -> bool
+        ensures { IsTrue result → kind_of_line self ≡ OfGrammar }
+    {
+        match self {
+            LineTrouble::TooLong | LineTrouble::TooManySteps => false,
+            LineTrouble::TooManyCommands | LineTrouble::TooManyInstructions => false,
+            LineTrouble::TooManyLabels | LineTrouble::TooManyToDraw => false,
+            _ => true,
+        }
+    }
+
     /// The sentence that tells it.
     pub fn sentence(self) -> &'static str
         ensures is { result.now ≡ spec.line_sentence self }

@@ -1,5 +1,6 @@
 //! What is wrong with a call that has no process before it.
 ghost use Rattle.std.specs.Prelude.{◌≡◌, IfSome};
+ghost use Rattle.tx_check.specs.Speaking.{kind_of_what, OfGrammar};
 
 use crate::diagnose::calls::call_trouble;
 use crate::forms::{CALLS, Form, form_of};
@@ -10,7 +11,8 @@ use tx_lines::{TextKind, Version};
 /// What is wrong with a line whose first word is the name of a call, or begins with one. Nothing
 /// where it is another word.
 pub fn call_alone<'a>(first: Word<'a>, version: Version, line: &'a [u8]) -> Option<Trouble<'a>>
-    ensures { IfSome result (λ trouble. trouble.column ≡ first.entry.column) }
+    ensures column { IfSome result (λ trouble. trouble.column ≡ first.entry.column) }
+    ensures kind { IfSome result (λ trouble. kind_of_what trouble.what ≡ OfGrammar) }
 {
     let form = form_of(CALLS.as_slice(), name_in(first.bytes))?;
     let what = if is_whole(form, version, line) {

@@ -1,5 +1,6 @@
 //! What is wrong with a word that is to be bytes in hex digits.
 ghost use Rattle.std.specs.Prelude.{◌≡◌, IfSome};
+ghost use Rattle.tx_check.specs.Speaking.{kind_of_what, OfGrammar};
 
 use crate::trouble::{Trouble, What, WordTrouble};
 use crate::words::Word;
@@ -11,7 +12,8 @@ const DIGITS: usize = 128;
 
 /// What is wrong where bytes are wanted.
 pub fn bytes_trouble<'a>(word: Word<'a>) -> Option<Trouble<'a>>
-    ensures { IfSome result (λ trouble. trouble.column ≡ word.entry.column) }
+    ensures column { IfSome result (λ trouble. trouble.column ≡ word.entry.column) }
+    ensures kind { IfSome result (λ trouble. kind_of_what trouble.what ≡ OfGrammar) }
 {
     if read_bytes(word.bytes, &mut ArrayVec::new()) {
         return None;

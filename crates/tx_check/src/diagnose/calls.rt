@@ -1,5 +1,6 @@
 //! What is wrong with a call, in a step or an instruction.
 ghost use Rattle.std.specs.Prelude.{◌≡◌, IfSome};
+ghost use Rattle.tx_check.specs.Speaking.{kind_of_what, OfGrammar};
 ghost use Rattle.tx_check.specs.Told.{IsColumn};
 
 use crate::diagnose::fields::field_trouble;
@@ -16,7 +17,8 @@ pub fn call_trouble<'a>(
     line: &'a [u8],
     place: usize,
 ) -> Option<Trouble<'a>>
-    ensures { IfSome result (λ trouble. IsColumn line.now trouble.column) }
+    ensures column { IfSome result (λ trouble. IsColumn line.now trouble.column) }
+    ensures kind { IfSome result (λ trouble. kind_of_what trouble.what ≡ OfGrammar) }
 {
     let name = word_at(line, place)?;
     let Some(form) = call_form(kind, name.bytes) else {
@@ -43,7 +45,8 @@ pub fn call_trouble<'a>(
 
 /// What is wrong with a call that sends a signal, where the signal is first, as a shell has it.
 fn signal_first<'a>(form: Form, line: &'a [u8], place: usize) -> Option<Trouble<'a>>
-    ensures { IfSome result (λ trouble. IsColumn line.now trouble.column) }
+    ensures column { IfSome result (λ trouble. IsColumn line.now trouble.column) }
+    ensures kind { IfSome result (λ trouble. kind_of_what trouble.what ≡ OfGrammar) }
 {
     if form.name != "kill" && form.name != "sigqueue" {
         return None;
@@ -69,7 +72,8 @@ fn call_form(kind: TextKind, name: &[u8]) -> Option<Form> {
 
 /// A name that no call of a text of that kind has.
 fn no_such_call<'a>(kind: TextKind, name: Word<'a>) -> Trouble<'a>
-    ensures { result.column ≡ name.entry.column }
+    ensures column { result.column ≡ name.entry.column }
+    ensures kind { kind_of_what result.what ≡ OfGrammar }
 {
     let names = match kind {
         TextKind::Schedule => Names::Calls,
@@ -83,7 +87,8 @@ fn no_such_call<'a>(kind: TextKind, name: Word<'a>) -> Trouble<'a>
 
 /// A name that takes those words, with so many behind it.
 pub fn takes<'a>(name: Word<'a>, form: Form, got: usize) -> Trouble<'a>
-    ensures { result.column ≡ name.entry.column }
+    ensures column { result.column ≡ name.entry.column }
+    ensures kind { kind_of_what result.what ≡ OfGrammar }
 {
     Trouble {
         column: name.column,
@@ -152,7 +157,8 @@ pub fn arguments_trouble<'a>(
     line: &'a [u8],
     place: usize,
 ) -> Option<Trouble<'a>>
-    ensures { IfSome result (λ trouble. IsColumn line.now trouble.column) }
+    ensures column { IfSome result (λ trouble. IsColumn line.now trouble.column) }
+    ensures kind { IfSome result (λ trouble. kind_of_what trouble.what ≡ OfGrammar) }
 {
     let mut at = place.saturating_add(1);
     for field_place in 0..count_of(words) {

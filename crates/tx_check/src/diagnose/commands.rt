@@ -1,5 +1,6 @@
 //! What is wrong with a command of a debugger.
 ghost use Rattle.std.specs.Prelude.{◌≡◌, IfSome};
+ghost use Rattle.tx_check.specs.Speaking.{kind_of_what, OfGrammar};
 ghost use Rattle.tx_check.specs.Told.{IsColumn};
 
 use crate::diagnose::calls::{arguments_trouble, count_of, takes};
@@ -10,7 +11,8 @@ use tx_lines::{TextKind, Version, read_pid};
 
 /// What is wrong with the words of a line that is to be a command.
 pub fn command_trouble<'a>(version: Version, line: &'a [u8]) -> Option<Trouble<'a>>
-    ensures { IfSome result (λ trouble. IsColumn line.now trouble.column) }
+    ensures column { IfSome result (λ trouble. IsColumn line.now trouble.column) }
+    ensures kind { IfSome result (λ trouble. kind_of_what trouble.what ≡ OfGrammar) }
 {
     let name = word_at(line, 0)?;
     let Some(form) = form_of(COMMANDS.as_slice(), name.bytes) else {
@@ -33,7 +35,8 @@ pub fn command_trouble<'a>(version: Version, line: &'a [u8]) -> Option<Trouble<'
 
 /// What is wrong with a first word that is no command: what it would be elsewhere, or the name.
 fn no_command<'a>(name: Word<'a>) -> Trouble<'a>
-    ensures { result.column ≡ name.entry.column }
+    ensures column { result.column ≡ name.entry.column }
+    ensures kind { kind_of_what result.what ≡ OfGrammar }
 {
     if name.bytes == b"debug".as_slice() {
         return Trouble::of_line(name.column, LineTrouble::DebugAgain);

@@ -1,5 +1,6 @@
 //! What is wrong with a word, by what it stands for.
 ghost use Rattle.std.specs.Prelude.{◌≡◌, IfSome};
+ghost use Rattle.tx_check.specs.Speaking.{kind_of_what, OfGrammar};
 
 use crate::diagnose::bytes::bytes_trouble;
 use crate::diagnose::numbers::{
@@ -13,7 +14,8 @@ use tx_lines::{TextKind, read_name};
 
 /// What is wrong with a word that stands for that in a text of that kind.
 pub fn field_trouble<'a>(kind: TextKind, field: Field, word: Word<'a>) -> Option<Trouble<'a>>
-    ensures { IfSome result (λ trouble. trouble.column ≡ word.entry.column) }
+    ensures column { IfSome result (λ trouble. trouble.column ≡ word.entry.column) }
+    ensures kind { IfSome result (λ trouble. kind_of_what trouble.what ≡ OfGrammar) }
 {
     match field {
         Field::Number => spelled_number_trouble(kind, word),
@@ -29,7 +31,8 @@ pub fn field_trouble<'a>(kind: TextKind, field: Field, word: Word<'a>) -> Option
 
 /// What is wrong where a number is wanted, which a program may take from a slot.
 fn spelled_number_trouble<'a>(kind: TextKind, word: Word<'a>) -> Option<Trouble<'a>>
-    ensures { IfSome result (λ trouble. trouble.column ≡ word.entry.column) }
+    ensures column { IfSome result (λ trouble. trouble.column ≡ word.entry.column) }
+    ensures kind { IfSome result (λ trouble. kind_of_what trouble.what ≡ OfGrammar) }
 {
     match (kind, word.bytes) {
         (TextKind::Program, [b'$', b'0'..=b'7']) => None,
@@ -40,7 +43,8 @@ fn spelled_number_trouble<'a>(kind: TextKind, word: Word<'a>) -> Option<Trouble<
 
 /// What is wrong where a point is wanted, which a program names by a label.
 fn spelled_point_trouble<'a>(kind: TextKind, word: Word<'a>) -> Option<Trouble<'a>>
-    ensures { IfSome result (λ trouble. trouble.column ≡ word.entry.column) }
+    ensures column { IfSome result (λ trouble. trouble.column ≡ word.entry.column) }
+    ensures kind { IfSome result (λ trouble. kind_of_what trouble.what ≡ OfGrammar) }
 {
     match kind {
         TextKind::Schedule => point_trouble(word),
@@ -50,7 +54,8 @@ fn spelled_point_trouble<'a>(kind: TextKind, word: Word<'a>) -> Option<Trouble<'
 
 /// What is wrong where the name of a label is wanted behind `@`.
 fn label_trouble<'a>(word: Word<'a>) -> Option<Trouble<'a>>
-    ensures { IfSome result (λ trouble. trouble.column ≡ word.entry.column) }
+    ensures column { IfSome result (λ trouble. trouble.column ≡ word.entry.column) }
+    ensures kind { IfSome result (λ trouble. kind_of_what trouble.what ≡ OfGrammar) }
 {
     match word.bytes {
         [b'@', name @ ..] => match read_name(name) {
@@ -63,7 +68,8 @@ fn label_trouble<'a>(word: Word<'a>) -> Option<Trouble<'a>>
 
 /// What is wrong where one of some words is wanted.
 fn choice_trouble<'a>(choices: &'static [u8], word: Word<'a>) -> Option<Trouble<'a>>
-    ensures { IfSome result (λ trouble. trouble.column ≡ word.entry.column) }
+    ensures column { IfSome result (λ trouble. trouble.column ≡ word.entry.column) }
+    ensures kind { IfSome result (λ trouble. kind_of_what trouble.what ≡ OfGrammar) }
 {
     if is_among(choices, word.bytes) {
         return None;

@@ -1,5 +1,6 @@
 //! What is wrong with the first line of a text.
 ghost use Rattle.std.specs.Prelude.{◌≡◌, ◌⊎◌, IfSome};
+ghost use Rattle.tx_check.specs.Speaking.{kind_of_what, OfGrammar};
 ghost use Rattle.tx_check.specs.Told.{IsColumn};
 
 use crate::diagnose::numbers::no_number;
@@ -10,7 +11,8 @@ use tx_lines::{TextKind, read_pid};
 
 /// What is wrong with the words of the first line of such a text.
 pub fn header_trouble<'a>(kind: TextKind, line: &'a [u8]) -> Option<Trouble<'a>>
-    ensures { IfSome result (λ trouble. IsColumn line.now trouble.column) }
+    ensures column { IfSome result (λ trouble. IsColumn line.now trouble.column) }
+    ensures kind { IfSome result (λ trouble. kind_of_what trouble.what ≡ OfGrammar) }
 {
     let first = word_at(line, 0)?;
     if first.bytes != b"txos".as_slice() || count_words(line) != 4 {
@@ -33,8 +35,9 @@ pub fn count_trouble<'a>(
     text_kind: Word<'a>,
     count: Word<'a>,
 ) -> Option<Trouble<'a>>
-    ensures { IfSome result (λ trouble.
+    ensures column { IfSome result (λ trouble.
         (trouble.column ≡ text_kind.entry.column) ⊎ (trouble.column ≡ count.entry.column)) }
+    ensures kind { IfSome result (λ trouble. kind_of_what trouble.what ≡ OfGrammar) }
 {
     let name = match kind {
         TextKind::Schedule => b"schedule".as_slice(),

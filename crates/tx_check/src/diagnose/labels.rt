@@ -2,6 +2,7 @@
 ghost use Rattle.std.specs.Prelude.{◌≡◌, IfNone, IfSome};
 ghost use Rattle.tx_check.specs.Behind.{IsLinkedLine};
 ghost use Rattle.tx_check.specs.Labels.{AreKnown};
+ghost use Rattle.tx_check.specs.Speaking.{kind_of_what, OfGrammar, OfLabel};
 ghost use Rattle.tx_check.specs.Told.{IsColumn};
 ghost use Rattle.tx_check.specs.Wrong.{IsTwice, NamesNowhere};
 ghost use Rattle.tx_lines.specs.declared.read.header.Version.{Version};
@@ -20,6 +21,7 @@ pub fn second_label<'a>(text: &Labels<'_>, number: u64, line: &'a [u8]) -> Optio
     ensures column { IfSome result (λ trouble. IsColumn line.now trouble.column) }
     ensures twice { IfSome result (λ trouble. IsTwice (left_of text.now.text) number line.now) }
     ensures once { IfNone result (IsTwice (left_of text.now.text) number line.now → ⊥) }
+    ensures kind { IfSome result (λ trouble. kind_of_what trouble.what ≡ OfGrammar) }
 {
     if !is_label(line) {
         return None;
@@ -49,6 +51,7 @@ pub fn link_trouble<'a>(
     ensures nowhere { IfSome result (λ trouble. NamesNowhere (left_of text.now.text) line.now) }
     ensures linked { IfNone result ((version : Version) →
         IsLinkedLine version (left_of text.now.text) line.now) }
+    ensures kind { IfSome result (λ trouble. kind_of_what trouble.what ≡ OfLabel) }
 {
     for place in 0..count_words(line) {
         let word = word_at(line, place)?;

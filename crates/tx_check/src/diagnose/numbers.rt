@@ -1,5 +1,6 @@
 //! What is wrong with a word that is to be a number.
 ghost use Rattle.std.specs.Prelude.{◌≡◌, IfSome};
+ghost use Rattle.tx_check.specs.Speaking.{kind_of_what, OfGrammar};
 
 use crate::trouble::{Trouble, What, WordTrouble};
 use crate::words::Word;
@@ -8,7 +9,8 @@ use tx_plain::signal;
 
 /// What is wrong where a number that a text can hold is wanted.
 pub fn number_trouble<'a>(word: Word<'a>) -> Option<Trouble<'a>>
-    ensures { IfSome result (λ trouble. trouble.column ≡ word.entry.column) }
+    ensures column { IfSome result (λ trouble. trouble.column ≡ word.entry.column) }
+    ensures kind { IfSome result (λ trouble. kind_of_what trouble.what ≡ OfGrammar) }
 {
     match number(word.bytes) {
         Some(_number) => None,
@@ -18,7 +20,8 @@ pub fn number_trouble<'a>(word: Word<'a>) -> Option<Trouble<'a>>
 
 /// What is wrong where the number of a process is wanted.
 pub fn process_trouble<'a>(word: Word<'a>) -> Option<Trouble<'a>>
-    ensures { IfSome result (λ trouble. trouble.column ≡ word.entry.column) }
+    ensures column { IfSome result (λ trouble. trouble.column ≡ word.entry.column) }
+    ensures kind { IfSome result (λ trouble. kind_of_what trouble.what ≡ OfGrammar) }
 {
     match read_pid(word.bytes) {
         Some(_pid) => None,
@@ -28,7 +31,8 @@ pub fn process_trouble<'a>(word: Word<'a>) -> Option<Trouble<'a>>
 
 /// What is wrong where a number of 0 to 255 is wanted.
 pub fn small_trouble<'a>(word: Word<'a>) -> Option<Trouble<'a>>
-    ensures { IfSome result (λ trouble. trouble.column ≡ word.entry.column) }
+    ensures column { IfSome result (λ trouble. trouble.column ≡ word.entry.column) }
+    ensures kind { IfSome result (λ trouble. kind_of_what trouble.what ≡ OfGrammar) }
 {
     match read_byte(word.bytes) {
         Some(_number) => None,
@@ -38,7 +42,8 @@ pub fn small_trouble<'a>(word: Word<'a>) -> Option<Trouble<'a>>
 
 /// What is wrong where a position, or the number of an entry, is wanted.
 pub fn position_trouble<'a>(word: Word<'a>) -> Option<Trouble<'a>>
-    ensures { IfSome result (λ trouble. trouble.column ≡ word.entry.column) }
+    ensures column { IfSome result (λ trouble. trouble.column ≡ word.entry.column) }
+    ensures kind { IfSome result (λ trouble. kind_of_what trouble.what ≡ OfGrammar) }
 {
     match read_position(word.bytes) {
         Some(_position) => None,
@@ -48,7 +53,8 @@ pub fn position_trouble<'a>(word: Word<'a>) -> Option<Trouble<'a>>
 
 /// What is wrong where a point of a schedule is wanted.
 pub fn point_trouble<'a>(word: Word<'a>) -> Option<Trouble<'a>>
-    ensures { IfSome result (λ trouble. trouble.column ≡ word.entry.column) }
+    ensures column { IfSome result (λ trouble. trouble.column ≡ word.entry.column) }
+    ensures kind { IfSome result (λ trouble. kind_of_what trouble.what ≡ OfGrammar) }
 {
     if let Some(point) = number(word.bytes) {
         if u32::try_from(point).is_ok() {
@@ -60,7 +66,8 @@ pub fn point_trouble<'a>(word: Word<'a>) -> Option<Trouble<'a>>
 
 /// What is wrong with a word that is no number of that range.
 pub fn no_number<'a>(word: Word<'a>, range: &'static str) -> Trouble<'a>
-    ensures { result.column ≡ word.entry.column }
+    ensures column { result.column ≡ word.entry.column }
+    ensures kind { kind_of_what result.what ≡ OfGrammar }
 {
     if word.bytes.starts_with(b"SIG") || is_signal_name(word.bytes) {
         return Trouble::of_word(word, WordTrouble::SignalName);

@@ -1,5 +1,6 @@
 //! What is wrong with an instruction or a label of a program.
 ghost use Rattle.std.specs.Prelude.{◌≡◌, IfSome};
+ghost use Rattle.tx_check.specs.Speaking.{kind_of_what, OfGrammar};
 ghost use Rattle.tx_check.specs.Told.{IsColumn};
 
 use crate::diagnose::calls::{call_trouble, takes};
@@ -16,7 +17,8 @@ const LABEL: Form = Form {
 
 /// What is wrong with the words of a line of a program after the first.
 pub fn program_line_trouble<'a>(version: Version, line: &'a [u8]) -> Option<Trouble<'a>>
-    ensures { IfSome result (λ trouble. IsColumn line.now trouble.column) }
+    ensures column { IfSome result (λ trouble. IsColumn line.now trouble.column) }
+    ensures kind { IfSome result (λ trouble. kind_of_what trouble.what ≡ OfGrammar) }
 {
     let first = word_at(line, 0)?;
     if first.bytes == b"label".as_slice() {
@@ -37,7 +39,8 @@ pub fn program_line_trouble<'a>(version: Version, line: &'a [u8]) -> Option<Trou
 /// What is wrong with the line of a label.
 fn label_trouble<'a>(first: Word<'a>, line: &'a [u8]) -> Option<Trouble<'a>>
     requires { IsColumn line.now first.column }
-    ensures { IfSome result (λ trouble. IsColumn line.now trouble.column) }
+    ensures column { IfSome result (λ trouble. IsColumn line.now trouble.column) }
+    ensures kind { IfSome result (λ trouble. kind_of_what trouble.what ≡ OfGrammar) }
 {
     let behind = count_words(line) - 1;
     if behind != 1 {

@@ -1,5 +1,6 @@
 //! What is wrong with a line before its words are looked at.
 ghost use Rattle.std.specs.Prelude.{◌≡◌, IfSome};
+ghost use Rattle.tx_check.specs.Speaking.{kind_of_what, OfGrammar};
 ghost use Rattle.tx_check.specs.Told.{IsColumn};
 
 use crate::trouble::{LineTrouble, Trouble, What};
@@ -10,7 +11,8 @@ const BYTE_ORDER_MARK: [u8; 3] = [0xef, 0xbb, 0xbf];
 
 /// What is wrong with the bytes of a line, or with the spaces between its words.
 pub fn shape_trouble(line: &[u8]) -> Option<Trouble<'static>>
-    ensures { IfSome result (λ trouble. IsColumn line.now trouble.column) }
+    ensures column { IfSome result (λ trouble. IsColumn line.now trouble.column) }
+    ensures kind { IfSome result (λ trouble. kind_of_what trouble.what ≡ OfGrammar) }
 {
     if line.is_empty() {
         return Some(Trouble::of_line(1, LineTrouble::Empty));
@@ -36,7 +38,8 @@ pub fn shape_trouble(line: &[u8]) -> Option<Trouble<'static>>
 
 /// The first byte of a line that is neither a space nor a character of ASCII.
 fn odd_byte(line: &[u8]) -> Option<Trouble<'static>>
-    ensures { IfSome result (λ trouble. IsColumn line.now trouble.column) }
+    ensures column { IfSome result (λ trouble. IsColumn line.now trouble.column) }
+    ensures kind { IfSome result (λ trouble. kind_of_what trouble.what ≡ OfGrammar) }
 {
     for at in 0..line.len() {
         let byte = line[at];

@@ -1,5 +1,6 @@
 //! What is wrong with a word that is to be a set of signals.
-ghost use Rattle.std.specs.Prelude.{◌≡◌, ◌≤◌, IfSome};
+ghost use Rattle.std.specs.Prelude.{◌≡◌, ◌≤◌, IfErr, IfSome};
+ghost use Rattle.tx_check.specs.Speaking.{kind_of_what, OfGrammar};
 
 use crate::trouble::{Trouble, What, WordTrouble};
 use crate::words::Word;
@@ -9,7 +10,8 @@ use tx_signal::is_known;
 
 /// What is wrong where a set of signals is wanted.
 pub fn signals_trouble<'a>(word: Word<'a>) -> Option<Trouble<'a>>
-    ensures { IfSome result (λ trouble. trouble.column ≡ word.entry.column) }
+    ensures column { IfSome result (λ trouble. trouble.column ≡ word.entry.column) }
+    ensures kind { IfSome result (λ trouble. kind_of_what trouble.what ≡ OfGrammar) }
 {
     if read_set(word.bytes).is_some() {
         return None;
@@ -22,7 +24,9 @@ pub fn signals_trouble<'a>(word: Word<'a>) -> Option<Trouble<'a>>
 
 /// What is wrong with a word that is no set: the first of its members that is no signal's number,
 /// or not above the one before.
-fn in_members(word: &[u8]) -> What<'_> {
+fn in_members(word: &[u8]) -> What<'_>
+    ensures { kind_of_what result ≡ OfGrammar }
+{
     let mut above = 0;
     let mut start = 0;
     for at in 0..word.len() {
@@ -42,7 +46,9 @@ fn in_members(word: &[u8]) -> What<'_> {
 }
 
 /// The signal that a word in a set names, or what is wrong with it.
-fn member<'a>(set: &'a [u8], word: &'a [u8]) -> Result<u8, What<'a>> {
+fn member<'a>(set: &'a [u8], word: &'a [u8]) -> Result<u8, What<'a>>
+    ensures { IfErr result (λ what. kind_of_what what ≡ OfGrammar) }
+{
     if word.starts_with(b"SIG") {
         return Err(What::Word(set, WordTrouble::SignalName));
     }

@@ -1,5 +1,6 @@
 //! What is wrong with a step of a schedule.
 ghost use Rattle.std.specs.Prelude.{◌≡◌, IfSome};
+ghost use Rattle.tx_check.specs.Speaking.{kind_of_what, OfGrammar};
 ghost use Rattle.tx_check.specs.Told.{IsColumn};
 
 use crate::diagnose::alone::call_alone;
@@ -18,7 +19,8 @@ const KERNEL: Form = Form {
 
 /// What is wrong with the words of a line that is to be a step.
 pub fn step_trouble<'a>(version: Version, line: &'a [u8]) -> Option<Trouble<'a>>
-    ensures { IfSome result (λ trouble. IsColumn line.now trouble.column) }
+    ensures column { IfSome result (λ trouble. IsColumn line.now trouble.column) }
+    ensures kind { IfSome result (λ trouble. kind_of_what trouble.what ≡ OfGrammar) }
 {
     let first = word_at(line, 0)?;
     if first.bytes == b"kernel".as_slice() {
@@ -36,7 +38,8 @@ pub fn step_trouble<'a>(version: Version, line: &'a [u8]) -> Option<Trouble<'a>>
 /// What is wrong with a step of the kernel.
 fn kernel_trouble<'a>(first: Word<'a>, line: &'a [u8]) -> Option<Trouble<'a>>
     requires { IsColumn line.now first.column }
-    ensures { IfSome result (λ trouble. IsColumn line.now trouble.column) }
+    ensures column { IfSome result (λ trouble. IsColumn line.now trouble.column) }
+    ensures kind { IfSome result (λ trouble. kind_of_what trouble.what ≡ OfGrammar) }
 {
     let behind = count_words(line) - 1;
     if behind != 1 {
@@ -47,7 +50,8 @@ fn kernel_trouble<'a>(first: Word<'a>, line: &'a [u8]) -> Option<Trouble<'a>>
 
 /// What is wrong with a first word that is no process: what it would be elsewhere, or the number.
 fn no_process<'a>(first: Word<'a>, version: Version, line: &'a [u8]) -> Trouble<'a>
-    ensures { result.column ≡ first.entry.column }
+    ensures column { result.column ≡ first.entry.column }
+    ensures kind { kind_of_what result.what ≡ OfGrammar }
 {
     if first.bytes == b"label".as_slice() {
         return Trouble::of_line(first.column, LineTrouble::LabelInSchedule);

@@ -1,5 +1,6 @@
 //! What is wrong with a string that means no bytes, and so stands in the line of version 2 as it is.
-ghost use Rattle.std.specs.Prelude.{IfSome};
+ghost use Rattle.std.specs.Prelude.{◌≡◌, IfSome};
+ghost use Rattle.tx_check.specs.Speaking.{kind_of_what, OfGrammar};
 ghost use Rattle.tx_check.specs.Told.{IsColumn};
 
 use crate::own::own_word;
@@ -18,9 +19,11 @@ pub fn string_trouble<'a>(
     column: usize,
     what: &What<'_>,
 ) -> Option<Trouble<'a>>
-    ensures { IfSome result (λ trouble. IsColumn own.now trouble.column) }
+    ensures column { IfSome result (λ trouble. IsColumn own.now trouble.column) }
+    ensures kind { IfSome result (λ trouble. kind_of_what trouble.what ≡ OfGrammar) }
+    ensures other { IfSome result (λ trouble. kind_of_what what.now ≡ OfGrammar) }
 {
-    if line.len() > LINE_BYTES {
+    if line.len() > LINE_BYTES || !what.is_of_grammar() {
         return None;
     }
     let string = string_left(line, own)?;

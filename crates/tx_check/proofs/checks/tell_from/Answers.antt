@@ -64,7 +64,7 @@ returns c =
     let passed = c.line_of-number.result in
     let meant = meant_of text in
     let told = first_told (λ n. (n ≤ passed) × IsWrongAfter part passed meant n) text line.result.bytes.now line.result.number (string_bytes c.new-told.result) (string_bytes c.tell.new.told)
-    (λ n wanted. omega (arith, wanted.0, wanted.1.0)) same c.new-told.ensures.bytes c.in_ok-tell.ensures in
+    (λ n wanted. omega (arith, wanted.0, wanted.1.0)) same c.new-told.ensures.bytes c.in_ok-tell.ensures.tells in
     let up_to = subst (λ (n : ℕ). TellsBehind part passed passed text n n (string_bytes c.tell.new.told)) line.ensures.number told in
     let later = subst (λ (n : ℕ). OwnsFrom text (n + 1) c.cut.result.1) (sym c.line_of-number.ensures) owns.behind in
     let low : there.result.number ≤ own_line text passed = omega (arith, at, ap (own_line text) c.line_of-number.ensures) in

@@ -34,4 +34,4 @@ returns c =
     let old = string_bytes c.args.told.now in
     let new = string_bytes c.tell.new.told in
     goes_on place.part meant at.number c.args.number c.args.own next.result line.result.number line.result.bytes.now old new (omega (arith, later, next.ensures.number))
-    (next.ensures.left ∙ rw next.ensures.number refl) line.ensures.number line.ensures.bytes next.ensures.number wrong c.in_ok-tell.ensures
+    (next.ensures.left ∙ rw next.ensures.number refl) line.ensures.number line.ensures.bytes next.ensures.number wrong c.in_ok-tell.ensures.tells

@@ -20,5 +20,5 @@ returns c =
     let same : line.result.bytes.now ≡ line_at line.result.number text =
     line.ensures.bytes ∙ ap first_line is.left ∙ ap (λ (n : ℕ). line_at n text) (sym line.ensures.number) in
     let new = string_bytes c.tell.new.told in
-    let told = first_told (λ n. ⊥) text line.result.bytes.now line.result.number (string_bytes c.new-told.result) new (λ n wanted. wanted) same c.new-told.ensures.bytes c.in_ok-tell.ensures in
+    let told = first_told (λ n. ⊥) text line.result.bytes.now line.result.number (string_bytes c.new-told.result) new (λ n wanted. wanted) same c.new-told.ensures.bytes c.in_ok-tell.ensures.tells in
     subst (λ (n : ℕ). TellsFrom (λ line. ⊥) text n new) (line.ensures.number ∙ there.ensures.number) told.from

@@ -1,6 +1,8 @@
 use Rattle.std.proofs.Common.{arith, inl}
 use Rattle.tx_check.specs.Wrong.{NoEnd, Other, TooLong, TooMany}
 use Rattle.tx_check.proofs.Wronged.{between, none_there, on_some, too_many}
+use Rattle.tx_check.proofs.FaultKinds.{same_trouble}
+use Rattle.tx_check.specs.declared.trouble.LineTrouble.TheVariants as troubles
 use Rattle.tx_plain.specs.MeantLines.{left_of}
 use Rattle.tx_check.proofs.diagnose.trouble_of.Goals as goal
 
@@ -21,3 +23,7 @@ returns-in-Some-trouble_between-clause-wrong c = λ stand is.
 
 pub returns-in-None-clause-wrong : goal.returns-in-None-clause-wrong
 returns-in-None-clause-wrong c = on_some c.no_end.result (λ unended stand is. inl (NoEnd unended)) c.no_end.ensures.unended
+
+pub returns-in-Some-clause-long : goal.returns-in-Some-clause-long
+returns-in-Some-clause-long c = λ same.
+    absurd (c.in-Some.ensures.other (same_trouble c.of_line-in-Some.result.what c.in-Some.trouble troubles.TooLong c.of_line-in-Some.ensures.line same))
