@@ -10,6 +10,7 @@ use Rattle.tx_check.specs.Speaking.{line_sentence, FaultKind, IsOfKind, SpeaksAt
 use Rattle.tx_check.specs.declared.trouble.LineTrouble.TheVariants.{TooLong}
 use Rattle.tx_check.specs.Told.{last_line, told_text, AreRising, IsAmong, IsColumn, IsInLine, IsTold, IsToldIn, IsWrongOwn, Tells, TellsFrom, TellsUpTo, Told}
 use Rattle.tx_check.specs.ToldKinds.{TellsOfKind}
+use Rattle.tx_plain.specs.OwnLines.{without_return}
 
 parts_append : (old a b c d e s n : List ℕ) → ((((((old ++ a) ++ b) ++ c) ++ d) ++ e) ++ s) ++ n ≡ old ++ ((a ++ (b ++ (c ++ (d ++ (e ++ s))))) ++ n)
 parts_append old a b c d e s n = simp append_assoc refl
@@ -19,7 +20,7 @@ parts_appended : (old a b c d e s n t1 t2 t3 t4 t5 t6 new : List ℕ) → t1 ≡
 parts_appended old a b c d e s n t1 t2 t3 t4 t5 t6 new e1 e2 e3 e4 e5 e6 e7 = rw (e7, e6, e5, e4, e3, e2, e1) (parts_append old a b c d e s n)
 
 -- a line of what is told, part by part
-pub told_appended : {A E : Type 0} (result : Result A E) (number column : ℕ) (bytes old sentence t1 t2 t3 t4 t5 t6 new : List ℕ) → IsColumn bytes column → IsInLine sentence → SpeaksAt bytes column sentence → (512 < length bytes → sentence ≡ line_sentence TooLong) → t1 ≡ old ++ codes "line " → t2 ≡ t1 ++ decimal number
+pub told_appended : {A E : Type 0} (result : Result A E) (number column : ℕ) (bytes old sentence t1 t2 t3 t4 t5 t6 new : List ℕ) → IsColumn bytes column → IsInLine sentence → SpeaksAt bytes column sentence → (512 < length (without_return bytes) → sentence ≡ line_sentence TooLong) → t1 ≡ old ++ codes "line " → t2 ≡ t1 ++ decimal number
     → t3 ≡ t2 ++ codes ", column " → t4 ≡ t3 ++ decimal column → t5 ≡ t4 ++ codes ": " → t6 ≡ t5 ++ sentence → OnOk result (new ≡ t6 ++ codes "\n") → OnOk result (Tells number bytes old new)
 told_appended (Ok value) number column bytes old sentence t1 t2 t3 t4 t5 t6 new some in_line speaks long e1 e2 e3 e4 e5 e6 e7 = record {
   told = record { line = number; column = column; sentence = sentence };
@@ -30,7 +31,7 @@ told_appended (Ok value) number column bytes old sentence t1 t2 t3 t4 t5 t6 new 
 told_appended (Err error) number column bytes old sentence t1 t2 t3 t4 t5 t6 new some in_line speaks long e1 e2 e3 e4 e5 e6 e7 = tt
 
 -- and it is of the kind of its sentence
-pub kind_appended : {A E : Type 0} (result : Result A E) (number column : ℕ) (bytes old sentence t1 t2 t3 t4 t5 t6 new : List ℕ) → IsColumn bytes column → IsInLine sentence → SpeaksAt bytes column sentence → (512 < length bytes → sentence ≡ line_sentence TooLong) → t1 ≡ old ++ codes "line " → t2 ≡ t1 ++ decimal number
+pub kind_appended : {A E : Type 0} (result : Result A E) (number column : ℕ) (bytes old sentence t1 t2 t3 t4 t5 t6 new : List ℕ) → IsColumn bytes column → IsInLine sentence → SpeaksAt bytes column sentence → (512 < length (without_return bytes) → sentence ≡ line_sentence TooLong) → t1 ≡ old ++ codes "line " → t2 ≡ t1 ++ decimal number
     → t3 ≡ t2 ++ codes ", column " → t4 ≡ t3 ++ decimal column → t5 ≡ t4 ++ codes ": " → t6 ≡ t5 ++ sentence → OnOk result (new ≡ t6 ++ codes "\n") → OnOk result ((kind : FaultKind) → IsOfKind kind sentence → TellsOfKind kind number bytes old new)
 unfolding told_appended
 kind_appended {A = A} {E = E} (Ok value) number column bytes old sentence t1 t2 t3 t4 t5 t6 new some in_line speaks long e1 e2 e3 e4 e5 e6 e7 = λ kind is. record {

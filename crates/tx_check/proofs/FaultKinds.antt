@@ -90,14 +90,14 @@ word_kind (whats.NoSignal said) front word sentence known label other speaks = o
 word_kind (whats.NoSignalIn set member) front word sentence known label other speaks = of_other front word sentence known (other refl) speaks
 word_kind (whats.SecondLabel name number) front word sentence known label other speaks = of_other front word sentence known (other refl) speaks
 
--- what is neither of a label nor of a length, in a line that is not too long
-pub of_grammar : (what : What) (line : List ℕ) → kind_of_what what ≢ OfLabel → (kind_of_what what ≡ OfLength → what ≡ whats.Line TooLong) → length line ≤ 512 → IsFitting line what → kind_of_what what ≡ OfGrammar
+-- what is neither of a label nor of a length
+pub of_grammar : (what : What) (line : List ℕ) → kind_of_what what ≢ OfLabel → (kind_of_what what ≡ OfLength → what ≡ whats.Line TooLong) → (kind_of_what what ≡ OfLength → length line ≤ 512) → IsFitting line what → kind_of_what what ≡ OfGrammar
 of_grammar what line no_label long short fits = by (kind_of_what what) refl
   where
     by : (kind : FaultKind) → kind_of_what what ≡ kind → kind ≡ OfGrammar
     by OfGrammar is = refl
     by OfLabel is = absurd (no_label is)
-    by OfLength is = absurd (omega (arith, short, fits.short (long is)))
+    by OfLength is = absurd (omega (arith, short is, fits.short (long is)))
 
 abbrev trouble_of : What → LineTrouble
 trouble_of (whats.Line trouble) = trouble

@@ -85,6 +85,20 @@ line_among version (x ∷ before) one after left fit =
     ∙ ap (λ (t : List ℕ). first_line (after_lines (length before) t)) (next_behind version x (before ++ one ∷ after) left (fit 0 x (omega arith)))
     ∙ line_among version before one after left (all_behind (IsLineOf version) x (before ++ one ∷ after) fit)
 
+-- what is left before one of them
+pub left_among : (version : Version) (before : List Line) (one : Line) (after : List Line) (left : List ℕ) → All (IsLineOf version) (before ++ one ∷ after)
+    → after_lines (length before) (lines_of line_text (before ++ one ∷ after) ++ left) ≡ lines_of line_text (one ∷ after) ++ left
+left_among version [] one after left fit = refl
+left_among version (x ∷ before) one after left fit =
+    behind_first (length before) (lines_of line_text (x ∷ (before ++ one ∷ after)) ++ left)
+    ∙ ap (after_lines (length before)) (next_behind version x (before ++ one ∷ after) left (fit 0 x (omega arith)))
+    ∙ left_among version before one after left (all_behind (IsLineOf version) x (before ++ one ∷ after) fit)
+
+pub after_first : (version : Version) (one : Line) (lines : List Line) (left : List ℕ) → IsLineOf version one → after_line (lines_of line_text (one ∷ lines) ++ left) ≡ Some (lines_of line_text lines ++ left)
+after_first version one lines left good =
+    ap after_line (append_assoc (line_text one) (10 ∷ lines_of line_text lines) left)
+    ∙ after_ended (line_text one) (lines_of line_text lines ++ left) (short_line version one good).in_line
+
 none_left : (count : ℕ) → after_lines count [] ≡ []
 none_left zero = refl
 none_left (suc count) = ap behind (none_left count)

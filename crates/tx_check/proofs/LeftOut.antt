@@ -9,14 +9,14 @@ use Rattle.tx_check.proofs.LineParts.{label_parts, none_behind}
 use Rattle.tx_check.proofs.OwnLines.{lines_after}
 use Rattle.tx_check.proofs.SameHeaders.{same_header}
 use Rattle.tx_check.proofs.SoFar.{no_debug_line}
-use Rattle.tx_check.specs.Behind.{IsLinkedLine, IsUnlinked, IsWrongBehind, MayStand}
+use Rattle.tx_check.specs.Behind.{IsQuietAt, MayStand}
 use Rattle.tx_check.specs.Kinds.{head_of, kind_of}
 use Rattle.tx_check.specs.Numbered.{after_lines}
 use Rattle.tx_check.specs.OwnLines.{IsLineAt, IsWrongAfter}
 use Rattle.tx_check.specs.Reads.{line_of, IsAtFault}
 use Rattle.tx_check.specs.Right.{IsRight, IsTooMany}
 use Rattle.tx_check.specs.Stands.{begins_label, counted, stand_after, stand_behind, AmongCommands, AmongLines, AmongSteps, AtHeader, IsPastAll, IsPlaceOf, IsVersionOf, Stand, StandsAt}
-use Rattle.tx_check.specs.Wrong.{has_end, IsNoneIn, IsOneTooMany, IsTooManyAfter, IsWrongIn, IsWrongThere, NoEnd, Other, Second, TooLong, TooMany}
+use Rattle.tx_check.specs.Wrong.{has_end, IsNoneIn, IsOneTooMany, IsTooManyAfter, IsUnlinked, IsWrongBehind, IsWrongIn, IsWrongThere, NoEnd, Other, Second, TooLong, TooMany}
 use Rattle.tx_check.specs.declared.kinds.Kind.{Kind}
 use Rattle.tx_check.specs.declared.kinds.Kind.TheVariants as kinds
 use Rattle.tx_check.specs.declared.places.Part.{Part}
@@ -34,11 +34,6 @@ use Rattle.tx_lines.specs.declared.read.header.TextKind.TheVariants as texts
 use Rattle.tx_lines.specs.declared.read.header.TextKind.TheVariants.{Schedule, Program}
 use Rattle.tx_lines.specs.declared.read.header.Version.{Version}
 
--- nothing is told of the line at that place: it may stand there, and where labels alone are looked at its label is somewhere
-pub record IsQuietAt (text : List ℕ) (place : Place) (line : TextLine) : Type 0 where
-  pub may : MayStand text place line
-  pub linked : place.part ≡ parts.Link → IsLinkedLine place.version text line.bytes.now
-
 -- a text has one version
 pub one_version : (kind : TextKind) (text : List ℕ) (one other : Version) → IsVersionOf kind text one → IsVersionOf kind text other → one ≡ other
 one_version kind text one other (inl first) (inl second) =
@@ -51,7 +46,7 @@ one_version kind text one other (inr first) (inr second) = first.1 ∙ sym secon
 more : (most count number : ℕ) → most ≤ 4096 → count ≡ counted number → most ≤ number → most ≤ count
 more most count number few is enough = omega (arith, few, is, enough)
 
-many_there : (stand : Stand) (place : Place) (line : List ℕ) → IsPlaceOf stand place → place.part ≢ parts.Link → IsOneTooMany stand line → IsTooMany place.part place.count place.labels line
+pub many_there : (stand : Stand) (place : Place) (line : List ℕ) → IsPlaceOf stand place → place.part ≢ parts.Link → IsOneTooMany stand line → IsTooMany place.part place.count place.labels line
 many_there (AtHeader kind) place line is other many = absurd many
 many_there (AmongSteps steps) place line is other many =
     subst (λ (part : Part). IsTooMany part place.count place.labels line) (sym is.0) (more 4096 place.count steps (omega arith) is.1 many.0, many.1)
@@ -75,7 +70,7 @@ none_right version (AmongLines instructions labels) place line (inl is) other ri
     let here = subst (λ (part : Part). IsRight part version line) is.0 right in none here.one here.fits here.spelled
 none_right version (AmongLines instructions labels) place line (inr is) other right none = absurd (other is)
 
-not_wrong : (text : List ℕ) (stand : Stand) (place : Place) (line : TextLine) → IsPlaceOf stand place → place.part ≢ parts.Link → MayStand text place line
+pub not_wrong : (text : List ℕ) (stand : Stand) (place : Place) (line : TextLine) → IsPlaceOf stand place → place.part ≢ parts.Link → MayStand text place line
     → IsWrongIn place.version text line.number stand line.bytes.now line.is_ended → ⊥
 not_wrong text stand place line is other may (TooLong long) = omega (arith, may.short, long)
 not_wrong text stand place line is other may (NoEnd none) = let bad : true ≡ false = sym may.ended ∙ none in absurd (cc)

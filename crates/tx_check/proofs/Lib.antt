@@ -1,5 +1,6 @@
 pub mod Appended
 pub mod EndedLines
+pub mod FaultsIn
 pub mod FaultKinds
 pub mod FoundFaults
 pub mod FrontWord
@@ -16,10 +17,12 @@ pub mod NamedWords
 pub mod NearNames
 pub mod NextLines
 pub mod FirstLines
+pub mod KindsFound
 pub mod KnownLabels
 pub mod Numbered
 pub mod OneFault
 pub mod OwnLines
+pub mod OwnLong
 pub mod ProgramTexts
 pub mod ReadOrFaulty
 pub mod ReadTexts
@@ -34,6 +37,7 @@ pub mod Spoken
 pub mod Standing
 pub mod SteppedTexts
 pub mod ToldBehind
+pub mod ToldFirst
 pub mod ToldFor
 pub mod ToldOf
 pub mod WalkedTexts

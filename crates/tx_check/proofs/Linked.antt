@@ -4,8 +4,9 @@ use Rattle.std.specs.Map.{lookup}
 use Rattle.tx_check.proofs.EndedLines.{all_at}
 use Rattle.tx_check.proofs.Growing.{first_of, next_behind}
 use Rattle.tx_check.proofs.LabelsFound.{found_label, label_at, labelled, none_labelled, HasLines, IsLabelled}
-use Rattle.tx_check.specs.Behind.{AreLinked, AreProgramLines, FaultsBehind, IsNamedNowhere, IsNowhere}
+use Rattle.tx_check.specs.Behind.{AreLinked, AreProgramLines, FaultsBehind}
 use Rattle.tx_check.specs.Numbered.{behind, line_at}
+use Rattle.tx_check.specs.Wrong.{IsNamedNowhere, IsNowhere}
 use Rattle.tx_check.specs.declared.kinds.Kind.TheVariants as kinds
 use Rattle.tx_lines.specs.Programs.{instructions_of, label_front, label_in, labels_of, line_text, linked, linked_line, linked_to, same_name, with_point, AreLines, IsLineOf, IsUser}
 use Rattle.tx_lines.specs.Schedule.{first_line, lines_of, SpellsHeader}
@@ -59,7 +60,7 @@ next_by version before (one ∷ more) left fit is some =
 pub next_line : (version : Version) (rest : List ℕ) (number : ℕ) (left : List ℕ) (so : LinkedSoFar version rest number left) → left ≢ [] → IsNextLine version so.after left
 next_line version rest number left so some = next_by version so.before so.after left so.are.fit so.left_is some
 
-has_all : (version : Version) (text rest : List ℕ) (header : Header) (lines : List Line) → SpellsHeader texts.Program text header rest → AreLines version lines → rest ≡ lines_of line_text lines → HasLines version text lines []
+pub has_all : (version : Version) (text rest : List ℕ) (header : Header) (lines : List Line) → SpellsHeader texts.Program text header rest → AreLines version lines → rest ≡ lines_of line_text lines → HasLines version text lines []
 has_all version text rest header lines spells are spelled = record {
   header = header;
   spells = subst (λ (r : List ℕ). SpellsHeader texts.Program text header r) (spelled ∙ sym (append-nil (lines_of line_text lines))) spells;
@@ -99,6 +100,22 @@ is_linked version text lines instruction (Some name) has there = by (lookup (sam
     by : (found : Option ℕ) → lookup (same_name name) (labels_of lines) ≡ found → (made : Instruction) × (linked_to (labels_of lines) instruction (Some name) ≡ Some made)
     by None is = absurd (there (found_none version text lines name has is))
     by (Some point) is = (record { call = with_point point instruction.call; spellings = instruction.spellings }, rw is refl)
+
+-- the label of a line that is not linked is nowhere
+nowhere_by : (version : Version) (text : List ℕ) (lines : List Line) (instruction : Instruction) (label : Option Name) → HasLines version text lines []
+    → linked_to (labels_of lines) instruction label ≡ None → IsNowhere text label
+nowhere_by version text lines instruction None has none = absurd (cc)
+nowhere_by version text lines instruction (Some name) has none = found_none version text lines name has (by (lookup (same_name name) (labels_of lines)) refl)
+  where
+    by : (found : Option ℕ) → lookup (same_name name) (labels_of lines) ≡ found → found ≡ None
+    by None is = refl
+    by (Some point) is =
+        let there : linked_to (labels_of lines) instruction (Some name) ≡ Some (record { call = with_point point instruction.call; spellings = instruction.spellings }) = rw is refl in
+        absurd (cc)
+
+pub user_nowhere : (version : Version) (text : List ℕ) (lines : List Line) (user : Line) → HasLines version text lines [] → IsUser (labels_of lines) user → IsNamedNowhere text user
+user_nowhere version text lines user has is =
+    subst (IsNamedNowhere text) (sym is.same) (nowhere_by version text lines is.instruction (label_in is.instruction.spellings.items) has is.nowhere)
 
 -- one line more
 linked_more : (labels : List (Name × ℕ)) (lines : List Line) (one : Line) → map (linked labels) (instructions_of (lines ++ one ∷ [])) ≡ map (linked labels) (instructions_of lines) ++ linked_line labels one

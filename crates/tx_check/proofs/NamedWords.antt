@@ -3,10 +3,10 @@ use Rattle.std.proofs.Common.{◌≡◌, ◌≢◌, ◌∙◌, ℕ, zero, suc, �
 use Rattle.std.proofs.lemmas.Bool.{cases_lt}
 use Rattle.std.proofs.lemmas.Bool.Decides.{eqb_tells}
 use Rattle.tx_check.proofs.NamedLabels.{label_word}
-use Rattle.tx_check.specs.Behind.{IsLinkedLine, IsNowhere}
 use Rattle.tx_check.specs.Kinds.{front_word}
 use Rattle.tx_check.specs.Numbered.{line_at}
 use Rattle.tx_check.specs.WordParts.{after_space, after_space_of, words_left, IsWordBehind}
+use Rattle.tx_check.specs.Wrong.{IsLinkedLine, IsNowhere}
 use Rattle.tx_lines.specs.Programs.{label_front, label_in, line_text, IsLineOf}
 use Rattle.tx_lines.specs.declared.instructions.Instruction.{Instruction}
 use Rattle.tx_lines.specs.declared.instructions.Line.TheVariants as line

@@ -2,13 +2,12 @@
 use Rattle.std.proofs.Common.{◌≡◌, ◌∙◌, ◌⊎◌, ◌<◌, ◌≤◌, ℕ, inl, inr, zero, suc, ◌+◌, ◌-◌, List, [], ◌∷◌, Option, Some, None, Result, Ok, Err, IfOk, length, ap, subst, sym, refl, arith, zero-add, Bool, true, false, if◌then◌else◌, slice_index_or}
 use Rattle.std.proofs.lemmas.Bool.{cases_lt, ne_eqb}
 use Rattle.tx_check.proofs.ReadOrFaulty.{none_has_two}
-use Rattle.tx_check.specs.Behind.{IsWrongBehind, IsWrongToo}
 use Rattle.tx_check.specs.Kinds.{kind_of}
 use Rattle.tx_check.specs.Numbered.{after_lines, behind, line_at}
 use Rattle.tx_check.specs.OwnLines.{GoesOn, IsFrom, IsWrongAfter}
 use Rattle.tx_check.specs.Reads.{line_of, IsAtFault, IsRead}
 use Rattle.tx_check.specs.Told.{IsToldBy, IsWrongOwn, Tells, TellsFrom}
-use Rattle.tx_check.specs.Wrong.{IsWrongLine}
+use Rattle.tx_check.specs.Wrong.{IsWrongBehind, IsWrongLine, IsWrongToo}
 use Rattle.tx_check.specs.declared.kinds.Kind.{Kind}
 use Rattle.tx_check.specs.declared.own.TextFrom.{TextFrom}
 use Rattle.tx_check.specs.declared.places.Part.{Part}

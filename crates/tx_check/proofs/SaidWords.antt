@@ -1,12 +1,14 @@
 -- What is said of a word, byte by byte.
-use Rattle.std.proofs.Common.{◌≡◌, ◌∙◌, ◌<◌, ◌≤◌, ◌+◌, ℕ, List, [], ◌∷◌, ◌++◌, length, take, drop, map, ap, subst, refl, codes, Bool, true, false, ◌||◌, nat_eq, nat_lt, if◌then◌else◌, sym, add-one, append_assoc, arith, slice_index_or}
+use Rattle.std.proofs.Common.{◌≡◌, ◌≢◌, ◌∙◌, ◌<◌, ◌≤◌, ◌+◌, ℕ, List, [], ◌∷◌, ◌++◌, length, take, drop, map, ap, subst, refl, codes, Bool, true, false, ◌||◌, nat_eq, nat_lt, if◌then◌else◌, sym, add-one, append_assoc, arith, slice_index_or, inl, inr}
 use Rattle.std.proofs.Math.Seq.{take-suc}
+use Rattle.std.proofs.lemmas.Bool.Decides.{eqb_tells}
 use Rattle.std.proofs.lemmas.List.{map-append, take-append-drop}
 use Rattle.std.proofs.lemmas.Bool.{both_ways, ne_eqb}
 use Rattle.std.specs.Char.{is_ascii_graphic}
 use Rattle.tx_check.proofs.InLine.{in_line_more}
 use Rattle.tx_check.specs.Speaking.{said_word, shown, IsByteAt}
 use Rattle.tx_check.specs.Told.{is_no_end, IsInLine}
+use Rattle.tx_plain.specs.OwnLines.{without_return}
 
 -- one byte more
 pub more_shown : (bytes : List ℕ) (at : ℕ) (old text : List ℕ) (byte : ℕ) (new : List ℕ) → at < length bytes → text ≡ old ++ map shown (take at bytes) → byte ≡ shown (slice_index_or bytes at 0) → new ≡ text ++ byte ∷ []
@@ -44,3 +46,19 @@ parts_of line front left count is rest = rw (is, rest) (sym (take-append-drop co
 pub first_byte : (line : List ℕ) → 1 ≤ length line → IsByteAt line 1 (slice_index_or line 0 0)
 first_byte [] some = absurd (omega (arith, some))
 first_byte (byte ∷ bytes) some = record { front = []; rest = bytes; parts = refl; at = refl }
+
+-- a line that ends with a return, and one that does not
+pub before_return : (front : List ℕ) → without_return (front ++ 13 ∷ []) ≡ front
+before_return [] = refl
+before_return (byte ∷ []) = refl
+before_return (byte ∷ next ∷ bytes) = ap (λ (t : List ℕ). byte ∷ t) (before_return (next ∷ bytes))
+
+pub no_return : (line : List ℕ) → ((front : List ℕ) → line ≢ front ++ 13 ∷ []) → without_return line ≡ line
+no_return [] none = refl
+no_return (byte ∷ []) none =
+    elim (eqb_tells byte 13) [
+      | inl h ↦ absurd (none [] (ap (λ (b : ℕ). b ∷ []) h.1))
+      | inr h ↦ rw h.0 refl
+    ]
+no_return (byte ∷ next ∷ bytes) none =
+    ap (λ (t : List ℕ). byte ∷ t) (no_return (next ∷ bytes) (λ front e. none (byte ∷ front) (ap (λ (t : List ℕ). byte ∷ t) e)))

@@ -4,11 +4,11 @@ use Rattle.tx_check.proofs.Appended.{fewer}
 use Rattle.tx_check.proofs.ReadOrFaulty.{none_has_two, none_is_both}
 use Rattle.tx_check.proofs.ToldOf.{told_fault, told_right, AreOne}
 use Rattle.tx_check.proofs.OwnLines.{wrong_too}
-use Rattle.tx_check.specs.Behind.{IsWrongBehind, IsWrongToo}
 use Rattle.tx_check.specs.Kinds.{kind_of}
 use Rattle.tx_check.specs.Readers.{kind_read, IsFaultBy, IsLongFor, IsReadBy, IsShortFor, IsToldAs, IsToldFor, IsWrongFor}
 use Rattle.tx_check.specs.Reads.{line_of, Finds, IsAtFault, IsRead}
 use Rattle.tx_check.specs.Told.{IsToldBy, IsToldOf, TellsFrom}
+use Rattle.tx_check.specs.Wrong.{IsWrongBehind, IsWrongToo}
 use Rattle.tx_check.specs.declared.kinds.Kind.{Kind}
 use Rattle.tx_check.specs.declared.readers.Reader.{Reader as TheReader}
 use Rattle.tx_check.specs.declared.readers.Reader.TheVariants.{Any, Replay, Debug, Run, Picture, Json}

@@ -42,7 +42,8 @@ apart : (part other : Part) → part ≡ other → (other ≡ parts.ProgramLine 
 apart part other same line link (inl is) = line (sym same ∙ is)
 apart part other same line link (inr is) = link (sym same ∙ is)
 
-second : (text : List ℕ) (number : ℕ) (stand : Stand) (place : Place) (line : List ℕ) → IsPlaceOf stand place → IsOfProgram place.part → IsTwice text number line → IsSecondIn stand text number line
+pub second : (text : List ℕ) (number : ℕ) (stand : Stand) (place : Place) (line : List ℕ) → IsPlaceOf stand place → IsOfProgram place.part → IsTwice text number line
+    → IsSecondIn stand text number line
 second text number (AtHeader kind) place line is of twice = absurd (apart place.part (parts.Header kind) is.0 (λ e. absurd (cc)) (λ e. absurd (cc)) of)
 second text number (AmongSteps steps) place line is of twice = absurd (apart place.part parts.Step is.0 (λ e. absurd (cc)) (λ e. absurd (cc)) of)
 second text number (AmongCommands commands) place line is of twice = absurd (apart place.part parts.Command is.0 (λ e. absurd (cc)) (λ e. absurd (cc)) of)

@@ -1,27 +1,21 @@
 -- What stands behind the header of a text: the lines of its kind, or a line at fault.
-use Rattle.std.specs.Prelude.{◌≡◌, ◌≢◌, ℕ, ◌-◌, ◌<◌, ◌≤◌, true, false, List, [], ◌++◌, Option, Some, None, length, map, ◌⊎◌}
+use Rattle.std.specs.Prelude.{◌≡◌, ℕ, ◌<◌, ◌≤◌, true, false, List, Some, length, map, ◌⊎◌}
 use Rattle.tx_base.specs.declared.steps.Step.{Step}
-use Rattle.tx_check.specs.Kinds.{head_of, kind_of}
-use Rattle.tx_check.specs.Numbered.{after_lines, line_at}
-use Rattle.tx_check.specs.Reads.{IsAtFault}
 use Rattle.tx_check.specs.Right.{IsNoneThere, IsRight, IsTooMany}
-use Rattle.tx_check.specs.Stands.{IsVersionOf}
-use Rattle.tx_check.specs.Wrong.{IsTwice, IsWrongThere}
+use Rattle.tx_check.specs.Wrong.{IsLinkedLine, IsTwice}
 use Rattle.tx_check.specs.declared.kinds.Kind.{Kind}
 use Rattle.tx_check.specs.declared.kinds.Kind.TheVariants as kinds
 use Rattle.tx_check.specs.declared.places.Part.TheVariants as parts
 use Rattle.tx_check.specs.declared.places.Place.{Place}
 use Rattle.tx_check.specs.declared.places.TextLine.{TextLine}
 use Rattle.tx_lines.specs.Lines.{step_text}
-use Rattle.tx_lines.specs.Programs.{instructions_of, label_front, label_in, labels_of, line_text, linked, AreLines, FaultsAmongLines, IsLineOf}
+use Rattle.tx_lines.specs.Programs.{instructions_of, labels_of, line_text, linked, AreLines, FaultsAmongLines}
 use Rattle.tx_lines.specs.Schedule.{lines_of, steps_text, AreSteps, FaultsAmong, FaultsAtStep}
 use Rattle.tx_lines.specs.Walks.{before_commands, command_text, AreCommands, FaultsAfterHeader}
 use Rattle.tx_lines.specs.declared.faults.Fault.{Fault}
-use Rattle.tx_lines.specs.declared.faults.Fault.TheVariants.{NotALine, NoLabel, TooLong}
+use Rattle.tx_lines.specs.declared.faults.Fault.TheVariants.{NotALine, TooLong}
 use Rattle.tx_lines.specs.declared.instructions.Instruction.{Instruction}
 use Rattle.tx_lines.specs.declared.instructions.Line.{Line}
-use Rattle.tx_lines.specs.declared.instructions.Line.TheVariants as line
-use Rattle.tx_lines.specs.declared.instructions.Name.{Name}
 use Rattle.tx_lines.specs.declared.read.command.Command.{Command}
 use Rattle.tx_lines.specs.declared.read.header.Version.{Version}
 
@@ -32,6 +26,11 @@ pub record MayStand (text : List ℕ) (place : Place) (line : TextLine) : Type 0
   pub ended : line.is_ended ≡ true
   pub right : IsRight place.part place.version line.bytes.now
   pub once : place.part ≡ parts.ProgramLine → IsTwice text line.number line.bytes.now → ⊥
+
+-- nothing is told of the line at that place: it may stand there, and where labels alone are looked at its label is somewhere
+pub record IsQuietAt (text : List ℕ) (place : Place) (line : TextLine) : Type 0 where
+  pub may : MayStand text place line
+  pub linked : place.part ≡ parts.Link → IsLinkedLine place.version text line.bytes.now
 
 -- why it may not, where it is neither too long nor one too many: it has no end, or is none of the grammar's, or is a second label
 abbrev pub IsNoLineAt : List ℕ → Place → TextLine → Type 0
@@ -81,39 +80,3 @@ pub record AreLinked (version : Version) (rest : List ℕ) : Type 0 where
   pub all : AreProgramLines version rest
   pub made : List Instruction
   pub linked_all : map (linked (labels_of all.lines)) (instructions_of all.lines) ≡ map Some made
-
--- the line names a label, and no line of the text is that label
-abbrev pub IsNowhere : List ℕ → Option Name → Type 0
-IsNowhere text None = ⊥
-IsNowhere text (Some name) = (number : ℕ) → line_at number text ≢ label_front ++ name.bytes.items
-
-abbrev pub IsNamedNowhere : List ℕ → Line → Type 0
-IsNamedNowhere text (line.Label name) = ⊥
-IsNamedNowhere text (line.Instruction instruction) = IsNowhere text (label_in instruction.spellings.items)
-
--- the line names no label that is nowhere, where it spells one of that version
-abbrev pub IsLinkedLine : Version → List ℕ → List ℕ → Type 0
-IsLinkedLine version text line = (one : Line) → IsLineOf version one → line ≡ line_text one → IsNamedNowhere text one → ⊥
-
--- the line of that number is there, and is one of the text's version that names a label which is nowhere
-pub record IsUnlinked (text : List ℕ) (number : ℕ) : Type 0 where
-  pub there : after_lines (number - 1) text ≢ []
-  pub version : Version
-  pub of_text : IsVersionOf (head_of (kind_of text)) text version
-  pub one : Line
-  pub good : IsLineOf version one
-  pub spelled : line_at number text ≡ line_text one
-  pub nowhere : IsNamedNowhere text one
-
--- behind the line of that fault of the text the line of that number is at fault too: where the fault is a label that is nowhere, by its label; else in its place
-abbrev pub IsWrongBehind : Fault → List ℕ → ℕ → Type 0
-IsWrongBehind (NotALine line) text number = (line < number) × IsWrongThere text number
-IsWrongBehind (TooLong line) text number = (line < number) × IsWrongThere text number
-IsWrongBehind (NoLabel line) text number = (line < number) × IsUnlinked text number
-IsWrongBehind _ text number = ⊥
-
--- the text is at fault, and so is the line of that number, behind the line of the fault
-pub record IsWrongToo (text : List ℕ) (number : ℕ) : Type 0 where
-  pub fault : Fault
-  pub is_fault : IsAtFault (kind_of text) text fault
-  pub too : IsWrongBehind fault text number

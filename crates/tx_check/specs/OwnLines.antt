@@ -1,9 +1,8 @@
 -- How far a text is told of, by its own lines, and which line of what it means is told.
 use Rattle.std.specs.Prelude.{◌≡◌, ◌≢◌, ℕ, ◌-◌, ◌^◌, ◌<◌, ◌≤◌, List, [], ◌⊎◌}
-use Rattle.tx_check.specs.Behind.{IsUnlinked}
 use Rattle.tx_check.specs.Numbered.{after_lines, line_at}
 use Rattle.tx_check.specs.Told.{TellsUpTo}
-use Rattle.tx_check.specs.Wrong.{has_end, IsWrongThere}
+use Rattle.tx_check.specs.Wrong.{has_end, IsUnlinked, IsWrongThere}
 use Rattle.tx_check.specs.declared.own.TextFrom.{TextFrom}
 use Rattle.tx_check.specs.declared.places.Part.{Part}
 use Rattle.tx_check.specs.declared.places.Part.TheVariants as parts

@@ -1,10 +1,10 @@
 -- The commands that read texts, and what is told of a text for one of them.
 use Rattle.std.specs.Prelude.{◌≡◌, ◌≢◌, ℕ, List, [], ◌∷◌, ◌++◌, codes, ◌⊎◌}
-use Rattle.tx_check.specs.Behind.{IsWrongToo}
 use Rattle.tx_check.specs.Kinds.{kind_of}
 use Rattle.tx_check.specs.Numbered.{after_lines}
 use Rattle.tx_check.specs.Reads.{line_of, IsAtFault, IsRead}
 use Rattle.tx_check.specs.Told.{IsToldBy}
+use Rattle.tx_check.specs.Wrong.{IsWrongToo}
 use Rattle.tx_check.specs.declared.kinds.Kind.{Kind}
 use Rattle.tx_check.specs.declared.kinds.Kind.TheVariants.{Schedule, Walk, Program}
 use Rattle.tx_check.specs.declared.readers.Reader.{Reader}

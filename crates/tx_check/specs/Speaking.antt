@@ -13,6 +13,7 @@ use Rattle.tx_check.specs.declared.trouble.Names.{Names}
 use Rattle.tx_check.specs.declared.trouble.Names.TheVariants as names
 use Rattle.tx_check.specs.declared.trouble.What.{What}
 use Rattle.tx_check.specs.declared.trouble.What.TheVariants as whats
+use Rattle.tx_plain.specs.OwnLines.{without_return}
 use Rattle.tx_plain.specs.Words.{words_in}
 
 -- the sentences about lines: about the command that is to read the text, about sessions, about what stands in a wrong place, and all of them
@@ -294,5 +295,5 @@ IsKindAt place text number line is_ended OfGrammar =
 
 -- what was found of the line that is meant can be told of its own one: that is too long where the other is
 pub record IsFitting (line : List ℕ) (what : What) : Type 0 where
-  pub long : 512 < length line → kind_of_what what ≡ OfLength
+  pub long : 512 < length (without_return line) → kind_of_what what ≡ OfLength
   pub short : what ≡ whats.Line TooLong → 512 < length line

@@ -2,16 +2,16 @@
 use Rattle.std.specs.Prelude.{◌≡◌, ◌≢◌, ◌↔◌, ℕ, ◌<◌, ◌≤◌, Bool, true, not, List, [], ◌∷◌, ◌++◌, length, nat_eq, codes, All, ◌+◌, ◌⊎◌}
 use Rattle.std.specs.Fmt.{decimal}
 use Rattle.std.specs.List.{list_all}
-use Rattle.tx_check.specs.Behind.{IsWrongToo}
 use Rattle.tx_check.specs.Kinds.{kind_of}
 use Rattle.tx_check.specs.Numbered.{line_at}
 use Rattle.tx_check.specs.Reads.{line_of, IsAtFault, IsRead}
 use Rattle.tx_check.specs.Speaking.{line_sentence, SpeaksAt}
-use Rattle.tx_check.specs.Wrong.{IsWrongLine}
+use Rattle.tx_check.specs.Wrong.{IsWrongLine, IsWrongToo}
 use Rattle.tx_check.specs.declared.trouble.LineTrouble.TheVariants.{TooLong}
 use Rattle.tx_lines.specs.Schedule.{lines_of}
 use Rattle.tx_lines.specs.declared.faults.Fault.{Fault}
 use Rattle.tx_plain.specs.Meant.{meant_of, own_line, IsOwnFault}
+use Rattle.tx_plain.specs.OwnLines.{without_return}
 
 -- what is told of one line: its number, a column, and a sentence
 pub record Told : Type 0 where
@@ -35,12 +35,13 @@ IsInLine bytes = list_all is_no_end bytes ≡ true
 abbrev pub IsColumn : List ℕ → ℕ → Type 0
 IsColumn line column = (1 ≤ column) × (column ≤ length line + 1)
 
--- what is told of a line of these bytes stands in one line, and names a column of that one: that of the word of which it speaks; a line that is too long is told as that
+-- what is told of a line of these bytes stands in one line, and names a column of that one: that of the word of which it speaks; a line that is too long,
+-- whether or not a byte 13 at its end is one of it, is told as that
 pub record IsTold (bytes : List ℕ) (told : Told) : Type 0 where
   pub column : IsColumn bytes told.column
   pub in_line : IsInLine told.sentence
   pub speaks : SpeaksAt bytes told.column told.sentence
-  pub long : 512 < length bytes → told.sentence ≡ line_sentence TooLong
+  pub long : 512 < length (without_return bytes) → told.sentence ≡ line_sentence TooLong
 
 -- so is what is told of a line of a text
 abbrev pub IsToldIn : List ℕ → Told → Type 0

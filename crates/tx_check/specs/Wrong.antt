@@ -1,11 +1,17 @@
 -- Which lines of a text behind the first are at fault in their places, whatever other lines are.
-use Rattle.std.specs.Prelude.{◌≡◌, ◌≢◌, ℕ, ◌-◌, ◌<◌, ◌≤◌, Bool, false, List, [], ◌∷◌, ◌++◌, length, is_some, ◌⊎◌}
+use Rattle.std.specs.Prelude.{◌≡◌, ◌≢◌, ℕ, ◌-◌, ◌<◌, ◌≤◌, Bool, true, false, List, [], ◌∷◌, ◌++◌, Option, Some, None, length, is_some, ◌⊎◌}
 use Rattle.tx_check.specs.Kinds.{front_word, head_of, kind_of}
 use Rattle.tx_check.specs.Numbered.{after_lines, line_at}
+use Rattle.tx_check.specs.Reads.{IsAtFault}
 use Rattle.tx_check.specs.Stands.{stand_behind, AmongCommands, AmongLines, AmongSteps, AtHeader, IsVersionOf, Stand}
-use Rattle.tx_lines.specs.Programs.{label_front, BeginsLabel, IsNoLineOf}
+use Rattle.tx_lines.specs.Programs.{label_front, label_in, line_text, BeginsLabel, IsLineOf, IsNoLineOf}
 use Rattle.tx_lines.specs.Schedule.{after_line, first_line}
 use Rattle.tx_lines.specs.Walks.{debug_line, IsNoCommand, IsNoLineBefore}
+use Rattle.tx_lines.specs.declared.faults.Fault.{Fault}
+use Rattle.tx_lines.specs.declared.faults.Fault.TheVariants as faults
+use Rattle.tx_lines.specs.declared.instructions.Line.{Line}
+use Rattle.tx_lines.specs.declared.instructions.Line.TheVariants as line
+use Rattle.tx_lines.specs.declared.instructions.Name.{Name}
 use Rattle.tx_lines.specs.declared.read.header.Version.{Version}
 
 -- the line is one too many there
@@ -83,3 +89,60 @@ pub record IsWrongThere (text : List ℕ) (number : ℕ) : Type 0 where
   pub of_text : IsVersionOf (head_of (kind_of text)) text version
   pub wrong : IsWrongIn version text number (stand_behind (kind_of text) text (number - 1)) (line_at number text) (has_end number text)
   pub none_too_many : (count : ℕ) → count < number - 1 → IsTooManyAfter text count → ⊥
+
+-- the line names a label, and no line of the text is that label
+abbrev pub IsNowhere : List ℕ → Option Name → Type 0
+IsNowhere text None = ⊥
+IsNowhere text (Some name) = (number : ℕ) → line_at number text ≢ label_front ++ name.bytes.items
+
+abbrev pub IsNamedNowhere : List ℕ → Line → Type 0
+IsNamedNowhere text (line.Label name) = ⊥
+IsNamedNowhere text (line.Instruction instruction) = IsNowhere text (label_in instruction.spellings.items)
+
+-- the line names no label that is nowhere, where it spells one of that version
+abbrev pub IsLinkedLine : Version → List ℕ → List ℕ → Type 0
+IsLinkedLine version text line = (one : Line) → IsLineOf version one → line ≡ line_text one → IsNamedNowhere text one → ⊥
+
+-- the line of that number is there, and is one of the text's version that names a label which is nowhere
+pub record IsUnlinked (text : List ℕ) (number : ℕ) : Type 0 where
+  pub there : after_lines (number - 1) text ≢ []
+  pub version : Version
+  pub of_text : IsVersionOf (head_of (kind_of text)) text version
+  pub one : Line
+  pub good : IsLineOf version one
+  pub spelled : line_at number text ≡ line_text one
+  pub nowhere : IsNamedNowhere text one
+
+-- the line of that number is neither too long nor one too many, and is at fault in its place, whatever label it names
+pub record IsNoLineIn (text : List ℕ) (number : ℕ) : Type 0 where
+  pub short : length (line_at number text) ≤ 512
+  pub room : IsTooManyAfter text (number - 1) → ⊥
+  pub version : Version
+  pub of_text : IsVersionOf (head_of (kind_of text)) text version
+  pub wrong : IsWrongIn version text number (stand_behind (kind_of text) text (number - 1)) (line_at number text) (has_end number text)
+
+-- it is right but for its label, which is nowhere
+pub record IsNoLabelIn (text : List ℕ) (number : ℕ) : Type 0 where
+  pub short : length (line_at number text) ≤ 512
+  pub ended : has_end number text ≡ true
+  pub unlinked : IsUnlinked text number
+
+-- the line of that fault is so at fault
+abbrev pub IsFaultIn : List ℕ → Fault → Type 0
+IsFaultIn text (faults.TooLong line) = (512 < length (line_at line text)) ⊎ IsTooManyAfter text (line - 1)
+IsFaultIn text (faults.NotALine line) = IsNoLineIn text line
+IsFaultIn text (faults.NoLabel line) = IsNoLabelIn text line
+IsFaultIn text _ = ⊥
+
+-- behind the line of that fault of the text the line of that number is at fault too: where the fault is a label that is nowhere, by its label; else in its place
+abbrev pub IsWrongBehind : Fault → List ℕ → ℕ → Type 0
+IsWrongBehind (faults.NotALine line) text number = (line < number) × IsWrongThere text number
+IsWrongBehind (faults.TooLong line) text number = (line < number) × IsWrongThere text number
+IsWrongBehind (faults.NoLabel line) text number = (line < number) × IsUnlinked text number
+IsWrongBehind _ text number = ⊥
+
+-- the text is at fault, and so is the line of that number, behind the line of the fault
+pub record IsWrongToo (text : List ℕ) (number : ℕ) : Type 0 where
+  pub fault : Fault
+  pub is_fault : IsAtFault (kind_of text) text fault
+  pub too : IsWrongBehind fault text number

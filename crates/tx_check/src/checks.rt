@@ -1,6 +1,6 @@
 //! Tells of a text what is wrong with it.
-ghost use Rattle.std.specs.Prelude.{◌≡◌, ◌≢◌, ◌+◌, ◌-◌, ◌≤◌, ℕ, List, IfOk, OnOk, string_bytes};
-ghost use Rattle.tx_check.specs.Behind.{IsWrongBehind};
+ghost use Rattle.std.specs.Prelude.{◌≡◌, ◌≢◌, ◌⊎◌, ◌+◌, ◌-◌, ◌<◌, ◌≤◌, ℕ, List, IfOk, OnOk, length, string_bytes};
+ghost use Rattle.tx_check.specs.Behind.{IsQuietAt};
 ghost use Rattle.tx_check.specs.Kinds.{kind_of};
 ghost use Rattle.tx_check.specs.Labels.{AreKnown};
 ghost use Rattle.tx_check.specs.Numbered.{after_lines};
@@ -8,11 +8,17 @@ ghost use Rattle.tx_check.specs.OwnLines.{GoesOn, IsFrom, IsLineAt, IsWrongAfter
 ghost use Rattle.tx_check.specs.Reads as spec;
 ghost use Rattle.tx_check.specs.Reads.{Finds, IsAtFault};
 ghost use Rattle.tx_check.specs.Stands.{StandsAt};
-ghost use Rattle.tx_check.specs.Told.{IsColumn, IsToldOf, TellsFrom};
+ghost use Rattle.tx_check.specs.Speaking.{kind_of_what, IsKindAt};
+ghost use Rattle.tx_check.specs.Told.{IsColumn, IsMeantFault, IsToldOf, TellsFrom};
+ghost use Rattle.tx_check.specs.ToldKinds.{told_kind, BeginsOfKind, Grows};
+ghost use Rattle.tx_check.specs.Wrong.{IsFaultIn, IsWrongBehind};
 ghost use Rattle.tx_check.specs.declared.kinds.Kind.TheVariants as kinds;
 ghost use Rattle.tx_check.specs.declared.places.Part.TheVariants as parts;
+ghost use Rattle.tx_check.specs.declared.trouble.LineTrouble.TheVariants as troubles;
+ghost use Rattle.tx_check.specs.declared.trouble.What.TheVariants as whats;
+ghost use Rattle.tx_lines.specs.declared.faults.Fault.{Fault};
 ghost use Rattle.tx_lines.specs.declared.faults.Fault.TheVariants as faults;
-ghost use Rattle.tx_plain.specs.Meant.{meant_of, own_line};
+ghost use Rattle.tx_plain.specs.Meant.{fault_by, meant_of, own_line};
 ghost use Rattle.tx_plain.specs.MeantLines.{left_of, OwnsFrom};
 
 use crate::diagnose::{trouble_of, unknown};
@@ -34,12 +40,20 @@ use tx_plain::{MeantLines, Room};
 /// line at which the command finds the text at fault, and each later one of a line that is at fault
 /// in its place, whatever stands before it. None of those is left out, up to the first line that is
 /// one too many; where all lines are right but for labels that are nowhere, none that names one.
+///
+/// The first sentence is of the kind of the fault (`told_kind`): that a line is too long, or one too
+/// many; that there is no such label; or that it is none of the grammar's. A line of more than 512
+/// bytes is told as that whatever the fault is: its carriage return counts here, but not for what
+/// the line means.
+///
 /// Lines count from 1 and columns in bytes from 1, both in the text as it is given; the column after
 /// a line's last byte stands for its end.
 ///
 /// Memory is taken for what is told alone. The only error is that such a growth was refused.
 pub fn check_text(alloc: Global, text: &[u8]) -> Result<String, NoMemory>
-    ensures { IfOk result (λ told. IsToldOf text.now (string_bytes told)) }
+    ensures told { IfOk result (λ told. IsToldOf text.now (string_bytes told)) }
+    ensures kind { IfOk result (λ told. (fault : Fault) → IsMeantFault text.now fault →
+        BeginsOfKind (told_kind text.now fault) (string_bytes told)) }
 {
     let meant = Labels::of(MeantLines::of(text));
     let kind = kind_of(meant.text);
@@ -63,9 +77,12 @@ pub fn tell_from(
     requires numbered { OwnsFrom text.now 1 meant.now.text }
     requires kind { kind ≡ kind_of (left_of meant.now.text) }
     requires fault { IsAtFault kind (left_of meant.now.text) fault }
+    requires there { IsFaultIn (left_of meant.now.text) fault }
     requires own { 1 ≤ own_line text.now (spec.line_of fault) }
-    ensures { IfOk result (λ told. TellsFrom (IsWrongBehind fault (meant_of text.now)) text.now
+    ensures tells { IfOk result (λ told. TellsFrom (IsWrongBehind fault (meant_of text.now)) text.now
         (own_line text.now (spec.line_of fault)) (string_bytes told)) }
+    ensures kind { IfOk result (λ told. BeginsOfKind
+        (told_kind text.now (fault_by (own_line text.now) fault)) (string_bytes told)) }
 {
     let (place, lines) = place_of(kind, meant.text, fault);
     let (line, behind) = lines.cut();
@@ -102,7 +119,11 @@ fn trouble_at_fault<'a>(
     line: TextLine<'a>,
 ) -> Trouble<'a>
     requires { AreKnown text.now }
-    ensures { IsColumn line.entry.bytes.now result.column }
+    ensures column { IsColumn line.entry.bytes.now result.column }
+    ensures kind { IsKindAt place.now (left_of text.now.text) line.entry.number line.entry.bytes.now
+        line.entry.is_ended (kind_of_what result.what)
+        ⊎ IsQuietAt (left_of text.now.text) place.now line.entry }
+    ensures long { result.what ≡ whats.Line troubles.TooLong → 512 < length line.entry.bytes.now }
 {
     match trouble_of(lines, text, place, line) {
         Some(trouble) => trouble,
@@ -175,7 +196,7 @@ fn tell_behind(
     requires place { StandsAt (left_of meant.now.text) (passed + 1) place }
     requires lines { left_of lines ≡ after_lines passed (left_of meant.now.text) }
     requires some { 1 ≤ passed }
-    ensures { OnOk result
+    ensures tells { OnOk result
         ((text : List ℕ) (first : ℕ) → left_of meant.now.text ≡ meant_of text →
         OwnsFrom text (passed + 1) lines.entry → IsFrom text own.entry →
         own.entry.number ≤ own_line text passed →
@@ -183,6 +204,7 @@ fn tell_behind(
         (string_bytes told.old) →
         TellsFrom (IsWrongAfter place.part passed (meant_of text)) text first
         (string_bytes told.new)) }
+    ensures grows { OnOk result (Grows (string_bytes told.old) (string_bytes told.new)) }
 {
     let mut place = place;
     let mut reached = own;
@@ -221,9 +243,10 @@ fn tell_line<'a>(
     requires known { AreKnown meant.now }
     requires place { StandsAt (left_of meant.now.text) line.number place.now }
     requires line { IsLineAt (left_of meant.now.text) line }
-    ensures { IfOk result (λ next.
+    ensures goes { IfOk result (λ next.
         GoesOn place.now.part meant.now.text line.entry.number number own.entry next
         (string_bytes told.old) (string_bytes told.new)) }
+    ensures grows { OnOk result (Grows (string_bytes told.old) (string_bytes told.new)) }
 {
     let Some(trouble) = trouble_of(meant.text, meant, place, line) else {
         return Ok(own);

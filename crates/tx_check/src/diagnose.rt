@@ -1,12 +1,11 @@
 //! What is wrong with a line, by what is to stand in its place.
 ghost use Rattle.std.specs.Prelude.{◌≡◌, ◌≤◌, ◌⊎◌, ◌<◌, IfNone, IfSome, IsFalse, IsTrue, false, length};
-ghost use Rattle.tx_check.specs.Behind.{IsLinkedLine};
 ghost use Rattle.tx_check.specs.Labels.{AreKnown};
 ghost use Rattle.tx_check.specs.Right.{IsNoneThere, IsRight, IsTooMany};
 ghost use Rattle.tx_check.specs.Stands.{IsPlaceOf, Stand};
 ghost use Rattle.tx_check.specs.Speaking.{kind_of_what, IsKindAt, OfGrammar, OfLabel};
 ghost use Rattle.tx_check.specs.Told.{IsColumn};
-ghost use Rattle.tx_check.specs.Wrong.{IsTwice, IsWrong, NamesNowhere};
+ghost use Rattle.tx_check.specs.Wrong.{IsLinkedLine, IsTwice, IsWrong, NamesNowhere};
 ghost use Rattle.tx_check.specs.declared.places.Part.TheVariants as parts;
 ghost use Rattle.tx_check.specs.declared.trouble.LineTrouble.TheVariants as troubles;
 ghost use Rattle.tx_check.specs.declared.trouble.What.TheVariants as whats;

@@ -1,16 +1,17 @@
 //! Finds the line at which the command of a text's kind finds it at fault. It takes no memory.
-ghost use Rattle.std.specs.Prelude.{◌≡◌, ◌↔◌, ◌≤◌, IfNone, IfSome, IsTrue, MatchOption, length};
+ghost use Rattle.std.specs.Prelude.{◌≡◌, ◌↔◌, ◌≤◌, ℕ, IfNone, IfSome, IsTrue, MatchOption, length};
 ghost use Rattle.std.specs.Option.{option_copied};
-ghost use Rattle.tx_check.specs.Behind.{AreLinesBehind, AreLinked, FaultsBehind, IsFaultAt, IsNamedNowhere, IsNowhere, MayStand};
+ghost use Rattle.tx_check.specs.Behind.{AreLinesBehind, AreLinked, FaultsBehind, IsFaultAt, MayStand};
 ghost use Rattle.tx_check.specs.Kinds.{head_of};
 ghost use Rattle.tx_check.specs.Kinds as spec;
 ghost use Rattle.tx_check.specs.Labels.{AreKnown};
 ghost use Rattle.tx_check.specs.Reads.{Finds};
-ghost use Rattle.tx_check.specs.Wrong.{IsTwice};
+ghost use Rattle.tx_check.specs.Wrong.{IsFaultIn, IsNamedNowhere, IsNowhere, IsTwice};
 ghost use Rattle.tx_check.specs.declared.kinds.Kind.TheVariants as kinds;
 ghost use Rattle.tx_check.specs.declared.places.Part.TheVariants as parts;
 ghost use Rattle.tx_lines.specs.Programs.{line_text, IsLineOf};
 ghost use Rattle.tx_lines.specs.Schedule.{SpellsHeader};
+ghost use Rattle.tx_lines.specs.declared.faults.Fault.TheVariants as faults;
 ghost use Rattle.tx_lines.specs.declared.instructions.Line.{Line};
 ghost use Rattle.tx_plain.specs.MeantLines.{left_of};
 ghost use Rattle.tx_lines.specs.declared.read.header.TextKind.TheVariants as texts;
@@ -37,7 +38,8 @@ const FIRST_LINE: u64 = 2;
 pub fn first_fault(kind: Kind, text: &Labels<'_>) -> Option<Fault>
     requires known { AreKnown text.now }
     requires kind { kind ≡ spec.kind_of (left_of text.now.text) }
-    ensures { Finds kind (left_of text.now.text) result }
+    ensures finds { Finds kind (left_of text.now.text) result }
+    ensures there { IfSome result (IsFaultIn (left_of text.now.text)) }
 {
     let (header, left) = match header_of(kind_of_head(kind), text.text) {
         Ok(found) => found,
@@ -62,8 +64,9 @@ fn fault_behind(
     requires known { AreKnown text.now }
     requires kind { kind ≡ spec.kind_of (left_of text.now.text) }
     requires header { SpellsHeader (head_of kind) (left_of text.now.text) header (left_of rest) }
-    ensures { MatchOption result (AreLinesBehind kind header.version (left_of rest.entry))
+    ensures finds { MatchOption result (AreLinesBehind kind header.version (left_of rest.entry))
         (FaultsBehind kind header.version (left_of rest.entry)) }
+    ensures there { IfSome result (IsFaultIn (left_of text.now.text)) }
 {
     let mut place = Place::behind_header(kind_of_head(kind), header.version);
     let mut number = FIRST_LINE;
@@ -118,8 +121,9 @@ fn unlinked(text: &Labels<'_>, header: Header, rest: MeantLines<'_>) -> Option<F
     requires known { AreKnown text.now }
     requires header { SpellsHeader texts.Program (left_of text.now.text) header (left_of rest) }
     requires lines { AreLinesBehind kinds.Program header.version (left_of rest) }
-    ensures { MatchOption result (AreLinked header.version (left_of rest.entry))
+    ensures finds { MatchOption result (AreLinked header.version (left_of rest.entry))
         (FaultsBehind kinds.Program header.version (left_of rest.entry)) }
+    ensures label { IfSome result (λ fault. (line : ℕ) × (fault ≡ faults.NoLabel line)) }
 {
     let mut number = FIRST_LINE;
     let mut room = Room::new();

@@ -3,6 +3,8 @@ ghost use Rattle.std.specs.Prelude.{◌≡◌, ◌+◌, ◌-◌, ◌≤◌, IfSo
 ghost use Rattle.tx_check.specs.Numbered.{after_lines};
 ghost use Rattle.tx_check.specs.Speaking.{kind_of_what};
 ghost use Rattle.tx_check.specs.Told.{IsColumn};
+ghost use Rattle.tx_check.specs.declared.trouble.LineTrouble.TheVariants as troubles;
+ghost use Rattle.tx_check.specs.declared.trouble.What.TheVariants as whats;
 ghost use Rattle.tx_lines.specs.Schedule.{first_line};
 
 use crate::places::{Part, TextLine, behind};
@@ -67,6 +69,8 @@ pub fn own_trouble<'a>(
     requires { IsColumn line.now trouble.column }
     ensures column { IsColumn own.now result.column }
     ensures kind { kind_of_what result.what ≡ kind_of_what trouble.entry.what }
+    ensures long { result.what ≡ whats.Line troubles.TooLong →
+        trouble.entry.what ≡ whats.Line troubles.TooLong }
 {
     let column = own_column(line, own, trouble.column);
     if !is_third {

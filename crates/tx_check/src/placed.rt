@@ -1,10 +1,11 @@
 //! Whether what is told of a line is so there.
-ghost use Rattle.std.specs.Prelude.{◌≡◌, ◌≢◌, ◌<◌, ◌⊎◌, ◌++◌, ◌∷◌, [], ℕ, List, IfSome, IsFalse, IsTrue, MatchOption, None, length, option_map, true};
+ghost use Rattle.std.specs.Prelude.{◌≡◌, ◌≢◌, ◌<◌, ◌≤◌, ◌⊎◌, ◌++◌, ◌∷◌, [], ℕ, List, IfSome, IsFalse, IsTrue, MatchOption, None, length, option_map, true};
 ghost use Rattle.tx_check.specs.Speaking.{ends_word, is_odd, kind_of_what, word_of, IsAt, IsBehindWords, IsByteAt, IsCommandAt, IsDigitAt, IsFitting, IsOddSpace, IsPlacedInLine, IsStepAt, IsTrueOf, IsWordAt, OfGrammar, OfLabel, OfLength};
 ghost use Rattle.tx_check.specs.Speaking as spec;
 ghost use Rattle.tx_check.specs.Told.{IsColumn};
 ghost use Rattle.tx_check.specs.declared.trouble.LineTrouble.TheVariants as troubles;
 ghost use Rattle.tx_check.specs.declared.trouble.What.TheVariants as whats;
+ghost use Rattle.tx_plain.specs.OwnLines.{without_return};
 
 use crate::own::own_word;
 use crate::trouble::{LineTrouble, Names, Trouble, What, WordTrouble};
@@ -21,14 +22,15 @@ pub fn placed<'a>(line: &'a [u8], trouble: Trouble<'a>) -> Trouble<'a>
     ensures column { IsColumn line.now result.column }
     ensures line { IsPlacedInLine line.now result.column result.what }
     ensures word { IfSome (word_of result.what) (λ word. IsWordAt line.now result.column word) }
-    ensures long { 512 < length line.now → result.what ≡ whats.Line troubles.TooLong }
+    ensures long { 512 < length (without_return line.now) →
+        result.what ≡ whats.Line troubles.TooLong }
     ensures kind { IsFitting line.now trouble.entry.what →
         kind_of_what result.what ≡ kind_of_what trouble.entry.what }
 {
-    if line.len() > LINE_BYTES {
+    if before_return(line).len() > LINE_BYTES {
         return Trouble::of_line(LINE_BYTES + 1, LineTrouble::TooLong);
     }
-    if is_one_too_many(&trouble.what) {
+    if is_of_length(line, &trouble.what) {
         return trouble;
     }
     if is_in_line(line, &trouble) && is_word_there(line, &trouble) {
@@ -40,15 +42,17 @@ pub fn placed<'a>(line: &'a [u8], trouble: Trouble<'a>) -> Trouble<'a>
     }
 }
 
-/// Whether it is that a line is one too many, which is so wherever it is told.
-fn is_one_too_many(what: &What<'_>) -> bool
-    ensures line { IsTrue result → (line : List ℕ) (column : ℕ) →
-        IsPlacedInLine line column what.now }
+/// Whether it is that a line is too long, and so it is, or that it is one too many, which is so wherever
+/// it is told.
+fn is_of_length(line: &[u8], what: &What<'_>) -> bool
+    ensures line { IsTrue result → (column : ℕ) → IsPlacedInLine line.now column what.now }
     ensures word { IsTrue result → word_of what.now ≡ None }
     ensures other { IsFalse result → kind_of_what what.now ≡ OfLength →
         what.now ≡ whats.Line troubles.TooLong }
+    ensures short { IsFalse result → kind_of_what what.now ≡ OfLength → length line.now ≤ 512 }
 {
     match what {
+        What::Line(LineTrouble::TooLong) => line.len() > LINE_BYTES,
         What::Line(LineTrouble::TooManySteps) => true,
         What::Line(LineTrouble::TooManyCommands) => true,
         What::Line(LineTrouble::TooManyInstructions) => true,
@@ -286,7 +290,9 @@ fn is_behind_words(line: &[u8], column: usize) -> bool
 
 /// A line without the byte 13 at its end, where it has one.
 fn before_return(line: &[u8]) -> &[u8]
-    ensures { (line.now ≡ result.now) ⊎ (line.now ≡ result.now ++ 13 ∷ []) }
+    ensures parts { (line.now ≡ result.now) ⊎ (line.now ≡ result.now ++ 13 ∷ []) }
+    ensures same { result.now ≡ without_return line.now }
+    ensures shorter { length result.now ≤ length line.now }
 {
     match before_end(b"\r", line) {
         Some(front) => front,

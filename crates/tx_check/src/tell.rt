@@ -4,6 +4,7 @@ ghost use Rattle.tx_check.specs.Speaking.{kind_of_what, line_sentence, FaultKind
 ghost use Rattle.tx_check.specs.ToldKinds.{TellsOfKind};
 ghost use Rattle.tx_check.specs.Told.{IsColumn, IsInLine, Tells};
 ghost use Rattle.tx_check.specs.declared.trouble.LineTrouble.TheVariants as troubles;
+ghost use Rattle.tx_plain.specs.OwnLines.{without_return};
 
 use crate::placed::placed;
 use crate::places::TextLine;
@@ -44,7 +45,8 @@ fn put_told(
     requires column { IsColumn line.bytes.now column }
     requires sentence { IsInLine sentence.now }
     requires speaks { SpeaksAt line.bytes.now column sentence.now }
-    requires long { 512 < length line.bytes.now → sentence.now ≡ line_sentence troubles.TooLong }
+    requires long { 512 < length (without_return line.bytes.now) →
+        sentence.now ≡ line_sentence troubles.TooLong }
     ensures tells { OnOk result (Tells line.entry.number line.entry.bytes.now
         (string_bytes told.old) (string_bytes told.new)) }
     ensures kind { OnOk result ((kind : FaultKind) → IsOfKind kind sentence.now →

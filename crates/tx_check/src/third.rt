@@ -2,6 +2,8 @@
 ghost use Rattle.std.specs.Prelude.{◌≡◌};
 ghost use Rattle.tx_check.specs.Speaking.{kind_of_what, OfGrammar};
 ghost use Rattle.tx_check.specs.Told.{IsColumn};
+ghost use Rattle.tx_check.specs.declared.trouble.LineTrouble.TheVariants as troubles;
+ghost use Rattle.tx_check.specs.declared.trouble.What.TheVariants as whats;
 
 mod sets;
 pub mod strings;
@@ -18,7 +20,9 @@ const DIGITS: usize = 128;
 /// What is wrong at a column of a line, as it is told of the line of version 3 that means it.
 pub fn third_what<'a>(part: Part, line: &'a [u8], trouble: Trouble<'a>) -> What<'a>
     requires { IsColumn line.now trouble.column }
-    ensures { kind_of_what result ≡ kind_of_what trouble.entry.what }
+    ensures kind { kind_of_what result ≡ kind_of_what trouble.entry.what }
+    ensures long { result ≡ whats.Line troubles.TooLong →
+        trouble.entry.what ≡ whats.Line troubles.TooLong }
 {
     match trouble.what {
         What::Word(_word, _wrong) => word_what(part, line, trouble),

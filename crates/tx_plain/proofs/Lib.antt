@@ -4,6 +4,7 @@ pub mod WordParts
 pub mod SetParts
 pub mod StringParts
 pub mod Bytes
+pub mod MeantSteps
 pub mod NextMeant
 pub mod NoEnds
 pub mod Rooms

@@ -22,7 +22,7 @@ use Rattle.tx_plain.proofs.StayingLines.{all_stay, ended_by, line_means, lines_m
 use Rattle.tx_plain.proofs.StayingWords.{call_bare, call_stays}
 use Rattle.tx_plain.proofs.Unnamed.{low_signal}
 
-step_stays : (step : Step) → FitsStep step → StaysIn Schedule (step_text step)
+pub step_stays : (step : Step) → FitsStep step → StaysIn Schedule (step_text step)
 step_stays (steps.Call pid call) fits =
     let words = map word_of (arguments_of call) in
     let are = call_bare call fits.1 in

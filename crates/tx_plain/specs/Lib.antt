@@ -11,6 +11,7 @@ pub mod Meant
 pub mod MeantFacts
 pub mod MeantLines
 pub mod MeantPrograms
+pub mod MeantSchedules
 pub mod Plain
 pub mod Laws
 pub mod Command

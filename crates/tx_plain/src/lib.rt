@@ -8,7 +8,8 @@
 //! or as it is. What is wrong stays as it is, so that the reader refuses it in its line; of each
 //! line of the plain text it is known which line of the person's it comes from. A text of version 2
 //! means itself, but for its header (`laws.rt`). A line that comes alone means what it means behind
-//! the header of a schedule (`single.rt`).
+//! the header of a schedule (`single.rt`). A schedule is read line by line (`meant_lines.rt`,
+//! `schedules.rt`).
 
 mod arguments;
 mod byte_words;
@@ -23,6 +24,7 @@ mod programs;
 mod reading;
 mod roles;
 mod room;
+mod schedules;
 mod sets;
 mod signals;
 mod single;
@@ -40,6 +42,7 @@ pub use plain::{Plain, is_third, plain_text};
 pub use programs::read_program;
 pub use roles::{Role, role_of};
 pub use room::Room;
+pub use schedules::read_schedule;
 pub use signals::signal;
 pub use single::plain_line;
 pub use words::{Word, split_word, words_in};

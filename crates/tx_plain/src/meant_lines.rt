@@ -1,7 +1,10 @@
 //! The lines that a text of any version means, one after another.
 ghost use Rattle.std.specs.Prelude.{◌≡◌, ◌≢◌, ◌+◌, ◌<◌, ◌≤◌, ◌++◌, [], ℕ, List, IfNone, IfSome, IsFalse, IsTrue, MatchOption, None, Some, is_some, length, true};
+ghost use Rattle.std.specs.Bool.{then_some};
+ghost use Rattle.tx_base.specs.declared.steps.Step.{Step as TheStep};
+ghost use Rattle.tx_lines.specs.Lines.{step_text, FitsStep};
 ghost use Rattle.tx_lines.specs.Programs.{BeginsLabel};
-ghost use Rattle.tx_lines.specs.Schedule.{first_line};
+ghost use Rattle.tx_lines.specs.Schedule.{first_line, FitsStepOf};
 ghost use Rattle.tx_plain.specs.Lines.{plain_line};
 ghost use Rattle.tx_plain.specs.Meant.{meant_of};
 ghost use Rattle.tx_plain.specs.MeantLines.{left_of, line_of, IsNextLine, OwnsFrom, OwnsNext};
@@ -15,7 +18,8 @@ use crate::plain_lines::{line_meaning, stage_after};
 use crate::room::Room;
 use crate::stage::Stage;
 use crate::words::{from_word, split_word};
-use tx_lines::{LINE_BYTES, take_line};
+use tx_base::Step;
+use tx_lines::{LINE_BYTES, TextKind, Version, read_step_into, take_line};
 
 /// What is left of a text of any version, as the lines of the first two versions that it means.
 #[derive(Clone, Copy)]
@@ -188,6 +192,31 @@ impl<'a> OwnLine<'a> {
             return self.bytes;
         };
         line_meaning(room, stage, self.bytes).unwrap_or(b"")
+    }
+
+    /// Reads the step that the line means, and puts it where it is to stand; at once where the line
+    /// spells it itself. Answers whether it means one.
+    #[inline(always)] // a call of its own costs each line of a schedule 30 instructions
+    pub fn read_step_into(self, version: Version, room: &mut Room, step: &mut Step) -> bool
+        ensures found { IfSome (then_some result step.new) (λ s. line_of self.entry ≡ step_text s) }
+        ensures fits { IfSome (then_some result step.new) (FitsStepOf version) }
+    {
+        if self.may_be_step() && read_step_into(version, self.bytes, step) {
+            return true;
+        }
+        read_step_into(version, self.meaning(room), step)
+    }
+
+    /// Whether a step that the line itself spells is the one that it means.
+    fn may_be_step(self) -> bool
+        ensures { IsTrue result → (step : TheStep) → FitsStep step →
+            self.entry.bytes.now ≡ step_text step → line_of self.entry ≡ step_text step }
+    {
+        match self.stage {
+            None => true,
+            Some(Stage::Within(TextKind::Schedule)) => true,
+            Some(_stage) => false,
+        }
     }
 
     /// The line that it means, where that begins as a label. Nothing else is translated.

@@ -6,8 +6,8 @@ ghost use Rattle.tx_script.specs.Grammars.{schedules, AnswersText};
 
 use crate::reports::report;
 use std::alloc::Global;
-use tx_lines::{Fault, Sink, Source, read_schedule, read_whole, write_whole};
-use tx_plain::Meant;
+use tx_lines::{Fault, Sink, Source, read_whole, write_whole};
+use tx_plain::read_schedule;
 
 /// Reads the text of a schedule to its end, runs it, and writes the report. Nothing is written
 /// where the fault is another one than `Writer`.
@@ -29,9 +29,6 @@ pub fn replay<S: Source, W: Sink>(alloc: Global, source: &mut S, sink: &mut W) -
 pub fn replay_text(alloc: Global, text: &[u8]) -> Result<String, Fault>
     ensures { AnswersText schedules text.now result }
 {
-    let meant = Meant::by(alloc, text)?;
-    match read_schedule(alloc, meant.as_bytes()) {
-        Ok(schedule) => report(alloc, &schedule),
-        Err(fault) => Err(meant.own_fault(fault)),
-    }
+    let schedule = read_schedule(alloc, text)?;
+    report(alloc, &schedule)
 }

@@ -1,10 +1,9 @@
 //! The labels in the text of a program: which stand twice, and which nowhere.
 ghost use Rattle.std.specs.Prelude.{◌≡◌, IfNone, IfSome};
-ghost use Rattle.tx_check.specs.Behind.{IsLinkedLine};
 ghost use Rattle.tx_check.specs.Labels.{AreKnown};
 ghost use Rattle.tx_check.specs.Speaking.{kind_of_what, OfGrammar, OfLabel};
 ghost use Rattle.tx_check.specs.Told.{IsColumn};
-ghost use Rattle.tx_check.specs.Wrong.{IsTwice, NamesNowhere};
+ghost use Rattle.tx_check.specs.Wrong.{IsLinkedLine, IsTwice, NamesNowhere};
 ghost use Rattle.tx_lines.specs.declared.read.header.Version.{Version};
 ghost use Rattle.tx_plain.specs.MeantLines.{left_of};
 

@@ -1,6 +1,5 @@
 //! A terminal over a reader and a writer.
 ghost use Rattle.std.specs.Prelude.{◌≡◌, [], IsTrue};
-ghost use Rattle.std.specs.Io.KnownBytes.{Keeps};
 ghost use Rattle.tx_shell.specs.Events.{traffic_between, unprompted, Continues};
 
 use crate::talks::taking::take_line_from;

@@ -7,6 +7,7 @@ use Rattle.tx_check.proofs.OwnLines.{own_rises}
 use Rattle.tx_check.proofs.Standing.{line_there, stands_later}
 use Rattle.tx_check.proofs.ToldBehind.{none_left, none_more, none_past, told_to}
 use Rattle.tx_lines.specs.Schedule.{first_line}
+use Rattle.tx_check.proofs.ToldFirst.{grows_none, grows_on}
 use Rattle.tx_plain.specs.MeantLines.{left_of}
 use Rattle.tx_check.proofs.checks.tell_behind.Goals as goal
 
@@ -17,6 +18,7 @@ loop-before-init c = record {
   place = c.requires.place;
   alike = record { there = λ link. link; back = λ link. link };
   some = c.requires.some;
+  grows = grows_none (string_bytes c.args.told.now);
 }
 
 pub tell_line-requires-clause-line : goal.tell_line-requires-clause-line
@@ -25,15 +27,15 @@ tell_line-requires-clause-line c =
     line_there (left_of c.args.meant.now.text) (left_of c.loop-before.left) c.loop-before.before _ c.loop-before.invariant.at next.some
     c.loop-before.invariant.some refl (c.meaning.ensures ∙ next.line.bytes) next.line.ended
 
-pub returns-in_default : goal.returns-in_default
-returns-in_default c = λ text first is_meant owns is low up_to.
+pub returns-in_default-clause-tells : goal.returns-in_default-clause-tells
+returns-in_default-clause-tells c = λ text first is_meant owns is low up_to.
     let so = c.loop-before.invariant in
     let before = c.loop-before.before in
     let none = ap (after_lines before) (sym is_meant) ∙ sym so.at ∙ c.in_default.ensures.none in
     none_left c.args.place.part c.args.passed before text first c.loop-before.reached.number (string_bytes c.loop-before.told) none ((so.goes text is_meant owns is low).1.on first up_to)
 
-pub returns-then-is_past_all : goal.returns-then-is_past_all
-returns-then-is_past_all c = λ text first is_meant owns is low up_to.
+pub returns-then-is_past_all-clause-tells : goal.returns-then-is_past_all-clause-tells
+returns-then-is_past_all-clause-tells c = λ text first is_meant owns is low up_to.
     let so = c.loop-before.invariant in
     let before = c.loop-before.before in
     let meant = left_of c.args.meant.now.text in
@@ -58,17 +60,18 @@ loop-before-preserved c =
           let old = string_bytes c.args.told.now in
           let here = c.loop-before.place.part in
           let on = told_to c.args.place.part here c.args.passed text c.args.own old before c.in-Some.line.number c.loop-before.reached c.in_ok-reached.reached
-          (string_bytes c.loop-before.told) _ c.args.meant.now.text so.alike is_meant (own.own (omega arith)) up c.in_ok-reached.ensures told.1 in
+          (string_bytes c.loop-before.told) _ c.args.meant.now.text so.alike is_meant (own.own (omega arith)) up c.in_ok-reached.ensures.goes told.1 in
           (own.behind, on);
       at = next.line.behind ∙ ap behind so.at ∙ lines_more before meant;
       place = stands_later meant before (before + 1) (before + 1 + 1) c.meaning.result.now c.loop-before.place c.after-place.result refl (omega arith)
           (c.meaning.ensures ∙ next.line.bytes ∙ ap first_line so.at) so.place kept.version kept.stands;
       alike = record { there = λ link. kept.linked (so.alike.there link); back = λ link. so.alike.back (kept.link link) };
       some = omega (arith, so.some);
+      grows = grows_on (string_bytes c.args.told.now) (string_bytes c.loop-before.told) (string_bytes c.tell_line.new.told) so.grows c.in_ok-reached.ensures.grows;
     }
 
-pub returns : goal.returns
-returns c = λ text first is_meant owns is low up_to.
+pub returns-clause-tells : goal.returns-clause-tells
+returns-clause-tells c = λ text first is_meant owns is low up_to.
     let so = c.loop-before.invariant in
     none_more c.args.place.part c.args.passed c.loop-before.before text first c.loop-before.reached.number (string_bytes c.loop-before.told) (omega (arith, c.loop-before-test.false))
     ((so.goes text is_meant owns is low).1.on first up_to)

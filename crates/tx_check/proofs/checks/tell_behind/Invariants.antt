@@ -3,6 +3,7 @@ use Rattle.tx_check.proofs.ToldBehind.{AreAlike, IsToldTo}
 use Rattle.tx_check.specs.Numbered.{after_lines}
 use Rattle.tx_check.specs.OwnLines.{IsFrom}
 use Rattle.tx_check.specs.Stands.{StandsAt}
+use Rattle.tx_check.specs.ToldKinds.{Grows}
 use Rattle.tx_plain.specs.Meant.{meant_of, own_line}
 use Rattle.tx_plain.specs.MeantLines.{left_of, OwnsFrom}
 use Rattle.tx_check.proofs.checks.tell_behind.Given as goal
@@ -15,4 +16,5 @@ invariant-loop-before l = record {
   place : StandsAt (left_of l.meant.text) (l.before + 1) l.place;
   alike : AreAlike l.fn.place.part l.place.part;
   some : 1 ≤ l.before;
+  grows : Grows (string_bytes l.initial.told) (string_bytes l.told);
 }

@@ -1,16 +1,21 @@
-use Rattle.std.proofs.Common.{◌≡◌, ◌+◌, ◌-◌, ◌<◌, ◌≤◌, ◌^◌, ◌∙◌, ℕ, List, ap, arith, refl, string_bytes, subst, sym}
-use Rattle.tx_check.specs.Behind.{IsWrongBehind}
+use Rattle.std.proofs.Common.{◌≡◌, ◌+◌, ◌-◌, ◌<◌, ◌≤◌, ◌^◌, ◌∙◌, ℕ, List, ap, arith, length, refl, string_bytes, subst, sym}
+use Rattle.tx_check.proofs.KindsFound.{ended_in, kind_found}
+use Rattle.tx_check.proofs.OwnLong.{own_long}
+use Rattle.tx_check.proofs.ToldFirst.{begins, told_so}
 use Rattle.tx_check.specs.Numbered.{after_lines, behind, line_at}
+use Rattle.tx_check.specs.Speaking.{kind_of_what}
+use Rattle.tx_check.specs.ToldKinds.{told_kind}
 use Rattle.tx_check.specs.OwnLines.{IsWrongAfter, TellsBehind}
 use Rattle.tx_check.specs.Reads.{line_of, IsAtFault}
 use Rattle.tx_check.specs.Told.{TellsFrom}
+use Rattle.tx_check.specs.Wrong.{IsWrongBehind}
 use Rattle.tx_check.proofs.Appended.{fewer, first_told}
 use Rattle.tx_check.proofs.LeftOut.{wrong_after}
 use Rattle.tx_check.proofs.Numbered.{lines_more, some_line}
 use Rattle.tx_check.proofs.OwnLines.{moved}
 use Rattle.tx_check.proofs.Standing.{stands_later}
 use Rattle.tx_lines.specs.Schedule.{first_line}
-use Rattle.tx_plain.specs.Meant.{meant_of, own_line}
+use Rattle.tx_plain.specs.Meant.{fault_by, meant_of, own_line}
 use Rattle.tx_plain.specs.MeantLines.{left_of, OwnsFrom}
 use Rattle.tx_check.proofs.checks.tell_from.Goals as goal
 
@@ -43,8 +48,8 @@ pub tell_behind-requires-clause-some : goal.tell_behind-requires-clause-some
 tell_behind-requires-clause-some c =
     omega (arith, some_line c.args.kind (left_of c.args.meant.now.text) c.args.fault c.requires.fault, c.line_of-number.ensures)
 
-pub returns : goal.returns
-returns c =
+pub returns-clause-tells : goal.returns-clause-tells
+returns-clause-tells c =
     let text = c.args.text.now in
     let fault = line_of c.args.fault in
     let there = c.moved_to-own in
@@ -68,7 +73,7 @@ returns c =
     let up_to = subst (λ (n : ℕ). TellsBehind part passed passed text n n (string_bytes c.tell.new.told)) line.ensures.number told in
     let later = subst (λ (n : ℕ). OwnsFrom text (n + 1) c.cut.result.1) (sym c.line_of-number.ensures) owns.behind in
     let low : there.result.number ≤ own_line text passed = omega (arith, at, ap (own_line text) c.line_of-number.ensures) in
-    let all = c.in_ok-tell_behind.ensures text there.result.number c.requires.meant later is low up_to in
+    let all = c.in_ok-tell_behind.ensures.tells text there.result.number c.requires.meant later is low up_to in
     let at_fault = subst (λ (bytes : List ℕ). IsAtFault c.args.kind bytes c.args.fault) c.requires.meant c.requires.fault in
     let kept = c.after-place.ensures in
     let placed = c.place_of.ensures in
@@ -76,3 +81,39 @@ returns c =
     (fewer (IsWrongAfter part passed meant) (IsWrongBehind c.args.fault meant) text there.result.number (string_bytes c.tell_behind.new.told)
     (λ n wrong. wrong_after c.args.kind meant c.args.fault part passed n c.line_of-number.ensures at_fault
     (λ number label. kept.linked (placed.label number label)) (λ other link. placed.other other (kept.link link)) wrong) all)
+
+pub returns-clause-kind : goal.returns-clause-kind
+returns-clause-kind c =
+    let text = c.args.text.now in
+    let fault = c.args.fault in
+    let number = line_of fault in
+    let read = left_of c.args.meant.now.text in
+    let some = some_line c.args.kind read fault c.requires.fault in
+    let there = c.moved_to-own in
+    let line = c.line-own_line in
+    let owns = c.cut.ensures.own text number (c.place_of.ensures.numbered text c.requires.numbered) in
+    let small : number < 2 ^ 64 = omega (arith, c.line_of-number.ensures, c.line_of-number.type_inv) in
+    let at : there.result.number ≡ own_line text number = there.ensures.number ∙ owns.own small in
+    let first = c.first.result in
+    let up : first.number ≤ there.result.number = omega (arith, c.first.ensures.number, at, c.requires.own) in
+    let is = moved text first there.result (record {
+      some = omega (arith, c.first.ensures.number);
+      left = c.first.ensures.left ∙ rw c.first.ensures.number refl;
+    }) up (there.ensures.left ∙ rw there.ensures.number refl) in
+    let same : line.result.bytes.now ≡ line_at (own_line text number) text =
+    line.ensures.bytes ∙ ap first_line is.left ∙ ap (λ (n : ℕ). line_at n text) at in
+    let found = c.trouble_at_fault-trouble in
+    let own = c.own_trouble-trouble in
+    let meaning : c.meaning.result.now ≡ line_at number read = c.meaning.ensures ∙ c.cut.ensures.line.bytes ∙ ap first_line c.place_of.ensures.left in
+    let placed = c.place_of.ensures in
+    let kind = kind_found read fault c.place_of.result.0 (record { number = c.line_of-number.result; bytes = c.meaning.result; is_ended = c.cut.result.0.is_ended }) (kind_of_what found.result.what)
+    c.requires.there
+    (record { stands = placed.place; same = c.line_of-number.ensures; bytes = meaning; ended = c.cut.ensures.line.ended ∙ ap ended_in placed.left })
+    placed.label placed.other found.ensures.kind in
+    let tells = told_so text fault own.result.what line.result.number line.result.bytes.now (string_bytes c.new-told.result) (string_bytes c.tell.new.told) some same (own.ensures.kind ∙ kind)
+    (λ too. let long = found.ensures.long (own.ensures.long too) in
+    let over : 512 < length (line_at number (meant_of text)) = omega (arith, long, ap length (meaning ∙ ap (line_at number) c.requires.meant)) in
+    omega (arith, own_long text number some over, ap length same))
+    c.in_ok-tell.ensures.tells c.in_ok-tell.ensures.kind in
+    begins (told_kind text (fault_by (own_line text) fault)) line.result.number line.result.bytes.now (string_bytes c.new-told.result) (string_bytes c.tell.new.told)
+    (string_bytes c.tell_behind.new.told) c.new-told.ensures.bytes tells c.in_ok-tell_behind.ensures.grows

@@ -1,12 +1,14 @@
 use Rattle.std.proofs.Common.{◌∙◌, arith, refl, string_bytes}
-use Rattle.tx_check.proofs.LeftOut.{told_after, IsQuietAt}
+use Rattle.tx_check.proofs.LeftOut.{told_after}
 use Rattle.tx_check.proofs.OwnLines.{goes_on, is_quiet, is_told}
 use Rattle.tx_check.proofs.Standing.{wrong_line}
+use Rattle.tx_check.proofs.ToldFirst.{grows_by, grows_none}
+use Rattle.tx_check.specs.Behind.{IsQuietAt}
 use Rattle.tx_plain.specs.MeantLines.{left_of}
 use Rattle.tx_check.proofs.checks.tell_line.Goals as goal
 
-pub returns-in_default : goal.returns-in_default
-returns-in_default c =
+pub returns-in_default-clause-goes : goal.returns-in_default-clause-goes
+returns-in_default-clause-goes c =
     let meant = c.args.meant.now.text in
     let place = c.args.place.now in
     let at = c.args.line in
@@ -18,12 +20,12 @@ returns-in_default c =
     is_quiet place.part meant at.number c.args.number c.args.own (string_bytes c.args.told.now)
     (λ passed wrong. told_after place.part passed (left_of meant) place at refl c.requires.place c.requires.line quiet wrong)
 
-pub returns-then-number-own : goal.returns-then-number-own
-returns-then-number-own c =
+pub returns-then-number-own-clause-goes : goal.returns-then-number-own-clause-goes
+returns-then-number-own-clause-goes c =
     is_told c.args.place.now.part c.args.meant.now.text c.args.line.number c.args.number c.args.own (string_bytes c.args.told.now) (omega (arith, c.if-number-own.true))
 
-pub returns : goal.returns
-returns c =
+pub returns-clause-goes : goal.returns-clause-goes
+returns-clause-goes c =
     let meant = c.args.meant.now.text in
     let place = c.args.place.now in
     let at = c.args.line in
@@ -35,3 +37,14 @@ returns c =
     let new = string_bytes c.tell.new.told in
     goes_on place.part meant at.number c.args.number c.args.own next.result line.result.number line.result.bytes.now old new (omega (arith, later, next.ensures.number))
     (next.ensures.left ∙ rw next.ensures.number refl) line.ensures.number line.ensures.bytes next.ensures.number wrong c.in_ok-tell.ensures.tells
+
+pub returns-in_default-clause-grows : goal.returns-in_default-clause-grows
+returns-in_default-clause-grows c = grows_none (string_bytes c.args.told.now)
+
+pub returns-then-number-own-clause-grows : goal.returns-then-number-own-clause-grows
+returns-then-number-own-clause-grows c = grows_none (string_bytes c.args.told.now)
+
+pub returns-clause-grows : goal.returns-clause-grows
+returns-clause-grows c =
+    let line = c.line-own_line.result in
+    grows_by line.number line.bytes.now (string_bytes c.args.told.now) (string_bytes c.tell.new.told) c.in_ok-tell.ensures.tells

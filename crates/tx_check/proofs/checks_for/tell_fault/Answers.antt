@@ -1,12 +1,13 @@
-use Rattle.std.proofs.Common.{◌∙◌, List, ℕ, ap, arith, string_bytes, subst}
+use Rattle.std.proofs.Common.{◌∙◌, IfSome, List, Option, ℕ, ap, arith, string_bytes, subst}
 use Rattle.tx_check.proofs.Numbered.{some_line}
 use Rattle.tx_check.proofs.OwnLines.{fault_told, own_some, told_fewer}
 use Rattle.tx_check.proofs.ToldFor.{not_there, wrong_there}
-use Rattle.tx_check.specs.Behind.{IsWrongBehind}
 use Rattle.tx_check.specs.Kinds.{kind_of}
 use Rattle.tx_check.specs.Readers.{IsWrongFor}
 use Rattle.tx_check.specs.Reads.{line_of, Finds}
+use Rattle.tx_check.specs.Wrong.{IsFaultIn, IsWrongBehind}
 use Rattle.tx_check.specs.declared.kinds.Kind.{Kind}
+use Rattle.tx_lines.specs.declared.faults.Fault.{Fault}
 use Rattle.tx_plain.specs.Meant.{meant_of, own_line}
 use Rattle.tx_plain.specs.MeantLines.{left_of}
 use Rattle.tx_check.proofs.checks_for.tell_fault.Goals as goal
@@ -29,12 +30,12 @@ returns-in-Some c =
     let other = c.in-Some.other in
     let read = left_of c.of-meant.result.text in
     let some = some_line kind meant c.args.fault c.requires.fault in
-    let of_kind = subst (λ (k : Kind). Finds k read c.first_fault.result) c.kind_of-own.ensures c.first_fault.ensures in
+    let of_kind = subst (λ (k : Kind). Finds k read c.first_fault.result) c.kind_of-own.ensures c.first_fault.ensures.finds in
     let found = subst (λ (bytes : List ℕ). Finds (kind_of bytes) bytes c.first_fault.result) (ap left_of c.of-meant.ensures.text ∙ c.of.ensures.left) of_kind in
     let at = subst (Finds (kind_of meant) meant) c.in-Some.ensures.same.0 found in
     let own = own_line text (line_of other) in
     let less = wrong_there kind meant other at in
-    let told = told_fewer string_bytes c.tell_from.result (IsWrongBehind other meant) (IsWrongFor kind meant) text own less c.tell_from.ensures in
+    let told = told_fewer string_bytes c.tell_from.result (IsWrongBehind other meant) (IsWrongFor kind meant) text own less c.tell_from.ensures.tells in
     fault_told string_bytes c.tell_from.result (IsWrongFor kind meant) kind text c.args.fault own c.requires.fault some (ap (own_line text) c.in-Some.ensures.same.1) told
 
 pub returns-in-None : goal.returns-in-None
@@ -44,8 +45,12 @@ returns-in-None c =
     let kind = c.args.kind in
     let read = left_of c.of-meant.result.text in
     let some = some_line kind meant c.args.fault c.requires.fault in
-    let of_kind = subst (λ (k : Kind). Finds k read c.first_fault.result) c.kind_of-own.ensures c.first_fault.ensures in
+    let of_kind = subst (λ (k : Kind). Finds k read c.first_fault.result) c.kind_of-own.ensures c.first_fault.ensures.finds in
     let found = subst (λ (bytes : List ℕ). Finds (kind_of bytes) bytes c.first_fault.result) (ap left_of c.of-meant.ensures.text ∙ c.of.ensures.left) of_kind in
     let less = not_there kind meant c.first_fault.result c.args.fault found c.requires.fault c.in-None.ensures.another in
     let told = told_fewer string_bytes c.tell_alone.result (λ line. ⊥) (IsWrongFor kind meant) text c.args.number less c.tell_alone.ensures in
     fault_told string_bytes c.tell_alone.result (IsWrongFor kind meant) kind text c.args.fault c.args.number c.requires.fault some c.requires.number told
+
+pub tell_from-requires-clause-there : goal.tell_from-requires-clause-there
+tell_from-requires-clause-there c =
+    subst (λ (found : Option Fault). IfSome found (IsFaultIn (left_of c.of-meant.result.text))) c.in-Some.ensures.same.0 c.first_fault.ensures.there

@@ -2,7 +2,7 @@ use Rattle.std.proofs.Common.{◌+◌, ◌++◌, ◌∙◌, List, ℕ, ap, arith
 use Rattle.tx_check.proofs.Labelled.{counts}
 use Rattle.tx_check.proofs.Linked.{few_linked, linked_all, linked_fault, linked_first, linked_next, next_line, LinkedSoFar}
 use Rattle.tx_check.proofs.ShortLines.{short_line}
-use Rattle.tx_check.specs.Behind.{IsNamedNowhere}
+use Rattle.tx_check.specs.Wrong.{IsNamedNowhere}
 use Rattle.tx_plain.specs.MeantLines.{left_of}
 use Rattle.tx_check.proofs.faults.unlinked.Goals as goal
 
@@ -16,8 +16,8 @@ is_unlinked-requires-clause-short c =
     let next = next_line version (left_of c.args.rest) c.loop-line.number (left_of c.loop-line.left) so c.in-Some.ensures.some in
     omega (arith, ap length (c.meaning.ensures ∙ c.in-Some.ensures.line.bytes ∙ next.first), (short_line version next.one next.good).few)
 
-pub returns-then-is_unlinked : goal.returns-then-is_unlinked
-returns-then-is_unlinked c =
+pub returns-then-is_unlinked-clause-finds : goal.returns-then-is_unlinked-clause-finds
+returns-then-is_unlinked-clause-finds c =
     let version = c.args.header.version in
     let so = c.loop-line.invariant in
     let next = next_line version (left_of c.args.rest) c.loop-line.number (left_of c.loop-line.left) so c.in-Some.ensures.some in
@@ -39,6 +39,6 @@ loop-line-preserved c =
     subst (λ (left : List ℕ). LinkedSoFar version (left_of c.args.rest) (c.loop-line.number + 1) left) (sym c.in-Some.ensures.line.behind)
     (linked_next version (left_of c.args.text.now.text) (left_of c.args.rest) c.args.header c.loop-line.number (left_of c.loop-line.left) so next c.requires.header there)
 
-pub returns : goal.returns
-returns c =
+pub returns-clause-finds : goal.returns-clause-finds
+returns-clause-finds c =
     linked_all c.args.header.version (left_of c.args.rest) c.loop-line.number (left_of c.loop-line.left) c.in_default.ensures.none c.loop-line.invariant
