@@ -12,6 +12,7 @@ pub mod LabelsFound
 pub mod LeftOut
 pub mod LineParts
 pub mod Linked
+pub mod MeantLong
 pub mod NamedLabels
 pub mod NamedWords
 pub mod NearNames

@@ -105,7 +105,7 @@ numbered_low number None numbers after all k = omega (arith, all k)
 numbered_low number (Some line) numbers after all zero = omega arith
 numbered_low number (Some line) numbers after all (suc k) = omega (arith, all k)
 
-numbers_low : (stage : Stage) (number : ℕ) (lines : List (List ℕ)) (after : ℕ) → number + length lines ≤ after → (k : ℕ) → number ≤ slice_index_or (numbers_from stage number lines) k after
+pub numbers_low : (stage : Stage) (number : ℕ) (lines : List (List ℕ)) (after : ℕ) → number + length lines ≤ after → (k : ℕ) → number ≤ slice_index_or (numbers_from stage number lines) k after
 numbers_low stage number [] after few k = omega (arith, few)
 numbers_low stage number (line ∷ lines) after few k =
     numbered_low number (plain_line stage line) (numbers_from (stage_after stage (words_in line)) (number + 1) lines) after

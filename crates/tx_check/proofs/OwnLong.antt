@@ -34,15 +34,15 @@ long_line stage line is =
     long_by (nat_lt 512 (length line)) line (short_or line (plain_of_words stage (words_in line))) is (short_by line (plain_of_words stage (words_in line)))
 
 -- an own line has no byte more without a byte 13 at its end
-no_longer : (line : List ℕ) → length (without_return line) ≤ length line
+pub no_longer : (line : List ℕ) → length (without_return line) ≤ length line
 no_longer [] = omega arith
 no_longer (byte ∷ []) = elim (eqb_tells byte 13) [ inl h ↦ rw h.0 (omega arith) | inr h ↦ rw h.0 (omega arith) ]
 no_longer (byte ∷ next ∷ bytes) = let later = no_longer (next ∷ bytes) in omega (arith, later)
 
 -- the first own line of a text, and those behind it
-record IsFirstOwn (left line : List ℕ) (lines : List (List ℕ)) : Type 0 where
-  first : line ≡ without_return (first_line left)
-  others : own_lines (behind left) ≡ lines
+pub record IsFirstOwn (left line : List ℕ) (lines : List (List ℕ)) : Type 0 where
+  pub first : line ≡ without_return (first_line left)
+  pub others : own_lines (behind left) ≡ lines
 
 heads : {A : Type 0} (x y : A) (xs ys : List A) → x ∷ xs ≡ y ∷ ys → (x ≡ y) × (xs ≡ ys)
 heads x y xs ys e = (cc, cc)
@@ -55,9 +55,19 @@ first_by left (Some rest) line lines after some own =
     let both = heads (without_return (first_line left)) line (own_lines rest) lines (sym (own_split left (first_line left) rest refl (sym after)) ∙ own) in
     record { first = sym both.0; others = ap (λ (f : Option (List ℕ)). own_lines (behind_by f)) after ∙ both.1 }
 
-first_own : (left line : List ℕ) (lines : List (List ℕ)) → own_lines left ≡ line ∷ lines → IsFirstOwn left line lines
+pub first_own : (left line : List ℕ) (lines : List (List ℕ)) → own_lines left ≡ line ∷ lines → IsFirstOwn left line lines
 first_own [] line lines own = absurd (cc)
 first_own (byte ∷ bytes) line lines own = first_by (byte ∷ bytes) (after_line (byte ∷ bytes)) line lines refl (omega arith) own
+
+-- where no own line is left, nothing is
+no_own : (left : List ℕ) (found : Option (List ℕ)) → after_line left ≡ found → 0 < length left → own_lines left ≡ [] → ⊥
+no_own left None after some own =
+    omega (arith, ap length (sym (own_last left (first_line left) some refl (sym after)) ∙ own))
+no_own left (Some rest) after some own = omega (arith, ap length (sym (own_split left (first_line left) rest refl (sym after)) ∙ own))
+
+pub none_owned : (left : List ℕ) → own_lines left ≡ [] → left ≡ []
+none_owned [] own = refl
+none_owned (byte ∷ bytes) own = absurd (no_own (byte ∷ bytes) (after_line (byte ∷ bytes)) refl (omega arith) own)
 
 -- the own line of a long one, so many lines on
 record IsLongOwn (number : ℕ) (numbers : List ℕ) (k after : ℕ) (left : List ℕ) : Type 0 where
@@ -65,7 +75,7 @@ record IsLongOwn (number : ℕ) (numbers : List ℕ) (k after : ℕ) (left : Lis
   same : slice_index_or numbers k after ≡ number + on
   long : 512 < length (first_line (after_lines on left))
 
-none_on : (k : ℕ) → after_lines k [] ≡ []
+pub none_on : (k : ℕ) → after_lines k [] ≡ []
 none_on zero = refl
 none_on (suc k) = ap behind (none_on k)
 

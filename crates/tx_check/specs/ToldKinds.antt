@@ -1,7 +1,5 @@
 -- What is told of a line is of the kind of its fault, and what is told of a text begins with that.
-use Rattle.std.specs.Prelude.{◌≡◌, ℕ, List, ◌∷◌, ◌++◌, length, nat_lt, if◌then◌else◌}
-use Rattle.tx_check.specs.Numbered.{line_at}
-use Rattle.tx_check.specs.Reads.{line_of}
+use Rattle.std.specs.Prelude.{◌≡◌, ℕ, List, ◌∷◌, ◌++◌}
 use Rattle.tx_check.specs.Speaking.{FaultKind, IsOfKind, OfGrammar, OfLabel, OfLength}
 use Rattle.tx_check.specs.Told.{told_text, Tells, Told}
 use Rattle.tx_lines.specs.declared.faults.Fault.{Fault}
@@ -17,11 +15,6 @@ abbrev pub kind_of_fault : Fault → FaultKind
 kind_of_fault (TooLong line) = OfLength
 kind_of_fault (NoLabel line) = OfLabel
 kind_of_fault fault = OfGrammar
-
--- of what kind a text's fault is told: of its own, but of a line of more than 512 bytes by its length. With a byte 13 at its end a line may have one more
--- byte than the line that it means, and so be too long where that one is at fault otherwise
-abbrev pub told_kind : List ℕ → Fault → FaultKind
-told_kind text fault = if nat_lt 512 (length (line_at (line_of fault) text)) then OfLength else kind_of_fault fault
 
 -- what is told begins with a sentence of that kind
 pub record BeginsOfKind (kind : FaultKind) (told : List ℕ) : Type 0 where

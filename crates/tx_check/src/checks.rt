@@ -10,7 +10,7 @@ ghost use Rattle.tx_check.specs.Reads.{Finds, IsAtFault};
 ghost use Rattle.tx_check.specs.Stands.{StandsAt};
 ghost use Rattle.tx_check.specs.Speaking.{kind_of_what, IsKindAt};
 ghost use Rattle.tx_check.specs.Told.{IsColumn, IsMeantFault, IsToldOf, TellsFrom};
-ghost use Rattle.tx_check.specs.ToldKinds.{told_kind, BeginsOfKind, Grows};
+ghost use Rattle.tx_check.specs.ToldKinds.{kind_of_fault, BeginsOfKind, Grows};
 ghost use Rattle.tx_check.specs.Wrong.{IsFaultIn, IsWrongBehind};
 ghost use Rattle.tx_check.specs.declared.kinds.Kind.TheVariants as kinds;
 ghost use Rattle.tx_check.specs.declared.places.Part.TheVariants as parts;
@@ -41,10 +41,8 @@ use tx_plain::{MeantLines, Room};
 /// in its place, whatever stands before it. None of those is left out, up to the first line that is
 /// one too many; where all lines are right but for labels that are nowhere, none that names one.
 ///
-/// The first sentence is of the kind of the fault (`told_kind`): that a line is too long, or one too
-/// many; that there is no such label; or that it is none of the grammar's. A line of more than 512
-/// bytes is told as that whatever the fault is: its carriage return counts here, but not for what
-/// the line means.
+/// The first sentence is of the kind of the fault (`kind_of_fault`): that a line is too long, or one
+/// too many; that there is no such label; or that it is none of the grammar's.
 ///
 /// Lines count from 1 and columns in bytes from 1, both in the text as it is given; the column after
 /// a line's last byte stands for its end.
@@ -53,7 +51,7 @@ use tx_plain::{MeantLines, Room};
 pub fn check_text(alloc: Global, text: &[u8]) -> Result<String, NoMemory>
     ensures told { IfOk result (λ told. IsToldOf text.now (string_bytes told)) }
     ensures kind { IfOk result (λ told. (fault : Fault) → IsMeantFault text.now fault →
-        BeginsOfKind (told_kind text.now fault) (string_bytes told)) }
+        BeginsOfKind (kind_of_fault fault) (string_bytes told)) }
 {
     let meant = Labels::of(MeantLines::of(text));
     let kind = kind_of(meant.text);
@@ -82,7 +80,7 @@ pub fn tell_from(
     ensures tells { IfOk result (λ told. TellsFrom (IsWrongBehind fault (meant_of text.now)) text.now
         (own_line text.now (spec.line_of fault)) (string_bytes told)) }
     ensures kind { IfOk result (λ told. BeginsOfKind
-        (told_kind text.now (fault_by (own_line text.now) fault)) (string_bytes told)) }
+        (kind_of_fault (fault_by (own_line text.now) fault)) (string_bytes told)) }
 {
     let (place, lines) = place_of(kind, meant.text, fault);
     let (line, behind) = lines.cut();

@@ -6,7 +6,7 @@ use Rattle.tx_check.proofs.ToldOf.{are_one, told_right}
 use Rattle.tx_check.specs.Kinds.{kind_of}
 use Rattle.tx_check.specs.Reads.{line_of, IsAtFault, IsRead}
 use Rattle.tx_check.specs.Told.{IsMeantFault}
-use Rattle.tx_check.specs.ToldKinds.{told_kind, BeginsOfKind}
+use Rattle.tx_check.specs.ToldKinds.{kind_of_fault, BeginsOfKind}
 use Rattle.tx_check.specs.Wrong.{IsWrongBehind, IsWrongToo}
 use Rattle.tx_check.specs.declared.kinds.Kind.{Kind}
 use Rattle.tx_lines.specs.declared.faults.Fault.{Fault}
@@ -49,10 +49,10 @@ returns-in-Some-clause-kind c =
     let at_fault = subst (λ (meant : List ℕ). IsAtFault (kind_of meant) meant fault) (ap left_of c.of-meant.ensures.text ∙ c.of.ensures.left) of_kind in
     let own = fault_by (own_line text) fault in
     let is_own : IsMeantFault text own = record { meant = fault; is_fault = at_fault; own = refl } in
-    ok_map c.tell_from.result (λ told. BeginsOfKind (told_kind text own) (string_bytes told))
-    (λ told. (other : Fault) → IsMeantFault text other → BeginsOfKind (told_kind text other) (string_bytes told))
+    ok_map c.tell_from.result (λ told. BeginsOfKind (kind_of_fault own) (string_bytes told))
+    (λ told. (other : Fault) → IsMeantFault text other → BeginsOfKind (kind_of_fault other) (string_bytes told))
     (λ told begins other is.
-    subst (λ (f : Fault). BeginsOfKind (told_kind text f) (string_bytes told)) ((are_one (kind_of (meant_of text)) text).one own other is_own is) begins)
+    subst (λ (f : Fault). BeginsOfKind (kind_of_fault f) (string_bytes told)) ((are_one (kind_of (meant_of text)) text).one own other is_own is) begins)
     c.tell_from.ensures.kind
 
 pub returns-in-None-clause-kind : goal.returns-in-None-clause-kind

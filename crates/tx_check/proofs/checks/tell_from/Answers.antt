@@ -1,10 +1,11 @@
 use Rattle.std.proofs.Common.{◌≡◌, ◌+◌, ◌-◌, ◌<◌, ◌≤◌, ◌^◌, ◌∙◌, ℕ, List, ap, arith, length, refl, string_bytes, subst, sym}
 use Rattle.tx_check.proofs.KindsFound.{ended_in, kind_found}
+use Rattle.tx_check.proofs.MeantLong.{meant_long}
 use Rattle.tx_check.proofs.OwnLong.{own_long}
-use Rattle.tx_check.proofs.ToldFirst.{begins, told_so}
+use Rattle.tx_check.proofs.ToldFirst.{begins, long_kind, told_so}
 use Rattle.tx_check.specs.Numbered.{after_lines, behind, line_at}
 use Rattle.tx_check.specs.Speaking.{kind_of_what}
-use Rattle.tx_check.specs.ToldKinds.{told_kind}
+use Rattle.tx_check.specs.ToldKinds.{kind_of_fault}
 use Rattle.tx_check.specs.OwnLines.{IsWrongAfter, TellsBehind}
 use Rattle.tx_check.specs.Reads.{line_of, IsAtFault}
 use Rattle.tx_check.specs.Told.{TellsFrom}
@@ -17,6 +18,7 @@ use Rattle.tx_check.proofs.Standing.{stands_later}
 use Rattle.tx_lines.specs.Schedule.{first_line}
 use Rattle.tx_plain.specs.Meant.{fault_by, meant_of, own_line}
 use Rattle.tx_plain.specs.MeantLines.{left_of, OwnsFrom}
+use Rattle.tx_plain.specs.OwnLines.{without_return}
 use Rattle.tx_check.proofs.checks.tell_from.Goals as goal
 
 pub moved_to-own-requires : goal.moved_to-own-requires
@@ -110,10 +112,13 @@ returns-clause-kind c =
     c.requires.there
     (record { stands = placed.place; same = c.line_of-number.ensures; bytes = meaning; ended = c.cut.ensures.line.ended ∙ ap ended_in placed.left })
     placed.label placed.other found.ensures.kind in
-    let tells = told_so text fault own.result.what line.result.number line.result.bytes.now (string_bytes c.new-told.result) (string_bytes c.tell.new.told) some same (own.ensures.kind ∙ kind)
+    let there_meant = ap (line_at number) c.requires.meant in
+    let tells = told_so (own_line text) fault own.result.what line.result.number line.result.bytes.now (string_bytes c.new-told.result) (string_bytes c.tell.new.told) (own.ensures.kind ∙ kind)
     (λ too. let long = found.ensures.long (own.ensures.long too) in
-    let over : 512 < length (line_at number (meant_of text)) = omega (arith, long, ap length (meaning ∙ ap (line_at number) c.requires.meant)) in
+    let over : 512 < length (line_at number (meant_of text)) = omega (arith, long, ap length (meaning ∙ there_meant)) in
     omega (arith, own_long text number some over, ap length same))
-    c.in_ok-tell.ensures.tells c.in_ok-tell.ensures.kind in
-    begins (told_kind text (fault_by (own_line text) fault)) line.result.number line.result.bytes.now (string_bytes c.new-told.result) (string_bytes c.tell.new.told)
+    (λ long. long_kind read fault c.requires.there
+    (omega (arith, meant_long text number some (subst (λ (b : List ℕ). 512 < length (without_return b)) same long), ap length there_meant)))
+    c.in_ok-tell.ensures.kind in
+    begins (kind_of_fault (fault_by (own_line text) fault)) line.result.number line.result.bytes.now (string_bytes c.new-told.result) (string_bytes c.tell.new.told)
     (string_bytes c.tell_behind.new.told) c.new-told.ensures.bytes tells c.in_ok-tell_behind.ensures.grows
