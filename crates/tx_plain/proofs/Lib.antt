@@ -5,6 +5,7 @@ pub mod SetParts
 pub mod StringParts
 pub mod Bytes
 pub mod MeantSteps
+pub mod MeantCommands
 pub mod NextMeant
 pub mod NoEnds
 pub mod Rooms

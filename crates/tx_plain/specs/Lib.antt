@@ -12,6 +12,7 @@ pub mod MeantFacts
 pub mod MeantLines
 pub mod MeantPrograms
 pub mod MeantSchedules
+pub mod MeantWalks
 pub mod Plain
 pub mod Laws
 pub mod Command

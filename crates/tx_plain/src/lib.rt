@@ -8,8 +8,8 @@
 //! or as it is. What is wrong stays as it is, so that the reader refuses it in its line; of each
 //! line of the plain text it is known which line of the person's it comes from. A text of version 2
 //! means itself, but for its header (`laws.rt`). A line that comes alone means what it means behind
-//! the header of a schedule (`single.rt`). A schedule is read line by line (`meant_lines.rt`,
-//! `schedules.rt`).
+//! the header of a schedule (`single.rt`). A schedule, and one with commands, is read line by line
+//! (`meant_lines.rt`, `third.rt`, `schedules.rt`, `walks.rt`).
 
 mod arguments;
 mod byte_words;
@@ -31,6 +31,8 @@ mod single;
 mod spellings;
 mod stage;
 mod strings;
+mod third;
+mod walks;
 mod words;
 
 pub use command::write_plain;
@@ -45,4 +47,5 @@ pub use room::Room;
 pub use schedules::read_schedule;
 pub use signals::signal;
 pub use single::plain_line;
+pub use walks::read_walk;
 pub use words::{Word, split_word, words_in};

@@ -6,8 +6,8 @@ ghost use Rattle.tx_script.specs.Grammars.{walks, AnswersText};
 
 use crate::walks::answer_walk;
 use std::alloc::Global;
-use tx_lines::{Fault, Sink, Source, read_walk, read_whole, write_whole};
-use tx_plain::Meant;
+use tx_lines::{Fault, Sink, Source, read_whole, write_whole};
+use tx_plain::read_walk;
 
 /// Reads the text of a schedule, the line `debug` and commands to its end, makes the steps, and
 /// writes what the commands answer: each is about the history of the schedule and the position
@@ -29,9 +29,6 @@ pub fn debug<S: Source, W: Sink>(alloc: Global, source: &mut S, sink: &mut W) ->
 pub fn debug_text(alloc: Global, text: &[u8]) -> Result<String, Fault>
     ensures { AnswersText walks text.now result }
 {
-    let meant = Meant::by(alloc, text)?;
-    match read_walk(alloc, meant.as_bytes()) {
-        Ok(walk) => answer_walk(alloc, &walk),
-        Err(fault) => Err(meant.own_fault(fault)),
-    }
+    let walk = read_walk(alloc, text)?;
+    answer_walk(alloc, &walk)
 }

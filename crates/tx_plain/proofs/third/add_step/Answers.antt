@@ -2,10 +2,10 @@ use Rattle.std.proofs.Common.{rules, true, ◌≡◌, ◌<◌, ◌++◌, ◌∷�
 use Rattle.std.proofs.Math.Seq.{set-append_seam}
 use Rattle.tx_base.specs.declared.steps.Call.TheVariants.{Getpid}
 use Rattle.tx_base.specs.declared.steps.Step.TheVariants.{Call}
-use Rattle.tx_plain.proofs.schedules.add_step.Goals as goal
+use Rattle.tx_plain.proofs.third.add_step.Goals as goal
 
-pub returns-clause-added : goal.returns-clause-added
-returns-clause-added c = λ is.
+pub returns-then-read_step_into-clause-added : goal.returns-then-read_step_into-clause-added
+returns-then-read_step_into-clause-added c = λ is.
     let steps = c.args.schedule.now.steps.items in
     let step = c.read_step_into.new.step in
     let read : c.read_step_into.result ≡ true = search rules in

@@ -1,0 +1,10 @@
+use Rattle.std.proofs.Common.{length}
+use Rattle.tx_plain.proofs.MeantCommands.{LeadTo}
+use Rattle.tx_plain.specs.MeantLines.{left_of}
+use Rattle.tx_plain.proofs.walks.commands_in.Given as goal
+
+abbrev pub invariant-loop-line : goal.invariant-loop-line
+invariant-loop-line l = LeadTo l.version l.commands.items (left_of l.left) (left_of l.initial.lines)
+
+abbrev pub decreases-loop-line : goal.decreases-loop-line
+decreases-loop-line l = length l.left.left.now
