@@ -2,9 +2,10 @@
 use Rattle.std.proofs.Common.{◌≡◌, ℕ, List, Result, Ok, Err, IfOk, IfErr, String, string_bytes, inl, sym, subst}
 use Rattle.tx_lines.specs.Schedule.{FaultsBy, IsFaultOf}
 use Rattle.tx_lines.specs.declared.faults.Fault.{Fault}
-use Rattle.tx_lines.specs.declared.faults.Fault.TheVariants.{NotALine, NoLabel, TooLong, Reader, Writer, NoMemory}
+use Rattle.tx_lines.specs.declared.faults.Fault.TheVariants.{NoMemory}
 use Rattle.tx_picture.specs.Grammars.{IsPictureFault}
 use Rattle.tx_plain.specs.Meant.{meant_of, IsOwnFault}
+use Rattle.tx_plain.specs.MeantFacts.{own_as}
 use Rattle.tx_script.specs.Grammars.{Grammar, AnswersText}
 
 -- where the only fault is want of memory
@@ -14,10 +15,5 @@ answered G text spelled (Ok answer) good same answers none = (spelled, good, sam
 answered G text spelled (Err fault) good same answers none = subst (FaultsBy (IsOwnFault G.IsFault text)) (sym none) tt
 
 -- a fault of a schedule is one here
-pub also_here : (text : List ℕ) (fault : Fault) → FaultsBy (IsFaultOf text) fault → FaultsBy (IsPictureFault text) fault
-also_here text (NotALine line) is = inl is
-also_here text (NoLabel line) is = inl is
-also_here text (TooLong line) is = inl is
-also_here text Reader is = is
-also_here text Writer is = is
-also_here text NoMemory is = is
+pub also_here : (text : List ℕ) (fault : Fault) → FaultsBy (IsOwnFault IsFaultOf text) fault → FaultsBy (IsOwnFault IsPictureFault text) fault
+also_here text fault = own_as IsFaultOf IsPictureFault text fault (λ meant is. inl is)

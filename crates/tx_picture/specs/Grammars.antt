@@ -8,6 +8,7 @@ use Rattle.tx_lines.specs.declared.read.header.Header.{Header}
 use Rattle.tx_lines.specs.declared.read.schedule.Schedule.{Schedule}
 use Rattle.tx_picture.specs.Drawings.{drawing_of}
 use Rattle.tx_picture.specs.Pictures.{picture_of}
+use Rattle.tx_plain.specs.Meant.{meant_of, IsOwnFault}
 use Rattle.tx_script.specs.Grammars.{Grammar}
 
 -- the text of a schedule of few steps
@@ -27,10 +28,10 @@ pub record HasTooMany (text : List ℕ) (fault : Fault) : Type 0 where
 abbrev pub IsPictureFault : List ℕ → Fault → Type 0
 IsPictureFault text fault = IsFaultOf text fault ⊎ HasTooMany text fault
 
--- the schedule whose text it is, or the text's fault
-abbrev pub ReadsShort : List ℕ → Result Schedule Fault → Type 0
-ReadsShort text (Ok schedule) = (text ≡ schedule_text schedule.header schedule.steps.items) × IsShort schedule.header schedule.steps.items
-ReadsShort text (Err fault) = FaultsBy (IsPictureFault text) fault
+-- the schedule of few steps that a text means, or the text's fault
+abbrev pub MeansShort : List ℕ → Result Schedule Fault → Type 0
+MeansShort text (Ok schedule) = IsShort schedule.header schedule.steps.items × (meant_of text ≡ schedule_text schedule.header schedule.steps.items)
+MeansShort text (Err fault) = FaultsBy (IsOwnFault IsPictureFault text) fault
 
 -- a header and at most 200 steps, answered by their picture
 abbrev pub pictures : Grammar (Header × List Step)

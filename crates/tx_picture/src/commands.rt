@@ -6,15 +6,15 @@ ghost use Rattle.tx_picture.specs.Drawings.{drawing_of};
 ghost use Rattle.tx_picture.specs.Pictures.{picture_of};
 ghost use Rattle.tx_picture.specs.WellFormed.{IsWellFormed};
 ghost use Rattle.tx_lines.specs.Ends.{IsFresh};
-ghost use Rattle.tx_picture.specs.Grammars.{pictures, ReadsShort};
+ghost use Rattle.tx_picture.specs.Grammars.{pictures, MeansShort};
 ghost use Rattle.tx_script.specs.Answered.{Answers};
 ghost use Rattle.tx_script.specs.Grammars.{AnswersText};
 
 use crate::walk::draw;
 use crate::whole::picture_of;
 use std::alloc::Global;
-use tx_lines::{Fault, Schedule, Sink, Source, read_schedule, read_whole, write_whole};
-use tx_plain::Meant;
+use tx_lines::{Fault, Schedule, Sink, Source, read_whole, write_whole};
+use tx_plain::{Meant, read_schedule};
 
 /// Reads the text of a schedule to its end, makes its steps, and writes its picture in SVG. Nothing is
 /// written where the fault is another one than `Writer`.
@@ -41,20 +41,21 @@ pub fn picture_text(alloc: Global, text: &[u8]) -> Result<String, Fault>
     ensures answers { AnswersText pictures text.now result }
     ensures formed { IfOk result (λ picture. IsWellFormed (string_bytes picture)) }
 {
-    let meant = Meant::by(alloc, text)?;
-    match read_short(alloc, meant.as_bytes()) {
-        Ok(schedule) => print_picture(alloc, &schedule),
-        Err(fault) => Err(meant.own_fault(fault)),
-    }
+    let schedule = read_short(alloc, text)?;
+    print_picture(alloc, &schedule)
 }
 
-/// Reads a schedule of at most 200 steps. One of more is too long at the first line that is too many.
+/// The schedule of at most 200 steps that a text means. One of more is too long at the first line that
+/// is too many.
 fn read_short(alloc: Global, text: &[u8]) -> Result<Schedule, Fault>
-    ensures { ReadsShort text.now result }
+    ensures { MeansShort text.now result }
 {
     let schedule = read_schedule(alloc, text)?;
     if schedule.steps.len() > 200 {
-        return Err(Fault::TooLong { line: 202 });
+        let meant = Meant::by(alloc, text)?;
+        return Err(Fault::TooLong {
+            line: meant.own_line(202),
+        });
     }
     Ok(schedule)
 }

@@ -2,7 +2,7 @@
 ghost use Rattle.std.specs.Prelude.{◌≡◌, ◌≢◌};
 ghost use Rattle.tx_check.specs.Kinds.{kind_of};
 ghost use Rattle.tx_check.specs.declared.kinds.Kind.TheVariants as kinds;
-ghost use Rattle.tx_plain.specs.Meant.{meant_of, IsMeantBy};
+ghost use Rattle.tx_plain.specs.Meant.{meant_of};
 ghost use Rattle.tx_report_json.specs.Texts.{texts};
 ghost use Rattle.tx_script.specs.Grammars.{AnswersText};
 
@@ -10,8 +10,8 @@ use crate::commands::walk_lines;
 use crate::steps::schedule_lines;
 use std::alloc::Global;
 use tx_check::{Kind, kind_of};
-use tx_lines::{Fault, read_schedule, read_walk};
-use tx_plain::{Meant, MeantLines};
+use tx_lines::Fault;
+use tx_plain::{MeantLines, read_schedule, read_walk};
 
 /// What a text of any version is answered, a line of JSON each: of a schedule the reply to each step, and
 /// then the state; of a schedule with commands what each command answers.
@@ -21,33 +21,26 @@ use tx_plain::{Meant, MeantLines};
 pub fn json_text(alloc: Global, text: &[u8]) -> Result<String, Fault>
     ensures { AnswersText texts text.now result }
 {
-    let meant = Meant::by(alloc, text)?;
     match kind_of(MeantLines::of(text)) {
-        Kind::Walk => walk_text(alloc, text, &meant),
-        Kind::Schedule | Kind::Program => schedule_text(alloc, text, &meant),
+        Kind::Walk => walk_text(alloc, text),
+        Kind::Schedule | Kind::Program => schedule_text(alloc, text),
     }
 }
 
 /// What the commands of a text answer. Such a text has the line before commands.
-fn walk_text(alloc: Global, text: &[u8], meant: &Meant<'_>) -> Result<String, Fault>
-    requires meant { IsMeantBy text.now meant.now }
-    requires kind { kind_of (meant_of text.now) ≡ kinds.Walk }
+fn walk_text(alloc: Global, text: &[u8]) -> Result<String, Fault>
+    requires { kind_of (meant_of text.now) ≡ kinds.Walk }
     ensures { AnswersText texts text.now result }
 {
-    match read_walk(alloc, meant.as_bytes()) {
-        Ok(walk) => walk_lines(alloc, &walk),
-        Err(fault) => Err(meant.own_fault(fault)),
-    }
+    let walk = read_walk(alloc, text)?;
+    walk_lines(alloc, &walk)
 }
 
 /// What the steps of a text are answered, and the state that they leave.
-fn schedule_text(alloc: Global, text: &[u8], meant: &Meant<'_>) -> Result<String, Fault>
-    requires meant { IsMeantBy text.now meant.now }
-    requires kind { kind_of (meant_of text.now) ≢ kinds.Walk }
+fn schedule_text(alloc: Global, text: &[u8]) -> Result<String, Fault>
+    requires { kind_of (meant_of text.now) ≢ kinds.Walk }
     ensures { AnswersText texts text.now result }
 {
-    match read_schedule(alloc, meant.as_bytes()) {
-        Ok(schedule) => schedule_lines(alloc, &schedule),
-        Err(fault) => Err(meant.own_fault(fault)),
-    }
+    let schedule = read_schedule(alloc, text)?;
+    schedule_lines(alloc, &schedule)
 }
