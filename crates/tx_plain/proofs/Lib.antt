@@ -4,8 +4,7 @@ pub mod WordParts
 pub mod SetParts
 pub mod StringParts
 pub mod Bytes
-pub mod MeantSteps
-pub mod MeantCommands
+pub mod FirstLines
 pub mod NextMeant
 pub mod NoEnds
 pub mod Rooms

@@ -9,6 +9,7 @@ pub mod Rooms
 pub mod Lines
 pub mod Meant
 pub mod MeantFacts
+pub mod FirstLines
 pub mod MeantLines
 pub mod MeantPrograms
 pub mod MeantSchedules

@@ -10,9 +10,13 @@ use Rattle.tx_lines.specs.declared.instructions.Line.{Line}
 use Rattle.tx_lines.specs.declared.programs.Program.{Program}
 use Rattle.tx_plain.specs.Meant.{meant_of, IsOwnFault}
 
+-- the text means that program
+abbrev pub IsMeantProgram : List ℕ → Program → Type 0
+IsMeantProgram text program = (lines : List Line) × IsProgramOf lines program × (meant_of text ≡ program_text program.header lines)
+
 -- the program that a text means, or the text's fault
 abbrev pub MeansProgramOf : List ℕ → Result Program Fault → Type 0
-MeansProgramOf text (Ok program) = (lines : List Line) × IsProgramOf lines program × (meant_of text ≡ program_text program.header lines)
+MeansProgramOf text (Ok program) = IsMeantProgram text program
 MeansProgramOf text (Err fault) = FaultsBy (IsOwnFault IsProgramFault text) fault
 
 -- what was left to read means that program, and is no longer than a text may be

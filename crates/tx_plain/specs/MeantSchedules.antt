@@ -1,15 +1,9 @@
 -- How a schedule is read from a text of any version.
-use Rattle.std.specs.Prelude.{◌≡◌, ℕ, List, ◌++◌, Result, Ok, Err}
-use Rattle.tx_base.specs.declared.steps.Step.{Step}
+use Rattle.std.specs.Prelude.{◌≡◌, ℕ, List, Result, Ok, Err}
 use Rattle.tx_lines.specs.Schedule.{schedule_text, FaultsBy, IsFaultOf, IsSchedule}
 use Rattle.tx_lines.specs.declared.faults.Fault.{Fault}
-use Rattle.tx_lines.specs.declared.read.header.Header.{Header}
 use Rattle.tx_lines.specs.declared.read.schedule.Schedule.{Schedule}
 use Rattle.tx_plain.specs.Meant.{meant_of, IsOwnFault}
-
--- the text is that of a schedule, and what is left behind it
-abbrev pub BeginsWith : Header → List Step → List ℕ → List ℕ → Type 0
-BeginsWith header steps left text = IsSchedule header steps × (schedule_text header steps ++ left ≡ text)
 
 -- the text means that schedule
 abbrev pub MeansSchedule : List ℕ → Schedule → Type 0

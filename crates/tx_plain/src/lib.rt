@@ -8,8 +8,8 @@
 //! or as it is. What is wrong stays as it is, so that the reader refuses it in its line; of each
 //! line of the plain text it is known which line of the person's it comes from. A text of version 2
 //! means itself, but for its header (`laws.rt`). A line that comes alone means what it means behind
-//! the header of a schedule (`single.rt`). A schedule, and one with commands, is read line by line
-//! (`meant_lines.rt`, `third.rt`, `schedules.rt`, `walks.rt`).
+//! the header of a schedule (`single.rt`). Schedules, with commands or without, and programs are read
+//! line by line (`meant_lines.rt`, `third.rt`, `schedules.rt`, `walks.rt`, `programs.rt`).
 
 mod arguments;
 mod byte_words;

@@ -83,7 +83,7 @@ fn is_past(instructions: usize, labels: usize, text: &[u8]) -> bool
 ///
 /// `NotALine` where it is none of a program's, or a label of a name that was met before; and
 /// `NoMemory` where a growth is refused.
-fn push_line(
+pub fn push_line(
     version: Version,
     line: &[u8],
     lines: &mut Vec<Line>,

@@ -32,7 +32,10 @@ pub fn read_program_text(alloc: Global, text: &[u8]) -> Result<Program, Fault>
 }
 
 /// The instructions among some lines, each with the number that its label stands for.
-fn link(
+///
+/// `NoLabel` at the first line whose instruction uses a label that is nowhere, and `NoMemory` where a
+/// growth is refused.
+pub fn link(
     alloc: Global,
     lines: &[Line],
     labels: &IndexMap<Name, u32>,

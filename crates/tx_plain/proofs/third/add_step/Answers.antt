@@ -6,7 +6,7 @@ use Rattle.tx_plain.proofs.third.add_step.Goals as goal
 
 pub returns-then-read_step_into-clause-added : goal.returns-then-read_step_into-clause-added
 returns-then-read_step_into-clause-added c = λ is.
-    let steps = c.args.schedule.now.steps.items in
+    let steps = c.args.steps.now.items in
     let step = c.read_step_into.new.step in
     let read : c.read_step_into.result ≡ true = search rules in
     let grown : c.push.new.self.items ≡ steps ++ Call (record { 0 = 0 }) Getpid ∷ [] = search rules in

@@ -1,7 +1,7 @@
 use Rattle.std.proofs.Common.{◌≡◌, ◌∙◌, ◌∷◌, ◌++◌, List, ℕ, ap, sym}
 use Rattle.std.proofs.lemmas.Slice.Eq.{bytes_eq-Decides}
 use Rattle.tx_lines.specs.Walks.{debug_line}
-use Rattle.tx_plain.proofs.MeantSteps.{next_left}
+use Rattle.tx_plain.proofs.FirstLines.{next_left}
 use Rattle.tx_plain.specs.MeantLines.{left_of, line_of}
 use Rattle.tx_plain.proofs.walks.behind_debug.Goals as goal
 
