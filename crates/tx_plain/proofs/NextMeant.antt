@@ -46,6 +46,17 @@ ended_then (Some line) rest some none = record {
   after = ap after_line (end_then line rest) ∙ after_ended line rest none;
 }
 
+-- a line with a word means one
+either_some : (over : Bool) (line : List ℕ) (plain : Option (List ℕ)) → is_some plain ≡ true → is_some (if over then Some line else plain) ≡ true
+either_some true line plain some = refl
+either_some false line plain some = some
+
+pub means_some : (stage : Stage) (line word : List ℕ) (words : List (List ℕ)) → words_in line ≡ word ∷ words → is_some (plain_line stage line) ≡ true
+means_some stage line word words are =
+    let plain = word ++ spaced (plain_others stage word words) in
+    either_some (nat_lt 512 (length line)) line (short_or line (plain_of_words stage (words_in line)))
+    (ap (λ (ws : List (List ℕ)). is_some (short_or line (plain_of_words stage ws))) are ∙ either_some (nat_lt 512 (length plain)) line (Some plain) refl)
+
 -- the next line that a person wrote means one
 pub third_next : (stage : Stage) (left line : List ℕ) (lines : List (List ℕ)) → own_lines left ≡ line ∷ lines → is_some (plain_line stage line) ≡ true →
     IsThen (plain_from stage (own_lines left)) (bare (plain_line stage line)) (plain_from (stage_after stage (words_in line)) lines)

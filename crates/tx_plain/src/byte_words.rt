@@ -5,7 +5,7 @@ ghost use Rattle.hex.specs.Hex.{encode_lower, lower_digits};
 ghost use Rattle.tx_plain.specs.ByteWords.{digits_of, is_hex, is_hex_digit, lower_digit, lower_or, plain_bytes};
 ghost use Rattle.tx_plain.specs.Rooms.{IsOver};
 
-use crate::room::{Full, Room, put};
+use crate::room::{Full, Room, put, put_byte};
 use crate::spellings::is;
 use crate::strings::meant;
 
@@ -32,7 +32,8 @@ fn put_hex(room: &mut Room, bytes: &[u8]) -> Result<(), Full>
 {
     let mut left = bytes;
     while let Some((byte, rest)) = left.split_first() {
-        put(room, &[hex_digit(*byte / 16), hex_digit(*byte % 16)])?;
+        put_byte(room, hex_digit(*byte / 16))?;
+        put_byte(room, hex_digit(*byte % 16))?;
         left = rest;
     }
     Ok(())
@@ -124,7 +125,7 @@ fn put_lower(room: &mut Room, digits: &[u8]) -> Result<(), Full>
 {
     let mut left = digits;
     while let Some((digit, rest)) = left.split_first() {
-        put(room, &[lower_digit(*digit)])?;
+        put_byte(room, lower_digit(*digit))?;
         left = rest;
     }
     Ok(())

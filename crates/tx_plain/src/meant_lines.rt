@@ -17,7 +17,7 @@ use crate::plain::is_third;
 use crate::plain_lines::{line_meaning, stage_after};
 use crate::room::Room;
 use crate::stage::Stage;
-use crate::words::{from_word, split_word};
+use crate::words::{from_word, has_word};
 use tx_base::Step;
 use tx_lines::{LINE_BYTES, TextKind, Version, read_step_into, take_line};
 
@@ -180,7 +180,7 @@ fn means_one(line: &[u8]) -> bool
     ensures short { IsFalse result → length line.now ≤ 512 }
     ensures none { IsFalse result → words_in line.now ≡ [] }
 {
-    line.len() > LINE_BYTES || split_word(line).is_some()
+    line.len() > LINE_BYTES || has_word(line)
 }
 
 impl<'a> OwnLine<'a> {
@@ -201,7 +201,10 @@ impl<'a> OwnLine<'a> {
         ensures found { IfSome (then_some result step.new) (λ s. line_of self.entry ≡ step_text s) }
         ensures fits { IfSome (then_some result step.new) (FitsStepOf version) }
     {
-        if self.may_be_step() && read_step_into(version, self.bytes, step) {
+        if self.may_be_step()
+            && !is_told_otherwise(self.bytes)
+            && read_step_into(version, self.bytes, step)
+        {
             return true;
         }
         read_step_into(version, self.meaning(room), step)
@@ -244,6 +247,16 @@ impl<'a> OwnLine<'a> {
             Some(_stage) => begins_so(b"label", from_word(self.bytes)),
             None => begins_so(b"label", self.bytes),
         }
+    }
+}
+
+/// Whether a line is seen to be none of version 2: it has two spaces behind its first word, or ends with
+/// a string or the name of a signal.
+fn is_told_otherwise(line: &[u8]) -> bool {
+    match line {
+        [_, b' ', b' ', ..] => true,
+        [.., before, last] => *last == b'"' || before.is_ascii_uppercase(),
+        _ => false,
     }
 }
 

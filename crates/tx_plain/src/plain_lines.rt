@@ -7,7 +7,7 @@ ghost use Rattle.tx_plain.specs.Words.{words_in};
 
 use crate::arguments::put_argument;
 use crate::roles::{Role, role_of};
-use crate::room::{Full, Room, put};
+use crate::room::{Full, Room, put, put_byte};
 use crate::spellings::is;
 use crate::stage::Stage;
 use crate::words::split_word;
@@ -117,7 +117,7 @@ fn put_word(room: &mut Room, word: &[u8]) -> Result<(), Full>
     ensures put { OnOk result (room.new.items ≡ room.old.items ++ 32 ∷ word.now) }
     ensures full { OnErr result (IsOver (room.old.items ++ 32 ∷ word.now)) }
 {
-    put(room, b" ")?;
+    put_byte(room, b' ')?;
     put(room, word)
 }
 
@@ -136,6 +136,7 @@ fn put_call(room: &mut Room, call: &[u8]) -> Result<(), Full>
 }
 
 /// Appends the arguments of the call of that name.
+#[inline(always)] // it has two callers, and each line of a text asks one of them
 fn put_arguments(room: &mut Room, name: &[u8], arguments: &[u8]) -> Result<(), Full>
     ensures put { OnOk result (room.new.items
         ≡ room.old.items ++ spaced (plain_arguments name.now 0 (words_in arguments.now))) }
@@ -157,6 +158,6 @@ fn put_told(room: &mut Room, role: Role, word: &[u8]) -> Result<(), Full>
     ensures put { OnOk result (room.new.items ≡ room.old.items ++ 32 ∷ plain_word role word.now) }
     ensures full { OnErr result (IsOver (room.old.items ++ 32 ∷ plain_word role word.now)) }
 {
-    put(room, b" ")?;
+    put_byte(room, b' ')?;
     put_argument(room, role, word)
 }

@@ -18,6 +18,7 @@ pub enum Role {
 }
 
 /// The role of the argument of a call at a place, from 0.
+#[inline(always)] // each argument of a line asks it
 pub fn role_of(name: &[u8], place: usize) -> Role
     ensures { result ≡ role_of name.now place }
 {

@@ -18,9 +18,23 @@ pub fn put(room: &mut Room, bytes: &[u8]) -> Result<(), Full>
     ensures put { OnOk result (room.new.items ≡ room.old.items ++ bytes.now) }
     ensures full { OnErr result (IsOver (room.old.items ++ bytes.now)) }
 {
+    if let [byte] = bytes {
+        return put_byte(room, *byte); // many words are one digit
+    }
     match room.try_extend_from_slice(bytes) {
         Ok(()) => Ok(()),
         Err(_over) => Err(Full),
+    }
+}
+
+/// Appends a byte. `Full` where it has no room.
+pub fn put_byte(room: &mut Room, byte: u8) -> Result<(), Full>
+    ensures put { OnOk result (room.new.items ≡ room.old.items ++ byte ∷ []) }
+    ensures full { OnErr result (IsOver (room.old.items ++ byte ∷ [])) }
+{
+    match room.try_push(byte) {
+        Ok(()) => Ok(()),
+        Err(_byte) => Err(Full),
     }
 }
 

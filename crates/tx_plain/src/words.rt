@@ -1,9 +1,9 @@
 //! The words of a line that a person wrote.
-ghost use Rattle.std.specs.Prelude.{◌≡◌, ◌∷◌, ◌++◌, ◌+◌, ◌-◌, ◌<◌, ◌≤◌, [], ℕ, List, length, map, All, IfOk, IfSome, MatchOption};
+ghost use Rattle.std.specs.Prelude.{◌≡◌, ◌∷◌, ◌++◌, ◌+◌, ◌-◌, ◌<◌, ◌≤◌, [], ℕ, List, length, map, All, IfOk, IfSome, IsFalse, IsTrue, MatchOption};
 ghost use Rattle.tx_plain.specs.Words.{bytes_at, columns_from, columns_in, next_from, rest_from, words_in};
-ghost use Rattle.tx_plain.specs.declared.reading.Reading.TheVariants.{Between};
+ghost use Rattle.tx_plain.specs.declared.reading.Reading.TheVariants.{AfterBackslash, Between, InString, InWord};
 
-use crate::reading::{Reading, is_blank};
+use crate::reading::is_blank;
 use std::alloc::Global;
 use tx_base::NoMemory;
 
@@ -58,6 +58,15 @@ pub fn split_word(line: &[u8]) -> Option<(&[u8], &[u8])>
     Some((&left[..left.len() - rest.len()], rest))
 }
 
+/// Whether a line has a word.
+pub fn has_word(line: &[u8]) -> bool
+    ensures none { IsFalse result → words_in line.now ≡ [] }
+    ensures some { IsTrue result → (word : List ℕ) × (words : List (List ℕ))
+        × (words_in line.now ≡ word ∷ words) }
+{
+    !from_word(line).is_empty()
+}
+
 /// What is left of a line from its next word on. Nothing where there is none.
 pub fn from_word(line: &[u8]) -> &[u8]
     ensures { result.now ≡ next_from line.now }
@@ -79,15 +88,51 @@ pub fn from_word(line: &[u8]) -> &[u8]
 fn after_word(line: &[u8]) -> &[u8]
     ensures { result.now ≡ rest_from Between line.now }
 {
-    let mut reading = Reading::Between;
+    match line.split_first() {
+        Some((b'"', string)) => after_string(string),
+        _ => after_bare_word(line),
+    }
+}
+
+/// What follows what is left of a word, outside of a string.
+fn after_bare_word(line: &[u8]) -> &[u8]
+    ensures { result.now ≡ rest_from InWord line.now }
+{
     let mut left = line;
     while let Some((byte, rest)) = left.split_first() {
-        let next = reading.after(*byte);
-        if !next.is_inside() {
+        if is_blank(*byte) || *byte == b'#' {
             return left;
         }
-        reading = next;
         left = rest;
     }
     left
+}
+
+/// What follows what is left of a word, in a string.
+fn after_string(line: &[u8]) -> &[u8]
+    ensures { result.now ≡ rest_from InString line.now }
+{
+    let mut left = line;
+    while let Some((byte, rest)) = left.split_first() {
+        if *byte == b'"' {
+            return after_bare_word(rest);
+        }
+        left = if *byte == b'\\' {
+            behind_escaped(rest)
+        } else {
+            rest
+        };
+    }
+    left
+}
+
+/// What follows the first byte, which another one escapes. Nothing where there is none.
+fn behind_escaped(bytes: &[u8]) -> &[u8]
+    ensures same { rest_from AfterBackslash bytes.now ≡ rest_from InString result.now }
+    ensures shorter { length result.now ≤ length bytes.now }
+{
+    match bytes.split_first() {
+        Some((_first, rest)) => rest,
+        None => bytes,
+    }
 }
