@@ -68,6 +68,13 @@ impl<'a> MeantLines<'a> {
         self.stage.is_some()
     }
 
+    /// How many bytes of the text are left.
+    pub fn bytes_left(self) -> usize
+        ensures { result ≡ length self.entry.left.now }
+    {
+        self.left.len()
+    }
+
     /// The first line, and those behind it. Nothing where none is left.
     pub fn split(self) -> Option<(OwnLine<'a>, MeantLines<'a>)>
         ensures none { IfNone result (left_of self.entry ≡ []) }

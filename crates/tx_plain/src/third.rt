@@ -13,6 +13,9 @@ use std::alloc::{AllocError, Global};
 use tx_base::{Call, NoMemory, Pid, Step};
 use tx_lines::{Header, LINES, Schedule, TextKind, Version, first_header};
 
+/// How many bytes the line of a step has at least, with its end, as `1 map 0`.
+const STEP_BYTES: usize = 8;
+
 /// The schedule that the first lines of a text of version 3 mean, and the lines behind them: the header,
 /// and the steps up to the first line that means none, or that a schedule has no room for. Nothing where
 /// the text has no header of a schedule, or is of another version.
@@ -79,7 +82,7 @@ fn first_steps<'a>(
     ensures { IfOk result (λ r.
         IsBefore step_text (AreSteps version) r.0.items (left_of r.1) (left_of lines.entry)) }
 {
-    let mut steps = Vec::new(alloc);
+    let mut steps = Vec::with_capacity(alloc, LINES.min(lines.bytes_left() / STEP_BYTES))?;
     let mut room = Room::new();
     let mut left = lines;
     while let Some((line, behind)) = left.split() {
