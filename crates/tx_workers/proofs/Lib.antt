@@ -4,4 +4,5 @@ pub mod Grown
 pub mod Notes
 pub mod NumberedLines
 pub mod Turned
+pub mod Unoffered
 pub mod Written

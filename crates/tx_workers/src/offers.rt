@@ -23,6 +23,9 @@ pub(crate) fn offered(proc: &Proc, mark: Option<&Mark>) -> Option<Signo>
         option_map signal_number result
         ≡ offered (inside_by t (option_copied mark.entry)) (process_of proc.now) }
 {
+    if proc.pending.is_empty() {
+        return None;
+    }
     for i in 0..IN_ORDER.len() {
         let signo = Signo(IN_ORDER[i]);
         if is_offered(proc, mark, signo) {

@@ -1,10 +1,17 @@
-use Rattle.std.proofs.Common.{rules, ◌<◌, ◌≤◌, sym, ◌∙◌}
+use Rattle.std.proofs.Common.{rules, ◌<◌, ◌≤◌, ap, sym, ◌∙◌}
 use Rattle.std.specs.Option.{option_copied}
 use Rattle.tx_model.specs.Membership.{inside_by}
 use Rattle.tx_proc.specs.Parts.{process_of}
 use Rattle.tx_workers.specs.Offers.{in_order, is_offered, offered}
 use Rattle.tx_workers.proofs.Finding.{found_here, found_later, found_nowhere}
+use Rattle.tx_workers.proofs.Unoffered.{none_offered}
 use Rattle.tx_workers.proofs.offers.offered.Goals as goal
+
+pub returns-then-is_empty : goal.returns-then-is_empty
+returns-then-is_empty c = λ t.
+    let me = process_of c.args.proc.now in
+    let nothing = c.is_empty.ensures.0 c.if-is_empty.true in
+    none_offered me (ap (λ p. p.standard) nothing) (ap (λ p. p.queued) nothing) (inside_by t (option_copied c.args.mark))
 
 pub returns-then-is_offered : goal.returns-then-is_offered
 returns-then-is_offered c t =
