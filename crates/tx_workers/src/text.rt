@@ -1,5 +1,6 @@
 //! Writes a run: its entries, and the state.
-ghost use Rattle.std.specs.Prelude.{◌≡◌, ◌++◌, IfErr, IfOk, OnOk, string_bytes};
+ghost use Rattle.std.specs.Fmt.{decimal};
+ghost use Rattle.std.specs.Prelude.{◌≡◌, ◌++◌, ◌∷◌, [], IfErr, IfOk, OnOk, codes, string_bytes};
 ghost use Rattle.tx_lines.specs.Ends.{IsFresh};
 ghost use Rattle.tx_workers.specs.RunText.{WritesText, entry_line, numbered, run_line, run_text};
 ghost use Rattle.tx_lines.specs.declared.faults.Fault.TheVariants.{NoMemory};
@@ -59,10 +60,28 @@ fn put_run_line(
         ++ run_line number worker step.now reply.now) }
 {
     put_count(text, number)?;
-    put(text, " w")?;
-    put_count_first(text, u64::from(worker))?;
+    put_worker(text, worker)?;
     put_step(text, step)?;
     put(text, " : ")?;
     put_reply(text, reply)?;
     put(text, "\n")
+}
+
+/// Appends a worker's number between spaces. Those of most runs have words of their own: a number is made
+/// digit by digit, on each line.
+fn put_worker(text: &mut String, worker: u16) -> Result<(), AllocError>
+    ensures { OnOk result
+        (string_bytes text.new ≡ string_bytes text.old
+        ++ (codes " w" ++ (decimal worker ++ 32 ∷ []))) }
+{
+    match worker {
+        1 => put(text, " w1 "),
+        2 => put(text, " w2 "),
+        3 => put(text, " w3 "),
+        4 => put(text, " w4 "),
+        _ => {
+            put(text, " w")?;
+            put_count_first(text, u64::from(worker))
+        }
+    }
 }
