@@ -3,6 +3,7 @@ pub mod Finding
 pub mod Grown
 pub mod Notes
 pub mod NumberedLines
+pub mod Reached
 pub mod Turned
 pub mod Unoffered
 pub mod Written

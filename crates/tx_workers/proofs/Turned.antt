@@ -1,5 +1,6 @@
 -- What lies under the lock after a turn.
-use Rattle.std.proofs.Common.{◌≡◌, ℕ, ◌+◌, ◌-◌, ◌≤◌, ◌++◌, List, Option, Some, length, map, arith, ap, ◌∙◌, length-append}
+use Rattle.std.proofs.Common.{◌≡◌, ℕ, ◌+◌, ◌-◌, ◌≤◌, ◌++◌, List, Option, Some, length, map, All, take, arith, ap, sym, subst, ◌∙◌, length-append}
+use Rattle.std.proofs.Math.Seq.{take-append_seam}
 use Rattle.std.proofs.lemmas.List.{length-map}
 use Rattle.tx_base.specs.declared.steps.Accepted.{Accepted}
 use Rattle.tx_journal.specs.Entries.{accepted_of, history_of}
@@ -12,6 +13,7 @@ use Rattle.tx_lines.specs.declared.programs.Program.{Program}
 use Rattle.tx_workers.proofs.Grown.{grown_more, one_is_few, turn_is_named, turn_is_one}
 use Rattle.tx_workers.specs.Desks.{IsDesk}
 use Rattle.tx_workers.specs.Histories.{view_after}
+use Rattle.tx_workers.specs.Tops.{HasTop, IsWithin}
 use Rattle.tx_workers.specs.Turns.{adds_by_next}
 
 -- the entries that a turn adds there
@@ -43,3 +45,17 @@ few_more program session worker next before after notes =
     let adds : List Entry = added_by program session worker next in
     let few : length adds ≤ 1 = one_is_few worker adds (turn_is_one program.instructions.items (view_of session.machine) worker next) in
     omega (arith, few, length-map adds accepted_of, ap length notes, length-append before (map accepted_of adds))
+
+-- nor has the session more than one entry more
+pub few_entries : (program : Program) (session new : SessionState) (worker : ℕ) (next : Option ℕ) → new.entries ≡ session.entries ++ added_by program session worker next
+    → length new.entries ≤ length session.entries + 1
+few_entries program session new worker next entries =
+    let adds : List Entry = added_by program session worker next in
+    let few : length adds ≤ 1 = one_is_few worker adds (turn_is_one program.instructions.items (view_of session.machine) worker next) in
+    omega (arith, few, ap length entries, length-append session.entries adds)
+
+-- the entries that were there are the first ones
+pub front_within : (top count : ℕ) (session new : SessionState) (adds : List Entry) → HasTop top session → new.entries ≡ session.entries ++ adds → count ≡ length session.entries
+    → All (λ entry. IsWithin top entry.step) (take count new.entries)
+front_within top count session new adds has entries is =
+    subst (All (λ entry. IsWithin top entry.step)) (sym (ap (take count) entries ∙ (λ j. take (is j) (session.entries ++ adds)) ∙ take-append_seam session.entries adds)) has.made

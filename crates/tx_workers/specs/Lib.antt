@@ -9,4 +9,5 @@ pub mod Runs
 pub mod Services
 pub mod Teams
 pub mod Texts
+pub mod Tops
 pub mod Turns

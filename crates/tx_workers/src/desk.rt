@@ -4,7 +4,8 @@ ghost use Rattle.tx_journal.specs.Sessions.{IsAtEnd};
 ghost use Rattle.tx_workers.specs.Desks.{IsDesk};
 ghost use Rattle.tx_workers.specs.declared.turns.Took.TheVariants.{Idle};
 
-use crate::turns::{Took, turn, turn_of};
+use crate::tops::{top_after, top_of};
+use crate::turns::{Took, turn_of, turn_up_to};
 use crate::worker::Worker;
 use std::alloc::Global;
 use std::marker::{Brand, Model};
@@ -37,18 +38,22 @@ impl Work for Brand {
 pub struct Desk<J: Work> {
     session: Session,
     added: Book<J>,
+    /// No process has a greater number.
+    top: u16,
 }
 
 impl<J: Work> Model for Desk<J> {
     ghost use Rattle.std.specs.Prelude.{◌≡◌, ℕ};
     ghost use Rattle.tx_journal.specs.Sessions.{SessionState};
     ghost use Rattle.tx_workers.specs.Desks.{IsDesk};
+    ghost use Rattle.tx_workers.specs.Tops.{HasTop};
 
     ghost Value = { SessionState × ℕ };
 
     ghost view = { λ desk. (desk.session, desk.added.total) };
 
-    ghost invariant = { λ desk. IsDesk J.program J.given desk.session desk.added.total };
+    ghost invariant = { λ desk. IsDesk J.program J.given desk.session desk.added.total
+        × HasTop desk.top desk.session };
 }
 
 impl<J: Work> Desk<J> {
@@ -59,7 +64,12 @@ impl<J: Work> Desk<J> {
         requires empty { added.total ≡ 0 }
         ensures { result.0 ≡ session }
     {
-        Desk { session, added }
+        let top = top_of(&session);
+        Desk {
+            session,
+            added,
+            top,
+        }
     }
 
     /// A turn of a worker, whose share counts what it adds.
@@ -82,9 +92,10 @@ impl<J: Work> Desk<J> {
         ensures few { vec_len worker.new.notes ≤ vec_len worker.old.notes + 1 }
     {
         let before = self.session.len();
-        turn(alloc, &mut self.session, worker, program)?;
+        turn_up_to(alloc, &mut self.session, worker, program, self.top)?;
         let after = self.session.len();
         self.added.add(share, (after - before) as u64);
+        self.top = top_after(&self.session, before, self.top);
         Ok(())
     }
 
@@ -111,6 +122,7 @@ impl<J: Work> Desk<J> {
         let took = turn_of(alloc, &mut self.session, worker, program, pid)?;
         let after = self.session.len();
         self.added.add(share, (after - before) as u64);
+        self.top = top_after(&self.session, before, self.top);
         Ok(took)
     }
 
@@ -119,7 +131,11 @@ impl<J: Work> Desk<J> {
         requires { all.old.parts ≡ J.parts }
         ensures { IsDesk J.program J.given result all.old.amount }
     {
-        let Desk { session, mut added } = self;
+        let Desk {
+            session,
+            mut added,
+            ..
+        } = self;
         added.audit(all);
         session
     }

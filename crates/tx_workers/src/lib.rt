@@ -18,6 +18,10 @@
 //! two members of the trait `Work` that contracts alone see; each run picks them for the name that
 //! its lock has. So neither is copied, and nothing of them is compared later.
 //!
+//! The desk keeps a number over which there is no process (`tops.rt`), so that a turn looks at no more
+//! of the numbers. Processes come by a boot or a fork alone, whatever is taken back: that is proved of
+//! every history (`proofs/Reached.antt`).
+//!
 //! `run_workers` (`run.rt`, `team.rt`, `floor.rt`) starts workers by recursion: a call for n workers
 //! splits off a part of its share, starts one worker with it, calls itself for n - 1, and joins.
 //! What a worker gives back, its share and its notes, is promised by its `Post`. With all parts
@@ -44,6 +48,7 @@ mod same;
 mod service;
 mod team;
 mod text;
+mod tops;
 mod turns;
 mod whole;
 mod worker;

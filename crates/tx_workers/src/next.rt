@@ -2,6 +2,7 @@
 ghost use Rattle.std.specs.Prelude.{◌≡◌, ◌≤◌, option_map};
 ghost use Rattle.tx_live.specs.Content.{view_of};
 ghost use Rattle.tx_workers.specs.Names.{process_number};
+ghost use Rattle.tx_workers.specs.Tops.{NoneRunsOver};
 ghost use Rattle.tx_workers.specs.Turns.{belongs_to, is_next_of, next_process};
 
 use crate::named::running;
@@ -9,17 +10,26 @@ use crate::worker::Worker;
 use tx_base::Pid;
 use tx_core::Machine;
 
-/// The worker's next running process after the one whose turn was last. The numbers go round.
-pub(crate) fn next_process(machine: &Machine, worker: &Worker) -> Option<Pid>
-    requires { 1 ≤ worker.now.total }
+/// The worker's next running process after the one whose turn was last, where none over the top runs.
+/// The numbers go round.
+pub(crate) fn next_process(machine: &Machine, worker: &Worker, top: u16) -> Option<Pid>
+    requires total { 1 ≤ worker.now.total }
+    requires top { NoneRunsOver top (view_of machine.now) }
     ensures { option_map process_number result
         ≡ next_process (view_of machine.now) worker.now.number worker.now.total worker.now.last }
 {
     let width = u32::from(machine.processes());
-    for places in 0..width {
-        let pid = Pid(((u32::from(worker.last) + places) % width) as u16 + 1);
-        if is_next(machine, worker, pid) {
-            return Some(pid);
+    let mut places = 0;
+    while places < width {
+        let before = (u32::from(worker.last) + places) % width;
+        if before >= u32::from(top) {
+            places += width - before;
+        } else {
+            let pid = Pid(before as u16 + 1);
+            if is_next(machine, worker, pid) {
+                return Some(pid);
+            }
+            places += 1;
         }
     }
     None

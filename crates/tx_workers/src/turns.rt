@@ -7,6 +7,7 @@ ghost use Rattle.tx_model.specs.Answer.{answer, is_running};
 ghost use Rattle.tx_model.specs.View.{present};
 ghost use Rattle.tx_workers.specs.Histories.{view_after};
 ghost use Rattle.tx_workers.specs.Passes.{Adds, SameWorker};
+ghost use Rattle.tx_workers.specs.Tops.{IsTop};
 ghost use Rattle.tx_workers.specs.Turns.{abort_of, adds_by, adds_by_next, entry_of, last_after, next_process, took_by, turn_adds};
 
 use crate::named::{named, running};
@@ -52,7 +53,36 @@ pub fn turn(
     ensures session { OnErr result (session.new ≡ session.old) }
     ensures worker { OnErr result (SameWorker worker.new worker.old) }
 {
-    let Some(pid) = next_process(session.machine(), worker) else {
+    let top = session.machine().processes();
+    turn_up_to(alloc, session, worker, program, top)
+}
+
+/// Takes a turn as `turn` does, where no process has a number over that one: none is looked at.
+pub(crate) fn turn_up_to(
+    alloc: Global,
+    session: &mut Session,
+    worker: &mut Worker,
+    program: &Program,
+    top: u16,
+) -> Result<(), NoMemory>
+    requires at_end { IsAtEnd session.old }
+    requires low { 1 ≤ worker.old.number }
+    requires high { worker.old.number ≤ worker.old.total }
+    requires top { IsTop top session.old }
+    ensures adds { OnOk result (Adds
+        (adds_by_next program.now.instructions.items (view_of session.old.machine) worker.old.number
+        (next_process (view_of session.old.machine) worker.old.number worker.old.total
+        worker.old.last))
+        (last_after worker.old.last
+        (next_process (view_of session.old.machine) worker.old.number worker.old.total
+        worker.old.last))
+        session.old worker.old session.new worker.new) }
+    ensures view { view_of session.old.machine
+        ≡ view_after (start_of session.old) session.old.entries }
+    ensures session { OnErr result (session.new ≡ session.old) }
+    ensures worker { OnErr result (SameWorker worker.new worker.old) }
+{
+    let Some(pid) = next_process(session.machine(), worker, top) else {
         return Ok(());
     };
     turn_of(alloc, session, worker, program, pid)?;

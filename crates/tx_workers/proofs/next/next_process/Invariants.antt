@@ -1,4 +1,4 @@
-use Rattle.std.proofs.Common.{◌≡◌, drop}
+use Rattle.std.proofs.Common.{◌≡◌, ◌-◌, drop}
 use Rattle.std.specs.List.{find}
 use Rattle.tx_live.specs.Content.{view_of}
 use Rattle.tx_workers.specs.Turns.{all_after, is_next_of, next_process}
@@ -8,3 +8,6 @@ abbrev pub invariant-loop-places : goal.invariant-loop-places
 invariant-loop-places l =
     next_process (view_of l.machine) l.worker.number l.worker.total l.worker.last
     ≡ find (is_next_of (view_of l.machine) l.worker.number l.worker.total) (drop l.places (all_after (view_of l.machine).table.width l.worker.last))
+
+abbrev pub decreases-loop-places : goal.decreases-loop-places
+decreases-loop-places l = l.width - l.places

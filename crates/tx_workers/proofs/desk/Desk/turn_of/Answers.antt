@@ -1,5 +1,5 @@
 use Rattle.std.proofs.Common.{rules, ◌≡◌, ◌+◌, ◌-◌, ◌≤◌, Some, length, arith}
-use Rattle.tx_workers.proofs.Turned.{desk_turned, few_more}
+use Rattle.tx_workers.proofs.Turned.{added_by, desk_turned, few_entries, few_more, front_within}
 use Rattle.tx_workers.proofs.desk.Desk.turn_of.Goals as goal
 
 pub invariant_of-self-2 : goal.invariant_of-self-2
@@ -7,9 +7,29 @@ invariant_of-self-2 g c =
     let old = c.self.inside.session in
     let made = c.in_ok-took.ensures.adds in
     let counted : c.add.new.self.total ≡ c.self.inside.added.total + (length c.turn_of.new.session.entries - length old.entries) =
-    omega (arith, c.add.ensures.total, c.len-before.ensures, c.len-after.ensures) in
-    desk_turned _ _ c.args.program.now old c.turn_of.new.session c.args.worker.now.number (Some c.args.pid.0) c.self.inside.added.total c.add.new.self.total c.self.invariant
-    c.requires.program c.in_ok-took.ensures.view made.entries made.boot made.at_end counted
+    omega (arith, c.add.ensures.total, c.len-before.ensures, c.len-after.ensures) in (
+      desk_turned _ _ c.args.program.now old c.turn_of.new.session c.args.worker.now.number (Some c.args.pid.0) c.self.inside.added.total c.add.new.self.total c.self.invariant.0
+          c.requires.program c.in_ok-took.ensures.view made.entries made.boot made.at_end counted,
+      c.top_after-self-inside.ensures,
+    )
+
+pub top_after-self-inside-requires-clause-few : goal.top_after-self-inside-requires-clause-few
+top_after-self-inside-requires-clause-few g c =
+    let worker = c.args.worker.now in
+    let old = c.self.inside.session in
+    let few : length c.turn_of.new.session.entries ≤ length old.entries + 1 =
+    few_entries c.args.program.now old c.turn_of.new.session worker.number (Some c.args.pid.0) c.in_ok-took.ensures.adds.entries in
+    omega (arith, few, c.len-before.ensures)
+
+pub top_after-self-inside-requires-clause-booted : goal.top_after-self-inside-requires-clause-booted
+top_after-self-inside-requires-clause-booted g c = omega (arith, c.self.invariant.1.booted, c.in_ok-took.ensures.adds.boot.count)
+
+pub top_after-self-inside-requires-clause-made : goal.top_after-self-inside-requires-clause-made
+top_after-self-inside-requires-clause-made g c =
+    let worker = c.args.worker.now in
+    let old = c.self.inside.session in
+    front_within c.self.inside.top c.len-before.result old c.turn_of.new.session (added_by c.args.program.now old worker.number (Some c.args.pid.0)) c.self.invariant.1
+    c.in_ok-took.ensures.adds.entries c.len-before.ensures
 
 pub returns-clause-few : goal.returns-clause-few
 returns-clause-few g c =

@@ -1,0 +1,32 @@
+-- Up to which number processes are there. Own rules.
+use Rattle.std.specs.Prelude.{◌≡◌, ◌⊎◌, ℕ, ◌<◌, ◌≤◌, false, All, None}
+use Rattle.tx_base.specs.declared.steps.Call.TheVariants.{Fork}
+use Rattle.tx_base.specs.declared.steps.Step.{Step}
+use Rattle.tx_base.specs.declared.steps.Step.TheVariants.{Call as Calls}
+use Rattle.tx_journal.specs.Sessions.{SessionState}
+use Rattle.tx_live.specs.Content.{view_of}
+use Rattle.tx_model.specs.Answer.{is_running}
+use Rattle.tx_model.specs.State.{State}
+use Rattle.tx_model.specs.View.{View, present}
+
+-- no process has a number over it
+abbrev pub EndsAt : ℕ → State → Type 0
+EndsAt top S = (n : ℕ) → top < n → S.procs n ≡ None
+
+-- no process of a number over it runs, of those that there are
+abbrev pub NoneRunsOver : ℕ → View → Type 0
+NoneRunsOver top V = (n : ℕ) → top < n → n ≤ V.table.width → is_running ((present V).procs n) ≡ false
+
+-- the step makes no process of a number over it
+abbrev pub IsWithin : ℕ → Step → Type 0
+IsWithin top (Calls pid (Fork child)) = child.0 ≤ top
+IsWithin top step = Unit {0}
+
+-- no process of the session was booted with a number over it, and none was made since
+pub record HasTop (top : ℕ) (session : SessionState) : Type 0 where
+  pub booted : session.count ≤ top
+  pub made : All (λ entry. IsWithin top entry.step) session.entries
+
+-- it has, or there are no such numbers
+abbrev pub IsTop : ℕ → SessionState → Type 0
+IsTop top session = HasTop top session ⊎ ((view_of session.machine).table.width ≤ top)
