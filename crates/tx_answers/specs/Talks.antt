@@ -1,6 +1,6 @@
 -- What the lines of a text are answered in a talk.
 use Rattle.std.specs.Prelude.{ℕ, ℤ, pos, negsuc, zero, suc, List, [], Ok, Some, string_bytes}
-use Rattle.tx_shell.specs.Events.{Event, IsTalk, Traffic}
+use Rattle.tx_shell.specs.Events.{Event, IsTalk}
 use Rattle.tx_shell.specs.Standings.{first_standing, Standing}
 use Rattle.tx_shell.specs.declared.answers.forms.Form.{Form}
 use Rattle.tx_shell.specs.declared.answers.forms.Form.TheVariants as forms

@@ -15,3 +15,15 @@ pub mod Txns
 pub mod Tells
 pub mod Histories
 pub mod Resting
+pub mod EntriesBack
+pub mod Gathered
+pub mod MembersRead
+pub mod NumbersRead
+pub mod Printable
+pub mod ProcessesRead
+pub mod RepliesRead
+pub mod SignalsRead
+pub mod StatesBack
+pub mod StatesPrintable
+pub mod StatesRead
+pub mod StepsBack

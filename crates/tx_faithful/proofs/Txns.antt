@@ -5,7 +5,6 @@ use Rattle.std.specs.List.{filter}
 use Rattle.std.specs.Fmt.{decimal, signed_decimal}
 use Rattle.std.proofs.lemmas.Bool.{cases_lt, both_ways, or_left, or_right}
 use Rattle.std.proofs.lemmas.List.Elements.{filter-append}
-use Rattle.std.proofs.lemmas.List.{append-nil}
 use Rattle.tx_base.specs.declared.marks.Mark.{Mark}
 use Rattle.tx_model.specs.Membership.{defers_in, is_of}
 use Rattle.tx_model.specs.SignalSets.{is_one_of}

@@ -1,1 +1,9 @@
 pub mod Told
+pub mod Numbers
+pub mod ReadBack
+pub mod ReadEntries
+pub mod ReadProcesses
+pub mod ReadReplies
+pub mod ReadStates
+pub mod Reading
+pub mod ToldStates

@@ -9,16 +9,20 @@
 //! spells, where it is at fault and what answers it is a `Grammar` of specs: `schedules` and `walks`
 //! are two, and one definition (`Answers`) says of both what is read and written. `replay` changes a
 //! kernel through `boot` and `step_into` alone, and takes no step back: each inverse is put in the
-//! place of the one before. `debug` does so through the calls of a session. The ends, the faults and
+//! place of the one before. `debug` does so through the calls of a session (`made.rt`). `write_json`
+//! answers both kinds of texts by lines of JSON, and `run_lines` a run. The ends, the faults and
 //! the programs of texts are given on from tx_lines and tx_plain.
 #![tactic(auto)]
 
+mod as_json;
 mod debugs;
 mod machines;
+mod made;
 mod replays;
 mod reports;
 mod walks;
 
+pub use as_json::{json_text, run_lines, write_json};
 pub use debugs::{debug, debug_text};
 pub use machines::boot;
 pub use replays::{replay, replay_text};

@@ -12,13 +12,10 @@ ghost use Rattle.tx_lines.specs.declared.faults.Fault.TheVariants.{NoMemory};
 ghost use Rattle.tx_lines.specs.declared.read.command.Command.TheVariants as command;
 ghost use Rattle.tx_text.specs.State.{state_text};
 
+use crate::made::walked;
 use std::alloc::{AllocError, Global};
-use tx_base::Step;
 use tx_journal::{AtStart, ForwardFault, GotoFault, Moved, MovedFault, Session, put_state};
 use tx_lines::{Command, Fault, Walk, put, put_count, put_numbers};
-
-/// The worker that makes the steps of a schedule.
-const WORKER: u16 = 1;
 
 /// What the commands answer in turn, once the steps of the schedule are made. The only fault is
 /// `NoMemory`.
@@ -29,48 +26,10 @@ pub fn answer_walk(alloc: Global, walk: &Walk) -> Result<String, Fault>
         walk.now.commands.items) }
     ensures fault { IfErr result (λ fault. fault ≡ NoMemory) }
 {
-    let mut session = Session::boot_by(alloc, walk.schedule.header)?;
-    session.reserve(walk.schedule.steps.len())?;
-    make_steps(alloc, &mut session, walk.schedule.steps.as_slice())?;
-    // Where it is refused, a walk forward makes each step anew.
-    let _room = session.reserve_forward(0);
+    let mut session = walked(alloc, &walk.schedule)?;
     let mut text = String::new(alloc);
     put_answers(alloc, &mut text, &mut session, walk.commands.as_slice())?;
     Ok(text)
-}
-
-/// Makes the steps at the end of the journal.
-fn make_steps(alloc: Global, session: &mut Session, steps: &[Step]) -> Result<(), Fault>
-    requires { IsAtEnd session.old }
-    ensures history { OnOk result
-        (history_of session.new.entries
-        ≡ history_after (start_of session.old) (history_of session.old.entries) steps.now) }
-    ensures boot { SameBoot session.new session.old }
-    ensures at_end { IsAtEnd session.new }
-    ensures fault { IfErr result (λ fault. fault ≡ NoMemory) }
-{
-    for step in steps {
-        make_step(alloc, session, step)?;
-    }
-    Ok(())
-}
-
-/// Makes a step at the end of the journal.
-fn make_step(alloc: Global, session: &mut Session, step: &Step) -> Result<(), Fault>
-    requires { IsAtEnd session.old }
-    ensures history { OnOk result
-        (history_of session.new.entries
-        ≡ history_with (history_of session.old.entries) step.now
-        (answer (view (start_of session.old) (history_of session.old.entries)) step.now)) }
-    ensures boot { SameBoot session.new session.old }
-    ensures at_end { IsAtEnd session.new }
-    ensures fault { IfErr result (λ fault. fault ≡ NoMemory) }
-{
-    let _machine = session.machine();
-    if session.step(alloc, WORKER, step).wants_memory() {
-        return Err(Fault::NoMemory);
-    }
-    Ok(())
 }
 
 /// Appends what the commands answer in turn.

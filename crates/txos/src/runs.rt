@@ -1,7 +1,7 @@
 //! Runs a program, and writes what the run did as lines of JSON.
 ghost use Rattle.tx_lines.specs.Ends.{IsFresh};
-ghost use Rattle.tx_report_json.specs.Lines.{text_of};
-ghost use Rattle.tx_report_json.specs.Runs.{run_lines};
+ghost use Rattle.tx_script.specs.JsonLines.{text_of};
+ghost use Rattle.tx_script.specs.JsonRuns.{run_lines};
 ghost use Rattle.tx_workers.specs.RunText.{WritesText};
 ghost use Rattle.tx_workers.specs.Texts.{RunsText};
 
@@ -10,7 +10,7 @@ use std::sync::Wait;
 use std::thread::Threads;
 use tx_journal::Session;
 use tx_lines::{Fault, Sink, Source, write_whole};
-use tx_report_json::run_lines;
+use tx_script::run_lines;
 use tx_workers::{RunFault, run_from};
 
 /// Reads the text of a program to its end, runs it as `run_program` does, and writes the lines of JSON

@@ -3,7 +3,7 @@ use Rattle.tx_base.specs.declared.steps.Accepted.{Accepted}
 use Rattle.tx_journal.specs.Entries.{history_of}
 use Rattle.tx_journal.specs.Sessions.{position_of, start_of}
 use Rattle.tx_model.specs.View.{View, view}
-use Rattle.tx_script.proofs.Walked.{history_to}
+use Rattle.tx_script.proofs.StepsMade.{history_to}
 use Rattle.tx_script.specs.Debug.{command_answer}
 use Rattle.tx_lines.specs.declared.read.command.Command.{Command}
 use Rattle.tx_lines.specs.declared.read.command.Command.TheVariants.{State}

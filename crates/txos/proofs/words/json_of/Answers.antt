@@ -2,7 +2,6 @@ use Rattle.std.proofs.Common.{rules, ◌≡◌, ◌∙◌, true, false, codes, s
 use Rattle.clap.specs.Matches.{found_of}
 use Rattle.clap.specs.Simple.{subcommand_rows_of}
 use Rattle.txos.proofs.FormSaid.{given_in}
-use Rattle.txos.specs.CommandLine.{gives_turns, gives_workers}
 use Rattle.txos.proofs.words.json_of.Goals as goal
 
 pub returns-then-workers-turns-clause-asked : goal.returns-then-workers-turns-clause-asked

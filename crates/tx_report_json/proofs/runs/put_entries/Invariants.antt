@@ -1,6 +1,0 @@
-use Rattle.std.proofs.Common.{string_bytes}
-use Rattle.tx_report_json.proofs.RunTold.{EntriesSoFar}
-use Rattle.tx_report_json.proofs.runs.put_entries.Given as goal
-
-abbrev pub invariant-loop-i : goal.invariant-loop-i
-invariant-loop-i l = EntriesSoFar l.entries (string_bytes l.initial.text) (string_bytes l.text) l.i

@@ -1,0 +1,70 @@
+//! Makes the steps of a schedule, and answers a line of JSON for each.
+ghost use Rattle.std.specs.Prelude.{◌≡◌, ◌++◌, IfErr, IfOk, OnOk, length, string_bytes};
+ghost use Rattle.tx_journal.specs.Entries.{history_of};
+ghost use Rattle.tx_journal.specs.Sessions.{start_of, IsAtEnd, SameBoot};
+ghost use Rattle.tx_json.specs.Answers.{step_answer};
+ghost use Rattle.tx_lines.specs.Lines.{FitsHeader};
+ghost use Rattle.tx_lines.specs.declared.faults.Fault.TheVariants.{NoMemory};
+ghost use Rattle.tx_model.specs.Answer.{answer};
+ghost use Rattle.tx_model.specs.Schedules.{history_with, history_of as history_after};
+ghost use Rattle.tx_model.specs.View.{view};
+ghost use Rattle.tx_script.specs.JsonLines.{line_of, schedule_lines, step_lines, text_of};
+
+use crate::as_json::commands::put_answer;
+use crate::made::make_step;
+use std::alloc::Global;
+use tx_base::{Reply, Step};
+use tx_journal::Session;
+use tx_json::step_answer;
+use tx_lines::{Command, Fault, Schedule, put};
+
+/// A line for what each step of a schedule is answered, and one for the state after the last. The only
+/// fault is `NoMemory`.
+pub fn schedule_lines(alloc: Global, schedule: &Schedule) -> Result<String, Fault>
+    requires { FitsHeader schedule.now.header }
+    ensures text { IfOk result (λ text. string_bytes text
+        ≡ text_of (schedule_lines schedule.now.header schedule.now.steps.items)) }
+    ensures fault { IfErr result (λ fault. fault ≡ NoMemory) }
+{
+    let mut session = Session::boot_by(alloc, schedule.header)?;
+    session.reserve(schedule.steps.len())?;
+    let mut text = String::new(alloc);
+    put_replies(alloc, &mut text, &mut session, schedule.steps.as_slice())?;
+    put_answer(alloc, &mut text, &mut session, Command::State)?;
+    Ok(text)
+}
+
+/// Makes the steps at the end of the journal, and appends the line of each reply.
+fn put_replies(
+    alloc: Global,
+    text: &mut String,
+    session: &mut Session,
+    steps: &[Step],
+) -> Result<(), Fault>
+    requires { IsAtEnd session.old }
+    ensures text { OnOk result (string_bytes text.new ≡ string_bytes text.old
+        ++ text_of (step_lines (start_of session.old) (history_of session.old.entries) steps.now)) }
+    ensures history { OnOk result (history_of session.new.entries
+        ≡ history_after (start_of session.old) (history_of session.old.entries) steps.now) }
+    ensures boot { SameBoot session.new session.old }
+    ensures at_end { IsAtEnd session.new }
+    ensures fault { IfErr result (λ fault. fault ≡ NoMemory) }
+{
+    let mut reply = Reply::Ended;
+    for step in steps {
+        make_step(alloc, session, step, &mut reply)?;
+        put_reply(alloc, text, session.len(), &reply)?;
+    }
+    Ok(())
+}
+
+/// Appends the line of a reply, behind so many steps that were accepted.
+fn put_reply(alloc: Global, text: &mut String, count: usize, reply: &Reply) -> Result<(), Fault>
+    ensures text { OnOk result (string_bytes text.new
+        ≡ string_bytes text.old ++ line_of (step_answer count reply.now)) }
+    ensures fault { IfErr result (λ fault. fault ≡ NoMemory) }
+{
+    let line = step_answer(alloc, count, reply)?;
+    put(text, line.as_str())?;
+    Ok(())
+}

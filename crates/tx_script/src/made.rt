@@ -1,0 +1,73 @@
+//! Makes the steps of a schedule in a session.
+ghost use Rattle.std.specs.Prelude.{◌≡◌, IfErr, IfOk, OnOk};
+ghost use Rattle.tx_journal.specs.Entries.{history_of};
+ghost use Rattle.tx_journal.specs.Sessions.{start_of, IsAtEnd, SameBoot};
+ghost use Rattle.tx_lines.specs.Lines.{FitsHeader};
+ghost use Rattle.tx_lines.specs.declared.faults.Fault.TheVariants.{NoMemory};
+ghost use Rattle.tx_model.specs.Answer.{answer};
+ghost use Rattle.tx_model.specs.Schedules.{history_with, history_of as history_after};
+ghost use Rattle.tx_model.specs.View.{view};
+ghost use Rattle.tx_script.specs.Made.{IsMade};
+
+use std::alloc::Global;
+use tx_base::{Reply, Step};
+use tx_journal::Session;
+use tx_lines::{Fault, Schedule};
+
+/// The worker that makes the steps of a schedule.
+const WORKER: u16 = 1;
+
+/// A session in which the steps of a schedule are made, with room to walk over them. The only fault is
+/// `NoMemory`.
+pub fn walked(alloc: Global, schedule: &Schedule) -> Result<Session, Fault>
+    requires { FitsHeader schedule.now.header }
+    ensures made { IfOk result (IsMade schedule.now.header schedule.now.steps.items) }
+    ensures fault { IfErr result (λ fault. fault ≡ NoMemory) }
+{
+    let mut session = Session::boot_by(alloc, schedule.header)?;
+    session.reserve(schedule.steps.len())?;
+    make_steps(alloc, &mut session, schedule.steps.as_slice())?;
+    // Where it is refused, a walk forward makes each step anew.
+    let _room = session.reserve_forward(0);
+    Ok(session)
+}
+
+/// Makes the steps at the end of the journal.
+fn make_steps(alloc: Global, session: &mut Session, steps: &[Step]) -> Result<(), Fault>
+    requires { IsAtEnd session.old }
+    ensures history { OnOk result (history_of session.new.entries
+        ≡ history_after (start_of session.old) (history_of session.old.entries) steps.now) }
+    ensures boot { SameBoot session.new session.old }
+    ensures at_end { IsAtEnd session.new }
+    ensures fault { IfErr result (λ fault. fault ≡ NoMemory) }
+{
+    let mut reply = Reply::Ended;
+    for step in steps {
+        make_step(alloc, session, step, &mut reply)?;
+    }
+    Ok(())
+}
+
+/// Makes a step at the end of the journal, and puts its reply where it is to stand.
+pub fn make_step(
+    alloc: Global,
+    session: &mut Session,
+    step: &Step,
+    reply: &mut Reply,
+) -> Result<(), Fault>
+    requires { IsAtEnd session.old }
+    ensures answer { OnOk result (reply.new
+        ≡ answer (view (start_of session.old) (history_of session.old.entries)) step.now) }
+    ensures history { OnOk result (history_of session.new.entries
+        ≡ history_with (history_of session.old.entries) step.now reply.new) }
+    ensures boot { SameBoot session.new session.old }
+    ensures at_end { IsAtEnd session.new }
+    ensures fault { IfErr result (λ fault. fault ≡ NoMemory) }
+{
+    let _machine = session.machine();
+    session.step_into(alloc, WORKER, step, reply);
+    if reply.wants_memory() {
+        return Err(Fault::NoMemory);
+    }
+    Ok(())
+}
