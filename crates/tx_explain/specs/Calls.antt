@@ -4,9 +4,8 @@ use Rattle.tx_base.specs.declared.errors.Errno.{Errno}
 use Rattle.tx_base.specs.declared.errors.Errno.TheVariants.{NotPermitted, NoSuchProcess, BadDescriptor, NoChild, TryAgain, BadAddress, InvalidArgument, TooManyDescriptors, BrokenPipe}
 use Rattle.tx_base.specs.declared.steps.Call.{Call}
 use Rattle.tx_base.specs.declared.steps.Call.TheVariants as call
-use Rattle.tx_base.specs.declared.steps.Refusal.{Refusal}
-use Rattle.tx_base.specs.declared.steps.Refusal.TheVariants.{NoProcess, NotRunning, BadNumber, NumberTaken, Doomed, Parked, KillPending, Busy, Wait, NotDeliverable, FramesFull, NoTransaction, NoMemory, Deferred}
 use Rattle.tx_explain.specs.Words.{Text}
+pub use Rattle.tx_lines.specs.Refusals.{refusal_word}
 
 abbrev pub call_word : Call → Text
 call_word (call.Map page) = codes "map"
@@ -43,22 +42,6 @@ call_word call.SysXbegin = codes "sys_xbegin"
 call_word call.SysXbeginDefer = codes "sys_xbegin"
 call_word call.SysXend = codes "sys_xend"
 call_word call.SysXabort = codes "sys_xabort"
-
-abbrev pub refusal_word : Refusal → Text
-refusal_word NoProcess = codes "N1"
-refusal_word NotRunning = codes "N2"
-refusal_word BadNumber = codes "N3"
-refusal_word NumberTaken = codes "N4"
-refusal_word Doomed = codes "N5"
-refusal_word Parked = codes "N6"
-refusal_word KillPending = codes "N7"
-refusal_word (Busy starter) = codes "N8"
-refusal_word Wait = codes "N9"
-refusal_word NotDeliverable = codes "N10"
-refusal_word FramesFull = codes "N11"
-refusal_word NoTransaction = codes "N12"
-refusal_word NoMemory = codes "N13"
-refusal_word Deferred = codes "N14"
 
 abbrev pub error_name : Errno → Text
 error_name NotPermitted = codes "EPERM"

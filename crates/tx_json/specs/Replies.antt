@@ -5,29 +5,13 @@ use Rattle.json.specs.Token.{Token}
 use Rattle.tx_base.specs.Errors.{error_number}
 use Rattle.tx_base.specs.declared.names.Missed.{Missed}
 use Rattle.tx_base.specs.declared.steps.Refusal.{Refusal}
-use Rattle.tx_base.specs.declared.steps.Refusal.TheVariants.{NoProcess, NotRunning, BadNumber, NumberTaken, Doomed, Parked, KillPending, Busy, Wait, NotDeliverable, FramesFull, NoTransaction, NoMemory, Deferred}
+use Rattle.tx_base.specs.declared.steps.Refusal.TheVariants.{Busy}
 use Rattle.tx_base.specs.declared.steps.Reply.{Reply}
 use Rattle.tx_base.specs.declared.steps.Reply.TheVariants.{Done, Ended, Committed, Aborted, Out, No}
 use Rattle.tx_json.specs.Each.{each_tokens}
 use Rattle.tx_json.specs.Members.{count_member, begin_object, end_object, list_member, number_member, word_member}
+use Rattle.tx_lines.specs.Refusals.{refusal_word}
 use Rattle.tx_text.specs.Replies.{error_name}
-
--- the word for a refusal
-abbrev pub refusal_word : Refusal → List ℕ
-refusal_word NoProcess = codes "N1"
-refusal_word NotRunning = codes "N2"
-refusal_word BadNumber = codes "N3"
-refusal_word NumberTaken = codes "N4"
-refusal_word Doomed = codes "N5"
-refusal_word Parked = codes "N6"
-refusal_word KillPending = codes "N7"
-refusal_word (Busy starter_in_way) = codes "N8"
-refusal_word Wait = codes "N9"
-refusal_word NotDeliverable = codes "N10"
-refusal_word FramesFull = codes "N11"
-refusal_word NoTransaction = codes "N12"
-refusal_word NoMemory = codes "N13"
-refusal_word Deferred = codes "N14"
 
 -- a refusal, and who holds what is wanted
 abbrev pub refusal_members : Refusal → List Token

@@ -2,7 +2,7 @@
 ghost use Rattle.std.specs.Prelude.{◌≡◌, ◌++◌, OnOk, codes};
 ghost use Rattle.tx_json.specs.Members.{list_member};
 ghost use Rattle.tx_json.specs.Each.{each_tokens};
-ghost use Rattle.tx_json.specs.Replies.{error_members, missed_tokens, refusal_members, refusal_word, reply_members};
+ghost use Rattle.tx_json.specs.Replies.{error_members, missed_tokens, refusal_members, reply_members};
 ghost use Rattle.tx_text.specs.Replies.{error_name};
 
 use crate::line::LineWriter;
@@ -11,6 +11,7 @@ use crate::members::{
 };
 use std::alloc::{AllocError, Global};
 use tx_base::{Missed, Refusal, Reply};
+use tx_lines::refusal_word;
 use tx_text::error_name;
 
 /// Appends the members that say what a step was answered. The only error is that a growth of memory was
@@ -82,27 +83,5 @@ fn put_refusal(writer: &mut LineWriter, refusal: Refusal) -> Result<(), AllocErr
     match refusal {
         Refusal::Busy { starter } => put_count(writer, "holder", u64::from(starter.0)),
         _ => Ok(()),
-    }
-}
-
-/// The word for a refusal.
-fn refusal_word(refusal: Refusal) -> &'static str
-    ensures { result.now ≡ refusal_word refusal }
-{
-    match refusal {
-        Refusal::NoProcess => "N1",
-        Refusal::NotRunning => "N2",
-        Refusal::BadNumber => "N3",
-        Refusal::NumberTaken => "N4",
-        Refusal::Doomed => "N5",
-        Refusal::Parked => "N6",
-        Refusal::KillPending => "N7",
-        Refusal::Busy { .. } => "N8",
-        Refusal::Wait => "N9",
-        Refusal::NotDeliverable => "N10",
-        Refusal::FramesFull => "N11",
-        Refusal::NoTransaction => "N12",
-        Refusal::NoMemory => "N13",
-        Refusal::Deferred => "N14",
     }
 }

@@ -17,3 +17,4 @@ pub mod Words
 pub mod ListedSets
 pub mod NumberFacts
 pub mod SetFacts
+pub mod Refusals

@@ -37,6 +37,7 @@ pub use instructions::{Instruction, Line, Name, Spelling};
 pub use print::bytes::put_bytes;
 pub use print::lists::put_numbers;
 pub use print::members::{dash, put_member, put_set};
+pub use print::refusals::refusal_word;
 pub use print::shapes::put_count_first;
 pub use print::steps::put_step;
 pub use print::words::{put, put_byte, put_count, put_number};

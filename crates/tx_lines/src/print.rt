@@ -5,6 +5,7 @@ pub mod bytes;
 pub mod calls;
 pub mod lists;
 pub mod members;
+pub mod refusals;
 pub mod shapes;
 pub mod steps;
 pub mod words;

@@ -5,33 +5,17 @@ use Rattle.tx_base.specs.Errors.{error_number}
 use Rattle.tx_base.specs.declared.errors.Errno.TheVariants.{NotPermitted, NoSuchProcess, BadDescriptor, NoChild, TryAgain, BadAddress, InvalidArgument, TooManyDescriptors, BrokenPipe}
 use Rattle.tx_base.specs.declared.names.Missed.{Missed}
 use Rattle.tx_base.specs.declared.steps.Refusal.{Refusal}
-use Rattle.tx_base.specs.declared.steps.Refusal.TheVariants.{NoProcess, NotRunning, BadNumber, NumberTaken, Doomed, Parked, KillPending, Busy, Wait, NotDeliverable, FramesFull, NoTransaction, NoMemory, Deferred}
+use Rattle.tx_base.specs.declared.steps.Refusal.TheVariants.{Busy}
 use Rattle.tx_base.specs.declared.steps.Reply.{Reply}
 use Rattle.tx_base.specs.declared.steps.Reply.TheVariants.{Done, Ended, Committed, Aborted, Out, No}
 use Rattle.tx_lines.specs.Bytes.{bytes_text}
+use Rattle.tx_lines.specs.Refusals.{refusal_word}
 use Rattle.tx_text.specs.Each.{each_text}
 
--- the number of a refusal
-abbrev pub number_of : Refusal → ℕ
-number_of NoProcess = 1
-number_of NotRunning = 2
-number_of BadNumber = 3
-number_of NumberTaken = 4
-number_of Doomed = 5
-number_of Parked = 6
-number_of KillPending = 7
-number_of (Busy starter_in_way) = 8
-number_of Wait = 9
-number_of NotDeliverable = 10
-number_of FramesFull = 11
-number_of NoTransaction = 12
-number_of NoMemory = 13
-number_of Deferred = 14
-
--- a refusal: its number, and who holds what is wanted
+-- a refusal: what it is called, and who holds what is wanted
 abbrev pub refusal_text : Refusal → List ℕ
-refusal_text (Busy starter_in_way) = decimal 8 ++ 32 ∷ decimal starter_in_way.0
-refusal_text refusal = decimal (number_of refusal)
+refusal_text (Busy starter_in_way) = codes "N8" ++ 32 ∷ decimal starter_in_way.0
+refusal_text refusal = refusal_word refusal
 
 -- a send that could not be delivered
 abbrev pub missed_text : Missed → List ℕ
@@ -48,7 +32,7 @@ reply_text Ended = codes "ended"
 reply_text (Committed undelivered) = codes "committed" ++ undelivered_text undelivered.items
 reply_text (Aborted status) = codes "aborted " ++ decimal status
 reply_text (Out bytes) = codes "out " ++ bytes_text bytes.items
-reply_text (No refusal) = codes "no N" ++ refusal_text refusal
+reply_text (No refusal) = codes "no " ++ refusal_text refusal
 
 -- the name of the error of that number
 abbrev pub numbered_name : ℕ → Option (List ℕ)

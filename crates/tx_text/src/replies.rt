@@ -1,10 +1,10 @@
 //! Prints replies.
 ghost use Rattle.std.specs.Prelude.{◌≡◌, ◌++◌, ◌∷◌, ◌<◌, ◌^◌, [], OnOk, option_map, string_bytes};
-ghost use Rattle.tx_text.specs.Replies.{error_name, missed_text, name_beside, named_reply_text, number_of, refusal_text, reply_text, undelivered_text};
+ghost use Rattle.tx_text.specs.Replies.{error_name, missed_text, name_beside, named_reply_text, refusal_text, reply_text, undelivered_text};
 
 use std::alloc::AllocError;
 use tx_base::{Missed, Refusal, Reply};
-use tx_lines::{put, put_bytes, put_count, put_number};
+use tx_lines::{put, put_bytes, put_count, put_number, refusal_word};
 
 /// Appends a reply, without its step's number and without a line's end. The only error is that a
 /// growth of memory was refused: the text may then have some of the reply behind what it had.
@@ -31,7 +31,7 @@ pub fn put_reply(text: &mut String, reply: &Reply) -> Result<(), AllocError>
             put_bytes(text, bytes.as_slice())
         }
         Reply::No(refusal) => {
-            put(text, "no N")?;
+            put(text, "no ")?;
             put_refusal(text, *refusal)
         }
     }
@@ -61,39 +61,17 @@ fn put_missed(text: &mut String, missed: &Missed) -> Result<(), AllocError>
     put_count(text, u64::from(missed.errno.number()))
 }
 
-/// Appends the number of a refusal, and the starter where one is in the way.
+/// Appends what a refusal is called, and the starter where one is in the way.
 fn put_refusal(text: &mut String, refusal: Refusal) -> Result<(), AllocError>
     ensures { OnOk result (string_bytes text.new ≡ string_bytes text.old ++ refusal_text refusal) }
 {
-    put_count(text, number(refusal))?;
+    put(text, refusal_word(refusal))?;
     match refusal {
         Refusal::Busy { starter } => {
             put(text, " ")?;
             put_count(text, u64::from(starter.0))
         }
         _ => Ok(()),
-    }
-}
-
-/// The number of a refusal.
-fn number(refusal: Refusal) -> u64
-    ensures { result ≡ number_of refusal }
-{
-    match refusal {
-        Refusal::NoProcess => 1,
-        Refusal::NotRunning => 2,
-        Refusal::BadNumber => 3,
-        Refusal::NumberTaken => 4,
-        Refusal::Doomed => 5,
-        Refusal::Parked => 6,
-        Refusal::KillPending => 7,
-        Refusal::Busy { .. } => 8,
-        Refusal::Wait => 9,
-        Refusal::NotDeliverable => 10,
-        Refusal::FramesFull => 11,
-        Refusal::NoTransaction => 12,
-        Refusal::NoMemory => 13,
-        Refusal::Deferred => 14,
     }
 }
 
