@@ -1,5 +1,5 @@
 -- What is told of a line of a session.
-use Rattle.std.specs.Prelude.{◌≡◌, ℕ, List, [], ◌∷◌, ◌++◌, codes}
+use Rattle.std.specs.Prelude.{◌≡◌, ℕ, List, ◌++◌, codes}
 use Rattle.std.specs.Fmt.{decimal}
 use Rattle.tx_check.specs.Speaking.{SpeaksAt}
 use Rattle.tx_check.specs.Told.{IsColumn, IsInLine}
@@ -11,4 +11,4 @@ pub record IsSessionTold (line text : List ℕ) : Type 0 where
   pub inside : IsColumn line column
   pub in_line : IsInLine sentence
   pub speaks : SpeaksAt line column sentence
-  pub spelled : text ≡ codes "column " ++ (decimal column ++ (codes ": " ++ (sentence ++ 10 ∷ [])))
+  pub spelled : text ≡ codes "column " ++ (decimal column ++ (codes ": " ++ sentence))

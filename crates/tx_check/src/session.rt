@@ -25,9 +25,9 @@ use tx_base::NoMemory;
 use tx_lines::{LINE_BYTES, Version, put, put_count};
 use tx_plain::{Room, plain_line};
 
-/// What is wrong with a line of a session that is neither a step nor asks for anything: a line
-/// `column C: ` and a sentence. At that column is the word of which the sentence speaks. Columns
-/// count bytes from 1; the column after the last byte stands for the line's end.
+/// What is wrong with a line of a session that is neither a step nor asks for anything: `column C: `
+/// and a sentence, without a line's end. At that column is the word of which the sentence speaks.
+/// Columns count bytes from 1; the column after the last byte stands for the line's end.
 ///
 /// `is_third` says that the line is of version 3, and `version` else of which it is. Any line is
 /// answered, also one that is a step or asks for something.
@@ -61,8 +61,7 @@ fn put_column(told: &mut String, line: &[u8], column: u64, sentence: &str) -> Re
     put(told, "column ")?;
     put_count(told, column)?;
     put(told, ": ")?;
-    put(told, sentence)?;
-    put(told, "\n")
+    put(told, sentence)
 }
 
 /// What is wrong with a line of a session.

@@ -26,9 +26,17 @@ line_item line = Token.string line ∷ []
 abbrev pub lines_member : List ℕ → List Token
 lines_member text = list_member (codes "lines") (each_tokens line_item (lines text))
 
+-- how an answer begins that has the lines of a text: with a position, and those
+abbrev pub lines_front : ℕ → List ℕ → List Token
+lines_front at text = begin_object ++ (count_member (codes "at") at ++ lines_member text)
+
+-- a position, the lines of a text, and members behind them
+abbrev pub lines_with : ℕ → List ℕ → List Token → List Token
+lines_with at text members = begin_object ++ (count_member (codes "at") at ++ (lines_member text ++ (members ++ end_object)))
+
 -- a position, and the lines of a text
 abbrev pub lines_answer : ℕ → List ℕ → List Token
-lines_answer at text = begin_object ++ (count_member (codes "at") at ++ (lines_member text ++ end_object))
+lines_answer at text = lines_with at text []
 
 -- the number of a step, where it was accepted
 abbrev pub number_members : ℕ → Reply → List Token

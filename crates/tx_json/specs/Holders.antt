@@ -1,7 +1,6 @@
 -- Who has a side of a pipe open, as a member of an object.
-use Rattle.std.specs.Prelude.{ℕ, List, [], ◌++◌, Option, Some, None, codes}
+use Rattle.std.specs.Prelude.{List, [], ◌++◌, Option, Some, None, codes}
 use Rattle.json.specs.Token.{Token}
-use Rattle.tx_json.specs.Answers.{lines_member}
 use Rattle.tx_json.specs.Each.{each_tokens}
 use Rattle.tx_json.specs.Members.{begin_object, count_member, end_object, list_member}
 use Rattle.tx_json.specs.declared.holders.Holder.{Holder}
@@ -14,7 +13,3 @@ holder_tokens holder = begin_object ++ (count_member (codes "process") holder.pr
 abbrev pub holders_members : Option (List Holder) → List Token
 holders_members None = []
 holders_members (Some holders) = list_member (codes "holders") (each_tokens holder_tokens holders)
-
--- a position, the lines of a text, and those
-abbrev pub why_answer : ℕ → List ℕ → Option (List Holder) → List Token
-why_answer at text holders = begin_object ++ (count_member (codes "at") at ++ (lines_member text ++ (holders_members holders ++ end_object)))

@@ -19,6 +19,14 @@ word_member name word = Token.key name ∷ Token.string word ∷ []
 unfoldable pub flag_member : List ℕ → Bool → List Token
 flag_member name flag = Token.key name ∷ Token.boolean flag ∷ []
 
+-- a key without a value
+unfoldable pub null_member : List ℕ → List Token
+null_member name = Token.key name ∷ Token.null ∷ []
+
+-- a key, and an object behind it
+unfoldable pub object_key : List ℕ → List Token
+object_key name = Token.key name ∷ []
+
 -- the brackets of an object and of an array
 unfoldable pub begin_object : List Token
 begin_object = Token.begin_object ∷ []

@@ -1,9 +1,10 @@
 //! Writes what a line is answered, an object each.
 ghost use Rattle.std.specs.Prelude.{◌≡◌, ◌++◌, IfOk, OnOk, map, string_bytes};
 ghost use Rattle.std.specs.Str.Lines.{lines};
-ghost use Rattle.tx_json.specs.Answers.{empty_answer, entry_answer, error_answer, line_item, lines_answer, lines_member, number_members, position_answer, state_answer, state_key, step_answer, trial_answer};
+ghost use Rattle.tx_json.specs.Answers.{empty_answer, entry_answer, error_answer, line_item, lines_answer, lines_front, lines_member, number_members, position_answer, state_answer, state_key, step_answer, trial_answer};
 ghost use Rattle.tx_json.specs.Each.{each_tokens};
 ghost use Rattle.tx_json.specs.Line.{IsLineOf};
+ghost use Rattle.tx_json.specs.Members.{end_object};
 ghost use Rattle.tx_live.specs.Content.{view_of};
 
 use crate::line::LineWriter;
@@ -46,16 +47,33 @@ pub fn lines_answer(alloc: Global, position: usize, text: &str) -> Result<String
     ensures { IfOk result (λ told.
         IsLineOf (lines_answer position text.now) (string_bytes told)) }
 {
+    end_answer(begin_lines(alloc, position, text)?)
+}
+
+/// A line that begins with a position and the lines of a text, and may have more members.
+pub fn begin_lines(alloc: Global, position: usize, text: &str) -> Result<LineWriter, AllocError>
+    ensures { IfOk result (λ writer. writer ≡ lines_front position text.now) }
+{
     let mut writer = LineWriter::new(alloc);
     begin_object(&mut writer)?;
     put_count(&mut writer, "at", position as u64)?;
     put_lines(alloc, &mut writer, text)?;
+    Ok(writer)
+}
+
+/// The text of a line, once its object is ended.
+///
+/// NoMemory where a growth is refused.
+pub fn end_answer(writer: LineWriter) -> Result<String, NoMemory>
+    ensures { IfOk result (λ text. IsLineOf (writer ++ end_object) (string_bytes text)) }
+{
+    let mut writer = writer;
     end_object(&mut writer)?;
     writer.into_text()
 }
 
 /// Appends the lines of a text.
-pub fn put_lines(alloc: Global, writer: &mut LineWriter, text: &str) -> Result<(), AllocError>
+fn put_lines(alloc: Global, writer: &mut LineWriter, text: &str) -> Result<(), AllocError>
     ensures { OnOk result (writer.new ≡ writer.old ++ lines_member text.now) }
 {
     let lines = lines_in(alloc, text)?;
@@ -133,13 +151,28 @@ pub fn entry_answer(
         IsLineOf (entry_answer number worker step.now reply.now) (string_bytes text)) }
 {
     let mut writer = LineWriter::new(alloc);
-    begin_object(&mut writer)?;
-    put_count(&mut writer, "step", number as u64)?;
-    put_count(&mut writer, "worker", u64::from(worker))?;
-    put_word(&mut writer, "text", step)?;
-    put_reply(alloc, &mut writer, reply)?;
-    end_object(&mut writer)?;
+    put_entry(alloc, &mut writer, number, worker, step, reply)?;
     writer.into_text()
+}
+
+/// Appends an entry of a journal, as `entry_answer` writes it.
+pub fn put_entry(
+    alloc: Global,
+    writer: &mut LineWriter,
+    number: usize,
+    worker: u16,
+    step: &str,
+    reply: &Reply,
+) -> Result<(), AllocError>
+    ensures { OnOk result (writer.new
+        ≡ writer.old ++ entry_answer number worker step.now reply.now) }
+{
+    begin_object(writer)?;
+    put_count(writer, "step", number as u64)?;
+    put_count(writer, "worker", u64::from(worker))?;
+    put_word(writer, "text", step)?;
+    put_reply(alloc, writer, reply)?;
+    end_object(writer)
 }
 
 /// A position, the reply that a step would get there, and the lines of a text.

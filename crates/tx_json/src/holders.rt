@@ -1,15 +1,12 @@
 //! Writes who has a side of a pipe open.
-ghost use Rattle.std.specs.Prelude.{◌≡◌, ◌++◌, IfOk, OnOk, option_map, codes, string_bytes};
+ghost use Rattle.std.specs.Prelude.{◌≡◌, ◌++◌, OnOk, option_map, codes};
 ghost use Rattle.tx_json.specs.Each.{each_tokens};
-ghost use Rattle.tx_json.specs.Holders.{holder_tokens, holders_members, why_answer};
-ghost use Rattle.tx_json.specs.Line.{IsLineOf};
+ghost use Rattle.tx_json.specs.Holders.{holder_tokens, holders_members};
 ghost use Rattle.tx_json.specs.Members.{list_member};
 
-use crate::answers::put_lines;
 use crate::line::LineWriter;
 use crate::members::{begin_list, begin_object, end_list, end_object, put_count};
-use std::alloc::{AllocError, Global};
-use tx_base::NoMemory;
+use std::alloc::AllocError;
 
 /// A descriptor of a process that is open for a side of a pipe.
 #[derive(Clone, Copy)]
@@ -20,31 +17,8 @@ pub struct Holder {
     pub descriptor: u8,
 }
 
-/// A position, the lines of a text, and where it is asked who has a side of a pipe open, who has, as
-/// `{"at":7,"lines":["..",".."],"holders":[{"process":3,"descriptor":1}]}`.
-///
-/// NoMemory where a growth is refused.
-pub fn why_answer(
-    alloc: Global,
-    position: usize,
-    text: &str,
-    holders: Option<&[Holder]>,
-) -> Result<String, NoMemory>
-    ensures { IfOk result (λ told. IsLineOf
-        (why_answer position text.now (option_map (λ held. held.now) holders.entry))
-        (string_bytes told)) }
-{
-    let mut writer = LineWriter::new(alloc);
-    begin_object(&mut writer)?;
-    put_count(&mut writer, "at", position as u64)?;
-    put_lines(alloc, &mut writer, text)?;
-    put_holders(&mut writer, holders)?;
-    end_object(&mut writer)?;
-    writer.into_text()
-}
-
-/// Appends who has a side of a pipe open, where it is asked.
-fn put_holders(writer: &mut LineWriter, holders: Option<&[Holder]>) -> Result<(), AllocError>
+/// Appends who has a side of a pipe open, where it is asked, as `"holders":[{"process":3,"descriptor":1}]`.
+pub fn put_holders(writer: &mut LineWriter, holders: Option<&[Holder]>) -> Result<(), AllocError>
     ensures { OnOk result (writer.new ≡ writer.old
         ++ holders_members (option_map (λ held. held.now) holders.entry)) }
 {

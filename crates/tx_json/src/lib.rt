@@ -1,5 +1,5 @@
 //! The JSON that is printed: a line for each answer, with the members of a reply and the object of a
-//! state.
+//! state; and its writer, for answers with more members.
 #![tactic(auto)]
 
 mod answers;
@@ -15,7 +15,13 @@ mod state;
 mod txns;
 
 pub use answers::{
-    empty_answer, entry_answer, error_answer, lines_answer, position_answer, state_answer,
-    step_answer, trial_answer,
+    begin_lines, empty_answer, end_answer, entry_answer, error_answer, lines_answer,
+    position_answer, put_entry, state_answer, step_answer, trial_answer,
 };
-pub use holders::{Holder, why_answer};
+pub use holders::{Holder, put_holders};
+pub use line::LineWriter;
+pub use lists::put_count_item;
+pub use members::{
+    begin_list, begin_object, end_list, end_object, put_count, put_key, put_null, put_word,
+};
+pub use replies::put_reply;

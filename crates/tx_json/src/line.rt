@@ -1,7 +1,7 @@
 //! Writes a line of JSON.
 ghost use Rattle.std.specs.Prelude.{◌≡◌, ◌++◌, ◌∷◌, [], IfOk, OnOk, string_bytes};
 ghost use Rattle.std.specs.Fmt.{decimal, signed_decimal};
-ghost use Rattle.json.specs.Token.{begin_object, end_object, begin_array, end_array, key, string, number, boolean};
+ghost use Rattle.json.specs.Token.{begin_object, end_object, begin_array, end_array, key, string, number, boolean, null};
 ghost use Rattle.tx_json.specs.Line.{IsLineOf};
 
 use json::Writer;
@@ -106,5 +106,11 @@ impl LineWriter {
         ensures { OnOk result (self.new ≡ self.old ++ boolean flag ∷ []) }
     {
         self.writer.boolean(flag)
+    }
+
+    pub fn null(&mut self) -> Result<(), AllocError>
+        ensures { OnOk result (self.new ≡ self.old ++ null ∷ []) }
+    {
+        self.writer.null()
     }
 }

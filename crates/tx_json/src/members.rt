@@ -1,7 +1,7 @@
 //! Appends the members of an object, a key and a value each.
 ghost use Rattle.std.specs.Prelude.{◌≡◌, ◌++◌, OnOk};
 ghost use Rattle.hex.specs.Hex.{encode_lower};
-ghost use Rattle.tx_json.specs.Members.{begin_list, begin_object, count_member, end_list, end_object, flag_member, number_member, word_member};
+ghost use Rattle.tx_json.specs.Members.{begin_list, begin_object, count_member, end_list, end_object, flag_member, null_member, number_member, object_key, word_member};
 
 use crate::line::LineWriter;
 use std::alloc::{AllocError, Global};
@@ -44,6 +44,23 @@ pub fn put_flag(writer: &mut LineWriter, name: &str, flag: bool) -> Result<(), A
 {
     writer.key(name)?;
     writer.boolean(flag)
+}
+
+/// Appends a key without a value.
+#[tactic(auto, unfolding(crate::specs::Members::null_member))]
+pub fn put_null(writer: &mut LineWriter, name: &str) -> Result<(), AllocError>
+    ensures { OnOk result (writer.new ≡ writer.old ++ null_member name.now) }
+{
+    writer.key(name)?;
+    writer.null()
+}
+
+/// Appends the key of an object.
+#[tactic(auto, unfolding(crate::specs::Members::object_key))]
+pub fn put_key(writer: &mut LineWriter, name: &str) -> Result<(), AllocError>
+    ensures { OnOk result (writer.new ≡ writer.old ++ object_key name.now) }
+{
+    writer.key(name)
 }
 
 /// Appends bytes, two lower-case hex digits each.

@@ -14,7 +14,6 @@ pub mod Numbered
 pub mod OwnSteps
 pub mod Owned
 pub mod Replayed
-pub mod Sentences
 pub mod Shown
 pub mod Sought
 pub mod Spelled

@@ -12,19 +12,19 @@ use Rattle.tx_script.specs.Debug.{first_steps}
 use Rattle.tx_shell.specs.Journals.{by_number, steps_of}
 
 -- what is said of the first i entries stands behind what there was before
-abbrev pub ListedSoFar : (ℕ → Accepted → List ℕ) → List Entry → List ℕ → List ℕ → ℕ → Type 0
+abbrev pub ListedSoFar : {B : Type 0} → (ℕ → Accepted → List B) → List Entry → List B → List B → ℕ → Type 0
 ListedSoFar say entries before text i = before ++ by_number say 1 (map accepted_of entries) ≡ text ++ by_number say (i + 1) (map accepted_of (drop i entries))
 
-pub one_listed_more : (say : ℕ → Accepted → List ℕ) (entries : List Entry) (before text more : List ℕ) (i : ℕ) (entry : Entry) → ListedSoFar say entries before text i
+pub one_listed_more : {B : Type 0} (say : ℕ → Accepted → List B) (entries : List Entry) (before text more : List B) (i : ℕ) (entry : Entry) → ListedSoFar say entries before text i
     → drop i entries ≡ entry ∷ drop (i + 1) entries → more ≡ text ++ say (i + 1) (accepted_of entry) → ListedSoFar say entries before more (i + 1)
-one_listed_more say entries before text more i entry so cut put =
-    let rest : List ℕ = by_number say (i + 1 + 1) (map accepted_of (drop (i + 1) entries)) in
+one_listed_more {B} say entries before text more i entry so cut put =
+    let rest : List B = by_number say (i + 1 + 1) (map accepted_of (drop (i + 1) entries)) in
     so
     ∙ ap (λ (xs : List Entry). text ++ by_number say (i + 1) (map accepted_of xs)) cut
     ∙ sym (append_assoc text (say (i + 1) (accepted_of entry)) rest)
-    ∙ ap (λ (t : List ℕ). t ++ rest) (sym put)
+    ∙ ap (λ (t : List B). t ++ rest) (sym put)
 
-pub all_listed : (say : ℕ → Accepted → List ℕ) (entries : List Entry) (before text : List ℕ) (i : ℕ) → ListedSoFar say entries before text i → length entries ≤ i
+pub all_listed : {B : Type 0} (say : ℕ → Accepted → List B) (entries : List Entry) (before text : List B) (i : ℕ) → ListedSoFar say entries before text i → length entries ≤ i
     → text ≡ before ++ by_number say 1 (map accepted_of entries)
 all_listed say entries before text i so past =
     sym (so ∙ ap (λ (xs : List Entry). text ++ by_number say (i + 1) (map accepted_of xs)) (drop_of_length-le entries past) ∙ append-nil text)

@@ -14,7 +14,7 @@ use Rattle.tx_lines.specs.declared.read.header.Version.TheVariants as versions
 use Rattle.tx_model.specs.Schedules.{history_with}
 use Rattle.tx_model.specs.State.{State}
 use Rattle.tx_script.specs.Debug.{first_steps}
-use Rattle.tx_shell.specs.Answers.{AnswersAsk, AnswersAskIn, AnswersStep, AnswersWords}
+use Rattle.tx_shell.specs.Answers.{AnswersAsk, AnswersAskIn, AnswersAskJson, AnswersStep, AnswersWords}
 use Rattle.tx_shell.specs.Events.{End, Failure, Line, Talks, Text}
 use Rattle.tx_shell.specs.Origins.{Origin, version_of}
 use Rattle.tx_shell.specs.Places.{Place}
@@ -74,16 +74,36 @@ module _ (o : Origin) (p q : Place) (text : List ℕ) (all : AllFit o.version p.
   asked refused asks.WhyRefused answers = same_place answers.1
   asked refused asks.Owns answers = same_place answers.1
   asked refused (asks.OwnsOf starter) answers = same_place answers.1
-  asked refused (asks.When piece) tells = same_history tells.history
-  asked refused (asks.Next piece) tells = same_history tells.history
+  asked refused (asks.When piece) tells = same_history tells.finds.history
+  asked refused (asks.Next piece) tells = same_history tells.finds.history
   asked refused asks.Cut cuts = subst (AllFit o.version) (sym cuts.history) (first_fit o.version p.at p.history all)
   asked refused asks.Help answers = same_place answers.1
   asked refused (asks.HelpOn word) answers = same_place answers.1
 
+-- what JSON answers stands for a text
+json_told : (o : Origin) (p q : Place) (refused : Option Step) (ask : Ask) (text : List ℕ) → AnswersAskJson o p refused ask text q → (told : List ℕ) × AnswersAsk o p refused ask told q
+json_told o p q refused (asks.When piece) text (found, finds, says) = (says.told, record { change = found; finds = finds; tells = says.tells })
+json_told o p q refused (asks.Next piece) text (found, finds, says) = (says.told, record { change = found; finds = finds; tells = says.tells })
+json_told o p q refused (asks.Walk command) text json = (json.told, json.answers)
+json_told o p q refused asks.GotoEnd text json = (json.told, json.answers)
+json_told o p q refused asks.Steps text json = (json.told, json.answers)
+json_told o p q refused (asks.StepsFrom first) text json = (json.told, json.answers)
+json_told o p q refused (asks.StepsBetween first last) text json = (json.told, json.answers)
+json_told o p q refused asks.Text text json = (json.told, json.answers)
+json_told o p q refused (asks.Try step) text json = (json.told, json.answers)
+json_told o p q refused (asks.Without starter) text json = (json.told, json.answers)
+json_told o p q refused (asks.Why step) text json = (json.told, json.answers)
+json_told o p q refused asks.WhyRefused text json = (json.told, json.answers)
+json_told o p q refused asks.Owns text json = (json.told, json.answers)
+json_told o p q refused (asks.OwnsOf starter) text json = (json.told, json.answers)
+json_told o p q refused asks.Cut text json = (json.told, json.answers)
+json_told o p q refused asks.Help text json = (json.told, json.answers)
+json_told o p q refused (asks.HelpOn word) text json = (json.told, json.answers)
+
 module _ (o : Origin) (p q : Place) (text : List ℕ) (all : AllFit o.version p.history) where
   asked_in : (form : Form) (refused : Option Step) (ask : Ask) → AnswersAskIn form o p refused ask text q → AllFit o.version q.history
   asked_in forms.Text refused ask answers = asked o p q text all refused ask answers
-  asked_in forms.Json refused ask json = asked o p q json.told all refused ask json.answers
+  asked_in forms.Json refused ask json = let told = json_told o p q refused ask text json in asked o p q told.0 all refused ask told.1
 
   worded : (form : Form) (before after : Option Step) (line words : List ℕ) → AnswersWords form o p before line words text q after → AllFit o.version q.history
   worded form before after line words (inl (step, is, answers, kept)) = stepped o p q text all form step (record { fits = is.fits; of = is.of }) _ answers

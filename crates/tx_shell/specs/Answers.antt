@@ -6,10 +6,8 @@ use Rattle.tx_base.specs.declared.steps.Step.{Step}
 use Rattle.tx_base.specs.declared.steps.Step.TheVariants.{KernelAbort}
 use Rattle.tx_explain.specs.Topics.{is_page}
 use Rattle.tx_journal.specs.Trials.{view_with}
-use Rattle.tx_json.specs.Answers.{lines_answer, position_answer, state_answer, trial_answer}
-use Rattle.tx_json.specs.Holders.{why_answer}
+use Rattle.tx_json.specs.Answers.{lines_answer, lines_with, position_answer, state_answer, trial_answer}
 use Rattle.tx_json.specs.Line.{IsLineOf}
-use Rattle.tx_json.specs.declared.holders.Holder.{Holder}
 use Rattle.tx_lines.specs.Lines.{FitsStep, IsOf, step_text}
 use Rattle.tx_lines.specs.Schedule.{IsNoStep}
 use Rattle.tx_lines.specs.declared.read.command.Command.{Command}
@@ -21,12 +19,12 @@ use Rattle.tx_model.specs.State.{State}
 use Rattle.tx_model.specs.View.{View, view}
 use Rattle.tx_script.specs.Debug.{command_answer, first_steps, position_after, position_text}
 use Rattle.tx_shell.specs.Asks.{ask_text, FitsAsk, IsNoAsk}
-use Rattle.tx_shell.specs.Changes.{shown_at, TellsLast, TellsNext}
+use Rattle.tx_shell.specs.Changes.{shown_at, FindsLast, FindsNext, TellsFound, TellsLast, TellsNext}
 use Rattle.tx_shell.specs.Differences.{views_differing}
 use Rattle.tx_shell.specs.Forms.{SaysAhead, SaysReply, TellsIn}
 use Rattle.tx_shell.specs.Helps.{HelpsOn}
-use Rattle.tx_shell.specs.Holders.{awaited_holders}
 use Rattle.tx_shell.specs.Journals.{schedule_so_far, steps_listed, steps_made}
+use Rattle.tx_shell.specs.Members.{owner_member, owners_member, steps_member, transaction_member, why_members, IsChangeMember}
 use Rattle.tx_shell.specs.Origins.{Origin, start_in}
 use Rattle.tx_shell.specs.Owners.{or_no_transaction, owner_line, owner_lines}
 use Rattle.tx_shell.specs.Places.{Place}
@@ -36,6 +34,7 @@ use Rattle.tx_shell.specs.declared.lines.asks.Ask.{Ask}
 use Rattle.tx_shell.specs.declared.lines.asks.Ask.TheVariants as asks
 use Rattle.tx_shell.specs.declared.answers.forms.Form.{Form}
 use Rattle.tx_shell.specs.declared.answers.forms.Form.TheVariants.{Text, Json}
+use Rattle.tx_shell.specs.declared.questions.changes.Change.{Change}
 use Rattle.tx_text.specs.Replies.{named_reply_text}
 
 -- at the end a step is made: its reply is told, and it is recorded where it was accepted
@@ -118,27 +117,49 @@ pub record IsAskLine (o : Origin) (words : List ℕ) (ask : Ask) : Type 0 where
   pub fits : FitsAsk (grammar_of o.version) ask
   pub spelled : words ≡ ask_text ask
 
--- who could end the wait of the step that was refused last
-abbrev pub last_holders : View → Option Step → Option (List Holder)
-last_holders V None = None
-last_holders V (Some step) = awaited_holders V step
+-- what JSON has of the step that was refused last: nothing where none was
+abbrev pub last_members : State → List Accepted → Option Step → List Token
+last_members S h None = []
+last_members S h (Some step) = why_members S h step
 
--- what JSON has of what is asked for: of a state the state, of a step that is tried its reply and the lines that differ, of why a step is refused its lines
--- and who could end its wait, of a cut the position; of all else the lines of the text
+-- what JSON has of what is asked for, where the lines of the text and the position are known: of a state the state, of a step that is tried its reply and
+-- the lines that differ, of a cut the position; of all else the lines, and behind them the steps that are listed, what is reserved, the transaction without
+-- which the state would differ, or why a step is refused
 abbrev pub ask_tokens : Origin → Place → Option Step → Ask → List ℕ → ℕ → List Token
 ask_tokens o p refused (asks.Walk commands.State) told at = state_answer at (view_at o p)
 ask_tokens o p refused (asks.Try step) told at =
     trial_answer at (answer (view_at o p) step) (views_differing (view_at o p) (view_with (start_in o) (first_steps p.at p.history) step))
-ask_tokens o p refused (asks.Why step) told at = why_answer at told (awaited_holders (view_at o p) step)
-ask_tokens o p refused asks.WhyRefused told at = why_answer at told (last_holders (view_at o p) refused)
+ask_tokens o p refused asks.Steps told at = lines_with at told (steps_member p 1 (length p.history))
+ask_tokens o p refused (asks.StepsFrom first) told at = lines_with at told (steps_member p first (length p.history))
+ask_tokens o p refused (asks.StepsBetween first last) told at = lines_with at told (steps_member p first last)
+ask_tokens o p refused (asks.Without starter) told at = lines_with at told (transaction_member (view_at o p) starter)
+ask_tokens o p refused (asks.Why step) told at = lines_with at told (why_members (start_in o) (first_steps p.at p.history) step)
+ask_tokens o p refused asks.WhyRefused told at = lines_with at told (last_members (start_in o) (first_steps p.at p.history) refused)
+ask_tokens o p refused asks.Owns told at = lines_with at told (owners_member (view_at o p))
+ask_tokens o p refused (asks.OwnsOf starter) told at = lines_with at told (owner_member (view_at o p) starter)
 ask_tokens o p refused asks.Cut told at = position_answer at
 ask_tokens o p refused ask told at = lines_answer at told
 
 -- what is asked for is done, and answered by JSON in place of the text that is known
-pub record AnswersAskJson (o : Origin) (p : Place) (refused : Option Step) (ask : Ask) (text : List ℕ) (q : Place) : Type 0 where
+pub record AnswersByTokens (o : Origin) (p : Place) (refused : Option Step) (ask : Ask) (text : List ℕ) (q : Place) : Type 0 where
   pub told : List ℕ
   pub answers : AnswersAsk o p refused ask told q
   pub says : IsLineOf (ask_tokens o p refused ask told q.at) text
+
+-- of a change that was found, or not, JSON has the lines of its text and the step
+pub record SaysFound (history : List Accepted) (at : ℕ) (found : Option Change) (text : List ℕ) : Type 0 where
+  pub told : List ℕ
+  pub tells : TellsFound history at found told
+  pub members : List Token
+  pub has : IsChangeMember history at found members
+  pub says : IsLineOf (lines_with at told members) text
+
+abbrev pub AnswersAskJson : Origin → Place → Option Step → Ask → List ℕ → Place → Type 0
+AnswersAskJson o p refused (asks.When piece) text q =
+    (found : Option Change) × FindsLast (shown_at (start_in o) p.history piece) p found q × SaysFound q.history q.at found text
+AnswersAskJson o p refused (asks.Next piece) text q =
+    (found : Option Change) × FindsNext (shown_at (start_in o) p.history piece) p found q × SaysFound q.history q.at found text
+AnswersAskJson o p refused ask text q = AnswersByTokens o p refused ask text q
 
 -- in either form
 abbrev pub AnswersAskIn : Form → Origin → Place → Option Step → Ask → List ℕ → Place → Type 0

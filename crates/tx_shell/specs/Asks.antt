@@ -57,11 +57,12 @@ IsOfWords asks.Cut = Unit {0}
 IsOfWords asks.Help = Unit {0}
 IsOfWords ask = ⊥
 
--- JSON has the lines of its text
+-- JSON has the lines of its text alone
 abbrev pub IsToldByLines : Ask → Type 0
 IsToldByLines (asks.Walk commands.State) = ⊥
-IsToldByLines (asks.Try step) = ⊥
-IsToldByLines (asks.Why step) = ⊥
-IsToldByLines asks.WhyRefused = ⊥
-IsToldByLines asks.Cut = ⊥
-IsToldByLines ask = Unit {0}
+IsToldByLines (asks.Walk command) = Unit {0}
+IsToldByLines asks.GotoEnd = Unit {0}
+IsToldByLines asks.Text = Unit {0}
+IsToldByLines asks.Help = Unit {0}
+IsToldByLines (asks.HelpOn word) = Unit {0}
+IsToldByLines ask = ⊥

@@ -1,5 +1,5 @@
 -- Which step changed a piece of the state last, and which changes it next.
-use Rattle.std.specs.Prelude.{◌≡◌, ◌≢◌, ◌⊎◌, ◌≤◌, ◌+◌, ◌-◌, ℕ, List, [], ◌∷◌, ◌++◌, Some, codes, length, reverse, slice_get}
+use Rattle.std.specs.Prelude.{◌≡◌, ◌≢◌, ◌≤◌, ◌+◌, ◌-◌, ℕ, List, [], ◌∷◌, ◌++◌, MatchOption, Option, Some, codes, length, reverse, slice_get, string_bytes}
 use Rattle.std.specs.Fmt.{decimal}
 use Rattle.tx_base.specs.declared.steps.Accepted.{Accepted}
 use Rattle.tx_base.specs.declared.steps.Step.{Step}
@@ -10,6 +10,7 @@ use Rattle.tx_model.specs.State.{State}
 use Rattle.tx_script.specs.Debug.{view_at}
 use Rattle.tx_shell.specs.Differences.{differing}
 use Rattle.tx_shell.specs.Places.{Place}
+use Rattle.tx_shell.specs.declared.questions.changes.Change.{Change}
 
 -- the lines of a piece at each position
 abbrev pub shown_at : State → List Accepted → Piece → ℕ → List ℕ
@@ -48,36 +49,52 @@ change_line number step = codes "at " ++ (decimal number ++ (codes ": " ++ (step
 abbrev pub no_change_text : ℕ → List ℕ
 no_change_text at = codes "at " ++ (decimal at ++ codes ": no change\n")
 
+-- the step of that number changed them, from the lines of the one side to those of the other
+pub record IsChange (shown : ℕ → List ℕ) (number : ℕ) (change : Change) : Type 0 where
+  pub before : string_bytes change.before ≡ shown (number - 1)
+  pub after : string_bytes change.after ≡ shown number
+  pub changed : shown number ≢ shown (number - 1)
+
+-- the position goes back to the one behind the last step that changed them, or to the start where none did
+pub record FindsLast (shown : ℕ → List ℕ) (p : Place) (found : Option Change) (q : Place) : Type 0 where
+  pub history : q.history ≡ p.history
+  pub back : q.at ≤ p.at
+  pub same : IsSame shown q.at p.at
+  pub outcome : MatchOption found (q.at ≡ 0) (λ change. (1 ≤ q.at) × IsChange shown q.at change)
+
+-- it goes on to the one behind the next step that changes them
+pub record ChangesNext (shown : ℕ → List ℕ) (p : Place) (change : Change) (q : Place) : Type 0 where
+  pub later : p.at + 1 ≤ q.at
+  pub inside : q.at ≤ length p.history
+  pub same : IsSame shown p.at (q.at - 1)
+  pub is : IsChange shown q.at change
+
+-- none does, and it goes on to the end
+pub record StaysSame (shown : ℕ → List ℕ) (p q : Place) : Type 0 where
+  pub at : q.at ≡ length p.history
+  pub same : IsSame shown p.at q.at
+
+pub record FindsNext (shown : ℕ → List ℕ) (p : Place) (found : Option Change) (q : Place) : Type 0 where
+  pub history : q.history ≡ p.history
+  pub outcome : MatchOption found (StaysSame shown p q) (λ change. ChangesNext shown p change q)
+
 -- the step of that number is told, and by which lines they differ
 pub record TellsStep (history : List Accepted) (number : ℕ) (before after text : List ℕ) : Type 0 where
   pub entry : Accepted
   pub made : slice_get (reverse history) (number - 1) ≡ Some entry
   pub told : text ≡ change_line number entry.step ++ differing before after
 
--- the step of that number changed them, and that is told
-pub record TellsChange (shown : ℕ → List ℕ) (history : List Accepted) (number : ℕ) (text : List ℕ) : Type 0 where
-  pub changed : shown number ≢ shown (number - 1)
-  pub tells : TellsStep history number (shown (number - 1)) (shown number) text
+-- what was found is told: the step directly before the position, or that there is none
+abbrev pub TellsFound : List Accepted → ℕ → Option Change → List ℕ → Type 0
+TellsFound history at found text =
+    MatchOption found (text ≡ no_change_text at) (λ change. TellsStep history at (string_bytes change.before) (string_bytes change.after) text)
 
--- the position goes back to the one behind the last step that changed them, or to the start where none did
 pub record TellsLast (shown : ℕ → List ℕ) (p : Place) (text : List ℕ) (q : Place) : Type 0 where
-  pub history : q.history ≡ p.history
-  pub back : q.at ≤ p.at
-  pub same : IsSame shown q.at p.at
-  pub told : ((1 ≤ q.at) × TellsChange shown p.history q.at text) ⊎ ((q.at ≡ 0) × (text ≡ no_change_text 0))
-
--- it goes on to the one behind the next step that changes them
-pub record ChangesNext (shown : ℕ → List ℕ) (p : Place) (text : List ℕ) (q : Place) : Type 0 where
-  pub later : p.at + 1 ≤ q.at
-  pub same : IsSame shown p.at (q.at - 1)
-  pub tells : TellsChange shown p.history q.at text
-
--- none does, and it goes on to the end
-pub record StaysSame (shown : ℕ → List ℕ) (p : Place) (text : List ℕ) (q : Place) : Type 0 where
-  pub at : q.at ≡ length p.history
-  pub same : IsSame shown p.at q.at
-  pub told : text ≡ no_change_text q.at
+  pub change : Option Change
+  pub finds : FindsLast shown p change q
+  pub tells : TellsFound q.history q.at change text
 
 pub record TellsNext (shown : ℕ → List ℕ) (p : Place) (text : List ℕ) (q : Place) : Type 0 where
-  pub history : q.history ≡ p.history
-  pub told : ChangesNext shown p text q ⊎ StaysSame shown p text q
+  pub change : Option Change
+  pub finds : FindsNext shown p change q
+  pub tells : TellsFound q.history q.at change text

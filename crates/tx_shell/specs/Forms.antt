@@ -1,6 +1,7 @@
 -- Answers that are the same in each form.
 use Rattle.std.specs.Prelude.{◌≡◌, ℕ, List, [], ◌∷◌, ◌++◌, codes}
 use Rattle.tx_base.specs.declared.steps.Reply.{Reply}
+use Rattle.tx_check.specs.Sessions.{IsSessionTold}
 use Rattle.tx_json.specs.Answers.{empty_answer, error_answer, position_answer, step_answer}
 use Rattle.tx_json.specs.Line.{IsLineOf}
 use Rattle.tx_script.specs.Debug.{position_text}
@@ -29,7 +30,7 @@ abbrev pub SaysAhead : Form → List ℕ → Type 0
 SaysAhead Text text = text ≡ codes "no: steps are ahead; cut lets go of them, forward makes them again\n"
 SaysAhead Json text = IsLineOf (error_answer (codes "steps are ahead; cut lets go of them, forward makes them again")) text
 
--- what is wrong with a line: in JSON what the text has behind its mark, without the line's end
+-- what is wrong with a line
 abbrev pub TellsIn : Form → List ℕ → List ℕ → Type 0
 TellsIn Text line text = TellsOf line text
-TellsIn Json line text = (sentence : List ℕ) × TellsOf line (codes "? " ++ (sentence ++ 10 ∷ [])) × IsLineOf (error_answer sentence) text
+TellsIn Json line text = (told : List ℕ) × IsSessionTold line told × IsLineOf (error_answer told) text

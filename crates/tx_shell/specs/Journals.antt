@@ -24,7 +24,7 @@ abbrev pub listed_between : ℕ → ℕ → ℕ → ℕ → Accepted → List �
 listed_between at first last number e = if nat_le first number && nat_le number last then step_line number e ++ mark_at at number else []
 
 -- what is said of some things by their numbers, of which the first is that one
-abbrev pub by_number : {A : Type 0} → (ℕ → A → List ℕ) → ℕ → List A → List ℕ
+abbrev pub by_number : {A B : Type 0} → (ℕ → A → List B) → ℕ → List A → List B
 by_number say number [] = []
 by_number say number (x ∷ xs) = say number x ++ by_number say (number + 1) xs
 

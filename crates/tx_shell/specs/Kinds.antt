@@ -21,3 +21,9 @@ abbrev pub word_of : Kind → List ℕ
 word_of Processes = codes "proc "
 word_of Descriptions = codes "desc "
 word_of Pipes = codes "pipe "
+
+-- what JSON calls the list of the objects of a kind
+abbrev pub list_of : Kind → List ℕ
+list_of Processes = codes "procs"
+list_of Descriptions = codes "descs"
+list_of Pipes = codes "pipes"

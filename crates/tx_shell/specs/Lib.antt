@@ -1,5 +1,6 @@
 pub mod Answers
 pub mod Asks
+pub mod Blockers
 pub mod Changes
 pub mod Cuts
 pub mod Differences
@@ -10,6 +11,7 @@ pub mod Holders
 pub mod Journals
 pub mod Kinds
 pub mod Meanings
+pub mod Members
 pub mod Origins
 pub mod Owners
 pub mod Pieces

@@ -1,5 +1,5 @@
 -- Why a step would be refused, as it is told.
-use Rattle.std.specs.Prelude.{◌≡◌, ℕ, ℤ, Bool, false, List, [], ◌∷◌, ◌++◌, Option, Some, None, MatchOption, codes, if◌then◌else◌}
+use Rattle.std.specs.Prelude.{◌≡◌, ℕ, ℤ, List, [], ◌∷◌, ◌++◌, Option, Some, None, MatchOption, codes, map, option_map, if◌then◌else◌}
 use Rattle.std.specs.Fmt.{decimal, signed_decimal}
 use Rattle.tx_base.specs.declared.steps.Accepted.{Accepted}
 use Rattle.tx_base.specs.declared.steps.Refusal.{Refusal}
@@ -9,23 +9,22 @@ use Rattle.tx_base.specs.declared.steps.Reply.TheVariants.{No}
 use Rattle.tx_base.specs.declared.steps.Step.{Step}
 use Rattle.tx_base.specs.declared.steps.Step.TheVariants as steps
 use Rattle.tx_base.specs.declared.steps.Call.TheVariants as calls
-use Rattle.tx_core.specs.Owners.{other_owner}
 use Rattle.tx_explain.specs.Calls.{refusal_word}
-use Rattle.tx_journal.specs.Since.{Numbered, first_touch}
+use Rattle.tx_json.specs.declared.holders.Holder.{Holder}
+use Rattle.tx_journal.specs.Since.{Numbered}
 use Rattle.tx_lines.specs.Lines.{step_text}
 use Rattle.tx_model.specs.Answer.{answer}
-use Rattle.tx_model.specs.Events.{process_of}
-use Rattle.tx_model.specs.Footprints.{footprint}
-use Rattle.tx_model.specs.State.{ReadSide, Side, State, WriteSide, has_object}
-use Rattle.tx_model.specs.View.{present, view}
-use Rattle.tx_reserve.specs.Objects.{is_small}
+use Rattle.tx_model.specs.State.{ReadSide, Side, State, WriteSide}
+use Rattle.tx_model.specs.View.{view}
+use Rattle.tx_shell.specs.Blockers.{blocked, blocked_by, blocked_of, names_one, Blocked}
 use Rattle.tx_shell.specs.Helps.{HelpsOn}
-use Rattle.tx_shell.specs.Holders.{holders_line, side_holders}
-use Rattle.tx_shell.specs.Kinds.{limit_of, object_in, word_of}
+use Rattle.tx_shell.specs.Holders.{awaited_by, holders_line, side_holders}
+use Rattle.tx_shell.specs.Kinds.{limit_of, word_of}
 use Rattle.tx_shell.specs.Signals.{signal_lines}
 use Rattle.tx_shell.specs.declared.questions.kinds.Kind.{Kind}
-use Rattle.tx_shell.specs.declared.questions.kinds.Kind.TheVariants.{Processes, Descriptions, Pipes}
-use Rattle.tx_text.specs.Each.{upto}
+use Rattle.tx_shell.specs.declared.questions.kinds.Kind.TheVariants.{Pipes}
+use Rattle.tx_shell.specs.declared.questions.reasons.Reason.{Reason}
+use Rattle.tx_text.specs.Each.{each_text, upto}
 use Rattle.tx_text.specs.Replies.{named_reply_text}
 
 -- since which step
@@ -71,38 +70,18 @@ waited_by pipes who other = []
 abbrev pub answered_text : Reply → List ℕ
 answered_text reply = codes ": it would be answered " ++ (named_reply_text reply ++ 10 ∷ [])
 
-module _ (S : State) (h : List Accepted) where
-  -- the line of an object that the transaction of s has
-  abbrev pub owned_line : Kind → ℕ → ℕ → List ℕ
-  owned_line kind number s = name_text kind number ++ (holder_text s ++ (since_text (first_touch S h s (object_in kind number)) ++ 10 ∷ []))
-
-  -- and of one of which that is the other owner
-  abbrev pub other_line : Kind → ℕ → Option ℕ → List ℕ
-  other_line kind number None = []
-  other_line kind number (Some s) = owned_line kind number s
+-- the line of an object in the way
+abbrev pub blocked_line : Blocked → List ℕ
+blocked_line b = name_text b.kind b.number ++ (holder_text b.owner ++ (since_text b.since ++ 10 ∷ []))
 
 module _ (S : State) (h : List Accepted) (step : Step) where
-  -- whether the step names the object of a kind and a number
-  abbrev pub names_one : Kind → ℕ → Bool
-  names_one kind number =
-      let V = view S h in
-      let o = object_in kind number in
-      if is_small o then has_object o (footprint V.table step (present V)) else false
-
-  -- the line of an object that the step names, and that another's transaction has reserved
-  abbrev pub object_line : Kind → ℕ → List ℕ
-  object_line kind number = if names_one kind number then other_line S h kind number (other_owner (view S h) (process_of step) (object_in kind number)) else []
-
-  abbrev pub lines_of_kind : Kind → List ℕ
-  lines_of_kind kind = upto (object_line kind) (limit_of kind)
-
-  -- the lines of all such objects, by kinds and rising numbers
+  -- the lines of the objects in its way
   abbrev pub object_lines : List ℕ
-  object_lines = lines_of_kind Processes ++ (lines_of_kind Descriptions ++ lines_of_kind Pipes)
+  object_lines = each_text blocked_line (blocked S h step)
 
   -- the line of a pipe that the step names, and waits for
   abbrev pub pipe_line : List ℕ → ℕ → List ℕ
-  pipe_line why number = if names_one Pipes number then name_text Pipes number ++ why else []
+  pipe_line why number = if names_one S h step Pipes number then name_text Pipes number ++ why else []
 
   abbrev pub pipe_lines : List ℕ → List ℕ
   pipe_lines why = upto (pipe_line why) (limit_of Pipes)
@@ -145,6 +124,16 @@ module _ (S : State) (h : List Accepted) (step : Step) where
     pub behind : List ℕ
     pub told : text ≡ step_text step ++ behind
     pub reply : TellsReply (answer (view S h) step) behind
+
+-- what there is to tell of a step that would get this reply: what is in its way, and who could end its wait
+pub record IsReason (S : State) (h : List Accepted) (step : Step) (reply : Reply) (reason : Reason) : Type 0 where
+  pub blockers : map blocked_of reason.blockers.items ≡ blocked_by S h step reply
+  pub holders : option_map (λ held. held.items) reason.holders ≡ awaited_by (view S h) step reply
+
+-- who has that side open, where it is asked
+abbrev pub open_by : Side → Option (List Holder) → List ℕ
+open_by side None = []
+open_by side (Some holders) = holders_line side holders
 
 -- of the step that was refused last, or that none was
 abbrev pub TellsRefused : State → List Accepted → Option Step → List ℕ → Type 0

@@ -20,7 +20,9 @@ pub record Standing : Type 0 where
   pub refused : Option Step
 
 abbrev pub standing_of : Shell → Standing
-standing_of shell = record { form = shell.form; origin = origin_of shell.version shell.session; is_fresh = shell.is_fresh; place = place_of shell.session; refused = shell.refused }
+standing_of shell =
+    let i = shell.interpreter in
+    record { form = i.form; origin = origin_of i.version i.session; is_fresh = shell.is_fresh; place = place_of i.session; refused = i.refused }
 
 -- no step is made
 abbrev pub at_start : Place

@@ -17,7 +17,6 @@ pub mod reserving;
 pub mod steps;
 pub mod tells;
 
-use crate::answers::as_json::answer_as_json;
 use crate::answers::forms::Form;
 use crate::answers::helps::{help, help_on, text_as};
 use crate::answers::journals::{list_steps, position_line, print_schedule};
@@ -36,72 +35,141 @@ use tx_journal::Session;
 use tx_lines::{Command, read_step};
 use tx_script::put_answer;
 
-/// Does what a line of that version says, which means those words, and puts its answer in a form in place
-/// of what the text had. Keeps which step was refused last.
-///
-/// NoMemory where a growth is refused: no step came or went then, and the position is the old one, or
-/// lies between that and the one that is asked for. The text has nothing to be shown.
-pub fn answer_words(
-    alloc: Global,
-    form: Form,
-    version: TextVersion,
-    session: &mut Session,
-    refused: &mut Option<Step>,
-    line: &[u8],
-    words: &[u8],
-    text: &mut String,
-) -> Result<(), NoMemory>
-    ensures answer { OnOk result
-        (AnswersWords form (origin_of version session.old) (place_of session.old) refused.old
-        line.now words.now (string_bytes text.new) (place_of session.new) refused.new) }
-    ensures stops { OnErr result
-        (StopsShortOf (origin_of version session.old) (place_of session.old) words.now
-        (place_of session.new)) }
-    ensures kept { OnErr result (refused.new ≡ refused.old) }
-    ensures boot { SameBoot session.new session.old }
-{
-    let mut read = read_step(version.grammar(), words);
-    if let Some(step) = &mut read {
-        let mut reply = Reply::Ended;
-        return answer_step_line(alloc, form, session, refused, step, &mut reply, text);
-    }
-    if let Some(ask) = read_ask(version.grammar(), words) {
-        *text = answer_ask(alloc, form, version, session, refused, ask)?;
-        return Ok(());
-    }
-    *text = tell_in(alloc, form, version, line)?;
-    Ok(())
+/// What answers lines: a session, of which version its lines are, and in which form it is answered.
+#[derive(Drop)]
+pub struct Interpreter {
+    pub form: Form,
+    pub version: TextVersion,
+    pub session: Session,
+    /// The last of its steps that was to be made and was refused.
+    pub refused: Option<Step>,
 }
 
-/// Makes a step, puts its reply where it is to stand, and its answer in a form in place of what the text
-/// had. Keeps the step where it was to be made and was refused.
-///
-/// NoMemory where a growth is refused; no step came or went then. The text has nothing to be shown.
-pub fn answer_step_line(
-    alloc: Global,
-    form: Form,
-    session: &mut Session,
-    refused: &mut Option<Step>,
-    step: &mut Step,
-    reply: &mut Reply,
-    text: &mut String,
-) -> Result<(), NoMemory>
-    ensures answer { OnOk result
-        (AnswersStep form (start_of session.old) (place_of session.old) step.old
-        (string_bytes text.new) (place_of session.new)) }
-    ensures kept { OnOk result (refused.new
-        ≡ refused_by (place_of session.old) step.old (place_of session.new) refused.old) }
-    ensures stops { OnErr result (place_of session.new ≡ place_of session.old) }
-    ensures same { OnErr result (refused.new ≡ refused.old) }
-    ensures boot { SameBoot session.new session.old }
-{
-    let count = count_steps(session);
-    let is_at_end = session.position() == count;
-    answer_step(alloc, form, session, step, reply, text)?;
-    if is_at_end && count_steps(session) == count {
-        keep_step(refused, step);
+impl Interpreter {
+    /// Does what a line says, which means those words, and puts its answer in place of what the text had.
+    /// Keeps which step was refused last.
+    ///
+    /// NoMemory where a growth is refused: no step came or went then, and the position is the old one, or
+    /// lies between that and the one that is asked for. The text has nothing to be shown.
+    pub fn answer_words(
+        &mut self,
+        alloc: Global,
+        line: &[u8],
+        words: &[u8],
+        text: &mut String,
+    ) -> Result<(), NoMemory>
+        ensures answer { OnOk result
+            (AnswersWords self.old.form (origin_of self.old.version self.old.session)
+            (place_of self.old.session) self.old.refused line.now words.now (string_bytes text.new)
+            (place_of self.new.session) self.new.refused) }
+        ensures stops { OnErr result
+            (StopsShortOf (origin_of self.old.version self.old.session) (place_of self.old.session)
+            words.now (place_of self.new.session)) }
+        ensures kept { OnErr result (self.new.refused ≡ self.old.refused) }
+        ensures boot { SameBoot self.new.session self.old.session }
+        ensures form { self.new.form ≡ self.old.form }
+        ensures version { self.new.version ≡ self.old.version }
+    {
+        let mut read = read_step(self.version.grammar(), words);
+        if let Some(step) = &mut read {
+            let mut reply = Reply::Ended;
+            return self.answer_step_line(alloc, step, &mut reply, text);
+        }
+        if let Some(ask) = read_ask(self.version.grammar(), words) {
+            *text = self.answer_ask(alloc, ask)?;
+            return Ok(());
+        }
+        *text = tell_in(alloc, self.form, self.version, line)?;
+        Ok(())
     }
-    Ok(())
+
+    /// Makes a step, puts its reply where it is to stand, and its answer in place of what the text had.
+    /// Keeps the step where it was to be made and was refused.
+    ///
+    /// NoMemory where a growth is refused; no step came or went then. The text has nothing to be shown.
+    pub fn answer_step_line(
+        &mut self,
+        alloc: Global,
+        step: &mut Step,
+        reply: &mut Reply,
+        text: &mut String,
+    ) -> Result<(), NoMemory>
+        ensures answer { OnOk result
+            (AnswersStep self.old.form (start_of self.old.session) (place_of self.old.session)
+            step.old (string_bytes text.new) (place_of self.new.session)) }
+        ensures kept { OnOk result (self.new.refused
+            ≡ refused_by (place_of self.old.session) step.old (place_of self.new.session)
+            self.old.refused) }
+        ensures stops { OnErr result (place_of self.new.session ≡ place_of self.old.session) }
+        ensures same { OnErr result (self.new.refused ≡ self.old.refused) }
+        ensures boot { SameBoot self.new.session self.old.session }
+        ensures form { self.new.form ≡ self.old.form }
+        ensures version { self.new.version ≡ self.old.version }
+    {
+        let count = count_steps(&self.session);
+        let is_at_end = self.session.position() == count;
+        answer_step(alloc, self.form, &mut self.session, step, reply, text)?;
+        if is_at_end && count_steps(&self.session) == count {
+            keep_step(&mut self.refused, step);
+        }
+        Ok(())
+    }
+
+    /// Does what is asked for, and answers it.
+    ///
+    /// NoMemory where a growth is refused: no step came or went then, and the position lies between the
+    /// old one and that which is asked for.
+    #[inline(never)] // inlined, each step that is spelled otherwise would reserve its stack
+    fn answer_ask(&mut self, alloc: Global, ask: Ask<'_>) -> Result<String, NoMemory>
+        ensures answer { IfOk result (λ text.
+            AnswersAskIn self.old.form (origin_of self.old.version self.old.session)
+            (place_of self.old.session) self.old.refused ask.entry (string_bytes text)
+            (place_of self.new.session)) }
+        ensures stops { OnErr result
+            (StopsShort (place_of self.old.session) ask.entry (place_of self.new.session)) }
+        ensures others { self.new ≡ record self.old { session = self.new.session } }
+        ensures boot { SameBoot self.new.session self.old.session }
+    {
+        match self.form {
+            Form::Text => self.answer_as_text(alloc, ask),
+            Form::Json => self.answer_as_json(alloc, ask),
+        }
+    }
+
+    /// Does what is asked for, and answers it as text.
+    ///
+    /// NoMemory where a growth is refused: no step came or went then, and the position lies between the
+    /// old one and that which is asked for.
+    fn answer_as_text(&mut self, alloc: Global, ask: Ask<'_>) -> Result<String, NoMemory>
+        ensures answer { IfOk result (λ text.
+            AnswersAsk (origin_of self.old.version self.old.session) (place_of self.old.session)
+            self.old.refused ask.entry (string_bytes text) (place_of self.new.session)) }
+        ensures stops { OnErr result
+            (StopsShort (place_of self.old.session) ask.entry (place_of self.new.session)) }
+        ensures others { self.new ≡ record self.old { session = self.new.session } }
+        ensures boot { SameBoot self.new.session self.old.session }
+    {
+        let session = &mut self.session;
+        match ask {
+            Ask::Walk(command) => walk(alloc, session, command),
+            Ask::GotoEnd => goto_end(alloc, session),
+            Ask::Steps => list_all(alloc, session),
+            Ask::StepsFrom(first) => list_from(alloc, session, first),
+            Ask::StepsBetween(first, last) => list_steps(alloc, session, first, last),
+            Ask::Text => print_schedule(alloc, self.version, session),
+            Ask::Try(step) => try_step(alloc, session, &step),
+            Ask::When(piece) => tell_last(alloc, session, piece),
+            Ask::Next(piece) => tell_next(alloc, session, piece),
+            Ask::Without(starter) => without(alloc, session, starter),
+            Ask::Why(step) => tell_why(alloc, session, &step),
+            Ask::WhyRefused => tell_refused(alloc, session, &self.refused),
+            Ask::Owns => list_owners(alloc, session),
+            Ask::OwnsOf(starter) => list_owner(alloc, session, starter),
+            Ask::Cut => cut(alloc, session),
+            Ask::Help => help(alloc),
+            Ask::HelpOn(word) => help_on(alloc, word),
+        }
+    }
 }
 
 /// Keeps a step.
@@ -110,71 +178,6 @@ fn keep_step(kept: &mut Option<Step>, step: &Step)
     ensures { kept.new ≡ Some step.now }
 {
     *kept = Some(step.copy());
-}
-
-/// Does what is asked for, and answers it in a form.
-///
-/// NoMemory where a growth is refused: no step came or went then, and the position lies between the old
-/// one and that which is asked for.
-#[inline(never)] // inlined, each step that is spelled otherwise would reserve its stack
-fn answer_ask(
-    alloc: Global,
-    form: Form,
-    version: TextVersion,
-    session: &mut Session,
-    refused: &Option<Step>,
-    ask: Ask<'_>,
-) -> Result<String, NoMemory>
-    ensures answer { IfOk result (λ text.
-        AnswersAskIn form (origin_of version session.old) (place_of session.old) refused.now
-        ask.entry (string_bytes text) (place_of session.new)) }
-    ensures stops { OnErr result
-        (StopsShort (place_of session.old) ask.entry (place_of session.new)) }
-    ensures boot { SameBoot session.new session.old }
-{
-    match form {
-        Form::Text => answer_as_text(alloc, version, session, refused, ask),
-        Form::Json => answer_as_json(alloc, version, session, refused, ask),
-    }
-}
-
-/// Does what is asked for, and answers it as text.
-///
-/// NoMemory where a growth is refused: no step came or went then, and the position lies between the old
-/// one and that which is asked for.
-pub fn answer_as_text(
-    alloc: Global,
-    version: TextVersion,
-    session: &mut Session,
-    refused: &Option<Step>,
-    ask: Ask<'_>,
-) -> Result<String, NoMemory>
-    ensures answer { IfOk result (λ text.
-        AnswersAsk (origin_of version session.old) (place_of session.old) refused.now ask.entry
-        (string_bytes text) (place_of session.new)) }
-    ensures stops { OnErr result
-        (StopsShort (place_of session.old) ask.entry (place_of session.new)) }
-    ensures boot { SameBoot session.new session.old }
-{
-    match ask {
-        Ask::Walk(command) => walk(alloc, session, command),
-        Ask::GotoEnd => goto_end(alloc, session),
-        Ask::Steps => list_all(alloc, session),
-        Ask::StepsFrom(first) => list_from(alloc, session, first),
-        Ask::StepsBetween(first, last) => list_steps(alloc, session, first, last),
-        Ask::Text => print_schedule(alloc, version, session),
-        Ask::Try(step) => try_step(alloc, session, &step),
-        Ask::When(piece) => tell_last(alloc, session, piece),
-        Ask::Next(piece) => tell_next(alloc, session, piece),
-        Ask::Without(starter) => without(alloc, session, starter),
-        Ask::Why(step) => tell_why(alloc, session, &step),
-        Ask::WhyRefused => tell_refused(alloc, session, refused),
-        Ask::Owns => list_owners(alloc, session),
-        Ask::OwnsOf(starter) => list_owner(alloc, session, starter),
-        Ask::Cut => cut(alloc, session),
-        Ask::Help => help(alloc),
-        Ask::HelpOn(word) => help_on(alloc, word),
-    }
 }
 
 /// Does what a command of the debugger says, and answers it.

@@ -9,8 +9,8 @@ ghost use Rattle.tx_shell.specs.Standings.{begun_by, first_standing, quit_line, 
 ghost use Rattle.tx_shell.specs.Standings.{IsNoHeader, IsQuit, Stops, StopsMeant};
 ghost use Rattle.tx_shell.specs.Versions.{grammar_of};
 
+use crate::answers::Interpreter;
 use crate::answers::forms::Form;
-use crate::answers::{answer_step_line, answer_words};
 use crate::lines::meanings::meant_line;
 use crate::lines::openings::{Opening, read_opening};
 use crate::lines::versions::TextVersion;
@@ -23,13 +23,9 @@ use tx_plain::{Room, second_stays_itself};
 /// A session at a terminal, in which form it is answered, and of which version its lines are.
 #[derive(Drop)]
 pub struct Shell {
-    form: Form,
-    session: Session,
-    version: TextVersion,
+    interpreter: Interpreter,
     /// Whether no line came so far but ones without a word, so that a header may come.
     is_fresh: bool,
-    /// The last of its steps that was to be made and was refused.
-    refused: Option<Step>,
     /// Where the steps that lines spell are put, one after another, since a step is large.
     step: Step,
     /// Where their replies are put, since a reply is large too.
@@ -47,11 +43,13 @@ impl Shell {
         let mut session = Session::boot_wide(alloc, 2)?;
         reserve_ahead(&mut session);
         Ok(Shell {
-            form,
-            session,
-            version: TextVersion::Three,
+            interpreter: Interpreter {
+                form,
+                version: TextVersion::Three,
+                session,
+                refused: None,
+            },
             is_fresh: true,
-            refused: None,
             step: Step::Call(Pid(0), Call::Getpid),
             reply: Reply::Ended,
         })
@@ -59,9 +57,9 @@ impl Shell {
 
     /// How many of the steps are made.
     pub fn position(&self) -> usize
-        ensures { result ≡ position_of self.now.session }
+        ensures { result ≡ position_of self.now.interpreter.session }
     {
-        self.session.position()
+        self.interpreter.session.position()
     }
 
     /// Does what a line says, and puts its answer in place of what the text had. Answers whether the talk
@@ -103,15 +101,15 @@ impl Shell {
     ) -> Result<bool, NoMemory>
         ensures answer { IfOk result (λ goes_on.
             MatchBool goes_on
-            (AnswersMeant (standing_of self.old) line.now (meant_line self.old.version line.now)
+            (AnswersMeant (standing_of self.old) line.now (meant_line self.old.interpreter.version line.now)
             (string_bytes text.new) (standing_of self.new))
-            ((meant_line self.old.version line.now ≡ Some quit_line)
+            ((meant_line self.old.interpreter.version line.now ≡ Some quit_line)
             × (standing_of self.new ≡ standing_of self.old))) }
         ensures stops { OnErr result
             (Stops (standing_of self.old) line.now (standing_of self.new)) }
     {
         second_stays_itself();
-        if read_step_into(self.version.grammar(), line, &mut self.step) {
+        if read_step_into(self.interpreter.version.grammar(), line, &mut self.step) {
             self.answer_step(alloc, text)?;
             return Ok(true);
         }
@@ -129,17 +127,17 @@ impl Shell {
     ) -> Result<bool, NoMemory>
         ensures answer { IfOk result (λ goes_on.
             MatchBool goes_on
-            (AnswersMeant (standing_of self.old) line.now (meant_line self.old.version line.now)
+            (AnswersMeant (standing_of self.old) line.now (meant_line self.old.interpreter.version line.now)
             (string_bytes text.new) (standing_of self.new))
-            ((meant_line self.old.version line.now ≡ Some quit_line)
+            ((meant_line self.old.interpreter.version line.now ≡ Some quit_line)
             × (standing_of self.new ≡ standing_of self.old))) }
         ensures stops { OnErr result
             (Stops (standing_of self.old) line.now (standing_of self.new)) }
     {
-        match meant_line(alloc, room, self.version, line)? {
+        match meant_line(alloc, room, self.interpreter.version, line)? {
             Some(words) => self.answer_meant(alloc, line, words.as_bytes(), text),
             None => {
-                *text = self.form.nothing(alloc)?;
+                *text = self.interpreter.form.nothing(alloc)?;
                 Ok(true)
             }
         }
@@ -150,21 +148,14 @@ impl Shell {
     /// NoMemory where a growth is refused; nothing has changed then.
     fn answer_step(&mut self, alloc: Global, text: &mut String) -> Result<(), NoMemory>
         requires fits { FitsStep self.old.step }
-        requires of { IsOf (grammar_of self.old.version) self.old.step }
+        requires of { IsOf (grammar_of self.old.interpreter.version) self.old.step }
         ensures answer { (line : List ℕ) → OnOk result
             (AnswersMeant (standing_of self.old) line (Some (step_text self.old.step))
             (string_bytes text.new) (standing_of self.new)) }
         ensures stops { OnErr result (standing_of self.new ≡ standing_of self.old) }
     {
-        answer_step_line(
-            alloc,
-            self.form,
-            &mut self.session,
-            &mut self.refused,
-            &mut self.step,
-            &mut self.reply,
-            text,
-        )?;
+        self.interpreter
+            .answer_step_line(alloc, &mut self.step, &mut self.reply, text)?;
         self.is_fresh = false;
         Ok(())
     }
@@ -189,17 +180,17 @@ impl Shell {
     #[inline(never)] // as `answer_meaning`
     fn open(&mut self, alloc: Global, opening: Opening) -> Result<String, NoMemory>
         requires { FitsHeader opening.header }
-        ensures told { IfOk result (λ text. SaysPosition self.old.form 0 (string_bytes text)) }
-        ensures begun { OnOk result (standing_of self.new ≡ begun_by self.old.form (origin_said opening)) }
+        ensures told { IfOk result (λ text. SaysPosition self.old.interpreter.form 0 (string_bytes text)) }
+        ensures begun { OnOk result (standing_of self.new ≡ begun_by self.old.interpreter.form (origin_said opening)) }
         ensures refused { OnErr result (self.new ≡ self.old) }
     {
         let mut session = Session::boot_by(alloc, opening.header)?;
         reserve_ahead(&mut session);
-        let text = self.form.position(alloc, 0)?;
-        self.session = session;
-        self.version = opening.version;
+        let text = self.interpreter.form.position(alloc, 0)?;
+        self.interpreter.session = session;
+        self.interpreter.version = opening.version;
+        self.interpreter.refused = None;
         self.is_fresh = false;
-        self.refused = None;
         Ok(text)
     }
 
@@ -222,16 +213,7 @@ impl Shell {
         if words == b"quit".as_slice() {
             return Ok(false);
         }
-        answer_words(
-            alloc,
-            self.form,
-            self.version,
-            &mut self.session,
-            &mut self.refused,
-            line,
-            words,
-            text,
-        )?;
+        self.interpreter.answer_words(alloc, line, words, text)?;
         self.is_fresh = false;
         Ok(true)
     }

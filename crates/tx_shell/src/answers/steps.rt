@@ -13,7 +13,7 @@ use tx_lines::put;
 use tx_text::put_named_reply;
 
 /// The worker that makes the steps.
-const WORKER: u16 = 1;
+pub const WORKER: u16 = 1;
 
 /// Makes a step at the end of the journal, puts its reply where it is to stand, and the line of that in place
 /// of what the text had. Elsewhere it is not made, and both ways out are named. A step that is accepted is

@@ -1,57 +1,80 @@
-//! Tells which objects are in the way of a step, who has them, and since when.
-ghost use Rattle.std.specs.Prelude.{◌≡◌, ◌++◌, ◌<◌, OnOk, option_map, string_bytes};
+//! Finds which objects are in the way of a step, who has them, and since when.
+ghost use Rattle.std.specs.Prelude.{◌≡◌, ◌++◌, ◌<◌, IfOk, OnOk, map, option_map, string_bytes};
 ghost use Rattle.tx_core.specs.Owners.{other_owner};
 ghost use Rattle.tx_journal.specs.Entries.{history_of};
 ghost use Rattle.tx_journal.specs.Sessions.{made_of, start_of};
-ghost use Rattle.tx_journal.specs.Since.{first_touch, numbered};
+ghost use Rattle.tx_journal.specs.Since.{numbered};
 ghost use Rattle.tx_model.specs.Events.{process_of};
 ghost use Rattle.tx_model.specs.Footprints.{footprint};
 ghost use Rattle.tx_model.specs.View.{present};
 ghost use Rattle.tx_reserve.specs.Footprints.{IsSetOf};
 ghost use Rattle.tx_reserve.specs.Objects.{object_of};
 ghost use Rattle.tx_reserve.specs.Reservations.{number_of};
-ghost use Rattle.tx_shell.specs.Kinds.{limit_of, object_in};
+ghost use Rattle.tx_shell.specs.Blockers.{blocked, blocked_at, blocked_in, blocked_of};
+ghost use Rattle.tx_shell.specs.Kinds.{limit_of};
 ghost use Rattle.tx_shell.specs.Places.{view_at};
-ghost use Rattle.tx_shell.specs.Reasons.{holder_text, lines_of_kind, name_text, object_line, object_lines};
-ghost use Rattle.tx_shell.specs.Reasons.{owned_line, since_text, touch_text};
+ghost use Rattle.tx_shell.specs.Reasons.{blocked_line, holder_text, name_text, since_text, touch_text};
+ghost use Rattle.tx_text.specs.Each.{each_text};
 
 use crate::questions::kinds::Kind;
-use std::alloc::AllocError;
+use std::alloc::{AllocError, Global};
 use tx_base::{Pid, Step};
 use tx_journal::{Session, Touch};
 use tx_lines::{put, put_count, put_step};
 use tx_reserve::{Object, Objects};
 
-/// Appends a line for each object that a step names and that a live transaction has reserved of which
-/// its process is no member: the object, the starter, and the first step since which that transaction has
-/// it.
-///
-/// NoMemory where a growth is refused; some of the lines may then stand behind the text.
-pub fn put_objects(text: &mut String, session: &Session, step: &Step) -> Result<(), AllocError>
-    ensures { OnOk result (string_bytes text.new ≡ string_bytes text.old
-        ++ object_lines (start_of session.now) (history_of (made_of session.now)) step.now) }
-{
-    put_kind(text, session, step, Kind::Processes)?;
-    put_kind(text, session, step, Kind::Descriptions)?;
-    put_kind(text, session, step, Kind::Pipes)
+/// An object that a step names, and that a live transaction has reserved of which its process is no
+/// member.
+#[derive(Clone, Copy)]
+pub struct Blocker<'a> {
+    pub kind: Kind,
+    pub number: u16,
+    /// The starter of that transaction.
+    pub owner: Pid,
+    /// The first step since which it has the object.
+    pub since: Option<Touch<'a>>,
 }
 
-/// Appends the lines of the objects of a kind.
-fn put_kind(text: &mut String, session: &Session, step: &Step, kind: Kind) -> Result<(), AllocError>
-    ensures { OnOk result (string_bytes text.new ≡ string_bytes text.old
-        ++ lines_of_kind (start_of session.now) (history_of (made_of session.now)) step.now kind) }
+/// The objects in the way of a step, by kinds and rising numbers.
+pub fn blockers<'a>(
+    alloc: Global,
+    session: &'a Session,
+    step: &Step,
+) -> Result<Vec<Blocker<'a>>, AllocError>
+    ensures { IfOk result (λ found. map blocked_of found.items
+        ≡ blocked (start_of session.now) (history_of (made_of session.now)) step.now) }
 {
     let names = names(session, step);
+    let mut found = Vec::new(alloc);
+    add_kind(&mut found, session, step, &names, Kind::Processes)?;
+    add_kind(&mut found, session, step, &names, Kind::Descriptions)?;
+    add_kind(&mut found, session, step, &names, Kind::Pipes)?;
+    Ok(found)
+}
+
+/// Appends the objects of a kind that are in the way.
+fn add_kind<'a>(
+    found: &mut Vec<Blocker<'a>>,
+    session: &'a Session,
+    step: &Step,
+    names: &Objects,
+    kind: Kind,
+) -> Result<(), AllocError>
+    requires { IsSetOf names.now (footprint (view_at session.now).table step.now
+        (present (view_at session.now))) }
+    ensures { OnOk result (map blocked_of found.new.items ≡ map blocked_of found.old.items
+        ++ blocked_in (start_of session.now) (history_of (made_of session.now)) step.now kind) }
+{
     for number in 0..kind.limit() {
-        put_object(text, session, step, &names, kind, number)?;
+        add_object(found, session, step, names, kind, number)?;
     }
     Ok(())
 }
 
-/// Appends the line of the object of a kind and a number, where it is such an object.
-fn put_object(
-    text: &mut String,
-    session: &Session,
+/// Appends the object of a kind and a number, where it is in the way.
+fn add_object<'a>(
+    found: &mut Vec<Blocker<'a>>,
+    session: &'a Session,
     step: &Step,
     names: &Objects,
     kind: Kind,
@@ -60,36 +83,44 @@ fn put_object(
     requires number { number < limit_of kind }
     requires names { IsSetOf names.now (footprint (view_at session.now).table step.now
         (present (view_at session.now))) }
-    ensures { OnOk result (string_bytes text.new ≡ string_bytes text.old
-        ++ object_line (start_of session.now) (history_of (made_of session.now)) step.now kind
+    ensures { OnOk result (map blocked_of found.new.items ≡ map blocked_of found.old.items
+        ++ blocked_at (start_of session.now) (history_of (made_of session.now)) step.now kind
         number) }
 {
     let object = kind.object(number);
     if !names.has(object) {
         return Ok(());
     }
-    match other_owner(session, step, object) {
-        Some(owner) => put_owned(text, session, owner, kind, number),
-        None => Ok(()),
+    if let Some(owner) = other_owner(session, step, object) {
+        found.push(Blocker {
+            kind,
+            number,
+            owner,
+            since: session.first_touch(owner, object),
+        })?;
     }
+    Ok(())
 }
 
-/// Appends the line of an object that the transaction of a starter has.
-fn put_owned(
-    text: &mut String,
-    session: &Session,
-    owner: Pid,
-    kind: Kind,
-    number: u16,
-) -> Result<(), AllocError>
-    requires { number < limit_of kind }
+/// Appends the lines of objects in the way.
+pub fn put_objects(text: &mut String, blockers: &[Blocker<'_>]) -> Result<(), AllocError>
     ensures { OnOk result (string_bytes text.new ≡ string_bytes text.old
-        ++ owned_line (start_of session.now) (history_of (made_of session.now)) kind number
-        owner.0) }
+        ++ each_text blocked_line (map blocked_of blockers.now)) }
 {
-    put_name(text, kind, number)?;
-    put_holder(text, owner)?;
-    put_since(text, session, owner, kind, number)?;
+    for i in 0..blockers.len() {
+        put_object(text, blockers[i])?;
+    }
+    Ok(())
+}
+
+/// Appends the line of an object in the way: whose it is, and since which step, where one is found.
+fn put_object(text: &mut String, blocker: Blocker<'_>) -> Result<(), AllocError>
+    ensures { OnOk result (string_bytes text.new
+        ≡ string_bytes text.old ++ blocked_line (blocked_of blocker.entry)) }
+{
+    put_name(text, blocker.kind, blocker.number)?;
+    put_holder(text, blocker.owner)?;
+    put_since(text, blocker.since)?;
     put(text, "\n")
 }
 
@@ -112,19 +143,11 @@ fn put_holder(text: &mut String, owner: Pid) -> Result<(), AllocError>
 }
 
 /// Appends since which step that is so, where one is found.
-fn put_since(
-    text: &mut String,
-    session: &Session,
-    owner: Pid,
-    kind: Kind,
-    number: u16,
-) -> Result<(), AllocError>
-    requires { number < limit_of kind }
-    ensures { OnOk result (string_bytes text.new ≡ string_bytes text.old ++ since_text
-        (first_touch (start_of session.now) (history_of (made_of session.now)) owner.0
-        (object_in kind number))) }
+fn put_since(text: &mut String, since: Option<Touch<'_>>) -> Result<(), AllocError>
+    ensures { OnOk result (string_bytes text.new
+        ≡ string_bytes text.old ++ since_text (option_map numbered since.entry)) }
 {
-    match session.first_touch(owner, kind.object(number)) {
+    match since {
         Some(touch) => put_touch(text, touch),
         None => Ok(()),
     }

@@ -1,9 +1,9 @@
 //! Finds the step that changed a piece of the state last, or changes it next.
-ghost use Rattle.std.specs.Prelude.{◌≡◌, ◌≤◌, ◌<◌, ◌+◌, ◌++◌, IfOk, MatchOption, OnErr, OnOk, length, string_bytes};
+ghost use Rattle.std.specs.Prelude.{◌≡◌, ◌≤◌, ◌<◌, ◌+◌, ◌++◌, IfOk, IfSome, MatchOption, OnErr, OnOk, length, string_bytes};
 ghost use Rattle.tx_journal.specs.Entries.{history_of};
 ghost use Rattle.tx_journal.specs.Sessions.{position_of, IsBetween, SameJournal};
-ghost use Rattle.tx_shell.specs.Changes.{change_line, no_change_text, AllShow, MeetsBack, MeetsNext, ShowsOthers};
-ghost use Rattle.tx_shell.specs.Changes.{TellsLast, TellsNext, TellsStep};
+ghost use Rattle.tx_shell.specs.Changes.{change_line, no_change_text, AllShow, FindsLast, FindsNext, MeetsBack, MeetsNext};
+ghost use Rattle.tx_shell.specs.Changes.{ShowsOthers, TellsFound, TellsLast, TellsNext, TellsStep};
 ghost use Rattle.tx_shell.specs.Places.{place_of};
 ghost use Rattle.tx_shell.specs.Shown.{shown_in};
 
@@ -13,6 +13,15 @@ use std::alloc::{AllocError, Global};
 use tx_base::{NoMemory, Step};
 use tx_journal::{Piece, Session, put_piece};
 use tx_lines::{Command, put, put_count, put_step};
+
+/// How the step directly before the position changed a piece of the state.
+#[derive(Drop)]
+pub struct Change {
+    /// The lines that the piece had before it.
+    before: String,
+    /// The lines that it has behind it.
+    after: String,
+}
 
 /// Goes back to the position behind the step that changed a piece last, and tells it; or to the start,
 /// where none did. It pays for the steps between.
@@ -26,14 +35,8 @@ pub fn tell_last(alloc: Global, session: &mut Session, piece: Piece) -> Result<S
         (IsBetween (position_of session.old) (position_of session.new) 0) }
     ensures journal { SameJournal session.new session.old }
 {
-    let after = lines_there(alloc, session, piece)?;
-    match go_back(alloc, session, piece, after.as_str())? {
-        Some(before) => {
-            make_next(alloc, session)?;
-            change_lines(alloc, session, before.as_str(), after.as_str())
-        }
-        None => no_change_line(alloc, 0),
-    }
+    let found = find_last(alloc, session, piece)?;
+    tell_found(alloc, session, &found)
 }
 
 /// Goes on to the position behind the step that changes a piece next, and tells it; or to the end, where
@@ -49,9 +52,81 @@ pub fn tell_next(alloc: Global, session: &mut Session, piece: Piece) -> Result<S
         (length (history_of session.old.entries))) }
     ensures journal { SameJournal session.new session.old }
 {
+    let found = find_next(alloc, session, piece)?;
+    tell_found(alloc, session, &found)
+}
+
+/// Goes back to the position behind the step that changed a piece last: how it did. Nothing where none
+/// did, and the position is the start. It pays for the steps between.
+///
+/// NoMemory where a growth is refused: the position is then the old one, or lies before it.
+pub fn find_last(
+    alloc: Global,
+    session: &mut Session,
+    piece: Piece,
+) -> Result<Option<Change>, NoMemory>
+    ensures found { IfOk result (λ found.
+        FindsLast (shown_in session.old piece) (place_of session.old) found
+        (place_of session.new)) }
+    ensures back { IsBetween (position_of session.old) (position_of session.new) 0 }
+    ensures journal { SameJournal session.new session.old }
+{
+    let after = lines_there(alloc, session, piece)?;
+    match go_back(alloc, session, piece, after.as_str())? {
+        Some(before) => {
+            make_next(alloc, session)?;
+            Ok(Some(Change { before, after }))
+        }
+        None => Ok(None),
+    }
+}
+
+/// Goes on to the position behind the step that changes a piece next: how it does. Nothing where none
+/// does, and the position is the end. It pays for the steps between.
+///
+/// NoMemory where a growth is refused: the position is then the old one, or lies behind it.
+pub fn find_next(
+    alloc: Global,
+    session: &mut Session,
+    piece: Piece,
+) -> Result<Option<Change>, NoMemory>
+    ensures found { IfOk result (λ found.
+        FindsNext (shown_in session.old piece) (place_of session.old) found
+        (place_of session.new)) }
+    ensures on { IsBetween (position_of session.old) (position_of session.new)
+        (length (history_of session.old.entries)) }
+    ensures journal { SameJournal session.new session.old }
+{
     let before = lines_there(alloc, session, piece)?;
     match go_on(alloc, session, piece, before.as_str())? {
-        Some(after) => change_lines(alloc, session, before.as_str(), after.as_str()),
+        Some(after) => Ok(Some(Change { before, after })),
+        None => Ok(None),
+    }
+}
+
+/// The lines that tell the step directly before the position, which was found to change a piece, or that
+/// none was.
+///
+/// NoMemory where a growth is refused.
+pub fn tell_found(
+    alloc: Global,
+    session: &Session,
+    found: &Option<Change>,
+) -> Result<String, NoMemory>
+    requires { IfSome found.now (λ change. 1 ≤ position_of session.now) }
+    ensures { IfOk result (λ text.
+        TellsFound (history_of session.now.entries) (position_of session.now) found.now
+        (string_bytes text)) }
+{
+    match found {
+        Some(change) => {
+            change_lines(
+                alloc,
+                session,
+                change.before.as_str(),
+                change.after.as_str(),
+            )
+        }
         None => no_change_line(alloc, session.position()),
     }
 }

@@ -79,7 +79,7 @@ fn other_side(step: &Step) -> Option<Side>
 }
 
 /// Each descriptor that is open for a side of the pipe that a step names.
-pub fn side_holders(
+fn side_holders(
     alloc: Global,
     session: &Session,
     step: &Step,

@@ -1,7 +1,7 @@
 //! The kinds of objects that steps name and transactions reserve.
 ghost use Rattle.std.specs.Prelude.{◌≡◌, ◌<◌};
 ghost use Rattle.tx_reserve.specs.Objects.{object_of};
-ghost use Rattle.tx_shell.specs.Kinds.{limit_of, object_in, word_of};
+ghost use Rattle.tx_shell.specs.Kinds.{limit_of, list_of, object_in, word_of};
 
 use tx_base::{DescNo, Pid, PipeNo};
 use tx_reserve::Object;
@@ -47,6 +47,17 @@ impl Kind {
             Kind::Processes => "proc ",
             Kind::Descriptions => "desc ",
             Kind::Pipes => "pipe ",
+        }
+    }
+
+    /// What JSON calls a list of objects of the kind.
+    pub fn list(self) -> &'static str
+        ensures { result.now ≡ list_of self }
+    {
+        match self {
+            Kind::Processes => "procs",
+            Kind::Descriptions => "descs",
+            Kind::Pipes => "pipes",
         }
     }
 }

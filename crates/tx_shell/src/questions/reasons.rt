@@ -1,21 +1,68 @@
 //! Tells why a step would be refused.
-ghost use Rattle.std.specs.Prelude.{◌≡◌, ◌++◌, ℕ, IfOk, List, OnOk, string_bytes};
-ghost use Rattle.tx_explain.specs.Calls.{refusal_word};
+ghost use Rattle.std.specs.Prelude.{◌≡◌, ◌++◌, ℕ, IfOk, List, OnOk, map, string_bytes};
+ghost use Rattle.tx_base.specs.declared.steps.Reply.TheVariants.{No};
 ghost use Rattle.tx_journal.specs.Entries.{history_of};
 ghost use Rattle.tx_journal.specs.Sessions.{made_of, position_of, start_of};
 ghost use Rattle.tx_lines.specs.Lines.{step_text};
 ghost use Rattle.tx_script.specs.Debug.{first_steps};
-ghost use Rattle.tx_shell.specs.Reasons.{answered_text, busy_lines, fact_lines, refusal_in, TellsReason, TellsRefusal, TellsRefused, TellsReply, TellsWhy};
+ghost use Rattle.tx_shell.specs.Blockers.{blocked, blocked_by, blocked_of};
+ghost use Rattle.tx_shell.specs.Reasons.{answered_text, busy_lines, fact_lines, IsReason, TellsReason, TellsRefusal, TellsRefused, TellsReply, TellsWhy};
 
 use crate::answers::helps::{meaning, text_as};
-use crate::questions::blockers::put_objects;
+use crate::questions::blockers::{Blocker, blockers, put_objects};
+use crate::questions::holders::awaited_holders;
 use crate::questions::signals::put_signals;
 use crate::questions::waits::put_waited;
 use std::alloc::{AllocError, Global};
 use tx_base::{NoMemory, Refusal, Reply, Step};
 use tx_journal::Session;
-use tx_lines::{put, put_step};
+use tx_json::Holder;
+use tx_lines::{put, put_step, refusal_word};
 use tx_text::put_named_reply;
+
+/// What there is to tell of the reply that a step would get.
+#[derive(Drop)]
+pub struct Reason<'a> {
+    /// The objects in its way, where a transaction has some.
+    pub blockers: Vec<Blocker<'a>>,
+    /// Who has the other side open, where it waits for a pipe.
+    pub holders: Option<Vec<Holder>>,
+}
+
+/// What there is to tell of a step that would get this reply at the position.
+///
+/// NoMemory where a growth is refused.
+pub fn reason_of<'a>(
+    alloc: Global,
+    session: &'a Session,
+    step: &Step,
+    reply: &Reply,
+) -> Result<Reason<'a>, NoMemory>
+    ensures { IfOk result (IsReason (start_of session.now) (history_of (made_of session.now))
+        step.now reply.now) }
+{
+    Ok(Reason {
+        blockers: blockers_by(alloc, session, step, reply)?,
+        holders: awaited_holders(alloc, session, step, reply)?,
+    })
+}
+
+/// The objects in the way of a step that would get this reply.
+fn blockers_by<'a>(
+    alloc: Global,
+    session: &'a Session,
+    step: &Step,
+    reply: &Reply,
+) -> Result<Vec<Blocker<'a>>, AllocError>
+    ensures { IfOk result (λ found. map blocked_of found.items
+        ≡ blocked_by (start_of session.now) (history_of (made_of session.now)) step.now
+        reply.now) }
+{
+    match reply {
+        Reply::No(Refusal::Busy { .. }) => blockers(alloc, session, step),
+        _ => Ok(Vec::new(alloc)),
+    }
+}
 
 /// Why a step would be refused at the position, or what it would be answered.
 ///
@@ -27,7 +74,8 @@ pub fn tell_why(alloc: Global, session: &mut Session, step: &Step) -> Result<Str
     ensures same { session.new ≡ session.old }
 {
     let reply = session.reply_to(alloc, step)?;
-    why_text(alloc, session, step, &reply)
+    let reason = reason_of(alloc, session, step, &reply)?;
+    why_text(alloc, session, step, &reply, &reason)
 }
 
 /// Why a step would get this reply.
@@ -38,7 +86,10 @@ pub fn why_text(
     session: &Session,
     step: &Step,
     reply: &Reply,
+    reason: &Reason<'_>,
 ) -> Result<String, NoMemory>
+    requires { IsReason (start_of session.now) (history_of (made_of session.now)) step.now
+        reply.now reason.now }
     ensures { IfOk result (λ text. (behind : List ℕ)
         × (string_bytes text ≡ step_text step.now ++ behind)
         × TellsReply (start_of session.now) (history_of (made_of session.now)) step.now reply.now
@@ -46,7 +97,7 @@ pub fn why_text(
 {
     let mut text = String::new(alloc);
     put_step(&mut text, step)?;
-    put_behind(alloc, &mut text, session, step, reply)?;
+    put_behind(&mut text, session, step, reply, reason)?;
     Ok(text)
 }
 
@@ -71,47 +122,45 @@ pub fn tell_refused(
 
 /// Appends what is told of a step that would get this reply.
 fn put_behind(
-    alloc: Global,
     text: &mut String,
     session: &Session,
     step: &Step,
     reply: &Reply,
-) -> Result<(), NoMemory>
+    reason: &Reason<'_>,
+) -> Result<(), AllocError>
+    requires { IsReason (start_of session.now) (history_of (made_of session.now)) step.now
+        reply.now reason.now }
     ensures { OnOk result ((behind : List ℕ)
         × (string_bytes text.new ≡ string_bytes text.old ++ behind)
         × TellsReply (start_of session.now) (history_of (made_of session.now)) step.now reply.now
         behind) }
 {
     put_answered(text, reply)?;
-    put_reason(alloc, text, session, step, reply)
+    put_reason(text, session, step, reply, reason)
 }
 
 /// Appends why a step would get this reply, where it is refused.
 fn put_reason(
-    alloc: Global,
     text: &mut String,
     session: &Session,
     step: &Step,
     reply: &Reply,
-) -> Result<(), NoMemory>
-    ensures { OnOk result ((reason : List ℕ)
-        × (string_bytes text.new ≡ string_bytes text.old ++ reason)
+    reason: &Reason<'_>,
+) -> Result<(), AllocError>
+    requires { IsReason (start_of session.now) (history_of (made_of session.now)) step.now
+        reply.now reason.now }
+    ensures { OnOk result ((told : List ℕ)
+        × (string_bytes text.new ≡ string_bytes text.old ++ told)
         × TellsReason (start_of session.now) (history_of (made_of session.now)) step.now reply.now
-        reason) }
-{
-    match refusal_in(reply) {
-        Some(why) => put_refusal(alloc, text, session, step, why),
-        None => Ok(()),
-    }
-}
-
-/// Why it was refused, if it was.
-fn refusal_in(reply: &Reply) -> Option<Refusal>
-    ensures { result ≡ refusal_in reply.now }
+        told) }
 {
     match reply {
-        Reply::No(why) => Some(*why),
-        _ => None,
+        Reply::No(why) => put_refusal(text, session, step, *why, reason),
+        Reply::Done(_)
+        | Reply::Ended
+        | Reply::Committed { .. }
+        | Reply::Aborted(_)
+        | Reply::Out(_) => Ok(()),
     }
 }
 
@@ -127,69 +176,57 @@ fn put_answered(text: &mut String, reply: &Reply) -> Result<(), AllocError>
 
 /// Appends why a step would be refused.
 fn put_refusal(
-    alloc: Global,
     text: &mut String,
     session: &Session,
     step: &Step,
     why: Refusal,
-) -> Result<(), NoMemory>
+    reason: &Reason<'_>,
+) -> Result<(), AllocError>
+    requires { IsReason (start_of session.now) (history_of (made_of session.now)) step.now
+        (No why) reason.now }
     ensures { OnOk result ((behind : List ℕ)
         × (string_bytes text.new ≡ string_bytes text.old ++ behind)
         × TellsRefusal (start_of session.now) (history_of (made_of session.now)) step.now why
         behind) }
 {
-    put_facts(alloc, text, session, step, why)?;
-    put(text, meaning(word(why)))?;
-    Ok(())
+    put_facts(text, session, step, why, reason)?;
+    put(text, meaning(refusal_word(why).as_bytes()))
 }
 
 /// Appends the facts of a refusal: of a step in whose way a transaction is, the objects and the
 /// signals that have two answers; of one that waits, what for.
 fn put_facts(
-    alloc: Global,
     text: &mut String,
     session: &Session,
     step: &Step,
     why: Refusal,
-) -> Result<(), NoMemory>
+    reason: &Reason<'_>,
+) -> Result<(), AllocError>
+    requires { IsReason (start_of session.now) (history_of (made_of session.now)) step.now
+        (No why) reason.now }
     ensures { OnOk result (string_bytes text.new ≡ string_bytes text.old
         ++ fact_lines (start_of session.now) (history_of (made_of session.now)) step.now why) }
 {
     match why {
-        Refusal::Busy { .. } => Ok(put_blockers(text, session, step)?),
-        Refusal::Wait => put_waited(alloc, text, session, step),
+        Refusal::Busy { .. } => put_blockers(text, session, step, reason.blockers.as_slice()),
+        Refusal::Wait => put_waited(text, session, step, &reason.holders),
         _ => Ok(()),
     }
 }
 
 /// Appends a line for each object in the way of a step, and for each starter at which a signal of it has
 /// two answers.
-fn put_blockers(text: &mut String, session: &Session, step: &Step) -> Result<(), AllocError>
+fn put_blockers(
+    text: &mut String,
+    session: &Session,
+    step: &Step,
+    found: &[Blocker<'_>],
+) -> Result<(), AllocError>
+    requires { map blocked_of found.now
+        ≡ blocked (start_of session.now) (history_of (made_of session.now)) step.now }
     ensures { OnOk result (string_bytes text.new ≡ string_bytes text.old
         ++ busy_lines (start_of session.now) (history_of (made_of session.now)) step.now) }
 {
-    put_objects(text, session, step)?;
+    put_objects(text, found)?;
     put_signals(text, session, step)
-}
-
-/// The word by which a refusal is explained.
-fn word(why: Refusal) -> &'static [u8]
-    ensures { result.now ≡ refusal_word why }
-{
-    match why {
-        Refusal::NoProcess => b"N1",
-        Refusal::NotRunning => b"N2",
-        Refusal::BadNumber => b"N3",
-        Refusal::NumberTaken => b"N4",
-        Refusal::Doomed => b"N5",
-        Refusal::Parked => b"N6",
-        Refusal::KillPending => b"N7",
-        Refusal::Busy { .. } => b"N8",
-        Refusal::Wait => b"N9",
-        Refusal::NotDeliverable => b"N10",
-        Refusal::FramesFull => b"N11",
-        Refusal::NoTransaction => b"N12",
-        Refusal::NoMemory => b"N13",
-        Refusal::Deferred => b"N14",
-    }
 }

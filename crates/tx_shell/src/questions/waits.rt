@@ -1,23 +1,25 @@
 //! Tells what a step waits for.
-ghost use Rattle.std.specs.Prelude.{◌≡◌, ◌++◌, ◌<◌, OnOk, string_bytes};
+ghost use Rattle.std.specs.Prelude.{◌≡◌, ◌++◌, ◌<◌, OnOk, option_map, string_bytes};
 ghost use Rattle.tx_journal.specs.Entries.{history_of};
 ghost use Rattle.tx_journal.specs.Sessions.{made_of, start_of};
 ghost use Rattle.tx_model.specs.Footprints.{footprint};
 ghost use Rattle.tx_model.specs.View.{present};
 ghost use Rattle.tx_reserve.specs.Footprints.{IsSetOf};
+ghost use Rattle.tx_shell.specs.Holders.{other_holders};
 ghost use Rattle.tx_shell.specs.Kinds.{limit_of};
 ghost use Rattle.tx_shell.specs.Places.{view_at};
 ghost use Rattle.tx_desc.specs.Descriptions.{end_for};
-ghost use Rattle.tx_shell.specs.Reasons.{child_text, open_line, pipe_line, pipe_lines, waited_text};
+ghost use Rattle.tx_shell.specs.Reasons.{child_text, open_by, pipe_line, pipe_lines, waited_text};
 ghost use Rattle.tx_shell.specs.declared.questions.kinds.Kind.TheVariants.{Pipes};
 
 use crate::questions::blockers::{names, put_name};
-use crate::questions::holders::{put_holders, side_holders};
+use crate::questions::holders::put_holders;
 use crate::questions::kinds::Kind;
-use std::alloc::{AllocError, Global};
-use tx_base::{Call, NoMemory, Step};
+use std::alloc::AllocError;
+use tx_base::{Call, Step};
 use tx_desc::Side;
 use tx_journal::Session;
+use tx_json::Holder;
 use tx_lines::{put, put_number};
 use tx_reserve::Objects;
 
@@ -28,43 +30,39 @@ use tx_reserve::Objects;
 ///
 /// NoMemory where a growth is refused; a part of the lines may then be at the end of the text.
 pub fn put_waited(
-    alloc: Global,
     text: &mut String,
     session: &Session,
     step: &Step,
-) -> Result<(), NoMemory>
+    holders: &Option<Vec<Holder>>,
+) -> Result<(), AllocError>
+    requires { option_map (λ held. held.items) holders.now
+        ≡ other_holders (view_at session.now) step.now }
     ensures { OnOk result (string_bytes text.new ≡ string_bytes text.old
         ++ waited_text (start_of session.now) (history_of (made_of session.now)) step.now) }
 {
     match step {
-        Step::Call(_, Call::Waitpid(child, _)) => Ok(put_child(text, *child)?),
+        Step::Call(_, Call::Waitpid(child, _)) => put_child(text, *child),
         Step::Call(_, Call::Read(..)) => {
             put_pipes(text, session, step, " has no byte\n")?;
-            put_open(alloc, text, session, step, Side::Write)
+            put_open(text, Side::Write, holders)
         }
         Step::Call(_, Call::Write(..)) => {
             put_pipes(text, session, step, " has too little room\n")?;
-            put_open(alloc, text, session, step, Side::Read)
+            put_open(text, Side::Read, holders)
         }
         _ => Ok(()),
     }
 }
 
-/// Appends the line of who has that side of the pipe open that a step names.
-fn put_open(
-    alloc: Global,
-    text: &mut String,
-    session: &Session,
-    step: &Step,
-    side: Side,
-) -> Result<(), NoMemory>
+/// Appends the line of who has that side of the pipe open, where it is asked.
+fn put_open(text: &mut String, side: Side, holders: &Option<Vec<Holder>>) -> Result<(), AllocError>
     ensures { OnOk result (string_bytes text.new ≡ string_bytes text.old
-        ++ open_line (start_of session.now) (history_of (made_of session.now)) step.now
-        (end_for side)) }
+        ++ open_by (end_for side) (option_map (λ held. held.items) holders.now)) }
 {
-    let holders = side_holders(alloc, session, step, side)?;
-    put_holders(text, side, holders.as_slice())?;
-    Ok(())
+    match holders {
+        Some(holders) => put_holders(text, side, holders.as_slice()),
+        None => Ok(()),
+    }
 }
 
 /// Appends that a child's end is waited for.
